@@ -1,0 +1,49 @@
+//! Writes a folded file of the asked number of lines, made from a fixed seed: stacks of up to 30 frames
+//! over a tree of calls, so that many lines share a beginning and about one in ten is new.
+//!
+//!     make_folded LINES > FILE
+
+use std::io::{BufWriter, Write};
+
+/// A small generator of numbers (xorshift64*), so that the file is the same on every machine.
+struct Numbers(u64);
+
+impl Numbers {
+    fn next(&mut self) -> u64 {
+        self.0 ^= self.0 >> 12;
+        self.0 ^= self.0 << 25;
+        self.0 ^= self.0 >> 27;
+        self.0.wrapping_mul(0x2545_f491_4f6c_dd1d) >> 11
+    }
+
+    fn below(&mut self, bound: u64) -> u64 {
+        self.next() % bound
+    }
+}
+
+fn main() -> std::io::Result<()> {
+    let lines: u64 = std::env::args()
+        .nth(1)
+        .and_then(|word| word.parse().ok())
+        .expect("usage: make_folded LINES");
+    let mut numbers = Numbers(0x5eed_0f1a_3e5c_0113);
+    let mut out = BufWriter::new(std::io::stdout().lock());
+    let distinct = (lines / 10).max(1);
+    for _ in 0..lines {
+        // the stack is a function of its number, so that a number that comes again gives the same stack
+        let mut stack = Numbers(0x9e37_79b9 + numbers.below(distinct) * 2 + 1);
+        stack.next();
+        let depth = 10 + stack.below(21);
+        let mut place = 0;
+        for frame in 0..depth {
+            let branch = if frame < 6 { stack.below(2) } else { stack.below(4) };
+            place = (place * 5 + branch) % 4_001;
+            if frame > 0 {
+                out.write_all(b";")?;
+            }
+            write!(out, "module_{}::function_{}", place % 37, place)?;
+        }
+        writeln!(out, " {}", 1 + numbers.below(100))?;
+    }
+    out.flush()
+}

@@ -1,0 +1,95 @@
+-- Where the nodes of a tree stand: each below its parent, and with each path the fronts of it.
+use Rattle.std.proofs.Common.{◌≡◌, ℕ, ◌+◌, ◌<◌, ◌≤◌, ◌⊎◌, inl, inr, true, false, List, [], ◌∷◌, ◌++◌, length, get_or, reverse, refl, sym, ap, ◌∙◌, arith, suc, zero, append_assoc, nat_eq}
+use Rattle.std.proofs.lemmas.List.{append-nil, reverse-append, reverse-reverse, get_or_default}
+use Rattle.call_tree.specs.declared.nodes.Place.{Place}
+use Rattle.call_tree.specs.PathSums.{begins_with}
+use Rattle.call_tree.specs.Nodes.{path_of, HasShape}
+use Rattle.std.specs.List.{list_any}
+use Rattle.call_tree.proofs.Begins.{begins_with_rest, begins_with-append, same_ends, no_push_empty}
+use Rattle.call_tree.proofs.Places.{same_place, not_at}
+use Rattle.call_tree.proofs.Weights.{not_true}
+use Rattle.call_tree.proofs.Paths.{path_of_root, path_of_child}
+
+abbrev pub origin : Place
+origin = record { parent = 0; frame = 0 }
+
+-- node i stands at a place
+pub record Stands (places : List Place) (i : ℕ) : Type 0 where
+  pub at : ℕ
+  pub is : i ≡ at + 1
+  pub within : at < length places
+  pub before : (get_or places at origin).parent ≤ at
+  pub path : path_of places i ≡ path_of places (get_or places at origin).parent ++ (get_or places at origin).frame ∷ []
+
+zero_or_more : (i : ℕ) → (i ≡ 0) ⊎ ((k : ℕ) × (i ≡ k + 1))
+zero_or_more zero = inl refl
+zero_or_more (suc k) = inr (k, omega arith)
+
+module _ (places : List Place) (owns totals : List ℕ) (s : HasShape places owns totals) where
+  -- a node is the root or stands at a place
+  pub root_or_stands : (i : ℕ) → i < length places + 1 → (i ≡ 0) ⊎ Stands places i
+  root_or_stands i lt = elim (zero_or_more i) [
+    | inl z ↦ inl z
+    | inr m ↦ inr (record {
+      at = m.0;
+      is = m.1;
+      within = omega arith;
+      before = s.after_parent m.0 origin (omega arith);
+      path = ap (path_of places) m.1 ∙ path_of_child places m.0 origin (omega arith) (s.after_parent m.0 origin (omega arith));
+    })
+  ]
+
+  -- a node whose path has a last frame stands at a place
+  pub stands : (i : ℕ) (front : List ℕ) (f : ℕ) → i < length places + 1 → path_of places i ≡ front ++ f ∷ [] → Stands places i
+  stands i front f lt e = elim (root_or_stands i lt) [
+    | inl z ↦ absurd (no_push_empty front f (sym (path_of_root places) ∙ ap (path_of places) (sym z) ∙ e))
+    | inr st ↦ st
+  ]
+
+  -- and its parent has the path before that frame
+  pub parent_path : (i : ℕ) (front : List ℕ) (f : ℕ) (st : Stands places i) → path_of places i ≡ front ++ f ∷ [] → path_of places (get_or places st.at origin).parent ≡ front
+  parent_path i front f st e = (same_ends _ front _ f (sym st.path ∙ e)).fronts
+
+  pub last_frame : (i : ℕ) (front : List ℕ) (f : ℕ) (st : Stands places i) → path_of places i ≡ front ++ f ∷ [] → (get_or places st.at origin).frame ≡ f
+  last_frame i front f st e = (same_ends _ front _ f (sym st.path ∙ e)).lasts
+
+  -- the child of `node` under f, whose path is the node's and f, stands at that very place
+  pub child_place : (i node : ℕ) (front : List ℕ) (f : ℕ) (st : Stands places i) → node < length places + 1 → path_of places node ≡ front → path_of places i ≡ front ++ f ∷ []
+      → get_or places st.at origin ≡ record { parent = node; frame = f }
+  child_place i node front f st lt is e =
+      let same : (get_or places st.at origin).parent ≡ node = s.distinct _ node (omega arith) lt (parent_path i front f st e ∙ sym is) in
+      let frame : (get_or places st.at origin).frame ≡ f = last_frame i front f st e in
+      λ j. record { parent = same j; frame = frame j }
+
+  front_node_by : (i : ℕ) (q ends : List ℕ) → i < length places + 1 → path_of places i ≡ q ++ reverse ends → (j : ℕ) × (j < length places + 1) × (path_of places j ≡ q)
+  front_node_by i q [] lt e = (i, lt, e ∙ append-nil q)
+  front_node_by i q (x ∷ ends) lt e =
+      let pushed : path_of places i ≡ (q ++ reverse ends) ++ x ∷ [] = e ∙ ap (λ r. q ++ r) (reverse-append (x ∷ []) ends) ∙ sym (append_assoc q (reverse ends) (x ∷ [])) in
+      let st = stands i (q ++ reverse ends) x lt pushed in
+      front_node_by (get_or places st.at origin).parent q ends (omega (arith, st.before, st.within)) (parent_path i (q ++ reverse ends) x st pushed)
+
+  -- the fronts of a node's path are paths of nodes
+  pub front_node : (i : ℕ) (q : List ℕ) → i < length places + 1 → begins_with nat_eq q (path_of places i) ≡ true → (j : ℕ) × (j < length places + 1) × (path_of places j ≡ q)
+  front_node i q lt e =
+      let rest = begins_with_rest q (path_of places i) e in
+      front_node_by i q (reverse rest.0) lt (rest.1 ∙ ap (λ r. q ++ r) (sym (reverse-reverse rest.0)))
+
+  -- no node's path goes on from `node` by f, where the place under it is missing
+  pub no_node : (node : ℕ) (front : List ℕ) (f : ℕ) (rest : List ℕ) → node < length places + 1 → path_of places node ≡ front
+      → list_any (same_place (record { parent = node; frame = f })) places ≡ false
+      → (i : ℕ) → i < length places + 1 → begins_with nat_eq ((front ++ f ∷ []) ++ rest) (path_of places i) ≡ false
+  no_node node front f rest lt is none i li =
+      not_true _ (λ t.
+      let more = begins_with_rest ((front ++ f ∷ []) ++ rest) (path_of places i) t in
+      let onward : path_of places i ≡ (front ++ f ∷ []) ++ (rest ++ more.0) = more.1 ∙ append_assoc (front ++ f ∷ []) rest more.0 in
+      let up = front_node i (front ++ f ∷ []) li (ap (begins_with nat_eq (front ++ f ∷ [])) onward ∙ begins_with-append (front ++ f ∷ []) (rest ++ more.0)) in
+      let st = stands up.0 front f up.1 up.2 in
+      let here = child_place up.0 node front f st lt is up.2 in
+      not_at places (record { parent = node; frame = f }) none st.at st.within (get_or_default places st.at _ origin st.within ∙ here))
+
+  -- the path of the node at a known place
+  pub path_at : (at node : ℕ) (front : List ℕ) (f : ℕ) → at < length places → get_or places at (record { parent = node; frame = f }) ≡ record { parent = node; frame = f }
+      → path_of places node ≡ front → path_of places (at + 1) ≡ front ++ f ∷ []
+  path_at at node front f lt is path =
+      path_of_child places at (record { parent = node; frame = f }) lt (s.after_parent at (record { parent = node; frame = f }) lt)
+      ∙ ap (λ (x : Place). path_of places x.parent ++ x.frame ∷ []) is ∙ ap (λ p. p ++ f ∷ []) path

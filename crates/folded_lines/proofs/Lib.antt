@@ -1,0 +1,14 @@
+pub mod BackLemmas
+pub mod ColumnLemmas
+pub mod Computing
+pub mod DecimalLemmas
+pub mod JoinLemmas
+pub mod LimitLemmas
+pub mod LineLemmas
+pub mod NumberLemmas
+pub mod OnePassLemmas
+pub mod ReadLemmas
+pub mod ScanLemmas
+pub mod SplitLemmas
+pub mod TextLemmas
+pub mod WorkedExamples

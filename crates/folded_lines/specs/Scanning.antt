@@ -1,0 +1,74 @@
+-- What is left of a text at some line, by the counts of what stands before it.
+use Rattle.std.specs.Prelude.{◌≡◌, ◌≤◌, ℕ, ◌+◌, nat_lt, if◌then◌else◌, List, [], ◌∷◌, length, drop}
+use Rattle.stack_core.specs.Reading.{Rest, IsLimited}
+use Rattle.stack_core.specs.declared.readers.Step.{Step}
+use Rattle.stack_core.specs.declared.readers.Step.TheVariants as step
+use Rattle.stack_core.specs.declared.samples.TheConstants.{WEIGHT_LIMIT}
+use Rattle.stack_core.specs.declared.samples.Sample.{Sample as StackSample}
+use Rattle.stack_core.specs.declared.endings.ReadKind.TheVariants.{TotalTooLarge}
+use Rattle.stack_core.specs.declared.endings.SourceEnd.{SourceEnd}
+use Rattle.stack_core.specs.declared.endings.SourceEnd.TheVariants as ends
+use Rattle.folded_lines.specs.declared.lines.Line.{Line}
+use Rattle.folded_lines.specs.declared.lines.Line.TheVariants.{Ignored, Fault, Sample}
+use Rattle.folded_lines.specs.declared.cursor.Cursor.{Cursor}
+use Rattle.folded_lines.specs.Lines.{text_lines, read_line}
+
+-- a line after weights that add up to the total
+abbrev pub within_total : ℕ → Line → Line
+within_total total Ignored = Ignored
+within_total total (Fault kind) = Fault kind
+within_total total (Sample sample) =
+    if nat_lt WEIGHT_LIMIT (total + sample.weight) then Fault TotalTooLarge else Sample sample
+
+-- nothing is left
+abbrev pub ended : SourceEnd → Rest
+ended ending = record { samples = []; ending = ending }
+
+abbrev pub followed_by : StackSample → Rest → Rest
+followed_by sample rest = record { samples = sample ∷ rest.samples; ending = rest.ending }
+
+-- what is left after so many lines, of which so many are ignored, and weights of that total
+abbrev pub scan : ℕ → ℕ → ℕ → List (List ℕ) → Rest
+scan taken ignored total [] = ended (ends.Clean ignored)
+scan taken ignored total (line ∷ lines) =
+    elim (within_total total (read_line line)) [
+      | Ignored ↦ scan (taken + 1) (ignored + 1) total lines
+      | Fault kind ↦ ended (ends.Fault (record { kind = kind; at = taken + 1 }))
+      | Sample sample ↦ followed_by sample (scan (taken + 1) ignored (total + sample.weight) lines)
+    ]
+
+abbrev pub rest_at : List ℕ → Cursor → Rest
+rest_at bytes cursor = scan cursor.taken cursor.ignored cursor.total (text_lines (drop cursor.position bytes))
+
+-- a place that a reader may have come to
+pub record IsPlace (bytes : List ℕ) (cursor : Cursor) : Type 0 where
+  pub within : cursor.position ≤ length bytes
+  pub lines : cursor.taken ≤ cursor.position
+  pub ignored : cursor.ignored ≤ cursor.taken
+  pub total : cursor.total ≤ WEIGHT_LIMIT
+
+-- the place after a line that takes so many bytes
+abbrev pub place_after : Cursor → ℕ → Line → Cursor
+place_after cursor len Ignored =
+    record { position = cursor.position + len; taken = cursor.taken + 1; ignored = cursor.ignored + 1; total = cursor.total }
+place_after cursor len (Fault kind) =
+    record { position = cursor.position + len; taken = cursor.taken + 1; ignored = cursor.ignored; total = cursor.total }
+place_after cursor len (Sample sample) =
+    record { position = cursor.position + len; taken = cursor.taken + 1; ignored = cursor.ignored; total = cursor.total + sample.weight }
+
+-- what is left at a line, by what is left after it
+abbrev pub rest_from : Cursor → Line → Rest → Rest
+rest_from cursor Ignored after = after
+rest_from cursor (Fault kind) after = ended (ends.Fault (record { kind = kind; at = cursor.taken + 1 }))
+rest_from cursor (Sample sample) after = followed_by sample after
+
+-- a sample keeps the limits, and so does the total with it
+abbrev pub IsWithin : ℕ → Line → Type 0
+IsWithin total Ignored = Unit {0}
+IsWithin total (Fault kind) = Unit {0}
+IsWithin total (Sample sample) = IsLimited sample × (total + sample.weight ≤ WEIGHT_LIMIT)
+
+-- what is left before a step, by what is left after it
+abbrev pub IsLeftBefore : Rest → Step → Rest → Type 0
+IsLeftBefore before (step.Sample sample) after = before ≡ followed_by sample after
+IsLeftBefore before (step.End ending) after = before ≡ ended ending

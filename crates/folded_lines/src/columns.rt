@@ -1,0 +1,79 @@
+//! The columns of a folded line, and the numbers in them.
+
+ghost use Rattle.std.specs.Prelude.{◌≡◌, ◌||◌, IsTrue, min, slice_index, count_by};
+ghost use Rattle.std.specs.List.{list_all};
+ghost use Rattle.std.specs.Str.Parse.{digits_value};
+ghost use Rattle.std.specs.Char.{is_ascii_digit};
+ghost use Rattle.std.specs.Option.{option_map};
+ghost use Rattle.folded_lines.specs.Lines.{columns, is_number, is_point, has_point, ends_in_number};
+
+use memchr::memrchr2;
+use stack_core::WEIGHT_LIMIT;
+
+/// What stands before the last space or tab of a line, and what after it.
+pub(crate) fn columns(line: &[u8]) -> Option<(&[u8], &[u8])>
+    ensures { option_map (λ parts. (parts.0.now, parts.1.now)) result ≡ columns line.now }
+{
+    let at = memrchr2(b' ', b'\t', line)?;
+    Some((&line[..at], &line[at + 1..]))
+}
+
+fn begins_with_digit(text: &[u8]) -> bool
+    ensures { result ≡ is_ascii_digit (slice_index text.now 0) }
+{
+    match text.first() {
+        None => false,
+        Some(b) => b.is_ascii_digit(),
+    }
+}
+
+fn is_digits_and_points(text: &[u8]) -> bool
+    ensures { result ≡ list_all (λ b. is_ascii_digit b || is_point b) text.now }
+{
+    text.iter().all(|b| b.is_ascii_digit() || *b == b'.')
+}
+
+fn points(text: &[u8]) -> usize
+    ensures { result ≡ count_by is_point text.now }
+{
+    text.iter().filter(|b| **b == b'.').count()
+}
+
+/// Whether the text is digits, which may have one point after the first.
+pub(crate) fn is_number(text: &[u8]) -> bool
+    ensures { result ≡ is_number text.now }
+{
+    begins_with_digit(text) && is_digits_and_points(text) && points(text) <= 1
+}
+
+/// Whether a point stands in the text.
+pub(crate) fn has_point(text: &[u8]) -> bool
+    ensures { result ≡ has_point text.now }
+{
+    text.iter().any(|b| *b == b'.')
+}
+
+/// Whether a head has a count at its own end.
+pub(crate) fn ends_in_number(head: &[u8]) -> bool
+    ensures { result ≡ ends_in_number (columns head.now) }
+{
+    match columns(head) {
+        None => false,
+        Some((_, count)) => is_number(count),
+    }
+}
+
+/// More than any weight may be.
+const TOO_LARGE: u64 = WEIGHT_LIMIT + 1;
+
+/// The number that the digits write, as far as it is no larger than one that is refused.
+pub(crate) fn weight_of(digits: &[u8]) -> u64
+    requires { IsTrue (list_all is_ascii_digit digits.now) }
+    ensures { result ≡ min (digits_value 10 digits.now) TOO_LARGE }
+{
+    let mut weight = 0;
+    for b in digits {
+        weight = (weight * 10 + u64::from(*b - b'0')).min(TOO_LARGE);
+    }
+    weight
+}

@@ -1,0 +1,17 @@
+//! Folded stack lines: names joined by `;`, root first, a space and a count, as the FlameGraph tools
+//! write them. Read as samples, and written.
+#![tactic(auto)]
+
+mod columns;
+mod cursor;
+pub mod laws;
+mod lines;
+mod names;
+mod parse;
+mod reader;
+#[cfg(test)]
+mod tests;
+mod writing;
+
+pub use reader::FoldedReader;
+pub use writing::{append_line, append_pair_line};

@@ -1,0 +1,76 @@
+//! Folded text, read line by line.
+
+ghost use Rattle.std.specs.Prelude.{◌≡◌, IsTrue};
+ghost use Rattle.stack_core.specs.Reading.{IsSourceLimited};
+ghost use Rattle.folded_lines.specs.Reading.{read_folded, begins_compressed};
+
+use crate::cursor::{Cursor, next_step};
+use stack_core::{ReadFault, ReadKind, SampleReader, SourceEnd, Step};
+use std::alloc::{AllocError, Global};
+use std::marker::Model;
+
+/// Reads the samples of folded text: names joined by `;`, root first, a space or tab and a count, a sample
+/// a line, as the FlameGraph tools write it. Lines without a count are ignored and counted. The first fault
+/// ends the source, and its `at` is the number of its line, from 1. Contracts see what the reader still has
+/// to give, and whether it has answered the ending.
+#[derive(Debug, Drop)]
+pub struct FoldedReader {
+    bytes: Vec<u8>,
+    cursor: Cursor,
+    ended: Option<SourceEnd>,
+}
+
+impl Model for FoldedReader {
+    ghost use Rattle.folded_lines.specs.State.{State};
+
+    ghost Value = { State };
+
+    ghost use Rattle.folded_lines.specs.View.{state_of, IsReader};
+
+    ghost view = { state_of };
+
+    ghost invariant = { IsReader };
+}
+
+/// Whether the bytes begin as gzip does.
+fn begins_compressed(bytes: &[u8]) -> bool
+    ensures { result ≡ begins_compressed bytes.now }
+{
+    bytes.first() == Some(&0x1f) && bytes.get(1) == Some(&0x8b)
+}
+
+impl FoldedReader {
+    /// A reader of folded text, from its first line. It takes no memory.
+    pub fn over(bytes: Vec<u8>) -> Self
+        ensures rest { result.rest ≡ read_folded bytes.items }
+        ensures limits { IsSourceLimited (read_folded bytes.items).samples }
+    {
+        let ended = begins_compressed(&bytes).then_some(SourceEnd::Fault(ReadFault {
+            kind: ReadKind::Compressed,
+            at: 1,
+        }));
+        FoldedReader {
+            bytes,
+            cursor: Cursor::START,
+            ended,
+        }
+    }
+}
+
+impl SampleReader for FoldedReader {
+    ghost rest = { λ reader. reader.rest };
+
+    ghost has_ended = { λ reader. IsTrue reader.has_ended };
+
+    fn next(&mut self, alloc: Global) -> Result<Step, AllocError> {
+        if let Some(ending) = self.ended {
+            return Ok(Step::End(ending));
+        }
+        let (step, cursor) = next_step(alloc, self.bytes.as_slice(), self.cursor)?;
+        self.cursor = cursor;
+        if let Step::End(ending) = &step {
+            self.ended = Some(*ending);
+        }
+        Ok(step)
+    }
+}

@@ -1,0 +1,188 @@
+//! Worked examples of folded text, read and written.
+
+use super::*;
+use stack_core::{ReadKind, SampleReader, SourceEnd, Step};
+use std::alloc::{AllocError, Global};
+use std::process::Abort;
+use std::test::Fail;
+
+/// The samples of a text, one a line as `append_line` writes them, and the ending.
+fn read(alloc: Global, text: &[u8]) -> Result<(Vec<u8>, Option<SourceEnd>), AllocError> {
+    let mut reader = FoldedReader::over(text.to_vec(alloc)?);
+    let mut lines = Vec::new(alloc);
+    for _ in 0..100 {
+        match reader.next(alloc)? {
+            Step::Sample(sample) => {
+                append_line(alloc, &mut lines, sample.stack.get(), sample.weight)?;
+            }
+            Step::End(ending) => return Ok((lines, Some(ending))),
+        }
+    }
+    Ok((lines, None))
+}
+
+fn reads_as(
+    rt: &(impl Abort + AllocGlobal),
+    text: &[u8],
+    lines: &[u8],
+    ending: SourceEnd,
+) -> Result<(), AllocError> {
+    let (read, end) = read(rt.alloc(), text)?;
+    assert_eq!(rt; read.as_slice(), lines);
+    assert_eq!(rt; end, Some(ending));
+    Ok(())
+}
+
+fn clean(ignored: u64) -> SourceEnd {
+    SourceEnd::Clean { ignored }
+}
+
+fn fault(kind: ReadKind, at: u64) -> SourceEnd {
+    SourceEnd::Fault(stack_core::ReadFault { kind, at })
+}
+
+#[test]
+fn empty_sources(rt: HostRuntime) -> Result<(), Fail> {
+    reads_as(&rt, b"", b"", clean(0))?;
+    Ok(())
+}
+
+#[test]
+fn odd_lines(rt: HostRuntime) -> Result<(), Fail> {
+    reads_as(
+        &rt,
+        b" 5\na; 1\na;;b 1\n\na x\na 5 \n",
+        b" 5\na 1\na;;b 1\n",
+        clean(3),
+    )?;
+    reads_as(&rt, b"a 1\r\nc\t007\nb 2\r", b"a 1\nc 7\n", clean(1))?;
+    Ok(())
+}
+
+#[test]
+fn refused_counts(rt: HostRuntime) -> Result<(), Fail> {
+    reads_as(
+        &rt,
+        b"b 2\na 1.5\n",
+        b"b 2\n",
+        fault(ReadKind::DecimalWeight, 2),
+    )?;
+    reads_as(
+        &rt,
+        b"b 2\na 1 2\n",
+        b"b 2\n",
+        fault(ReadKind::TwoColumns, 2),
+    )?;
+    Ok(())
+}
+
+/// A line of so many names `a` and the weight 1.
+fn deep_line(alloc: Global, names: usize) -> Result<Vec<u8>, AllocError> {
+    let mut line = Vec::new(alloc);
+    for _ in 0..names {
+        line.extend_from_slice(b"a;")?;
+    }
+    let _ = line.pop();
+    line.extend_from_slice(b" 1\n")?;
+    Ok(line)
+}
+
+#[test]
+fn limits_of_weights_and_depth(rt: HostRuntime) -> Result<(), Fail> {
+    let most = b"a 72057594037927935\nb 0\n";
+    reads_as(&rt, most, most, clean(0))?;
+    reads_as(
+        &rt,
+        b"a 72057594037927935\nb 1\n",
+        b"a 72057594037927935\n",
+        fault(ReadKind::TotalTooLarge, 2),
+    )?;
+    reads_as(
+        &rt,
+        b"a 99999999999999999999999999999999999999999\n",
+        b"",
+        fault(ReadKind::TotalTooLarge, 1),
+    )?;
+    let line = deep_line(rt.alloc(), 4_096)?;
+    reads_as(&rt, line.as_slice(), line.as_slice(), clean(0))?;
+    let line = deep_line(rt.alloc(), 4_097)?;
+    reads_as(&rt, line.as_slice(), b"", fault(ReadKind::TooDeep, 1))?;
+    Ok(())
+}
+
+#[test]
+fn compressed_and_cut(rt: HostRuntime) -> Result<(), Fail> {
+    reads_as(
+        &rt,
+        &[0x1f, 0x8b, 0x08],
+        b"",
+        fault(ReadKind::Compressed, 1),
+    )?;
+    Ok(())
+}
+
+#[test]
+fn cut_folded_text(rt: HostRuntime) -> Result<(), Fail> {
+    let text = b"a;b 2\na 1\na;b 3\n";
+    for n in 0..17 {
+        let lines = match n {
+            0..5 => b"".as_slice(),
+            5..9 => b"a;b 2\n".as_slice(),
+            9..15 => b"a;b 2\na 1\n".as_slice(),
+            _ => text.as_slice(),
+        };
+        let ignored = match n {
+            1..=4 | 7 | 8 | 11..=14 => 1,
+            _ => 0,
+        };
+        reads_as(&rt, &text[..n], lines, clean(ignored))?;
+    }
+    Ok(())
+}
+
+#[test]
+fn lossy_names(rt: HostRuntime) -> Result<(), Fail> {
+    let text = [0x61, 0xff, 0x3b, 0xe2, 0x82, 0x41, 0xc0, 0x20, 0x31, 0x0a];
+    reads_as(
+        &rt,
+        &text,
+        "a\u{fffd};\u{fffd}A\u{fffd} 1\n".as_bytes(),
+        clean(0),
+    )?;
+    Ok(())
+}
+
+#[test]
+fn lines_writers_and_limits(rt: HostRuntime) -> Result<(), Fail> {
+    let mut out = Vec::new(rt.alloc());
+    let stack = [String::from_str(rt.alloc(), "a 1")?];
+    append_line(rt.alloc(), &mut out, &stack, 2)?;
+    assert_eq!(rt; out.as_slice(), b"a 1 2\n".as_slice());
+    reads_as(&rt, out.as_slice(), b"", fault(ReadKind::TwoColumns, 1))?;
+    Ok(())
+}
+
+#[test]
+fn comparison(rt: HostRuntime) -> Result<(), Fail> {
+    let mut out = Vec::new(rt.alloc());
+    let a = [String::from_str(rt.alloc(), "a")?];
+    let b = [String::from_str(rt.alloc(), "b")?];
+    let c = [String::from_str(rt.alloc(), "c")?];
+    append_pair_line(rt.alloc(), &mut out, &a, 3, 1)?;
+    append_pair_line(rt.alloc(), &mut out, &b, 1, 0)?;
+    append_pair_line(rt.alloc(), &mut out, &c, 0, 2)?;
+    assert_eq!(rt; out.as_slice(), b"a 3 1\nb 1 0\nc 0 2\n".as_slice());
+    Ok(())
+}
+
+#[test]
+fn ending_again(rt: HostRuntime) -> Result<(), Fail> {
+    let mut reader = FoldedReader::over(b"x\n".to_vec(rt.alloc())?);
+    for _ in 0..3 {
+        match reader.next(rt.alloc())? {
+            Step::Sample(_) => assert!(rt; false, "a sample after the ending"),
+            Step::End(ending) => assert_eq!(rt; ending, clean(1)),
+        }
+    }
+    Ok(())
+}

@@ -1,0 +1,12 @@
+pub mod FileLemmas
+pub mod FirstLemmas
+pub mod FrameLemmas
+pub mod IndexLemmas
+pub mod TableLemmas
+pub mod PickLemmas
+pub mod PlaceLemmas
+pub mod SampleLemmas
+pub mod StackLemmas
+pub mod PlanLemmas
+pub mod ReaderLemmas
+pub mod Rows

@@ -1,0 +1,38 @@
+-- A reader has fewer than 2 ^ 64 samples to give.
+use Rattle.std.proofs.Common.{◌≡◌, ℕ, ◌<◌, ◌≤◌, ◌^◌, List, length, Option, Some, None, subst, drop, map, arith}
+use Rattle.std.specs.Prelude.{Vec}
+use Rattle.std.specs.declared.alloc.Global.{Global}
+use Rattle.std.proofs.lemmas.List.{length-map}
+use Rattle.std.proofs.Common.{length-drop}
+use Rattle.stack_core.specs.declared.endings.SourceEnd.{SourceEnd}
+use Rattle.stack_core.specs.Reading.{Rest}
+use Rattle.profile_tables.specs.declared.choices.Pick.{Pick}
+use Rattle.profile_tables.specs.declared.choices.Naming.{Naming}
+use Rattle.profile_tables.specs.declared.plan.Plan.{Plan}
+use Rattle.profile_tables.specs.declared.reader.PprofReader.TheInside.{Inside}
+use Rattle.profile_tables.specs.Places.{found_at}
+use Rattle.profile_tables.specs.SeenTables.{seen_tables}
+use Rattle.profile_tables.specs.State.{State}
+use Rattle.profile_tables.specs.View.{rest_by, rest_or_ended, state_of}
+use Rattle.profile_tables.proofs.PlanLemmas.{few-read, few-pprof}
+
+few-items : {A : Type 0} (v : Vec A Global) → length v.items < 2 ^ 64
+few-items v = let s : v.cap < 2 ^ 63 = v.small in let o : v.len ≡ length v.items = v.ok.0 in let p : v.len ≤ v.cap = v.ok.1 in omega arith
+
+few-rest : (bytes : Vec ℕ Global) (pick : Pick) (naming : Naming) (plan : Option Plan) (given total : ℕ) → length (rest_by bytes.items pick naming plan given total).samples < 2 ^ 64
+few-rest bytes pick naming None given total = let a = few-pprof bytes.items pick naming in let b = few-items bytes in omega (arith, a, b)
+few-rest bytes pick naming (Some plan) given total =
+    let places : List ℕ = plan.samples.items in
+    let a = few-read (seen_tables plan.tables) total (map (found_at bytes.items) (drop given places)) in
+    let b = length-map (drop given places) (found_at bytes.items) in
+    let d = length-drop given places in
+    let e = few-items plan.samples in omega (arith, a, b, d, e)
+
+few-or-ended : (o : Option SourceEnd) (rest : Rest) → length rest.samples < 2 ^ 64 → length (rest_or_ended o rest).samples < 2 ^ 64
+few-or-ended None rest few = few
+few-or-ended (Some ending) rest few = omega arith
+
+pub few-state : (a : Inside) (state : State) → state_of a ≡ state → length state.rest.samples < 2 ^ 64
+few-state a state is =
+    subst (λ (s : State). length s.rest.samples < 2 ^ 64) is
+    (few-or-ended a.ended _ (few-rest a.bytes a.pick a.naming a.plan a.given a.total))

@@ -1,0 +1,26 @@
+-- A length of 2^64-1, the index -1 and the least int64.
+use Rattle.std.specs.Prelude.{◌≡◌, [], ◌∷◌, refl}
+use Rattle.std.specs.Fmt.{digits}
+use Rattle.bstr.proofs.Computing.{computing}
+use Rattle.stack_core.specs.declared.endings.ReadKind.TheVariants as kind
+use Rattle.stack_core.specs.declared.endings.SourceEnd.TheVariants.{Fault}
+use Rattle.wire_fields.specs.Varint.{varint_within}
+use Rattle.wire_fields.specs.Reading.{value_at, field_at, left_at, fields_of, numbers_of}
+use Rattle.profile_tables.specs.declared.choices.Pick.TheVariants.{Preferred}
+use Rattle.profile_tables.specs.declared.choices.Naming.TheVariants.{Plain}
+use Rattle.profile_tables.specs.Samples.{read_pprof}
+
+pub greatest_length_and_least_index-length : read_pprof (10 ∷ 255 ∷ 255 ∷ 255 ∷ 255 ∷ 255 ∷ 255 ∷ 255 ∷ 255 ∷ 255 ∷ 1 ∷ []) Preferred Plain ≡
+    record { samples = []; ending = Fault (record { kind = kind.Truncated; at = 0 }) }
+unfolding fields_of left_at field_at value_at varint_within numbers_of digits computing
+greatest_length_and_least_index-length = refl
+
+pub greatest_length_and_least_index-index : read_pprof (10 ∷ 4 ∷ 8 ∷ 1 ∷ 16 ∷ 1 ∷ 10 ∷ 4 ∷ 8 ∷ 2 ∷ 16 ∷ 2 ∷ 18 ∷ 7 ∷ 10 ∷ 1 ∷ 1 ∷ 18 ∷ 2 ∷ 5 ∷ 9 ∷ 34 ∷ 6 ∷ 8 ∷ 1 ∷ 34 ∷ 2 ∷ 8 ∷ 1 ∷ 42 ∷ 4 ∷ 8 ∷ 1 ∷ 16 ∷ 3 ∷ 50 ∷ 0 ∷ 50 ∷ 1 ∷ 110 ∷ 50 ∷ 3 ∷ 99 ∷ 112 ∷ 117 ∷ 50 ∷ 1 ∷ 102 ∷ 112 ∷ 255 ∷ 255 ∷ 255 ∷ 255 ∷ 255 ∷ 255 ∷ 255 ∷ 255 ∷ 255 ∷ 1 ∷ []) Preferred Plain ≡
+    record { samples = []; ending = Fault (record { kind = kind.BadString; at = 48 }) }
+unfolding fields_of left_at field_at value_at varint_within numbers_of digits computing
+greatest_length_and_least_index-index = refl
+
+pub greatest_length_and_least_index-least : read_pprof (10 ∷ 4 ∷ 8 ∷ 1 ∷ 16 ∷ 1 ∷ 10 ∷ 4 ∷ 8 ∷ 2 ∷ 16 ∷ 2 ∷ 18 ∷ 7 ∷ 10 ∷ 1 ∷ 1 ∷ 18 ∷ 2 ∷ 5 ∷ 9 ∷ 34 ∷ 6 ∷ 8 ∷ 1 ∷ 34 ∷ 2 ∷ 8 ∷ 1 ∷ 42 ∷ 4 ∷ 8 ∷ 1 ∷ 16 ∷ 3 ∷ 50 ∷ 0 ∷ 50 ∷ 1 ∷ 110 ∷ 50 ∷ 3 ∷ 99 ∷ 112 ∷ 117 ∷ 50 ∷ 1 ∷ 102 ∷ 112 ∷ 128 ∷ 128 ∷ 128 ∷ 128 ∷ 128 ∷ 128 ∷ 128 ∷ 128 ∷ 128 ∷ 1 ∷ []) Preferred Plain ≡
+    record { samples = []; ending = Fault (record { kind = kind.BadString; at = 48 }) }
+unfolding fields_of left_at field_at value_at varint_within numbers_of digits computing
+greatest_length_and_least_index-least = refl

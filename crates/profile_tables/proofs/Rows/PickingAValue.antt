@@ -1,0 +1,36 @@
+-- Two sample types, `n` and `cpu`, with the values 5 and 9.
+use Rattle.std.specs.Prelude.{◌≡◌, [], ◌∷◌, refl, codes}
+use Rattle.std.specs.Fmt.{digits}
+use Rattle.bstr.proofs.Computing.{computing}
+use Rattle.stack_core.specs.declared.endings.ReadKind.TheVariants as kind
+use Rattle.stack_core.specs.declared.endings.SourceEnd.TheVariants.{Clean, Fault}
+use Rattle.wire_fields.specs.Varint.{varint_within}
+use Rattle.wire_fields.specs.Reading.{value_at, field_at, left_at, fields_of, numbers_of}
+use Rattle.profile_tables.specs.declared.choices.Pick.TheVariants.{Preferred, Named}
+use Rattle.profile_tables.specs.declared.choices.Naming.TheVariants.{Plain}
+use Rattle.profile_tables.specs.Samples.{read_pprof}
+
+pub picking_a_value-preferred : read_pprof (10 ∷ 4 ∷ 8 ∷ 1 ∷ 16 ∷ 1 ∷ 10 ∷ 4 ∷ 8 ∷ 2 ∷ 16 ∷ 2 ∷ 18 ∷ 7 ∷ 10 ∷ 1 ∷ 1 ∷ 18 ∷ 2 ∷ 5 ∷ 9 ∷ 34 ∷ 6 ∷ 8 ∷ 1 ∷ 34 ∷ 2 ∷ 8 ∷ 1 ∷ 42 ∷ 4 ∷ 8 ∷ 1 ∷ 16 ∷ 3 ∷ 50 ∷ 0 ∷ 50 ∷ 1 ∷ 110 ∷ 50 ∷ 3 ∷ 99 ∷ 112 ∷ 117 ∷ 50 ∷ 1 ∷ 102 ∷ []) Preferred Plain ≡
+    record { samples = record { stack = codes "f" ∷ []; weight = 9 } ∷ []; ending = Clean 0 }
+unfolding fields_of left_at field_at value_at varint_within numbers_of digits computing
+picking_a_value-preferred = refl
+
+pub picking_a_value-default : read_pprof (10 ∷ 4 ∷ 8 ∷ 1 ∷ 16 ∷ 1 ∷ 10 ∷ 4 ∷ 8 ∷ 2 ∷ 16 ∷ 2 ∷ 18 ∷ 7 ∷ 10 ∷ 1 ∷ 1 ∷ 18 ∷ 2 ∷ 5 ∷ 9 ∷ 34 ∷ 6 ∷ 8 ∷ 1 ∷ 34 ∷ 2 ∷ 8 ∷ 1 ∷ 42 ∷ 4 ∷ 8 ∷ 1 ∷ 16 ∷ 3 ∷ 50 ∷ 0 ∷ 50 ∷ 1 ∷ 110 ∷ 50 ∷ 3 ∷ 99 ∷ 112 ∷ 117 ∷ 50 ∷ 1 ∷ 102 ∷ 112 ∷ 1 ∷ []) Preferred Plain ≡
+    record { samples = record { stack = codes "f" ∷ []; weight = 5 } ∷ []; ending = Clean 0 }
+unfolding fields_of left_at field_at value_at varint_within numbers_of digits computing
+picking_a_value-default = refl
+
+pub picking_a_value-default_of_no_type : read_pprof (10 ∷ 4 ∷ 8 ∷ 1 ∷ 16 ∷ 1 ∷ 10 ∷ 4 ∷ 8 ∷ 2 ∷ 16 ∷ 2 ∷ 18 ∷ 7 ∷ 10 ∷ 1 ∷ 1 ∷ 18 ∷ 2 ∷ 5 ∷ 9 ∷ 34 ∷ 6 ∷ 8 ∷ 1 ∷ 34 ∷ 2 ∷ 8 ∷ 1 ∷ 42 ∷ 4 ∷ 8 ∷ 1 ∷ 16 ∷ 3 ∷ 50 ∷ 0 ∷ 50 ∷ 1 ∷ 110 ∷ 50 ∷ 3 ∷ 99 ∷ 112 ∷ 117 ∷ 50 ∷ 1 ∷ 102 ∷ 112 ∷ 3 ∷ []) Preferred Plain ≡
+    record { samples = record { stack = codes "f" ∷ []; weight = 9 } ∷ []; ending = Clean 0 }
+unfolding fields_of left_at field_at value_at varint_within numbers_of digits computing
+picking_a_value-default_of_no_type = refl
+
+pub picking_a_value-named : read_pprof (10 ∷ 4 ∷ 8 ∷ 1 ∷ 16 ∷ 1 ∷ 10 ∷ 4 ∷ 8 ∷ 2 ∷ 16 ∷ 2 ∷ 18 ∷ 7 ∷ 10 ∷ 1 ∷ 1 ∷ 18 ∷ 2 ∷ 5 ∷ 9 ∷ 34 ∷ 6 ∷ 8 ∷ 1 ∷ 34 ∷ 2 ∷ 8 ∷ 1 ∷ 42 ∷ 4 ∷ 8 ∷ 1 ∷ 16 ∷ 3 ∷ 50 ∷ 0 ∷ 50 ∷ 1 ∷ 110 ∷ 50 ∷ 3 ∷ 99 ∷ 112 ∷ 117 ∷ 50 ∷ 1 ∷ 102 ∷ []) (Named (codes "n")) Plain ≡
+    record { samples = record { stack = codes "f" ∷ []; weight = 5 } ∷ []; ending = Clean 0 }
+unfolding fields_of left_at field_at value_at varint_within numbers_of digits computing
+picking_a_value-named = refl
+
+pub picking_a_value-named_nothing : read_pprof (10 ∷ 4 ∷ 8 ∷ 1 ∷ 16 ∷ 1 ∷ 10 ∷ 4 ∷ 8 ∷ 2 ∷ 16 ∷ 2 ∷ 18 ∷ 7 ∷ 10 ∷ 1 ∷ 1 ∷ 18 ∷ 2 ∷ 5 ∷ 9 ∷ 34 ∷ 6 ∷ 8 ∷ 1 ∷ 34 ∷ 2 ∷ 8 ∷ 1 ∷ 42 ∷ 4 ∷ 8 ∷ 1 ∷ 16 ∷ 3 ∷ 50 ∷ 0 ∷ 50 ∷ 1 ∷ 110 ∷ 50 ∷ 3 ∷ 99 ∷ 112 ∷ 117 ∷ 50 ∷ 1 ∷ 102 ∷ []) (Named (codes "x")) Plain ≡
+    record { samples = []; ending = Fault (record { kind = kind.UnknownSampleType; at = 48 }) }
+unfolding fields_of left_at field_at value_at varint_within numbers_of digits computing
+picking_a_value-named_nothing = refl

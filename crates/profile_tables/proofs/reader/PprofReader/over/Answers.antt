@@ -1,0 +1,5 @@
+use Rattle.profile_tables.proofs.PlanLemmas.{pprof-limited}
+use Rattle.profile_tables.proofs.reader.PprofReader.over.Goals as goal
+
+pub returns-clause-limits : goal.returns-clause-limits
+returns-clause-limits c = pprof-limited c.args.bytes.items c.args.pick c.args.naming

@@ -1,0 +1,12 @@
+use Rattle.std.proofs.Common.{◌≡◌, ◌++◌, length}
+use Rattle.std.specs.Prelude.{flat_map}
+use Rattle.profile_tables.specs.Message.{first}
+use Rattle.profile_tables.specs.Shapes.{faults_of_top_field, faults_behind, field_faults}
+use Rattle.profile_tables.proofs.shapes.field_fault.Given as goal
+
+abbrev pub invariant-loop-field : goal.invariant-loop-field
+invariant-loop-field l =
+    first (flat_map faults_of_top_field l.fields.items ++ faults_behind l.fields.fault) ≡ first (field_faults l.file)
+
+abbrev pub decreases-loop-field : goal.decreases-loop-field
+decreases-loop-field l = length l.fields.items

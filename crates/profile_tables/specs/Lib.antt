@@ -1,0 +1,14 @@
+pub mod Message
+pub mod Shapes
+pub mod Tables
+pub mod Naming
+pub mod Samples
+pub mod Contents
+pub mod Entries
+pub mod Frames
+pub mod SeenTables
+pub mod Outcome
+pub mod Places
+pub mod Plans
+pub mod State
+pub mod View

@@ -1,0 +1,11 @@
+-- What reading one sample gives.
+use Rattle.std.specs.Prelude.{◌≡◌, ℕ, List, Some, None, Result, Ok, Err}
+use Rattle.stack_core.specs.declared.endings.ReadKind.{ReadKind}
+use Rattle.stack_core.specs.declared.samples.Sample.{Sample}
+use Rattle.profile_tables.specs.Message.{first}
+use Rattle.profile_tables.specs.Samples.{SampleTables, sample_faults, sample_of}
+
+-- the sample, where it has no fault behind samples of this total weight, and else its first fault
+abbrev pub IsOutcome : SampleTables → ℕ → List ℕ → Result Sample ReadKind → Type 0
+IsOutcome tables total sample (Ok read) = (first (sample_faults tables total sample) ≡ None) × (read ≡ sample_of tables sample)
+IsOutcome tables total sample (Err kind) = first (sample_faults tables total sample) ≡ Some kind

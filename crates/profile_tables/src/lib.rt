@@ -1,0 +1,26 @@
+//! pprof profiles: their tables, and a reader of their samples.
+#![tactic(auto)]
+
+mod checks;
+mod choices;
+mod entries;
+mod faults;
+mod ids;
+mod message;
+mod naming;
+mod picking;
+mod places;
+mod plan;
+mod reader;
+mod samples;
+mod shapes;
+mod stacks;
+mod strings;
+mod tables;
+#[cfg(test)]
+mod tests;
+
+pub use choices::{Naming, Pick};
+pub use faults::TableFault;
+pub use reader::PprofReader;
+pub use tables::Tables;

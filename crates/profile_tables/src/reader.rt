@@ -1,0 +1,91 @@
+//! A pprof profile, read sample by sample.
+
+ghost use Rattle.std.specs.Prelude.{◌≡◌, IsTrue};
+ghost use Rattle.stack_core.specs.Reading.{IsSourceLimited};
+ghost use Rattle.profile_tables.specs.Samples.{read_pprof};
+
+use crate::choices::{Naming, Pick};
+use crate::plan::{Plan, Start, next_step, plan_of};
+use stack_core::{SampleReader, SourceEnd, Step};
+use std::alloc::{AllocError, Global};
+use std::marker::Model;
+
+/// Reads the samples of a pprof profile that is not compressed. Contracts see what it still has to give, and whether it has answered
+/// the ending.
+#[derive(Debug, Drop)]
+pub struct PprofReader {
+    bytes: Vec<u8>,
+    pick: Pick,
+    naming: Naming,
+    /// None before the tables were read.
+    plan: Option<Plan>,
+    /// How many samples were given.
+    given: usize,
+    /// Their weights together.
+    total: u64,
+    ended: Option<SourceEnd>,
+}
+
+impl Model for PprofReader {
+    ghost use Rattle.profile_tables.specs.State.{State};
+
+    ghost Value = { State };
+
+    ghost use Rattle.profile_tables.specs.View.{state_of, IsReader};
+
+    ghost view = { state_of };
+
+    ghost invariant = { IsReader };
+}
+
+impl PprofReader {
+    /// A reader of a file's bytes. It takes no memory: the first `next` reads the tables.
+    pub fn over(bytes: Vec<u8>, pick: Pick, naming: Naming) -> Self
+        ensures rest { result.rest ≡ read_pprof bytes.items pick naming }
+        ensures limits { IsSourceLimited (read_pprof bytes.items pick naming).samples }
+    {
+        PprofReader {
+            bytes,
+            pick,
+            naming,
+            plan: None,
+            given: 0,
+            total: 0,
+            ended: None,
+        }
+    }
+}
+
+impl SampleReader for PprofReader {
+    ghost rest = { λ reader. reader.rest };
+
+    ghost has_ended = { λ reader. IsTrue reader.has_ended };
+
+    fn next(&mut self, alloc: Global) -> Result<Step, AllocError> {
+        if let Some(ending) = self.ended {
+            return Ok(Step::End(ending));
+        }
+        if self.plan.is_none() {
+            match plan_of(alloc, &self.bytes, &self.pick, self.naming)? {
+                Start::Plan(plan) => self.plan = Some(plan),
+                Start::Fault(fault) => {
+                    let ending = SourceEnd::Fault(fault);
+                    self.ended = Some(ending);
+                    return Ok(Step::End(ending));
+                }
+            }
+        }
+        let Some(plan) = &self.plan else {
+            unreachable!();
+        };
+        let step = next_step(alloc, &self.bytes, plan, self.given, self.total)?;
+        match &step {
+            Step::Sample(sample) => {
+                self.given += 1;
+                self.total += sample.weight;
+            }
+            Step::End(ending) => self.ended = Some(*ending),
+        }
+        Ok(step)
+    }
+}

@@ -1,0 +1,365 @@
+//! Worked examples of profiles.
+
+mod depth;
+mod files;
+
+use super::*;
+use files::{
+    ADDRESS, BASE, GREATEST_ID, INLINED, INLINED_LINES, NO_FRAMES, SMALLEST, TWO_LINES, UNPACKED,
+};
+use stack_core::{ReadFault, ReadKind, SampleReader, SourceEnd, Step, Text};
+use std::alloc::{AllocError, Global};
+use std::process::Abort;
+use std::test::Fail;
+
+/// The samples of a profile, one a line: the names joined by `;`, a space and the weight. Each reader is asked again after its ending.
+fn read(
+    alloc: Global,
+    file: &[u8],
+    pick: &Pick,
+    naming: Naming,
+) -> Result<(String, Option<SourceEnd>), AllocError> {
+    let mut reader = PprofReader::over(file.to_vec(alloc)?, pick.copy(alloc)?, naming);
+    let mut lines = String::new(alloc);
+    for _ in 0..100 {
+        match reader.next(alloc)? {
+            Step::Sample(sample) => {
+                for (place, name) in sample.stack.get().iter().enumerate() {
+                    if place > 0 {
+                        lines.push_str(";")?;
+                    }
+                    lines.push_str(name.as_str())?;
+                }
+                let weight = sample.weight;
+                write!(lines, " {weight}\n")?;
+            }
+            Step::End(ending) => {
+                if let Step::End(again) = reader.next(alloc)?
+                    && again == ending
+                {
+                    return Ok((lines, Some(ending)));
+                }
+                return Ok((lines, None));
+            }
+        }
+    }
+    Ok((lines, None))
+}
+
+fn reads_as(
+    rt: &(impl Abort + AllocGlobal),
+    file: &[u8],
+    pick: &Pick,
+    naming: Naming,
+    lines: &str,
+    ending: SourceEnd,
+) -> Result<(), AllocError> {
+    let (read, end) = read(rt.alloc(), file, pick, naming)?;
+    assert_eq!(rt; read.as_str(), lines);
+    assert_eq!(rt; end, Some(ending));
+    Ok(())
+}
+
+/// The same with the preferred value and plain names.
+fn reads_plainly(
+    rt: &(impl Abort + AllocGlobal),
+    file: &[u8],
+    lines: &str,
+    ending: SourceEnd,
+) -> Result<(), AllocError> {
+    reads_as(rt, file, &Pick::Preferred, Naming::Plain, lines, ending)
+}
+
+/// A file followed by more bytes.
+fn followed(alloc: Global, file: &[u8], more: &[u8]) -> Result<Vec<u8>, AllocError> {
+    let mut bytes = file.to_vec(alloc)?;
+    bytes.extend_from_slice(more)?;
+    Ok(bytes)
+}
+
+fn named(alloc: Global, name: &str) -> Result<Pick, AllocError> {
+    Ok(Pick::Named(Text::of(String::from_str(alloc, name)?)))
+}
+
+fn clean() -> SourceEnd {
+    SourceEnd::Clean { ignored: 0 }
+}
+
+fn fault(kind: ReadKind, at: u64) -> SourceEnd {
+    SourceEnd::Fault(ReadFault { kind, at })
+}
+
+#[test]
+fn empty_sources(rt: HostRuntime) -> Result<(), Fail> {
+    reads_plainly(&rt, b"", "", clean())?;
+    let tables = Tables::read(rt.alloc(), b"", &Pick::Preferred, Naming::Plain);
+    let tables = tables.expect(&rt, "the tables");
+    assert_eq!(rt; tables.chosen(), None);
+    assert_eq!(rt; tables.sample_types(), 0);
+    Ok(())
+}
+
+#[test]
+fn smallest_profile(rt: HostRuntime) -> Result<(), Fail> {
+    reads_plainly(&rt, SMALLEST, "main 7\n", clean())?;
+    let tables = Tables::read(rt.alloc(), SMALLEST, &Pick::Preferred, Naming::Plain);
+    let tables = tables.expect(&rt, "the tables");
+    assert_eq!(rt; tables.chosen(), Some(0));
+    assert_eq!(rt; tables.sample_types(), 1);
+    let frames = tables.location(1).expect(&rt, "the location");
+    assert_eq!(rt; frames.len(), 1);
+    assert_eq!(rt; frames[0].as_str(), "main");
+    assert!(rt; tables.location(2).is_none());
+    Ok(())
+}
+
+#[test]
+fn unpacked_and_unknown(rt: HostRuntime) -> Result<(), Fail> {
+    reads_plainly(&rt, UNPACKED, "main 7\n", clean())?;
+    Ok(())
+}
+
+#[test]
+fn inlined_frames(rt: HostRuntime) -> Result<(), Fail> {
+    reads_plainly(&rt, INLINED, "printf;memcpy 7\n", clean())?;
+    Ok(())
+}
+
+#[test]
+fn picking_a_value(rt: HostRuntime) -> Result<(), Fail> {
+    let alloc = rt.alloc();
+    reads_plainly(&rt, BASE, "f 9\n", clean())?;
+    reads_plainly(&rt, &followed(alloc, BASE, b"\x70\x01")?, "f 5\n", clean())?;
+    reads_plainly(&rt, &followed(alloc, BASE, b"\x70\x03")?, "f 9\n", clean())?;
+    reads_as(
+        &rt,
+        BASE,
+        &named(alloc, "n")?,
+        Naming::Plain,
+        "f 5\n",
+        clean(),
+    )?;
+    let unknown = fault(ReadKind::UnknownSampleType, 48);
+    reads_as(&rt, BASE, &named(alloc, "x")?, Naming::Plain, "", unknown)?;
+    let refused = Tables::read(alloc, BASE, &named(alloc, "x")?, Naming::Plain);
+    let Err(TableFault::Read(fault)) = refused else {
+        panic!(rt; "the tables were read");
+    };
+    assert_eq!(rt; fault.at, 48);
+    Ok(())
+}
+
+#[test]
+fn negative_weight(rt: HostRuntime) -> Result<(), Fail> {
+    let alloc = rt.alloc();
+    let file = followed(
+        alloc,
+        BASE,
+        b"\x12\x10\x0a\x01\x01\x12\x0b\x05\xff\xff\xff\xff\xff\xff\xff\xff\xff\x01",
+    )?;
+    reads_plainly(&rt, &file, "f 9\n", fault(ReadKind::NegativeWeight, 48))?;
+    reads_as(
+        &rt,
+        &file,
+        &named(alloc, "n")?,
+        Naming::Plain,
+        "f 5\nf 5\n",
+        clean(),
+    )?;
+    Ok(())
+}
+
+fn base_with(
+    rt: &(impl Abort + AllocGlobal),
+    more: &[u8],
+    lines: &str,
+    kind: ReadKind,
+) -> Result<(), AllocError> {
+    let file = followed(rt.alloc(), BASE, more)?;
+    reads_plainly(rt, &file, lines, fault(kind, 48))
+}
+
+#[test]
+fn each_profile_fault(rt: HostRuntime) -> Result<(), Fail> {
+    base_with(&rt, b"\x12\x02\x0a\x05", "f 9\n", ReadKind::Truncated)?;
+    base_with(
+        &rt,
+        b"\x12\x06\x0a\x01\x01\x12\x01\x07",
+        "f 9\n",
+        ReadKind::ValueCount,
+    )?;
+    base_with(
+        &rt,
+        b"\x12\x07\x0a\x01\x02\x12\x02\x05\x09",
+        "f 9\n",
+        ReadKind::UnknownLocation,
+    )?;
+    base_with(
+        &rt,
+        b"\x80\x80\x80\x80\x80\x80\x80\x80\x80\x02",
+        "",
+        ReadKind::BadVarint,
+    )?;
+    base_with(&rt, b"\x00", "", ReadKind::BadFieldNumber)?;
+    base_with(&rt, b"\x0b", "", ReadKind::BadWireType)?;
+    base_with(&rt, b"\x72\x00", "", ReadKind::WrongKind)?;
+    base_with(&rt, b"\x22\x00", "", ReadKind::ZeroId)?;
+    base_with(&rt, b"\x2a\x04\x08\x01\x10\x03", "", ReadKind::DuplicateId)?;
+    base_with(
+        &rt,
+        b"\x22\x06\x08\x02\x22\x02\x08\x07",
+        "",
+        ReadKind::UnknownFunction,
+    )?;
+    base_with(&rt, b"\x70\x04", "", ReadKind::BadString)?;
+    reads_plainly(&rt, b"\x32\x01\x61", "", fault(ReadKind::BadStringZero, 0))?;
+    reads_plainly(&rt, b"\x12\x00", "", fault(ReadKind::NoSampleType, 2))?;
+    Ok(())
+}
+
+/// The smallest profile with a name that holds `;`, a byte that is no text, and a line feed.
+fn with_separators(alloc: Global) -> Result<Vec<u8>, AllocError> {
+    followed(alloc, &SMALLEST[..39], b"\x32\x04a;\xff\n")
+}
+
+/// The same with a name of a character without its end, `A`, and a byte that begins none.
+fn with_cut_character(alloc: Global) -> Result<Vec<u8>, AllocError> {
+    followed(alloc, &SMALLEST[..39], b"\x32\x04\xe2\x82A\xc0")
+}
+
+#[test]
+fn address_frames_and_lossy_names(rt: HostRuntime) -> Result<(), Fail> {
+    let alloc = rt.alloc();
+    reads_plainly(&rt, ADDRESS, "0x1f0 7\n", clean())?;
+    reads_as(
+        &rt,
+        ADDRESS,
+        &Pick::Preferred,
+        Naming::Lines,
+        "0x1f0 7\n",
+        clean(),
+    )?;
+    reads_plainly(&rt, NO_FRAMES, " 7\n", clean())?;
+    reads_plainly(&rt, &with_separators(alloc)?, "a:\u{fffd}  7\n", clean())?;
+    reads_plainly(
+        &rt,
+        &with_cut_character(alloc)?,
+        "\u{fffd}A\u{fffd} 7\n",
+        clean(),
+    )?;
+    Ok(())
+}
+
+#[test]
+fn greatest_location_id(rt: HostRuntime) -> Result<(), Fail> {
+    reads_plainly(&rt, GREATEST_ID, "main 7\n", clean())?;
+    Ok(())
+}
+
+#[test]
+fn greatest_length_and_least_index(rt: HostRuntime) -> Result<(), Fail> {
+    let length = b"\x0a\xff\xff\xff\xff\xff\xff\xff\xff\xff\x01";
+    reads_plainly(&rt, length, "", fault(ReadKind::Truncated, 0))?;
+    base_with(
+        &rt,
+        b"\x70\xff\xff\xff\xff\xff\xff\xff\xff\xff\x01",
+        "",
+        ReadKind::BadString,
+    )?;
+    base_with(
+        &rt,
+        b"\x70\x80\x80\x80\x80\x80\x80\x80\x80\x80\x01",
+        "",
+        ReadKind::BadString,
+    )?;
+    Ok(())
+}
+
+#[test]
+fn lines_of_inlined_frames(rt: HostRuntime) -> Result<(), Fail> {
+    reads_plainly(&rt, INLINED_LINES, "printf;memcpy 7\n", clean())?;
+    let lines = "printf:40;memcpy:12 7\n";
+    reads_as(
+        &rt,
+        INLINED_LINES,
+        &Pick::Preferred,
+        Naming::Lines,
+        lines,
+        clean(),
+    )?;
+    Ok(())
+}
+
+#[test]
+fn one_function_two_lines(rt: HostRuntime) -> Result<(), Fail> {
+    reads_plainly(&rt, TWO_LINES, "f 1\nf 1\n", clean())?;
+    let lines = "f:1 1\nf:2 1\n";
+    reads_as(
+        &rt,
+        TWO_LINES,
+        &Pick::Preferred,
+        Naming::Lines,
+        lines,
+        clean(),
+    )?;
+    Ok(())
+}
+
+/// How the smallest profile ends where only its first `len` bytes are there.
+fn ending_of_cut(len: usize) -> SourceEnd {
+    match len {
+        0 => clean(),
+        6 | 14 | 22 | 28 | 30 | 35 => fault(ReadKind::BadString, 0),
+        39 => fault(ReadKind::BadString, 22),
+        1..6 => fault(ReadKind::Truncated, 0),
+        7..14 => fault(ReadKind::Truncated, 6),
+        15..22 => fault(ReadKind::Truncated, 14),
+        23..28 => fault(ReadKind::Truncated, 22),
+        29 => fault(ReadKind::Truncated, 28),
+        31..35 => fault(ReadKind::Truncated, 30),
+        36..39 => fault(ReadKind::Truncated, 35),
+        _ => fault(ReadKind::Truncated, 39),
+    }
+}
+
+#[test]
+fn compressed_and_cut(rt: HostRuntime) -> Result<(), Fail> {
+    reads_plainly(&rt, b"\x1f\x8b\x08", "", fault(ReadKind::Compressed, 0))?;
+    for len in 0..45 {
+        let cut = SMALLEST.get(..len).expect(&rt, "a cut");
+        reads_plainly(&rt, cut, "", ending_of_cut(len))?;
+    }
+    Ok(())
+}
+
+/// Each front of a file is read to its end, which comes again.
+fn each_front_ends(rt: &(impl Abort + AllocGlobal), file: &[u8]) -> Result<(), AllocError> {
+    for len in 0..=file.len() {
+        let front = file.get(..len).expect(rt, "a front");
+        let (_, ending) = read(rt.alloc(), front, &Pick::Preferred, Naming::Lines)?;
+        assert!(rt; ending.is_some());
+    }
+    Ok(())
+}
+
+#[test]
+fn cut_profiles_end(rt: HostRuntime) -> Result<(), Fail> {
+    for file in [SMALLEST, UNPACKED, INLINED, BASE, ADDRESS, NO_FRAMES] {
+        each_front_ends(&rt, file)?;
+    }
+    each_front_ends(&rt, &with_separators(rt.alloc())?)?;
+    each_front_ends(&rt, &with_cut_character(rt.alloc())?)?;
+    Ok(())
+}
+
+/// A reader goes to a thread of its own.
+fn is_sent<R: SampleReader + Send + Drop + 'static>(_reader: &R) -> bool {
+    true
+}
+
+#[test]
+fn reader_is_sent(rt: HostRuntime) -> Result<(), Fail> {
+    let reader = PprofReader::over(Vec::new(rt.alloc()), Pick::Preferred, Naming::Plain);
+    assert!(rt; is_sent(&reader));
+    Ok(())
+}

@@ -1,0 +1,8 @@
+use Rattle.std.proofs.Common.{◌∷◌, [], rules}
+use Rattle.stack_core.proofs.Naming.{samples-append}
+use Rattle.stack_core.proofs.ledgers.Ledger.tell.Goals as goal
+
+pub returns-clause-ok : goal.returns-clause-ok
+returns-clause-ok c =
+    let h = samples-append _ (c.args.name ∷ []) _ c.tell.ensures.rows in
+    search (rules, h)

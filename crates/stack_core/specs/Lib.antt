@@ -1,0 +1,8 @@
+pub mod Interleaving
+pub mod Ledgers
+pub mod Reading
+pub mod Records
+pub mod Schedule
+pub mod Spans
+pub mod Tables
+pub mod Told

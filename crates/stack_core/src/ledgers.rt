@@ -1,0 +1,151 @@
+//! What is kept of a source while its samples arrive.
+
+ghost use Rattle.std.specs.Prelude.{◌≡◌, ◌<◌, ◌≤◌, ◌++◌, ◌∷◌, [], List, All, length, map, None, Some, is_some, option_copied, OnOk, OnErr};
+ghost use Rattle.stack_core.specs.declared.samples.TheConstants.{FRAME_LIMIT, WEIGHT_LIMIT};
+ghost use Rattle.stack_core.specs.Reading.{IsLimited};
+ghost use Rattle.stack_core.specs.Ledgers.{AreNamed, IsRead, IsRow, name_at, named, weight_of, with_row, with_sample};
+
+use crate::endings::Close;
+use crate::lists::SourceList;
+use crate::samples::Sample;
+use crate::tables::RowTable;
+use crate::values::{Listed, Text};
+use std::alloc::{AllocError, Global};
+use std::marker::Model;
+
+#[cfg(test)]
+mod tests;
+
+/// The samples of one source, as they are told, and then how the telling closed. Names are told once,
+/// and samples as rows of their numbers.
+#[derive(Debug, Drop)]
+pub struct Ledger {
+    table: RowTable,
+    close: Option<Close>,
+}
+
+impl Model for Ledger {
+    ghost use Rattle.std.specs.Prelude.{map};
+    ghost use Rattle.stack_core.specs.Ledgers.{LedgerState, named};
+
+    ghost Value = { LedgerState };
+
+    ghost view = { λ ledger. record {
+      samples = map (named ledger.table.told) ledger.table.rows;
+      close = ledger.close;
+      told = ledger.table.told;
+      rows = ledger.table.rows;
+    } };
+}
+
+impl Ledger {
+    /// A ledger of nothing, not closed. It takes no memory.
+    pub fn new(alloc: Global) -> Self
+        ensures { result ≡ record { samples = []; close = None; told = []; rows = [] } }
+    {
+        Ledger {
+            table: RowTable::new(alloc),
+            close: None,
+        }
+    }
+
+    /// Tells a name, which gets the least number that no name has. Want of memory changes nothing.
+    pub fn tell(&mut self, name: Text) -> Result<(), AllocError>
+        requires { self.old.close ≡ None }
+        ensures ok { OnOk result (self.new ≡ record self.old { told = self.old.told ++ name ∷ [] }) }
+        ensures refused { OnErr result (self.new ≡ self.old) }
+    {
+        self.table.tell(name)
+    }
+
+    /// Takes the sample whose names have these numbers, root first. Want of memory changes nothing.
+    pub fn take_row(&mut self, frames: Listed<usize>, weight: u64) -> Result<(), AllocError>
+        requires open { self.old.close ≡ None }
+        requires depth { length frames ≤ FRAME_LIMIT }
+        requires numbers { All (λ k. k < length self.old.told) frames }
+        requires limit { weight ≤ WEIGHT_LIMIT }
+        ensures ok { OnOk result (self.new ≡ with_row self.old (record { frames = frames; weight = weight })) }
+        ensures refused { OnErr result (self.new ≡ self.old) }
+    {
+        self.table.take_row(frames, weight)
+    }
+
+    /// Takes a sample, whose names are told anew. Want of memory changes nothing.
+    pub fn take(&mut self, sample: Sample) -> Result<(), AllocError>
+        requires open { self.old.close ≡ None }
+        requires limits { IsLimited sample }
+        ensures ok { OnOk result (self.new ≡ with_sample self.old sample) }
+        ensures refused { OnErr result (self.new ≡ self.old) }
+    {
+        let Sample { stack, weight } = sample;
+        self.table.take(stack, weight)
+    }
+
+    /// Closes the ledger. It takes no memory.
+    pub fn close(&mut self, close: Close)
+        requires { self.old.close ≡ None }
+        ensures { self.new ≡ record self.old { close = Some close } }
+    {
+        self.close = Some(close);
+    }
+
+    /// How many samples were taken.
+    pub fn count(&self) -> u64
+        ensures count { result ≡ length self.now.samples }
+        ensures named { AreNamed self.now.told self.now.rows self.now.samples }
+        ensures limits { All IsLimited self.now.samples }
+    {
+        self.table.len() as u64
+    }
+
+    /// The sum of the weights.
+    pub fn weight(&self) -> u128
+        ensures { result ≡ weight_of self.now.samples }
+    {
+        self.table.total()
+    }
+
+    /// How it was closed, if it was.
+    pub fn closed(&self) -> Option<&Close>
+        ensures { option_copied result ≡ self.now.close }
+    {
+        self.close.as_ref()
+    }
+
+    /// Whether it was closed.
+    pub fn is_closed(&self) -> bool
+        ensures { result ≡ is_some self.now.close }
+    {
+        self.close.is_some()
+    }
+
+    /// How many names were told.
+    pub fn told(&self) -> usize
+        ensures { result ≡ length self.now.told }
+    {
+        self.table.told()
+    }
+
+    /// The name of number `k`.
+    pub fn told_name(&self, k: usize) -> &str
+        requires { k < length self.now.told }
+        ensures { result.now ≡ name_at self.now.told k }
+    {
+        self.table.told_name(k)
+    }
+
+    /// The list of a source that was read to an ending. It takes no memory.
+    pub fn into_list(self) -> SourceList
+        requires { IsRead self.close }
+        ensures samples { result.samples ≡ self.samples }
+        ensures close { self.close ≡ Some (Close.Read result.ending) }
+        ensures told { result.told ≡ self.told }
+        ensures rows { result.rows ≡ self.rows }
+    {
+        let Ledger { table, close } = self;
+        match close {
+            Some(Close::Read(ending)) => SourceList::of(table, ending),
+            _ => unreachable!(),
+        }
+    }
+}

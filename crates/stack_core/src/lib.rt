@@ -1,0 +1,28 @@
+//! What every layer of the collector speaks of: samples, the readers that give them, the gates and
+//! sinks that a run asks and feeds, the ledgers that keep them, and the core of a run without threads.
+#![tactic(auto)]
+
+mod endings;
+mod gates;
+mod lanes;
+pub mod laws;
+mod ledgers;
+mod lists;
+mod readers;
+mod records;
+mod samples;
+mod sinks;
+mod tables;
+mod values;
+mod worlds;
+
+pub use endings::{Close, Item, ReadFault, ReadKind, SourceEnd};
+pub use gates::{Gate, OpenGate, Turn};
+pub use ledgers::Ledger;
+pub use lists::SourceList;
+pub use readers::{SampleReader, Step};
+pub use records::RingRecord;
+pub use samples::{FRAME_LIMIT, Sample, WEIGHT_LIMIT};
+pub use sinks::Sink;
+pub use values::{Listed, Names, Text};
+pub use worlds::{Event, World};

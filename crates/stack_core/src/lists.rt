@@ -1,0 +1,131 @@
+//! What is collected of a source.
+
+ghost use Rattle.std.specs.Prelude.{◌≡◌, ◌<◌, ◌≤◌, ℕ, List, All, length, map, slice_index};
+ghost use Rattle.stack_core.specs.declared.samples.TheConstants.{FRAME_LIMIT, WEIGHT_LIMIT};
+ghost use Rattle.stack_core.specs.Reading.{IsLimited};
+ghost use Rattle.stack_core.specs.Ledgers.{AreNamed, IsRow, name_at, row_at, sample_at, named, weight_of};
+
+use crate::endings::SourceEnd;
+use crate::tables::RowTable;
+use std::marker::Model;
+
+/// The samples of a source in the order in which they were taken, and the source's ending. Names are told once
+/// in a list, and frames are numbers of told names, so equal numbers in one list mean equal names.
+/// No call takes memory.
+#[derive(Debug, Drop)]
+pub struct SourceList {
+    table: RowTable,
+    ending: SourceEnd,
+}
+
+impl Model for SourceList {
+    ghost use Rattle.std.specs.Prelude.{map};
+    ghost use Rattle.stack_core.specs.Ledgers.{ListState, named};
+
+    ghost Value = { ListState };
+
+    ghost view = { λ list. record {
+      samples = map (named list.table.told) list.table.rows;
+      ending = list.ending;
+      told = list.table.told;
+      rows = list.table.rows;
+    } };
+}
+
+impl SourceList {
+    pub(crate) fn of(table: RowTable, ending: SourceEnd) -> Self
+        ensures samples { result.samples ≡ map (named table.told) table.rows }
+        ensures ending { result.ending ≡ ending }
+        ensures told { result.told ≡ table.told }
+        ensures rows { result.rows ≡ table.rows }
+    {
+        SourceList { table, ending }
+    }
+
+    /// How many samples there are.
+    pub fn len(&self) -> usize
+        ensures count { result ≡ length self.now.samples }
+        ensures rows { length self.now.rows ≡ length self.now.samples }
+        ensures named { AreNamed self.now.told self.now.rows self.now.samples }
+        ensures limits { All IsLimited self.now.samples }
+    {
+        self.table.len()
+    }
+
+    /// The weight of sample `i`.
+    pub fn weight(&self, i: usize) -> u64
+        requires { i < length self.now.samples }
+        ensures value { result ≡ (sample_at self.now.samples i).weight }
+        ensures limit { result ≤ WEIGHT_LIMIT }
+    {
+        self.table.weight(i)
+    }
+
+    /// How many frames sample `i` has.
+    pub fn depth(&self, i: usize) -> usize
+        requires { i < length self.now.samples }
+        ensures value { result ≡ length (sample_at self.now.samples i).stack }
+        ensures limit { result ≤ FRAME_LIMIT }
+    {
+        self.table.frames(i).len()
+    }
+
+    /// The numbers of the names of sample `i`, root first.
+    pub fn frames(&self, i: usize) -> &[usize]
+        requires { i < length self.now.samples }
+        ensures value { result.now ≡ (row_at self.now.rows i).frames }
+        ensures told { All (λ k. k < length self.now.told) result.now }
+        ensures names { map (name_at self.now.told) result.now ≡ (sample_at self.now.samples i).stack }
+    {
+        self.table.frames(i)
+    }
+
+    /// The number of the name of frame `d` of sample `i`. The root frame is frame 0.
+    pub fn number(&self, i: usize, d: usize) -> usize
+        requires sample { i < length self.now.samples }
+        requires frame { d < length (sample_at self.now.samples i).stack }
+        ensures value { result ≡ slice_index (row_at self.now.rows i).frames d }
+        ensures told { result < length self.now.told }
+        ensures name { name_at self.now.told result ≡ name_at (sample_at self.now.samples i).stack d }
+    {
+        self.table.frames(i)[d]
+    }
+
+    /// The name of frame `d` of sample `i`. The root frame is frame 0.
+    pub fn name(&self, i: usize, d: usize) -> &str
+        requires sample { i < length self.now.samples }
+        requires frame { d < length (sample_at self.now.samples i).stack }
+        ensures { result.now ≡ name_at (sample_at self.now.samples i).stack d }
+    {
+        self.table.told_name(self.number(i, d))
+    }
+
+    /// How many names were told.
+    pub fn told(&self) -> usize
+        ensures { result ≡ length self.now.told }
+    {
+        self.table.told()
+    }
+
+    /// The name of number `k`.
+    pub fn told_name(&self, k: usize) -> &str
+        requires { k < length self.now.told }
+        ensures { result.now ≡ name_at self.now.told k }
+    {
+        self.table.told_name(k)
+    }
+
+    /// The sum of the weights.
+    pub fn total(&self) -> u128
+        ensures { result ≡ weight_of self.now.samples }
+    {
+        self.table.total()
+    }
+
+    /// How the source ended.
+    pub fn ending(&self) -> &SourceEnd
+        ensures { result.now ≡ self.now.ending }
+    {
+        &self.ending
+    }
+}

@@ -1,0 +1,15 @@
+//! What a ring carries: names told once, and rows of their numbers.
+
+use crate::endings::Close;
+use crate::values::{Listed, Text};
+
+/// An item of a ring. Number k stands for the k-th name that was told in that ring, from 0.
+#[derive(Clone, Debug, PartialEq, Eq, Drop)]
+pub enum RingRecord {
+    /// The next name. It gets the least number that no name has.
+    Name(Text),
+    /// A sample, whose frames are the numbers of names told before it, root first.
+    Row { frames: Listed<usize>, weight: u64 },
+    /// The end of what is told.
+    Close(Close),
+}

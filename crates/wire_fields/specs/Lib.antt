@@ -1,0 +1,6 @@
+pub mod Steps
+pub mod Varint
+pub mod Field
+pub mod Spelling
+pub mod Fault
+pub mod Reading

@@ -1,0 +1,28 @@
+//! Varints (protobuf encoding guide, "Base 128 Varints").
+
+ghost use Rattle.std.specs.Prelude.{ℕ, List};
+ghost use Rattle.wire_fields.specs.Steps.{Gives};
+ghost use Rattle.wire_fields.specs.Varint.{varint_at};
+
+use crate::fault::WireKind;
+
+/// The place of the tenth byte, which holds the 64th bit alone.
+const TENTH: usize = 9;
+
+/// The number at the front, and the bytes after it.
+#[inline]
+pub(crate) fn varint(bytes: &[u8]) -> Result<(u64, &[u8]), WireKind>
+    ensures { Gives (λ x. (x.0, x.1.now)) result (varint_at bytes.now) }
+{
+    let mut number: u64 = 0;
+    for (place, byte) in bytes.iter().enumerate() {
+        if place == TENTH && *byte > 1 {
+            return Err(WireKind::BadVarint);
+        }
+        number += u64::from(*byte & 0x7f) << (7 * place);
+        if *byte < 0x80 {
+            return Ok((number, &bytes[place + 1..]));
+        }
+    }
+    Err(WireKind::Truncated)
+}
