@@ -1,7 +1,8 @@
-//! Writes a folded file of the asked number of lines, made from a fixed seed: stacks of up to 30 frames
-//! over a tree of calls, so that many lines share a beginning and about one in ten is new.
+//! Writes a folded file of the asked number of lines, made from a fixed seed: stacks over a tree of calls, so that many lines share
+//! a beginning and about one in ten is new. With a depth, each stack has that many frames, and else 10 to 30; with `short`, names
+//! are a few bytes long.
 //!
-//!     make_folded LINES > FILE
+//!     make_folded LINES [DEPTH] [short] > FILE
 
 use std::io::{BufWriter, Write};
 
@@ -22,10 +23,11 @@ impl Numbers {
 }
 
 fn main() -> std::io::Result<()> {
-    let lines: u64 = std::env::args()
-        .nth(1)
-        .and_then(|word| word.parse().ok())
-        .expect("usage: make_folded LINES");
+    let words: Vec<String> = std::env::args().skip(1).collect();
+    let number = |at: usize| words.get(at).and_then(|word| word.parse::<u64>().ok());
+    let lines = number(0).expect("usage: make_folded LINES [DEPTH] [short]");
+    let fixed_depth = number(1);
+    let short = words.iter().any(|word| word == "short");
     let mut numbers = Numbers(0x5eed_0f1a_3e5c_0113);
     let mut out = BufWriter::new(std::io::stdout().lock());
     let distinct = (lines / 10).max(1);
@@ -33,7 +35,8 @@ fn main() -> std::io::Result<()> {
         // the stack is a function of its number, so that a number that comes again gives the same stack
         let mut stack = Numbers(0x9e37_79b9 + numbers.below(distinct) * 2 + 1);
         stack.next();
-        let depth = 10 + stack.below(21);
+        let any_depth = 10 + stack.below(21);
+        let depth = fixed_depth.unwrap_or(any_depth);
         let mut place = 0;
         for frame in 0..depth {
             let branch = if frame < 6 { stack.below(2) } else { stack.below(4) };
@@ -41,7 +44,11 @@ fn main() -> std::io::Result<()> {
             if frame > 0 {
                 out.write_all(b";")?;
             }
-            write!(out, "module_{}::function_{}", place % 37, place)?;
+            if short {
+                write!(out, "f{place}")?;
+            } else {
+                write!(out, "module_{}::function_{}", place % 37, place)?;
+            }
         }
         writeln!(out, " {}", 1 + numbers.below(100))?;
     }

@@ -1,0 +1,116 @@
+//! Writes an uncompressed pprof profile of the asked number of samples, made from a fixed seed: a location for each ten samples, a
+//! function for each ten locations, stacks of 10 to 30 locations, and one sample type.
+//!
+//!     make_profile SAMPLES > FILE
+
+use std::io::{BufWriter, Write};
+
+/// A small generator of numbers (xorshift64*), so that the file is the same on every machine.
+struct Numbers(u64);
+
+impl Numbers {
+    fn next(&mut self) -> u64 {
+        self.0 ^= self.0 >> 12;
+        self.0 ^= self.0 << 25;
+        self.0 ^= self.0 >> 27;
+        self.0.wrapping_mul(0x2545_f491_4f6c_dd1d) >> 11
+    }
+
+    fn below(&mut self, bound: u64) -> u64 {
+        self.next() % bound
+    }
+}
+
+/// A message of the wire format, or several top-level fields.
+#[derive(Default)]
+struct Message(Vec<u8>);
+
+impl Message {
+    fn varint(&mut self, mut number: u64) {
+        while number >= 0x80 {
+            self.0.push(number as u8 | 0x80);
+            number >>= 7;
+        }
+        self.0.push(number as u8);
+    }
+
+    /// A field of wire type 0.
+    fn number(&mut self, field: u64, number: u64) {
+        self.varint(field << 3);
+        self.varint(number);
+    }
+
+    /// A field of wire type 2.
+    fn bytes(&mut self, field: u64, bytes: &[u8]) {
+        self.varint(field << 3 | 2);
+        self.varint(bytes.len() as u64);
+        self.0.extend_from_slice(bytes);
+    }
+
+    /// A packed field.
+    fn packed(&mut self, field: u64, numbers: impl Iterator<Item = u64>) {
+        let mut content = Message::default();
+        numbers.for_each(|number| content.varint(number));
+        self.bytes(field, &content.0);
+    }
+}
+
+// field numbers of profile.proto
+const SAMPLE_TYPE: u64 = 1;
+const SAMPLE: u64 = 2;
+const LOCATION: u64 = 4;
+const FUNCTION: u64 = 5;
+const STRING_TABLE: u64 = 6;
+
+/// A location of one line in the middle of its function.
+fn location(id: u64, functions: u64) -> Message {
+    let mut line = Message::default();
+    line.number(1, 1 + (id - 1) % functions);
+    line.number(2, 10 + id % 90);
+    let mut location = Message::default();
+    location.number(1, id);
+    location.number(3, 0x40_0000 + 16 * id);
+    location.bytes(4, &line.0);
+    location
+}
+
+fn main() -> std::io::Result<()> {
+    let samples: u64 = std::env::args()
+        .nth(1)
+        .and_then(|word| word.parse().ok())
+        .expect("usage: make_profile SAMPLES");
+    let locations = (samples / 10).max(1);
+    let functions = (locations / 10).max(1);
+    let mut numbers = Numbers(0x5eed_0f1a_3e5c_0113);
+    let mut out = BufWriter::new(std::io::stdout().lock());
+    let mut tables = Message::default();
+    let mut sample_type = Message::default();
+    sample_type.number(1, 1);
+    sample_type.number(2, 2);
+    tables.bytes(SAMPLE_TYPE, &sample_type.0);
+    for text in ["", "samples", "count"] {
+        tables.bytes(STRING_TABLE, text.as_bytes());
+    }
+    for function in 1..=functions {
+        let name = format!("module_{}::function_{}", function % 37, function);
+        tables.bytes(STRING_TABLE, name.as_bytes());
+        let mut message = Message::default();
+        message.number(1, function);
+        message.number(2, 2 + function);
+        tables.bytes(FUNCTION, &message.0);
+    }
+    for id in 1..=locations {
+        tables.bytes(LOCATION, &location(id, functions).0);
+    }
+    out.write_all(&tables.0)?;
+    for _ in 0..samples {
+        let depth = 10 + numbers.below(21);
+        let mut sample = Message::default();
+        sample.packed(1, (0..depth).map(|_| 1 + numbers.below(locations)));
+        sample.packed(2, std::iter::once(1 + numbers.below(100)));
+        let mut field = Message::default();
+        field.bytes(SAMPLE, &sample.0);
+        out.write_all(&field.0)?;
+    }
+    out.flush()
+}

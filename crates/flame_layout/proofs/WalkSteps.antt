@@ -1,0 +1,74 @@
+-- the steps of the walk's loops
+use Rattle.std.proofs.Common.{add-one, ◌≡◌, ℕ, ◌+◌, ◌-◌, ◌≤◌, ◌<◌, List, [], ◌∷◌, ◌++◌, false, length, take, drop, map, reverse, get_or, sym, ◌∙◌, ap, refl, arith}
+use Rattle.std.specs.Str.{bytes_eq}
+use Rattle.std.specs.List.{enumerate_from}
+use Rattle.std.proofs.lemmas.Slice.Eq.{bytes_eq-Decides}
+use Rattle.std.proofs.lemmas.List.Sums.{common_prefix_len-drop_yes, common_prefix_len-drop_no}
+use Rattle.std.proofs.lemmas.List.{get_or_at, get_or-take, get_or-map, length_push, take-take, take_at, drop_more, drop_all, length-map, length-drop, reverse-append}
+use Rattle.std.proofs.lemmas.List.FromFn.{length-enumerate_from, get_or-enumerate_from}
+use Rattle.flame_layout.specs.declared.walks.OpenRun.{OpenRun}
+use Rattle.flame_layout.specs.Timeline.{Stack}
+use Rattle.flame_layout.specs.Chart.{names_shared}
+use Rattle.flame_layout.specs.Walk.{Run, seen, names_of, box_of_run, boxes_of_runs}
+use Rattle.flame_layout.specs.declared.boxes.SpanBox.{SpanBox}
+
+pub shared_more : (a b : Stack) (i : ℕ) → i < length a → i < length b → get_or a i [] ≡ get_or b i [] → names_shared (drop i a) (drop i b) ≡ 1 + names_shared (drop (i + 1) a) (drop (i + 1) b)
+shared_more a b i ha hb e = common_prefix_len-drop_yes bytes_eq a b i [] [] ha hb ((bytes_eq-Decides _ _).1 e)
+
+pub shared_stops : (a b : Stack) (i : ℕ) → i < length a → i < length b → bytes_eq (get_or a i []) (get_or b i []) ≡ false → names_shared (drop i a) (drop i b) ≡ 0
+shared_stops a b i ha hb e = common_prefix_len-drop_no bytes_eq a b i [] [] ha hb e
+
+shared_nil : (a : Stack) → names_shared a [] ≡ 0
+shared_nil [] = refl
+shared_nil (x ∷ xs) = refl
+
+pub shared_ends_left : (a b : Stack) (i : ℕ) → length a ≤ i → names_shared (drop i a) (drop i b) ≡ 0
+shared_ends_left a b i h = rw (drop_all i a h) refl
+
+pub shared_ends_right : (a b : Stack) (i : ℕ) → length b ≤ i → names_shared (drop i a) (drop i b) ≡ 0
+shared_ends_right a b i h = rw (drop_all i b h) (shared_nil (drop i a))
+
+pub names_of-length : (runs : List OpenRun) → length (names_of runs) ≡ length runs - 1
+names_of-length runs = length-map (drop 1 runs) (λ run. run.name.now) ∙ length-drop 1 runs
+
+pub names_of-at : (runs : List OpenRun) (i : ℕ) (d : OpenRun) → i + 1 < length runs → get_or (names_of runs) i [] ≡ (get_or runs (i + 1) d).name.now
+names_of-at [] i d h = absurd (omega arith)
+names_of-at (x ∷ xs) i d h =
+    get_or-map (λ run. run.name.now) xs i d [] (omega arith) ∙ (rw (add-one i) refl)
+
+-- a run that is taken off the end of those that are left
+pub popped_left : (all now new : List OpenRun) (r : OpenRun) → now ≡ take (length now) all → now ≡ new ++ r ∷ [] → new ≡ take (length new) all
+popped_left all now new r e h =
+    let longer : length now ≡ length new + 1 = ap length h ∙ length_push new r in
+    let cut : take (length new) (take (length now) all) ≡ take (length new) all = take-take (length new) (length now) all (omega arith) in
+    let front : take (length new) (new ++ r ∷ []) ≡ new = take_at new (r ∷ []) (length new) refl in
+    sym front ∙ (ap (take (length new)) (sym h ∙ e) ∙ cut)
+
+pub popped_run : (all now new : List OpenRun) (r d : OpenRun) → now ≡ take (length now) all → now ≡ new ++ r ∷ [] → get_or all (length new) d ≡ r
+popped_run all now new r d e h =
+    let longer : length now ≡ length new + 1 = ap length h ∙ length_push new r in
+    let last : get_or (new ++ r ∷ []) (length new) d ≡ r = get_or_at new r [] d (length new) refl in
+    let read : get_or (take (length now) all) (length new) d ≡ get_or all (length new) d = get_or-take (length now) all (length new) d (omega arith) in
+    sym read ∙ (ap (λ xs. get_or xs (length new) d) (sym e ∙ h) ∙ last)
+
+pub boxes_of_runs-length : (start : ℕ) (runs : List Run) → length (boxes_of_runs start runs) ≡ length runs
+boxes_of_runs-length start runs = length-map (enumerate_from 0 runs) (box_of_run start) ∙ length-enumerate_from 0 runs
+
+pub boxes_of_runs-at : (start : ℕ) (runs : List Run) (i : ℕ) (d : Run) (e : SpanBox) → i < length runs → get_or (boxes_of_runs start runs) i e ≡ box_of_run start (i, get_or runs i d)
+boxes_of_runs-at start runs i d e h =
+    let long : i < length (enumerate_from 0 runs) = omega (arith, length-enumerate_from 0 runs) in
+    get_or-map (box_of_run start) (enumerate_from 0 runs) i (0, d) e long ∙ ap (box_of_run start) (get_or-enumerate_from 0 runs i (0, d) h ∙ ap (λ n. (n, get_or runs i d)) (omega arith))
+
+-- the box of the deepest run comes behind those of the runs that were taken off before it
+pub boxes_more : (start : ℕ) (all : List OpenRun) (n m : ℕ) (r : OpenRun) → m ≡ n + 1 → n < length all → ((d : OpenRun) → get_or all n d ≡ r) →
+    reverse (drop n (boxes_of_runs start (map seen all))) ≡ reverse (drop m (boxes_of_runs start (map seen all))) ++ box_of_run start (n, seen r) ∷ []
+boxes_more start all n m r e h is =
+    let boxes = boxes_of_runs start (map seen all) in
+    let b = box_of_run start (n, seen r) in
+    let many : length (map seen all) ≡ length all = length-map all seen in
+    let long : n < length (boxes_of_runs start (map seen all)) = omega (arith, boxes_of_runs-length start (map seen all)) in
+    let read : get_or (boxes_of_runs start (map seen all)) n b ≡ b =
+    boxes_of_runs-at start (map seen all) n (seen r) b (omega arith) ∙ ap (λ s. box_of_run start (n, s)) (get_or-map seen all n r (seen r) h ∙ ap seen (is r)) in
+    let first : drop n (boxes_of_runs start (map seen all)) ≡ b ∷ drop m (boxes_of_runs start (map seen all)) =
+    drop_more (boxes_of_runs start (map seen all)) n b long ∙ (λ i. read i ∷ drop (sym e i) (boxes_of_runs start (map seen all))) in
+    ap reverse first ∙ reverse-append (b ∷ []) (drop m (boxes_of_runs start (map seen all)))

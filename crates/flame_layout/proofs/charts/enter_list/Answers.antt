@@ -1,0 +1,36 @@
+use Rattle.std.proofs.Common.{◌≡◌, ◌+◌, ◌-◌, ◌<◌, ◌≤◌, ◌++◌, ◌∷◌, sym, arith, drop, length, subst, List}
+use Rattle.stack_core.specs.declared.samples.Sample.{Sample}
+use Rattle.stack_core.specs.Ledgers.{sample_at}
+use Rattle.flame_layout.specs.Timeline.{drawn}
+use Rattle.flame_layout.specs.Walk.{IsWalk}
+use Rattle.flame_layout.proofs.Timelines.{no_sample, total_weight-drop, total_weight-drop_le, drawn-drop_yes}
+use Rattle.flame_layout.proofs.charts.enter_list.Goals as goal
+
+pub enter-requires-clause-room : goal.enter-requires-clause-room
+enter-requires-clause-room c =
+    let more = total_weight-drop c.args.list.now.samples (c.loop-at.at - 1) c.loop-at.at no_sample (omega arith) (omega (arith, c.len-at.ensures.count)) in
+    omega (arith, more, c.loop-at.invariant.start, c.requires.room, total_weight-drop_le c.args.list.now.samples (c.loop-at.at - 1))
+
+pub overflow_sub-start : goal.overflow_sub-start
+overflow_sub-start c =
+    let more = total_weight-drop c.args.list.now.samples (c.loop-at.at - 1) c.loop-at.at no_sample (omega arith) (omega (arith, c.len-at.ensures.count)) in
+    omega (arith, more, c.loop-at.invariant.start, c.requires.room, total_weight-drop_le c.args.list.now.samples (c.loop-at.at - 1), c.weight-weight.ensures.value)
+
+pub loop-at-preserved-then-weight-gt0 : goal.loop-at-preserved-then-weight-gt0
+loop-at-preserved-then-weight-gt0 c =
+    let samples = c.args.list.now.samples in
+    let i = c.loop-at.at - 1 in
+    let s = sample_at samples i in
+    let within : i < length samples = omega (arith, c.len-at.ensures.count) in
+    let next : c.loop-at.at ≡ i + 1 = omega arith in
+    let more = total_weight-drop samples i c.loop-at.at no_sample next within in
+    let weight : c.weight-weight.result ≡ s.weight = c.weight-weight.ensures.value in
+    let room : s.weight ≤ c.loop-at.start = omega (arith, more, c.loop-at.invariant.start, c.requires.room, total_weight-drop_le c.args.list.now.samples (c.loop-at.at - 1)) in
+    let first : drawn (drop i samples) ≡ s ∷ drawn (drop c.loop-at.at samples) = drawn-drop_yes samples i c.loop-at.at no_sample next within (omega (arith, weight)) in
+    record {
+      later = c.in_ok-enter.ensures.front;
+      start = omega (arith, more, weight, room, c.loop-at.invariant.start);
+      walked = λ rest w.
+          subst (λ (xs : List Sample). IsWalk (c.loop-at.start - c.weight-weight.result) c.enter.new.runs.items c.enter.new.boxes.items (xs ++ rest)) (sym first)
+          (c.in_ok-enter.ensures.walked (c.loop-at.start - c.weight-weight.result) (drawn (drop c.loop-at.at samples) ++ rest) (omega (arith, weight, room)) (c.loop-at.invariant.walked rest w));
+    }

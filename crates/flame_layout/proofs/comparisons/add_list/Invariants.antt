@@ -1,0 +1,12 @@
+use Rattle.std.proofs.Common.{◌++◌, take, List}
+use Rattle.stack_core.specs.declared.samples.Sample.{Sample}
+use Rattle.call_tree.specs.FrameTable.{HasDistinctNames}
+use Rattle.flame_layout.specs.Paired.{Grows, Holds}
+use Rattle.flame_layout.proofs.comparisons.add_list.Given as goal
+
+abbrev pub invariant-loop-at : goal.invariant-loop-at
+invariant-loop-at l = record {
+  held : (samples : List Sample) → Holds l.fn.table l.fn.tree samples → Holds l.table l.tree (samples ++ take l.at l.list.samples);
+  grows : Grows l.fn.table l.table;
+  distinct : HasDistinctNames l.table;
+}

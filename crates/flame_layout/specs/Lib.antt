@@ -1,0 +1,11 @@
+pub mod Chart
+pub mod Comparison
+pub mod Edges
+pub mod Graph
+pub mod Laws
+pub mod Listed
+pub mod Paired
+pub mod Paths
+pub mod Runs
+pub mod Timeline
+pub mod Walk

@@ -1,0 +1,41 @@
+use Rattle.std.specs.Prelude.{◌≡◌, ℕ, ◌-◌, ◌==◌, ◌<◌, List, [], ◌∷◌, ◌++◌, map, take, length, if◌then◌else◌}
+use Rattle.std.specs.List.{AllByRecursion}
+use Rattle.call_tree.specs.declared.listing.Visit.{Visit}
+use Rattle.call_tree.specs.CallTree.{Tree, tree_of, own_weight, total_weight}
+use Rattle.call_tree.specs.Listing.{named}
+use Rattle.stack_core.specs.declared.samples.Sample.{Sample}
+use Rattle.flame_layout.specs.declared.boxes.PairRow.{PairRow}
+
+-- the path of a visit, by the path of the visit before it
+abbrev pub next_path : List ℕ → Visit → List ℕ
+next_path before visit = if visit.depth == 0 then [] else take (visit.depth - 1) before ++ visit.frame ∷ []
+
+-- the paths of the visits of a listing
+abbrev pub visit_paths : List ℕ → List Visit → List (List ℕ)
+visit_paths before [] = []
+visit_paths before (visit ∷ rest) = next_path before visit ∷ visit_paths (next_path before visit) rest
+
+-- the row of a path of numbers, by the trees of both sides
+abbrev pub pair_row : List (List ℕ) → Tree → Tree → List ℕ → PairRow
+pair_row names before after path = record {
+  path = named names path;
+  total_before = total_weight before path;
+  total_after = total_weight after path;
+  own_before = own_weight before path;
+  own_after = own_weight after path;
+}
+
+-- each number is one of the table's
+abbrev pub IsKnown : List (List ℕ) → List ℕ → Type 0
+IsKnown names path = AllByRecursion (λ number. number < length names) path
+
+-- the tree holds the samples: rows of the table's numbers, that were added to it
+pub record Holds (names : List (List ℕ)) (tree : Tree) (samples : List Sample) : Type 0 where
+  pub rows : List (List ℕ × ℕ)
+  pub tree_is : tree ≡ tree_of rows
+  pub samples_are : samples ≡ map (λ row. record { stack = named names row.0; weight = row.1 }) rows
+  pub known : AllByRecursion (λ row. IsKnown names row.0) rows
+
+-- the table has gained names at its end, or none
+abbrev pub Grows : List (List ℕ) → List (List ℕ) → Type 0
+Grows old new = (more : List (List ℕ)) × (new ≡ old ++ more)

@@ -1,0 +1,72 @@
+use Rattle.std.specs.Prelude.{ℕ, ◌+◌, ◌-◌, ◌≡◌, ◌<◌, ◌≤◌, List, [], ◌∷◌, map, length, reverse, drop, Some}
+use Rattle.std.specs.List.{range_with_len, enumerate_from}
+use Rattle.stack_core.specs.declared.samples.Sample.{Sample}
+use Rattle.stack_core.specs.Ledgers.{sample_at}
+use Rattle.flame_layout.specs.declared.boxes.SpanBox.{SpanBox}
+use Rattle.flame_layout.specs.declared.walks.OpenRun.{OpenRun}
+use Rattle.flame_layout.specs.Timeline.{Stack, total_weight}
+use Rattle.flame_layout.specs.Chart.{names_shared, box_name, run_at, own_weight, boxes_after}
+
+-- a run that goes on at the front of what was walked: its name, where it ends, and its own weight
+pub record Run : Type 0 where
+  pub name : List ℕ
+  pub end : ℕ
+  pub own : ℕ
+
+-- the run at a depth, of samples that begin at a start
+abbrev pub run_of : Stack → ℕ → List Sample → ℕ → Run
+run_of stack start samples depth = record {
+  name = box_name depth stack;
+  end = start + total_weight (run_at depth stack samples);
+  own = own_weight depth (run_at depth stack samples);
+}
+
+-- the runs at the front of the samples, one for each depth of the first stack
+abbrev pub runs_at_front : ℕ → List Sample → List Run
+runs_at_front start [] = []
+runs_at_front start (sample ∷ rest) = map (run_of sample.stack start (sample ∷ rest)) (range_with_len 0 (length sample.stack + 1))
+
+-- the boxes of the runs that don't begin at the front
+abbrev pub boxes_behind : ℕ → List Sample → List SpanBox
+boxes_behind start [] = []
+boxes_behind start (sample ∷ rest) = boxes_after (Some sample.stack) (start + sample.weight) rest
+
+-- the box of a run that begins at a start
+abbrev pub box_of_run : ℕ → ℕ × Run → SpanBox
+box_of_run start (depth, run) = record {
+  depth = depth;
+  name = run.name;
+  start = start;
+  weight = run.end - start;
+  own = run.own;
+}
+
+abbrev pub boxes_of_runs : ℕ → List Run → List SpanBox
+boxes_of_runs start runs = map (box_of_run start) (enumerate_from 0 runs)
+
+-- a run that has only begun, of samples that end at a place
+abbrev pub new_run : Stack → ℕ → ℕ → Run
+new_run stack end depth = record { name = box_name depth stack; end = end; own = 0 }
+
+-- a run as contracts see one that borrows its name
+abbrev pub seen : OpenRun → Run
+seen run = record { name = run.name.now; end = run.end; own = run.own }
+
+-- the names of the runs below the root: the stack at the front
+abbrev pub names_of : List OpenRun → Stack
+names_of runs = map (λ run. run.name.now) (drop 1 runs)
+
+-- the state of the walk once these samples were walked, whose first has a stack within the limit
+pub record IsWalk (start : ℕ) (runs : List OpenRun) (boxes : List SpanBox) (samples : List Sample) : Type 0 where
+  pub going : map seen runs ≡ runs_at_front start samples
+  pub closed : boxes ≡ reverse (boxes_behind start samples)
+  pub few : length runs ≤ 4097
+
+-- how many of the runs go on under a sample with the stack
+abbrev pub kept_of : Stack → List OpenRun → ℕ
+kept_of stack [] = 0
+kept_of stack (run ∷ runs) = names_shared stack (names_of (run ∷ runs)) + 1
+
+-- the runs are those of a sample of the list
+abbrev pub IsFront : List Sample → List OpenRun → ℕ → Type 0
+IsFront samples runs place = (place < length samples) × (names_of runs ≡ (sample_at samples place).stack) × (0 < length runs)

@@ -1,0 +1,109 @@
+//! The flame chart.
+
+ghost use Rattle.std.specs.Prelude.{◌≡◌, ℕ, ◌+◌, ◌<◌, ◌≤◌, ◌++◌, ◌^◌, ◌∷◌, [], OnOk, IfOk, IfSome, All, List, map, length};
+ghost use Rattle.stack_core.specs.declared.samples.Sample.{Sample as WalkedSample};
+ghost use Rattle.stack_core.specs.Ledgers.{sample_at};
+ghost use Rattle.flame_layout.specs.Timeline.{drawn, samples_of, timeline, total_weight};
+ghost use Rattle.flame_layout.specs.Chart.{chart_of};
+ghost use Rattle.flame_layout.specs.Walk.{IsFront, IsWalk};
+
+use crate::boxes::SpanBox;
+use crate::walks::{OpenRun, close, kept, open_runs};
+use stack_core::SourceList;
+use std::alloc::{AllocError, Global};
+
+/// Takes a sample with a weight in front of what was walked, which begins at `start`, and there
+/// with the sample `later` of the list, if it is one of this list.
+fn enter<'a>(
+    alloc: Global,
+    runs: &mut Vec<OpenRun<'a>>,
+    boxes: &mut Vec<SpanBox>,
+    start: u64,
+    list: &'a SourceList,
+    at: usize,
+    later: Option<usize>,
+) -> Result<(), AllocError>
+    requires at { at < length list.now.samples }
+    requires room { (sample_at list.now.samples at).weight ≤ start }
+    requires walked { (samples : List WalkedSample)
+        × IsWalk start runs.old.items boxes.old.items samples }
+    requires later { IfSome later (IsFront list.now.samples runs.old.items) }
+    ensures front { OnOk result (IsFront list.now.samples runs.new.items at) }
+    ensures walked { OnOk result ((before : ℕ) (samples : List WalkedSample)
+        → before + (sample_at list.now.samples at).weight ≡ start
+        → IsWalk start runs.old.items boxes.old.items samples
+        → IsWalk before runs.new.items boxes.new.items (sample_at list.now.samples at ∷ samples)) }
+{
+    let keep = kept(list, at, later, runs);
+    close(alloc, runs, boxes, start, keep)?;
+    open_runs(runs, list, at, keep, start)?;
+    let depth = list.depth(at);
+    let last = &mut runs[depth];
+    last.own += list.weight(at);
+    Ok(())
+}
+
+/// Takes the samples of a list in front of what was walked, the last first. Gives where they begin.
+fn enter_list<'a>(
+    alloc: Global,
+    runs: &mut Vec<OpenRun<'a>>,
+    boxes: &mut Vec<SpanBox>,
+    end: u64,
+    list: &'a SourceList,
+) -> Result<u64, AllocError>
+    requires room { total_weight list.now.samples ≤ end }
+    requires walked { (samples : List WalkedSample)
+        × IsWalk end runs.old.items boxes.old.items samples }
+    ensures start { IfOk result (λ start. start + total_weight list.now.samples ≡ end) }
+    ensures walked { IfOk result (λ start. (samples : List WalkedSample)
+        → IsWalk end runs.old.items boxes.old.items samples
+        → IsWalk start runs.new.items boxes.new.items (drawn list.now.samples ++ samples)) }
+{
+    let mut start = end;
+    let mut later = None;
+    for at in (0..list.len()).rev() {
+        let weight = list.weight(at);
+        if weight > 0 {
+            enter(alloc, runs, boxes, start, list, at, later)?;
+            start -= weight;
+            later = Some(at);
+        }
+    }
+    Ok(start)
+}
+
+/// The boxes of the flame chart of the lists, one after another: for each longest run of
+/// neighbouring samples whose stacks begin with the same names one box, listed by start, then
+/// depth.
+pub fn chart_boxes(alloc: Global, lists: &[SourceList]) -> Result<Vec<SpanBox>, AllocError>
+    requires { total_weight (timeline (samples_of lists.now)) < 2 ^ 64 }
+    ensures chart { IfOk result (λ boxes.
+        boxes.items ≡ chart_of (timeline (samples_of lists.now))) }
+    ensures within { IfOk result (λ boxes.
+        All (λ span. span.start + span.weight ≤ total_weight (timeline (samples_of lists.now)))
+        boxes.items) }
+    ensures positive { IfOk result (λ boxes. 0 < length boxes.items
+        → 0 < total_weight (timeline (samples_of lists.now))) }
+{
+    let mut runs = Vec::new(alloc);
+    let mut boxes = Vec::new(alloc);
+    let mut start = total(lists);
+    for place in (0..lists.len()).rev() {
+        start = enter_list(alloc, &mut runs, &mut boxes, start, &lists[place])?;
+    }
+    close(alloc, &mut runs, &mut boxes, start, 0)?;
+    boxes.reverse();
+    Ok(boxes)
+}
+
+/// The sum of all weights.
+fn total(lists: &[SourceList]) -> u64
+    requires { total_weight (timeline (samples_of lists.now)) < 2 ^ 64 }
+    ensures { result ≡ total_weight (timeline (samples_of lists.now)) }
+{
+    let mut total: u64 = 0;
+    for list in lists {
+        total += list.total() as u64;
+    }
+    total
+}

@@ -1,0 +1,21 @@
+//! Flame graphs and flame charts: the boxes of the lists of samples that were collected, their
+//! edges in an image, and the comparison of two profiles.
+#![tactic(auto)]
+
+mod boxes;
+mod charts;
+mod comparisons;
+mod graphs;
+pub mod laws;
+mod placing;
+#[cfg(test)]
+mod tests;
+mod walks;
+mod widths;
+
+pub use boxes::{PairRow, PlacedBox, SpanBox};
+pub use charts::chart_boxes;
+pub use comparisons::compare;
+pub use graphs::graph_boxes;
+pub use placing::place;
+pub use widths::{MAX_WIDTH, Width};

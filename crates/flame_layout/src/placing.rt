@@ -1,0 +1,58 @@
+//! Edges in an image.
+
+ghost use Rattle.std.specs.Prelude.{◌≡◌, ℕ, ◌+◌, ◌*◌, ◌/◌, ◌≤◌, ◌<◌, All, IfOk, map, length};
+ghost use Rattle.flame_layout.specs.Edges.{placed_at};
+
+use crate::boxes::{PlacedBox, SpanBox};
+use crate::widths::Width;
+use std::alloc::{AllocError, Global};
+
+/// The boxes in order, each with its edges: where it begins and where it ends, as parts of the
+/// total, in pixels rounded down. Neighbours share an edge, since each edge is rounded by itself.
+pub fn place(
+    alloc: Global,
+    boxes: Vec<SpanBox>,
+    total: u64,
+    width: Width,
+) -> Result<Vec<PlacedBox>, AllocError>
+    requires within { All (λ span. span.start + span.weight ≤ total) boxes.items }
+    requires positive { 0 < length boxes.items → 0 < total }
+    ensures { IfOk result (λ placed. placed.items ≡ map (placed_at total width) boxes.items) }
+{
+    let mut placed = Vec::new(alloc);
+    for span in boxes {
+        placed.push(placed_box(span, total, width))?;
+    }
+    Ok(placed)
+}
+
+fn placed_box(span: SpanBox, total: u64, width: Width) -> PlacedBox
+    requires within { span.start + span.weight ≤ total }
+    requires positive { 0 < total }
+    ensures { result ≡ placed_at total width span }
+{
+    let SpanBox {
+        depth,
+        name,
+        start,
+        weight,
+        own,
+    } = span;
+    PlacedBox {
+        depth,
+        name,
+        start,
+        weight,
+        own,
+        left: edge(start, total, width),
+        right: edge(start + weight, total, width),
+    }
+}
+
+fn edge(at: u64, total: u64, width: Width) -> u32
+    requires within { at ≤ total }
+    requires positive { 0 < total }
+    ensures { result ≡ at * width / total }
+{
+    (u128::from(at) * u128::from(width.get()) / u128::from(total)) as u32
+}

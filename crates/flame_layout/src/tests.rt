@@ -1,0 +1,252 @@
+//! Worked examples.
+
+use crate::comparisons::add_list;
+use crate::{PairRow, PlacedBox, SpanBox, Width, chart_boxes, compare, graph_boxes, place};
+use call_tree::{CallTree, FrameTable};
+use stack_core::{Close, Ledger, Names, Sample, SourceEnd, SourceList};
+use std::alloc::{AllocError, Global};
+use std::process::Abort;
+use std::test::Fail;
+
+/// The list of a source with these lines: names, root first, and a weight.
+fn list(
+    rt: &impl Abort,
+    alloc: Global,
+    lines: &[(&[&str], u64)],
+) -> Result<SourceList, AllocError> {
+    let mut ledger = Ledger::new(alloc);
+    for (names, weight) in lines {
+        let mut stack = Vec::new(alloc);
+        for name in *names {
+            stack.push(String::from_str(alloc, name)?)?;
+        }
+        assert!(rt; !ledger.is_closed());
+        assert!(rt; stack.len() < 10);
+        assert!(rt; *weight < 100);
+        ledger.take(Sample {
+            stack: Names::of(stack),
+            weight: *weight,
+        })?;
+    }
+    assert!(rt; !ledger.is_closed());
+    ledger.close(Close::Read(SourceEnd::Clean { ignored: 0 }));
+    Ok(ledger.into_list())
+}
+
+/// The chart of one source.
+fn chart(rt: &impl Abort, alloc: Global, source: SourceList) -> Result<Vec<SpanBox>, AllocError> {
+    assert!(rt; source.total() < 1_000);
+    chart_boxes(alloc, &[source])
+}
+
+/// The chart of one source, in an image.
+fn placed_chart(
+    rt: &impl Abort,
+    alloc: Global,
+    source: SourceList,
+    width: Width,
+) -> Result<Vec<PlacedBox>, AllocError> {
+    let total = source.total();
+    assert!(rt; total < 1_000);
+    let boxes = chart_boxes(alloc, &[source])?;
+    place(alloc, boxes, total as u64, width)
+}
+
+/// The graph of one source, in an image.
+fn placed_graph(
+    rt: &impl Abort,
+    alloc: Global,
+    source: &SourceList,
+    width: Width,
+) -> Result<Vec<PlacedBox>, AllocError> {
+    // The samples are within the limits: the count tells it.
+    let _count = source.len();
+    let total = source.total();
+    assert!(rt; total < 1_000);
+    let mut table = FrameTable::new(alloc);
+    let mut tree = CallTree::new(alloc)?;
+    add_list(alloc, &mut table, &mut tree, source)?;
+    let boxes = graph_boxes(alloc, &tree, &table)?;
+    place(alloc, boxes, total as u64, width)
+}
+
+/// Names and the four weights of each row.
+fn shown_rows(alloc: Global, rows: &[PairRow]) -> Result<String, AllocError> {
+    let mut text = String::new(alloc);
+    for row in rows {
+        text.push_str("(")?;
+        for name in row.path.get() {
+            text.push_str(name.as_str())?;
+            text.push_str(";")?;
+        }
+        let total_before = row.total_before;
+        let total_after = row.total_after;
+        let own_before = row.own_before;
+        let own_after = row.own_after;
+        let line = format!(in alloc; " {total_before} {total_after} {own_before} {own_after})")?;
+        text.push_str(&line)?;
+    }
+    Ok(text)
+}
+
+/// Depth, name, start, weight and own weight of each box.
+fn shown(alloc: Global, boxes: &[SpanBox]) -> Result<String, AllocError> {
+    let mut text = String::new(alloc);
+    for span in boxes {
+        let SpanBox {
+            depth,
+            name,
+            start,
+            weight,
+            own,
+        } = span;
+        let name = name.get();
+        let line = format!(in alloc; "({depth} {name} {start} {weight} {own})")?;
+        text.push_str(&line)?;
+    }
+    Ok(text)
+}
+
+/// The same, and the edges.
+fn shown_placed(alloc: Global, boxes: &[PlacedBox]) -> Result<String, AllocError> {
+    let mut text = String::new(alloc);
+    for span in boxes {
+        let depth = span.depth;
+        let name = span.name.get();
+        let start = span.start;
+        let weight = span.weight;
+        let own = span.own;
+        let left = span.left;
+        let right = span.right;
+        let line = format!(in alloc; "({depth} {name} {start} {weight} {own} {left} {right})")?;
+        text.push_str(&line)?;
+    }
+    Ok(text)
+}
+
+#[test]
+fn runs_of_a_chart(rt: HostRuntime) -> Result<(), Fail> {
+    let alloc = rt.alloc();
+    let lines: [(&[&str], u64); 3] = [(&["a", "b"], 1), (&["a", "c"], 1), (&["a", "b"], 1)];
+    let source = list(&rt, alloc, &lines)?;
+    let boxes = chart(&rt, alloc, source)?;
+    assert_eq!(rt;
+        shown(alloc, &boxes)?.as_str(),
+        "(0 all 0 3 0)(1 a 0 3 0)(2 b 0 1 1)(2 c 1 1 1)(2 b 2 1 1)"
+    );
+    Ok(())
+}
+
+#[test]
+fn runs_under_other_parents(rt: HostRuntime) -> Result<(), Fail> {
+    let alloc = rt.alloc();
+    let lines: [(&[&str], u64); 2] = [(&["a", "x"], 1), (&["b", "x"], 1)];
+    let source = list(&rt, alloc, &lines)?;
+    let boxes = chart(&rt, alloc, source)?;
+    assert_eq!(rt;
+        shown(alloc, &boxes)?.as_str(),
+        "(0 all 0 2 0)(1 a 0 1 0)(2 x 0 1 1)(1 b 1 1 0)(2 x 1 1 1)"
+    );
+    Ok(())
+}
+
+#[test]
+fn edges_of_three_lines(rt: HostRuntime) -> Result<(), Fail> {
+    let alloc = rt.alloc();
+    let lines: [(&[&str], u64); 3] = [(&["a"], 1), (&["c"], 0), (&["b"], 2)];
+    let source = list(&rt, alloc, &lines)?;
+    let width = Width::of(10).ok_or("no width")?;
+    let boxes = placed_chart(&rt, alloc, source, width)?;
+    assert_eq!(rt;
+        shown_placed(alloc, &boxes)?.as_str(),
+        "(0 all 0 3 0 0 10)(1 a 0 1 1 0 3)(1 b 1 2 2 3 10)"
+    );
+    Ok(())
+}
+
+#[test]
+fn empty_timeline(rt: HostRuntime) -> Result<(), Fail> {
+    let alloc = rt.alloc();
+    let lines: [(&[&str], u64); 1] = [(&["a"], 0)];
+    let source = list(&rt, alloc, &lines)?;
+    assert_eq!(rt; chart(&rt, alloc, source)?.len(), 0);
+    Ok(())
+}
+
+#[test]
+fn comparison(rt: HostRuntime) -> Result<(), Fail> {
+    let alloc = rt.alloc();
+    let old: [(&[&str], u64); 2] = [(&["a"], 3), (&["b"], 1)];
+    let new: [(&[&str], u64); 2] = [(&["a"], 1), (&["c"], 2)];
+    let before = list(&rt, alloc, &old)?;
+    let after = list(&rt, alloc, &new)?;
+    assert!(rt; before.total() < 1_000);
+    assert!(rt; after.total() < 1_000);
+    let rows = compare(alloc, &before, &after)?;
+    assert_eq!(rt;
+        shown_rows(alloc, &rows)?.as_str(),
+        "( 4 3 0 0)(a; 3 1 3 1)(b; 1 0 1 0)(c; 0 2 0 2)"
+    );
+    Ok(())
+}
+
+#[test]
+fn graph_of_the_runs(rt: HostRuntime) -> Result<(), Fail> {
+    let alloc = rt.alloc();
+    let lines: [(&[&str], u64); 3] = [(&["a", "b"], 1), (&["a", "c"], 1), (&["a", "b"], 1)];
+    let source = list(&rt, alloc, &lines)?;
+    let width = Width::of(3).ok_or("no width")?;
+    let boxes = placed_graph(&rt, alloc, &source, width)?;
+    assert_eq!(rt;
+        shown_placed(alloc, &boxes)?.as_str(),
+        "(0 all 0 3 0 0 3)(1 a 0 3 0 0 3)(2 b 0 2 2 0 2)(2 c 2 1 1 2 3)"
+    );
+    Ok(())
+}
+
+#[test]
+fn graph_of_three_lines(rt: HostRuntime) -> Result<(), Fail> {
+    let alloc = rt.alloc();
+    let lines: [(&[&str], u64); 3] = [(&["a"], 1), (&["c"], 0), (&["b"], 2)];
+    let source = list(&rt, alloc, &lines)?;
+    let width = Width::of(10).ok_or("no width")?;
+    let boxes = placed_graph(&rt, alloc, &source, width)?;
+    assert_eq!(rt;
+        shown_placed(alloc, &boxes)?.as_str(),
+        "(0 all 0 3 0 0 10)(1 a 0 1 1 0 3)(1 b 1 2 2 3 10)"
+    );
+    Ok(())
+}
+
+#[test]
+fn empty_graph(rt: HostRuntime) -> Result<(), Fail> {
+    let alloc = rt.alloc();
+    let tree = CallTree::new(alloc)?;
+    let table = FrameTable::new(alloc);
+    assert_eq!(rt; graph_boxes(alloc, &tree, &table)?.len(), 0);
+    Ok(())
+}
+
+#[test]
+fn widths(rt: HostRuntime) {
+    assert!(rt; Width::of(0).is_none());
+    assert!(rt; Width::of(65_537).is_none());
+    assert_eq!(rt; Width::of(1).map_or(0, Width::get), 1);
+    assert_eq!(rt; Width::of(65_536).map_or(0, Width::get), 65_536);
+}
+
+#[test]
+fn laws_take_nothing() {
+    crate::laws::runs_have_boxes();
+    crate::laws::boxes_have_runs();
+    crate::laws::boxes_are_listed();
+    crate::laws::graphs_are_their_sums();
+    crate::laws::graphs_see_no_order();
+    crate::laws::graphs_have_one_box_a_path();
+    crate::laws::boxes_lie_inside();
+    crate::laws::boxes_stand_apart();
+    crate::laws::neighbours_share_edges();
+    crate::laws::edges_keep_order();
+    crate::laws::roots_span_the_width();
+    crate::laws::comparisons_have_all_paths();
+}

@@ -1,0 +1,171 @@
+//! The walk over the samples from the last to the first, with the runs that go on at the front.
+
+ghost use Rattle.std.specs.Prelude.{◌≡◌, ℕ, ◌+◌, ◌-◌, ◌<◌, ◌≤◌, ◌++◌, ◌^◌, ◌∷◌, [], OnOk, IfOk, IfSome, IsTrue, ◌↔◌, All, map, length, reverse, take, drop};
+ghost use Rattle.std.specs.List.{range_with_len};
+ghost use Rattle.stack_core.specs.Ledgers.{sample_at, name_at as told_name};
+ghost use Rattle.flame_layout.specs.Chart.{box_name, names_shared};
+ghost use Rattle.flame_layout.specs.Walk.{IsFront, kept_of, names_of, seen, box_of_run, boxes_of_runs, new_run};
+
+use crate::boxes::SpanBox;
+use stack_core::{FRAME_LIMIT, SourceList, Text};
+use std::alloc::{AllocError, Global};
+
+/// A run that goes on at the front of what was walked.
+#[derive(Drop)]
+pub(crate) struct OpenRun<'a> {
+    /// `all`, or the frame's name.
+    pub(crate) name: &'a str,
+    /// Where the run ends.
+    pub(crate) end: u64,
+    /// The weights of its samples that end in this frame.
+    pub(crate) own: u64,
+}
+
+/// With how many names the sample's stack and that of the runs begin alike.
+fn shared(list: &SourceList, at: usize, runs: &[OpenRun<'_>]) -> usize
+    requires { at < length list.now.samples }
+    ensures is { result ≡ names_shared (sample_at list.now.samples at).stack (names_of runs.now) }
+    ensures there { result ≤ length runs.now - 1 }
+    ensures deep { result ≤ length (sample_at list.now.samples at).stack }
+{
+    let most = list.depth(at).min(runs.len().saturating_sub(1));
+    for place in 0..most {
+        if list.name(at, place) != runs[place + 1].name {
+            return place;
+        }
+    }
+    most
+}
+
+/// With how many names the stacks of two samples of a list begin alike.
+fn shared_in_list(list: &SourceList, at: usize, later: usize) -> usize
+    requires at { at < length list.now.samples }
+    requires later { later < length list.now.samples }
+    ensures is { result ≡ names_shared (sample_at list.now.samples at).stack
+        (sample_at list.now.samples later).stack }
+    ensures deep { result ≤ length (sample_at list.now.samples at).stack }
+    ensures wide { result ≤ length (sample_at list.now.samples later).stack }
+    ensures small { result ≤ FRAME_LIMIT }
+{
+    let most = list.depth(at).min(list.depth(later));
+    for place in 0..most {
+        if !is_same_name(list, at, later, place) {
+            return place;
+        }
+    }
+    most
+}
+
+/// Whether a frame has the same name in two samples of a list. Equal numbers stand for equal names,
+/// so the names are compared only where the numbers differ.
+fn is_same_name(list: &SourceList, at: usize, later: usize, place: usize) -> bool
+    requires at { at < length list.now.samples }
+    requires later { later < length list.now.samples }
+    requires deep { place < length (sample_at list.now.samples at).stack }
+    requires later_deep { place < length (sample_at list.now.samples later).stack }
+    ensures { IsTrue result ↔ (told_name (sample_at list.now.samples at).stack place
+        ≡ told_name (sample_at list.now.samples later).stack place) }
+{
+    if list.number(at, place) == list.number(later, place) {
+        return true;
+    }
+    list.name(at, place) == list.name(later, place)
+}
+
+/// How many of the runs go on under the sample, from the root on. `later` is the sample of the list
+/// whose runs they are; without one they are of another list.
+pub(crate) fn kept(
+    list: &SourceList,
+    at: usize,
+    later: Option<usize>,
+    runs: &[OpenRun<'_>],
+) -> usize
+    requires at { at < length list.now.samples }
+    requires few { length runs.now ≤ 4097 }
+    requires later { IfSome later (IsFront list.now.samples runs.now) }
+    ensures is { result ≡ kept_of (sample_at list.now.samples at).stack runs.now }
+    ensures there { result ≤ length runs.now }
+    ensures deep { result ≤ length (sample_at list.now.samples at).stack + 1 }
+{
+    if runs.is_empty() {
+        return 0;
+    }
+    match later {
+        Some(place) => shared_in_list(list, at, place) + 1,
+        None => shared(list, at, runs) + 1,
+    }
+}
+
+/// Takes the runs off, the deepest first, down to `keep` of them, and appends their boxes.
+pub(crate) fn close<'a>(
+    alloc: Global,
+    runs: &mut Vec<OpenRun<'a>>,
+    boxes: &mut Vec<SpanBox>,
+    start: u64,
+    keep: usize,
+) -> Result<(), AllocError>
+    requires few { length runs.old.items < 2 ^ 32 }
+    requires kept { keep ≤ length runs.old.items }
+    requires begun { All (λ run. start ≤ run.end) runs.old.items }
+    ensures runs { OnOk result (runs.new.items ≡ take keep runs.old.items) }
+    ensures boxes { OnOk result (boxes.new.items
+        ≡ boxes.old.items ++ reverse (drop keep (boxes_of_runs start (map seen runs.old.items)))) }
+{
+    'each: while runs.len() > keep {
+        let Some(run) = runs.pop() else {
+            return Ok(());
+        };
+        boxes.push(span(alloc, runs.len(), start, run)?)?;
+    }
+    Ok(())
+}
+
+fn span(alloc: Global, depth: usize, start: u64, run: OpenRun<'_>) -> Result<SpanBox, AllocError>
+    requires few { depth < 2 ^ 32 }
+    requires begun { start ≤ run.end }
+    ensures { IfOk result (λ span. span ≡ box_of_run start (depth, seen run.entry)) }
+{
+    let OpenRun { name, end, own } = run;
+    Ok(SpanBox {
+        depth: depth as u32,
+        name: Text::of(String::from_str(alloc, name)?),
+        start,
+        weight: end - start,
+        own,
+    })
+}
+
+/// Appends the runs that begin with the sample, from a depth on.
+pub(crate) fn open_runs<'a>(
+    runs: &mut Vec<OpenRun<'a>>,
+    list: &'a SourceList,
+    at: usize,
+    from: usize,
+    end: u64,
+) -> Result<(), AllocError>
+    requires at { at < length list.now.samples }
+    requires deep { from ≤ length (sample_at list.now.samples at).stack + 1 }
+    ensures { OnOk result (map seen runs.new.items
+        ≡ map seen runs.old.items
+        ++ map (new_run (sample_at list.now.samples at).stack end)
+        (range_with_len from (length (sample_at list.now.samples at).stack + 1 - from))) }
+{
+    let depth = list.depth(at);
+    for place in from..depth + 1 {
+        let name = frame_name(list, at, place);
+        runs.push(OpenRun { name, end, own: 0 })?;
+    }
+    Ok(())
+}
+
+fn frame_name(list: &SourceList, at: usize, depth: usize) -> &str
+    requires at { at < length list.now.samples }
+    requires deep { depth ≤ length (sample_at list.now.samples at).stack }
+    ensures { result.now ≡ box_name depth (sample_at list.now.samples at).stack }
+{
+    if depth == 0 {
+        "all"
+    } else {
+        list.name(at, depth - 1)
+    }
+}

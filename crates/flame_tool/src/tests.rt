@@ -1,0 +1,5 @@
+//! Worked examples.
+mod edge;
+mod fakes;
+mod fold;
+mod runs;

@@ -1,0 +1,33 @@
+//! Merges folded stack samples: reads them on standard input, and writes a line for each stack, with
+//! the sum of its counts, on standard output.
+#![tactic(auto)]
+
+use flame_tool::{CountedWriter, MachineFiles, run};
+use std::env;
+use std::io::ErrorKind;
+use std::process::ExitCode;
+
+fn main(rt: HostRuntime) -> ExitCode {
+    let alloc = rt.alloc();
+    let words = env::args(&rt).and_then(|args| Ok(args.skip(1).collect::<Vec<String>>(alloc)?));
+    let status = match words {
+        Ok(words) => {
+            let mut files = MachineFiles::new(&rt);
+            let mut out = CountedWriter::new(rt.stdout());
+            let mut err = CountedWriter::new(rt.stderr());
+            run(alloc, words, &mut files, &mut out, &mut err)
+        }
+        Err(error) => match error.kind() {
+            ErrorKind::OutOfMemory => {
+                let _ = eprintln!(rt; "flamecollect: out of memory");
+                3
+            }
+            // A word that is no text.
+            _ => {
+                let _ = eprintln!(rt; "flamecollect: words refused");
+                2
+            }
+        },
+    };
+    ExitCode::from(status)
+}

@@ -1,0 +1,19 @@
+use Rattle.std.proofs.Common.{◌∙◌, ap, sym, subst, rules, [], ◌<◌, ◌∷◌, All, map, length, string_bytes}
+use Rattle.std.proofs.lemmas.List.{map-append}
+use Rattle.rtrb.specs.Ring.{sent}
+use Rattle.stack_core.specs.Records.{names_at}
+use Rattle.ring_collect.proofs.Records.{tells_on, names_at_push, known_push}
+use Rattle.ring_collect.proofs.telling.tell_names.Goals as goal
+
+pub loop-name-preserved : goal.loop-name-preserved
+loop-name-preserved g c =
+    let so_far = c.loop-name.invariant in
+    let told = c.in_ok-tell_name.ensures in
+    let pushed = c.in_ok-push.ensures.items in
+    record {
+      ring = search rules;
+      told = tells_on [] [] (sent c.args.producer.now) (sent c.loop-name.producer) (sent c.tell_name.new.producer) so_far.told told.told;
+      names = told.names;
+      numbers = ap (names_at c.tell_name.new.names) pushed ∙ names_at_push c.loop-name.names c.tell_name.new.names c.loop-name.numbers.items c.in_ok-tell_name.field-0 (string_bytes c.in-Some.name) (map string_bytes c.loop-name.yielded) told.kept so_far.known so_far.numbers told.number ∙ sym (map-append string_bytes c.loop-name.yielded (c.in-Some.name ∷ []));
+      known = subst (All (λ k. k < length c.tell_name.new.names)) (sym pushed) (known_push c.loop-name.names c.tell_name.new.names c.loop-name.numbers.items c.in_ok-tell_name.field-0 (string_bytes c.in-Some.name) told.kept so_far.known told.number);
+    }

@@ -1,0 +1,54 @@
+use Rattle.std.specs.Prelude.{◌≡◌, ◌≤◌, ◌<◌, ◌++◌, ℕ, List, length, map, All, Some, slice_get}
+use Rattle.stack_core.specs.Reading.{Rest}
+use Rattle.stack_core.specs.Ledgers.{LedgerState, ListState}
+use Rattle.ring_collect.specs.Settling.{IsAllTold}
+use Rattle.stack_core.specs.Schedule.{IsPrefixOf}
+use Rattle.stack_core.specs.Interleaving.{AreOf, list_of, sources_of}
+use Rattle.stack_core.specs.declared.samples.Sample.{Sample}
+use Rattle.stack_core.specs.Told.{IsCollected}
+
+-- the samples and the ending of a list
+abbrev pub seen_as_rest : ListState → Rest
+seen_as_rest list = record { samples = list.samples; ending = list.ending }
+
+-- one list for each rest, in their order
+pub record Collects (may_stop may_go : ℕ → ℕ → Type 0) (rests : List Rest) (lists : List ListState) : Type 0 where
+  pub count : length lists ≡ length rests
+  pub each : (source : ℕ) (rest : Rest) (list : ListState) → slice_get rests source ≡ Some rest → slice_get lists source ≡ Some list
+      → IsCollected may_stop may_go source rest (seen_as_rest list)
+
+-- each list is a whole rest, with its ending
+abbrev pub AreWhole : List Rest → List ListState → Type 0
+AreWhole rests lists = map seen_as_rest lists ≡ rests
+
+-- what the sink gained has of each source a beginning of its rest, and nothing of any other
+pub record GainsFirst (rests : List Rest) (taken taken' : List (ℕ × Sample)) : Type 0 where
+  pub pairs : List (ℕ × Sample)
+  pub lists : List (List Sample)
+  pub gained : taken' ≡ taken ++ pairs
+  pub of_lists : AreOf pairs lists
+  pub no_more : length lists ≤ length rests
+  pub first : (source : ℕ) (rest : Rest) → slice_get rests source ≡ Some rest → IsPrefixOf (list_of lists source) rest.samples
+
+-- what the sink gained is of these many sources
+pub record GainsOf (count : ℕ) (taken taken' : List (ℕ × Sample)) : Type 0 where
+  pub pairs : List (ℕ × Sample)
+  pub gained : taken' ≡ taken ++ pairs
+  pub sources : All (λ pair. pair.0 < count) pairs
+
+-- a source of the run, and the sink began with what it held
+pub record Unfinishes (count source : ℕ) (taken taken' : List (ℕ × Sample)) : Type 0 where
+  pub below : source < count
+  pub gains : GainsOf count taken taken'
+
+-- the ledger of each source is all that was told there, and the sink gained the same samples, in this order
+pub record RunsWhole (may_stop may_go : ℕ → ℕ → Type 0) (rests : List Rest) (ledgers : List LedgerState) (order : List ℕ) (taken taken' : List (ℕ × Sample)) : Type 0 where
+  pub pairs : List (ℕ × Sample)
+  pub lists : List (List Sample)
+  pub gained : taken' ≡ taken ++ pairs
+  pub of_lists : AreOf pairs lists
+  pub ordered : order ≡ sources_of pairs
+  pub all_listed : length lists ≡ length ledgers
+  pub count : length ledgers ≡ length rests
+  pub each : (source : ℕ) (rest : Rest) (ledger : LedgerState) → slice_get rests source ≡ Some rest → slice_get ledgers source ≡ Some ledger
+      → IsAllTold may_stop may_go source rest (list_of lists source) ledger

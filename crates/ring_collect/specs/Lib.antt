@@ -1,0 +1,8 @@
+pub mod Collecting
+pub mod Gathering
+pub mod Limits
+pub mod Settling
+pub mod Started
+pub mod Taking
+pub mod Telling
+pub mod Tracking

@@ -1,0 +1,42 @@
+use Rattle.std.specs.Prelude.{◌≡◌, ◌≢◌, ℕ, List, length, map, Some, slice_get}
+use Rattle.std.specs.Arc.{arc_value}
+use Rattle.stack_core.specs.Reading.{Rest}
+use Rattle.stack_core.specs.Ledgers.{LedgerState, ListState}
+use Rattle.stack_core.specs.Schedule.{IsPrefixOf}
+use Rattle.stack_core.specs.Told.{IsToldUnder, told}
+use Rattle.stack_core.specs.declared.samples.Sample.{Sample}
+use Rattle.stack_core.specs.declared.endings.Close.{Close}
+use Rattle.stack_core.specs.declared.endings.Close.TheVariants.{Read}
+use Rattle.ring_collect.specs.Tracking.{Tracks}
+use Rattle.ring_collect.specs.declared.started.Started.{Started}
+use Rattle.ring_collect.specs.declared.intakes.Stage.{Stage}
+use Rattle.ring_collect.specs.declared.intakes.Stage.TheVariants.{Following, Untold}
+
+-- the ledger is all that was told, as the reader of a source with this rest tells it under its gate
+pub record IsAllTold (may_stop may_go : ℕ → ℕ → Type 0) (source : ℕ) (rest : Rest) (list : List Sample) (ledger : LedgerState) : Type 0 where
+  pub last : Close
+  pub closed : ledger.close ≡ Some last
+  pub samples : ledger.samples ≡ list
+  pub is_told : IsToldUnder may_stop may_go source rest (told list last)
+
+-- what the sink has of a source is a beginning of its rest; and if all was taken, the ledger is all that was told
+pub record IsSettledAs (may_stop may_go : ℕ → ℕ → Type 0) (source : ℕ) (rest : Rest) (stage : Stage) (list : List Sample) (ledger : LedgerState) : Type 0 where
+  pub taken_or_dropped : stage ≢ Untold
+  pub first : IsPrefixOf list rest.samples
+  pub whole : stage ≡ Following → IsAllTold may_stop may_go source rest list ledger
+
+module _ {R G : Type 0} (may_stop may_go : G → ℕ → ℕ → Type 0) (rest : R → Rest) where
+  abbrev pub IsSettled : Started R G → LedgerState → Type 0
+  IsSettled started ledger =
+      let promise = started.handle.promise in
+      let gate = arc_value promise.gate.value in
+      (list : List Sample) → Tracks started.intake list → IsSettledAs (may_stop gate) (may_go gate) promise.source (rest promise.reader.value) started.intake.stage list ledger
+
+  pub record AreSettled (all : List (Started R G)) (ledgers : List LedgerState) : Type 0 where
+    pub count : length ledgers ≡ length all
+    pub each : (source : ℕ) (started : Started R G) (ledger : LedgerState) → slice_get all source ≡ Some started → slice_get ledgers source ≡ Some ledger → IsSettled started ledger
+
+-- the lists that ledgers hand out
+pub record AreListsOf (ledgers : List LedgerState) (lists : List ListState) : Type 0 where
+  pub samples : map (λ list. list.samples) lists ≡ map (λ ledger. ledger.samples) ledgers
+  pub closes : map (λ list. Some (Read list.ending)) lists ≡ map (λ ledger. ledger.close) ledgers

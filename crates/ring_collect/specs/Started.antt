@@ -1,0 +1,29 @@
+use Rattle.std.specs.Prelude.{◌≡◌, ◌≤◌, ℕ, List, [], length, Some, None, slice_get}
+use Rattle.std.specs.Arc.{arc_value}
+use Rattle.rtrb.specs.Ring.{received}
+use Rattle.ring_collect.specs.declared.started.Telling.{Telling}
+use Rattle.ring_collect.specs.declared.intakes.Intake.{Intake}
+use Rattle.ring_collect.specs.declared.intakes.Stage.TheVariants.{Following}
+
+module _ {R G : Type 0} where
+  -- a promise made for the reader of this source and for this gate
+  pub record IsPromised (gate : G) (source : ℕ) (reader : R) (promise : Telling R G) : Type 0 where
+    pub reader_is : promise.reader.value ≡ reader
+    pub gate_is : arc_value promise.gate.value ≡ gate
+    pub source_is : promise.source ≡ source
+
+  -- a promise for each of the first readers, in order
+  pub record ArePromised (gate : G) (readers : List R) (promises : List (Telling R G)) : Type 0 where
+    pub no_more : length promises ≤ length readers
+    pub each : (source : ℕ) (promise : Telling R G) (reader : R) → slice_get promises source ≡ Some promise → slice_get readers source ≡ Some reader → IsPromised gate source reader promise
+
+-- nothing came yet
+pub record IsFresh (source : ℕ) (intake : Intake) : Type 0 where
+  pub number : intake.number ≡ source
+  pub received_nothing : received intake.consumer ≡ []
+  pub ledger : intake.ledger ≡ record { samples = []; close = None; told = []; rows = [] }
+  pub stage : intake.stage ≡ Following
+  pub close : intake.close ≡ None
+
+pub record AreFresh (intakes : List Intake) : Type 0 where
+  pub each : (source : ℕ) (intake : Intake) → slice_get intakes source ≡ Some intake → IsFresh source intake

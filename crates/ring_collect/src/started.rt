@@ -1,0 +1,65 @@
+//! A source whose reader thread runs, and the ends of a ring.
+
+ghost use Rattle.std.specs.Prelude.{◌≡◌, []};
+ghost use Rattle.rtrb.specs.Ring.{sent, received, IsPair};
+ghost use Rattle.rtrb.specs.Ends.{SameRing};
+
+use crate::intakes::Intake;
+use crate::limits::{Limits, RecordConsumer, RecordProducer};
+use rtrb::Finished;
+use stack_core::{Gate, RingRecord, SampleReader};
+use std::alloc::Global;
+use std::snapshot::Snapshot;
+use std::sync::Arc;
+use std::thread::{Promise, PromisedHandle};
+
+/// What the thread of a source promises of what it hands back: all that it sent is what its reader tells under the gate.
+pub struct Telling<R, G> {
+    pub reader: Snapshot<R>,
+    pub gate: Snapshot<Arc<G>>,
+    pub producer: Snapshot<RecordProducer>,
+    pub source: u32,
+}
+
+impl<R, G> Drop for Telling<R, G> {
+    fn drop(self) {
+        let Telling {
+            reader: _,
+            gate: _,
+            producer: _,
+            source: _,
+        } = self;
+    }
+}
+
+impl<R: SampleReader, G: Gate> Promise<Option<Finished<RingRecord, Global, Limits>>>
+    for Telling<R, G> {
+    ghost use Rattle.std.specs.Prelude.{IfSome};
+    ghost use Rattle.std.specs.Arc.{arc_value};
+    ghost use Rattle.ring_collect.specs.Telling.{SentAll};
+
+    ghost kept_by = { λ p r. IfSome r (SentAll (G.may_stop (arc_value p.gate.value)) (G.may_go (arc_value p.gate.value)) p.source (R.rest p.reader.value) p.producer.value) };
+}
+
+pub type TellingHandle<R, G> = PromisedHandle<
+    Option<Finished<RingRecord, Global, Limits>>,
+    Telling<R, G>,
+>;
+
+/// A started source: its thread, with what that promises, and what the collecting thread has of it.
+#[derive(Drop)]
+pub struct Started<R: SampleReader, G: Gate> {
+    pub handle: TellingHandle<R, G>,
+    pub intake: Intake,
+    ghost tied: { SameRing handle.promise.producer.value.end intake.consumer.end },
+}
+
+/// The ends of a new ring.
+#[derive(Drop)]
+pub struct RingEnds {
+    pub producer: RecordProducer,
+    pub consumer: RecordConsumer,
+    ghost paired: { IsPair producer consumer },
+    ghost nothing_sent: { sent producer ≡ [] },
+    ghost nothing_received: { received consumer ≡ [] },
+}
