@@ -4,23 +4,11 @@
 //!
 //!     make_folded LINES [DEPTH] [short] > FILE
 
+mod numbers;
+
 use std::io::{BufWriter, Write};
 
-/// A small generator of numbers (xorshift64*), so that the file is the same on every machine.
-struct Numbers(u64);
-
-impl Numbers {
-    fn next(&mut self) -> u64 {
-        self.0 ^= self.0 >> 12;
-        self.0 ^= self.0 << 25;
-        self.0 ^= self.0 >> 27;
-        self.0.wrapping_mul(0x2545_f491_4f6c_dd1d) >> 11
-    }
-
-    fn below(&mut self, bound: u64) -> u64 {
-        self.next() % bound
-    }
-}
+use numbers::Numbers;
 
 fn main() -> std::io::Result<()> {
     let words: Vec<String> = std::env::args().skip(1).collect();

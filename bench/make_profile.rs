@@ -3,23 +3,11 @@
 //!
 //!     make_profile SAMPLES > FILE
 
+mod numbers;
+
 use std::io::{BufWriter, Write};
 
-/// A small generator of numbers (xorshift64*), so that the file is the same on every machine.
-struct Numbers(u64);
-
-impl Numbers {
-    fn next(&mut self) -> u64 {
-        self.0 ^= self.0 >> 12;
-        self.0 ^= self.0 << 25;
-        self.0 ^= self.0 >> 27;
-        self.0.wrapping_mul(0x2545_f491_4f6c_dd1d) >> 11
-    }
-
-    fn below(&mut self, bound: u64) -> u64 {
-        self.next() % bound
-    }
-}
+use numbers::Numbers;
 
 /// A message of the wire format, or several top-level fields.
 #[derive(Default)]
