@@ -98,7 +98,7 @@ chained_numbers names d p (q ∷ qs) h g c =
     )
 
 -- the paths of the visits are found again
-next_is : (tree : Tree) (before p : List ℕ) → (0 < length p → take (length p - 1) before ≡ take (length p - 1) p) → next_path before (tree_visit tree p) ≡ p
+pub next_is : (tree : Tree) (before p : List ℕ) → (0 < length p → take (length p - 1) before ≡ take (length p - 1) p) → next_path before (tree_visit tree p) ≡ p
 next_is tree before [] h = refl
 next_is tree before (n ∷ p) h =
     let k = length (n ∷ p) - 1 in

@@ -1,5 +1,5 @@
 -- the boxes of a chart are the longest runs
-use Rattle.std.proofs.Common.{◌≡◌, ℕ, zero, suc, ◌+◌, ◌-◌, ◌≤◌, ◌<◌, List, [], ◌∷◌, ◌++◌, length, map, sym, ◌∙◌, ap, subst, refl, arith, ◌⊎◌, inl, inr, ⊎_elim, Option, Some, None, Contains}
+use Rattle.std.proofs.Common.{◌≡◌, ℕ, zero, suc, ◌+◌, ◌-◌, ◌≤◌, ◌<◌, List, [], ◌∷◌, ◌++◌, length, map, take, sym, ◌∙◌, ap, subst, refl, arith, ◌⊎◌, inl, inr, ⊎_elim, Option, Some, None, Contains}
 use Rattle.std.specs.List.{AllByRecursion, range_with_len, last_or}
 use Rattle.std.proofs.lemmas.Bool.{cases_lt, cases_eq}
 use Rattle.stack_core.specs.declared.samples.Sample.{Sample}
@@ -141,58 +141,72 @@ pub record BehindRun (b : Option Stack) (start : ℕ) (samples : List Sample) (b
   pub ends : IsApart depth first.stack (first_stack after)
   pub is : box ≡ record { depth = depth; name = box_name depth first.stack; start = start + total_weight before; weight = total_weight (first ∷ more); own = own_weight depth (first ∷ more) }
 
+-- the same with the path of the box, the first names of its run
+pub record BehindPath (b : Option Stack) (start : ℕ) (samples : List Sample) (box : SpanBox) (path : Stack) : Type 0 where
+  pub run : BehindRun b start samples box
+  pub names : path ≡ take run.depth run.first.stack
+
+-- a box of a run that begins at the first sample
+pub path_here : (b : Option Stack) (start d : ℕ) (s : Sample) (rest : List Sample) → first_new b s.stack ≤ d → d ≤ length s.stack →
+    BehindPath b start (s ∷ rest) (box_at s.stack start (s ∷ rest) d) (take d s.stack)
+path_here b start d s rest new deep =
+    let split = splits d s.stack rest in
+    let run : run_at d s.stack (s ∷ rest) ≡ s ∷ run_at d s.stack rest = run_at-alike d s.stack s rest (names_shared-self d s.stack deep) in
+    let at_start : start ≡ start + total_weight [] = omega arith in
+    record {
+      run = record {
+        depth = d;
+        before = [];
+        first = s;
+        more = run_at d s.stack rest;
+        after = split.after;
+        parts = ap (λ xs. s ∷ xs) split.parts;
+        deep = deep;
+        alike = split.alike;
+        begins = new-apart b s.stack d new;
+        ends = split.ends;
+        is = λ i. record { depth = d; name = box_name d s.stack; start = at_start i; weight = total_weight (run i); own = own_weight d (run i) };
+      };
+      names = refl;
+    }
+
+-- a box of a run that begins later
+pub path_later : (b : Option Stack) (start : ℕ) (s : Sample) (rest : List Sample) (box : SpanBox) (path : Stack) → BehindPath (Some s.stack) (start + s.weight) rest box path → BehindPath b start (s ∷ rest) box path
+path_later b start s rest box path h =
+    let t = h.run in
+    let at_start : start + s.weight + total_weight t.before ≡ start + total_weight (s ∷ t.before) = omega (arith, total_weight-cons s t.before) in
+    record {
+      run = record {
+        depth = t.depth;
+        before = s ∷ t.before;
+        first = t.first;
+        more = t.more;
+        after = t.after;
+        parts = ap (λ xs. s ∷ xs) t.parts;
+        deep = t.deep;
+        alike = t.alike;
+        begins = t.begins;
+        ends = t.ends;
+        is = t.is ∙ (λ i. record { depth = t.depth; name = box_name t.depth t.first.stack; start = at_start i; weight = total_weight (t.first ∷ t.more); own = own_weight t.depth (t.first ∷ t.more) });
+      };
+      names = h.names;
+    }
+
 pub box_has_run : (b : Option Stack) (start : ℕ) (samples : List Sample) (box : SpanBox) → In box (boxes_after b start samples) → BehindRun b start samples box
 box_has_run b start [] box h = absurd h
 box_has_run b start (s ∷ rest) box h =
     ⊎_elim
     (λ here.
     let at = at-range (box_at s.stack start (s ∷ rest)) (length s.stack + 1 - first_new b s.stack) (first_new b s.stack) box here in
-    let d = at.place in
-    let deep : at.place ≤ length s.stack = omega (arith, at.low, at.high) in
-    let split = splits d s.stack rest in
-    let run : run_at d s.stack (s ∷ rest) ≡ s ∷ run_at d s.stack rest = run_at-alike d s.stack s rest (names_shared-self d s.stack deep) in
-    let at_start : start ≡ start + total_weight [] = omega arith in
-    (let r : BehindRun b start (s ∷ rest) box = record {
-      depth = d;
-      before = [];
-      first = s;
-      more = run_at d s.stack rest;
-      after = split.after;
-      parts = ap (λ xs. s ∷ xs) split.parts;
-      deep = deep;
-      alike = split.alike;
-      begins = new-apart b s.stack d at.low;
-      ends = split.ends;
-      is = at.is ∙ (λ i. record { depth = d; name = box_name d s.stack; start = at_start i; weight = total_weight (run i); own = own_weight d (run i) });
-    } in r))
+    subst (BehindRun b start (s ∷ rest)) (sym at.is) (path_here b start at.place s rest at.low (omega (arith, at.low, at.high))).run)
     (λ there.
     let t = box_has_run (Some s.stack) (start + s.weight) rest box there in
-    let at_start : start + s.weight + total_weight t.before ≡ start + total_weight (s ∷ t.before) = omega (arith, total_weight-cons s t.before) in
-    record {
-      depth = t.depth;
-      before = s ∷ t.before;
-      first = t.first;
-      more = t.more;
-      after = t.after;
-      parts = ap (λ xs. s ∷ xs) t.parts;
-      deep = t.deep;
-      alike = t.alike;
-      begins = t.begins;
-      ends = t.ends;
-      is = t.is ∙ (λ i. record { depth = t.depth; name = box_name t.depth t.first.stack; start = at_start i; weight = total_weight (t.first ∷ t.more); own = own_weight t.depth (t.first ∷ t.more) });
-    })
+    (path_later b start s rest box (take t.depth t.first.stack) (record { run = t; names = refl })).run)
     (in-split box (boxes_from (first_new b s.stack) s.stack start (s ∷ rest)) (boxes_after (Some s.stack) (start + s.weight) rest) h)
 
-pub runs_have_boxes : (depth : ℕ) (before : List Sample) (first : Sample) (more after : List Sample) → IsLongestRun depth before first more after →
-    Contains (chart_of (before ++ (first ∷ more ++ after))) (run_box depth before first more)
-runs_have_boxes depth before first more after h =
-    let in_chart = run_has_box None 0 depth before first more after h.deep h.alike h.begins h.ends in
-    let at_start : 0 + total_weight before ≡ total_weight before = omega arith in
-    contains_from _ _ (subst (λ n. In (record { depth = depth; name = box_name depth first.stack; start = n; weight = total_weight (first ∷ more); own = own_weight depth (first ∷ more) }) (chart_of (before ++ (first ∷ more ++ after)))) at_start in_chart)
-
-pub boxes_have_runs : (samples : List Sample) (box : SpanBox) → Contains (chart_of samples) box → IsOfRun samples box
-boxes_have_runs samples box c =
-    let t = box_has_run None 0 samples box (from_contains box (chart_of samples) c) in
+-- the run of a box of a whole timeline
+abbrev pub run_of_behind : (samples : List Sample) (box : SpanBox) → BehindRun None 0 samples box → IsOfRun samples box
+run_of_behind samples box t =
     let at_start : 0 + total_weight t.before ≡ total_weight t.before = omega arith in
     record {
       depth = t.depth;
@@ -204,3 +218,13 @@ boxes_have_runs samples box c =
       longest = record { deep = t.deep; alike = t.alike; begins = t.begins; ends = t.ends };
       is = t.is ∙ (λ i. record { depth = t.depth; name = box_name t.depth t.first.stack; start = at_start i; weight = total_weight (t.first ∷ t.more); own = own_weight t.depth (t.first ∷ t.more) });
     }
+
+pub runs_have_boxes : (depth : ℕ) (before : List Sample) (first : Sample) (more after : List Sample) → IsLongestRun depth before first more after →
+    Contains (chart_of (before ++ (first ∷ more ++ after))) (run_box depth before first more)
+runs_have_boxes depth before first more after h =
+    let in_chart = run_has_box None 0 depth before first more after h.deep h.alike h.begins h.ends in
+    let at_start : 0 + total_weight before ≡ total_weight before = omega arith in
+    contains_from _ _ (subst (λ n. In (record { depth = depth; name = box_name depth first.stack; start = n; weight = total_weight (first ∷ more); own = own_weight depth (first ∷ more) }) (chart_of (before ++ (first ∷ more ++ after)))) at_start in_chart)
+
+pub boxes_have_runs : (samples : List Sample) (box : SpanBox) → Contains (chart_of samples) box → IsOfRun samples box
+boxes_have_runs samples box c = run_of_behind samples box (box_has_run None 0 samples box (from_contains box (chart_of samples) c))

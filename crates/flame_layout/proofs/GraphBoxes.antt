@@ -97,7 +97,7 @@ graph-positive xs h =
 
 -- ---- what a listing meets
 
-each_at : (P : TreeVisit → Type 0) (tree : Tree) (paths : List (List ℕ)) (visits : List TreeVisit) → visits ≡ map (tree_visit tree) paths → ((p : List ℕ) → Contains paths p → P (tree_visit tree p)) → All P visits
+pub each_at : (P : TreeVisit → Type 0) (tree : Tree) (paths : List (List ℕ)) (visits : List TreeVisit) → visits ≡ map (tree_visit tree) paths → ((p : List ℕ) → Contains paths p → P (tree_visit tree p)) → All P visits
 each_at P tree paths visits e h k d l =
     let long : length visits ≡ length paths = ap length e ∙ length-map paths (tree_visit tree) in
     let p = get_or paths k [] in

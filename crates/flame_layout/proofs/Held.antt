@@ -5,7 +5,7 @@ use Rattle.std.specs.List.{AllByRecursion, list_any}
 use Rattle.std.specs.Str.{bytes_eq}
 use Rattle.std.specs.FinMap as tree_map
 use Rattle.std.proofs.lemmas.List.Sums.{sum_by-cons, fold_push, sum_by-append, sum_by_more, sum_by-take-le}
-use Rattle.std.proofs.lemmas.List.{get_or_append_left, length-map, map-append, append-nil, length-append, append_assoc}
+use Rattle.std.proofs.lemmas.List.{get_or_append_left, length-map, map-append, append-nil, length-append, append_assoc, take_more}
 use Rattle.std.specs.Cmp.Lexicographic.{pointwise}
 use Rattle.call_tree.specs.CallTree.{Tree, own_weight, total_weight as tree_total, with_weight}
 use Rattle.call_tree.specs.PathSums.{begins_with, total_of, own_of}
@@ -14,6 +14,7 @@ use Rattle.call_tree.specs.declared.listing.Visit.{Visit as TreeVisit}
 use Rattle.call_tree.specs.Listing.{named, HasNumbersOf, IsListing as IsTreeListing}
 use Rattle.call_tree.proofs.TreeSums.{total_weight-tree_of, own_weight-tree_of}
 use Rattle.stack_core.specs.declared.samples.Sample.{Sample}
+use Rattle.stack_core.specs.Ledgers.{sample_at}
 use Rattle.flame_layout.specs.Timeline.{weight_of, total_weight, drawn}
 use Rattle.flame_layout.specs.Graph.{sorted_by_stack}
 use Rattle.flame_layout.specs.Paths.{total_at, own_at, paths_of, IsRising}
@@ -24,6 +25,7 @@ use Rattle.flame_layout.proofs.Sums.{IsListing, listing_paths}
 use Rattle.flame_layout.proofs.Rising.{Among}
 use Rattle.flame_layout.proofs.ChartLaws.{In}
 use Rattle.flame_layout.proofs.TreeSamples.{IsNamed, sampled, path_in, total_named, own_named, has_numbers, named_visit, rising_named, paths_of_visits, in_paths, paths_in, among_named, each_visit}
+use Rattle.flame_layout.proofs.Timelines.{no_sample}
 use Rattle.flame_layout.proofs.Chained.{Chained, chained_paths, visit_paths_are, numbers_chained}
 
 -- ---- a longer table
@@ -74,7 +76,7 @@ total_le p names (r ∷ rows) = by (begins_with nat_eq p r.0) (sum_by-cons (λ (
     by true e ih = omega (arith, e, ih, sum_by-cons weight_of (record { stack = named names r.0; weight = r.1 }) (sampled names rows))
     by false e ih = omega (arith, e, ih, sum_by-cons weight_of (record { stack = named names r.0; weight = r.1 }) (sampled names rows))
 
-own_le : (p : List ℕ) (names : List (List ℕ)) (rows : List (List ℕ × ℕ)) → own_of nat_eq rows p ≤ total_weight (sampled names rows)
+pub own_le : (p : List ℕ) (names : List (List ℕ)) (rows : List (List ℕ × ℕ)) → own_of nat_eq rows p ≤ total_weight (sampled names rows)
 unfolding own_of
 own_le p names [] = omega arith
 own_le p names (r ∷ rows) = by (pointwise nat_eq p r.0) (sum_by-cons (λ (s : List ℕ × ℕ). if pointwise nat_eq p s.0 then s.1 else 0) r rows) (own_le p names rows)
@@ -164,7 +166,7 @@ held_listing names tree xs visits l h d = record {
       ));
 }
 
-each_path : (P : List ℕ → Type 0) (ps : List (List ℕ)) → ((p : List ℕ) → Contains ps p → P p) → AllByRecursion P ps
+pub each_path : (P : List ℕ → Type 0) (ps : List (List ℕ)) → ((p : List ℕ) → Contains ps p → P p) → AllByRecursion P ps
 each_path P ps h = by ps (λ p m. h p (paths_in p ps m))
   where
     by : (qs : List (List ℕ)) → ((p : List ℕ) → In p qs → P p) → AllByRecursion P qs
@@ -174,13 +176,17 @@ each_path P ps h = by ps (λ p m. h p (paths_in p ps m))
 pub listed_known : (names : List (List ℕ)) (tree : Tree) (xs : List Sample) (visits : List TreeVisit) (l : IsTreeListing names tree visits) → Holds names tree xs → AllByRecursion (IsKnown names) l.paths
 listed_known names tree xs visits l h = each_path (IsKnown names) l.paths (λ p c. holds-known names tree xs h p ((l.members p).0 c))
 
-line_paths : (names : List (List ℕ)) (tree : Tree) (xs : List Sample) (visits : List TreeVisit) (l : IsTreeListing names tree visits) → Holds names tree xs → HasDistinctNames names → paths_of (sorted_by_stack (drawn xs)) ≡ map (named names) l.paths
-line_paths names tree xs visits l h d = listing_paths xs (map (named_visit names tree) l.paths) (held_listing names tree xs visits l h d) ∙ paths_of_visits names tree l.paths
+line_paths : (names : List (List ℕ)) (tree : Tree) (xs : List Sample) (visits : List TreeVisit) (l : IsTreeListing names tree visits) → IsListing (map (named_visit names tree) l.paths) xs → paths_of (sorted_by_stack (drawn xs)) ≡ map (named names) l.paths
+line_paths names tree xs visits l h = listing_paths xs (map (named_visit names tree) l.paths) h ∙ paths_of_visits names tree l.paths
+
+-- each path of a listing goes on from the path before it
+pub listing_chained : (names : List (List ℕ)) (tree : Tree) (xs : List Sample) (visits : List TreeVisit) (l : IsTreeListing names tree visits) → IsListing (map (named_visit names tree) l.paths) xs → AllByRecursion (IsKnown names) l.paths → HasDistinctNames names → Chained [] l.paths
+listing_chained names tree xs visits l h k d =
+    numbers_chained names d l.paths k (subst (λ ps. Chained [] ps) (line_paths names tree xs visits l h) (chained_paths (sorted_by_stack (drawn xs))))
 
 pub visited_paths : (names : List (List ℕ)) (tree : Tree) (xs : List Sample) (visits : List TreeVisit) (l : IsTreeListing names tree visits) → Holds names tree xs → HasDistinctNames names → visit_paths [] visits ≡ l.paths
 visited_paths names tree xs visits l h d =
-    ap (visit_paths []) l.are ∙ visit_paths_are tree [] l.paths (numbers_chained names d l.paths (listed_known names tree xs visits l h)
-    (subst (λ ps. Chained [] ps) (line_paths names tree xs visits l h d) (chained_paths (sorted_by_stack (drawn xs)))))
+    ap (visit_paths []) l.are ∙ visit_paths_are tree [] l.paths (listing_chained names tree xs visits l (held_listing names tree xs visits l h d) (listed_known names tree xs visits l h) d)
 
 rows_are : (names : List (List ℕ)) (before after : Tree) (xs ys : List Sample) → Holds names before xs → Holds names after ys → HasDistinctNames names → (ps : List (List ℕ)) → AllByRecursion (IsKnown names) ps →
     map (pair_row names before after) ps ≡ map (row_of xs ys) (map (named names) ps)
@@ -200,7 +206,7 @@ pub compared : (names : List (List ℕ)) (before after both : Tree) (xs ys : Lis
 compared names before after both xs ys visits l h g b d =
     ap (map (pair_row names before after)) (visited_paths names both (xs ++ ys) visits l b d) ∙
     (rows_are names before after xs ys h g d l.paths (listed_known names both (xs ++ ys) visits l b) ∙
-    ap (map (row_of xs ys)) (sym (line_paths names both (xs ++ ys) visits l b d)))
+    ap (map (row_of xs ys)) (sym (line_paths names both (xs ++ ys) visits l (held_listing names both (xs ++ ys) visits l b d))))
 
 -- ---- a table that gains names
 
@@ -231,3 +237,15 @@ got (y ∷ ys) (suc i) x e = got ys i x e
 pub within-held : (xs samples : List Sample) (at : ℕ) (d : Sample) → at < length samples → total_weight (xs ++ take at samples) + (get_or samples at d).weight ≤ total_weight xs + total_weight samples
 within-held xs samples at d l =
     omega (arith, sum_by-append weight_of xs (take at samples), sum_by_more weight_of samples at d l, sum_by-take-le weight_of samples (at + 1))
+
+-- the next sample of a list, added under the numbers of a table that may have grown
+pub holds-next : (old new : List (List ℕ)) (tree grown : Tree) (xs samples : List Sample) (at : ℕ) (ids : List ℕ) → at < length samples → Holds old tree (xs ++ take at samples) → Grows old new →
+    grown ≡ with_weight tree ids (sample_at samples at).weight → named new ids ≡ (sample_at samples at).stack → IsKnown new ids → Holds new grown (xs ++ take (at + 1) samples)
+holds-next old new tree grown xs samples at ids l h g e n k =
+    let s = sample_at samples at in
+    subst (λ (ys : List Sample). Holds new grown ys) (append_assoc xs (take at samples) (s ∷ []) ∙ ap (λ ys. xs ++ ys) (sym (take_more samples at no_sample l)))
+    (holds-push new tree grown (xs ++ take at samples) s ids (holds-grows old new tree (xs ++ take at samples) h g) e n k)
+
+-- and there is room for it
+pub holds-room : (names : List (List ℕ)) (tree : Tree) (xs samples : List Sample) (at : ℕ) → at < length samples → Holds names tree (xs ++ take at samples) → tree_total tree [] + (sample_at samples at).weight ≤ total_weight xs + total_weight samples
+holds-room names tree xs samples at l h = omega (arith, (holds-small names tree (xs ++ take at samples) h []).0, within-held xs samples at no_sample l)

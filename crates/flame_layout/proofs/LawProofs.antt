@@ -8,8 +8,8 @@ use Rattle.std.proofs.Math.Nat.{div-eq_of_eq-mul_left, div-mul-le_self, le-div_i
 use Rattle.stack_core.specs.declared.samples.Sample.{Sample}
 use Rattle.flame_layout.specs.Timeline.{Stack, total_weight, drawn}
 use Rattle.flame_layout.specs.Chart.{begins_alike, chart_of}
-use Rattle.flame_layout.specs.Graph.{sorted_by_stack}
-use Rattle.flame_layout.specs.Paths.{total_at, paths_of, boxes_of_visits, SameOwn}
+use Rattle.flame_layout.specs.Graph.{sorted_by_stack, graph_of}
+use Rattle.flame_layout.specs.Paths.{total_at, visit_at, paths_of, boxes_of_visits, SameOwn}
 use Rattle.flame_layout.proofs.PathWords.{path_total, visit_of, total_at-is, own_at-is, visit_at-is}
 use Rattle.flame_layout.specs.Laws.{HasOneBoxAPath, AreComparedPaths, SpansWidth}
 use Rattle.flame_layout.proofs.Ascending.{IsPositive, sorted-ascending, sorted-each}
@@ -22,41 +22,51 @@ pub each_from_all : (P : Sample → Type 0) (xs : List Sample) → All P xs → 
 each_from_all P [] h = tt
 each_from_all P (x ∷ xs) h = (h 0 x (omega arith), each_from_all P xs (λ k d l. h (suc k) d (omega arith)))
 
-contains_path : (p : Stack) (ps : List Stack) → Among p ps → Contains ps p
+pub contains_path : (p : Stack) (ps : List Stack) → Among p ps → Contains ps p
 contains_path p [] h = absurd h
 contains_path p (q ∷ qs) h = ⊎_elim (λ e. (0, omega arith, sym e)) (λ m. let c = contains_path p qs m in (suc c.0, omega (arith, c.1), c.2)) h
 
-among_path : (p : Stack) (ps : List Stack) → Contains ps p → Among p ps
+pub among_path : (p : Stack) (ps : List Stack) → Contains ps p → Among p ps
 among_path p [] c = absurd (omega (arith, c.1))
 among_path p (q ∷ qs) (zero, l, e) = inl (sym e)
 among_path p (q ∷ qs) (suc k, l, e) = inr (among_path p qs (k, omega (arith, l), e))
 
 -- the paths of the timeline in order
-weighs : (p : Stack) (xs : List Sample) → Among p (paths_of (sorted_by_stack (drawn xs))) → 0 < path_total p xs
+pub weighs : (p : Stack) (xs : List Sample) → Among p (paths_of (sorted_by_stack (drawn xs))) → 0 < path_total p xs
 weighs p xs m =
     let line = sorted_by_stack (drawn xs) in
     let positive : IsPositive (sorted_by_stack (drawn xs)) = sorted-each (λ s. 0 < s.weight) (drawn xs) (drawn-positive xs) in
     subst (λ n. 0 < n) (timeline_total p xs) (each-among (λ q. 0 < path_total q line) p (paths_of line) (paths_of-weigh line positive) m)
 
-stands : (p : Stack) (xs : List Sample) → 0 < path_total p xs → Among p (paths_of (sorted_by_stack (drawn xs)))
+pub stands : (p : Stack) (xs : List Sample) → 0 < path_total p xs → Among p (paths_of (sorted_by_stack (drawn xs)))
 stands p xs h = paths_of-all p (sorted_by_stack (drawn xs)) (subst (λ n. 0 < n) (sym (timeline_total p xs)) h)
+
+-- the graph of the samples, path by path
+pub graph-visits : (xs : List Sample) → graph_of xs ≡ boxes_of_visits 0 (map (visit_at xs) (paths_of (sorted_by_stack (drawn xs))))
+graph-visits xs =
+    let line = sorted_by_stack (drawn xs) in
+    let same : visit_of (sorted_by_stack (drawn xs)) ≡ visit_of xs = λ i p. record { path = p; own = timeline_own p xs i; total = timeline_total p xs i } in
+    ascending-visits line (sorted-ascending (drawn xs)) ∙ ap (λ f. boxes_of_visits 0 (map f (paths_of line))) (same ∙ sym (visit_at-is xs))
 
 pub one_box_a_path : (xs : List Sample) → HasOneBoxAPath xs
 one_box_a_path xs =
     let line = sorted_by_stack (drawn xs) in
-    let same : visit_of (sorted_by_stack (drawn xs)) ≡ visit_of xs = λ i p. record { path = p; own = timeline_own p xs i; total = timeline_total p xs i } in
     record {
       paths = paths_of line;
       rise = paths_of-rise line (sorted-ascending (drawn xs));
       all = λ path. ((λ c. subst (λ n. 0 < n) (sym (total_at-is path xs)) (weighs path xs (among_path path (paths_of line) c))), (λ h. contains_path path (paths_of line) (stands path xs (subst (λ n. 0 < n) (total_at-is path xs) h))));
-      boxes = ascending-visits line (sorted-ascending (drawn xs)) ∙ ap (λ f. boxes_of_visits 0 (map f (paths_of line))) (same ∙ sym (visit_at-is xs));
+      boxes = graph-visits xs;
     }
+
+-- the total of a path in both profiles
+pub joint_total : (before after : List Sample) (p : Stack) → path_total p (before ++ after) ≡ total_at p before + total_at p after
+joint_total before after p =
+    sum_by-append (λ (t : Sample). cond (begins_alike (length p) p t) t.weight 0) before after ∙ (λ i. sym (total_at-is p before) i + sym (total_at-is p after) i)
 
 pub compared_paths : (before after : List Sample) → AreComparedPaths before after (paths_of (sorted_by_stack (drawn (before ++ after))))
 compared_paths before after =
     let xs = before ++ after in
-    let sums : (p : Stack) → path_total p (before ++ after) ≡ total_at p before + total_at p after =
-    λ p. sum_by-append (λ (t : Sample). cond (begins_alike (length p) p t) t.weight 0) before after ∙ (λ i. sym (total_at-is p before) i + sym (total_at-is p after) i) in
+    let sums = joint_total before after in
     record {
       rise = paths_of-rise (sorted_by_stack (drawn xs)) (sorted-ascending (drawn xs));
       all = λ path. ((λ c. subst (λ n. 0 < n) (sums path) (weighs path xs (among_path path _ c))), (λ h. contains_path path _ (stands path xs (subst (λ n. 0 < n) (sym (sums path)) h))));

@@ -1,9 +1,12 @@
 pub mod Ascending
 pub mod Chained
 pub mod ChartLaws
+pub mod ComparedBoxes
+pub mod Depths
 pub mod Geometry
 pub mod GraphBoxes
 pub mod Held
+pub mod InStep
 pub mod LawProofs
 pub mod Order
 pub mod PathWords

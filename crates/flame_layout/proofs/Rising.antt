@@ -1,5 +1,5 @@
 -- the paths of an ascending timeline: strictly rising, and all that have weight
-use Rattle.std.proofs.Common.{◌≡◌, ℕ, zero, suc, ◌+◌, ◌-◌, ◌≤◌, ◌<◌, List, [], ◌∷◌, ◌++◌, length, take, map, sym, ◌∙◌, ap, subst, refl, arith, ◌⊎◌, inl, inr, ⊎_elim, Some}
+use Rattle.std.proofs.Common.{◌≡◌, ℕ, zero, suc, ◌+◌, ◌-◌, ◌≤◌, ◌<◌, List, [], ◌∷◌, ◌++◌, Bool, true, false, cond, length, take, map, filter, sym, ◌∙◌, ap, subst, refl, arith, ◌⊎◌, inl, inr, ⊎_elim, Some}
 use Rattle.std.specs.List.{AllByRecursion, range_with_len}
 use Rattle.std.proofs.lemmas.List.Sums.{sum_by-cons}
 use Rattle.std.proofs.lemmas.List.{length-take-le, take_all, take-take}
@@ -53,6 +53,40 @@ same_rising (x ∷ xs) (y ∷ ys) r s f g = λ i. first i ∷ same_rising xs ys 
 
     back : (p : Stack) → Among p ys → Among p xs
     back p m = ⊎_elim (λ e. absurd (Lt-irrefl y (subst (λ q. Lt y q) (e ∙ first) (each-among (Lt y) p ys s.0 m)))) (λ n. n) (g p (inr m))
+
+-- ---- those that pass a test
+
+pub each-filter : (P : Stack → Type 0) (t : Stack → Bool) (ps : List Stack) → AllByRecursion P ps → AllByRecursion P (filter t ps)
+each-filter P t [] h = tt
+each-filter P t (p ∷ ps) h = by (t p) (each-filter P t ps h.1)
+  where
+    by : (b : Bool) → AllByRecursion P (filter t ps) → AllByRecursion P (cond b (p ∷ filter t ps) (filter t ps))
+    by true ih = (h.0, ih)
+    by false ih = ih
+
+pub filter-rise : (t : Stack → Bool) (ps : List Stack) → IsRising ps → IsRising (filter t ps)
+filter-rise t [] h = tt
+filter-rise t (p ∷ ps) h = by (t p) (filter-rise t ps h.1)
+  where
+    by : (b : Bool) → IsRising (filter t ps) → IsRising (cond b (p ∷ filter t ps) (filter t ps))
+    by true ih = (each-filter (Lt p) t ps h.0, ih)
+    by false ih = ih
+
+pub among-filter : (t : Stack → Bool) (q : Stack) (ps : List Stack) → Among q ps → t q ≡ true → Among q (filter t ps)
+among-filter t q [] m e = absurd m
+among-filter t q (p ∷ ps) m e = by (t p) refl (λ n. among-filter t q ps n e) m
+  where
+    by : (b : Bool) → t p ≡ b → (Among q ps → Among q (filter t ps)) → Among q (p ∷ ps) → Among q (cond b (p ∷ filter t ps) (filter t ps))
+    by true f ih n = ⊎_elim (λ s. inl s) (λ l. inr (ih l)) n
+    by false f ih n = ⊎_elim (λ s. absurd (let g : true ≡ false = sym e ∙ (ap t s ∙ f) in cc)) ih n
+
+pub passes-filter : (t : Stack → Bool) (q : Stack) (ps : List Stack) → Among q (filter t ps) → t q ≡ true
+passes-filter t q [] m = absurd m
+passes-filter t q (p ∷ ps) m = by (t p) refl (passes-filter t q ps) m
+  where
+    by : (b : Bool) → t p ≡ b → (Among q (filter t ps) → t q ≡ true) → Among q (cond b (p ∷ filter t ps) (filter t ps)) → t q ≡ true
+    by true f ih n = ⊎_elim (λ s. ap t s ∙ f) ih n
+    by false f ih n = ih n
 
 -- ---- the fronts of one stack
 

@@ -10,7 +10,8 @@ use Rattle.flame_layout.specs.Timeline.{Stack, timeline}
 use Rattle.flame_layout.specs.Chart.{chart_of}
 use Rattle.flame_layout.specs.Graph.{graph_of}
 use Rattle.flame_layout.specs.Edges.{placed_at}
-use Rattle.flame_layout.specs.Comparison.{comparison_of}
+use Rattle.flame_layout.specs.declared.boxes.ComparedBox.{ComparedBox}
+use Rattle.flame_layout.specs.Comparison.{comparison_of, compared_boxes_of}
 
 abbrev taken : Stack → ℕ → Sample
 taken stack weight = record { stack = stack; weight = weight }
@@ -72,7 +73,21 @@ pub edges_of_three_lines : map (placed_at 3 10) three_boxes ≡
     placed (spans 0 root 0 3 0) 0 10 ∷ placed (spans 1 a 0 1 1) 0 3 ∷ placed (spans 1 b 1 2 2) 3 10 ∷ []
 edges_of_three_lines = refl
 
-pub comparison : comparison_of (taken (a ∷ []) 3 ∷ taken (b ∷ []) 1 ∷ []) (taken (a ∷ []) 1 ∷ taken (c ∷ []) 2 ∷ []) ≡
+abbrev old : List Sample
+old = taken (a ∷ []) 3 ∷ taken (b ∷ []) 1 ∷ []
+
+abbrev new : List Sample
+new = taken (a ∷ []) 1 ∷ taken (c ∷ []) 2 ∷ []
+
+pub comparison : comparison_of old new ≡
     row [] 4 3 0 0 ∷ row (a ∷ []) 3 1 3 1 ∷ row (b ∷ []) 1 0 1 0 ∷ row (c ∷ []) 0 2 0 2 ∷ []
 unfolding total_of own_of
 comparison = refl
+
+abbrev beside : ℕ → SpanBox → ComparedBox
+beside before span = record { span = span; before = before }
+
+pub comparison_boxes : compared_boxes_of old new ≡
+    beside 4 (spans 0 root 0 3 0) ∷ beside 3 (spans 1 a 0 1 1) ∷ beside 0 (spans 1 c 1 2 2) ∷ []
+unfolding total_of own_of
+comparison_boxes = refl

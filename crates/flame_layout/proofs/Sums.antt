@@ -169,7 +169,7 @@ visits_of-paths : (samples : List Sample) (visits : List Visit) → AllByRecursi
 visits_of-paths samples [] h = refl
 visits_of-paths samples (v ∷ vs) h = λ i. sym (h.0.0) i ∷ visits_of-paths samples vs h.1 i
 
-visits_weigh : (samples : List Sample) (visits : List Visit) → AllByRecursion (λ visit. (visit ≡ visit_of samples visit.path) × (0 < path_total visit.path samples)) visits →
+pub visits_weigh : (samples : List Sample) (visits : List Visit) → AllByRecursion (λ visit. (visit ≡ visit_of samples visit.path) × (0 < path_total visit.path samples)) visits →
     AllByRecursion (λ path. 0 < path_total path samples) (map (λ visit. visit.path) visits)
 visits_weigh samples [] h = tt
 visits_weigh samples (v ∷ vs) h = (h.0.1, visits_weigh samples vs h.1)

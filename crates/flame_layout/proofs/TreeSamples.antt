@@ -36,7 +36,7 @@ use Rattle.call_tree.specs.Listing.{IsListing as IsTreeListing}
 
 -- ---- the own weight of a path as a sum over the entries
 
-equal_is : (r : Ordering) → is_eq r ≡ true → r ≡ Equal
+pub equal_is : (r : Ordering) → is_eq r ≡ true → r ≡ Equal
 equal_is Less e = cc
 equal_is Equal e = refl
 equal_is Greater e = cc

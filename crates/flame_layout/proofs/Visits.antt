@@ -17,7 +17,7 @@ use Rattle.flame_layout.proofs.Shared.{IsAlike, IsAlike-refl, IsAlike-sym, IsAli
 use Rattle.flame_layout.proofs.Order.{Lt, Le, Le-trans, Lt-Le, Lt-irrefl, between_alike, front_Le, front_below}
 use Rattle.flame_layout.proofs.Runs.{own_of_one, own_weight-cons, run_at-alike, run_at-apart}
 use Rattle.flame_layout.proofs.Walked.{own_of_one-deep, own_of_one-shallow}
-use Rattle.flame_layout.proofs.Ascending.{IsAbove, IsAscending, total_of_one, alike_total, one-apart, run_total}
+use Rattle.flame_layout.proofs.Ascending.{IsAbove, IsAscending, total_of_one, alike_total, one-alike, one-apart, run_total}
 
 pub Decides-stack : (a b : Stack) → Decides (pointwise bytes_eq a b) (a ≡ b)
 Decides-stack a b = slice_eq-Decides bytes_eq-Decides a b (pointwise bytes_eq a b) refl
@@ -38,6 +38,20 @@ own_at_path-other path s n = by (pointwise bytes_eq path s.stack) refl
 
 pub path_own-cons : (path : Stack) (s : Sample) (xs : List Sample) → path_own path (s ∷ xs) ≡ own_at_path path s + path_own path xs
 path_own-cons path s xs = sum_by-cons (own_at_path path) s xs
+
+-- what is a path's own is a part of its total
+own_part : (path : Stack) (s : Sample) → own_at_path path s ≤ total_of_one (length path) path s
+own_part path s = by (pointwise bytes_eq path s.stack) refl
+  where
+    by : (b : Bool) → pointwise bytes_eq path s.stack ≡ b → cond b s.weight 0 ≤ total_of_one (length path) path s
+    by true e =
+        let same : path ≡ s.stack = (Decides-stack path s.stack).0 e in
+        omega (arith, one-alike (length path) path s (subst (λ p. IsAlike (length path) path p) same (IsAlike-refl (length path) path (omega arith))))
+    by false e = omega arith
+
+pub own-part : (path : Stack) (xs : List Sample) → path_own path xs ≤ path_total path xs
+own-part path [] = omega arith
+own-part path (s ∷ xs) = omega (arith, path_own-cons path s xs, sum_by-cons (total_of_one (length path) path) s xs, own_part path s, own-part path xs)
 
 -- a front of a stack is alike with it
 pub front-alike : (d : ℕ) (a : Stack) → d ≤ length a → IsAlike d (take d a) a
@@ -135,7 +149,7 @@ box_is d start s before rest whole e l g n = (total, own)
 abbrev visit_box : ℕ → Visit → SpanBox
 visit_box start visit = record { depth = length visit.path; name = box_name (length visit.path) visit.path; start = start; weight = visit.total; own = visit.own }
 
-box_name-front : (d : ℕ) (a : Stack) → box_name d (take d a) ≡ box_name d a
+pub box_name-front : (d : ℕ) (a : Stack) → box_name d (take d a) ≡ box_name d a
 box_name-front zero a = refl
 box_name-front (suc d) a = get_or-take (suc d) a d [] (omega arith)
 

@@ -1,8 +1,11 @@
 use Rattle.std.specs.Prelude.{List, ◌++◌, map}
+use Rattle.std.specs.List.{zip}
 use Rattle.stack_core.specs.declared.samples.Sample.{Sample}
+use Rattle.flame_layout.specs.declared.boxes.SpanBox.{SpanBox}
 use Rattle.flame_layout.specs.declared.boxes.PairRow.{PairRow}
+use Rattle.flame_layout.specs.declared.boxes.ComparedBox.{ComparedBox}
 use Rattle.flame_layout.specs.Timeline.{Stack, drawn}
-use Rattle.flame_layout.specs.Graph.{sorted_by_stack}
+use Rattle.flame_layout.specs.Graph.{sorted_by_stack, graph_of}
 use Rattle.flame_layout.specs.Paths.{total_at, own_at, paths_of}
 
 -- a path with its sums in both profiles
@@ -18,3 +21,11 @@ row_of before after path = record {
 -- the comparison of two profiles: a row for each path of the graph of both together, in its order
 abbrev pub comparison_of : List Sample → List Sample → List PairRow
 comparison_of before after = map (row_of before after) (paths_of (sorted_by_stack (drawn (before ++ after))))
+
+-- a box with the first profile's total of its path
+abbrev pub compared_box : List Sample → SpanBox × Stack → ComparedBox
+compared_box before (span, path) = record { span = span; before = total_at path before }
+
+-- the boxes of the comparison: those of the flame graph of the second profile, each with the first profile's total of its path
+abbrev pub compared_boxes_of : List Sample → List Sample → List ComparedBox
+compared_boxes_of before after = map (compared_box before) (zip (graph_of after) (paths_of (sorted_by_stack (drawn after))))

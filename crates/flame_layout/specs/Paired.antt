@@ -5,6 +5,8 @@ use Rattle.call_tree.specs.CallTree.{Tree, tree_of, own_weight, total_weight}
 use Rattle.call_tree.specs.Listing.{named}
 use Rattle.stack_core.specs.declared.samples.Sample.{Sample}
 use Rattle.flame_layout.specs.declared.boxes.PairRow.{PairRow}
+use Rattle.flame_layout.specs.declared.boxes.ComparedBox.{ComparedBox}
+use Rattle.flame_layout.specs.Chart.{box_name}
 
 -- the path of a visit, by the path of the visit before it
 abbrev pub next_path : List ℕ → Visit → List ℕ
@@ -39,3 +41,16 @@ pub record Holds (names : List (List ℕ)) (tree : Tree) (samples : List Sample)
 -- the table has gained names at its end, or none
 abbrev pub Grows : List (List ℕ) → List (List ℕ) → Type 0
 Grows old new = (more : List (List ℕ)) × (new ≡ old ++ more)
+
+-- the box of a row, which starts at a place
+abbrev pub row_box : ℕ → PairRow → ComparedBox
+row_box start row = record {
+  span = record {
+    depth = length row.path;
+    name = box_name (length row.path) row.path;
+    start = start;
+    weight = row.total_after;
+    own = row.own_after;
+  };
+  before = row.total_before;
+}

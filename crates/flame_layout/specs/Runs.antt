@@ -50,6 +50,13 @@ pub record IsOfRun (samples : List Sample) (box : SpanBox) : Type 0 where
   pub longest : IsLongestRun depth before first more after
   pub is : box ≡ run_box depth before first more
 
+-- a box with its path: the first names of a longest run that it stands for, as many as the box is deep, the last one its name
+pub record HasPath (samples : List Sample) (box : SpanBox) (path : Stack) : Type 0 where
+  pub run : IsOfRun samples box
+  pub names : path ≡ take run.depth run.first.stack
+  pub depth : box.depth ≡ length path
+  pub name : box.name ≡ box_name (length path) path
+
 -- listed by start, then depth
 abbrev pub StandsBefore : SpanBox → SpanBox → Type 0
 StandsBefore one other = (one.start < other.start) ⊎ ((one.start ≡ other.start) × (one.depth < other.depth))

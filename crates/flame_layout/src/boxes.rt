@@ -50,3 +50,13 @@ pub struct PairRow {
     /// The same of the second profile.
     pub own_after: u64,
 }
+
+/// A box of the second profile's flame graph, beside the first profile.
+#[derive(Debug, Drop)]
+pub struct ComparedBox {
+    /// The box, as the second profile alone has it.
+    pub span: SpanBox,
+    /// The sum of the weights of the samples of the first profile whose stack begins with the
+    /// box's path.
+    pub before: u64,
+}

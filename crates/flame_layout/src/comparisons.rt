@@ -8,12 +8,12 @@ ghost use Rattle.call_tree.specs.CallTree.{Tree, total_weight as tree_total, own
 ghost use Rattle.call_tree.specs.FrameTable.{HasDistinctNames};
 ghost use Rattle.call_tree.specs.Listing.{named};
 ghost use Rattle.flame_layout.specs.Timeline.{total_weight};
-ghost use Rattle.flame_layout.specs.Comparison.{comparison_of};
-ghost use Rattle.flame_layout.specs.Paired.{Grows, visit_paths, next_path, pair_row, IsKnown, Holds};
+ghost use Rattle.flame_layout.specs.Comparison.{comparison_of, compared_boxes_of};
+ghost use Rattle.flame_layout.specs.Paired.{Grows, visit_paths, next_path, pair_row, IsKnown, Holds, row_box};
 
-use crate::boxes::PairRow;
+use crate::boxes::{ComparedBox, PairRow, SpanBox};
 use call_tree::{CallTree, FrameTable, Visit};
-use stack_core::{Names, SourceList};
+use stack_core::{Names, SourceList, Text};
 use std::alloc::{AllocError, Global};
 
 /// The comparison of two profiles: a row for each path with weight on either side, the root's
@@ -25,39 +25,45 @@ pub fn compare(
 ) -> Result<Vec<PairRow>, AllocError>
     requires before { total_weight before.now.samples < 2 ^ 64 }
     requires after { total_weight after.now.samples < 2 ^ 64 }
-    ensures { IfOk result (λ rows.
+    ensures rows { IfOk result (λ rows.
         rows.items ≡ comparison_of before.now.samples after.now.samples) }
+    ensures depth { IfOk result (λ rows. All (λ row. length row.path ≤ 4096) rows.items) }
 {
     let mut table = FrameTable::new(alloc);
     let mut left = CallTree::new(alloc)?;
     let mut right = CallTree::new(alloc)?;
     let mut both = CallTree::new(alloc)?;
-    add_list(alloc, &mut table, &mut left, before)?;
-    add_list(alloc, &mut table, &mut both, before)?;
-    add_list(alloc, &mut table, &mut right, after)?;
-    add_list(alloc, &mut table, &mut both, after)?;
+    add_list(alloc, &mut table, &mut left, &mut both, before)?;
+    add_list(alloc, &mut table, &mut right, &mut both, after)?;
     let visits = both.listing(&table)?;
     pair_rows(alloc, &table, &visits, &left, &right)
 }
 
-/// Adds the samples of a list to a tree.
+/// Adds the samples of a list to its own tree and to that of both lists.
 pub(crate) fn add_list(
     alloc: Global,
     table: &mut FrameTable,
-    tree: &mut CallTree,
+    own: &mut CallTree,
+    both: &mut CallTree,
     list: &SourceList,
 ) -> Result<(), AllocError>
-    requires held { (samples : List Sample) × Holds table.old tree.old samples
+    requires own { (samples : List Sample) × Holds table.old own.old samples
+        × (total_weight samples + total_weight list.now.samples < 2 ^ 128) }
+    requires both { (samples : List Sample) × Holds table.old both.old samples
         × (total_weight samples + total_weight list.now.samples < 2 ^ 128) }
     requires distinct { HasDistinctNames table.old }
-    ensures held { OnOk result ((samples : List Sample) → Holds table.old tree.old samples
-        → Holds table.new tree.new (samples ++ list.now.samples)) }
+    ensures own { OnOk result ((samples : List Sample) → Holds table.old own.old samples
+        → Holds table.new own.new (samples ++ list.now.samples)) }
+    ensures both { OnOk result ((samples : List Sample) → Holds table.old both.old samples
+        → Holds table.new both.new (samples ++ list.now.samples)) }
     ensures grows { OnOk result (Grows table.old table.new) }
     ensures distinct { OnOk result (HasDistinctNames table.new) }
+    ensures depth { All (λ sample. length sample.stack ≤ 4096) list.now.samples }
 {
     for at in 0..list.len() {
         let numbers = frame_numbers(alloc, table, list, at)?;
-        tree.add(&numbers, list.weight(at))?;
+        own.add(&numbers, list.weight(at))?;
+        both.add(&numbers, list.weight(at))?;
     }
     Ok(())
 }
@@ -156,4 +162,53 @@ fn names(alloc: Global, table: &FrameTable, path: &[usize]) -> Result<Names, All
         names.push(String::from_str(alloc, table.name(*number))?)?;
     }
     Ok(Names::of(names))
+}
+
+/// The boxes of the flame graph of the second profile, each with the first profile's total of its
+/// path, from the rows of the comparison alone. They are listed by start, then depth.
+pub fn compared_boxes(alloc: Global, rows: &[PairRow]) -> Result<Vec<ComparedBox>, AllocError>
+    requires rows { (before : List Sample) × (after : List Sample)
+        × (rows.now ≡ comparison_of before after) × (total_weight after < 2 ^ 64) }
+    requires depth { All (λ row. length row.path ≤ 4096) rows.now }
+    ensures boxes { IfOk result (λ boxes. (before after : List Sample)
+        → rows.now ≡ comparison_of before after → boxes.items ≡ compared_boxes_of before after) }
+    ensures within { IfOk result (λ boxes. (before after : List Sample)
+        → rows.now ≡ comparison_of before after
+        → All (λ compared. compared.span.start + compared.span.weight ≤ total_weight after)
+        boxes.items) }
+    ensures positive { IfOk result (λ boxes. (before after : List Sample)
+        → rows.now ≡ comparison_of before after → 0 < length boxes.items
+        → 0 < total_weight after) }
+{
+    let mut boxes = Vec::new(alloc);
+    let mut start: u64 = 0;
+    for row in rows {
+        if row.total_after > 0 {
+            boxes.push(compared_box(alloc, row, start)?)?;
+            start += row.own_after;
+        }
+    }
+    Ok(boxes)
+}
+
+/// The box of a row.
+fn compared_box(alloc: Global, row: &PairRow, start: u64) -> Result<ComparedBox, AllocError>
+    requires { length row.now.path ≤ 4096 }
+    ensures { IfOk result (λ compared. compared ≡ row_box start row.now) }
+{
+    let path = row.path.get();
+    let name = match path.last() {
+        Some(name) => name.as_str(),
+        None => "all",
+    };
+    Ok(ComparedBox {
+        span: SpanBox {
+            depth: path.len() as u32,
+            name: Text::of(String::from_str(alloc, name)?),
+            start,
+            weight: row.total_after,
+            own: row.own_after,
+        },
+        before: row.total_before,
+    })
 }

@@ -2,15 +2,16 @@
 //! samples, does nothing, and takes no memory.
 
 ghost use Rattle.std.specs.Prelude.{◌≡◌, ◌+◌, ◌<◌, ◌≤◌, ◌++◌, ◌∷◌, ℕ, List, Contains, All, IsPermutation, map};
+ghost use Rattle.std.specs.List.{AllZip};
 ghost use Rattle.stack_core.specs.declared.samples.Sample.{Sample};
 ghost use Rattle.flame_layout.specs.declared.boxes.SpanBox.{SpanBox};
 ghost use Rattle.flame_layout.specs.Timeline.{drawn, total_weight};
 ghost use Rattle.flame_layout.specs.Chart.{chart_of};
 ghost use Rattle.flame_layout.specs.Graph.{graph_of, sorted_by_stack};
 ghost use Rattle.flame_layout.specs.Edges.{left_edge, right_edge};
-ghost use Rattle.flame_layout.specs.Paths.{SameOwn, paths_of};
-ghost use Rattle.flame_layout.specs.Comparison.{comparison_of, row_of};
-ghost use Rattle.flame_layout.specs.Runs.{IsLongestRun, run_box, IsOfRun, IsListed, DontOverlap, LiesInside};
+ghost use Rattle.flame_layout.specs.Paths.{SameOwn, paths_of, total_at};
+ghost use Rattle.flame_layout.specs.Comparison.{comparison_of, row_of, compared_boxes_of};
+ghost use Rattle.flame_layout.specs.Runs.{IsLongestRun, run_box, IsOfRun, HasPath, IsListed, DontOverlap, LiesInside};
 ghost use Rattle.flame_layout.specs.Laws.{HasOneBoxAPath, AreComparedPaths, SpansWidth};
 
 /// Each longest run of a timeline has its box in the chart.
@@ -25,6 +26,12 @@ pub fn runs_have_boxes()
 pub fn boxes_have_runs()
     ensures { (samples : List Sample) (span : SpanBox) → Contains (chart_of samples) span
         → IsOfRun samples span }
+{}
+
+/// The boxes and the paths of a timeline stand in step, box by box.
+pub fn boxes_have_paths()
+    ensures { (samples : List Sample)
+        → AllZip (HasPath samples) (chart_of samples) (paths_of samples) }
 {}
 
 /// The boxes are listed by start, then depth, so each stands there once.
@@ -87,4 +94,14 @@ pub fn roots_span_the_width()
 pub fn comparisons_have_all_paths()
     ensures { (before after : List Sample)
         → AreComparedPaths before after (paths_of (sorted_by_stack (drawn (before ++ after)))) }
+{}
+
+/// The boxes of a comparison are those of the second profile's graph, each with the first profile's
+/// total of its path.
+pub fn compared_boxes_are_of_the_graph()
+    ensures spans { (before after : List Sample)
+        → map (λ compared. compared.span) (compared_boxes_of before after) ≡ graph_of after }
+    ensures totals { (before after : List Sample)
+        → map (λ compared. compared.before) (compared_boxes_of before after)
+        ≡ map (λ path. total_at path before) (paths_of (sorted_by_stack (drawn after))) }
 {}

@@ -13,9 +13,9 @@ mod tests;
 mod walks;
 mod widths;
 
-pub use boxes::{PairRow, PlacedBox, SpanBox};
+pub use boxes::{ComparedBox, PairRow, PlacedBox, SpanBox};
 pub use charts::chart_boxes;
-pub use comparisons::compare;
+pub use comparisons::{compare, compared_boxes};
 pub use graphs::graph_boxes;
-pub use placing::place;
+pub use placing::{edges, place};
 pub use widths::{MAX_WIDTH, Width};

@@ -1,7 +1,7 @@
 //! Edges in an image.
 
 ghost use Rattle.std.specs.Prelude.{◌≡◌, ℕ, ◌+◌, ◌*◌, ◌/◌, ◌≤◌, ◌<◌, All, IfOk, map, length};
-ghost use Rattle.flame_layout.specs.Edges.{placed_at};
+ghost use Rattle.flame_layout.specs.Edges.{placed_at, left_edge, right_edge};
 
 use crate::boxes::{PlacedBox, SpanBox};
 use crate::widths::Width;
@@ -24,6 +24,18 @@ pub fn place(
         placed.push(placed_box(span, total, width))?;
     }
     Ok(placed)
+}
+
+/// The edges of one box: where it begins and where it ends.
+pub fn edges(span: &SpanBox, total: u64, width: Width) -> (u32, u32)
+    requires within { span.now.start + span.now.weight ≤ total }
+    requires positive { 0 < total }
+    ensures { result ≡ (left_edge total width span.now, right_edge total width span.now) }
+{
+    (
+        edge(span.start, total, width),
+        edge(span.start + span.weight, total, width),
+    )
 }
 
 fn placed_box(span: SpanBox, total: u64, width: Width) -> PlacedBox

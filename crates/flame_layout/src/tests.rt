@@ -1,7 +1,10 @@
 //! Worked examples.
 
 use crate::comparisons::add_list;
-use crate::{PairRow, PlacedBox, SpanBox, Width, chart_boxes, compare, graph_boxes, place};
+use crate::{
+    ComparedBox, PairRow, PlacedBox, SpanBox, Width, chart_boxes, compare, compared_boxes, edges,
+    graph_boxes, place,
+};
 use call_tree::{CallTree, FrameTable};
 use stack_core::{Close, Ledger, Names, Sample, SourceEnd, SourceList};
 use std::alloc::{AllocError, Global};
@@ -65,7 +68,8 @@ fn placed_graph(
     assert!(rt; total < 1_000);
     let mut table = FrameTable::new(alloc);
     let mut tree = CallTree::new(alloc)?;
-    add_list(alloc, &mut table, &mut tree, source)?;
+    let mut both = CallTree::new(alloc)?;
+    add_list(alloc, &mut table, &mut tree, &mut both, source)?;
     let boxes = graph_boxes(alloc, &tree, &table)?;
     place(alloc, boxes, total as u64, width)
 }
@@ -119,6 +123,35 @@ fn shown_placed(alloc: Global, boxes: &[PlacedBox]) -> Result<String, AllocError
         let left = span.left;
         let right = span.right;
         let line = format!(in alloc; "({depth} {name} {start} {weight} {own} {left} {right})")?;
+        text.push_str(&line)?;
+    }
+    Ok(text)
+}
+
+/// The first profile's total, depth, name, start, weight and own weight of each box, and its edges.
+fn shown_compared(
+    rt: &impl Abort,
+    alloc: Global,
+    boxes: &[ComparedBox],
+    total: u64,
+    width: Width,
+) -> Result<String, AllocError> {
+    let mut text = String::new(alloc);
+    for compared in boxes {
+        let span = &compared.span;
+        assert!(rt; total > 0);
+        assert!(rt; span.start <= total);
+        assert!(rt; span.weight <= total - span.start);
+        let (left, right) = edges(span, total, width);
+        let before = compared.before;
+        let depth = span.depth;
+        let name = span.name.get();
+        let start = span.start;
+        let weight = span.weight;
+        let own = span.own;
+        let line = format!(in alloc;
+            "({before} {depth} {name} {start} {weight} {own} {left} {right})"
+        )?;
         text.push_str(&line)?;
     }
     Ok(text)
@@ -191,6 +224,25 @@ fn comparison(rt: HostRuntime) -> Result<(), Fail> {
 }
 
 #[test]
+fn comparison_boxes(rt: HostRuntime) -> Result<(), Fail> {
+    let alloc = rt.alloc();
+    let old: [(&[&str], u64); 2] = [(&["a"], 3), (&["b"], 1)];
+    let new: [(&[&str], u64); 2] = [(&["a"], 1), (&["c"], 2)];
+    let before = list(&rt, alloc, &old)?;
+    let after = list(&rt, alloc, &new)?;
+    let width = Width::of(10).ok_or("no width")?;
+    assert!(rt; before.total() < 1_000);
+    assert!(rt; after.total() < 1_000);
+    let rows = compare(alloc, &before, &after)?;
+    let boxes = compared_boxes(alloc, &rows)?;
+    assert_eq!(rt;
+        shown_compared(&rt, alloc, &boxes, 3, width)?.as_str(),
+        "(4 0 all 0 3 0 0 10)(3 1 a 0 1 1 0 3)(0 1 c 1 2 2 3 10)"
+    );
+    Ok(())
+}
+
+#[test]
 fn graph_of_the_runs(rt: HostRuntime) -> Result<(), Fail> {
     let alloc = rt.alloc();
     let lines: [(&[&str], u64); 3] = [(&["a", "b"], 1), (&["a", "c"], 1), (&["a", "b"], 1)];
@@ -239,6 +291,7 @@ fn widths(rt: HostRuntime) {
 fn laws_take_nothing() {
     crate::laws::runs_have_boxes();
     crate::laws::boxes_have_runs();
+    crate::laws::boxes_have_paths();
     crate::laws::boxes_are_listed();
     crate::laws::graphs_are_their_sums();
     crate::laws::graphs_see_no_order();
@@ -249,4 +302,5 @@ fn laws_take_nothing() {
     crate::laws::edges_keep_order();
     crate::laws::roots_span_the_width();
     crate::laws::comparisons_have_all_paths();
+    crate::laws::compared_boxes_are_of_the_graph();
 }

@@ -13,8 +13,9 @@ use Rattle.std.proofs.lemmas.Bool.{lt-ltb}
 use Rattle.std.proofs.lemmas.Bool.Decides.{nat_tests}
 use Rattle.std.specs.List.{list_all}
 use Rattle.std.proofs.lemmas.List.Sums.{sum_by-append}
-use Rattle.flame_tool.specs.Fold.{Stack, Weighed, stack_cmp, sum_at, stacks_of, merged, are_in_order, weight_at, if_positive}
-use Rattle.flame_tool.specs.Rows.{AreMerged}
+use Rattle.flame_layout.specs.Graph.{stack_cmp}
+use Rattle.flame_layout.specs.Timeline.{Stack}
+use Rattle.flame_tool.specs.Fold.{Weighed, sum_at, stacks_of, merged, are_in_order, weight_at, if_positive}
 
 pub stack_cmp_total : IsTotalOrder stack_cmp
 stack_cmp_total = lists_total nat_list_cmp_total
@@ -201,74 +202,3 @@ sum_at-merged xs q =
 pub merged-append : (xs ys : List Weighed) → merged (merged xs ++ ys) ≡ merged (xs ++ ys)
 merged-append xs ys =
     merged-same _ _ (λ q. sum_at-append (merged xs) ys q ∙ ap (λ n. n + sum_at ys q) (sum_at-merged xs q) ∙ sym (sum_at-append xs ys q))
-
--- ---- rows that are merged already
-
-passed : (p : Weighed → Bool) (rows : List Weighed) → list_all p (filter p rows) ≡ true
-passed p [] = refl
-passed p (row ∷ rows) =
-    elim (p row) as (λ b. p row ≡ b → list_all p (cond b (row ∷ filter p rows) (filter p rows)) ≡ true) [
-      | true ↦ λ e. ap (λ b. b && list_all p (filter p rows)) e ∙ passed p rows
-      | false ↦ λ e. passed p rows
-    ] refl
-
-pub merged-AreMerged : (xs : List Weighed) → AreMerged (merged xs)
-unfolding merged
-merged-AreMerged xs = (is_true _ (merged-in_order xs), passed (λ row. ltb 0 row.1) (map (row_of (sum_at xs)) (stacks_of xs)))
-
--- what is found in rows with weight has some weight
-if_positive-found : (rows : List Weighed) (q : Stack) → T (list_all (λ row. ltb 0 row.1) rows) → if_positive (unwrap_or (weight_at rows q) 0) ≡ weight_at rows q
-if_positive-found [] q h = refl
-if_positive-found (row ∷ rows) q h =
-    elim (is_eq (stack_cmp q row.0)) as (λ b. if_positive (unwrap_or (cond b (Some row.1) (find stack_cmp q rows)) 0) ≡ cond b (Some row.1) (find stack_cmp q rows)) [
-      | true ↦ ap (λ b. cond b (Some row.1) None) (is_true _ (first (ltb 0 row.1) (list_all (λ r. ltb 0 r.1) rows) h))
-      | false ↦ if_positive-found rows q (second (ltb 0 row.1) (list_all (λ r. ltb 0 r.1) rows) h)
-    ]
-
-pub sum_at-AreMerged : (rows : List Weighed) (q : Stack) → AreMerged rows → sum_at rows q ≡ unwrap_or (weight_at rows q) 0
-sum_at-AreMerged rows q is = sum_at-rows rows q (as_true _ is.0)
-
-weight_at-AreMerged : (rows : List Weighed) (q : Stack) → AreMerged rows → weight_at rows q ≡ if_positive (sum_at rows q)
-weight_at-AreMerged rows q is = sym (if_positive-found rows q (as_true _ is.1)) ∙ ap if_positive (sym (sum_at-AreMerged rows q is))
-
-pub merged-AreMerged-same : (rows : List Weighed) → AreMerged rows → rows ≡ merged rows
-merged-AreMerged-same rows is = merged-only rows rows (as_true _ is.0) (λ q. weight_at-AreMerged rows q is)
-
--- a sample without weight changes nothing
-pub merged-weightless : (rows : List Weighed) (k : Stack) → AreMerged rows → rows ≡ merged (rows ++ (k, 0) ∷ [])
-merged-weightless rows k is =
-    merged-AreMerged-same rows is
-    ∙ merged-same rows _ (λ q. sym (sum_at-append rows ((k, 0) ∷ []) q ∙ ap (λ n. sum_at rows q + n) (sum_at-one (k, 0) q ∙ cond_same (is_eq (stack_cmp q k))) ∙ add-zero _))
-
--- a sample with weight goes to the row of its stack
-pub merged-put : (rows : List Weighed) (k : Stack) (w : ℕ) → AreMerged rows → 0 < w → put stack_cmp k (unwrap_or (weight_at rows k) 0 + w) rows ≡ merged (rows ++ (k, w) ∷ [])
-merged-put rows k w is some =
-    merged-only (rows ++ (k, w) ∷ []) _ (is_sorted-put stack_cmp stack_cmp_total k _ rows (as_true _ is.0)) (λ q.
-    find-put stack_cmp stack_cmp_total q k (unwrap_or (weight_at rows k) 0 + w) rows
-    ∙ elim (stack_cmp q k) as (λ o. stack_cmp q k ≡ o → cond (is_eq o) (Some (unwrap_or (weight_at rows k) 0 + w)) (weight_at rows q) ≡ if_positive (sum_at rows q + cond (is_eq o) w 0)) [
-      | Less ↦ λ e. weight_at-AreMerged rows q is ∙ ap if_positive (sym (add-zero _))
-      | Equal ↦ λ e.
-          ap (λ n. Some (n + w)) (sym (sum_at-AreMerged rows k is) ∙ ap (sum_at rows) (sym (stack_cmp_exact q k e)))
-          ∙ sym (if_positive-some (sum_at rows q + w) (omega arith))
-      | Greater ↦ λ e. weight_at-AreMerged rows q is ∙ ap if_positive (sym (add-zero _))
-    ] refl
-    ∙ ap if_positive (sym (sum_at-append rows ((k, w) ∷ []) q ∙ ap (λ n. sum_at rows q + n) (sum_at-one (k, w) q))))
-
--- what is below the first stack of rows in order isn't among the rows
-below_none : (k : Stack) (rows : List Weighed) → T (below_all stack_cmp k rows) → find stack_cmp k rows ≡ None
-below_none k [] h = refl
-below_none k (row ∷ rows) h =
-    elim (stack_cmp k row.0) as (λ o. T (is_lt o && below_all stack_cmp k rows) → cond (is_eq o) (Some row.1) (find stack_cmp k rows) ≡ None) [
-      | Less ↦ λ g. below_none k rows g
-      | Equal ↦ λ g. absurd g
-      | Greater ↦ λ g. absurd g
-    ] h
-
-lower : (k x : Stack) (rows : List Weighed) → stack_cmp k x ≡ Less → T (below_all stack_cmp x rows) → T (below_all stack_cmp k rows)
-lower k x [] e h = tt
-lower k x (row ∷ rows) e h =
-    let less = less_from (stack_cmp x row.0) (first (is_lt (stack_cmp x row.0)) (below_all stack_cmp x rows) h) in
-    as_true _ (ap (λ o. is_lt o && below_all stack_cmp k rows) (stack_cmp_total.trans k x row.0 e less) ∙ is_true _ (lower k x rows e (second (is_lt (stack_cmp x row.0)) (below_all stack_cmp x rows) h)))
-
-pub below_missing : (k x : Stack) (rows : List Weighed) → stack_cmp k x ≡ Less → T (below_all stack_cmp x rows) → find stack_cmp k rows ≡ None
-below_missing k x rows e h = below_none k rows (lower k x rows e h)

@@ -1,25 +1,17 @@
 -- Fold text: a line for each stack with weight, in order, with the sum of the weights of its samples.
 use Rattle.std.specs.Prelude.{ℕ, List, [], ◌∷◌, map, filter, sum_by, nat_lt, if◌then◌else◌, Bool, Option, Some, None}
-use Rattle.std.specs.declared.cmp.Ordering.{Ordering}
 use Rattle.std.specs.List.{flat_map}
-use Rattle.std.specs.Ordering.{nat_cmp, is_eq}
-use Rattle.std.specs.Cmp.Lexicographic.{slice_cmp}
+use Rattle.std.specs.Ordering.{is_eq}
 use Rattle.std.specs.BTreeSet.{insert_key}
 use Rattle.std.specs.FinMap.Entries.{find, is_sorted}
 use Rattle.folded_lines.specs.Writing.{line_of}
 use Rattle.stack_core.specs.declared.samples.Sample.{Sample}
-
--- the names of a stack, root first, each as its bytes
-abbrev pub Stack : Type 0
-Stack = List (List ℕ)
+use Rattle.flame_layout.specs.Graph.{stack_cmp}
+use Rattle.flame_layout.specs.Timeline.{Stack}
 
 -- a stack and a weight: a sample, or a row of sums
 abbrev pub Weighed : Type 0
 Weighed = Stack × ℕ
-
--- the order of stacks: name by name, names by their bytes
-abbrev pub stack_cmp : Stack → Stack → Ordering
-stack_cmp = slice_cmp (slice_cmp nat_cmp)
 
 -- the sum of the weights of a stack's samples
 unfoldable pub sum_at : List Weighed → Stack → ℕ

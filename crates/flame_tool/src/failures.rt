@@ -1,48 +1,59 @@
 //! Why a run fails.
 ghost use Rattle.std.specs.Prelude.{◌≡◌};
-ghost use Rattle.flame_tool.specs.Runs.{status_of, failure_of};
+ghost use Rattle.flame_tool.specs.Runs.{status_of, failure_of_load, failure_of_collect};
 ghost use Rattle.flame_tool.specs.declared.failures.Failure.TheVariants.{OutOfMemory, Output};
 
 use crate::loading::LoadFault;
 use crate::sending::SendFault;
-use stack_core::ReadFault;
+use ring_collect::CollectFault;
 use std::alloc::AllocError;
 
-// Why a run failed.
+// Why a run failed. Sources are counted from 0.
 #[derive(Clone, Copy, Debug, PartialEq, Eq)]
 pub(crate) enum Failure {
-    // The input can't be read.
-    Unreadable,
-    // The input has too many bytes.
-    TooLarge,
+    // There are more files than a run takes.
+    TooManyFiles,
+    // The source can't be read.
+    Unreadable { source: usize },
+    // The source has too many bytes.
+    TooLarge { source: usize },
     // There was no memory.
     OutOfMemory,
-    // The input has a fault.
-    Fault(ReadFault),
+    // There was no thread for a source.
+    NoThread,
+    // It isn't known whether all of the source was received.
+    Unfinished { source: u32 },
+    // A source has a fault, or several have; each was told.
+    Faults,
     // The output can't be written.
     Output,
 }
 
 impl Failure {
+    // The failure of a run for which the source could not be loaded.
+    pub(crate) fn of_load(source: usize, fault: LoadFault) -> Failure
+        ensures { result ≡ failure_of_load source fault }
+    {
+        match fault {
+            LoadFault::Io => Failure::Unreadable { source },
+            LoadFault::TooLarge => Failure::TooLarge { source },
+            LoadFault::OutOfMemory => Failure::OutOfMemory,
+        }
+    }
+
     // The exit status of the run.
     pub(crate) fn status(self) -> u8
         ensures { result ≡ status_of self }
     {
         match self {
-            Failure::Fault(_) => 1,
-            Failure::Unreadable | Failure::TooLarge | Failure::OutOfMemory | Failure::Output => 3,
-        }
-    }
-}
-
-impl From<LoadFault> for Failure {
-    ghost from_gives = { λ fault failure. failure ≡ failure_of fault };
-
-    fn from(fault: LoadFault) -> Failure {
-        match fault {
-            LoadFault::Io => Failure::Unreadable,
-            LoadFault::TooLarge => Failure::TooLarge,
-            LoadFault::OutOfMemory => Failure::OutOfMemory,
+            Failure::Faults => 1,
+            Failure::TooManyFiles => 2,
+            Failure::Unreadable { source: _ }
+            | Failure::TooLarge { source: _ }
+            | Failure::OutOfMemory
+            | Failure::NoThread
+            | Failure::Unfinished { source: _ }
+            | Failure::Output => 3,
         }
     }
 }
@@ -52,6 +63,18 @@ impl From<AllocError> for Failure {
 
     fn from(_error: AllocError) -> Failure {
         Failure::OutOfMemory
+    }
+}
+
+impl From<CollectFault> for Failure {
+    ghost from_gives = { λ fault failure. failure ≡ failure_of_collect fault };
+
+    fn from(fault: CollectFault) -> Failure {
+        match fault {
+            CollectFault::OutOfMemory => Failure::OutOfMemory,
+            CollectFault::NoThread => Failure::NoThread,
+            CollectFault::Unfinished { source } => Failure::Unfinished { source },
+        }
     }
 }
 

@@ -7,26 +7,55 @@ use crate::failures::Failure;
 use crate::outlet::Outlet;
 use crate::sending::send;
 use itoa::Buffer;
-use stack_core::ReadKind;
+use stack_core::{ReadKind, SourceEnd};
 
-// Says that words were given.
-pub(crate) fn tell_refused<E: Outlet>(err: &mut E) {
-    tell(err, &["words refused"]);
+// What messages call the standard input.
+const INPUT: &str = "-";
+
+// What messages call a source of these files: its path, or the standard input where there is no file.
+fn path_of(files: &[String], source: usize) -> &str {
+    match files.get(source) {
+        Some(path) => path.as_str(),
+        None => INPUT,
+    }
 }
 
-// Says why a run failed over the source of that path.
-pub(crate) fn tell_failure<E: Outlet>(err: &mut E, path: &str, failure: Failure) {
+// Says why a run over these files failed.
+pub(crate) fn tell_failure<E: Outlet>(err: &mut E, files: &[String], failure: Failure) {
     match failure {
-        Failure::Unreadable => tell(err, &[path, ": cannot be read"]),
-        Failure::TooLarge => tell(err, &[path, ": too large"]),
+        Failure::TooManyFiles => tell(err, &["too many files"]),
+        Failure::Unreadable { source } => {
+            tell(err, &[path_of(files, source), ": cannot be read"]);
+        }
+        Failure::TooLarge { source } => tell(err, &[path_of(files, source), ": too large"]),
         Failure::OutOfMemory => tell(err, &["out of memory"]),
-        Failure::Fault(fault) => tell_fault(err, path, kind_name(fault.kind), fault.at),
+        Failure::NoThread => tell(err, &["no thread"]),
+        Failure::Unfinished { source } => {
+            tell(err, &[path_of(files, source as usize), ": unfinished"]);
+        }
+        Failure::Faults => {}
         Failure::Output => tell(err, &["output failed"]),
     }
 }
 
+// Says what there is to say of the ending of a source: its fault, or how many lines were ignored, if
+// any were.
+pub(crate) fn tell_ending<E: Outlet>(
+    err: &mut E,
+    files: &[String],
+    source: usize,
+    ending: &SourceEnd,
+) {
+    let path = path_of(files, source);
+    match ending {
+        SourceEnd::Clean { ignored } => tell_ignored(err, path, *ignored),
+        SourceEnd::Fault(fault) => tell_fault(err, path, kind_name(fault.kind), fault.at),
+        SourceEnd::Stopped { after: _ } => {}
+    }
+}
+
 // Says how many lines of the source were ignored, if any were.
-pub(crate) fn tell_ignored<E: Outlet>(err: &mut E, path: &str, ignored: u64) {
+fn tell_ignored<E: Outlet>(err: &mut E, path: &str, ignored: u64) {
     if ignored > 0 {
         let mut digits = Buffer::new();
         tell(err, &[path, ": ignored ", digits.format(ignored)]);

@@ -1,28 +1,35 @@
 //! A run of the program.
-ghost use Rattle.std.specs.Prelude.{◌≡◌, ◌<◌, ◌≤◌, ◌↔◌, IfSome, IfErr, OnOk, vec_len, take};
+ghost use Rattle.std.specs.Prelude.{◌≡◌, ◌≢◌, ◌≤◌, ◌<◌, [], false, IfSome, IfErr, OnOk, vec_len, length};
 ghost use Rattle.std.specs.Io.KnownBytes.{Appends, Keeps};
 ghost use Rattle.folded_lines.specs.Reading.{read_folded};
-ghost use Rattle.flame_tool.specs.Fold.{lines_of};
-ghost use Rattle.flame_tool.specs.Runs.{IsClean, IsFault, text_of, Succeeds, GainsFront, SendsFront, Fails, KeepsOutput};
+ghost use Rattle.flame_layout.specs.Timeline.{samples_of};
+ghost use Rattle.flame_tool.specs.Plans.{IsComparison};
+ghost use Rattle.flame_tool.specs.Texts.{view_text};
+ghost use Rattle.flame_tool.specs.Runs.{IsClean, IsFault, IsFoldOfInput, text_of, has_fault, Succeeds, GainsFront, Fails, FailsToShow, KeepsOutput};
 
+use crate::endings::{any_fault, tell_endings};
 use crate::failures::Failure;
 use crate::files::Files;
-use crate::merging::StackSums;
-use crate::messages::{tell_failure, tell_ignored, tell_refused};
+use crate::gathering::{Gathered, gather};
+use crate::messages::tell_failure;
+use crate::opening::open_sources;
 use crate::outlet::Outlet;
+use crate::planning::{plan, plan_without_words};
+use crate::plans::{Plan, PlanFault, View};
+use crate::rendering::append_view;
 use crate::sending::send;
-use crate::summing::read_sums;
-use folded_lines::FoldedReader;
-use stack_core::SourceEnd;
-use std::alloc::Global;
+use stack_core::OpenGate;
+use std::alloc::{AllocError, Global};
+use std::sync::{Arc, Wait};
+use std::thread::Threads;
 
-// What messages call the input.
-const INPUT: &str = "-";
-
-/// Runs the program with the words after its name, and answers its exit status. Without words it
-/// writes the fold text of the input, which is folded text. Any words are refused. Messages go to
-/// `err`, a line each, and a failure to write them changes nothing.
-pub fn run<F: Files, W: Outlet, E: Outlet>(
+/// Runs the program with the words after its name, and answers its exit status: 0 where it wrote what was
+/// asked for, 1 where a source has a fault, 2 where the words are refused, and 3 where a source can't be
+/// read, there is no memory or no thread, or the output fails. Without words it writes the fold text of the
+/// input, which is folded text. Messages go to `err`, a line each, and a failure to write them changes
+/// nothing.
+pub fn run<T: Threads + Wait + Copy + Send + 'static, F: Files, W: Outlet, E: Outlet>(
+    rt: &T,
     alloc: Global,
     words: Vec<String>,
     files: &mut F,
@@ -30,90 +37,143 @@ pub fn run<F: Files, W: Outlet, E: Outlet>(
     err: &mut E,
 ) -> u8
     ensures status { result ≤ 3 }
-    ensures words { (result ≡ 2) ↔ (0 < vec_len words) }
+    ensures no_words { vec_len words ≡ 0 → result ≢ 2 }
 
-    // 0 is success: the input has no fault, and its whole fold text went out.
-    ensures clean { result ≡ 0 → IfSome (F.told_input files.old) (λ input.
+    // Without words 0 is success: the input has no fault, and its whole fold text went out.
+    ensures clean { vec_len words ≡ 0 → result ≡ 0 → IfSome (F.told_input files.old) (λ input.
         IsClean (read_folded input).ending) }
-    ensures text { result ≡ 0 → IfSome (F.told_input files.old) (λ input.
+    ensures text { vec_len words ≡ 0 → result ≡ 0 → IfSome (F.told_input files.old) (λ input.
         Appends (W.contents out.old) (W.contents out.new) (text_of input)) }
 
-    // 1 is a fault of the input, and 2 are words: nothing is written.
-    ensures fault { result ≡ 1 → IfSome (F.told_input files.old) (λ input.
+    // 1 is a fault of a source, and 2 are words that are refused: nothing is written.
+    ensures fault { vec_len words ≡ 0 → result ≡ 1 → IfSome (F.told_input files.old) (λ input.
         IsFault (read_folded input).ending) }
     ensures unwritten { result ≡ 1 → Keeps (W.contents out.old) (W.contents out.new) }
     ensures refused { result ≡ 2 → Keeps (W.contents out.old) (W.contents out.new) }
 
-    // 3 is want of memory, an input that was not loaded, or an output that failed on the way.
-    ensures front { result ≡ 3 → IfSome (F.told_input files.old) (λ input.
+    // 3 is want of memory or a thread, an input that was not loaded, or an output that failed on the way.
+    ensures front { vec_len words ≡ 0 → result ≡ 3 → IfSome (F.told_input files.old) (λ input.
         GainsFront input (W.contents out.old) (W.contents out.new)) }
 {
-    if !words.is_empty() {
-        tell_refused(err);
-        return 2;
+    if words.is_empty() {
+        return follow(rt, alloc, plan_without_words(alloc), files, out, err);
     }
-    match fold_input(alloc, files, out, err) {
+    match plan(alloc, words.as_slice()) {
+        Ok(plan) => follow(rt, alloc, plan, files, out, err),
+        Err(fault) => refuse(fault, out, err),
+    }
+}
+
+// Says what is wrong with the words, or the help that they ask for.
+fn refuse<W: Outlet, E: Outlet>(fault: PlanFault, out: &mut W, err: &mut E) -> u8
+    ensures status { result ≤ 3 }
+    ensures no_fault { result ≢ 1 }
+    ensures refused { result ≡ 2 → Keeps (W.contents out.old) (W.contents out.new) }
+{
+    match fault {
+        PlanFault::Words(text) => {
+            let _ = send(text.as_bytes(), err);
+            2
+        }
+        PlanFault::Help(text) => match send(text.as_bytes(), out) {
+            Ok(()) => 0,
+            Err(_) => {
+                tell_failure(err, &[], Failure::Output);
+                3
+            }
+        },
+        PlanFault::OutOfMemory => {
+            tell_failure(err, &[], Failure::OutOfMemory);
+            3
+        }
+    }
+}
+
+// Does what the plan says.
+fn follow<T: Threads + Wait + Copy + Send + 'static, F: Files, W: Outlet, E: Outlet>(
+    rt: &T,
+    alloc: Global,
+    plan: Plan,
+    files: &mut F,
+    out: &mut W,
+    err: &mut E,
+) -> u8
+    requires pairs { IsComparison plan.view → length plan.files ≡ 2 }
+    requires every { IfSome plan.options.every (λ every. 1 ≤ every) }
+    ensures status { result ≤ 3 }
+    ensures few { plan.files ≡ [] → result ≢ 2 }
+    ensures clean { IsFoldOfInput plan → result ≡ 0 → IfSome (F.told_input files.old) (λ input.
+        IsClean (read_folded input).ending) }
+    ensures text { IsFoldOfInput plan → result ≡ 0 → IfSome (F.told_input files.old) (λ input.
+        Appends (W.contents out.old) (W.contents out.new) (text_of input)) }
+    ensures fault { IsFoldOfInput plan → result ≡ 1 → IfSome (F.told_input files.old) (λ input.
+        IsFault (read_folded input).ending) }
+    ensures unwritten { result ≡ 1 → Keeps (W.contents out.old) (W.contents out.new) }
+    ensures refused { result ≡ 2 → Keeps (W.contents out.old) (W.contents out.new) }
+    ensures front { IsFoldOfInput plan → result ≡ 3 → IfSome (F.told_input files.old) (λ input.
+        GainsFront input (W.contents out.old) (W.contents out.new)) }
+{
+    match show(rt, alloc, &plan, files, out, err) {
         Ok(()) => 0,
         Err(failure) => {
-            tell_failure(err, INPUT, failure);
+            tell_failure(err, plan.files.get(), failure);
             failure.status()
         }
     }
 }
 
-// Writes the fold text of the input.
-fn fold_input<F: Files, W: Outlet, E: Outlet>(
+fn open_gate(alloc: Global) -> Result<Arc<OpenGate>, AllocError> {
+    Ok(Arc::new(alloc, OpenGate)?)
+}
+
+// Reads the sources, collects their samples, and writes the view of them.
+fn show<T: Threads + Wait + Copy + Send + 'static, F: Files, W: Outlet, E: Outlet>(
+    rt: &T,
     alloc: Global,
+    plan: &Plan,
     files: &mut F,
     out: &mut W,
     err: &mut E,
 ) -> Result<(), Failure>
-    ensures ok { OnOk result (IfSome (F.told_input files.old) (λ input.
+    requires pairs { IsComparison plan.now.view → length plan.now.files ≡ 2 }
+    requires every { IfSome plan.now.options.every (λ every. 1 ≤ every) }
+    ensures ok { OnOk result (IsFoldOfInput plan.now → IfSome (F.told_input files.old) (λ input.
         Succeeds input (W.contents out.old) (W.contents out.new))) }
-    ensures err { IfErr result (λ failure. IfSome (F.told_input files.old) (λ input.
+    ensures err { IfErr result (λ failure. IsFoldOfInput plan.now
+        → IfSome (F.told_input files.old) (λ input.
         Fails input (W.contents out.old) (W.contents out.new) failure)) }
     ensures kept { IfErr result (λ failure.
         KeepsOutput (W.contents out.old) (W.contents out.new) failure) }
+    ensures few { plan.now.files ≡ [] → result ≢ Err Failure.TooManyFiles }
 {
-    let bytes = files.input(alloc)?;
-    fold_bytes(alloc, bytes, out, err)
+    let paths = plan.files.get();
+    let sources = open_sources(alloc, files, paths)?;
+    let gathered = gather(rt, alloc, sources, &plan.options, open_gate(alloc)?)?;
+    tell_endings(err, paths, gathered.lists());
+    send_view(alloc, &gathered, plan.view, out)
 }
 
-// Writes the fold text of some folded bytes.
-fn fold_bytes<W: Outlet, E: Outlet>(
+// Writes the view of what was collected, unless a source has a fault. All of the text is made before the
+// first of it goes out.
+fn send_view<W: Outlet>(
     alloc: Global,
-    bytes: Vec<u8>,
+    gathered: &Gathered,
+    view: View,
     out: &mut W,
-    err: &mut E,
 ) -> Result<(), Failure>
-    ensures ok { OnOk result
-        (Succeeds bytes.items (W.contents out.old) (W.contents out.new)) }
-    ensures err { IfErr result (λ failure.
-        Fails bytes.items (W.contents out.old) (W.contents out.new) failure) }
-    ensures kept { IfErr result (λ failure.
-        KeepsOutput (W.contents out.old) (W.contents out.new) failure) }
+    requires pairs { IsComparison view → length gathered.now.lists ≡ 2 }
+    ensures faultless { OnOk result (has_fault gathered.now.lists ≡ false) }
+    ensures ok { OnOk result (Appends (W.contents out.old) (W.contents out.new)
+        (view_text view (samples_of gathered.now.lists) gathered.now.order gathered.now.every)) }
+    ensures err { IfErr result (FailsToShow gathered.now.lists
+        (view_text view (samples_of gathered.now.lists) gathered.now.order gathered.now.every)
+        (W.contents out.old) (W.contents out.new)) }
 {
-    let mut reader = FoldedReader::over(bytes);
-    let (sums, ending) = read_sums(alloc, &mut reader)?;
-    match ending {
-        SourceEnd::Clean { ignored } => {
-            tell_ignored(err, INPUT, ignored);
-            send_lines(alloc, &sums, out)
-        }
-        SourceEnd::Fault(fault) => Err(Failure::Fault(fault)),
-        SourceEnd::Stopped { after: _ } => unreachable!(),
+    if any_fault(gathered.lists()) {
+        return Err(Failure::Faults);
     }
-}
-
-// Writes the lines of the sums, all made before the first goes out.
-fn send_lines<W: Outlet>(alloc: Global, sums: &StackSums, out: &mut W) -> Result<(), Failure>
-    ensures ok { OnOk result
-        (Appends (W.contents out.old) (W.contents out.new) (lines_of sums.now)) }
-    ensures err { IfErr result (λ failure. SendsFront (lines_of sums.now)
-        (W.contents out.old) (W.contents out.new) failure) }
-{
     let mut text = Vec::new(alloc);
-    sums.append_lines(alloc, &mut text)?;
+    append_view(alloc, gathered, view, &mut text)?;
     send(text.as_slice(), out)?;
     Ok(())
 }

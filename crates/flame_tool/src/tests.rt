@@ -2,4 +2,5 @@
 mod edge;
 mod fakes;
 mod fold;
-mod runs;
+mod lines;
+mod words;

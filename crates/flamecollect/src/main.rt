@@ -1,5 +1,5 @@
-//! Merges folded stack samples: reads them on standard input, and writes a line for each stack, with
-//! the sum of its counts, on standard output.
+//! Draws flame graphs and flame charts of recorded stack samples, and merges and compares them: reads pprof
+//! profiles and folded stacks, and writes text and JSON on standard output.
 #![tactic(auto)]
 
 use flame_tool::{CountedWriter, MachineFiles, run};
@@ -15,7 +15,7 @@ fn main(rt: HostRuntime) -> ExitCode {
             let mut files = MachineFiles::new(&rt);
             let mut out = CountedWriter::new(rt.stdout());
             let mut err = CountedWriter::new(rt.stderr());
-            run(alloc, words, &mut files, &mut out, &mut err)
+            run(&rt, alloc, words, &mut files, &mut out, &mut err)
         }
         Err(error) => match error.kind() {
             ErrorKind::OutOfMemory => {

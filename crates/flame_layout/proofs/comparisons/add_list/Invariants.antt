@@ -6,7 +6,8 @@ use Rattle.flame_layout.proofs.comparisons.add_list.Given as goal
 
 abbrev pub invariant-loop-at : goal.invariant-loop-at
 invariant-loop-at l = record {
-  held : (samples : List Sample) → Holds l.fn.table l.fn.tree samples → Holds l.table l.tree (samples ++ take l.at l.list.samples);
+  own : (samples : List Sample) → Holds l.fn.table l.fn.own samples → Holds l.table l.own (samples ++ take l.at l.list.samples);
+  both : (samples : List Sample) → Holds l.fn.table l.fn.both samples → Holds l.table l.both (samples ++ take l.at l.list.samples);
   grows : Grows l.fn.table l.table;
   distinct : HasDistinctNames l.table;
 }

@@ -1,0 +1,5 @@
+//! Tests that cross all crates: bytes of sources in, texts, statuses and messages out.
+#![tactic(auto)]
+
+#[cfg(test)]
+mod tests;

@@ -1,0 +1,5 @@
+//! Worked examples, run through the whole program.
+mod answers;
+mod folded;
+mod pictures;
+mod profiles;

@@ -1,0 +1,179 @@
+-- What follows of rows that were merged.
+use Rattle.std.proofs.Common.{◌≡◌, ◌<◌, ◌≤◌, ◌+◌, ◌*◌, ◌-◌, ◌^◌, ℕ, zero, suc, List, [], ◌∷◌, ◌++◌, length, get_or, take, map, sym, ap, ◌∙◌, subst, arith, refl, Option, All}
+use Rattle.std.specs.List.{AllByRecursion}
+use Rattle.std.specs.Option.{option_to_list}
+use Rattle.std.proofs.lemmas.List.{map-id, take-map, length-map, map_push, length-append}
+use Rattle.std.proofs.lemmas.List.Elements.{All-map, All-weaker, All-push}
+use Rattle.std.proofs.lemmas.List.Sums.{sum_by-cons}
+use Rattle.std.proofs.lemmas.Simd.{map-map}
+use Rattle.stack_core.specs.declared.samples.Sample.{Sample}
+use Rattle.stack_core.specs.Interleaving.{sources_of}
+use Rattle.call_tree.specs.CallTree.{Tree, tree_of, with_weight, total_weight}
+use Rattle.call_tree.specs.FrameTable.{HasDistinctNames}
+use Rattle.call_tree.specs.Listing.{named}
+use Rattle.flame_layout.specs.Paired.{Grows, IsKnown, Holds}
+use Rattle.flame_layout.specs.Timeline.{total_weight as weight_sum}
+use Rattle.flame_layout.proofs.Held.{known-grows, named-grows, each-push, holds-small}
+use Rattle.flame_tool.specs.declared.snapshots.Snapshot.{Snapshot}
+use Rattle.flame_tool.specs.Sums.{HasSumsOf}
+use Rattle.flame_tool.specs.Snapshots.{snapshot_places, snapshot_counts, samples_of_pairs, first_samples, IsSnapshot, AreSnapshots}
+use Rattle.ring_collect.specs.Telling.{GrowsTo}
+use Rattle.stack_core.proofs.Spans.{map_agree}
+use Rattle.flame_tool.specs.declared.taken_rows.TakenSpan.{TakenSpan}
+use Rattle.flame_tool.specs.TakenRows.{TakenRow, row_of, rows_of, IsWithin, pair_of, pairs_of, order_of, paths_of}
+use Rattle.flame_tool.proofs.RowLemmas.{slice_range-append}
+use Rattle.flame_tool.specs.Merging.{IsNumbered, AreMerged, IsTreeSink, IsRowFor, snapshot_of, due_after}
+use Rattle.flame_tool.proofs.SumLemmas.{sums-held}
+use Rattle.flame_tool.proofs.SnapshotLemmas.{tree_of-push, snapshots_of-push}
+
+-- ---- the tree of rows holds their samples
+
+paths_known : (names : List (List ℕ)) (rows : List TakenRow) → AllByRecursion (IsNumbered names) rows → AllByRecursion (λ path. IsKnown names path.0) (paths_of rows)
+paths_known names [] h = tt
+paths_known names (row ∷ rows) h = (h.0.known, paths_known names rows h.1)
+
+samples_of-rows : (names : List (List ℕ)) (rows : List TakenRow) → samples_of_pairs (pairs_of names rows) ≡ map (λ path. record { stack = named names path.0; weight = path.1 }) (paths_of rows)
+samples_of-rows names [] = refl
+samples_of-rows names (row ∷ rows) = ap (λ rest. record { stack = named names row.numbers; weight = row.weight } ∷ rest) (samples_of-rows names rows)
+
+pub holds-rows : (names : List (List ℕ)) (rows : List TakenRow) → AllByRecursion (IsNumbered names) rows → Holds names (tree_of (paths_of rows)) (samples_of_pairs (pairs_of names rows))
+holds-rows names rows h = record {
+  rows = paths_of rows;
+  tree_is = refl;
+  samples_are = samples_of-rows names rows;
+  known = paths_known names rows h;
+}
+
+numbered-take : (names : List (List ℕ)) (m : ℕ) (rows : List TakenRow) → AllByRecursion (IsNumbered names) rows → AllByRecursion (IsNumbered names) (take m rows)
+numbered-take names zero rows h = tt
+numbered-take names (suc m) [] h = tt
+numbered-take names (suc m) (row ∷ rows) h = (h.0, numbered-take names m rows h.1)
+
+-- ---- the sums of a sink, and its snapshots
+
+pub merged_sums : (every : Option ℕ) (names : List (List ℕ)) (tree : Tree) (rows : List TakenRow) (snapshots : List Snapshot) → AreMerged every names tree rows snapshots → HasSumsOf names tree (samples_of_pairs (pairs_of names rows))
+merged_sums every names tree rows snapshots h =
+    subst (λ (t : Tree). HasSumsOf names t (samples_of_pairs (pairs_of names rows))) (sym h.tree_is) (sums-held names (tree_of (paths_of rows)) (samples_of_pairs (pairs_of names rows)) (holds-rows names rows h.numbered) h.distinct)
+
+sources_of-rows : (names : List (List ℕ)) (rows : List TakenRow) → order_of rows ≡ sources_of (pairs_of names rows)
+sources_of-rows names rows = sym (map-map (λ pair. pair.0) (pair_of names) rows)
+
+snapshot_is : (names : List (List ℕ)) (rows : List TakenRow) → HasDistinctNames names → AllByRecursion (IsNumbered names) rows → (m : ℕ) → IsSnapshot names (sources_of (pairs_of names rows)) (first_samples (pairs_of names rows)) (snapshot_of rows m)
+snapshot_is names rows distinct numbered m = record {
+  counts = ap (snapshot_counts m) (sources_of-rows names rows);
+  sums =
+      let first = numbered-take names m rows numbered in
+      let held = sums-held names (tree_of (paths_of (take m rows))) (samples_of_pairs (pairs_of names (take m rows))) (holds-rows names (take m rows) first) distinct in
+      subst (λ (pairs : List (ℕ × Sample)). HasSumsOf names (tree_of (paths_of (take m rows))) (samples_of_pairs pairs)) (sym (take-map (pair_of names) m rows)) held;
+}
+
+pub merged_snapshots : (every : Option ℕ) (names : List (List ℕ)) (tree : Tree) (rows : List TakenRow) (snapshots : List Snapshot) → AreMerged every names tree rows snapshots
+    → AreSnapshots every names (sources_of (pairs_of names rows)) (first_samples (pairs_of names rows)) snapshots
+merged_snapshots every names tree rows snapshots h =
+    subst (λ (all : List Snapshot). AreSnapshots every names (sources_of (pairs_of names rows)) (first_samples (pairs_of names rows)) all) (sym h.snapshots_are) (record {
+      places =
+          map-map (λ snapshot. snapshot.at) (snapshot_of rows) (snapshot_places every (length rows))
+          ∙ (map-id (snapshot_places every (length rows))
+          ∙ ap (snapshot_places every) (sym (length-map (pairs_of names rows) (λ pair. pair.0) ∙ length-map rows (pair_of names))));
+      each =
+          All-map (IsSnapshot names (sources_of (pairs_of names rows)) (first_samples (pairs_of names rows))) (snapshot_of rows) (snapshot_places every (length rows))
+          (λ k d l. snapshot_is names rows h.distinct h.numbered (get_or (snapshot_places every (length rows)) k d));
+    })
+
+-- ---- a table that gains names changes nothing of what was merged
+
+numbered-grows : (names longer : List (List ℕ)) (rows : List TakenRow) → Grows names longer → AllByRecursion (IsNumbered names) rows → AllByRecursion (IsNumbered longer) rows
+numbered-grows names longer [] g h = tt
+numbered-grows names longer (row ∷ rows) g h = (record { known = known-grows names longer row.numbers g h.0.known; weight = h.0.weight }, numbered-grows names longer rows g h.1)
+
+pub pairs_of-grows : (names longer : List (List ℕ)) (rows : List TakenRow) → Grows names longer → AllByRecursion (IsNumbered names) rows → pairs_of longer rows ≡ pairs_of names rows
+pairs_of-grows names longer [] g h = refl
+pairs_of-grows names longer (row ∷ rows) g h =
+    λ i. (row.source, record { stack = sym (named-grows names longer row.numbers g h.0.known) i; weight = row.weight }) ∷ pairs_of-grows names longer rows g h.1 i
+
+pub merged-grows : (every : Option ℕ) (names longer : List (List ℕ)) (tree : Tree) (rows : List TakenRow) (snapshots : List Snapshot) → AreMerged every names tree rows snapshots → Grows names longer → HasDistinctNames longer → AreMerged every longer tree rows snapshots
+merged-grows every names longer tree rows snapshots h g distinct = record {
+  positive = h.positive;
+  distinct = distinct;
+  numbered = numbered-grows names longer rows g h.numbered;
+  tree_is = h.tree_is;
+  snapshots_are = h.snapshots_are;
+}
+
+-- ---- one row more
+
+pub merged-push : (every : Option ℕ) (names : List (List ℕ)) (tree new : Tree) (rows : List TakenRow) (row : TakenRow) (snapshots all : List Snapshot) → AreMerged every names tree rows snapshots → IsNumbered names row → new ≡ with_weight tree row.numbers row.weight
+    → all ≡ snapshots ++ option_to_list (due_after every (rows ++ row ∷ [])) → AreMerged every names new (rows ++ row ∷ []) all
+merged-push every names tree new rows row snapshots all h numbered n e = record {
+  positive = h.positive;
+  distinct = h.distinct;
+  numbered = each-push (IsNumbered names) rows row h.numbered numbered;
+  tree_is = n ∙ (ap (λ t. with_weight t row.numbers row.weight) h.tree_is ∙ sym (tree_of-push rows row));
+  snapshots_are = e ∙ (ap (λ some. some ++ option_to_list (due_after every (rows ++ row ∷ []))) h.snapshots_are ∙ sym (snapshots_of-push every rows row h.positive));
+}
+
+-- ---- the parts of a sink
+
+rows_of-grows : (frames longer : List ℕ) (spans : List TakenSpan) → GrowsTo frames longer → All (IsWithin frames) spans → rows_of longer spans ≡ rows_of frames spans
+rows_of-grows frames longer spans (more, e) h =
+    ap (λ all. rows_of all spans) e
+    ∙ map_agree (row_of (frames ++ more)) (row_of frames) spans (All-weaker (IsWithin frames) (λ span. row_of (frames ++ more) span ≡ row_of frames span)
+    (λ span within. ap (λ numbers. record { source = span.source; numbers = numbers; weight = span.weight }) (slice_range-append frames more span.start span.end within.0 within.1)) spans h)
+
+within-grows : (frames longer : List ℕ) (spans : List TakenSpan) → GrowsTo frames longer → All (IsWithin frames) spans → All (IsWithin longer) spans
+within-grows frames longer spans (more, e) h =
+    All-weaker (IsWithin frames) (IsWithin longer) (λ span within. (within.0, omega (arith, within.1, ap length e, length-append frames more))) spans h
+
+-- what is left of a sink when names and numbers came behind
+pub record Grown (every : Option ℕ) (names : List (List ℕ)) (tree : Tree) (frames : List ℕ) (spans : List TakenSpan) (snapshots : List Snapshot) (pairs : List (ℕ × Sample)) : Type 0 where
+  pub sink : IsTreeSink every names tree frames spans snapshots
+  pub pairs_are : pairs_of names (rows_of frames spans) ≡ pairs
+
+pub sink-grows : (every : Option ℕ) (names longer : List (List ℕ)) (tree : Tree) (frames more : List ℕ) (spans all : List TakenSpan) (snapshots : List Snapshot) → IsTreeSink every names tree frames spans snapshots → GrowsTo names longer → HasDistinctNames longer → GrowsTo frames more → all ≡ spans
+    → Grown every longer tree more all snapshots (pairs_of names (rows_of frames spans))
+sink-grows every names longer tree frames more spans all snapshots h g distinct f e =
+    let rows = rows_of-grows frames more spans f h.within in
+    subst (λ (all : List TakenSpan). Grown every longer tree more all snapshots (pairs_of names (rows_of frames spans))) (sym e) (record {
+      sink = record {
+        within = within-grows frames more spans f h.within;
+        merged = subst (λ (rows : List TakenRow). AreMerged every longer tree rows snapshots) (sym rows) (merged-grows every names longer tree (rows_of frames spans) snapshots h.merged g distinct);
+      };
+      pairs_are = ap (pairs_of longer) rows ∙ pairs_of-grows names longer (rows_of frames spans) g h.merged.numbered;
+    })
+
+pub sink-same : (every : Option ℕ) (names : List (List ℕ)) (tree new : Tree) (frames : List ℕ) (spans : List TakenSpan) (snapshots all : List Snapshot) → IsTreeSink every names tree frames spans snapshots → new ≡ tree → all ≡ snapshots → IsTreeSink every names new frames spans all
+sink-same every names tree new frames spans snapshots all h t e =
+    subst (λ (kept : List Snapshot). IsTreeSink every names new frames spans kept) (sym e) (subst (λ (kept : Tree). IsTreeSink every names kept frames spans snapshots) (sym t) h)
+
+-- one row more
+pub sink-push : (every : Option ℕ) (names : List (List ℕ)) (tree new : Tree) (frames : List ℕ) (spans : List TakenSpan) (row : TakenSpan) (source : ℕ) (stack : List (List ℕ)) (weight : ℕ) (snapshots all : List Snapshot) → IsTreeSink every names tree frames spans snapshots → IsRowFor names frames source stack weight row
+    → new ≡ with_weight tree (row_of frames row).numbers row.weight → all ≡ snapshots ++ option_to_list (due_after every (rows_of frames spans ++ row_of frames row ∷ []))
+    → IsTreeSink every names new frames (spans ++ row ∷ []) all
+sink-push every names tree new frames spans row source stack weight snapshots all h r n e = record {
+  within = All-push (IsWithin frames) spans row h.within r.within;
+  merged =
+      subst (λ (rows : List TakenRow). AreMerged every names new rows all) (sym (map_push (row_of frames) spans row))
+      (merged-push every names tree new (rows_of frames spans) (row_of frames row) snapshots all h.merged (record { known = r.known; weight = r.fits }) n e);
+}
+
+pub pairs-push : (names : List (List ℕ)) (frames : List ℕ) (spans : List TakenSpan) (row : TakenSpan) (source : ℕ) (sample : Sample) → IsRowFor names frames source sample.stack sample.weight row
+    → pairs_of names (rows_of frames (spans ++ row ∷ [])) ≡ pairs_of names (rows_of frames spans) ++ (source, sample) ∷ []
+pairs-push names frames spans row source sample r =
+    ap (pairs_of names) (map_push (row_of frames) spans row)
+    ∙ (map_push (pair_of names) (rows_of frames spans) (row_of frames row)
+    ∙ (λ i. pairs_of names (rows_of frames spans) ++ (r.source_is i, record { stack = r.stack_is i; weight = r.weight_is i }) ∷ []))
+
+-- ---- weights
+
+weights_few : (names : List (List ℕ)) (rows : List TakenRow) → AllByRecursion (IsNumbered names) rows → weight_sum (samples_of_pairs (pairs_of names rows)) ≤ length rows * (2 ^ 64 - 1)
+weights_few names [] h = omega arith
+weights_few names (row ∷ rows) h =
+    omega (arith, sum_by-cons (λ (sample : Sample). sample.weight) (pair_of names row).1 (samples_of_pairs (pairs_of names rows)), h.0.weight, weights_few names rows h.1)
+
+-- a sum of fewer than 2^64 weights and one more stays below 2^128
+pub tree_fits : (every : Option ℕ) (names : List (List ℕ)) (tree : Tree) (frames : List ℕ) (spans : List TakenSpan) (snapshots : List Snapshot) (weight : ℕ) → IsTreeSink every names tree frames spans snapshots → length spans < 2 ^ 64 → weight < 2 ^ 64 → total_weight tree [] + weight < 2 ^ 128
+tree_fits every names tree frames spans snapshots weight h few light =
+    let rows = rows_of frames spans in
+    let held = subst (λ (t : Tree). Holds names t (samples_of_pairs (pairs_of names rows))) (sym h.merged.tree_is) (holds-rows names rows h.merged.numbered) in
+    let small = holds-small names tree (samples_of_pairs (pairs_of names rows)) held [] in
+    omega (arith, small.0, weights_few names rows h.merged.numbered, length-map spans (row_of frames), few, light)

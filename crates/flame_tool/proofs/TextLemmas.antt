@@ -1,0 +1,134 @@
+-- What the parts of a text are made from.
+use Rattle.std.proofs.Common.{◌≡◌, ◌++◌, ◌+◌, ◌<◌, ◌≤◌, ◌∷◌, ℕ, List, [], map, take, get_or, refl, true, length, All, Option, Result, Ok, Err, OnOk, codes, sym, ap, subst, ◌∙◌, arith}
+use Rattle.std.proofs.lemmas.List.Sums.{sum_by-append}
+use Rattle.std.proofs.lemmas.Result.{on_ok_weaker}
+use Rattle.std.proofs.lemmas.List.{append_assoc, get_or-map, length-map, take_more, flat_map_more}
+use Rattle.stack_core.specs.declared.samples.Sample.{Sample}
+use Rattle.call_tree.specs.CallTree.{Tree, total_weight as tree_total}
+use Rattle.flame_layout.specs.Timeline.{total_weight, timeline, drawn, weight_of}
+use Rattle.flame_layout.specs.Chart.{chart_of}
+use Rattle.flame_layout.specs.Graph.{graph_of}
+use Rattle.flame_layout.specs.Paths.{SameOwn, tree_samples}
+use Rattle.flame_layout.specs.declared.boxes.SpanBox.{SpanBox}
+use Rattle.flame_layout.proofs.Geometry.{chart-within}
+use Rattle.flame_layout.proofs.Timelines.{total_weight-drawn, timeline-chart_positive}
+use Rattle.flame_layout.proofs.Sums.{same_sums, same_tested}
+use Rattle.flame_layout.proofs.GraphBoxes.{tree_weight, graph-within, graph-positive}
+use Rattle.std.specs.List.{range_with_len}
+use Rattle.std.proofs.lemmas.List.FromFn.{map-range_with_len_more}
+use Rattle.stack_core.specs.Interleaving.{counts_at}
+use Rattle.flame_tool.specs.Filling.{filled}
+use Rattle.flame_tool.specs.Json.{snapshot_line, boxes_line}
+use Rattle.flame_tool.specs.Snapshots.{snapshot_counts, snapshot_samples, snapshot_places, IsSnapshot, AreSnapshots}
+use Rattle.flame_tool.specs.Sums.{all_samples}
+use Rattle.flame_tool.specs.Texts.{all_counts, snapshot_line_at, snapshot_lines, places_of, graph_line, graph_text}
+use Rattle.flame_tool.specs.declared.snapshots.Snapshot.{Snapshot}
+use Rattle.flame_tool.proofs.CountLemmas.{get_or-source_counts}
+
+-- counts filled up are those of all sources
+pub filled_counts : (sources m : ℕ) (order : List ℕ) → filled sources (snapshot_counts m order) ≡ map (counts_at m order) (range_with_len 0 sources)
+filled_counts sources m order = λ i. map (λ source. get_or-source_counts (take m order) source i) (range_with_len 0 sources)
+
+pub filled_more : (sources : ℕ) (counts : List ℕ) → filled (sources + 1) counts ≡ filled sources counts ++ get_or counts sources 0 ∷ []
+filled_more sources counts = map-range_with_len_more (λ source. get_or counts source 0) 0 sources sources (omega arith)
+
+-- samples of the same own sums have the same weight
+pub same_weight : (samples others : List Sample) → SameOwn samples others → total_weight samples ≡ total_weight others
+same_weight samples others same = same_tested (λ _. true) (length samples) samples others (omega arith) (same_sums samples others same)
+
+-- a tree's total is the weight of the samples whose sums it has
+pub drawn_weight : (names : List (List ℕ)) (tree : Tree) (samples : List Sample) → SameOwn samples (tree_samples names tree) → tree_total tree [] ≡ total_weight samples
+drawn_weight names tree samples same = sym (tree_weight names tree) ∙ sym (same_weight samples (tree_samples names tree) same)
+
+-- the line of a snapshot's parts is that of the samples whose sums its tree has
+pub snapshot_appended : {T E : Type 0} (result : Result T E) (old new : List ℕ) (at width total : ℕ) (counts filling : List ℕ) (boxes : List SpanBox) (names : List (List ℕ)) (tree : Tree)
+    → filling ≡ counts → total ≡ tree_total tree []
+    → ((samples : List Sample) → SameOwn samples (tree_samples names tree) → boxes ≡ graph_of samples)
+    → OnOk result (new ≡ old ++ snapshot_line at filling total width boxes)
+    → OnOk result ((samples : List Sample) → SameOwn samples (tree_samples names tree) → new ≡ old ++ snapshot_line at counts (total_weight samples) width (graph_of samples))
+snapshot_appended (Ok done) old new at width total counts filling boxes names tree counted weighed drawn appended =
+    λ samples same. appended
+    ∙ ((λ i. old ++ snapshot_line at (counted i) ((weighed ∙ drawn_weight names tree samples same) i) width (drawn samples same i)))
+snapshot_appended (Err error) old new at width total counts filling boxes names tree counted weighed drawn appended = tt
+
+-- the line of the snapshot at a place is that of its moment
+pub snapshot_at_place : {T E : Type 0} (result : Result T E) (old new : List ℕ) (width place sources : ℕ) (every : Option ℕ) (order : List ℕ) (lists : List (List Sample)) (names table : List (List ℕ)) (snapshots : List Snapshot) (snapshot : Snapshot)
+    → table ≡ names → place < length snapshots → snapshot ≡ get_or snapshots place snapshot → sources ≡ length lists
+    → AreSnapshots every names order (λ m. snapshot_samples m order lists) snapshots
+    → OnOk result ((samples : List Sample) → SameOwn samples (tree_samples table snapshot.tree)
+    → new ≡ old ++ snapshot_line snapshot.at (filled sources snapshot.counts) (total_weight samples) width (graph_of samples))
+    → OnOk result (new ≡ old ++ snapshot_line_at width order lists (get_or (places_of snapshots) place 0))
+snapshot_at_place result old new width place sources every order lists names table snapshots snapshot known below is all made drawn =
+    on_ok_weaker result (λ appended. appended (snapshot_samples snapshot.at order lists)
+    (subst (λ ns. SameOwn (snapshot_samples snapshot.at order lists) (tree_samples ns snapshot.tree)) (sym known) here.sums.stacks)
+    ∙ ap (λ line. old ++ line) (counted ∙ ap (snapshot_line_at width order lists) (sym moment))) drawn
+  where
+    here : IsSnapshot names order (λ m. snapshot_samples m order lists) snapshot
+    here = subst (IsSnapshot names order (λ m. snapshot_samples m order lists)) (sym is) (made.each place snapshot below)
+
+    moment : get_or (places_of snapshots) place 0 ≡ snapshot.at
+    moment = get_or-map (λ (s : Snapshot). s.at) snapshots place snapshot 0 below ∙ ap (λ (s : Snapshot). s.at) (sym is)
+
+    counts : filled sources snapshot.counts ≡ all_counts snapshot.at order lists
+    counts = (λ i. filled (all i) (here.counts i)) ∙ filled_counts (length lists) snapshot.at order
+
+    counted : snapshot_line snapshot.at (filled sources snapshot.counts) (total_weight (snapshot_samples snapshot.at order lists)) width (graph_of (snapshot_samples snapshot.at order lists))
+        ≡ snapshot_line_at width order lists snapshot.at
+    counted = ap (λ cs. snapshot_line snapshot.at cs (total_weight (snapshot_samples snapshot.at order lists)) width (graph_of (snapshot_samples snapshot.at order lists))) counts
+
+-- lines go on
+pub lines_more : (width : ℕ) (order : List ℕ) (lists : List (List Sample)) (snapshots : List Snapshot) (place : ℕ) (old out new : List ℕ) → place < length snapshots
+    → out ≡ old ++ snapshot_lines width lists order (take place (places_of snapshots))
+    → new ≡ out ++ snapshot_line_at width order lists (get_or (places_of snapshots) place 0)
+    → new ≡ old ++ snapshot_lines width lists order (take (place + 1) (places_of snapshots))
+lines_more width order lists snapshots place old out new below so_far more =
+    let places = places_of snapshots in
+    more ∙ (ap (λ xs. xs ++ snapshot_line_at width order lists (get_or places place 0)) so_far
+    ∙ (flat_map_more (snapshot_line_at width order lists) old (take place places) (get_or places place 0)
+    ∙ ap (λ ps. old ++ snapshot_lines width lists order ps) (sym (take_more places place 0 (omega (arith, below, length-map snapshots (λ (s : Snapshot). s.at)))))))
+
+-- the boxes of a graph lie within the total
+pub graph_within : (samples : List Sample) (boxes : List SpanBox) (total : ℕ) → boxes ≡ graph_of samples → total ≡ total_weight samples
+    → All (λ span. span.start + span.weight ≤ total) boxes
+graph_within samples boxes total drawn weighed =
+    subst (λ (bs : List SpanBox). All (λ span. span.start + span.weight ≤ total) bs) (sym drawn)
+    (subst (λ n. All (λ span. span.start + span.weight ≤ n) (graph_of samples)) (sym weighed) (graph-within samples))
+
+pub graph_positive : (samples : List Sample) (boxes : List SpanBox) (total : ℕ) → boxes ≡ graph_of samples → total ≡ total_weight samples
+    → 0 < length boxes → 0 < total
+graph_positive samples boxes total drawn weighed some =
+    subst (λ n. 0 < n) (sym weighed) (graph-positive samples (subst (λ (bs : List SpanBox). 0 < length bs) drawn some))
+
+-- the line of the graph after those of the snapshots
+pub graph_appended : {T E : Type 0} (result : Result T E) (old out new : List ℕ) (width total : ℕ) (order : List ℕ) (every : Option ℕ) (lists : List (List Sample)) (boxes : List SpanBox)
+    → boxes ≡ graph_of (all_samples lists) → total ≡ total_weight (all_samples lists)
+    → out ≡ old ++ snapshot_lines width lists order (snapshot_places every (length order))
+    → OnOk result (new ≡ out ++ boxes_line (codes "graph") total width boxes)
+    → OnOk result (new ≡ old ++ graph_text width lists order every)
+graph_appended result old out new width total order every lists boxes drawn weighed so_far appended =
+    on_ok_weaker result (λ more. more ∙ ((λ i. so_far i ++ boxes_line (codes "graph") (weighed i) width (drawn i))
+    ∙ append_assoc old (snapshot_lines width lists order (snapshot_places every (length order))) (graph_line width (all_samples lists)))) appended
+
+-- the timeline has the weight of all samples
+pub timeline_total : (lists : List (List Sample)) → total_weight (timeline lists) ≡ total_weight (all_samples lists)
+timeline_total [] = refl
+timeline_total (samples ∷ lists) =
+    sum_by-append weight_of (drawn samples) (timeline lists)
+    ∙ ((λ i. total_weight-drawn samples i + timeline_total lists i) ∙ sym (sum_by-append weight_of samples (all_samples lists)))
+
+pub chart_within : (lists : List (List Sample)) (boxes : List SpanBox) (total : ℕ) → boxes ≡ chart_of (timeline lists) → total ≡ total_weight (all_samples lists)
+    → All (λ span. span.start + span.weight ≤ total) boxes
+chart_within lists boxes total is weighed =
+    subst (λ (bs : List SpanBox). All (λ span. span.start + span.weight ≤ total) bs) (sym is)
+    (subst (λ n. All (λ span. span.start + span.weight ≤ n) (chart_of (timeline lists))) (timeline_total lists ∙ sym weighed) (chart-within (timeline lists)))
+
+pub chart_positive : (lists : List (List Sample)) (boxes : List SpanBox) (total : ℕ) → boxes ≡ chart_of (timeline lists) → total ≡ total_weight (all_samples lists)
+    → 0 < length boxes → 0 < total
+chart_positive lists boxes total is weighed some =
+    subst (λ n. 0 < n) (timeline_total lists ∙ sym weighed) (timeline-chart_positive lists (subst (λ (bs : List SpanBox). 0 < length bs) is some))
+
+-- the own sums of a tree and a table that are lent
+pub lent_stacks : (names table : List (List ℕ)) (tree lent : Tree) (samples : List Sample) → table ≡ names → lent ≡ tree
+    → SameOwn samples (tree_samples names tree) → SameOwn samples (tree_samples table lent)
+lent_stacks names table tree lent samples named same stacks =
+    subst (λ tree. SameOwn samples (tree_samples table tree)) (sym same) (subst (λ names. SameOwn samples (tree_samples names tree)) (sym named) stacks)

@@ -1,6 +1,0 @@
--- The names so far are those of the front.
-use Rattle.std.proofs.Common.{◌≡◌, map, take, string_bytes}
-use Rattle.flame_tool.proofs.merging.copied_names.Given as goal
-
-abbrev pub invariant-loop-name : goal.invariant-loop-name
-invariant-loop-name l = map string_bytes l.copy.items ≡ map string_bytes (take l.name-index l.names)

@@ -1,0 +1,76 @@
+-- The command line of the program, in `clap`'s words: its commands, each with its options and files.
+use Rattle.std.specs.Prelude.{ℕ, true, false, List, [], ◌∷◌, Some, codes, pos}
+use Rattle.clap.specs.Simple.{App, Shape, new_rule, new_shape}
+use Rattle.clap.specs.Walk.{Rule, Text}
+use Rattle.clap.specs.declared.builder.action.ArgAction.TheVariants.{Append, SetTrue}
+use Rattle.clap.specs.declared.builder.value_parser.ValueParser.TheVariants.{Signed}
+
+-- an option with a value: a text, or a number from 1 to `most`
+abbrev pub text_option : Text → Rule
+text_option name = record (new_rule name) { long = Some name; value_names = 1 }
+
+abbrev pub number_option : Text → ℕ → Rule
+number_option name most =
+    record (text_option name) { parser = Some (Signed (pos 1) (pos most)) }
+
+abbrev pub flag : Text → Rule
+flag name = record (new_rule name) { long = Some name; action = Some SetTrue }
+
+-- any number of files, and one file that has to be there
+abbrev pub any_files : Text → Rule
+any_files name = record (new_rule name) { value_names = 1; action = Some Append }
+
+abbrev pub one_file : Text → Rule
+one_file name = record (new_rule name) { value_names = 1; required = true }
+
+abbrev pub width_option : Rule
+width_option = number_option (codes "width") 65536
+
+abbrev pub type_option : Rule
+type_option = text_option (codes "type")
+
+abbrev pub ring_option : Rule
+ring_option = number_option (codes "ring") 65536
+
+abbrev pub every_option : Rule
+every_option = number_option (codes "every") 1000000000
+
+abbrev pub lines_flag : Rule
+lines_flag = flag (codes "lines")
+
+abbrev pub boxes_flag : Rule
+boxes_flag = flag (codes "boxes")
+
+-- a command with its arguments, and what `clap` reads of it on its own
+abbrev pub command : Text → List Rule → Shape
+command name arguments = record (new_shape name) { rules = arguments }
+
+abbrev pub as_app : Shape → App
+as_app shape = record { top = shape; subs = [] }
+
+abbrev pub fold_command : Shape
+fold_command = command (codes "fold")
+    (type_option ∷ ring_option ∷ lines_flag ∷ any_files (codes "file") ∷ [])
+
+abbrev pub graph_command : Shape
+graph_command = command (codes "graph") (width_option ∷ type_option ∷ ring_option ∷ every_option
+    ∷ lines_flag ∷ any_files (codes "file") ∷ [])
+
+abbrev pub chart_command : Shape
+chart_command = command (codes "chart")
+    (width_option ∷ type_option ∷ ring_option ∷ lines_flag ∷ any_files (codes "file") ∷ [])
+
+abbrev pub compare_command : Shape
+compare_command = command (codes "compare") (width_option ∷ type_option ∷ ring_option ∷ boxes_flag
+    ∷ lines_flag ∷ one_file (codes "before") ∷ one_file (codes "after") ∷ [])
+
+-- the words begin after the program's name, and one of the commands is required
+abbrev pub command_line : App
+command_line = record {
+  top = record (new_shape (codes "flamecollect")) {
+    is_leaf = false;
+    no_binary_name = true;
+    subcommand_required = true;
+  };
+  subs = fold_command ∷ graph_command ∷ chart_command ∷ compare_command ∷ [];
+}

@@ -1,0 +1,10 @@
+-- What is loaded where there are no files.
+use Rattle.std.specs.Prelude.{◌≡◌, ℕ, List, [], ◌∷◌}
+use Rattle.flame_tool.specs.declared.formats.Format.TheVariants.{Folded}
+use Rattle.flame_tool.specs.declared.sources.Source.{Source}
+
+-- one source: the input, which is folded text
+abbrev pub IsInput : List Source → List ℕ → Type 0
+IsInput [] input = ⊥
+IsInput (source ∷ []) input = (source.format ≡ Folded) × (source.bytes.items ≡ input)
+IsInput (source ∷ another ∷ more) input = ⊥

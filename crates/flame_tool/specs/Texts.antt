@@ -1,0 +1,59 @@
+-- The text of each view, of the collected lists and the order of arrival.
+use Rattle.std.specs.Prelude.{ℕ, List, ◌++◌, Option, codes, length, map}
+use Rattle.std.specs.List.{flat_map, range_with_len}
+use Rattle.stack_core.specs.declared.samples.Sample.{Sample}
+use Rattle.stack_core.specs.Interleaving.{counts_at, list_of}
+use Rattle.flame_layout.specs.Timeline.{timeline, total_weight}
+use Rattle.flame_layout.specs.Chart.{chart_of}
+use Rattle.flame_layout.specs.Graph.{graph_of}
+use Rattle.flame_layout.specs.Comparison.{compared_boxes_of}
+use Rattle.flame_tool.specs.Fold.{fold_text}
+use Rattle.flame_tool.specs.Json.{boxes_line, snapshot_line, pair_boxes_line}
+use Rattle.flame_tool.specs.Pairs.{pairs_text}
+use Rattle.flame_tool.specs.Snapshots.{snapshot_samples, snapshot_places}
+use Rattle.flame_tool.specs.Sums.{all_samples}
+use Rattle.flame_tool.specs.declared.plans.View.{View}
+use Rattle.flame_tool.specs.declared.snapshots.Snapshot.{Snapshot}
+use Rattle.flame_tool.specs.declared.plans.View.TheVariants.{Fold, Graph, Chart, Pairs, PairBoxes}
+
+-- the flame graph of samples
+abbrev pub graph_line : ℕ → List Sample → List ℕ
+graph_line width samples = boxes_line (codes "graph") (total_weight samples) width (graph_of samples)
+
+-- how often each source stands among the first m of the order
+abbrev pub all_counts : ℕ → List ℕ → List (List Sample) → List ℕ
+all_counts m order lists = map (counts_at m order) (range_with_len 0 (length lists))
+
+-- the flame graph of each source's first samples, as many as stand among the first m of the order
+abbrev pub snapshot_line_at : ℕ → List ℕ → List (List Sample) → ℕ → List ℕ
+snapshot_line_at width order lists m =
+    let samples = snapshot_samples m order lists in
+    snapshot_line m (all_counts m order lists) (total_weight samples) width (graph_of samples)
+
+abbrev pub snapshot_lines : ℕ → List (List Sample) → List ℕ → List ℕ → List ℕ
+snapshot_lines width lists order places = flat_map (snapshot_line_at width order lists) places
+
+abbrev pub places_of : List Snapshot → List ℕ
+places_of snapshots = map (λ snapshot. snapshot.at) snapshots
+
+-- a line for each snapshot, and then the flame graph of all samples
+abbrev pub graph_text : ℕ → List (List Sample) → List ℕ → Option ℕ → List ℕ
+graph_text width lists order every =
+    snapshot_lines width lists order (snapshot_places every (length order)) ++ graph_line width (all_samples lists)
+
+-- the flame chart of the sources one after another
+abbrev pub chart_text : ℕ → List (List Sample) → List ℕ
+chart_text width lists =
+    boxes_line (codes "chart") (total_weight (timeline lists)) width (chart_of (timeline lists))
+
+-- the flame graph of the second profile, with the weights of the first
+abbrev pub pair_boxes_text : ℕ → List Sample → List Sample → List ℕ
+pair_boxes_text width before after =
+    pair_boxes_line (total_weight before) (total_weight after) width (compared_boxes_of before after)
+
+abbrev pub view_text : View → List (List Sample) → List ℕ → Option ℕ → List ℕ
+view_text Fold lists order every = fold_text (all_samples lists)
+view_text (Graph width) lists order every = graph_text width lists order every
+view_text (Chart width) lists order every = chart_text width lists
+view_text Pairs lists order every = pairs_text (list_of lists 0) (list_of lists 1)
+view_text (PairBoxes width) lists order every = pair_boxes_text width (list_of lists 0) (list_of lists 1)

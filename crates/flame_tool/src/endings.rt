@@ -1,0 +1,27 @@
+//! How the sources of a run ended.
+ghost use Rattle.std.specs.Prelude.{◌≡◌};
+ghost use Rattle.flame_tool.specs.Runs.{ends_in_fault, has_fault};
+
+use crate::messages::tell_ending;
+use crate::outlet::Outlet;
+use stack_core::{SourceEnd, SourceList};
+
+// Says of each source, in order, how it ended, where there is something to say.
+pub(crate) fn tell_endings<E: Outlet>(err: &mut E, files: &[String], lists: &[SourceList]) {
+    for (source, list) in lists.iter().enumerate() {
+        tell_ending(err, files, source, list.ending());
+    }
+}
+
+// Whether a source ended in a fault.
+pub(crate) fn any_fault(lists: &[SourceList]) -> bool
+    ensures { result ≡ has_fault lists.now }
+{
+    lists.iter().any(|list| is_fault(list.ending()))
+}
+
+fn is_fault(ending: &SourceEnd) -> bool
+    ensures { result ≡ ends_in_fault ending.now }
+{
+    matches!(ending, SourceEnd::Fault(_))
+}
