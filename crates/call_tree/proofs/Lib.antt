@@ -1,5 +1,6 @@
 pub mod Begins
 pub mod ByName
+pub mod Depths
 pub mod Found
 pub mod Frames
 pub mod Listed
@@ -8,9 +9,13 @@ pub mod Names
 pub mod Numbers
 pub mod Paths
 pub mod Places
-pub mod RowSteps
+pub mod RowOrder
 mod Rows
 pub mod Shape
+pub mod Siblings
+pub mod Steps
+pub mod Threaded
+pub mod Threads
 pub mod TreeSums
 pub mod Walk
 pub mod WalkOn

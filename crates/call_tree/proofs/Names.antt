@@ -1,5 +1,5 @@
 -- Names in a table: what a look-up finds, and what a new name leaves.
-use Rattle.std.proofs.Common.{◌≡◌, ℕ, ◌+◌, ◌-◌, ◌<◌, ◌⊎◌, inl, inr, Bool, true, false, not, cond, ◌||◌, List, [], ◌∷◌, ◌++◌, length, map, get_or, slice_get, position, nat_lt, None, Some, refl, sym, ap, subst, ◌∙◌, arith, true≢false, if◌then◌else◌}
+use Rattle.std.proofs.Common.{◌≡◌, ℕ, ◌+◌, ◌-◌, ◌<◌, inl, inr, Bool, true, false, not, cond, ◌||◌, List, [], ◌∷◌, ◌++◌, length, map, get_or, slice_get, position, nat_lt, None, Some, refl, sym, ap, subst, ◌∙◌, arith, true≢false, if◌then◌else◌}
 use Rattle.std.specs.List.{list_any, position_or_len}
 use Rattle.std.specs.Str.{bytes_eq}
 use Rattle.std.specs.Prelude.{String}
@@ -10,6 +10,7 @@ use Rattle.std.proofs.lemmas.Option.{slice_get-get_or}
 use Rattle.std.proofs.lemmas.Slice.Eq.{bytes_eq-Decides}
 use Rattle.std.proofs.lemmas.List.{length-map, length-append, map-append, get_or_append_left, get_or-append_right}
 use Rattle.call_tree.specs.FrameTable.{with_name, HasDistinctNames}
+use Rattle.call_tree.proofs.Steps.{last_or_before}
 
 module _ {A B : Type 0} (p : B → Bool) (f : A → B) where
   pub list_any-map : (xs : List A) → list_any p (map f xs) ≡ list_any (λ x. p (f x)) xs
@@ -58,9 +59,6 @@ IsAt_push names name = record {
 -- a name that the table lacks stands at no place of it
 absent : (names : List (List ℕ)) (name : List ℕ) → list_any (bytes_eq name) names ≡ false → (i : ℕ) → i < length names → name ≡ get_or names i [] → ⊥
 absent names name none i lt is = true≢false (sym (list_any_at (bytes_eq name) names i [] lt ((bytes_eq-Decides name (get_or names i [])).1 is)) ∙ none)
-
-last_or_before : (i n : ℕ) → i < n + 1 → (i ≡ n) ⊎ (i < n)
-last_or_before i n lt = grind arith
 
 pub HasDistinctNames_push : (names : List (List ℕ)) (name : List ℕ) → HasDistinctNames names → list_any (bytes_eq name) names ≡ false → HasDistinctNames (names ++ name ∷ [])
 HasDistinctNames_push names name distinct none i j li lj same =

@@ -1,5 +1,5 @@
 -- Where the nodes of a tree stand: each below its parent, and with each path the fronts of it.
-use Rattle.std.proofs.Common.{◌≡◌, ℕ, ◌+◌, ◌<◌, ◌≤◌, ◌⊎◌, inl, inr, true, false, List, [], ◌∷◌, ◌++◌, length, get_or, reverse, refl, sym, ap, ◌∙◌, arith, suc, zero, append_assoc, nat_eq}
+use Rattle.std.proofs.Common.{◌≡◌, ℕ, ◌+◌, ◌<◌, ◌≤◌, ◌⊎◌, inl, inr, true, false, List, [], ◌∷◌, ◌++◌, length, get_or, reverse, sym, ap, ◌∙◌, arith, append_assoc, nat_eq}
 use Rattle.std.proofs.lemmas.List.{append-nil, reverse-append, reverse-reverse, get_or_default}
 use Rattle.call_tree.specs.declared.nodes.Place.{Place}
 use Rattle.call_tree.specs.PathSums.{begins_with}
@@ -7,6 +7,7 @@ use Rattle.call_tree.specs.Nodes.{path_of, HasShape}
 use Rattle.std.specs.List.{list_any}
 use Rattle.call_tree.proofs.Begins.{begins_with_rest, begins_with-append, same_ends, no_push_empty}
 use Rattle.call_tree.proofs.Places.{same_place, not_at}
+use Rattle.call_tree.proofs.Steps.{zero_or_more}
 use Rattle.call_tree.proofs.Weights.{not_true}
 use Rattle.call_tree.proofs.Paths.{path_of_root, path_of_child}
 
@@ -20,10 +21,6 @@ pub record Stands (places : List Place) (i : ℕ) : Type 0 where
   pub within : at < length places
   pub before : (get_or places at origin).parent ≤ at
   pub path : path_of places i ≡ path_of places (get_or places at origin).parent ++ (get_or places at origin).frame ∷ []
-
-zero_or_more : (i : ℕ) → (i ≡ 0) ⊎ ((k : ℕ) × (i ≡ k + 1))
-zero_or_more zero = inl refl
-zero_or_more (suc k) = inr (k, omega arith)
 
 module _ (places : List Place) (owns totals : List ℕ) (s : HasShape places owns totals) where
   -- a node is the root or stands at a place

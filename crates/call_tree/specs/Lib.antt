@@ -1,6 +1,6 @@
 pub mod CallTree
 pub mod FrameTable
 pub mod Listing
-pub mod NameRows
+pub mod NodeOrder
 pub mod Nodes
 pub mod PathSums

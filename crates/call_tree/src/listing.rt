@@ -1,15 +1,15 @@
 //! The nodes of a tree in the order of their names.
-ghost use Rattle.std.specs.Prelude.{◌≡◌, ◌+◌, ◌<◌, ℕ, List, length, map, IfOk};
-ghost use Rattle.std.specs.List.{slice_index_or};
+ghost use Rattle.std.specs.Prelude.{◌≡◌, ◌+◌, ◌<◌, length, IfOk};
 ghost use Rattle.call_tree.specs.CallTree.{tree_of};
 ghost use Rattle.call_tree.specs.FrameTable.{HasDistinctNames};
 ghost use Rattle.call_tree.specs.Listing.{HasNumbersOf, IsListing};
-ghost use Rattle.call_tree.specs.NameRows.{AreNameRows, visit_at};
-ghost use Rattle.call_tree.specs.Nodes.{samples_of, path_of, HasShape, IsTree};
+ghost use Rattle.call_tree.specs.NodeOrder.{AreDepths, AreRows, HasFramesOf, LeadsByName, visit_at};
+ghost use Rattle.call_tree.specs.Nodes.{samples_of, HasShape, IsTree};
 
 use crate::frame_table::FrameTable;
-use crate::nodes::{Nodes, Place};
+use crate::nodes::Nodes;
 use std::alloc::{AllocError, Global};
+use std::cmp::Reverse;
 
 /// A node of a listing: how many frames its path has, the last one's number (0 for the root), and its weights.
 #[derive(Clone, Copy, PartialEq, Eq, Debug)]
@@ -20,25 +20,58 @@ pub struct Visit {
     pub own: u128,
 }
 
-/// The names of each node's path, beside the node.
-fn name_rows<'a>(
+/// A node's parent, its own name and its number. So sorted, the children of one parent stand together, the last by name first.
+type Row<'a> = (usize, Reverse<&'a str>, usize);
+
+/// The rows of all nodes but the root, sorted.
+fn sorted_rows<'a>(
     alloc: Global,
     nodes: &Nodes,
     table: &'a FrameTable,
-) -> Result<Vec<(Vec<&'a str>, usize)>, AllocError>
+) -> Result<Vec<Row<'a>>, AllocError>
     requires shape { HasShape nodes.now.places.keys nodes.now.owns.items nodes.now.totals.items }
-    requires numbers { (at : ℕ) (d : Place) → at < length nodes.now.places.keys → (slice_index_or nodes.now.places.keys at d).frame < length table.now }
-    ensures { IfOk result (λ rows. AreNameRows table.now nodes.now.places.keys rows.items) }
+    requires frames { HasFramesOf table.now nodes.now.places.keys }
+    requires distinct { HasDistinctNames table.now }
+    ensures { IfOk result (λ rows. AreRows table.now nodes.now.places.keys rows.items) }
 {
-    let mut rows = Vec::new(alloc);
-    rows.push((Vec::new(alloc), 0))?;
+    let mut rows = Vec::with_capacity(alloc, nodes.places.len())?;
     for index in 0..nodes.places.len() {
         let place = nodes.place(index);
-        let mut names = Vec::from_slice(alloc, &rows[place.parent].0)?;
-        names.push(table.name(place.frame))?;
-        rows.push((names, index + 1))?;
+        rows.push((place.parent, Reverse(table.name(place.frame)), index + 1))?;
     }
+    rows.sort_unstable();
     Ok(rows)
+}
+
+/// For each node the one after it in the order of their names; for the last one 0.
+fn next_nodes(alloc: Global, nodes: &Nodes, table: &FrameTable) -> Result<Vec<usize>, AllocError>
+    requires shape { HasShape nodes.now.places.keys nodes.now.owns.items nodes.now.totals.items }
+    requires frames { HasFramesOf table.now nodes.now.places.keys }
+    requires distinct { HasDistinctNames table.now }
+    ensures { IfOk result (λ next. LeadsByName table.now nodes.now.places.keys next.items) }
+{
+    let rows = sorted_rows(alloc, nodes, table)?;
+    let mut next = vec![in alloc; 0; nodes.totals.len()]?;
+    // A row comes after its parent's own and after those of later names: its node goes right behind the parent.
+    for (parent, _, node) in &rows {
+        next[*node] = next[*parent];
+        next[*parent] = *node;
+    }
+    Ok(next)
+}
+
+/// How many frames each node's path has.
+fn depths(alloc: Global, nodes: &Nodes) -> Result<Vec<usize>, AllocError>
+    requires { HasShape nodes.now.places.keys nodes.now.owns.items nodes.now.totals.items }
+    ensures { IfOk result (λ depths. AreDepths nodes.now.places.keys depths.items) }
+{
+    let mut depths = Vec::with_capacity(alloc, nodes.totals.len())?;
+    depths.push(0)?;
+    for index in 0..nodes.places.len() {
+        let place = nodes.place(index);
+        depths.push(depths[place.parent] + 1)?;
+    }
+    Ok(depths)
 }
 
 /// What a listing says of a node at a depth.
@@ -70,11 +103,13 @@ pub fn listing(alloc: Global, nodes: &Nodes, table: &FrameTable) -> Result<Vec<V
     if nodes.totals[0] == 0 {
         return Ok(Vec::new(alloc));
     }
-    let mut rows = name_rows(alloc, nodes, table)?;
-    rows.sort()?;
-    let mut visits = Vec::with_capacity(alloc, rows.len())?;
-    for (names, node) in &rows {
-        visits.push(visit_node(nodes, names.len(), *node))?;
+    let next = next_nodes(alloc, nodes, table)?;
+    let depths = depths(alloc, nodes)?;
+    let mut visits = Vec::with_capacity(alloc, next.len())?;
+    let mut node = 0;
+    for _ in 0..next.len() {
+        visits.push(visit_node(nodes, depths[node], node))?;
+        node = next[node];
     }
     Ok(visits)
 }

@@ -1,11 +1,14 @@
 //! Worked examples, and what a refused growth leaves.
 ghost use Rattle.std.specs.Prelude.{◌≡◌, OnOk, OnErr};
 ghost use Rattle.call_tree.specs.CallTree.{with_weight};
+ghost use Rattle.call_tree.specs.Listing.{AreIn, HasNumbersOf};
 
 use crate::{CallTree, FrameTable, Visit};
 use std::alloc::AllocError;
 use std::process::Abort;
 use std::test::Fail;
+
+const NAMES: [&str; 5] = ["main", "read", "parse", "emit", "close"];
 
 /// Adds to a tree whose grand total is small.
 fn add(rt: &impl Abort, tree: &mut CallTree, ids: &[usize], weight: u64) -> Result<(), AllocError>
@@ -23,14 +26,79 @@ fn weights_are(rt: &impl Abort, tree: &CallTree, path: &[usize], total: u128, ow
     assert_eq!(rt; tree.own(path), own);
 }
 
-/// Adds, or sees that the tree is as it was.
-fn add_or_nothing(rt: &impl Abort, tree: &mut CallTree, ids: &[usize]) {
-    let len = tree.len();
-    let total = tree.total(ids);
-    if add(rt, tree, ids, 5).is_err() {
-        assert_eq!(rt; tree.len(), len);
-        assert_eq!(rt; tree.total(ids), total);
+/// Interns a name. Where that is refused, the table has the names that it had, and is asked again.
+fn intern_again(
+    rt: &impl Abort,
+    table: &mut FrameTable,
+    name: &str,
+    refused: &mut bool,
+) -> Result<usize, AllocError> {
+    let len = table.len();
+    if let Ok(number) = table.intern(name) {
+        return Ok(number);
     }
+    *refused = true;
+    assert_eq!(rt; table.len(), len);
+    for number in 0..table.len() {
+        let known = table.name(number);
+        assert_eq!(rt; NAMES.get(number), Some(&known));
+    }
+    table.intern(name)
+}
+
+/// What a tree says of a path and of those that it goes on from.
+#[derive(Clone, Copy, PartialEq, Eq, Debug)]
+struct Weights {
+    len: usize,
+    totals: [u128; 4],
+    owns: [u128; 4],
+}
+
+fn weights_at(tree: &CallTree, ids: &[usize; 3]) -> Weights {
+    let ids = ids.as_slice();
+    let [one, two] = [&ids[..1], &ids[..2]];
+    Weights {
+        len: tree.len(),
+        totals: [
+            tree.total(&[]),
+            tree.total(one),
+            tree.total(two),
+            tree.total(ids),
+        ],
+        owns: [tree.own(&[]), tree.own(one), tree.own(two), tree.own(ids)],
+    }
+}
+
+/// Adds 5 at a path. Where that is refused, the tree has the weights that it had, and is asked again.
+fn add_again(
+    rt: &impl Abort,
+    tree: &mut CallTree,
+    ids: &[usize; 3],
+    refused: &mut bool,
+) -> Result<(), AllocError> {
+    let before = weights_at(tree, ids);
+    if add(rt, tree, ids, 5).is_ok() {
+        return Ok(());
+    }
+    *refused = true;
+    assert_eq!(rt; weights_at(tree, ids), before);
+    add(rt, tree, ids, 5)
+}
+
+/// Copies a tree. Where that is refused, the tree has the weights that it had, and is asked again.
+fn copy_again(
+    rt: &impl Abort,
+    tree: &CallTree,
+    ids: &[usize; 3],
+    refused: &mut bool,
+) -> Result<CallTree, AllocError> {
+    let before = weights_at(tree, ids);
+    if let Ok(copy) = tree.copy() {
+        return Ok(copy);
+    }
+    *refused = true;
+    assert_eq!(rt; weights_at(tree, ids), before);
+    tree.copy()
 }
 
 #[test]
@@ -128,6 +196,78 @@ fn listing_by_name(rt: HostRuntime) -> Result<(), Fail> {
     Ok(())
 }
 
+/// The numbers of a path are the table's.
+fn are_known(rt: &impl Abort, table: &FrameTable, ids: &[usize])
+    ensures { AreIn table.now ids.now }
+{
+    for id in ids {
+        assert!(rt; *id < table.len());
+    }
+}
+
+/// Adds 1 at each path.
+fn add_known(
+    rt: &impl Abort,
+    table: &FrameTable,
+    tree: &mut CallTree,
+    paths: &[&[usize]],
+) -> Result<(), AllocError>
+    requires { HasNumbersOf table.now tree.old }
+    ensures { HasNumbersOf table.now tree.new }
+{
+    for ids in paths {
+        are_known(rt, table, ids);
+        add(rt, tree, ids, 1)?;
+    }
+    Ok(())
+}
+
+/// Nodes on three levels, made in another order than that of their names.
+#[test]
+fn listing_of_levels(rt: HostRuntime) -> Result<(), Fail> {
+    let mut table = FrameTable::new(rt.alloc());
+    for name in ["c", "a", "b"] {
+        let _ = table.intern(name)?;
+    }
+    assert_eq!(rt; table.len(), 3);
+    let mut tree = CallTree::new(rt.alloc())?;
+    let paths: [&[usize]; 6] = [&[0, 1], &[2], &[0, 2, 1], &[1], &[0, 0], &[2, 1]];
+    add_known(&rt, &table, &mut tree, &paths)?;
+    let visits = tree.listing(&table)?;
+    let places = [
+        (0, 0),
+        (1, 1),
+        (1, 2),
+        (2, 1),
+        (1, 0),
+        (2, 1),
+        (2, 2),
+        (3, 1),
+        (2, 0),
+    ];
+    assert_eq!(rt; visits.len(), places.len());
+    for (visit, (depth, frame)) in visits.iter().zip(places) {
+        assert_eq!(rt; (visit.depth, visit.frame), (depth, frame));
+    }
+    Ok(())
+}
+
+/// The deepest path that a stack can have.
+#[test]
+fn listing_of_a_deep_path(rt: HostRuntime) -> Result<(), Fail> {
+    let mut table = FrameTable::new(rt.alloc());
+    let frame = table.intern("f")?;
+    let mut tree = CallTree::new(rt.alloc())?;
+    let path = vec![in rt.alloc(); frame; 4096]?;
+    add_known(&rt, &table, &mut tree, &[&path])?;
+    let visits = tree.listing(&table)?;
+    assert_eq!(rt; visits.len(), 4097);
+    for (depth, visit) in visits.iter().enumerate() {
+        assert_eq!(rt; (visit.depth, visit.total), (depth, 1));
+    }
+    Ok(())
+}
+
 /// A number that stands more than once in a path counts once.
 #[test]
 fn recursion_counts_once(rt: HostRuntime) -> Result<(), Fail> {
@@ -139,24 +279,28 @@ fn recursion_counts_once(rt: HostRuntime) -> Result<(), Fail> {
     Ok(())
 }
 
-/// With any one growth refused a table keeps what it held, and goes on.
+/// With any one growth refused, a table and a tree keep what they held and go on; the test then ends in that refusal.
 #[test]
-fn refused_name(rt: HostRuntime) {
+fn each_growth_refused(rt: HostRuntime) -> Result<(), Fail> {
+    let mut refused = false;
     let mut table = FrameTable::new(rt.alloc());
-    for name in ["main", "read", "parse", "main", "emit", "close"] {
-        let len = table.len();
-        if table.intern(name).is_err() {
-            assert_eq!(rt; table.len(), len);
-        }
+    for (place, name) in NAMES.iter().enumerate() {
+        assert_eq!(rt; intern_again(&rt, &mut table, name, &mut refused)?, place);
     }
-}
-
-/// With any one growth refused a tree keeps what it held, and goes on.
-#[test]
-fn refused_path(rt: HostRuntime) {
-    if let Ok(mut tree) = CallTree::new(rt.alloc()) {
-        for frame in 0..20 {
-            add_or_nothing(&rt, &mut tree, &[frame % 3, frame, frame]);
-        }
+    let mut tree = CallTree::new(rt.alloc())?;
+    for frame in 0..8 {
+        add_again(&rt, &mut tree, &[frame % 3, frame, frame], &mut refused)?;
     }
+    let copy = copy_again(&rt, &tree, &[0, 3, 3], &mut refused)?;
+    let expected = Weights {
+        len: 20,
+        totals: [40, 15, 5, 5],
+        owns: [0, 0, 0, 5],
+    };
+    assert_eq!(rt; weights_at(&tree, &[0, 3, 3]), expected);
+    assert_eq!(rt; weights_at(&copy, &[0, 3, 3]), expected);
+    if refused {
+        return Err(AllocError.into());
+    }
+    Ok(())
 }

@@ -103,8 +103,8 @@ impl CallTree {
         })
     }
 
-    /// Each path with a positive total once, ordered by its names, so each before those that begin with it. It makes and
-    /// sorts a list of all paths' names.
+    /// Each path with a positive total once, ordered by its names, so each before those that begin with it. It sorts the
+    /// nodes once.
     pub fn listing(&self, table: &FrameTable) -> Result<Vec<Visit>, AllocError>
         requires distinct { HasDistinctNames table.now }
         requires numbers { HasNumbersOf table.now self.now }

@@ -1,48 +1,80 @@
--- The frames of a location, as the loop makes them.
-use Rattle.std.proofs.Common.{◌≡◌, [], ◌∷◌, ◌++◌, ℕ, List, ◌≤◌, length, ◌<◌, ◌+◌, Option, Some, None, Bool, true, false, cond, refl, sym, ◌∙◌, ap, subst, take, drop, get_or, map, reverse, arith}
-use Rattle.std.specs.Prelude.{◌==◌, option_map}
-use Rattle.std.specs.Option.{option_or}
-use Rattle.std.specs.Ordering.{nat_cmp}
-use Rattle.std.specs.BTreeMap.{BTreeMap, get, Updates}
+-- The frames of a location, as they are lent and named.
+use Rattle.std.proofs.Common.{◌≡◌, [], ◌∷◌, ◌++◌, ℕ, ◌-◌, ◌+◌, ◌<◌, ◌≤◌, List, length, Option, Some, None, Bool, true, false, cond, refl, sym, ◌∙◌, ap, subst, take, drop, get_or, map, reverse, arith}
+use Rattle.std.specs.Prelude.{◌⊎◌, ◌&&◌, nat_le, option_map, unwrap_or, slice_range}
+use Rattle.std.specs.Option.{option_and_then}
+use Rattle.std.specs.List.{slice_get}
+use Rattle.std.specs.Slice.{IsGetRangeResult}
+use Rattle.std.specs.Borrow.{Bor}
+use Rattle.std.proofs.lemmas.List.{take-map, drop-map, take_more, length-map}
+use Rattle.std.proofs.lemmas.Option.{slice_get-get_or}
 use Rattle.std.proofs.lemmas.Grind.{common_steps}
-use Rattle.std.proofs.lemmas.List.{take_all, map-append, reverse-append}
-use Rattle.profile_tables.specs.declared.choices.Naming.{Naming}
-use Rattle.profile_tables.specs.declared.message.Content.{Content as CodeContent}
-use Rattle.profile_tables.specs.Message.{Content, scalar, first}
-use Rattle.profile_tables.specs.Tables.{id_of, id_faults, entry_of}
-use Rattle.profile_tables.specs.Naming.{frame_name, frames_of_lines, frames_of_location}
-use Rattle.profile_tables.specs.Contents.{seen_content, seen_table}
-use Rattle.profile_tables.specs.Frames.{AreFramesOf}
-use Rattle.profile_tables.proofs.IndexLemmas.{nowhere, ids_of, is_eq-nat_cmp, new_at, entry_of-more}
+use Rattle.profile_tables.specs.declared.frames.Frame.{Frame}
+use Rattle.profile_tables.specs.declared.frames.Span.{Span}
+use Rattle.profile_tables.specs.declared.frames.Frames.{Frames}
+use Rattle.profile_tables.specs.Frames.{text_in, items_in, texts_in, frames_at, LendsFrames}
+use Rattle.profile_tables.specs.Index.{place_in}
+use Rattle.profile_tables.proofs.ItemLemmas.{map-push}
 
-pub map-reverse : {A B : Type 0} (f : A → B) (xs : List A) → map f (reverse xs) ≡ reverse (map f xs)
-map-reverse f [] = refl
-map-reverse f (x ∷ xs) = ap (map f) (reverse-append (x ∷ []) xs) ∙ map-append f (reverse xs) (x ∷ []) ∙ ap (λ ys. ys ++ f x ∷ []) (map-reverse f xs) ∙ sym (reverse-append (f x ∷ []) (map f xs))
+-- what no location has
+abbrev pub nowhere : Span
+nowhere = record { start = 0; end = 0 }
 
-frames_of_lines-some : (strings : List (List ℕ)) (function_at : ℕ → Option Content) (naming : Naming) (address : ℕ) (lines : List Content) (n : ℕ) → length lines ≡ n → (n == 0) ≡ false → frames_of_lines strings function_at naming address lines ≡ reverse (map (frame_name strings function_at naming address) lines)
-frames_of_lines-some strings function_at naming address [] n len some = cc
-frames_of_lines-some strings function_at naming address (line ∷ lines) n len some = refl
+-- ---- a part of a list
 
-pub all_frames : (strings : List (List ℕ)) (function_at : ℕ → Option Content) (naming : Naming) (address : ℕ) (contents : List Content) (lines : List CodeContent) (k n : ℕ) (names names' : List (List ℕ)) → seen_table lines ≡ contents → length contents ≡ n → (n == 0) ≡ false → length lines ≤ k → names ≡ map (frame_name strings function_at naming address) (seen_table (take k lines)) → names' ≡ reverse names → names' ≡ frames_of_lines strings function_at naming address contents
-all_frames strings function_at naming address contents lines k n names names' lines_are len some all names_are reversed =
-    reversed ∙ ap reverse (names_are ∙ ap (map (frame_name strings function_at naming address)) (ap seen_table (take_all k lines all) ∙ lines_are))
-    ∙ sym (frames_of_lines-some strings function_at naming address contents n len some)
+pub map-part : {A B : Type 0} (f : A → B) (xs : List A) (start past : ℕ) → slice_range (map f xs) start past ≡ map f (slice_range xs start past)
+map-part f xs start past = ap (take (past - start)) (drop-map f start xs) ∙ take-map f (past - start) (drop start xs)
 
-frames-step : {A B : Type 0} (f : A → B) (b : Bool) (entry : A) (seen : Option A) (found : Option B) → found ≡ option_map f seen → (b ≡ true → seen ≡ None) → cond b (Some (f entry)) found ≡ option_map f (option_or seen (cond b (Some entry) None))
-frames-step f true entry seen found is none = ap (λ o. option_map f (option_or o (Some entry))) (sym (none refl))
-frames-step f false entry None found is none = is
-frames-step f false entry (Some x) found is none = is
+part-by : {A : Type 0} (b : Bool) (items found : List A) → b ≡ true → items ≡ found → cond b (Some items) None ≡ Some found
+part-by true items found holds same = ap Some same
+part-by false items found holds same = cc
 
--- one more location's frames
-pub AreFramesOf-more : (strings : List (List ℕ)) (function_at : ℕ → Option Content) (naming : Naming) (table : List CodeContent) (k id : ℕ) (frames frames' : BTreeMap ℕ (List (List ℕ))) (names : List (List ℕ)) → k < length table → AreFramesOf strings function_at naming (seen_table (take k table)) frames → first (id_faults (ids_of (take k table)) (seen_table (drop k table))) ≡ None → id ≡ scalar 1 (get_or table k nowhere).bytes.now → names ≡ frames_of_location strings function_at naming (seen_content (get_or table k nowhere)) → Updates nat_cmp frames frames' id (Some names) → AreFramesOf strings function_at naming (seen_table (take (k + 1) table)) frames'
-AreFramesOf-more strings function_at naming table k id frames frames' names lt are distinct id_is names_are updates = record {
-  each = λ q.
-      let entry : Content = seen_content (get_or table k nowhere) in
-      updates.0 q
-      ∙ ap (λ b. cond b (Some names) (get nat_cmp frames q)) (is_eq-nat_cmp id q ∙ ap (λ n. n == q) id_is)
-      ∙ ap (λ ns. cond (id_of entry == q) (Some ns) (get nat_cmp frames q)) names_are
-      ∙ frames-step (frames_of_location strings function_at naming) (id_of entry == q) entry _ _ (are.each q)
-      (λ same. let e : id_of entry ≡ q = grind (arith, common_steps) in
-      subst (λ (key : ℕ). entry_of (seen_table (take k table)) key ≡ None) e (new_at table k lt distinct))
-      ∙ ap (option_map (frames_of_location strings function_at naming)) (sym (entry_of-more table k q lt));
-}
+no_part-by : {A : Type 0} (b : Bool) (items : List A) → b ≡ false → cond b (Some items) None ≡ None
+no_part-by true items fails = cc
+no_part-by false items fails = refl
+
+within : (start past n : ℕ) → start ≤ past → past ≤ n → (nat_le start past && nat_le past n) ≡ true
+within start past n le le' = grind (arith, common_steps)
+
+outside : (start past n : ℕ) → (past < start) ⊎ (n < past) → (nat_le start past && nat_le past n) ≡ false
+outside start past n apart = grind (arith, common_steps)
+
+-- the items of a span that is one of the list
+pub items-at : {A : Type 0} (items : List A) (span : Span) → span.start ≤ span.end → span.end ≤ length items → items_in items span ≡ Some (slice_range items span.start span.end)
+items-at items span le le' = part-by _ _ _ (within span.start span.end (length items) le le') refl
+
+-- the texts of what is lent
+lent-texts : (f : Frame → List ℕ) (all : List Frame) (span : Span) (lent : Option (Bor (List Frame))) → IsGetRangeResult all span.start span.end lent → items_in (map f all) span ≡ option_map (λ part. map f part.now) lent
+lent-texts f all span None is =
+    no_part-by _ _ (outside span.start span.end (length (map f all)) (subst (λ (n : ℕ). (span.end < span.start) ⊎ (n < span.end)) (sym (length-map all f)) is.0))
+lent-texts f all span (Some part) is =
+    part-by _ _ _ (within span.start span.end (length (map f all)) is.0.0 (subst (λ (n : ℕ). span.end ≤ n) (sym (length-map all f)) is.0.1))
+    (map-part f all span.start span.end ∙ ap (map f) (sym is.0.2))
+
+lends : (frames : Frames) (id : ℕ) (lent : Option (Bor (List Frame))) → frames_at frames id ≡ option_map reverse (option_map (λ part. map (text_in frames) part.now) lent) → LendsFrames frames id lent
+lends frames id None is = is
+lends frames id (Some part) is = is
+
+-- the frames of a location whose span is this one
+pub lends-at : (frames : Frames) (id place : ℕ) (spans : List Span) (all : List Frame) (span : Span) (lent : Option (Bor (List Frame))) → Some place ≡ place_in frames.locations id → spans ≡ frames.spans.items → all ≡ frames.all.items → place < length spans → span ≡ get_or spans place nowhere → IsGetRangeResult all span.start span.end lent → LendsFrames frames id lent
+lends-at frames id place spans all span lent placed spans_are all_is lt at is = lends frames id lent
+    (ap (λ o. option_map reverse (option_and_then (texts_in frames) (option_and_then (slice_get frames.spans.items) o))) (sym placed)
+    ∙ ap (λ list. option_map reverse (option_and_then (texts_in frames) (slice_get list place))) (sym spans_are)
+    ∙ ap (λ o. option_map reverse (option_and_then (texts_in frames) o)) (slice_get-get_or spans place nowhere lt ∙ ap Some (sym at))
+    ∙ ap (λ list. option_map reverse (items_in (map (text_in frames) list) span)) (sym all_is)
+    ∙ ap (option_map reverse) (lent-texts (text_in frames) all span lent is))
+
+-- the names of one location more
+pub stacks-more : (frames : Frames) (all : List Frame) (spans : List Span) (k : ℕ) (span : Span) (lent : Option (Bor (List Frame))) (d : Bor (List Frame)) (part : List Frame) (stacks stacks' : List (List (List ℕ))) (stack : List (List ℕ)) → all ≡ frames.all.items → k < length spans → span ≡ get_or spans k nowhere → IsGetRangeResult all span.start span.end lent → d.now ≡ [] → part ≡ (unwrap_or lent d).now → stack ≡ reverse (map (text_in frames) part) → stacks ≡ map (λ s. reverse (unwrap_or (texts_in frames s) [])) (take k spans) → stacks' ≡ stacks ++ stack ∷ [] → stacks' ≡ map (λ s. reverse (unwrap_or (texts_in frames s) [])) (take (k + 1) spans)
+stacks-more frames all spans k span lent d part stacks stacks' stack all_is lt at is none part_is stack_is stacks_are more =
+    let named : Span → List (List ℕ) = λ s. reverse (unwrap_or (texts_in frames s) []) in
+    let here : stack ≡ named (get_or spans k nowhere) =
+    stack_is ∙ ap (λ (list : List Frame). reverse (map (text_in frames) list)) part_is
+    ∙ texts-or lent
+    ∙ ap (λ o. reverse (unwrap_or o [])) (sym (lent-texts (text_in frames) all span lent is) ∙ ap (λ list. items_in (map (text_in frames) list) span) all_is)
+    ∙ ap named at in
+    more ∙ ap (λ list. list ++ stack ∷ []) stacks_are ∙ ap (λ s. map named (take k spans) ++ s ∷ []) here
+    ∙ sym (map-push named (take k spans) (get_or spans k nowhere)) ∙ ap (map named) (sym (take_more spans k nowhere lt))
+  where
+    texts-or : (o : Option (Bor (List Frame))) → reverse (map (text_in frames) (unwrap_or o d).now) ≡ reverse (unwrap_or (option_map (λ (p : Bor (List Frame)). map (text_in frames) p.now) o) [])
+    texts-or None = ap (λ (list : List Frame). reverse (map (text_in frames) list)) none
+    texts-or (Some p) = refl

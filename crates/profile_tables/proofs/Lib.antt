@@ -1,3 +1,8 @@
+pub mod OwnFrameLemmas
+pub mod LineLemmas
+pub mod FunctionLemmas
+pub mod EntryLemmas
+pub mod ItemLemmas
 pub mod FileLemmas
 pub mod FirstLemmas
 pub mod FrameLemmas
@@ -6,7 +11,6 @@ pub mod TableLemmas
 pub mod PickLemmas
 pub mod PlaceLemmas
 pub mod SampleLemmas
-pub mod StackLemmas
 pub mod PlanLemmas
 pub mod ReaderLemmas
 pub mod Rows

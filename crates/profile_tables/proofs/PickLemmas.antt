@@ -1,16 +1,18 @@
 -- The place of a sample type by its name.
-use Rattle.std.proofs.Common.{◌≡◌, [], ℕ, List, ◌<◌, length, Some, None, true, false, refl, sym, ◌∙◌, ap, subst, get_or, map, arith}
-use Rattle.std.specs.Prelude.{bytes_eq, nat_lt}
+use Rattle.std.proofs.Common.{◌≡◌, [], ◌∷◌, ℕ, suc, List, ◌<◌, ◌≤◌, length, Bool, Some, None, true, false, refl, sym, ◌∙◌, ap, get_or, map, arith}
+use Rattle.std.specs.Prelude.{bytes_eq, nat_lt, ◌==◌, ◌||◌, if◌then◌else◌}
 use Rattle.std.specs.List.{position_or_len}
-use Rattle.std.proofs.lemmas.List.{get_or-map, length-map}
+use Rattle.std.proofs.lemmas.List.{get_or-map, get_or_past, length-map}
 use Rattle.std.proofs.lemmas.List.Sums.{position_or_len_is}
 use Rattle.std.proofs.lemmas.Grind.{common_steps}
+use Rattle.profile_tables.specs.declared.choices.Pick.{Pick}
 use Rattle.profile_tables.specs.declared.entries.Entries.{Entries}
 use Rattle.profile_tables.specs.declared.message.Content.{Content as CodeContent}
 use Rattle.profile_tables.specs.Message.{Content, scalar}
-use Rattle.profile_tables.specs.Tables.{string_at, strings_of, sample_types_of, type_names, place_of}
+use Rattle.profile_tables.specs.Tables.{PlacedNumber, string_at, strings_of, samples_of, sample_types_of, default_of, type_names, place_of, place_picked, chosen_value}
 use Rattle.profile_tables.specs.Contents.{seen_content, seen_table, texts_of}
-use Rattle.profile_tables.specs.Entries.{AreEntriesOf}
+use Rattle.profile_tables.specs.Entries.{names_of_types, chosen_of, AreEntriesOf}
+use Rattle.profile_tables.specs.Places.{place_of as place_of_content}
 use Rattle.profile_tables.proofs.IndexLemmas.{nowhere}
 
 pub place-found : (name : List ℕ) (names : List (List ℕ)) (i : ℕ) → i < length names → ((k : ℕ) → k < i → bytes_eq (get_or names k []) name ≡ false) → bytes_eq (get_or names i []) name ≡ true → place_of name names ≡ Some i
@@ -27,25 +29,55 @@ place-none name names before =
     let below : nat_lt (length names) (length names) ≡ false = grind (arith, common_steps) in
     rw (at, below) refl
 
-pub length-type_names : (file : List ℕ) (entries : Entries) → AreEntriesOf file entries → length (type_names file) ≡ length entries.sample_types.items
-length-type_names file entries is =
-    length-map (sample_types_of file) (λ (entry : Content). string_at (strings_of file) (scalar 1 entry.bytes))
-    ∙ ap length (sym is.sample_types) ∙ length-map entries.sample_types.items seen_content
-
-pub type_name-at : (file : List ℕ) (entries : Entries) (k : ℕ) → AreEntriesOf file entries → k < length entries.sample_types.items → get_or (type_names file) k [] ≡ string_at (texts_of entries.strings.items) (scalar 1 (get_or entries.sample_types.items k nowhere).bytes.now)
-type_name-at file entries k is lt =
-    ap (λ (table : List Content). get_or (map (λ (entry : Content). string_at (strings_of file) (scalar 1 entry.bytes)) table) k []) (sym is.sample_types)
-    ∙ get_or-map (λ (entry : Content). string_at (strings_of file) (scalar 1 entry.bytes)) (seen_table entries.sample_types.items) k (seen_content nowhere) [] (let e = length-map entries.sample_types.items seen_content in omega arith)
-    ∙ ap (λ (entry : Content). string_at (strings_of file) (scalar 1 entry.bytes)) (get_or-map seen_content entries.sample_types.items k nowhere (seen_content nowhere) lt)
-    ∙ ap (λ (texts : List Content). string_at (map (λ (text : Content). text.bytes) texts) (scalar 1 (get_or entries.sample_types.items k nowhere).bytes.now)) (sym is.strings)
+pub length-names_of_types : (entries : Entries) → length (names_of_types entries) ≡ length entries.sample_types.items
+length-names_of_types entries =
+    length-map (seen_table entries.sample_types.items) (λ (entry : Content). string_at (texts_of entries.strings.items) (scalar 1 entry.bytes))
+    ∙ length-map entries.sample_types.items seen_content
 
 -- the name at a place, as the loop has it
-pub name_here : (file : List ℕ) (entries : Entries) (k n : ℕ) (name : List ℕ) (types strings : List CodeContent) → AreEntriesOf file entries → types ≡ entries.sample_types.items → strings ≡ entries.strings.items → k < length types → n ≡ scalar 1 (get_or types k nowhere).bytes.now → name ≡ string_at (texts_of strings) n → get_or (type_names file) k [] ≡ name
-name_here file entries k n name types strings is types_are strings_are lt n_is name_is =
-    let at : get_or (type_names file) k [] ≡ string_at (texts_of entries.strings.items) (scalar 1 (get_or entries.sample_types.items k nowhere).bytes.now) =
-    type_name-at file entries k is (subst (λ (list : List CodeContent). k < length list) types_are lt) in
-    at
-    ∙ ap (λ (list : List CodeContent). string_at (texts_of entries.strings.items) (scalar 1 (get_or list k nowhere).bytes.now)) (sym types_are)
-    ∙ ap (λ (list : List CodeContent). string_at (texts_of list) (scalar 1 (get_or types k nowhere).bytes.now)) (sym strings_are)
-    ∙ ap (λ (m : ℕ). string_at (texts_of strings) m) (sym n_is)
-    ∙ sym name_is
+pub name_here : (entries : Entries) (k n : ℕ) (types : List CodeContent) (strings : List (List ℕ)) → types ≡ entries.sample_types.items → strings ≡ texts_of entries.strings.items → k < length types → n ≡ scalar 1 (get_or types k nowhere).bytes.now → get_or (names_of_types entries) k [] ≡ string_at strings n
+name_here entries k n types strings types_are strings_are lt n_is =
+    let name : Content → List ℕ = λ entry. string_at (texts_of entries.strings.items) (scalar 1 entry.bytes) in
+    let len : length (seen_table types) ≡ length types = length-map types seen_content in
+    ap (λ (table : List CodeContent). get_or (map name (seen_table table)) k []) (sym types_are)
+    ∙ get_or-map name (seen_table types) k (seen_content nowhere) [] (omega arith)
+    ∙ ap name (get_or-map seen_content types k nowhere (seen_content nowhere) lt)
+    ∙ ap (string_at (texts_of entries.strings.items)) (sym n_is)
+    ∙ ap (λ (texts : List (List ℕ)). string_at texts n) (sym strings_are)
+
+-- the names of a file's sample types
+pub names-are : (file : List ℕ) (entries : Entries) → AreEntriesOf file entries → names_of_types entries ≡ type_names file
+names-are file entries is =
+    ap (λ (table : List Content). map (λ (entry : Content). string_at (texts_of entries.strings.items) (scalar 1 entry.bytes)) table) is.sample_types
+    ∙ ap (λ (texts : List Content). map (λ (entry : Content). string_at (map (λ (text : Content). text.bytes) texts) (scalar 1 entry.bytes)) (sample_types_of file)) is.strings
+
+-- the place of a file's chosen value
+pub chosen-is : (file : List ℕ) (entries : Entries) (pick : Pick) → AreEntriesOf file entries → chosen_of entries pick ≡ chosen_value file pick
+chosen-is file entries pick is =
+    let samples : length entries.samples.items ≡ length (samples_of file) = ap (λ (list : List ℕ). length list) is.samples ∙ length-map (samples_of file) place_of_content in
+    let types : length entries.sample_types.items ≡ length (sample_types_of file) = sym (length-map entries.sample_types.items seen_content) ∙ ap (λ (list : List Content). length list) is.sample_types in
+    let default : string_at (texts_of entries.strings.items) entries.default.number ≡ string_at (strings_of file) (default_of file).number =
+    ap (λ (texts : List Content). string_at (map (λ (text : Content). text.bytes) texts) entries.default.number) is.strings ∙ ap (λ (n : PlacedNumber). string_at (strings_of file) n.number) is.default in
+    ap (λ n. if n == 0 || length entries.sample_types.items == 0 then None else place_picked pick (string_at (texts_of entries.strings.items) entries.default.number) (names_of_types entries)) samples
+    ∙ ap (λ n. if length (samples_of file) == 0 || n == 0 then None else place_picked pick (string_at (texts_of entries.strings.items) entries.default.number) (names_of_types entries)) types
+    ∙ ap (λ name. if length (samples_of file) == 0 || length (sample_types_of file) == 0 then None else place_picked pick name (names_of_types entries)) default
+    ∙ ap (λ names. if length (samples_of file) == 0 || length (sample_types_of file) == 0 then None else place_picked pick (string_at (strings_of file) (default_of file).number) names) (names-are file entries is)
+
+-- ---- the strings that are the name
+
+not_zero : (n : ℕ) → false ≡ (suc n == 0)
+not_zero n = grind (arith, common_steps)
+
+empty-is : (name : List ℕ) → bytes_eq [] name ≡ (length name == 0)
+empty-is [] = refl
+empty-is (x ∷ name) = not_zero (length name)
+
+pub match-at : (name : List ℕ) (strings : List (List ℕ)) (matches : List Bool) (index : ℕ) (b : Bool) → index < length matches → b ≡ get_or matches index true → matches ≡ map (λ string. bytes_eq string name) strings → b ≡ bytes_eq (string_at strings index) name
+match-at name strings matches index b lt is matches_are =
+    is ∙ ap (λ list. get_or list index true) matches_are
+    ∙ get_or-map (λ string. bytes_eq string name) strings index [] true (let e = ap (λ (list : List Bool). length list) matches_are in let f = length-map strings (λ string. bytes_eq string name) in omega (arith, e, f))
+
+pub match-past : (name : List ℕ) (strings : List (List ℕ)) (matches : List Bool) (index : ℕ) (b : Bool) → length matches ≤ index → b ≡ (length name == 0) → matches ≡ map (λ string. bytes_eq string name) strings → b ≡ bytes_eq (string_at strings index) name
+match-past name strings matches index b past is matches_are =
+    is ∙ sym (empty-is name)
+    ∙ ap (λ string. bytes_eq string name) (sym (get_or_past strings index [] (let e = ap (λ (list : List Bool). length list) matches_are in let f = length-map strings (λ string. bytes_eq string name) in omega (arith, e, f))))

@@ -1,5 +1,5 @@
 -- The rest of a file, sample by sample.
-use Rattle.std.proofs.Common.{◌≡◌, [], ◌∷◌, ◌++◌, ℕ, zero, suc, ◌+◌, ◌<◌, ◌≤◌, List, length, Option, Some, None, Bool, true, false, cond, refl, sym, ◌∙◌, ap, subst, drop, get_or, map, arith}
+use Rattle.std.proofs.Common.{◌≡◌, [], ◌∷◌, ◌++◌, ℕ, zero, suc, ◌+◌, ◌<◌, ◌≤◌, List, length, Option, Some, None, Bool, true, false, cond, refl, sym, ◌∙◌, ap, subst, drop, get_or, map, add-one, drop-cons, arith}
 use Rattle.std.specs.Prelude.{nat_lt, sum_by, filter_map}
 use Rattle.std.specs.List.{AllByRecursion, cons_option}
 use Rattle.std.proofs.lemmas.Grind.{common_steps}
@@ -18,9 +18,8 @@ use Rattle.profile_tables.specs.Shapes.{faults_in, sample_shape}
 use Rattle.profile_tables.specs.Tables.{samples_of}
 use Rattle.profile_tables.specs.Places.{place_of, content_at, found_at}
 use Rattle.profile_tables.specs.Samples.{SampleTables, tables_of, weight_of, stack_of, value_faults, id_faults_of, weight_faults, depth_faults, total_faults, sample_faults, sample_of, with_sample, sample_then, read_samples, rest_of, file_faults, read_pprof}
-use Rattle.profile_tables.proofs.IndexLemmas.{first-none-parts}
+use Rattle.profile_tables.proofs.FirstLemmas.{first-none-parts}
 use Rattle.profile_tables.proofs.PlaceLemmas.{found-samples, few-fields}
-use Rattle.profile_tables.proofs.StackLemmas.{ids-at}
 
 pub start_is : (file : List ℕ) (pick : Pick) (naming : Naming) (tables : SampleTables) (places : List ℕ) → first (file_faults file pick) ≡ None → tables ≡ tables_of file pick naming → places ≡ map place_of (samples_of file) → read_samples tables 0 (map (found_at file) (drop 0 places)) ≡ read_pprof file pick naming
 start_is file pick naming tables places none tables_are places_are =
@@ -29,11 +28,14 @@ start_is file pick naming tables places none tables_are places_are =
     ∙ ap (λ t. read_samples t 0 (samples_of file)) tables_are
     ∙ sym (ap (λ o. rest_of o (read_samples (tables_of file pick naming) 0 (samples_of file))) none)
 
+places-at : (places : List ℕ) (k : ℕ) → k < length places → drop k places ≡ get_or places k 0 ∷ drop (k + 1) places
+places-at places k lt = drop-cons places k 0 lt ∙ ap (λ n. get_or places k 0 ∷ drop n places) (sym (add-one k))
+
 pub next_is : (file : List ℕ) (tables : SampleTables) (places : List ℕ) (next total at : ℕ) (sample : Sample) → next < length places → at ≡ get_or places next 0 → first (sample_faults tables total (content_at file at)) ≡ None → sample ≡ sample_of tables (content_at file at) → read_samples tables total (map (found_at file) (drop next places)) ≡ with_sample sample (read_samples tables (total + sample.weight) (map (found_at file) (drop (next + 1) places)))
 next_is file tables places next total at sample lt at_is none sample_is =
     let others : List Content = map (found_at file) (drop (next + 1) places) in
     let bytes : List ℕ = content_at file at in
-    ap (λ list. read_samples tables total (map (found_at file) list)) (ids-at places next lt ∙ ap (λ n. n ∷ drop (next + 1) places) (sym at_is))
+    ap (λ list. read_samples tables total (map (found_at file) list)) (places-at places next lt ∙ ap (λ n. n ∷ drop (next + 1) places) (sym at_is))
     ∙ ap (λ o. sample_then o at (sample_of tables bytes) (read_samples tables (total + weight_of tables.chosen bytes) others)) none
     ∙ ap (λ (read : Sample). with_sample read (read_samples tables (total + read.weight) others)) (sym sample_is)
 

@@ -11,7 +11,7 @@ use Rattle.profile_tables.specs.declared.choices.Naming.{Naming}
 use Rattle.profile_tables.specs.declared.plan.Plan.{Plan}
 use Rattle.profile_tables.specs.declared.reader.PprofReader.TheInside.{Inside}
 use Rattle.profile_tables.specs.Places.{found_at}
-use Rattle.profile_tables.specs.SeenTables.{seen_tables}
+use Rattle.profile_tables.specs.SeenPlan.{seen_plan}
 use Rattle.profile_tables.specs.State.{State}
 use Rattle.profile_tables.specs.View.{rest_by, rest_or_ended, state_of}
 use Rattle.profile_tables.proofs.PlanLemmas.{few-read, few-pprof}
@@ -23,7 +23,7 @@ few-rest : (bytes : Vec ℕ Global) (pick : Pick) (naming : Naming) (plan : Opti
 few-rest bytes pick naming None given total = let a = few-pprof bytes.items pick naming in let b = few-items bytes in omega (arith, a, b)
 few-rest bytes pick naming (Some plan) given total =
     let places : List ℕ = plan.samples.items in
-    let a = few-read (seen_tables plan.tables) total (map (found_at bytes.items) (drop given places)) in
+    let a = few-read (seen_plan plan) total (map (found_at bytes.items) (drop given places)) in
     let b = length-map (drop given places) (found_at bytes.items) in
     let d = length-drop given places in
     let e = few-items plan.samples in omega (arith, a, b, d, e)

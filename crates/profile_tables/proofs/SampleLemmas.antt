@@ -1,5 +1,5 @@
 -- The first fault of a sample, check by check.
-use Rattle.std.proofs.Common.{◌≡◌, [], ◌∷◌, ◌++◌, ℕ, ◌+◌, ◌<◌, ◌≤◌, ◌^◌, List, length, Option, Some, None, Bool, true, false, refl, sym, ◌∙◌, ap, reverse, arith, length-append}
+use Rattle.std.proofs.Common.{◌≡◌, [], ◌∷◌, ◌++◌, ℕ, ◌+◌, ◌<◌, ◌≤◌, ◌-◌, ◌^◌, min, List, length, Option, Some, None, true, false, refl, sym, ◌∙◌, ap, reverse, arith, length-append}
 use Rattle.std.specs.Prelude.{flat_map, is_none, nat_lt, slice_index, unwrap_or, ◌==◌}
 use Rattle.std.specs.List.{list_any}
 use Rattle.std.proofs.lemmas.Grind.{common_steps, flat_map-append}
@@ -14,7 +14,7 @@ use Rattle.profile_tables.proofs.FirstLemmas.{first-append_none, first-append_so
 
 -- what is known of a sample behind the first four checks
 pub record Passes (tables : SampleTables) (sample values ids : List ℕ) (weight : ℕ) : Type 0 where
-  pub message : None ≡ first (faults_in sample_shape sample)
+  pub message : first (faults_in sample_shape sample) ≡ None
   pub values_are : values ≡ values_of sample
   pub ids_are : ids ≡ location_ids sample
   pub count : length values ≡ tables.sample_types
@@ -54,7 +54,7 @@ passed tables sample values ids weight passes =
     let m = faults_in sample_shape sample in
     first-append_none (m ++ value_faults tables sample ++ id_faults_of tables sample) _
     (first-append_none (m ++ value_faults tables sample) _
-    (first-append_none m _ (sym passes.message) ∙ ap first v) ∙ ap first u) ∙ ap first n
+    (first-append_none m _ passes.message ∙ ap first v) ∙ ap first u) ∙ ap first n
 
 deep_fault : (tables : SampleTables) (sample : List ℕ) → nat_lt FRAME_LIMIT (length (stack_of tables.frames sample)) ≡ true → first (depth_faults tables sample) ≡ Some TooDeep
 deep_fault tables sample deep = rw deep refl
@@ -82,28 +82,34 @@ length-frames_of_ids frames (id ∷ ids) =
     let before : length (flat_map f (reverse ids)) ≡ length (flat_map f ids) = length-frames_of_ids frames ids in
     omega arith
 
-deep-is : (tables : SampleTables) (sample values ids : List ℕ) (weight : ℕ) (deep : Bool) → Passes tables sample values ids weight → deep ≡ nat_lt FRAME_LIMIT (length (frames_of_ids tables.frames ids)) → nat_lt FRAME_LIMIT (length (stack_of tables.frames sample)) ≡ deep
-deep-is tables sample values ids weight deep passes is =
-    ap (nat_lt FRAME_LIMIT) (ap (λ list. length (stack_of_ids tables.frames list)) (sym passes.ids_are) ∙ length-frames_of_ids tables.frames ids) ∙ sym is
+same-depth : (tables : SampleTables) (sample values ids : List ℕ) (weight : ℕ) → Passes tables sample values ids weight → length (stack_of tables.frames sample) ≡ length (frames_of_ids tables.frames ids)
+same-depth tables sample values ids weight passes =
+    ap (λ list. length (stack_of_ids tables.frames list)) (sym passes.ids_are) ∙ length-frames_of_ids tables.frames ids
 
-pub too_deep : (tables : SampleTables) (total : ℕ) (sample values ids : List ℕ) (weight : ℕ) (deep : Bool) → Passes tables sample values ids weight → deep ≡ nat_lt FRAME_LIMIT (length (frames_of_ids tables.frames ids)) → deep ≡ true → first (sample_faults tables total sample) ≡ Some TooDeep
-too_deep tables total sample values ids weight deep passes is yes' =
+-- a depth that is counted up to the greatest number
+abbrev pub counted : SampleTables → List ℕ → ℕ
+counted tables ids = min (length (frames_of_ids tables.frames ids)) (2 ^ 64 - 1)
+
+pub too_deep : (tables : SampleTables) (total : ℕ) (sample values ids : List ℕ) (weight depth : ℕ) → Passes tables sample values ids weight → depth ≡ counted tables ids → FRAME_LIMIT < depth → first (sample_faults tables total sample) ≡ Some TooDeep
+too_deep tables total sample values ids weight depth passes is deep =
+    let same = same-depth tables sample values ids weight passes in
     first-append_some _ _ _ (first-append_none _ (depth_faults tables sample) (passed tables sample values ids weight passes)
-    ∙ deep_fault tables sample (deep-is tables sample values ids weight deep passes is ∙ yes'))
+    ∙ deep_fault tables sample (below FRAME_LIMIT (length (stack_of tables.frames sample)) (omega arith)))
 
-behind_depth : (tables : SampleTables) (sample values ids : List ℕ) (weight : ℕ) (deep : Bool) → Passes tables sample values ids weight → deep ≡ nat_lt FRAME_LIMIT (length (frames_of_ids tables.frames ids)) → deep ≡ false → first (faults_in sample_shape sample ++ value_faults tables sample ++ id_faults_of tables sample ++ weight_faults tables sample ++ depth_faults tables sample) ≡ None
-behind_depth tables sample values ids weight deep passes is no' =
+behind_depth : (tables : SampleTables) (sample values ids : List ℕ) (weight depth : ℕ) → Passes tables sample values ids weight → depth ≡ counted tables ids → depth ≤ FRAME_LIMIT → first (faults_in sample_shape sample ++ value_faults tables sample ++ id_faults_of tables sample ++ weight_faults tables sample ++ depth_faults tables sample) ≡ None
+behind_depth tables sample values ids weight depth passes is shallow =
+    let same = same-depth tables sample values ids weight passes in
     first-append_none _ (depth_faults tables sample) (passed tables sample values ids weight passes)
-    ∙ no_deep_fault tables sample (deep-is tables sample values ids weight deep passes is ∙ no')
+    ∙ no_deep_fault tables sample (not_below FRAME_LIMIT (length (stack_of tables.frames sample)) (omega arith))
 
-pub too_large : (tables : SampleTables) (total : ℕ) (sample values ids : List ℕ) (weight : ℕ) (deep : Bool) → Passes tables sample values ids weight → deep ≡ nat_lt FRAME_LIMIT (length (frames_of_ids tables.frames ids)) → deep ≡ false → WEIGHT_LIMIT < total + weight → first (sample_faults tables total sample) ≡ Some TotalTooLarge
-too_large tables total sample values ids weight deep passes is no' large =
-    first-append_none _ (total_faults tables total sample) (behind_depth tables sample values ids weight deep passes is no')
+pub too_large : (tables : SampleTables) (total : ℕ) (sample values ids : List ℕ) (weight depth : ℕ) → Passes tables sample values ids weight → depth ≡ counted tables ids → depth ≤ FRAME_LIMIT → WEIGHT_LIMIT < total + weight → first (sample_faults tables total sample) ≡ Some TotalTooLarge
+too_large tables total sample values ids weight depth passes is shallow large =
+    first-append_none _ (total_faults tables total sample) (behind_depth tables sample values ids weight depth passes is shallow)
     ∙ total_fault tables total sample (ap (λ w. nat_lt WEIGHT_LIMIT (total + w)) (sym (weight-passed tables sample values ids weight passes)) ∙ below _ _ large)
 
-pub no_fault : (tables : SampleTables) (total : ℕ) (sample values ids : List ℕ) (weight : ℕ) (deep : Bool) → Passes tables sample values ids weight → deep ≡ nat_lt FRAME_LIMIT (length (frames_of_ids tables.frames ids)) → deep ≡ false → total + weight ≤ WEIGHT_LIMIT → first (sample_faults tables total sample) ≡ None
-no_fault tables total sample values ids weight deep passes is no' small =
-    first-append_none _ (total_faults tables total sample) (behind_depth tables sample values ids weight deep passes is no')
+pub no_fault : (tables : SampleTables) (total : ℕ) (sample values ids : List ℕ) (weight depth : ℕ) → Passes tables sample values ids weight → depth ≡ counted tables ids → depth ≤ FRAME_LIMIT → total + weight ≤ WEIGHT_LIMIT → first (sample_faults tables total sample) ≡ None
+no_fault tables total sample values ids weight depth passes is shallow small =
+    first-append_none _ (total_faults tables total sample) (behind_depth tables sample values ids weight depth passes is shallow)
     ∙ no_total_fault tables total sample (ap (λ w. nat_lt WEIGHT_LIMIT (total + w)) (sym (weight-passed tables sample values ids weight passes)) ∙ not_below _ _ small)
 
 pub sample_is : (tables : SampleTables) (sample values ids : List ℕ) (weight : ℕ) (stack : List (List ℕ)) → Passes tables sample values ids weight → stack ≡ stack_of_ids tables.frames ids → (let read : Sample = record { stack = stack; weight = weight } in read) ≡ sample_of tables sample

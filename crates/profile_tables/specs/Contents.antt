@@ -1,27 +1,17 @@
 -- Tables as the code has them.
-use Rattle.std.specs.Prelude.{◌≡◌, ℕ, List, map, flat_map, Option, Some, option_map}
-use Rattle.std.specs.Ordering.{nat_cmp}
-use Rattle.std.specs.BTreeMap.{BTreeMap, get}
+use Rattle.std.specs.Prelude.{◌≡◌, ℕ, List, map, flat_map, Option, Some}
 use Rattle.stack_core.specs.declared.endings.ReadFault.{ReadFault}
 use Rattle.profile_tables.specs.declared.faults.TableFault.{TableFault}
 use Rattle.profile_tables.specs.declared.faults.TableFault.TheVariants.{Read, OutOfMemory}
 use Rattle.profile_tables.specs.declared.message.Content.{Content}
 use Rattle.profile_tables.specs.Message.{Content as SeenContent, first}
-use Rattle.profile_tables.specs.Tables.{entry_of, string_faults_of, location_faults}
+use Rattle.profile_tables.specs.Tables.{string_faults_of, location_faults}
 
 abbrev pub seen_content : Content → SeenContent
 seen_content content = record { at = content.at; bytes = content.bytes.now }
 
 abbrev pub seen_table : List Content → List SeenContent
 seen_table table = map seen_content table
-
--- the entry that a map has of an id
-abbrev pub found_in : BTreeMap ℕ Content → ℕ → Option SeenContent
-found_in entries id = option_map seen_content (get nat_cmp entries id)
-
--- the map has the entry of each id
-pub record IsIndexOf (table : List SeenContent) (entries : BTreeMap ℕ Content) : Type 0 where
-  pub each : (id : ℕ) → found_in entries id ≡ entry_of table id
 
 -- a fault of the file is the first of these
 abbrev pub IsFirstOf : List ReadFault → TableFault → Type 0

@@ -4,9 +4,13 @@ pub mod Tables
 pub mod Naming
 pub mod Samples
 pub mod Contents
+pub mod Index
 pub mod Entries
+pub mod Functions
 pub mod Frames
 pub mod SeenTables
+pub mod SeenPlan
+pub mod Gathered
 pub mod Outcome
 pub mod Places
 pub mod Plans

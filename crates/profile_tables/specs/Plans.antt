@@ -8,15 +8,15 @@ use Rattle.stack_core.specs.Reading.{Rest, IsLimited}
 use Rattle.profile_tables.specs.declared.choices.Pick.{Pick}
 use Rattle.profile_tables.specs.declared.choices.Naming.{Naming}
 use Rattle.profile_tables.specs.declared.plan.Plan.{Plan}
-use Rattle.profile_tables.specs.declared.plan.Start.{Start}
-use Rattle.profile_tables.specs.declared.plan.Start.TheVariants as start
+use Rattle.profile_tables.specs.declared.steps.Start.{Start}
+use Rattle.profile_tables.specs.declared.steps.Start.TheVariants as start
 use Rattle.profile_tables.specs.Places.{found_at}
 use Rattle.profile_tables.specs.Samples.{read_samples, read_pprof, with_sample, no_samples}
-use Rattle.profile_tables.specs.SeenTables.{seen_tables}
+use Rattle.profile_tables.specs.SeenPlan.{seen_plan}
 
 -- the rest behind the first `next` samples of a file, which have this total weight
 abbrev pub rest_from : List ℕ → Plan → ℕ → ℕ → Rest
-rest_from file plan next total = read_samples (seen_tables plan.tables) total (map (found_at file) (drop next plan.samples.items))
+rest_from file plan next total = read_samples (seen_plan plan) total (map (found_at file) (drop next plan.samples.items))
 
 -- the rest of a reader that has given its last sample
 abbrev pub ended : SourceEnd → Rest

@@ -1,14 +1,19 @@
 -- `Tables` as contracts see it.
 use Rattle.std.specs.Prelude.{◌≡◌, ℕ, List, Option, Some, None, map, string_bytes, String}
 use Rattle.std.specs.declared.alloc.Global.{Global}
-use Rattle.std.specs.Ordering.{nat_cmp}
-use Rattle.std.specs.BTreeMap.{get}
+use Rattle.std.specs.Option.{option_and_then}
+use Rattle.std.specs.List.{slice_get}
 use Rattle.std.specs.Borrow.{Bor}
 use Rattle.profile_tables.specs.declared.tables.Tables.{Tables}
 use Rattle.profile_tables.specs.Samples.{SampleTables}
+use Rattle.profile_tables.specs.Index.{place_in}
 
 abbrev pub seen_tables : Tables → SampleTables
-seen_tables tables = record { sample_types = tables.sample_types; chosen = tables.chosen; frames = λ id. get nat_cmp tables.frames id }
+seen_tables tables = record {
+  sample_types = tables.sample_types;
+  chosen = tables.chosen;
+  frames = λ id. option_and_then (slice_get tables.frames.items) (place_in tables.locations id);
+}
 
 -- the names that are lent
 abbrev pub LendsNames : Option (List (List ℕ)) → Option (Bor (List (String Global))) → Type 0

@@ -1,57 +1,89 @@
 //! Which value of a sample is its weight.
 
-ghost use Rattle.std.specs.Prelude.{◌≡◌};
+ghost use Rattle.std.specs.Prelude.{◌≡◌, List, ℕ, IfOk, map, bytes_eq};
 ghost use Rattle.profile_tables.specs.Message.{first};
-ghost use Rattle.profile_tables.specs.Tables.{place_of as place_in, type_names, chosen_value as value_chosen, type_faults};
-ghost use Rattle.profile_tables.specs.Entries.{AreEntriesOf};
+ghost use Rattle.profile_tables.specs.Tables.{string_at as string_of, place_of as place_in, chosen_value as value_chosen, type_faults};
+ghost use Rattle.profile_tables.specs.Contents.{texts_of};
+ghost use Rattle.profile_tables.specs.Entries.{names_of_types, chosen_of, AreEntriesOf};
 
 use crate::choices::Pick;
 use crate::entries::Entries;
-use crate::message::scalar;
-use crate::strings::{default_of, string_at};
+use crate::message::{Content, scalar};
+use crate::strings::string_at;
 use stack_core::{ReadFault, ReadKind};
+use std::alloc::{AllocError, Global};
+
+/// For each string whether it is this name. Each is compared once, however many sample types name it.
+fn matches_of(alloc: Global, strings: &[Content<'_>], name: &[u8]) -> Result<Vec<bool>, AllocError>
+    ensures { IfOk result (λ matches. matches.items ≡ map (λ string. bytes_eq string name.now) (texts_of strings.now)) }
+{
+    let mut matches = Vec::with_capacity(alloc, strings.len())?;
+    for string in strings {
+        matches.push(string.bytes == name)?;
+    }
+    Ok(matches)
+}
+
+/// Whether the string at an index is the name, where these are the strings that are.
+fn is_match(matches: &[bool], name: &[u8], index: u64) -> bool
+    ensures { (strings : List (List ℕ)) →
+        matches.now ≡ map (λ string. bytes_eq string name.now) strings →
+        result ≡ bytes_eq (string_of strings index) name.now }
+{
+    match matches.get(index as usize) {
+        Some(is_match) => *is_match,
+        None => name.is_empty(),
+    }
+}
 
 /// The place of the first sample type of this name.
-fn place_of(file: &[u8], entries: &Entries<'_>, name: &[u8]) -> Option<usize>
-    requires { AreEntriesOf file.now entries.now }
-    ensures { result ≡ place_in name.now (type_names file.now) }
+fn place_of(alloc: Global, entries: &Entries<'_>, name: &[u8]) -> Result<Option<usize>, AllocError>
+    ensures { IfOk result (λ place. place ≡ place_in name.now (names_of_types entries.now)) }
 {
+    let matches = matches_of(alloc, &entries.strings, name)?;
     for (place, sample_type) in entries.sample_types.iter().enumerate() {
-        if string_at(&entries.strings, scalar(sample_type.bytes, 1)) == name {
-            return Some(place);
+        if is_match(&matches, name, scalar(sample_type.bytes, 1)) {
+            return Ok(Some(place));
         }
     }
-    None
+    Ok(None)
 }
 
 /// The place of the chosen value, where there are samples and sample types.
-pub(crate) fn chosen_value(file: &[u8], entries: &Entries<'_>, pick: &Pick) -> Option<usize>
-    requires { AreEntriesOf file.now entries.now }
-    ensures { result ≡ value_chosen file.now pick.now }
+pub(crate) fn chosen_value(
+    alloc: Global,
+    entries: &Entries<'_>,
+    pick: &Pick,
+) -> Result<Option<usize>, AllocError>
+    ensures { IfOk result (λ place. place ≡ chosen_of entries.now pick.now) }
 {
     let types = entries.sample_types.len();
     if entries.samples.is_empty() || types == 0 {
-        return None;
+        return Ok(None);
     }
     match pick {
-        Pick::Named(name) => place_of(file, entries, name.get().as_bytes()),
+        Pick::Named(name) => place_of(alloc, entries, name.get().as_bytes()),
         Pick::Preferred => {
-            let default = string_at(&entries.strings, default_of(file).number);
+            let default = string_at(&entries.strings, entries.default.number);
             if default.is_empty() {
-                return Some(types - 1);
+                return Ok(Some(types - 1));
             }
-            match place_of(file, entries, default) {
-                Some(place) => Some(place),
-                None => Some(types - 1),
+            match place_of(alloc, entries, default)? {
+                Some(place) => Ok(Some(place)),
+                None => Ok(Some(types - 1)),
             }
         }
     }
 }
 
-/// The fault of samples without sample types, or without the one that was asked for.
-pub(crate) fn type_fault(file: &[u8], entries: &Entries<'_>, pick: &Pick) -> Option<ReadFault>
+/// The fault of samples without sample types, or without the one that was asked for, where this value is chosen.
+pub(crate) fn type_fault(
+    file: &[u8],
+    entries: &Entries<'_>,
+    chosen: Option<usize>,
+) -> Option<ReadFault>
     requires { AreEntriesOf file.now entries.now }
-    ensures { result ≡ first (type_faults file.now pick.now) }
+    ensures { (pick : Pick) → chosen ≡ value_chosen file.now pick → result ≡ first (type_faults file.now pick) }
 {
     let at = file.len() as u64;
     if entries.samples.is_empty() {
@@ -61,7 +93,7 @@ pub(crate) fn type_fault(file: &[u8], entries: &Entries<'_>, pick: &Pick) -> Opt
         let kind = ReadKind::NoSampleType;
         return Some(ReadFault { kind, at });
     }
-    if chosen_value(file, entries, pick).is_none() {
+    if chosen.is_none() {
         let kind = ReadKind::UnknownSampleType;
         return Some(ReadFault { kind, at });
     }

@@ -1,68 +1,113 @@
-//! What a reader goes by, once the tables of its file are read.
+//! What the samples of a profile are read with.
 
-ghost use Rattle.std.specs.Prelude.{◌≡◌, ◌≤◌, IfOk};
-ghost use Rattle.profile_tables.specs.Plans.{IsStart, IsNext};
+ghost use Rattle.std.specs.Prelude.{◌≡◌, ℕ, List, None, map, IfOk, IfErr};
+ghost use Rattle.profile_tables.specs.Message.{first};
+ghost use Rattle.profile_tables.specs.Tables.{samples_of};
+ghost use Rattle.profile_tables.specs.Places.{place_of};
+ghost use Rattle.profile_tables.specs.Samples.{early_faults, file_faults, tables_of};
+ghost use Rattle.profile_tables.specs.Contents.{seen_table, IsFirstOf};
+ghost use Rattle.profile_tables.specs.Index.{IsIndexOf};
+ghost use Rattle.profile_tables.specs.Entries.{AreEntriesOf};
+ghost use Rattle.profile_tables.specs.Naming.{frames_of as frames_of_file};
+ghost use Rattle.profile_tables.specs.Frames.{frames_at, IsWhole};
+ghost use Rattle.profile_tables.specs.SeenPlan.{seen_plan};
 
+use crate::checks::{function_fault, string_fault};
 use crate::choices::{Naming, Pick};
+use crate::entries::{Entries, entries_of};
 use crate::faults::TableFault;
-use crate::places::{content_at, sample_places};
-use crate::samples::read_sample;
-use crate::tables::Tables;
-use stack_core::{ReadFault, SourceEnd, Step, WEIGHT_LIMIT};
+use crate::frames::Frames;
+use crate::functions::function_names;
+use crate::ids::{Index, index_of};
+use crate::lines::frames_of;
+use crate::picking::{chosen_value, type_fault};
+use crate::shapes::field_fault;
+use crate::strings::string_zero_fault;
+use stack_core::{ReadFault, ReadKind};
 use std::alloc::{AllocError, Global};
 
-/// The tables of a file, and the offset of each sample's tag.
+/// What the samples of a profile are read with, and where they stand.
 #[derive(Debug, Drop)]
 pub(crate) struct Plan {
-    pub(crate) tables: Tables,
+    pub(crate) sample_types: usize,
+    pub(crate) chosen: Option<usize>,
+    pub(crate) frames: Frames,
+    /// The offset of each sample's tag.
     pub(crate) samples: Vec<usize>,
 }
 
-/// What reading the tables of a file gives.
-#[derive(Drop)]
-pub(crate) enum Start {
-    Plan(Plan),
-    Fault(ReadFault),
+/// The fault of compressed bytes, else that of the fields.
+fn early_fault(file: &[u8]) -> Option<ReadFault>
+    ensures { result ≡ first (early_faults file.now) }
+{
+    if file.len() > 1 && file[0] == 0x1f && file[1] == 0x8b {
+        let kind = ReadKind::Compressed;
+        return Some(ReadFault { kind, at: 0 });
+    }
+    field_fault(file)
 }
 
-/// Reads the tables of a file.
+/// The frames of a profile's locations, where its functions and locations have these places.
+fn profile_frames(
+    alloc: Global,
+    entries: &Entries<'_>,
+    functions: &Index,
+    locations: Index,
+    naming: Naming,
+) -> Result<Frames, AllocError>
+    requires functions { IsIndexOf (seen_table entries.now.functions.items) functions.now }
+    requires locations { IsIndexOf (seen_table entries.now.locations.items) locations }
+    ensures frames { IfOk result (λ frames. (file : List ℕ) → AreEntriesOf file entries.now →
+        (id : ℕ) → frames_at frames id ≡ frames_of_file file naming id) }
+    ensures whole { IfOk result IsWhole }
+{
+    let named = function_names(alloc, &entries.strings, &entries.functions)?;
+    frames_of(
+        alloc,
+        functions,
+        named,
+        naming,
+        &entries.locations,
+        locations,
+    )
+}
+
+/// Reads the tables of a profile.
 pub(crate) fn plan_of(
     alloc: Global,
     file: &[u8],
     pick: &Pick,
     naming: Naming,
-) -> Result<Start, AllocError>
-    ensures { IfOk result (IsStart file.now pick.now naming) }
+) -> Result<Plan, TableFault>
+    ensures faultless { IfOk result (λ _. first (file_faults file.now pick.now) ≡ None) }
+    ensures tables { IfOk result (λ plan. seen_plan plan ≡ tables_of file.now pick.now naming) }
+    ensures whole { IfOk result (λ plan. IsWhole plan.frames) }
+    ensures samples { IfOk result (λ plan. plan.samples.items ≡ map place_of (samples_of file.now)) }
+    ensures fault { IfErr result (IsFirstOf (file_faults file.now pick.now)) }
 {
-    match Tables::read(alloc, file, pick, naming) {
-        Ok(tables) => {
-            let samples = sample_places(alloc, file)?;
-            Ok(Start::Plan(Plan { tables, samples }))
-        }
-        Err(TableFault::Read(fault)) => Ok(Start::Fault(fault)),
-        Err(TableFault::OutOfMemory) => Err(AllocError),
+    if let Some(fault) = early_fault(file) {
+        return Err(TableFault::Read(fault));
     }
-}
-
-/// The next sample of a file, where `next` of them, of this total weight, were given, or the ending.
-pub(crate) fn next_step(
-    alloc: Global,
-    file: &[u8],
-    plan: &Plan,
-    next: usize,
-    total: u64,
-) -> Result<Step, AllocError>
-    requires { total ≤ WEIGHT_LIMIT }
-    ensures { IfOk result (IsNext file.now plan.now next total) }
-{
-    let Some(at) = plan.samples.get(next) else {
-        return Ok(Step::End(SourceEnd::Clean { ignored: 0 }));
-    };
-    match read_sample(alloc, &plan.tables, total, content_at(file, *at))? {
-        Ok(sample) => Ok(Step::Sample(sample)),
-        Err(kind) => {
-            let at = *at as u64;
-            Ok(Step::End(SourceEnd::Fault(ReadFault { kind, at })))
-        }
+    let entries = entries_of(alloc, file)?;
+    if let Some(fault) = string_zero_fault(&entries.strings) {
+        return Err(TableFault::Read(fault));
     }
+    let functions = index_of(alloc, &entries.functions)?;
+    let locations = index_of(alloc, &entries.locations)?;
+    if let Some(fault) = string_fault(&entries) {
+        return Err(TableFault::Read(fault));
+    }
+    if let Some(fault) = function_fault(&functions, &entries.locations) {
+        return Err(TableFault::Read(fault));
+    }
+    let chosen = chosen_value(alloc, &entries, pick)?;
+    if let Some(fault) = type_fault(file, &entries, chosen) {
+        return Err(TableFault::Read(fault));
+    }
+    Ok(Plan {
+        sample_types: entries.sample_types.len(),
+        chosen,
+        frames: profile_frames(alloc, &entries, &functions, locations, naming)?,
+        samples: entries.samples,
+    })
 }

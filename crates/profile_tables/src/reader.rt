@@ -5,13 +5,17 @@ ghost use Rattle.stack_core.specs.Reading.{IsSourceLimited};
 ghost use Rattle.profile_tables.specs.Samples.{read_pprof};
 
 use crate::choices::{Naming, Pick};
-use crate::plan::{Plan, Start, next_step, plan_of};
+use crate::plan::Plan;
+use crate::steps::{Start, next_step, start_of};
 use stack_core::{SampleReader, SourceEnd, Step};
 use std::alloc::{AllocError, Global};
 use std::marker::Model;
 
 /// Reads the samples of a pprof profile that is not compressed. Contracts see what it still has to give, and whether it has answered
 /// the ending.
+///
+/// It keeps the file, and of its tables no more than a few times the file's size: each name once, however many frames have it. The
+/// frames of a sample are counted before they are made.
 #[derive(Debug, Drop)]
 pub struct PprofReader {
     bytes: Vec<u8>,
@@ -66,7 +70,7 @@ impl SampleReader for PprofReader {
             return Ok(Step::End(ending));
         }
         if self.plan.is_none() {
-            match plan_of(alloc, &self.bytes, &self.pick, self.naming)? {
+            match start_of(alloc, &self.bytes, &self.pick, self.naming)? {
                 Start::Plan(plan) => self.plan = Some(plan),
                 Start::Fault(fault) => {
                     let ending = SourceEnd::Fault(fault);

@@ -2,15 +2,14 @@
 
 ghost use Rattle.std.specs.Prelude.{◌≡◌, ℕ, List};
 ghost use Rattle.wire_fields.specs.Field.{seen_value};
-ghost use Rattle.wire_fields.specs.Reading.{numbers_of};
 ghost use Rattle.profile_tables.specs.Message.{first};
-ghost use Rattle.profile_tables.specs.Shapes.{Shape, scalar_shape, repeated_shape, faults_of_value, faults_in, kind_of, kinds_of_fault, field_faults, value_type_shape, sample_shape, line_shape, function_shape, location_shape, profile_shape};
+ghost use Rattle.profile_tables.specs.Shapes.{Shape, scalar_shape, faults_of_value, faults_in, kind_of, field_faults, value_type_shape, line_shape, function_shape, location_shape, profile_shape};
 
 use stack_core::{ReadFault, ReadKind};
-use wire_fields::{FieldValue, Fields, Packed, WireKind};
+use wire_fields::{FieldValue, Fields, WireKind};
 
 /// The fault of a field or a file that a fault of the wire format is.
-fn read_kind(kind: WireKind) -> ReadKind
+pub(crate) fn read_kind(kind: WireKind) -> ReadKind
     ensures { result ≡ kind_of kind }
 {
     match kind {
@@ -18,20 +17,6 @@ fn read_kind(kind: WireKind) -> ReadKind
         WireKind::BadVarint => ReadKind::BadVarint,
         WireKind::BadFieldNumber => ReadKind::BadFieldNumber,
         WireKind::BadWireType => ReadKind::BadWireType,
-    }
-}
-
-/// What is wrong with a packed run.
-fn run_fault(run: &[u8]) -> Option<ReadKind>
-    ensures { result ≡ first (kinds_of_fault (numbers_of run.now).fault) }
-{
-    let mut numbers = Packed::over(run);
-    loop {
-        match numbers.next() {
-            Ok(Some(_)) => {}
-            Ok(None) => return None,
-            Err(fault) => return Some(read_kind(fault.kind)),
-        }
     }
 }
 
@@ -44,17 +29,6 @@ fn scalar_fault(value: FieldValue<'_>) -> Option<ReadKind>
         FieldValue::Eight(_) | FieldValue::Bytes(_) | FieldValue::Four(_) => {
             Some(ReadKind::WrongKind)
         }
-    }
-}
-
-/// What is wrong with the value of a repeated number.
-fn repeated_fault(value: FieldValue<'_>) -> Option<ReadKind>
-    ensures { result ≡ first (faults_of_value repeated_shape (seen_value value.entry)) }
-{
-    match value {
-        FieldValue::Varint(_) => None,
-        FieldValue::Bytes(run) => run_fault(run),
-        FieldValue::Eight(_) | FieldValue::Four(_) => Some(ReadKind::WrongKind),
     }
 }
 
@@ -95,20 +69,6 @@ impl Message for ValueType {
     fn value_fault(number: u32, value: FieldValue<'_>) -> Option<ReadKind> {
         match number {
             1..=2 => scalar_fault(value),
-            _ => None,
-        }
-    }
-}
-
-/// Message `Sample`: `location_id` 1 and `value` 2.
-struct SampleMessage;
-
-impl Message for SampleMessage {
-    ghost shape = { sample_shape };
-
-    fn value_fault(number: u32, value: FieldValue<'_>) -> Option<ReadKind> {
-        match number {
-            1..=2 => repeated_fault(value),
             _ => None,
         }
     }
@@ -176,13 +136,6 @@ impl Message for Profile {
             _ => None,
         }
     }
-}
-
-/// What is wrong with the message of a sample.
-pub(crate) fn sample_fault(sample: &[u8]) -> Option<ReadKind>
-    ensures { result ≡ first (faults_in sample_shape sample.now) }
-{
-    message_fault::<SampleMessage>(sample)
 }
 
 /// What is wrong with the fields of a profile and of the messages in them, in file order. `at` is the offset of the profile's field.

@@ -2,6 +2,7 @@
 
 mod depth;
 mod files;
+mod hostile;
 
 use super::*;
 use files::{

@@ -6,13 +6,18 @@ use std::alloc::{AllocError, Global};
 use std::process::Abort;
 use std::test::Fail;
 
-/// A field with these bytes.
-fn append_field(file: &mut Vec<u8>, tag: u8, bytes: &[u8]) -> Result<(), AllocError> {
-    let len = bytes.len();
+/// A field with a number below 2^21, or the front of one with so many bytes.
+pub(super) fn append_number(file: &mut Vec<u8>, tag: u8, number: usize) -> Result<(), AllocError> {
     file.push(tag)?;
-    file.push(0x80 | (len & 0x7f) as u8)?;
-    file.push(0x80 | (len >> 7 & 0x7f) as u8)?;
-    file.push((len >> 14 & 0x7f) as u8)?;
+    file.push(0x80 | (number & 0x7f) as u8)?;
+    file.push(0x80 | (number >> 7 & 0x7f) as u8)?;
+    file.push((number >> 14 & 0x7f) as u8)?;
+    Ok(())
+}
+
+/// A field with these bytes.
+pub(super) fn append_field(file: &mut Vec<u8>, tag: u8, bytes: &[u8]) -> Result<(), AllocError> {
+    append_number(file, tag, bytes.len())?;
     file.extend_from_slice(bytes)?;
     Ok(())
 }

@@ -1,18 +1,19 @@
-use Rattle.std.proofs.Common.{sym, ◌∙◌}
+use Rattle.std.proofs.Common.{sym, ◌∙◌, ap}
+use Rattle.std.specs.Prelude.{is_some}
 use Rattle.profile_tables.proofs.IndexLemmas.{duplicate_here, new_here, IsIndexOf-more}
 use Rattle.profile_tables.proofs.ids.index_of.Goals as goal
 
-pub returns-then-contains_key-clause-fault : goal.returns-then-contains_key-clause-fault
-returns-then-contains_key-clause-fault c =
-    sym c.loop-entry.invariant.faults
-    ∙ duplicate_here c.args.table.now c.loop-entry.entry-index c.scalar-id.result c.loop-entry.entries c.loop-entry-test.true
-    c.loop-entry.invariant.entries c.scalar-id.ensures c.if-id-eq0.false (sym c.contains_key.ensures ∙ c.if-contains_key.true)
+pub returns-then-is_some-clause-fault : goal.returns-then-is_some-clause-fault
+returns-then-is_some-clause-fault c =
+    sym c.loop-place.invariant.faults
+    ∙ duplicate_here c.args.table.now c.loop-place.place c.scalar-id.result c.loop-place.index c.loop-place-test.true
+    c.loop-place.invariant.places c.scalar-id.ensures c.if-id-eq0.false (ap is_some (sym c.place.ensures) ∙ sym c.is_some.ensures ∙ c.if-is_some.true)
 
-pub loop-entry-preserved : goal.loop-entry-preserved
-loop-entry-preserved c = record {
-  faults = new_here c.args.table.now c.loop-entry.entry-index c.scalar-id.result c.loop-entry.entries c.loop-entry-test.true
-      c.loop-entry.invariant.entries c.scalar-id.ensures c.if-id-eq0.false (sym c.contains_key.ensures ∙ c.if-contains_key.false)
-      ∙ c.loop-entry.invariant.faults;
-  entries = IsIndexOf-more c.args.table.now c.loop-entry.entry-index c.scalar-id.result c.loop-entry.entries _ c.loop-entry-test.true
-      c.loop-entry.invariant.entries c.scalar-id.ensures (sym c.contains_key.ensures ∙ c.if-contains_key.false) c.in_ok-insert.ensures.updates;
+pub loop-place-preserved : goal.loop-place-preserved
+loop-place-preserved c = record {
+  faults = new_here c.args.table.now c.loop-place.place c.scalar-id.result c.loop-place.index c.loop-place-test.true
+      c.loop-place.invariant.places c.scalar-id.ensures c.if-id-eq0.false (ap is_some (sym c.place.ensures) ∙ sym c.is_some.ensures ∙ c.if-is_some.false)
+      ∙ c.loop-place.invariant.faults;
+  places = IsIndexOf-more c.args.table.now c.loop-place.place c.scalar-id.result c.loop-place.index _ c.loop-place-test.true
+      c.loop-place.invariant.places c.scalar-id.ensures (ap is_some (sym c.place.ensures) ∙ sym c.is_some.ensures ∙ c.if-is_some.false) c.in_ok-insert.ensures;
 }

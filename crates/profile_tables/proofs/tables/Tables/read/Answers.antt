@@ -1,54 +1,17 @@
-use Rattle.std.proofs.Common.{[], List, length, sym, ◌∙◌, ap, subst, map}
-use Rattle.std.proofs.lemmas.List.{length-map}
-use Rattle.std.proofs.lemmas.Result.{err_from_is_err_and}
-use Rattle.profile_tables.specs.declared.faults.TableFault.TheVariants.{Read}
-use Rattle.profile_tables.specs.Message.{Content}
-use Rattle.profile_tables.specs.Tables.{id_faults}
-use Rattle.profile_tables.specs.Contents.{seen_content, seen_table, texts_of, IsFirstOf}
-use Rattle.profile_tables.proofs.FileLemmas.{has_ids, locations_distinct, are_seen, locations_first, strings_first, lines_first, types_first, no_first, lines_are, frames_are, tables_are}
+use Rattle.std.proofs.Common.{ℕ, List, ap, ◌∙◌}
+use Rattle.std.specs.Option.{option_and_then}
+use Rattle.std.specs.List.{slice_get}
+use Rattle.profile_tables.specs.Samples.{SampleTables}
+use Rattle.profile_tables.specs.Index.{place_in}
+use Rattle.profile_tables.proofs.OwnFrameLemmas.{own-frames}
 use Rattle.profile_tables.proofs.tables.Tables.read.Goals as goal
 
-pub returns-in_err-index_of-clause-fault : goal.returns-in_err-index_of-clause-fault
-returns-in_err-index_of-clause-fault c =
-    let p = err_from_is_err_and c.from_residual-in_err-index_of.result c.from_residual-in_err-index_of.ensures.1 in
-    rw (p.1, p.2) (locations_first c.args.bytes.now c.args.pick.now c.in_err-index_of.field-0.0
-    (has_ids c.args.bytes.now c.in_ok-entries.entries _ _ c.in_ok-entries.ensures c.deref.ensures.value c.deref-2.ensures.value c.in_default.ensures c.in_default-string_zero_fault.ensures c.in_ok-functions.ensures.ids)
-    (subst (λ (table : List Content). IsFirstOf (id_faults [] table) c.in_err-index_of.field-0.0) (ap seen_table c.deref-3.ensures.value ∙ c.in_ok-entries.ensures.locations) c.in_err-index_of.ensures.fault))
-
-pub returns-in-Some-string_fault-clause-fault : goal.returns-in-Some-string_fault-clause-fault
-returns-in-Some-string_fault-clause-fault c = strings_first c.args.bytes.now c.args.pick.now (Read c.in-Some-string_fault.fault)
-    (has_ids c.args.bytes.now c.in_ok-entries.entries _ _ c.in_ok-entries.ensures c.deref.ensures.value c.deref-2.ensures.value c.in_default.ensures c.in_default-string_zero_fault.ensures c.in_ok-functions.ensures.ids)
-    (locations_distinct c.args.bytes.now c.in_ok-entries.entries _ c.in_ok-entries.ensures c.deref-3.ensures.value c.in_ok-index_of.ensures.ids)
-    (sym c.in-Some-string_fault.ensures)
-
-pub returns-in-Some-function_fault-clause-fault : goal.returns-in-Some-function_fault-clause-fault
-returns-in-Some-function_fault-clause-fault c = lines_first c.args.bytes.now c.args.pick.now (Read c.in-Some-function_fault.fault)
-    (has_ids c.args.bytes.now c.in_ok-entries.entries _ _ c.in_ok-entries.ensures c.deref.ensures.value c.deref-2.ensures.value c.in_default.ensures c.in_default-string_zero_fault.ensures c.in_ok-functions.ensures.ids)
-    (locations_distinct c.args.bytes.now c.in_ok-entries.entries _ c.in_ok-entries.ensures c.deref-3.ensures.value c.in_ok-index_of.ensures.ids)
-    (sym c.in_default-string_fault.ensures)
-    (sym (lines_are _ _ _ _ (are_seen c.args.bytes.now c.in_ok-entries.entries _ _ _ c.in_ok-entries.ensures c.deref-2.ensures.value c.deref-4.ensures.value c.in_ok-functions.ensures.entries)) ∙ sym c.in-Some-function_fault.ensures)
-
-pub returns-in-Some-type_fault-clause-fault : goal.returns-in-Some-type_fault-clause-fault
-returns-in-Some-type_fault-clause-fault c = types_first c.args.bytes.now c.args.pick.now (Read c.in-Some-type_fault.fault)
-    (has_ids c.args.bytes.now c.in_ok-entries.entries _ _ c.in_ok-entries.ensures c.deref.ensures.value c.deref-2.ensures.value c.in_default.ensures c.in_default-string_zero_fault.ensures c.in_ok-functions.ensures.ids)
-    (locations_distinct c.args.bytes.now c.in_ok-entries.entries _ c.in_ok-entries.ensures c.deref-3.ensures.value c.in_ok-index_of.ensures.ids)
-    (sym c.in_default-string_fault.ensures)
-    (sym (lines_are _ _ _ _ (are_seen c.args.bytes.now c.in_ok-entries.entries _ _ _ c.in_ok-entries.ensures c.deref-2.ensures.value c.deref-4.ensures.value c.in_ok-functions.ensures.entries)) ∙ sym c.in_default-function_fault.ensures)
-    (sym c.in-Some-type_fault.ensures)
-
-pub returns-clause-faultless : goal.returns-clause-faultless
-returns-clause-faultless c = no_first c.args.bytes.now c.args.pick.now
-    (has_ids c.args.bytes.now c.in_ok-entries.entries _ _ c.in_ok-entries.ensures c.deref.ensures.value c.deref-2.ensures.value c.in_default.ensures c.in_default-string_zero_fault.ensures c.in_ok-functions.ensures.ids)
-    (locations_distinct c.args.bytes.now c.in_ok-entries.entries _ c.in_ok-entries.ensures c.deref-3.ensures.value c.in_ok-index_of.ensures.ids)
-    (sym c.in_default-string_fault.ensures)
-    (sym (lines_are _ _ _ _ (are_seen c.args.bytes.now c.in_ok-entries.entries _ _ _ c.in_ok-entries.ensures c.deref-2.ensures.value c.deref-4.ensures.value c.in_ok-functions.ensures.entries)) ∙ sym c.in_default-function_fault.ensures)
-    (sym c.in_default-type_fault.ensures)
-
 pub returns-clause-tables : goal.returns-clause-tables
-returns-clause-tables c = tables_are c.args.bytes.now c.args.pick.now c.args.naming _ _ _
-    (c.len.ensures ∙ c.in_ok-entries.entries.sample_types.ok.0 ∙ sym (length-map c.in_ok-entries.entries.sample_types.items seen_content) ∙ ap (λ (table : List Content). length table) c.in_ok-entries.ensures.sample_types)
-    c.chosen_value.ensures
-    (frames_are c.args.bytes.now c.args.naming (texts_of c.deref-5.result.now) c.deref-2.result.now c.deref-6.result.now c.in_ok-functions.functions c.in_ok-frames.frames
-    (are_seen c.args.bytes.now c.in_ok-entries.entries _ _ _ c.in_ok-entries.ensures c.deref-2.ensures.value c.deref-6.ensures.value c.in_ok-functions.ensures.entries)
-    (ap (λ (texts : List Content). map (λ (text : Content). text.bytes) texts) (ap seen_table c.deref-5.ensures.value ∙ c.in_ok-entries.ensures.strings))
-    c.in_ok-frames.ensures)
+returns-clause-tables c =
+    (λ i. let seen : SampleTables = record {
+      sample_types = c.in_ok-plan.plan.sample_types;
+      chosen = c.in_ok-plan.plan.chosen;
+      frames = λ id. (ap (λ (list : List (List (List ℕ))). option_and_then (slice_get list) (place_in c.in_ok-plan.plan.frames.locations id)) c.in_ok-frames.ensures
+          ∙ own-frames c.in_ok-plan.plan.frames c.in_ok-plan.ensures.whole id) i;
+    } in seen)
+    ∙ c.in_ok-plan.ensures.tables

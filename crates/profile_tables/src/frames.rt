@@ -1,0 +1,98 @@
+//! The frames of locations.
+
+ghost use Rattle.std.specs.Prelude.{◌≡◌, ◌++◌, IfOk, map, reverse, string_bytes};
+
+use crate::choices::Naming;
+use crate::ids::Index;
+use crate::naming::{address_frame, append_line};
+use stack_core::Names;
+use std::alloc::{AllocError, Global};
+
+/// What a frame is named by.
+#[derive(Clone, Copy, Debug)]
+pub(crate) enum Frame {
+    /// A location without lines, or a line of no function: the address.
+    Address(u64),
+    /// The place of a function's name, and the line, seen as its 64 bits.
+    Function(usize, u64),
+}
+
+/// Where the frames of a location stand among all frames.
+#[derive(Clone, Copy, Debug)]
+pub(crate) struct Span {
+    pub(crate) start: usize,
+    pub(crate) end: usize,
+}
+
+/// The frames of a profile's locations. They refer to names, so that a name which many frames have is kept once.
+#[derive(Debug, Drop)]
+pub(crate) struct Frames {
+    pub(crate) names: Vec<String>,
+    pub(crate) naming: Naming,
+    /// The frames of all locations, each one's as its lines stand in the file, which is leaf first.
+    pub(crate) all: Vec<Frame>,
+    /// By the location's place.
+    pub(crate) spans: Vec<Span>,
+    pub(crate) locations: Index,
+}
+
+impl Frames {
+    ghost use Rattle.profile_tables.specs.Frames.{text_in, frames_at, stacks_of, LendsFrames};
+
+    /// The frames of a location id, leaf first.
+    #[inline]
+    pub(crate) fn of(&self, id: u64) -> Option<&[Frame]>
+        ensures { LendsFrames self.now id result }
+    {
+        let span = self.spans.get(self.locations.place(id)?)?;
+        self.all.get(span.start..span.end)
+    }
+
+    /// The name of a frame.
+    fn name(&self, alloc: Global, frame: Frame) -> Result<String, AllocError>
+        ensures { IfOk result (λ name. string_bytes name ≡ text_in self.now frame) }
+    {
+        match frame {
+            Frame::Address(address) => address_frame(alloc, address),
+            Frame::Function(place, line) => {
+                let name = self.names.get(place).map_or("", |name| name.as_str());
+                let mut text = String::from_str(alloc, name)?;
+                append_line(&mut text, self.naming, line)?;
+                Ok(text)
+            }
+        }
+    }
+
+    /// Appends the names of a location's frames, root first.
+    pub(crate) fn append_names(
+        &self,
+        alloc: Global,
+        stack: &mut Vec<String>,
+        leaf_first: &[Frame],
+    ) -> Result<(), AllocError>
+        ensures { IfOk result (λ _.
+            map string_bytes stack.new.items
+            ≡ map string_bytes stack.old.items ++ reverse (map (text_in self.now) leaf_first.now)) }
+    {
+        let mut left = leaf_first;
+        while let Some((frame, before)) = left.split_last() {
+            stack.push(self.name(alloc, *frame)?)?;
+            left = before;
+        }
+        Ok(())
+    }
+
+    /// The names of each location's frames, root first, by the location's place. Each location has names of its own.
+    pub(crate) fn stacks(&self, alloc: Global) -> Result<Vec<Names>, AllocError>
+        ensures { IfOk result (λ stacks. stacks.items ≡ stacks_of self.now) }
+    {
+        let mut stacks = Vec::with_capacity(alloc, self.spans.len())?;
+        for span in &self.spans {
+            let frames = self.all.get(span.start..span.end).unwrap_or(&[]);
+            let mut stack = Vec::with_capacity(alloc, frames.len())?;
+            self.append_names(alloc, &mut stack, frames)?;
+            stacks.push(Names::of(stack))?;
+        }
+        Ok(stacks)
+    }
+}

@@ -1,0 +1,58 @@
+//! The steps of a reader.
+
+ghost use Rattle.std.specs.Prelude.{◌≤◌, IfOk};
+ghost use Rattle.profile_tables.specs.Plans.{IsStart, IsNext};
+
+use crate::choices::{Naming, Pick};
+use crate::faults::TableFault;
+use crate::places::content_at;
+use crate::plan::{Plan, plan_of};
+use crate::samples::read_sample;
+use stack_core::{ReadFault, SourceEnd, Step, WEIGHT_LIMIT};
+use std::alloc::{AllocError, Global};
+
+/// What reading the tables of a file gives.
+#[derive(Drop)]
+pub(crate) enum Start {
+    Plan(Plan),
+    Fault(ReadFault),
+}
+
+/// Reads the tables of a file.
+pub(crate) fn start_of(
+    alloc: Global,
+    file: &[u8],
+    pick: &Pick,
+    naming: Naming,
+) -> Result<Start, AllocError>
+    ensures { IfOk result (IsStart file.now pick.now naming) }
+{
+    match plan_of(alloc, file, pick, naming) {
+        Ok(plan) => Ok(Start::Plan(plan)),
+        Err(TableFault::Read(fault)) => Ok(Start::Fault(fault)),
+        Err(TableFault::OutOfMemory) => Err(AllocError),
+    }
+}
+
+/// The next sample of a file, where `next` of them, of this total weight, were given, or the ending.
+pub(crate) fn next_step(
+    alloc: Global,
+    file: &[u8],
+    plan: &Plan,
+    next: usize,
+    total: u64,
+) -> Result<Step, AllocError>
+    requires { total ≤ WEIGHT_LIMIT }
+    ensures { IfOk result (IsNext file.now plan.now next total) }
+{
+    let Some(at) = plan.samples.get(next) else {
+        return Ok(Step::End(SourceEnd::Clean { ignored: 0 }));
+    };
+    match read_sample(alloc, plan, total, content_at(file, *at))? {
+        Ok(sample) => Ok(Step::Sample(sample)),
+        Err(kind) => {
+            let at = *at as u64;
+            Ok(Step::End(SourceEnd::Fault(ReadFault { kind, at })))
+        }
+    }
+}
