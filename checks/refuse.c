@@ -1,5 +1,5 @@
 /* Loaded before the C library, refuses one request for memory: that of number REFUSE, counted from 1. It then makes the file that
- * REFUSED names, so that who counts upwards sees when a run meets no refusal. */
+ * REFUSED names, so that who counts upwards sees when a run meets no refusal. Each call of the C library that gives memory counts. */
 #define _GNU_SOURCE
 #include <dlfcn.h>
 #include <errno.h>
@@ -32,9 +32,42 @@ void *malloc(size_t size) {
     return is_refused() ? NULL : real(size);
 }
 
+void *calloc(size_t count, size_t size) {
+    static void *(*real)(size_t, size_t);
+    static atomic_int asked;
+    if (!real) {
+        /* dlsym may ask for memory itself, and does without. */
+        if (atomic_exchange(&asked, 1) && !real)
+            return NULL;
+        real = (void *(*)(size_t, size_t))dlsym(RTLD_NEXT, "calloc");
+    }
+    return is_refused() ? NULL : real(count, size);
+}
+
 void *realloc(void *old, size_t size) {
     static void *(*real)(void *, size_t);
     if (!real)
         real = (void *(*)(void *, size_t))dlsym(RTLD_NEXT, "realloc");
     return is_refused() ? NULL : real(old, size);
+}
+
+void *aligned_alloc(size_t alignment, size_t size) {
+    static void *(*real)(size_t, size_t);
+    if (!real)
+        real = (void *(*)(size_t, size_t))dlsym(RTLD_NEXT, "aligned_alloc");
+    return is_refused() ? NULL : real(alignment, size);
+}
+
+void *memalign(size_t alignment, size_t size) {
+    static void *(*real)(size_t, size_t);
+    if (!real)
+        real = (void *(*)(size_t, size_t))dlsym(RTLD_NEXT, "memalign");
+    return is_refused() ? NULL : real(alignment, size);
+}
+
+int posix_memalign(void **place, size_t alignment, size_t size) {
+    static int (*real)(void **, size_t, size_t);
+    if (!real)
+        real = (int (*)(void **, size_t, size_t))dlsym(RTLD_NEXT, "posix_memalign");
+    return is_refused() ? ENOMEM : real(place, alignment, size);
 }

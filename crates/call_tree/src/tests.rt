@@ -120,29 +120,74 @@ fn table(rt: HostRuntime) -> Result<(), Fail> {
     Ok(())
 }
 
-#[test]
-fn table_and_tree(rt: HostRuntime) -> Result<(), Fail> {
-    let mut tree = CallTree::new(rt.alloc())?;
+/// Interns the names of the worked example.
+fn interns_worked_names(rt: &impl Abort, table: &mut FrameTable) -> Result<(), AllocError> {
+    for (name, number) in [("a", 0), ("b", 1), ("a", 0)] {
+        assert_eq!(rt; table.intern(name)?, number);
+    }
+    assert_eq!(rt; table.len(), 2);
+    Ok(())
+}
+
+/// Adds the weights of the worked example.
+fn add_worked_weights(rt: &impl Abort, tree: &mut CallTree) -> Result<(), AllocError> {
     for (ids, weight) in [
         ([0, 1].as_slice(), 2),
         (&[0], 1),
         (&[0, 1], 3),
         (&[0, 0], 4),
+    ] {
+        add(rt, tree, ids, weight)?;
+    }
+    Ok(())
+}
+
+fn children_are(
+    rt: &impl Abort,
+    tree: &CallTree,
+    path: &[usize],
+    numbers: &[usize],
+) -> Result<(), AllocError> {
+    let children = tree.children(path)?;
+    assert_eq!(rt; children.as_slice(), numbers);
+    Ok(())
+}
+
+/// What the worked example says of its tree.
+fn is_worked_tree(rt: &impl Abort, tree: &CallTree) -> Result<(), AllocError> {
+    for (path, total) in [
+        ([].as_slice(), 10),
+        (&[0], 10),
+        (&[0, 1], 5),
+        (&[0, 0], 4),
         (&[1], 0),
     ] {
-        add(&rt, &mut tree, ids, weight)?;
+        assert_eq!(rt; tree.total(path), total);
     }
-    let tree = tree.copy()?;
-    for (path, total, own) in [
-        ([].as_slice(), 10, 0),
-        (&[0], 10, 1),
-        (&[0, 1], 5, 5),
-        (&[0, 0], 4, 4),
-        (&[1], 0, 0),
-    ] {
-        weights_are(&rt, &tree, path, total, own);
-    }
+    assert_eq!(rt; tree.own(&[0]), 1);
     assert_eq!(rt; tree.len(), 4);
+    children_are(rt, tree, &[], &[0])?;
+    children_are(rt, tree, &[0], &[0, 1])?;
+    children_are(rt, tree, &[1], &[])
+}
+
+#[test]
+fn table_and_tree(rt: HostRuntime) -> Result<(), Fail> {
+    interns_worked_names(&rt, &mut FrameTable::new(rt.alloc()))?;
+    let mut tree = CallTree::new(rt.alloc())?;
+    add_worked_weights(&rt, &mut tree)?;
+    is_worked_tree(&rt, &tree)?;
+    is_worked_tree(&rt, &tree.copy()?)?;
+    Ok(())
+}
+
+/// A path that is added with weight 0 weighs nothing and has no node.
+#[test]
+fn weightless_path(rt: HostRuntime) -> Result<(), Fail> {
+    let mut tree = CallTree::new(rt.alloc())?;
+    add(&rt, &mut tree, &[1, 0], 0)?;
+    weights_are(&rt, &tree, &[1], 0, 0);
+    assert_eq!(rt; tree.len(), 1);
     Ok(())
 }
 

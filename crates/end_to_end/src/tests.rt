@@ -1,5 +1,8 @@
 //! Worked examples, run through the whole program.
 mod answers;
 mod folded;
+mod outputs;
 mod pictures;
 mod profiles;
+mod views;
+mod worked;

@@ -1,11 +1,14 @@
 -- What follows of rows that were merged.
-use Rattle.std.proofs.Common.{◌≡◌, ◌<◌, ◌≤◌, ◌+◌, ◌*◌, ◌-◌, ◌^◌, ℕ, zero, suc, List, [], ◌∷◌, ◌++◌, length, get_or, take, map, sym, ap, ◌∙◌, subst, arith, refl, Option, All}
-use Rattle.std.specs.List.{AllByRecursion}
+use Rattle.std.proofs.Common.{◌≡◌, ◌<◌, ◌≤◌, ◌+◌, ◌*◌, ◌-◌, ◌^◌, ℕ, zero, suc, List, [], ◌∷◌, ◌++◌, length, get_or, take, map, sym, ap, ◌∙◌, subst, arith, refl, Option, Some, None}
+use Rattle.std.specs.Prelude.{IfSome}
+use Rattle.std.specs.List.{AllByRecursion, range_with_len}
+use Rattle.std.specs.FinMap as tree_map
 use Rattle.std.specs.Option.{option_to_list}
-use Rattle.std.proofs.lemmas.List.{map-id, take-map, length-map, map_push, length-append}
-use Rattle.std.proofs.lemmas.List.Elements.{All-map, All-weaker, All-push}
+use Rattle.std.proofs.lemmas.List.{map-id, take-map, length-map, map_push}
+use Rattle.std.proofs.lemmas.List.Elements.{All-map}
 use Rattle.std.proofs.lemmas.List.Sums.{sum_by-cons}
 use Rattle.std.proofs.lemmas.Simd.{map-map}
+use Rattle.std.proofs.Math.Nat.{zero-div}
 use Rattle.stack_core.specs.declared.samples.Sample.{Sample}
 use Rattle.stack_core.specs.Interleaving.{sources_of}
 use Rattle.call_tree.specs.CallTree.{Tree, tree_of, with_weight, total_weight}
@@ -18,11 +21,11 @@ use Rattle.flame_tool.specs.declared.snapshots.Snapshot.{Snapshot}
 use Rattle.flame_tool.specs.Sums.{HasSumsOf}
 use Rattle.flame_tool.specs.Snapshots.{snapshot_places, snapshot_counts, samples_of_pairs, first_samples, IsSnapshot, AreSnapshots}
 use Rattle.ring_collect.specs.Telling.{GrowsTo}
-use Rattle.stack_core.proofs.Spans.{map_agree}
-use Rattle.flame_tool.specs.declared.taken_rows.TakenSpan.{TakenSpan}
-use Rattle.flame_tool.specs.TakenRows.{TakenRow, row_of, rows_of, IsWithin, pair_of, pairs_of, order_of, paths_of}
-use Rattle.flame_tool.proofs.RowLemmas.{slice_range-append}
-use Rattle.flame_tool.specs.Merging.{IsNumbered, AreMerged, IsTreeSink, IsRowFor, snapshot_of, due_after}
+use Rattle.flame_tool.specs.declared.taken_rows.TakenRows.{TakenRows}
+use Rattle.flame_tool.specs.declared.tally.Tally.{Tally}
+use Rattle.flame_tool.specs.TakenRows.{TakenRow, rows_of, pair_of, pairs_of, order_of, paths_of}
+use Rattle.flame_tool.specs.Tallies.{IsTally}
+use Rattle.flame_tool.specs.Merging.{IsNumbered, AreMerged, IsTreeSink, IsRowFor, snapshot_of, snapshots_of, due_after}
 use Rattle.flame_tool.proofs.SumLemmas.{sums-held}
 use Rattle.flame_tool.proofs.SnapshotLemmas.{tree_of-push, snapshots_of-push}
 
@@ -114,54 +117,69 @@ merged-push every names tree new rows row snapshots all h numbered n e = record 
 
 -- ---- the parts of a sink
 
-rows_of-grows : (frames longer : List ℕ) (spans : List TakenSpan) → GrowsTo frames longer → All (IsWithin frames) spans → rows_of longer spans ≡ rows_of frames spans
-rows_of-grows frames longer spans (more, e) h =
-    ap (λ all. rows_of all spans) e
-    ∙ map_agree (row_of (frames ++ more)) (row_of frames) spans (All-weaker (IsWithin frames) (λ span. row_of (frames ++ more) span ≡ row_of frames span)
-    (λ span within. ap (λ numbers. record { source = span.source; numbers = numbers; weight = span.weight }) (slice_range-append frames more span.start span.end within.0 within.1)) spans h)
+snapshots_of-none : (every : Option ℕ) → snapshots_of every [] ≡ []
+snapshots_of-none None = refl
+snapshots_of-none (Some every) = ap (λ n. map (snapshot_of []) (map (λ i. i * every) (range_with_len 1 n))) (zero-div every)
 
-within-grows : (frames longer : List ℕ) (spans : List TakenSpan) → GrowsTo frames longer → All (IsWithin frames) spans → All (IsWithin longer) spans
-within-grows frames longer spans (more, e) h =
-    All-weaker (IsWithin frames) (IsWithin longer) (λ span within. (within.0, omega (arith, within.1, ap length e, length-append frames more))) spans h
-
--- what is left of a sink when names and numbers came behind
-pub record Grown (every : Option ℕ) (names : List (List ℕ)) (tree : Tree) (frames : List ℕ) (spans : List TakenSpan) (snapshots : List Snapshot) (pairs : List (ℕ × Sample)) : Type 0 where
-  pub sink : IsTreeSink every names tree frames spans snapshots
-  pub pairs_are : pairs_of names (rows_of frames spans) ≡ pairs
-
-pub sink-grows : (every : Option ℕ) (names longer : List (List ℕ)) (tree : Tree) (frames more : List ℕ) (spans all : List TakenSpan) (snapshots : List Snapshot) → IsTreeSink every names tree frames spans snapshots → GrowsTo names longer → HasDistinctNames longer → GrowsTo frames more → all ≡ spans
-    → Grown every longer tree more all snapshots (pairs_of names (rows_of frames spans))
-sink-grows every names longer tree frames more spans all snapshots h g distinct f e =
-    let rows = rows_of-grows frames more spans f h.within in
-    subst (λ (all : List TakenSpan). Grown every longer tree more all snapshots (pairs_of names (rows_of frames spans))) (sym e) (record {
-      sink = record {
-        within = within-grows frames more spans f h.within;
-        merged = subst (λ (rows : List TakenRow). AreMerged every longer tree rows snapshots) (sym rows) (merged-grows every names longer tree (rows_of frames spans) snapshots h.merged g distinct);
-      };
-      pairs_are = ap (pairs_of longer) rows ∙ pairs_of-grows names longer (rows_of frames spans) g h.merged.numbered;
-    })
-
-pub sink-same : (every : Option ℕ) (names : List (List ℕ)) (tree new : Tree) (frames : List ℕ) (spans : List TakenSpan) (snapshots all : List Snapshot) → IsTreeSink every names tree frames spans snapshots → new ≡ tree → all ≡ snapshots → IsTreeSink every names new frames spans all
-sink-same every names tree new frames spans snapshots all h t e =
-    subst (λ (kept : List Snapshot). IsTreeSink every names new frames spans kept) (sym e) (subst (λ (kept : Tree). IsTreeSink every names kept frames spans snapshots) (sym t) h)
-
--- one row more
-pub sink-push : (every : Option ℕ) (names : List (List ℕ)) (tree new : Tree) (frames : List ℕ) (spans : List TakenSpan) (row : TakenSpan) (source : ℕ) (stack : List (List ℕ)) (weight : ℕ) (snapshots all : List Snapshot) → IsTreeSink every names tree frames spans snapshots → IsRowFor names frames source stack weight row
-    → new ≡ with_weight tree (row_of frames row).numbers row.weight → all ≡ snapshots ++ option_to_list (due_after every (rows_of frames spans ++ row_of frames row ∷ []))
-    → IsTreeSink every names new frames (spans ++ row ∷ []) all
-sink-push every names tree new frames spans row source stack weight snapshots all h r n e = record {
-  within = All-push (IsWithin frames) spans row h.within r.within;
-  merged =
-      subst (λ (rows : List TakenRow). AreMerged every names new rows all) (sym (map_push (row_of frames) spans row))
-      (merged-push every names tree new (rows_of frames spans) (row_of frames row) snapshots all h.merged (record { known = r.known; weight = r.fits }) n e);
+merged-starts : (every : Option ℕ) → IfSome every (λ k. 1 ≤ k) → AreMerged every [] tree_map.empty [] []
+merged-starts every positive = record {
+  positive = positive;
+  distinct = λ i j l m e. absurd (omega (arith, l));
+  numbered = tt;
+  tree_is = refl;
+  snapshots_are = sym (snapshots_of-none every);
 }
 
-pub pairs-push : (names : List (List ℕ)) (frames : List ℕ) (spans : List TakenSpan) (row : TakenSpan) (source : ℕ) (sample : Sample) → IsRowFor names frames source sample.stack sample.weight row
-    → pairs_of names (rows_of frames (spans ++ row ∷ [])) ≡ pairs_of names (rows_of frames spans) ++ (source, sample) ∷ []
-pairs-push names frames spans row source sample r =
-    ap (pairs_of names) (map_push (row_of frames) spans row)
-    ∙ (map_push (pair_of names) (rows_of frames spans) (row_of frames row)
-    ∙ (λ i. pairs_of names (rows_of frames spans) ++ (r.source_is i, record { stack = r.stack_is i; weight = r.weight_is i }) ∷ []))
+-- a sink that took nothing
+pub sink-starts : (tally : Tally) (names : List (List ℕ)) (tree : Tree) (snapshots : List Snapshot) → IsTally tally → IfSome tally.every (λ k. 1 ≤ k) → rows_of tally.taken ≡ [] → names ≡ [] → tree ≡ tree_map.empty → snapshots ≡ [] → IsTreeSink tally names tree snapshots
+sink-starts tally names tree snapshots tallied positive rows n t e = record {
+  tallied = tallied;
+  merged =
+      subst (λ (rows : List TakenRow). AreMerged tally.every names tree rows snapshots) (sym rows)
+      (subst (λ (names : List (List ℕ)). AreMerged tally.every names tree [] snapshots) (sym n)
+      (subst (λ (tree : Tree). AreMerged tally.every [] tree [] snapshots) (sym t)
+      (subst (λ (snapshots : List Snapshot). AreMerged tally.every [] tree_map.empty [] snapshots) (sym e) (merged-starts tally.every positive))));
+}
+
+-- what is left of a sink when names and room came
+pub record Grown (tally : Tally) (names : List (List ℕ)) (tree : Tree) (snapshots : List Snapshot) (pairs : List (ℕ × Sample)) : Type 0 where
+  pub sink : IsTreeSink tally names tree snapshots
+  pub pairs_are : pairs_of names (rows_of tally.taken) ≡ pairs
+
+pub sink-grows : (tally more : Tally) (names longer : List (List ℕ)) (tree : Tree) (snapshots : List Snapshot) → IsTreeSink tally names tree snapshots → GrowsTo names longer → HasDistinctNames longer → IsTally more → more.every ≡ tally.every → more.taken ≡ tally.taken
+    → Grown more longer tree snapshots (pairs_of names (rows_of tally.taken))
+sink-grows tally more names longer tree snapshots h g distinct tallied every taken = record {
+  sink = record {
+    tallied = tallied;
+    merged =
+        subst (λ (every : Option ℕ). AreMerged every longer tree (rows_of more.taken) snapshots) (sym every)
+        (subst (λ (taken : TakenRows). AreMerged tally.every longer tree (rows_of taken) snapshots) (sym taken)
+        (merged-grows tally.every names longer tree (rows_of tally.taken) snapshots h.merged g distinct));
+  };
+  pairs_are = ap (λ taken. pairs_of longer (rows_of taken)) taken ∙ pairs_of-grows names longer (rows_of tally.taken) g h.merged.numbered;
+}
+
+pub sink-same : (tally : Tally) (names : List (List ℕ)) (tree new : Tree) (snapshots all : List Snapshot) → IsTreeSink tally names tree snapshots → new ≡ tree → all ≡ snapshots → IsTreeSink tally names new all
+sink-same tally names tree new snapshots all h t e =
+    subst (λ (kept : List Snapshot). IsTreeSink tally names new kept) (sym e) (subst (λ (kept : Tree). IsTreeSink tally names kept snapshots) (sym t) h)
+
+-- one row more
+pub sink-push : (tally more : Tally) (names : List (List ℕ)) (tree new : Tree) (row : TakenRow) (snapshots all : List Snapshot) → IsTreeSink tally names tree snapshots → IsNumbered names row → IsTally more → more.every ≡ tally.every → rows_of more.taken ≡ rows_of tally.taken ++ row ∷ []
+    → new ≡ with_weight tree row.numbers row.weight → all ≡ snapshots ++ option_to_list (due_after tally.every (rows_of tally.taken ++ row ∷ []))
+    → IsTreeSink more names new all
+sink-push tally more names tree new row snapshots all h numbered tallied every taken n e = record {
+  tallied = tallied;
+  merged =
+      subst (λ (every : Option ℕ). AreMerged every names new (rows_of more.taken) all) (sym every)
+      (subst (λ (rows : List TakenRow). AreMerged tally.every names new rows all) (sym taken)
+      (merged-push tally.every names tree new (rows_of tally.taken) row snapshots all h.merged numbered n e));
+}
+
+pub pairs-push : (names : List (List ℕ)) (rows all : List TakenRow) (row : TakenRow) (source : ℕ) (stack : List (List ℕ)) (sample : Sample) → IsRowFor names source stack sample.weight row → stack ≡ sample.stack → all ≡ rows ++ row ∷ []
+    → pairs_of names all ≡ pairs_of names rows ++ (source, sample) ∷ []
+pairs-push names rows all row source stack sample r s e =
+    let pair : pair_of names row ≡ (source, sample) = r.pair_is ∙ (λ i. (source, record { stack = s i; weight = sample.weight })) in
+    ap (pairs_of names) e ∙ (map_push (pair_of names) rows row ∙ ap (λ last. pairs_of names rows ++ last ∷ []) pair)
 
 -- ---- weights
 
@@ -171,9 +189,9 @@ weights_few names (row ∷ rows) h =
     omega (arith, sum_by-cons (λ (sample : Sample). sample.weight) (pair_of names row).1 (samples_of_pairs (pairs_of names rows)), h.0.weight, weights_few names rows h.1)
 
 -- a sum of fewer than 2^64 weights and one more stays below 2^128
-pub tree_fits : (every : Option ℕ) (names : List (List ℕ)) (tree : Tree) (frames : List ℕ) (spans : List TakenSpan) (snapshots : List Snapshot) (weight : ℕ) → IsTreeSink every names tree frames spans snapshots → length spans < 2 ^ 64 → weight < 2 ^ 64 → total_weight tree [] + weight < 2 ^ 128
-tree_fits every names tree frames spans snapshots weight h few light =
-    let rows = rows_of frames spans in
+pub tree_fits : (tally : Tally) (names : List (List ℕ)) (tree : Tree) (snapshots : List Snapshot) (weight : ℕ) → IsTreeSink tally names tree snapshots → tally.at < 2 ^ 64 → weight < 2 ^ 64 → total_weight tree [] + weight < 2 ^ 128
+tree_fits tally names tree snapshots weight h few light =
+    let rows = rows_of tally.taken in
     let held = subst (λ (t : Tree). Holds names t (samples_of_pairs (pairs_of names rows))) (sym h.merged.tree_is) (holds-rows names rows h.merged.numbered) in
     let small = holds-small names tree (samples_of_pairs (pairs_of names rows)) held [] in
-    omega (arith, small.0, weights_few names rows h.merged.numbered, length-map spans (row_of frames), few, light)
+    omega (arith, small.0, weights_few names rows h.merged.numbered, h.tallied.at_is, few, light)

@@ -1,6 +1,6 @@
 -- Which snapshots rows have.
 use Rattle.std.proofs.Common.{◌≡◌, ◌<◌, ◌≤◌, ◌+◌, ◌*◌, ◌/◌, ◌%◌, ℕ, Bool, true, false, cond, nat_eq, List, [], ◌∷◌, ◌++◌, length, get_or, take, map, sym, ap, ◌∙◌, arith, refl, Option, Some, None, All, inl, inr, eq-eqb}
-use Rattle.std.proofs.lemmas.Bool.{cases_lt, ne_eqb}
+use Rattle.std.proofs.lemmas.Bool.{cases_lt, ne_eqb, false≢true}
 use Rattle.stack_core.proofs.Spans.{map_agree}
 use Rattle.std.specs.Prelude.{IfSome}
 use Rattle.std.specs.List.{range_with_len}
@@ -11,13 +11,11 @@ use Rattle.std.proofs.lemmas.List.{append-nil, map-append, take_all, take-append
 use Rattle.std.proofs.lemmas.List.Elements.{All-map, All-weaker}
 use Rattle.std.proofs.lemmas.List.FromFn.{length-range_with_len, get_or-range_with_len, map-range_with_len_more}
 use Rattle.std.proofs.lemmas.List.Sums.{fold_push}
-use Rattle.std.proofs.lemmas.Simd.{map-map}
 use Rattle.call_tree.specs.CallTree.{Tree, tree_of, with_weight}
 use Rattle.flame_tool.specs.declared.snapshots.Snapshot.{Snapshot}
-use Rattle.flame_tool.specs.declared.taken_rows.TakenSpan.{TakenSpan}
 use Rattle.flame_tool.specs.Snapshots.{multiples_upto, snapshot_places, source_counts}
-use Rattle.flame_tool.specs.TakenRows.{TakenRow, rows_of, row_of, order_of, paths_of, sources_in}
-use Rattle.flame_tool.specs.Merging.{snapshot_of, snapshots_of, IsCounted, is_due, due_after}
+use Rattle.flame_tool.specs.TakenRows.{TakenRow, order_of, paths_of}
+use Rattle.flame_tool.specs.Merging.{snapshot_of, snapshots_of, is_due, due_after}
 
 -- ---- where snapshots are
 
@@ -53,15 +51,10 @@ places-push (Some k) n h = elim (cases_lt (n % k + 1) k) [
 
 -- ---- what they have
 
-pub order_of-rows_of : (frames : List ℕ) (spans : List TakenSpan) → order_of (rows_of frames spans) ≡ sources_in spans
-order_of-rows_of frames spans = map-map (λ row. row.source) (row_of frames) spans
-
-pub snapshots_counted : (every : Option ℕ) (rows : List TakenRow) → All (IsCounted (order_of rows)) (snapshots_of every rows)
-snapshots_counted every rows =
-    All-map (IsCounted (order_of rows)) (snapshot_of rows) (snapshot_places every (length rows))
-    (All-weaker (λ m. m ≤ length rows) (λ m. IsCounted (order_of rows) (snapshot_of rows m))
-    (λ m l. record { within = omega (arith, l, length-map rows (λ row. row.source)); counts = refl })
-    (snapshot_places every (length rows)) (places_within every (length rows)))
+-- what is known where snapshots are wanted is known where one is due
+pub where_due : (every : Option ℕ) (m : ℕ) (p : Type 0) → is_due every m ≡ true → IfSome every (λ every. p) → p
+where_due None m p due h = absurd (false≢true due)
+where_due (Some every) m p due h = h
 
 -- one row more in the tree
 pub tree_of-push : (rows : List TakenRow) (row : TakenRow) → tree_of (paths_of (rows ++ row ∷ [])) ≡ with_weight (tree_of (paths_of rows)) row.numbers row.weight
@@ -77,20 +70,16 @@ snapshot_of-all rows =
     λ i. record { at = length rows; counts = source_counts (order i); tree = tree_of (paths_of (whole i)) }
 
 -- the snapshot that is due with one row more
-pub due_with : (every : Option ℕ) (frames : List ℕ) (spans : List TakenSpan) (row : TakenSpan) (at : ℕ) (counts : List ℕ) (tree new : Tree) → at ≡ length spans + 1 → is_due every at ≡ true → counts ≡ source_counts (sources_in spans ++ row.source ∷ []) → tree ≡ tree_of (paths_of (rows_of frames spans)) → new ≡ with_weight tree (row_of frames row).numbers row.weight
-    → Some (record { at = at; counts = counts; tree = new }) ≡ due_after every (rows_of frames spans ++ row_of frames row ∷ [])
-due_with every frames spans row at counts tree new a due c t n =
-    let rows = rows_of frames spans in
-    let all = rows_of frames spans ++ row_of frames row ∷ [] in
-    let long : at ≡ length (rows_of frames spans ++ row_of frames row ∷ []) = omega (arith, a, length-map spans (row_of frames), length_push (rows_of frames spans) (row_of frames row)) in
-    let order : order_of (rows_of frames spans ++ row_of frames row ∷ []) ≡ sources_in spans ++ row.source ∷ [] =
-    map_push (λ row. row.source) (rows_of frames spans) (row_of frames row) ∙ ap (λ front. front ++ row.source ∷ []) (order_of-rows_of frames spans) in
-    let counted : counts ≡ source_counts (order_of (rows_of frames spans ++ row_of frames row ∷ [])) = c ∙ ap source_counts (sym order) in
-    let grown : new ≡ tree_of (paths_of (rows_of frames spans ++ row_of frames row ∷ [])) =
-    n ∙ (ap (λ tr. with_weight tr (row_of frames row).numbers row.weight) t ∙ sym (tree_of-push rows (row_of frames row))) in
+pub due_with : (every : Option ℕ) (rows : List TakenRow) (row : TakenRow) (at : ℕ) (counts : List ℕ) (tree new : Tree) → at ≡ length rows + 1 → is_due every at ≡ true → counts ≡ source_counts (order_of rows ++ row.source ∷ []) → tree ≡ tree_of (paths_of rows) → new ≡ with_weight tree row.numbers row.weight
+    → Some (record { at = at; counts = counts; tree = new }) ≡ due_after every (rows ++ row ∷ [])
+due_with every rows row at counts tree new a due c t n =
+    let all = rows ++ row ∷ [] in
+    let long : at ≡ length (rows ++ row ∷ []) = omega (arith, a, length_push rows row) in
+    let counted : counts ≡ source_counts (order_of (rows ++ row ∷ [])) = c ∙ ap source_counts (sym (map_push (λ row. row.source) rows row)) in
+    let grown : new ≡ tree_of (paths_of (rows ++ row ∷ [])) = n ∙ (ap (λ tr. with_weight tr row.numbers row.weight) t ∙ sym (tree_of-push rows row)) in
     let whole : record { at = at; counts = counts; tree = new } ≡ snapshot_of all (length all) =
     (λ i. let s : Snapshot = record { at = long i; counts = counted i; tree = grown i } in s) ∙ sym (snapshot_of-all all) in
-    let yes : is_due every (length (rows_of frames spans ++ row_of frames row ∷ [])) ≡ true = ap (is_due every) (sym long) ∙ due in
+    let yes : is_due every (length (rows ++ row ∷ [])) ≡ true = ap (is_due every) (sym long) ∙ due in
     ap (λ s. Some s) whole ∙ ap (λ b. cond b (Some (snapshot_of all (length all))) None) (sym yes)
 
 -- the snapshots of rows, and the one that is due with one row more

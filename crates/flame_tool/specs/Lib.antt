@@ -22,6 +22,7 @@ pub mod Snapshots
 pub mod Sources
 pub mod Sums
 pub mod TakenRows
+pub mod Tallies
 pub mod Texts
 pub mod TreeSinkState
 pub mod Visited

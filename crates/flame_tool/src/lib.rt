@@ -26,6 +26,7 @@ mod readers;
 mod snapshots;
 mod sources;
 mod taken_rows;
+mod tally;
 mod tree_sink;
 
 // Boxes and texts.

@@ -1,88 +1,95 @@
-//! The pairs that a sink took, as rows of frame numbers in two flat vectors: a sample costs no
-//! allocation of its own.
+//! The samples that a sink took, under the numbers of their names. Contracts alone see them, so a
+//! sample costs no memory of its own.
 
-ghost use Rattle.std.specs.Prelude.{◌≡◌, ◌++◌, ◌<◌, [], IfOk, OnOk, map, string_bytes, vec_len, vec_capacity};
+ghost use Rattle.std.specs.Prelude.{◌≡◌, ◌++◌, ◌∷◌, [], OnOk, map, string_bytes};
 ghost use Rattle.call_tree.specs.FrameTable.{HasDistinctNames};
 ghost use Rattle.ring_collect.specs.Telling.{GrowsTo};
 ghost use Rattle.flame_tool.specs.Merging.{IsRowFor};
-ghost use Rattle.flame_tool.specs.TakenRows.{AppendsNumbers};
+ghost use Rattle.flame_tool.specs.TakenRows.{AreNumbersOf, row_of, rows_of};
 
 use call_tree::FrameTable;
 use std::alloc::{AllocError, Global};
+// Not a snapshot of this crate, but a value of no bytes, which contracts alone read.
+use std::snapshot::Snapshot as Ghost;
 
-/// Where the numbers of a row lie, its source and its weight.
-#[derive(Clone, Copy)]
-pub struct TakenSpan {
+/// A sample of a source, with the numbers of its names, root first.
+#[derive(Drop)]
+pub struct NumberedSample {
     pub source: u32,
-    pub start: usize,
-    pub end: usize,
+    pub numbers: Vec<usize>,
     pub weight: u64,
 }
 
-/// Rows of frame numbers, root first. Numbers that no span covers stand for nothing.
-#[derive(Drop)]
-pub struct TakenRows {
-    pub frames: Vec<usize>,
-    pub spans: Vec<TakenSpan>,
-}
-
-impl TakenRows {
-    pub fn new(alloc: Global) -> TakenRows
-        ensures frames { result.frames.items ≡ [] }
-        ensures spans { result.spans.items ≡ [] }
-    {
-        TakenRows {
-            frames: Vec::new(alloc),
-            spans: Vec::new(alloc),
+impl NumberedSample {
+    /// A sample of no frames.
+    pub fn new(alloc: Global) -> NumberedSample {
+        NumberedSample {
+            source: 0,
+            numbers: Vec::new(alloc),
+            weight: 0,
         }
+    }
+
+    /// Puts a sample in the place of the one before, into its memory. New names are put into the
+    /// table. Want of memory may leave names behind, and numbers here that stand for nothing.
+    pub fn set(
+        &mut self,
+        table: &mut FrameTable,
+        source: u32,
+        stack: &[String],
+        weight: u64,
+    ) -> Result<(), AllocError>
+        requires { HasDistinctNames table.old }
+        ensures row { OnOk result (IsRowFor table.new source (map string_bytes stack.now) weight
+            (row_of self.new)) }
+        ensures grows { GrowsTo table.old table.new }
+        ensures distinct { HasDistinctNames table.new }
+    {
+        number_names(table, &mut self.numbers, stack)?;
+        self.source = source;
+        self.weight = weight;
+        Ok(())
     }
 }
 
-/// Makes room for a row, and gives it: the numbers of the names of a stack, which come last among the
-/// frames. New names are put into the table. Want of memory may leave names and numbers behind.
-pub fn number_row(
-    table: &mut FrameTable,
-    rows: &mut TakenRows,
-    source: u32,
-    stack: &[String],
-    weight: u64,
-) -> Result<TakenSpan, AllocError>
-    requires { HasDistinctNames table.old }
-    ensures row { IfOk result (IsRowFor table.new rows.new.frames.items source
-        (map string_bytes stack.now) weight) }
-    ensures room { OnOk result (vec_len rows.new.spans < vec_capacity rows.new.spans) }
-    ensures spans { rows.new.spans.items ≡ rows.old.spans.items }
-    ensures frames { GrowsTo rows.old.frames.items rows.new.frames.items }
-    ensures grows { GrowsTo table.old table.new }
-    ensures distinct { HasDistinctNames table.new }
-{
-    rows.spans.reserve(1)?;
-    let start = rows.frames.len();
-    append_numbers(table, &mut rows.frames, stack)?;
-    Ok(TakenSpan {
-        source,
-        start,
-        end: rows.frames.len(),
-        weight,
-    })
+/// Rows, in the order in which they were taken. It has no bytes of theirs.
+#[derive(Drop)]
+pub enum TakenRows {
+    Nothing,
+    More {
+        before: Ghost<TakenRows>,
+        last: Ghost<NumberedSample>,
+    },
 }
 
-/// Appends the numbers of some names.
-fn append_numbers(
+impl TakenRows {
+    /// Puts a row behind the others.
+    pub fn push(&mut self, last: &NumberedSample)
+        ensures { rows_of self.new ≡ rows_of self.old ++ row_of last.now ∷ [] }
+    {
+        *self = TakenRows::More {
+            before: Ghost::of(self),
+            last: Ghost::of(last),
+        };
+    }
+}
+
+/// Puts the numbers of some names in the place of others.
+fn number_names(
     table: &mut FrameTable,
-    frames: &mut Vec<usize>,
+    numbers: &mut Vec<usize>,
     names: &[String],
 ) -> Result<(), AllocError>
     requires { HasDistinctNames table.old }
     ensures numbers { OnOk result
-        (AppendsNumbers (map string_bytes names.now) table.new frames.old.items frames.new.items) }
-    ensures frames { GrowsTo frames.old.items frames.new.items }
+        (AreNumbersOf (map string_bytes names.now) table.new numbers.new.items) }
     ensures grows { GrowsTo table.old table.new }
     ensures distinct { HasDistinctNames table.new }
 {
+    numbers.clear();
     for name in names {
         let number = table.intern(name.as_str())?;
-        frames.push(number)?;
+        numbers.push(number)?;
     }
     Ok(())
 }

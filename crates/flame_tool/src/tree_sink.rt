@@ -10,7 +10,8 @@ ghost use Rattle.flame_tool.specs.Snapshots.{samples_of_pairs, first_samples, Ar
 ghost use Rattle.flame_tool.specs.Sums.{HasSumsOf};
 
 use crate::snapshots::{Snapshot, due_snapshot};
-use crate::taken_rows::{TakenRows, number_row};
+use crate::taken_rows::NumberedSample;
+use crate::tally::Tally;
 use call_tree::{CallTree, FrameTable};
 use stack_core::{Sample, Sink};
 use std::alloc::{AllocError, Global};
@@ -21,11 +22,12 @@ use std::marker::Model;
 /// these three.
 #[derive(Drop)]
 pub struct TreeSink {
-    every: Option<u64>,
+    tally: Tally,
     table: FrameTable,
     tree: CallTree,
-    rows: TakenRows,
     snapshots: Vec<Snapshot>,
+    /// The sample that is being taken.
+    sample: NumberedSample,
 }
 
 impl Model for TreeSink {
@@ -41,15 +43,14 @@ impl Model for TreeSink {
     ghost coded = { Prim.hlevel (codes, snapshot.the_row.coded, call_tree.the_row.coded) };
 
     ghost view = { λ s. record {
-      every = s.every;
-      taken = pairs_of s.table (rows_of s.rows.frames.items s.rows.spans.items);
+      every = s.tally.every;
+      taken = pairs_of s.table (rows_of s.tally.taken);
       names = s.table;
       tree = s.tree;
       snapshots = s.snapshots.items;
     } };
 
-    ghost invariant = { λ s.
-        IsTreeSink s.every s.table s.tree s.rows.frames.items s.rows.spans.items s.snapshots.items };
+    ghost invariant = { λ s. IsTreeSink s.tally s.table s.tree s.snapshots.items };
 }
 
 impl TreeSink {
@@ -66,11 +67,11 @@ impl TreeSink {
         }) }
     {
         Ok(TreeSink {
-            every,
+            tally: Tally::new(alloc, every),
             table: FrameTable::new(alloc),
             tree: CallTree::new(alloc)?,
-            rows: TakenRows::new(alloc),
             snapshots: Vec::new(alloc),
+            sample: NumberedSample::new(alloc),
         })
     }
 
@@ -118,24 +119,19 @@ impl Sink for TreeSink {
         ensures every { self.new.every ≡ self.old.every }
         ensures setting { option_to_list self.new.every ≡ option_to_list self.old.every }
     {
-        let row = number_row(
-            &mut self.table,
-            &mut self.rows,
-            source,
-            sample.stack.get(),
-            sample.weight,
-        )?;
+        let stack = sample.stack.get();
+        self.sample
+            .set(&mut self.table, source, stack, sample.weight)?;
+        self.tally.reserve(source)?;
         let due = due_snapshot(
             alloc,
-            self.every,
-            &mut self.snapshots,
+            &self.tally,
             &self.tree,
-            &self.rows,
-            row,
+            &mut self.snapshots,
+            &self.sample,
         )?;
-        let numbers = &self.rows.frames[row.start..row.end];
-        self.tree.add(numbers, row.weight)?;
-        self.rows.spans.push_reserved(row);
+        self.tree.add(&self.sample.numbers, self.sample.weight)?;
+        self.tally.count(&self.sample);
         keep(&mut self.snapshots, due);
         Ok(())
     }

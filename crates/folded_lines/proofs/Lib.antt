@@ -11,4 +11,5 @@ pub mod ReadLemmas
 pub mod ScanLemmas
 pub mod SplitLemmas
 pub mod TextLemmas
+pub mod UnstoppedLemmas
 pub mod WorkedExamples

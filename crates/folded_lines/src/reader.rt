@@ -1,7 +1,8 @@
 //! Folded text, read line by line.
 
-ghost use Rattle.std.specs.Prelude.{◌≡◌, IsTrue};
+ghost use Rattle.std.specs.Prelude.{◌≡◌, ◌≢◌, ℕ, IsTrue};
 ghost use Rattle.stack_core.specs.Reading.{IsSourceLimited};
+ghost use Rattle.stack_core.specs.declared.endings.SourceEnd.TheVariants.{Stopped};
 ghost use Rattle.folded_lines.specs.Reading.{read_folded, begins_compressed};
 
 use crate::cursor::{Cursor, next_step};
@@ -44,6 +45,7 @@ impl FoldedReader {
     pub fn over(bytes: Vec<u8>) -> Self
         ensures rest { result.rest ≡ read_folded bytes.items }
         ensures limits { IsSourceLimited (read_folded bytes.items).samples }
+        ensures unstopped { (after : ℕ) → (read_folded bytes.items).ending ≢ Stopped after }
     {
         let ended = begins_compressed(&bytes).then_some(SourceEnd::Fault(ReadFault {
             kind: ReadKind::Compressed,

@@ -13,4 +13,5 @@ pub mod PlaceLemmas
 pub mod SampleLemmas
 pub mod PlanLemmas
 pub mod ReaderLemmas
+pub mod UnstoppedLemmas
 pub mod Rows

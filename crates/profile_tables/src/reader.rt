@@ -1,7 +1,8 @@
 //! A pprof profile, read sample by sample.
 
-ghost use Rattle.std.specs.Prelude.{◌≡◌, IsTrue};
+ghost use Rattle.std.specs.Prelude.{◌≡◌, ◌≢◌, ℕ, IsTrue};
 ghost use Rattle.stack_core.specs.Reading.{IsSourceLimited};
+ghost use Rattle.stack_core.specs.declared.endings.SourceEnd.TheVariants.{Stopped};
 ghost use Rattle.profile_tables.specs.Samples.{read_pprof};
 
 use crate::choices::{Naming, Pick};
@@ -47,6 +48,7 @@ impl PprofReader {
     pub fn over(bytes: Vec<u8>, pick: Pick, naming: Naming) -> Self
         ensures rest { result.rest ≡ read_pprof bytes.items pick naming }
         ensures limits { IsSourceLimited (read_pprof bytes.items pick naming).samples }
+        ensures unstopped { (after : ℕ) → (read_pprof bytes.items pick naming).ending ≢ Stopped after }
     {
         PprofReader {
             bytes,

@@ -3,10 +3,13 @@
 mod depth;
 mod files;
 mod hostile;
+mod lending;
+mod weights;
 
 use super::*;
 use files::{
-    ADDRESS, BASE, GREATEST_ID, INLINED, INLINED_LINES, NO_FRAMES, SMALLEST, TWO_LINES, UNPACKED,
+    ADDRESS, BASE, GREATEST_ID, GREATEST_LENGTH, INLINED, INLINED_LINES, LEAST_INDEX, MINUS_ONE,
+    NEGATIVE, NO_FRAMES, SAMPLE_FAULTS, SMALLEST, TABLE_FAULTS, TWO_LINES, UNPACKED,
 };
 use stack_core::{ReadFault, ReadKind, SampleReader, SourceEnd, Step, Text};
 use std::alloc::{AllocError, Global};
@@ -142,22 +145,13 @@ fn picking_a_value(rt: HostRuntime) -> Result<(), Fail> {
     )?;
     let unknown = fault(ReadKind::UnknownSampleType, 48);
     reads_as(&rt, BASE, &named(alloc, "x")?, Naming::Plain, "", unknown)?;
-    let refused = Tables::read(alloc, BASE, &named(alloc, "x")?, Naming::Plain);
-    let Err(TableFault::Read(fault)) = refused else {
-        panic!(rt; "the tables were read");
-    };
-    assert_eq!(rt; fault.at, 48);
     Ok(())
 }
 
 #[test]
 fn negative_weight(rt: HostRuntime) -> Result<(), Fail> {
     let alloc = rt.alloc();
-    let file = followed(
-        alloc,
-        BASE,
-        b"\x12\x10\x0a\x01\x01\x12\x0b\x05\xff\xff\xff\xff\xff\xff\xff\xff\xff\x01",
-    )?;
+    let file = followed(alloc, BASE, NEGATIVE)?;
     reads_plainly(&rt, &file, "f 9\n", fault(ReadKind::NegativeWeight, 48))?;
     reads_as(
         &rt,
@@ -182,37 +176,12 @@ fn base_with(
 
 #[test]
 fn each_profile_fault(rt: HostRuntime) -> Result<(), Fail> {
-    base_with(&rt, b"\x12\x02\x0a\x05", "f 9\n", ReadKind::Truncated)?;
-    base_with(
-        &rt,
-        b"\x12\x06\x0a\x01\x01\x12\x01\x07",
-        "f 9\n",
-        ReadKind::ValueCount,
-    )?;
-    base_with(
-        &rt,
-        b"\x12\x07\x0a\x01\x02\x12\x02\x05\x09",
-        "f 9\n",
-        ReadKind::UnknownLocation,
-    )?;
-    base_with(
-        &rt,
-        b"\x80\x80\x80\x80\x80\x80\x80\x80\x80\x02",
-        "",
-        ReadKind::BadVarint,
-    )?;
-    base_with(&rt, b"\x00", "", ReadKind::BadFieldNumber)?;
-    base_with(&rt, b"\x0b", "", ReadKind::BadWireType)?;
-    base_with(&rt, b"\x72\x00", "", ReadKind::WrongKind)?;
-    base_with(&rt, b"\x22\x00", "", ReadKind::ZeroId)?;
-    base_with(&rt, b"\x2a\x04\x08\x01\x10\x03", "", ReadKind::DuplicateId)?;
-    base_with(
-        &rt,
-        b"\x22\x06\x08\x02\x22\x02\x08\x07",
-        "",
-        ReadKind::UnknownFunction,
-    )?;
-    base_with(&rt, b"\x70\x04", "", ReadKind::BadString)?;
+    for (more, kind) in SAMPLE_FAULTS {
+        base_with(&rt, more, "f 9\n", kind)?;
+    }
+    for (more, kind) in TABLE_FAULTS {
+        base_with(&rt, more, "", kind)?;
+    }
     reads_plainly(&rt, b"\x32\x01\x61", "", fault(ReadKind::BadStringZero, 0))?;
     reads_plainly(&rt, b"\x12\x00", "", fault(ReadKind::NoSampleType, 2))?;
     Ok(())
@@ -259,20 +228,9 @@ fn greatest_location_id(rt: HostRuntime) -> Result<(), Fail> {
 
 #[test]
 fn greatest_length_and_least_index(rt: HostRuntime) -> Result<(), Fail> {
-    let length = b"\x0a\xff\xff\xff\xff\xff\xff\xff\xff\xff\x01";
-    reads_plainly(&rt, length, "", fault(ReadKind::Truncated, 0))?;
-    base_with(
-        &rt,
-        b"\x70\xff\xff\xff\xff\xff\xff\xff\xff\xff\x01",
-        "",
-        ReadKind::BadString,
-    )?;
-    base_with(
-        &rt,
-        b"\x70\x80\x80\x80\x80\x80\x80\x80\x80\x80\x01",
-        "",
-        ReadKind::BadString,
-    )?;
+    reads_plainly(&rt, GREATEST_LENGTH, "", fault(ReadKind::Truncated, 0))?;
+    base_with(&rt, MINUS_ONE, "", ReadKind::BadString)?;
+    base_with(&rt, LEAST_INDEX, "", ReadKind::BadString)?;
     Ok(())
 }
 
@@ -343,13 +301,44 @@ fn each_front_ends(rt: &(impl Abort + AllocGlobal), file: &[u8]) -> Result<(), A
     Ok(())
 }
 
+/// The same of `BASE` followed by more bytes.
+fn each_front_of_base_ends(rt: &(impl Abort + AllocGlobal), more: &[u8]) -> Result<(), AllocError> {
+    each_front_ends(rt, &followed(rt.alloc(), BASE, more)?)
+}
+
 #[test]
 fn cut_profiles_end(rt: HostRuntime) -> Result<(), Fail> {
     for file in [SMALLEST, UNPACKED, INLINED, BASE, ADDRESS, NO_FRAMES] {
         each_front_ends(&rt, file)?;
     }
+    for file in [GREATEST_ID, INLINED_LINES, TWO_LINES, GREATEST_LENGTH] {
+        each_front_ends(&rt, file)?;
+    }
     each_front_ends(&rt, &with_separators(rt.alloc())?)?;
     each_front_ends(&rt, &with_cut_character(rt.alloc())?)?;
+    Ok(())
+}
+
+#[test]
+fn cut_profiles_behind_base_end(rt: HostRuntime) -> Result<(), Fail> {
+    for more in [
+        b"\x70\x01".as_slice(),
+        b"\x70\x03",
+        NEGATIVE,
+        MINUS_ONE,
+        LEAST_INDEX,
+    ] {
+        each_front_of_base_ends(&rt, more)?;
+    }
+    for (more, _) in SAMPLE_FAULTS {
+        each_front_of_base_ends(&rt, more)?;
+    }
+    for (more, _) in TABLE_FAULTS {
+        each_front_of_base_ends(&rt, more)?;
+    }
+    for file in [b"\x32\x01\x61".as_slice(), b"\x12\x00"] {
+        each_front_ends(&rt, file)?;
+    }
     Ok(())
 }
 

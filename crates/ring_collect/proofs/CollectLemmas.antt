@@ -1,5 +1,5 @@
 -- What a run collected, from what its ledgers hold.
-use Rattle.std.proofs.Common.{◌≡◌, ℕ, suc, ◌<◌, ◌≤◌, ◌⊎◌, inl, inr, List, [], ◌∷◌, ◌++◌, length, map, get_or, refl, sym, ap, subst, ◌∙◌, arith, Some, None, slice_get}
+use Rattle.std.proofs.Common.{All, ◌≡◌, ℕ, suc, ◌<◌, ◌≤◌, ◌⊎◌, inl, inr, List, [], ◌∷◌, ◌++◌, length, map, get_or, refl, sym, ap, subst, ◌∙◌, arith, Some, None, slice_get}
 use Rattle.std.proofs.lemmas.List.{length-map}
 use Rattle.std.proofs.lemmas.Option.{slice_get_within, get_or_from_slice_get, same_Some}
 use Rattle.stack_core.specs.Reading.{Rest}
@@ -10,9 +10,12 @@ use Rattle.stack_core.specs.Interleaving.{AreOf, IsInterleaving, interleaved, li
 use Rattle.stack_core.proofs.InterleavingLemmas.{AreOf-IsInterleaving, AreOf-interleaved}
 use Rattle.stack_core.specs.declared.samples.Sample.{Sample}
 use Rattle.stack_core.specs.declared.endings.Close.TheVariants.{Read}
+use Rattle.call_tree.specs.FrameTable.{HasDistinctNames}
+use Rattle.ring_collect.specs.NamesInOrder.{names_in_order}
 use Rattle.ring_collect.specs.Settling.{IsAllTold, AreListsOf}
 use Rattle.ring_collect.specs.Collecting.{RunsWhole, Collects, AreWhole, seen_as_rest}
 use Rattle.ring_collect.proofs.GatheringLemmas.{slice_get_map}
+use Rattle.ring_collect.proofs.NameOrder.{names_in_order-distinct}
 use Rattle.ring_collect.proofs.RunLemmas.{at_place, past_the_end}
 
 -- lists are equal where they are as long and equal at each place
@@ -87,6 +90,28 @@ module _ {may_stop may_go : ℕ → ℕ → Type 0} {rests : List Rest} {ledgers
 
   pub collects : Collects may_stop may_go rests lists
   collects = record { count = as_many; each = collected }
+
+  list_told : (source : ℕ) (list : ListState) → slice_get lists source ≡ Some list → list.told ≡ names_in_order list.samples
+  list_told source list is =
+      let below = slice_get_within lists source list is in
+      let many = as_many in
+      let count = runs.count in
+      let ledger = at_place ledgers source (omega arith) in
+      let one = (all_told source ledger.0 ledger.1).2 in
+      let samples = list_of runs.lists source in
+      let same = same_lists source ∙ mapped_at (λ list. list.samples) lists source list [] is in
+      let close = sym (mapped_at (λ list. Some (Read list.ending)) lists source list None is) ∙ ap (λ cs. get_or cs source None) are.closes ∙ mapped_at (λ ledger. ledger.close) ledgers source ledger.0 None ledger.1 ∙ one.closed in
+      let last = same_Some (Read list.ending) one.last close in
+      sym (mapped_at (λ list. list.told) lists source list [] is) ∙ ap (λ ns. get_or ns source []) are.names ∙ mapped_at (λ ledger. ledger.told) ledgers source ledger.0 [] ledger.1
+      ∙ one.in_order samples list.ending (ap (told samples) (sym last)) ∙ ap names_in_order same
+
+  pub told_in_order : All (λ list. list.told ≡ names_in_order list.samples) lists
+  told_in_order = λ source d below.
+      let list = at_place lists source below in
+      subst (λ list. list.told ≡ names_in_order list.samples) (sym (get_or_from_slice_get lists source list.0 d list.1)) (list_told source list.0 list.1)
+
+  pub told_distinct : All (λ list. HasDistinctNames list.told) lists
+  told_distinct = λ source d below. subst HasDistinctNames (sym (told_in_order source d below)) (names_in_order-distinct (get_or lists source d).samples)
 
   pub are_whole : ((source index : ℕ) → may_stop source index → ⊥) → AreWhole rests lists
   are_whole never = same_by_place (map seen_as_rest lists) rests (length-map lists seen_as_rest ∙ as_many) at

@@ -1,5 +1,7 @@
 pub mod CollectLemmas
 pub mod GatheringLemmas
+pub mod KeptLemmas
+pub mod NameOrder
 pub mod Progress
 pub mod Records
 pub mod RunLemmas

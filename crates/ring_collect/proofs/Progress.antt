@@ -1,5 +1,5 @@
 -- How far the telling of a reader's samples is.
-use Rattle.std.proofs.Common.{zero, suc, ◌≡◌, ℕ, ◌+◌, ◌<◌, ◌≤◌, ◌^◌, ◌⊎◌, inl, inr, List, [], ◌∷◌, ◌++◌, length, map, take, refl, sym, ap, subst, ◌∙◌, arith, append-nil, append_assoc, length-append}
+use Rattle.std.proofs.Common.{zero, suc, ◌≡◌, ◌≢◌, ℕ, ◌+◌, ◌<◌, ◌≤◌, ◌^◌, ◌⊎◌, inl, inr, List, [], ◌∷◌, ◌++◌, length, map, take, refl, sym, ap, subst, ◌∙◌, arith, append-nil, append_assoc, length-append}
 use Rattle.std.proofs.lemmas.List.{map-append}
 use Rattle.std.proofs.Math.Seq.{take-append_seam}
 use Rattle.stack_core.specs.Reading.{Rest}
@@ -12,7 +12,13 @@ use Rattle.stack_core.specs.declared.endings.Item.TheVariants as item
 use Rattle.stack_core.specs.declared.records.RingRecord.{RingRecord}
 use Rattle.stack_core.specs.declared.endings.SourceEnd.TheVariants as ending
 use Rattle.stack_core.specs.declared.endings.Close.{Close}
+use Rattle.stack_core.proofs.ToldLemmas.{same_told}
+use Rattle.ring_collect.specs.NamesInOrder.{AreNamesOf, names_in_order, with_stack}
 use Rattle.ring_collect.specs.Telling.{Tells, TellsOne, Closes, Ended, Stopped, ShortOfMemory as Short}
+use Rattle.ring_collect.proofs.NameOrder.{names_in_order_push}
+
+short≢read : (ending : SourceEnd) → close.NoMemory ≢ close.Read ending
+short≢read ending e = cc
 
 -- of the whole rest, the samples before those of the rest now are told, and the gate let each of them go
 pub record ToldSoFar (may_go : ℕ → ℕ → Type 0) (source : ℕ) (whole now : Rest) (index : ℕ) (names : List (List ℕ)) (records : List RingRecord) : Type 0 where
@@ -25,6 +31,7 @@ pub record ToldSoFar (may_go : ℕ → ℕ → Type 0) (source : ℕ) (whole now
   pub stands : stands_for records ≡ map item.Sample front
   pub well_told : IsWellTold records
   pub known : names ≡ names_told records
+  pub in_order : names_told records ≡ names_in_order front
 
 module _ {may_go : ℕ → ℕ → Type 0} {source : ℕ} {whole : Rest} where
   pub nothing_told : ToldSoFar may_go source whole whole 0 [] []
@@ -38,6 +45,7 @@ module _ {may_go : ℕ → ℕ → Type 0} {source : ℕ} {whole : Rest} where
     stands = refl;
     well_told = tt;
     known = refl;
+    in_order = refl;
   }
 
   module _ {now : Rest} {index : ℕ} {names : List (List ℕ)} {records : List RingRecord} (so_far : ToldSoFar may_go source whole now index names records) where
@@ -74,6 +82,7 @@ module _ {may_go : ℕ → ℕ → Type 0} {source : ℕ} {whole : Rest} where
       stands = one.tells.stands ∙ ap (λ items. items ++ item.Sample one.sample ∷ []) so_far.stands ∙ sym (map-append item.Sample so_far.front (one.sample ∷ []));
       well_told = one.tells.well_told so_far.well_told;
       known = one.names;
+      in_order = one.told ∙ ap (λ names. with_stack names one.sample.stack) so_far.in_order ∙ sym (names_in_order_push so_far.front one.sample);
     }
       where
         last_or_before : (k n : ℕ) → k < n + 1 → (k ≡ n) ⊎ (k < n)
@@ -124,3 +133,20 @@ module _ {may_go : ℕ → ℕ → Type 0} {source : ℕ} {whole : Rest} where
     closed_well may_stop (Ended none is same) = subst IsWellTold (sym same) so_far.well_told
     closed_well may_stop (Stopped sample later next stops is same) = subst IsWellTold (sym same) so_far.well_told
     closed_well may_stop (Short is tells) = tells.well_told so_far.well_told
+
+    -- so far the names are those of the samples, in order
+    names_so_far : (last : Close) → AreNamesOf (stands_for records ++ item.Close last ∷ []) (names_told records)
+    names_so_far last samples ending is =
+        so_far.in_order ∙ ap names_in_order (same_told so_far.front samples last (close.Read ending) (ap (λ items. items ++ item.Close last ∷ []) (sym so_far.stands) ∙ is)).0
+
+    -- want of memory is no ending
+    none_read : {records' : List RingRecord} → Tells [] records records' → AreNamesOf (stands_for records' ++ item.Close close.NoMemory ∷ []) (names_told records')
+    none_read tells samples ending is =
+        let stands = tells.stands ∙ append-nil (stands_for records) ∙ so_far.stands in
+        absurd (short≢read ending (same_told so_far.front samples close.NoMemory (close.Read ending) (ap (λ items. items ++ item.Close close.NoMemory ∷ []) (sym stands) ∙ is)).1)
+
+    pub closed_names : (may_stop : ℕ → ℕ → Type 0) {records' : List RingRecord} {last : Close} → Closes may_stop source index now records records' last
+        → AreNamesOf (stands_for records' ++ item.Close last ∷ []) (names_told records')
+    closed_names may_stop {last = last} (Ended none is same) = subst (λ rs. AreNamesOf (stands_for rs ++ item.Close last ∷ []) (names_told rs)) (sym same) (names_so_far last)
+    closed_names may_stop {last = last} (Stopped sample later next stops is same) = subst (λ rs. AreNamesOf (stands_for rs ++ item.Close last ∷ []) (names_told rs)) (sym same) (names_so_far last)
+    closed_names may_stop {records'} (Short is tells) = subst (λ last. AreNamesOf (stands_for records' ++ item.Close last ∷ []) (names_told records')) (sym is) (none_read tells)

@@ -1,5 +1,5 @@
 -- Records that are told one after another.
-use Rattle.std.proofs.Common.{◌≡◌, ◌≢◌, ℕ, ◌+◌, ◌<◌, Bool, true, false, List, [], ◌∷◌, ◌++◌, length, refl, sym, ap, ◌∙◌, arith, All, append-nil, append_assoc, length-append, Some, slice_get, get_or, if◌then◌else◌}
+use Rattle.std.proofs.Common.{◌≡◌, ◌≢◌, ℕ, ◌+◌, ◌<◌, Bool, true, false, List, [], ◌∷◌, ◌++◌, length, refl, sym, ap, subst, ◌∙◌, arith, All, append-nil, append_assoc, length-append, Some, slice_get, get_or, if◌then◌else◌}
 use Rattle.std.specs.List.{slice_index_or, AllByRecursion}
 use Rattle.std.proofs.lemmas.List.{get_or_append_left, map-append}
 use Rattle.std.proofs.lemmas.List.Elements.{All-weaker, All-append, All-cons, All-nil, recursion_from_All}
@@ -25,7 +25,7 @@ tells_on xs ys a b c first second = record {
   well_told = λ w. second.well_told (first.well_told w);
 }
 
--- a name alone stands for no item
+-- a new name alone stands for no item
 pub tells_name : (old : List RingRecord) (name : List ℕ) → Tells [] old (old ++ Name name ∷ [])
 tells_name old name = record {
   stands = stands_for-append old (Name name ∷ []);

@@ -6,6 +6,7 @@ use Rattle.std.proofs.lemmas.List.Elements.{All-from_recursion}
 use Rattle.std.proofs.lemmas.Option.{slice_get_cases, slice_get_within, same_Some}
 use Rattle.stack_core.specs.Reading.{Rest}
 use Rattle.stack_core.specs.Ledgers.{LedgerState}
+use Rattle.stack_core.specs.Told.{GoesBelow}
 use Rattle.stack_core.specs.Interleaving.{list_of, of_source}
 use Rattle.stack_core.specs.Schedule.{IsPrefixOf}
 use Rattle.stack_core.proofs.InterleavingLemmas.{of_source_at, of_source_past}
@@ -14,7 +15,7 @@ use Rattle.ring_collect.specs.Tracking.{Tracked}
 use Rattle.ring_collect.specs.Gathering.{Gathered}
 use Rattle.ring_collect.specs.Started.{ArePromised, IsFresh, AreFresh}
 use Rattle.ring_collect.specs.Settling.{IsSettledAs, IsAllTold, AreSettled}
-use Rattle.ring_collect.specs.Collecting.{GainsFirst, GainsOf, RunsWhole}
+use Rattle.ring_collect.specs.Collecting.{GainsAllowed, GainsFirst, GainsOf, RunsWhole}
 use Rattle.ring_collect.proofs.GatheringLemmas.{slice_get_map}
 use Rattle.ring_collect.specs.declared.intakes.Intake.{Intake}
 use Rattle.ring_collect.specs.declared.intakes.Stage.{Stage}
@@ -26,6 +27,9 @@ use Rattle.rtrb.specs.Ring.{received}
 
 following≢dropping : Following ≢ Dropping
 following≢dropping e = cc
+
+following≢untold : Following ≢ Untold
+following≢untold e = cc
 
 -- what is neither dropped nor untold is taken
 is_following : (stage : Stage) → stage ≢ Dropping → stage ≢ Untold → stage ≡ Following
@@ -44,6 +48,7 @@ nothing_tracked = record {
   stands = refl;
   first = ([], refl);
   follows = λ _. record { is_open = refl; told = refl; ledger_samples = refl; all_taken = refl; well_told = tt };
+  untold = λ e. absurd (following≢untold e);
 }
 
 fresh_tracked : {source : ℕ} (intake : Intake) → IsFresh source intake → Tracked (received intake.consumer) intake.close intake.ledger intake.stage []
@@ -160,6 +165,30 @@ module _ {R G : Type 0} {may_stop may_go : G → ℕ → ℕ → Type 0} {rest :
                 (r.samples, ap (λ front. front ++ r.samples) none)
           ]
 
+  pub gains_allowed : GainsAllowed (may_go gate) start taken
+  gains_allowed = record {
+    pairs = gathered.pairs;
+    gained = gathered.gained;
+    goes = λ source. subst (λ (samples : List Sample). GoesBelow (may_go gate) source (length samples)) (sym (gathered.of_lists.by_source source)) (goes source);
+  }
+    where
+      goes : (source : ℕ) → GoesBelow (may_go gate) source (length (list_of gathered.lists source))
+      goes source = elim (slice_get_cases all source).1 [
+        | inl here ↦
+            let count = settled.count in
+            let below = here.1 in
+            let no_more = promised.no_more in
+            let as_many = length-map all (λ s. s.handle.promise) in
+            let ledger = at_place ledgers source (omega arith) in
+            let reader = at_place readers source (omega arith) in
+            (source_settled source here.0 ledger.0 reader.0 here.2 ledger.1 reader.1).goes
+        | inr past ↦
+            let beyond = past.0 in
+            let e = all_listed in
+            let none : length (list_of gathered.lists source) ≡ 0 = ap length (past_the_end gathered.lists source (omega arith)) in
+            λ i below. absurd (omega arith)
+      ]
+
   pub runs_whole : refused ≡ false → length all ≡ length readers → RunsWhole (may_stop gate) (may_go gate) (map rest readers) ledgers order start taken
   runs_whole not_refused every = record {
     pairs = gathered.pairs;
@@ -202,6 +231,13 @@ gains_nothing rests taken = record {
   of_lists = record { by_source = λ source. refl };
   no_more = omega arith;
   first = λ source rest is. (rest.samples, refl);
+}
+
+pub gains_none_allowed : (may_go : ℕ → ℕ → Type 0) (taken : List (ℕ × Sample)) → GainsAllowed may_go taken taken
+gains_none_allowed may_go taken = record {
+  pairs = [];
+  gained = sym (append-nil taken);
+  goes = λ source i below. absurd (omega arith);
 }
 
 pub where_none : {A P : Type 0} (o : Option A) → o ≡ None → IfNone o P → P

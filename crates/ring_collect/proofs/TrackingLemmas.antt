@@ -3,7 +3,7 @@ use Rattle.std.proofs.Common.{◌≡◌, ◌≢◌, ℕ, List, [], ◌∷◌, �
 use Rattle.std.proofs.lemmas.List.{map-append}
 use Rattle.stack_core.specs.Ledgers.{LedgerState}
 use Rattle.stack_core.specs.Records.{stands_for, names_told, IsWellToldAfter}
-use Rattle.stack_core.proofs.RecordLemmas.{stands_for-append, names_told-append, IsWellTold-append}
+use Rattle.stack_core.proofs.RecordLemmas.{stands_for-append, names_told-append, IsWellTold-append, IsWellTold-front, IsWellTold-back}
 use Rattle.stack_core.specs.declared.samples.Sample.{Sample}
 use Rattle.stack_core.specs.declared.endings.Close.{Close}
 use Rattle.stack_core.specs.declared.endings.Item.TheVariants as item
@@ -15,7 +15,25 @@ use Rattle.ring_collect.specs.declared.intakes.Stage.TheVariants as stage
 use Rattle.ring_collect.specs.Taking.{TakesItem, ItemKept, ItemRefused, ItemUntold, IsTold, samples_in, ledger_after, close_after}
 use Rattle.ring_collect.specs.Tracking.{Tracked, Follows, TurnsTo, close_items}
 use Rattle.ring_collect.specs.declared.intakes.Stage.{Stage}
-use Rattle.ring_collect.specs.declared.intakes.Stage.TheVariants.{Following}
+use Rattle.ring_collect.specs.declared.intakes.Stage.TheVariants.{Following, Untold}
+
+kept≢refused : became.Kept ≢ became.Refused
+kept≢refused e = cc
+
+kept≢untold : became.Kept ≢ became.Untold
+kept≢untold e = cc
+
+refused≢untold : became.Refused ≢ became.Untold
+refused≢untold e = cc
+
+dropping≢following : stage.Dropping ≢ Following
+dropping≢following e = cc
+
+untold≢following : Untold ≢ Following
+untold≢following e = cc
+
+dropping≢untold : stage.Dropping ≢ Untold
+dropping≢untold e = cc
 
 -- one record more stands for its sample, or its close
 pub stands_one : (records : List RingRecord) (samples : List Sample) (one : RingRecord) → stands_for records ≡ map item.Sample samples ++ []
@@ -31,13 +49,14 @@ stands_one records samples (CloseRecord last) stands =
     ∙ ap (λ items. items ++ item.Close last ∷ []) (stands ∙ append-nil (map item.Sample samples) ∙ ap (map item.Sample) (sym (append-nil samples)))
 
 -- a record is dropped
-pub tracked_dropped : {records : List RingRecord} {ledger ledger' : LedgerState} {stage stage' : Stage} {list : List Sample} (one : RingRecord) → stage' ≢ Following
+pub tracked_dropped : {records : List RingRecord} {ledger ledger' : LedgerState} {stage stage' : Stage} {list : List Sample} (one : RingRecord) → stage' ≢ Following → (stage' ≡ Untold → stage ≡ Untold)
     → Tracked records None ledger stage list → Tracked (records ++ one ∷ []) (close_after None one) ledger' stage' list
-tracked_dropped {records} {list = list} one other tracked = record {
+tracked_dropped {records} {list = list} one other same_untold tracked = record {
   samples = tracked.samples ++ samples_in (names_told records) one;
   stands = stands_one records tracked.samples one tracked.stands;
   first = (tracked.first.0 ++ samples_in (names_told records) one, sym (append_assoc list tracked.first.0 (samples_in (names_told records) one)) ∙ ap (λ xs. xs ++ samples_in (names_told records) one) tracked.first.1);
   follows = λ e. absurd (other e);
+  untold = λ e well. tracked.untold (same_untold e) (IsWellTold-front records (one ∷ []) well);
 }
 
 module _ {records : List RingRecord} {ledger : LedgerState} {samples list : List Sample} (follows : Follows records ledger samples list) (one : RingRecord) where
@@ -51,6 +70,11 @@ well_one : (names : List (List ℕ)) (one : RingRecord) → IsTold names one →
 well_one names (Name name) told = tt
 well_one names (Row frames weight) told = (told, tt)
 well_one names (CloseRecord last) told = tt
+
+one_well : (names : List (List ℕ)) (one : RingRecord) → IsWellToldAfter (length names) (one ∷ []) → IsTold names one
+one_well names (Name name) well = tt
+one_well names (Row frames weight) well = well.0
+one_well names (CloseRecord last) well = tt
 
 ledger_told : (ledger : LedgerState) (one : RingRecord) → (ledger_after ledger one).told ≡ ledger.told ++ names_told (one ∷ [])
 ledger_told ledger (Name name) = refl
@@ -85,35 +109,35 @@ tracked_kept {records} {ledger} {list} one told tracked =
         all_taken = all;
         well_told = IsWellTold-append records (one ∷ []) follows.well_told (subst (λ names. IsWellToldAfter (length names) (one ∷ [])) follows.told (well_one ledger.told one told));
       };
+      untold = λ e. absurd (untold≢following (sym e));
     }
 
 -- the sink has the sample, and there was want of memory
-pub tracked_refused : {records : List RingRecord} {ledger ledger' : LedgerState} {stage' : Stage} {list : List Sample} (one : RingRecord) → stage' ≢ Following
-    → Tracked records None ledger Following list → Tracked (records ++ one ∷ []) (close_after None one) ledger' stage' (list ++ samples_in ledger.told one)
-tracked_refused {records} {ledger} {list = list} one other tracked =
+pub tracked_refused : {records : List RingRecord} {ledger ledger' : LedgerState} {list : List Sample} (one : RingRecord)
+    → Tracked records None ledger Following list → Tracked (records ++ one ∷ []) (close_after None one) ledger' stage.Dropping (list ++ samples_in ledger.told one)
+tracked_refused {records} {ledger} {list = list} one tracked =
     let follows = tracked.follows refl in
     let all : list ++ samples_in ledger.told one ≡ tracked.samples ++ samples_in (names_told records) one = ap (λ xs. xs ++ samples_in ledger.told one) follows.all_taken ∙ ap (λ xs. tracked.samples ++ xs) (same_samples_in follows one) in
     record {
       samples = tracked.samples ++ samples_in (names_told records) one;
       stands = stands_one records tracked.samples one tracked.stands;
       first = ([], append-nil (list ++ samples_in ledger.told one) ∙ all);
-      follows = λ e. absurd (other e);
+      follows = λ e. absurd (dropping≢following e);
+      untold = λ e. absurd (dropping≢untold e);
     }
 
-kept≢refused : became.Kept ≢ became.Refused
-kept≢refused e = cc
-
-kept≢untold : became.Kept ≢ became.Untold
-kept≢untold e = cc
-
-refused≢untold : became.Refused ≢ became.Untold
-refused≢untold e = cc
-
-dropping≢following : stage.Dropping ≢ Following
-dropping≢following e = cc
-
-untold≢following : stage.Untold ≢ Following
-untold≢following e = cc
+-- a row had a number without a name
+pub tracked_untold : {records : List RingRecord} {ledger ledger' : LedgerState} {list : List Sample} (one : RingRecord) → (IsTold ledger.told one → ⊥)
+    → Tracked records None ledger Following list → Tracked (records ++ one ∷ []) (close_after None one) ledger' Untold list
+tracked_untold {records} {list = list} one untold tracked =
+    let follows = tracked.follows refl in
+    record {
+      samples = tracked.samples ++ samples_in (names_told records) one;
+      stands = stands_one records tracked.samples one tracked.stands;
+      first = (tracked.first.0 ++ samples_in (names_told records) one, sym (append_assoc list tracked.first.0 (samples_in (names_told records) one)) ∙ ap (λ xs. xs ++ samples_in (names_told records) one) tracked.first.1);
+      follows = λ e. absurd (untold≢following e);
+      untold = λ _ well. untold (subst (λ names. IsTold names one) (sym follows.told) (one_well (names_told records) one (IsWellTold-back records (one ∷ []) well)));
+    }
 
 along_close : {records : List RingRecord} {ledger : LedgerState} {stage : Stage} {list : List Sample} {close close' : Option Close} → close' ≡ close → Tracked records close ledger stage list → Tracked records close' ledger stage list
 along_close {records} {ledger} {stage} {list} e = subst (λ c. Tracked records c ledger stage list) (sym e)
@@ -139,30 +163,30 @@ module _ {source : ℕ} {one : RingRecord} {records : List RingRecord} {ledger l
     ordered = λ _. ordered;
   }
   turns_kept (ItemRefused is close_is gains) = absurd (kept≢refused is)
-  turns_kept (ItemUntold is close_is taken_is order_is) = absurd (kept≢untold is)
+  turns_kept (ItemUntold is untold close_is taken_is order_is) = absurd (kept≢untold is)
 
   pub turns_refused : TakesItem source one ledger ledger' None close' taken taken' order order' became.Refused
       → TurnsTo source (Tracked (records ++ one ∷ []) close' ledger' stage.Dropping) list taken taken' order order' (turned.Refused ≢ turned.Refused)
   turns_refused (ItemRefused is close_is (inl same)) = record {
     more = [];
-    tracked = subst (Tracked (records ++ one ∷ []) close' ledger' stage.Dropping) (sym (append-nil list)) (along_close close_is (tracked_dropped one dropping≢following tracked));
+    tracked = subst (Tracked (records ++ one ∷ []) close' ledger' stage.Dropping) (sym (append-nil list)) (along_close close_is (tracked_dropped one dropping≢following (λ e. absurd (dropping≢untold e)) tracked));
     gains = same ∙ sym (append-nil taken);
     ordered = λ other. absurd (other refl);
   }
   turns_refused (ItemRefused is close_is (inr gains)) = record {
     more = samples_in ledger.told one;
-    tracked = along_close close_is (tracked_refused one dropping≢following tracked);
+    tracked = along_close close_is (tracked_refused one tracked);
     gains = gains;
     ordered = λ other. absurd (other refl);
   }
   turns_refused (ItemKept is told ledger_is close_is gains ordered) = absurd (kept≢refused (sym is))
-  turns_refused (ItemUntold is close_is taken_is order_is) = absurd (refused≢untold is)
+  turns_refused (ItemUntold is untold close_is taken_is order_is) = absurd (refused≢untold is)
 
   pub turns_untold : TakesItem source one ledger ledger' None close' taken taken' order order' became.Untold
-      → TurnsTo source (Tracked (records ++ one ∷ []) close' ledger' stage.Untold) list taken taken' order order' (turned.Moved ≢ turned.Refused)
-  turns_untold (ItemUntold is close_is taken_is order_is) = record {
+      → TurnsTo source (Tracked (records ++ one ∷ []) close' ledger' Untold) list taken taken' order order' (turned.Moved ≢ turned.Refused)
+  turns_untold (ItemUntold is untold close_is taken_is order_is) = record {
     more = [];
-    tracked = subst (Tracked (records ++ one ∷ []) close' ledger' stage.Untold) (sym (append-nil list)) (along_close close_is (tracked_dropped one untold≢following tracked));
+    tracked = subst (Tracked (records ++ one ∷ []) close' ledger' Untold) (sym (append-nil list)) (along_close close_is (tracked_untold one untold tracked));
     gains = taken_is ∙ sym (append-nil taken);
     ordered = λ _. order_is ∙ sym (append-nil order);
   }

@@ -3,9 +3,9 @@ use Rattle.stack_core.specs.Reading.{Rest}
 use Rattle.stack_core.specs.Ledgers.{LedgerState, ListState}
 use Rattle.ring_collect.specs.Settling.{IsAllTold}
 use Rattle.stack_core.specs.Schedule.{IsPrefixOf}
-use Rattle.stack_core.specs.Interleaving.{AreOf, list_of, sources_of}
+use Rattle.stack_core.specs.Interleaving.{AreOf, list_of, of_source, sources_of}
 use Rattle.stack_core.specs.declared.samples.Sample.{Sample}
-use Rattle.stack_core.specs.Told.{IsCollected}
+use Rattle.stack_core.specs.Told.{GoesBelow, IsCollected}
 
 -- the samples and the ending of a list
 abbrev pub seen_as_rest : ListState → Rest
@@ -29,6 +29,12 @@ pub record GainsFirst (rests : List Rest) (taken taken' : List (ℕ × Sample)) 
   pub of_lists : AreOf pairs lists
   pub no_more : length lists ≤ length rests
   pub first : (source : ℕ) (rest : Rest) → slice_get rests source ≡ Some rest → IsPrefixOf (list_of lists source) rest.samples
+
+-- the gate may go at each sample that the sink gained: of each source at as many of the first ones as it gained
+pub record GainsAllowed (may_go : ℕ → ℕ → Type 0) (taken taken' : List (ℕ × Sample)) : Type 0 where
+  pub pairs : List (ℕ × Sample)
+  pub gained : taken' ≡ taken ++ pairs
+  pub goes : (source : ℕ) → GoesBelow may_go source (length (of_source source pairs))
 
 -- what the sink gained is of these many sources
 pub record GainsOf (count : ℕ) (taken taken' : List (ℕ × Sample)) : Type 0 where

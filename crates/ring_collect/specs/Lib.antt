@@ -1,6 +1,8 @@
 pub mod Collecting
 pub mod Gathering
+pub mod Kept
 pub mod Limits
+pub mod NamesInOrder
 pub mod Settling
 pub mod Started
 pub mod Taking

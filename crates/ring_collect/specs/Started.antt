@@ -1,7 +1,8 @@
 use Rattle.std.specs.Prelude.{◌≡◌, ◌≤◌, ℕ, List, [], length, Some, None, slice_get}
 use Rattle.std.specs.Arc.{arc_value}
-use Rattle.rtrb.specs.Ring.{received}
+use Rattle.rtrb.specs.Ring.{received, producer_capacity, consumer_capacity}
 use Rattle.ring_collect.specs.declared.started.Telling.{Telling}
+use Rattle.ring_collect.specs.declared.started.RingEnds.{RingEnds}
 use Rattle.ring_collect.specs.declared.intakes.Intake.{Intake}
 use Rattle.ring_collect.specs.declared.intakes.Stage.TheVariants.{Following}
 
@@ -16,6 +17,11 @@ module _ {R G : Type 0} where
   pub record ArePromised (gate : G) (readers : List R) (promises : List (Telling R G)) : Type 0 where
     pub no_more : length promises ≤ length readers
     pub each : (source : ℕ) (promise : Telling R G) (reader : R) → slice_get promises source ≡ Some promise → slice_get readers source ≡ Some reader → IsPromised gate source reader promise
+
+-- both ends know the size
+pub record IsOfSize (size : ℕ) (ends : RingEnds) : Type 0 where
+  pub producer : producer_capacity ends.producer ≡ size
+  pub consumer : consumer_capacity ends.consumer ≡ size
 
 -- nothing came yet
 pub record IsFresh (source : ℕ) (intake : Intake) : Type 0 where

@@ -11,7 +11,7 @@ use Rattle.ring_collect.specs.declared.taking.Taken.TheVariants.{Kept, Refused, 
 -- a name is told to the ledger, or there was want of memory and nothing changed
 pub data TakesName (name : List ℕ) (old new : LedgerState) (result : Taken) : Type 0 where
   NameKept : result ≡ Kept → new ≡ record old { told = old.told ++ name ∷ [] } → TakesName name old new result
-  NameRefused : result ≡ Refused → TakesName name old new result
+  NameRefused : result ≡ Refused → new ≡ old → TakesName name old new result
 
 -- a row with an untold number changes nothing. Else its sample is handed to the sink, the ledger and the order; where there is
 -- want of memory the sink may have it, and no more
@@ -21,7 +21,8 @@ pub data TakesRow (source : ℕ) (row : Row) (old new : LedgerState) (taken take
       → TakesRow source row old new taken taken' order order' result
   RowRefused : result ≡ Refused → (taken' ≡ taken) ⊎ (taken' ≡ taken ++ (source, named old.told row) ∷ [])
       → TakesRow source row old new taken taken' order order' result
-  RowUntold : result ≡ Untold → taken' ≡ taken → order' ≡ order → TakesRow source row old new taken taken' order order' result
+  RowUntold : result ≡ Untold → (All (λ number. number < length old.told) row.frames → ⊥) → taken' ≡ taken → order' ≡ order
+      → TakesRow source row old new taken taken' order order' result
 
 -- the pairs of a source and its samples
 abbrev pub of_one : ℕ → List Sample → List (ℕ × Sample)
@@ -57,5 +58,5 @@ pub data TakesItem (source : ℕ) (item : RingRecord) (ledger ledger' : LedgerSt
       → TakesItem source item ledger ledger' close close' taken taken' order order' result
   ItemRefused : result ≡ Refused → close' ≡ close_after close item → (taken' ≡ taken) ⊎ (taken' ≡ taken ++ of_one source (samples_in ledger.told item))
       → TakesItem source item ledger ledger' close close' taken taken' order order' result
-  ItemUntold : result ≡ Untold → close' ≡ close_after close item → taken' ≡ taken → order' ≡ order
+  ItemUntold : result ≡ Untold → (IsTold ledger.told item → ⊥) → close' ≡ close_after close item → taken' ≡ taken → order' ≡ order
       → TakesItem source item ledger ledger' close close' taken taken' order order' result

@@ -7,12 +7,14 @@ use Rattle.rtrb.specs.Ring.{all_sent}
 use Rattle.rtrb.specs.declared.producer.Producer.{Producer}
 use Rattle.rtrb.specs.declared.finished.Finished.{Finished}
 use Rattle.ring_collect.specs.Limits.{IsLeftOf}
+use Rattle.ring_collect.specs.NamesInOrder.{AreNamesOf, with_stack}
 use Rattle.stack_core.specs.declared.samples.Sample.{Sample}
 use Rattle.stack_core.specs.declared.endings.Close.{Close}
 use Rattle.stack_core.specs.declared.endings.Close.TheVariants as close
 use Rattle.stack_core.specs.declared.endings.Item.TheVariants as item
 use Rattle.stack_core.specs.declared.endings.Item.{Item}
 use Rattle.stack_core.specs.declared.records.RingRecord.{RingRecord}
+use Rattle.stack_core.specs.declared.records.RingRecord.TheVariants as one
 
 -- the records go on: they stand for these items more, and are still well told
 pub record Tells (items : List Item) (old new : List RingRecord) : Type 0 where
@@ -23,7 +25,7 @@ pub record Tells (items : List Item) (old new : List RingRecord) : Type 0 where
 abbrev pub GrowsTo : {A : Type 0} → List A → List A → Type 0
 GrowsTo {A} old new = (more : List A) × (new ≡ old ++ more)
 
--- the gate let the first sample of the rest go, and it is told
+-- the gate let the first sample of the rest go, and it is told: the names that its stack has and that were not told, and its row
 pub record TellsOne (may_go : ℕ → ℕ → Type 0) (source index : ℕ) (old_rest new_rest : Rest) (known : List (List ℕ)) (old new : List RingRecord) : Type 0 where
   pub sample : Sample
   pub first : old_rest.samples ≡ sample ∷ new_rest.samples
@@ -31,17 +33,29 @@ pub record TellsOne (may_go : ℕ → ℕ → Type 0) (source index : ℕ) (old_
   pub goes : may_go source index
   pub tells : Tells (item.Sample sample ∷ []) old new
   pub names : known ≡ names_told new
+  pub told : names_told new ≡ with_stack (names_told old) sample.stack
 
--- what close is to follow: that of the ending where the rest has no sample, that of a stop where the gate stopped the first,
--- or that of want of memory, with no sample told
+-- what close is to follow: that of the ending where the rest has no sample, that of a stop where the gate stopped the first, with
+-- nothing told; or that of want of memory, with no sample told
 pub data Closes (may_stop : ℕ → ℕ → Type 0) (source index : ℕ) (rest : Rest) (old new : List RingRecord) (last : Close) : Type 0 where
   Ended : rest.samples ≡ [] → last ≡ close.Read rest.ending → new ≡ old → Closes may_stop source index rest old new last
   Stopped : (sample : Sample) (later : List Sample) → rest.samples ≡ sample ∷ later → may_stop source index → last ≡ close.Read (ending.Stopped index) → new ≡ old
       → Closes may_stop source index rest old new last
   ShortOfMemory : last ≡ close.NoMemory → Tells [] old new → Closes may_stop source index rest old new last
 
--- what is left of a ring shows that all that was sent there is what the reader of a source with this rest tells under its gate
+-- nothing stands behind the close
+abbrev pub IsClosed : List RingRecord → Type 0
+IsClosed records = (front : List RingRecord) × (last : Close) × (records ≡ front ++ one.Close last ∷ [])
+
+-- well told records stand for what the reader of a source with this rest tells under its gate; where it was read to an ending, their
+-- names are those of its samples in the order in which they first appear
+pub record TellsAll (may_stop may_go : ℕ → ℕ → Type 0) (source : ℕ) (rest : Rest) (records : List RingRecord) : Type 0 where
+  pub well_told : IsWellTold records
+  pub is_told : IsToldUnder may_stop may_go source rest (stands_for records)
+  pub is_closed : IsClosed records
+  pub in_order : AreNamesOf (stands_for records) (names_told records)
+
+-- what is left of a ring shows that all that was sent there is what the reader tells
 pub record SentAll {A P : Type 0} (may_stop may_go : ℕ → ℕ → Type 0) (source : ℕ) (rest : Rest) (producer : Producer RingRecord A P) (finished : Finished RingRecord A P) : Type 0 where
   pub ring : IsLeftOf producer finished
-  pub well_told : IsWellTold (all_sent finished)
-  pub told : IsToldUnder may_stop may_go source rest (stands_for (all_sent finished))
+  pub all : TellsAll may_stop may_go source rest (all_sent finished)

@@ -1,5 +1,6 @@
 use Rattle.std.specs.Prelude.{◌≡◌, ◌++◌, ℕ, List, [], ◌∷◌, Option, Some, None, map}
-use Rattle.rtrb.specs.Ring.{received}
+use Rattle.rtrb.specs.Ring.{received, known_items}
+use Rattle.rtrb.specs.declared.consumer.Consumer.{Consumer}
 use Rattle.stack_core.specs.Ledgers.{LedgerState}
 use Rattle.stack_core.specs.Records.{stands_for, names_told, IsWellTold}
 use Rattle.stack_core.specs.Interleaving.{sources_of}
@@ -12,7 +13,15 @@ use Rattle.stack_core.specs.declared.records.RingRecord.{RingRecord}
 use Rattle.ring_collect.specs.Taking.{of_one}
 use Rattle.ring_collect.specs.declared.intakes.Intake.{Intake}
 use Rattle.ring_collect.specs.declared.intakes.Stage.{Stage}
-use Rattle.ring_collect.specs.declared.intakes.Stage.TheVariants.{Following}
+use Rattle.ring_collect.specs.declared.intakes.Stage.TheVariants.{Following, Untold}
+
+-- a record came out of the ring
+abbrev pub PopsOne : {A P : Type 0} → Consumer RingRecord A P → Consumer RingRecord A P → Type 0
+PopsOne old new = (one : RingRecord) × (received new ≡ received old ++ one ∷ [])
+
+-- no record was known to be in the ring
+abbrev pub FindsNothing : {A P : Type 0} → Consumer RingRecord A P → Consumer RingRecord A P → Type 0
+FindsNothing old new = (received new ≡ received old) × (known_items new ≡ [])
 
 -- the item that a close is, if there is one
 abbrev pub close_items : Option Close → List Item
@@ -28,12 +37,13 @@ pub record Follows (records : List RingRecord) (ledger : LedgerState) (samples l
   pub well_told : IsWellTold records
 
 -- the records of a ring stand for samples, and then the close if it came; of these samples the sink has the first ones, and all
--- of them as long as the records are taken
+-- of them as long as the records are taken. Where a number without a name came they are not well told
 pub record Tracked (records : List RingRecord) (close : Option Close) (ledger : LedgerState) (stage : Stage) (list : List Sample) : Type 0 where
   pub samples : List Sample
   pub stands : stands_for records ≡ map item.Sample samples ++ close_items close
   pub first : IsPrefixOf list samples
   pub follows : stage ≡ Following → Follows records ledger samples list
+  pub untold : stage ≡ Untold → IsWellTold records → ⊥
 
 abbrev pub Tracks : Intake → List Sample → Type 0
 Tracks intake list = Tracked (received intake.consumer) intake.close intake.ledger intake.stage list

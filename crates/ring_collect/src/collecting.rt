@@ -1,9 +1,13 @@
 //! A whole run: a reader thread and a bounded ring for each source, and the collecting thread that feeds the sink.
 
-ghost use Rattle.std.specs.Prelude.{None, Some, ◌≡◌, ◌≤◌, ◌<◌, ◌++◌, ◌⊎◌, ℕ, [], IfOk, IsErrOf, IfErr, IfSome, IfNone, false, length, map, vec_capacity};
+ghost use Rattle.std.specs.Prelude.{All, None, Some, ◌≡◌, ◌≤◌, ◌<◌, ◌++◌, ◌⊎◌, ℕ, [], IfOk, IsErrOf, IfErr, IsSome, IfSome, IfNone, false, length, map, vec_capacity};
 ghost use Rattle.std.specs.Arc.{arc_value};
 ghost use Rattle.ring_collect.specs.Settling.{AreListsOf};
-ghost use Rattle.ring_collect.specs.Collecting.{Collects, AreWhole, GainsFirst, GainsOf, Unfinishes, RunsWhole};
+ghost use Rattle.ring_collect.specs.Collecting.{Collects, AreWhole, GainsAllowed, GainsFirst, GainsOf, Unfinishes, RunsWhole};
+ghost use Rattle.ring_collect.specs.NamesInOrder.{names_in_order};
+ghost use Rattle.call_tree.specs.FrameTable.{HasDistinctNames};
+ghost use Rattle.ring_collect.specs.Started.{IsOfSize};
+ghost use Rattle.stack_core.specs.Ledgers.{IsRead};
 ghost use Rattle.stack_core.specs.Interleaving.{IsInterleaving, AreOf, interleaved};
 
 use crate::gathering::drain;
@@ -54,7 +58,9 @@ fn lists_of(alloc: Global, ledgers: Vec<Ledger>) -> Option<Vec<SourceList>>
 
 /// The list that a ledger hands out. `None` where it was closed for want of memory.
 fn list_of_ledger(ledger: Ledger) -> Option<SourceList>
-    ensures { IfSome result (λ list. (list.samples ≡ ledger.samples) × (ledger.close ≡ Some (Close.Read list.ending))) }
+    ensures list { IfSome result (λ list. (list.samples ≡ ledger.samples) × (ledger.close ≡ Some (Close.Read list.ending))) }
+    ensures names { IfSome result (λ list. list.told ≡ ledger.told) }
+    ensures read { IsRead ledger.close → IsSome result }
 {
     match ledger.closed() {
         Some(Close::Read(_)) => Some(ledger.into_list()),
@@ -96,6 +102,7 @@ fn run_sources<
     requires room_for_ledgers { length readers.items ≤ vec_capacity ledgers.old }
     requires nothing { (all.items ≡ []) × (order.old.items ≡ []) × (ledgers.old.items ≡ []) }
     ensures gains { IfNone result.unfinished (GainsFirst (map R.rest readers.items) (S.taken sink.old) (S.taken sink.new)) }
+    ensures popped { IfNone result.unfinished (GainsAllowed (G.may_go (arc_value gate.now)) (S.taken sink.old) (S.taken sink.new)) }
     ensures whole { IfNone result.unfinished (result.refused ≡ false → result.no_thread ≡ false
         → RunsWhole (G.may_stop (arc_value gate.now)) (G.may_go (arc_value gate.now)) (map R.rest readers.items) ledgers.new.items order.new.items (S.taken sink.old) (S.taken sink.new)) }
     ensures unfinished { IfSome result.unfinished (λ source. Unfinishes (length readers.items) source (S.taken sink.old) (S.taken sink.new)) }
@@ -116,7 +123,8 @@ fn run_sources<
 
 /// A ring for each reader.
 fn make_rings(alloc: Global, count: usize, ring: RingSize) -> Result<Vec<RingEnds>, AllocError>
-    ensures { IfOk result (λ rings. length rings.items ≡ count) }
+    ensures count { IfOk result (λ rings. length rings.items ≡ count) }
+    ensures size { IfOk result (λ rings. All (IsOfSize ring) rings.items) }
 {
     let mut rings = Vec::with_capacity(alloc, count)?;
     for _ in 0..count {
@@ -176,13 +184,19 @@ pub fn collect<
     ensures lists { IfOk result (λ run. Collects (G.may_stop (arc_value gate)) (G.may_go (arc_value gate)) (map R.rest readers.items) run.lists.items) }
     ensures whole { ((source index : ℕ) → G.may_stop (arc_value gate) source index → ⊥) → IfOk result (λ run. AreWhole (map R.rest readers.items) run.lists.items) }
 
+    // Each list was told exactly the names of its samples, in the order in which they first appear: none twice.
+    ensures told { IfOk result (λ run. All (λ list. list.told ≡ names_in_order list.samples) run.lists.items) }
+    ensures distinct { IfOk result (λ run. All (λ list. HasDistinctNames list.told) run.lists.items) }
+
     // The sink gained exactly the lists' samples, in the order of arrival.
     ensures order { IfOk result (λ run. IsInterleaving run.order.items (map (λ list. list.samples) run.lists.items)) }
     ensures sink { IfOk result (λ run. S.taken sink.new ≡ S.taken sink.old ++ interleaved run.order.items (map (λ list. list.samples) run.lists.items)) }
     ensures by_source { IfOk result (λ run. AreOf (interleaved run.order.items (map (λ list. list.samples) run.lists.items)) (map (λ list. list.samples) run.lists.items)) }
 
-    // What a refusal leaves in the sink.
+    // What a refusal leaves in the sink: of each source a beginning, at each sample of which the gate may go.
     ensures refused { IsErrOf result CollectFault.OutOfMemory ⊎ IsErrOf result CollectFault.NoThread → GainsFirst (map R.rest readers.items) (S.taken sink.old) (S.taken sink.new) }
+    ensures popped { IsErrOf result CollectFault.OutOfMemory ⊎ IsErrOf result CollectFault.NoThread
+        → GainsAllowed (G.may_go (arc_value gate)) (S.taken sink.old) (S.taken sink.new) }
     ensures unfinished { (source : ℕ) → IsErrOf result (CollectFault.Unfinished source) → Unfinishes (length readers.items) source (S.taken sink.old) (S.taken sink.new) }
     ensures setting { S.setting sink.new ≡ S.setting sink.old }
 {

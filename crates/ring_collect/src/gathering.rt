@@ -1,9 +1,9 @@
 //! The collecting thread's rounds: in each it looks once into every ring that is not closed.
 
-ghost use Rattle.std.specs.Prelude.{◌≡◌, ◌≢◌, ◌<◌, ℕ, List, None, Some, IsSome, IsFalse, IfSome, false, length, map, vec_len, slice_get};
+ghost use Rattle.std.specs.Prelude.{◌≡◌, ◌≢◌, ◌<◌, ◌↔◌, ℕ, List, None, Some, IsSome, IsTrue, IsFalse, IfSome, true, false, length, map, vec_len, slice_get};
 ghost use Rattle.ring_collect.specs.Gathering.{Gathered};
 ghost use Rattle.rtrb.specs.Ring.{SameConsumer};
-ghost use Rattle.ring_collect.specs.Tracking.{Tracks, TurnsTo};
+ghost use Rattle.ring_collect.specs.Tracking.{PopsOne, FindsNothing, Tracks, TurnsTo};
 ghost use Rattle.stack_core.specs.declared.samples.Sample.{Sample as TakenSample};
 
 use crate::intakes::{Intake, Stage, Turned};
@@ -24,6 +24,8 @@ fn look_into<S: Sink>(
     requires { intake.old.close ≡ None }
     ensures number { intake.new.number ≡ intake.old.number }
     ensures ring { SameConsumer intake.old.consumer intake.new.consumer }
+    ensures nothing { result ≡ false → FindsNothing intake.old.consumer intake.new.consumer }
+    ensures one { result ≡ true → PopsOne intake.old.consumer intake.new.consumer }
     ensures looks { (list : List TakenSample) → Tracks intake.old list
         → TurnsTo intake.new.number (Tracks intake.new) list (S.taken sink.old) (S.taken sink.new) order.old.items order.new.items (refused.new ≡ false) }
     ensures refused { refused.new ≡ false → refused.old ≡ false }
@@ -56,7 +58,8 @@ pub enum Look {
 
 impl Look {
     fn of(moved: bool) -> Look
-        ensures { result ≢ Look.Closed }
+        ensures open { result ≢ Look.Closed }
+        ensures moved { (result ≡ Look.Moved) ↔ IsTrue moved }
     {
         if moved { Look::Moved } else { Look::Idle }
     }

@@ -1,10 +1,12 @@
 //! One source, as the collecting thread sees it: the consumer of its ring, its ledger, and how it was closed.
 
 ghost use Rattle.std.specs.Prelude.{◌≡◌, ◌≢◌, ◌↔◌, IsTrue, None};
+ghost use Rattle.ring_collect.specs.Kept.{IsKept};
 
+use crate::kept::KeptSample;
 use crate::limits::RecordConsumer;
 use crate::taking::{Taken, note_close, take_item};
-use stack_core::{Close, Ledger, Sample, Sink};
+use stack_core::{Close, Ledger, Sink};
 use std::alloc::Global;
 
 /// What is done with the records that come.
@@ -14,7 +16,7 @@ pub enum Stage {
     Following,
     /// They are dropped, since there was want of memory.
     Dropping,
-    /// They are dropped, since a row had a number without a name. No reader tells such a row.
+    /// They are dropped, since a row had a number without a name: what came is not well told.
     Untold,
 }
 
@@ -34,7 +36,8 @@ impl Stage {
 
     /// The stage of a source once there was want of memory.
     fn dropping(self) -> Self
-        ensures { result ≢ Stage.Following }
+        ensures dropped { result ≢ Stage.Following }
+        ensures untold { (result ≡ Stage.Untold) ↔ (self ≡ Stage.Untold) }
     {
         match self {
             Stage::Following | Stage::Dropping => Stage::Dropping,
@@ -60,18 +63,18 @@ pub struct Intake {
     pub number: u32,
     pub consumer: RecordConsumer,
     pub ledger: Ledger,
-    /// The sample that was handed to the sink last.
-    pub kept: Sample,
+    pub kept: KeptSample,
     pub stage: Stage,
     /// What closed the ring. From then on it isn't looked into again.
     pub close: Option<Close>,
     ghost still_open: { ledger.close ≡ None },
+    ghost kept_told: { IsKept ledger.told kept },
 }
 
 impl Intake {
-    ghost use Rattle.std.specs.Prelude.{◌≡◌, ◌≢◌, ◌⊎◌, List, None};
+    ghost use Rattle.std.specs.Prelude.{◌≡◌, ◌≢◌, ◌⊎◌, List, None, true, false};
     ghost use Rattle.rtrb.specs.Ring.{SameConsumer};
-    ghost use Rattle.ring_collect.specs.Tracking.{Tracks, TurnsTo};
+    ghost use Rattle.ring_collect.specs.Tracking.{PopsOne, FindsNothing, Tracks, TurnsTo};
     ghost use Rattle.stack_core.specs.declared.samples.Sample.{Sample as TakenSample};
 
     /// Takes the next record, if one is there.
@@ -84,6 +87,8 @@ impl Intake {
         requires { self.old.close ≡ None }
         ensures number { self.new.number ≡ self.old.number }
         ensures ring { SameConsumer self.old.consumer self.new.consumer }
+        ensures nothing { result ≡ Turned.Idle → FindsNothing self.old.consumer self.new.consumer }
+        ensures one { result ≢ Turned.Idle → PopsOne self.old.consumer self.new.consumer }
         ensures turned { (list : List TakenSample) → Tracks self.old list
             → TurnsTo self.new.number (Tracks self.new) list (S.taken sink.old) (S.taken sink.new) order.old.items order.new.items (result ≢ Turned.Refused) }
         ensures stage { self.new.stage ≡ Stage.Dropping → (self.old.stage ≡ Stage.Dropping) ⊎ (result ≡ Turned.Refused) }
@@ -124,6 +129,8 @@ impl Intake {
         requires { self.old.close ≡ None }
         ensures number { self.new.number ≡ self.old.number }
         ensures ring { SameConsumer self.old.consumer self.new.consumer }
+        ensures nothing { result ≡ false → FindsNothing self.old.consumer self.new.consumer }
+        ensures one { result ≡ true → PopsOne self.old.consumer self.new.consumer }
         ensures tracks { (list : List TakenSample) → Tracks self.old list → Tracks self.new list }
     {
         let Ok(item) = self.consumer.pop() else {

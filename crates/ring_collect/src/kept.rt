@@ -1,86 +1,111 @@
-//! The sample of a source that is handed to the sink: one for all its rows, each time brought up to date from the first frame
-//! that differs.
+//! The sample of a source that is handed to the sink: one for all its rows, each time brought up to date at the frames whose
+//! numbers differ.
 
-ghost use Rattle.std.specs.Prelude.{◌≡◌, ◌≤◌, ◌<◌, ◌↔◌, IsTrue, All, length, map, take, string_bytes, ◌++◌, OnOk};
-ghost use Rattle.stack_core.specs.Ledgers.{named, name_at};
+ghost use Rattle.std.specs.Prelude.{◌≡◌, ◌≤◌, ◌<◌, ◌+◌, All, length, map, max, take, string_bytes, ◌++◌, ◌∷◌, [], OnOk};
+ghost use Rattle.stack_core.specs.Ledgers.{named};
+ghost use Rattle.stack_core.specs.Records.{names_at};
+ghost use Rattle.ring_collect.specs.Kept.{IsKept};
 
 use stack_core::{Ledger, Names, Sample};
 use std::alloc::{AllocError, Global};
 use std::mem;
 
-/// Whether two names are the same.
-fn is_same(name: &str, other: &str) -> bool
-    ensures { IsTrue result ↔ (name.now ≡ other.now) }
-{
-    name == other
+/// The sample that was handed to the sink last, and the numbers of its frames.
+#[derive(Drop)]
+pub struct KeptSample {
+    pub sample: Sample,
+    numbers: Vec<usize>,
 }
 
-/// How many frames at the root the names share with a row.
-fn shared(ledger: &Ledger, frames: &[usize], names: &[String]) -> usize
-    requires { All (λ number. number < length ledger.now.told) frames.now }
-    ensures frames { result ≤ length frames.now }
-    ensures names { result ≤ length names.now }
-    ensures same { map string_bytes (take result names.now) ≡ map (name_at ledger.now.told) (take result frames.now) }
-{
-    let mut shared = 0usize;
-    for number in frames {
-        if shared >= names.len() {
-            return shared;
+impl KeptSample {
+    /// A sample of no frames.
+    pub fn new(alloc: Global) -> Self
+        ensures numbers { result.numbers.items ≡ [] }
+        ensures stack { result.sample.stack ≡ [] }
+    {
+        KeptSample {
+            sample: Sample {
+                stack: Names::of(Vec::new(alloc)),
+                weight: 0,
+            },
+            numbers: Vec::new(alloc),
         }
-        if !is_same(names[shared].as_str(), ledger.told_name(*number)) {
-            return shared;
-        }
-        shared += 1;
     }
-    shared
 }
 
-/// Appends the names of these numbers.
-fn append_names(
+/// Gives the frame at a place this number and its name.
+fn set_frame(
     alloc: Global,
     ledger: &Ledger,
-    frames: &[usize],
+    at: usize,
+    number: usize,
+    numbers: &mut Vec<usize>,
     names: &mut Vec<String>,
 ) -> Result<(), AllocError>
-    requires { All (λ number. number < length ledger.now.told) frames.now }
-    ensures { OnOk result (map string_bytes names.new.items ≡ map string_bytes names.old.items ++ map (name_at ledger.now.told) frames.now) }
+    requires told { number < length ledger.now.told }
+    requires place { at ≤ length numbers.old.items }
+    requires named { map string_bytes names.old.items ≡ names_at ledger.now.told numbers.old.items }
+    ensures placed { OnOk result (take (at + 1) numbers.new.items ≡ take at numbers.old.items ++ number ∷ []) }
+    ensures count { OnOk result (length numbers.new.items ≡ max (length numbers.old.items) (at + 1)) }
+    ensures named { OnOk result (map string_bytes names.new.items ≡ names_at ledger.now.told numbers.new.items) }
 {
-    for number in frames {
-        names.push(String::from_str(alloc, ledger.told_name(*number))?)?;
+    if at == numbers.len() {
+        names.push(String::from_str(alloc, ledger.told_name(number))?)?;
+        numbers.push(number)?;
+        return Ok(());
+    }
+    if numbers[at] != number {
+        let name = &mut names[at];
+        name.clear();
+        name.push_str(ledger.told_name(number))?;
+        numbers[at] = number;
     }
     Ok(())
 }
 
-/// Makes the names those of a row.
-fn rename(
+/// Makes the numbers and the names those of a row.
+fn set_frames(
     alloc: Global,
     ledger: &Ledger,
     frames: &[usize],
+    numbers: &mut Vec<usize>,
     names: &mut Vec<String>,
 ) -> Result<(), AllocError>
-    requires { All (λ number. number < length ledger.now.told) frames.now }
-    ensures { OnOk result (map string_bytes names.new.items ≡ map (name_at ledger.now.told) frames.now) }
+    requires told { All (λ number. number < length ledger.now.told) frames.now }
+    requires no_more { length numbers.old.items ≤ length frames.now }
+    requires named { map string_bytes names.old.items ≡ names_at ledger.now.told numbers.old.items }
+    ensures numbers { OnOk result (numbers.new.items ≡ frames.now) }
+    ensures named { OnOk result (map string_bytes names.new.items ≡ names_at ledger.now.told frames.now) }
 {
-    let same = shared(ledger, frames, names.as_slice());
-    names.truncate(same);
-    append_names(alloc, ledger, &frames[same..], names)
+    for at in 0..frames.len() {
+        set_frame(alloc, ledger, at, frames[at], numbers, names)?;
+    }
+    Ok(())
 }
 
-/// Makes the sample that of a row. After want of memory it may be any.
+/// Makes the sample that of a row. After want of memory it has no frames.
 pub fn bring_up_to_date(
     alloc: Global,
     ledger: &Ledger,
     frames: &[usize],
     weight: u64,
-    sample: &mut Sample,
+    kept: &mut KeptSample,
 ) -> Result<(), AllocError>
-    requires { All (λ number. number < length ledger.now.told) frames.now }
-    ensures { OnOk result (sample.new ≡ named ledger.now.told (record { frames = frames.now; weight = weight })) }
+    requires told { All (λ number. number < length ledger.now.told) frames.now }
+    requires kept { IsKept ledger.now.told kept.old }
+    ensures sample { OnOk result (kept.new.sample ≡ named ledger.now.told (record { frames = frames.now; weight = weight })) }
+    ensures kept { IsKept ledger.now.told kept.new }
 {
-    let stack = mem::replace(&mut sample.stack, Names::of(Vec::new(alloc)));
+    let mut numbers = mem::replace(&mut kept.numbers, Vec::new(alloc));
+    let stack = mem::replace(&mut kept.sample.stack, Names::of(Vec::new(alloc)));
     let mut names = stack.into_plain();
-    rename(alloc, ledger, frames, &mut names)?;
-    sample.stack = Names::of(names);
-    sample.weight = weight;
+    numbers.truncate(frames.len());
+    names.truncate(frames.len());
+    set_frames(alloc, ledger, frames, &mut numbers, &mut names)?;
+    kept.numbers = numbers;
+    kept.sample = Sample {
+        stack: Names::of(names),
+        weight,
+    };
     Ok(())
 }

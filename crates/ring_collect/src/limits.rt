@@ -2,7 +2,7 @@
 
 ghost use Rattle.ring_collect.specs.Limits.{IsLimitedRecord};
 
-use rtrb::{Consumer, Producer, Protocol};
+use rtrb::{Consumer, Finished, Producer, Protocol};
 use stack_core::RingRecord;
 use std::alloc::Global;
 
@@ -17,3 +17,6 @@ impl Protocol<RingRecord> for Limits {
 pub type RecordProducer = Producer<RingRecord, Global, Limits>;
 
 pub type RecordConsumer = Consumer<RingRecord, Global, Limits>;
+
+/// What a reader's end of a ring left: it shows all that was sent there.
+pub type LeftOfRing = Finished<RingRecord, Global, Limits>;

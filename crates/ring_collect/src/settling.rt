@@ -1,22 +1,31 @@
 //! The end of a run: every thread is joined, and what its reader promised shows that all was received.
 
-ghost use Rattle.std.specs.Prelude.{◌≡◌, ◌≤◌, ◌<◌, ◌+◌, ◌++◌, ◌∷◌, ◌⊎◌, None, Some, ℕ, [], IsSome, IfSome, IfNone, length, vec_capacity, slice_get};
+ghost use Rattle.std.specs.Prelude.{◌≡◌, ◌≢◌, ◌≤◌, ◌<◌, ◌+◌, ◌++◌, ◌∷◌, ◌⊎◌, None, Some, ℕ, List, [], IsSome, IfSome, IfNone, length, vec_capacity, slice_get};
 ghost use Rattle.std.specs.Arc.{arc_value};
-ghost use Rattle.ring_collect.specs.Settling.{IsSettled, AreSettled, AreListsOf};
+ghost use Rattle.rtrb.specs.Ring.{all_sent, IsFinishedOf};
+ghost use Rattle.stack_core.specs.Records.{IsWellTold};
+ghost use Rattle.stack_core.specs.declared.samples.Sample.{Sample};
+ghost use Rattle.ring_collect.specs.Tracking.{Tracks};
+ghost use Rattle.ring_collect.specs.Settling.{IsReceived, IsSettled, AreSettled};
 
-use crate::intakes::Intake;
+use crate::intakes::{Intake, Stage};
+use crate::limits::LeftOfRing;
 use crate::started::Started;
-use stack_core::{Close, Gate, Ledger, SampleReader, SourceList};
-use std::alloc::Global;
+use stack_core::{Gate, Ledger, SampleReader};
 use std::thread::Threads;
 
-/// Joins the thread of a source whose ring is closed, and hands its ledger out. `None` where nothing shows that what was
-/// received is all that was sent.
-fn settle<T: Threads, R: SampleReader, G: Gate>(rt: &T, started: Started<R, G>) -> Option<Ledger>
-    requires { IsSome started.intake.close }
-    ensures { IfSome result (λ ledger. IsSettled (λ gate. G.may_stop gate) (λ gate. G.may_go gate) (λ reader. R.rest reader) started ledger) }
+/// Hands the ledger of a source out, where its reader's end of the ring left what shows that all was received. A source of which a
+/// row had a number without a name isn't settled either; that comes only where the end left nothing, since no reader tells such a row.
+fn settle_by(left: Option<LeftOfRing>, intake: Intake) -> Option<Ledger>
+    requires closed { IsSome intake.close }
+    requires ring { IfSome left (λ left. IsFinishedOf left intake.consumer) }
+    requires well_told { IfSome left (λ left. IsWellTold (all_sent left)) }
+    ensures received { IfSome left (λ left. IfSome result (IsReceived (all_sent left) intake)) }
+    ensures unshown { IfNone left (result ≡ None) }
+    ensures untold { intake.stage ≡ Stage.Untold → result ≡ None }
+    ensures whole { (list : List Sample) → Tracks intake list
+        → IfSome left (λ _. (intake.stage ≢ Stage.Untold) × IsSome result) }
 {
-    let Started { handle, intake } = started;
     let Intake {
         number: _,
         consumer,
@@ -25,16 +34,25 @@ fn settle<T: Threads, R: SampleReader, G: Gate>(rt: &T, started: Started<R, G>) 
         stage,
         close,
     } = intake;
+    let Some(last) = close else { unreachable!() };
+    let mut left = left?;
     let mut consumer = consumer;
     let mut ledger = ledger;
-    let mut finished = handle.join(rt)?;
-    let last = close?;
+    consumer.slots_after(&mut left);
     if stage.is_untold() {
         return None;
     }
-    consumer.slots_after(&mut finished);
     ledger.close(last);
     Some(ledger)
+}
+
+/// Joins the thread of a source whose ring is closed, and hands its ledger out.
+fn settle<T: Threads, R: SampleReader, G: Gate>(rt: &T, started: Started<R, G>) -> Option<Ledger>
+    requires { IsSome started.intake.close }
+    ensures { IfSome result (λ ledger. IsSettled (λ gate. G.may_stop gate) (λ gate. G.may_go gate) (λ reader. R.rest reader) started ledger) }
+{
+    let Started { handle, intake } = started;
+    settle_by(handle.join(rt), intake)
 }
 
 /// Keeps the ledger of a source, as long as no source is unfinished. Answers the first that is.
@@ -47,6 +65,8 @@ fn keep(
     requires { length ledgers.old.items < vec_capacity ledgers.old }
     ensures kept { IfNone result ((unfinished ≡ None) × (IfSome settled (λ ledger. ledgers.new.items ≡ ledgers.old.items ++ ledger ∷ [])) × IsSome settled) }
     ensures first { IfSome result (λ first. (unfinished ≡ Some first) ⊎ (first ≡ source)) }
+    ensures earlier { IsSome unfinished → result ≡ unfinished }
+    ensures unsettled { unfinished ≡ None → IfSome result (λ _. settled ≡ None) }
     ensures one { length ledgers.new.items ≤ length ledgers.old.items + 1 }
     ensures room { vec_capacity ledgers.old ≤ vec_capacity ledgers.new }
 {

@@ -5,10 +5,8 @@ ghost use Rattle.rtrb.specs.Ring.{sent, received, IsPair};
 ghost use Rattle.rtrb.specs.Ends.{SameRing};
 
 use crate::intakes::Intake;
-use crate::limits::{Limits, RecordConsumer, RecordProducer};
-use rtrb::Finished;
-use stack_core::{Gate, RingRecord, SampleReader};
-use std::alloc::Global;
+use crate::limits::{LeftOfRing, RecordConsumer, RecordProducer};
+use stack_core::{Gate, SampleReader};
 use std::snapshot::Snapshot;
 use std::sync::Arc;
 use std::thread::{Promise, PromisedHandle};
@@ -32,8 +30,7 @@ impl<R, G> Drop for Telling<R, G> {
     }
 }
 
-impl<R: SampleReader, G: Gate> Promise<Option<Finished<RingRecord, Global, Limits>>>
-    for Telling<R, G> {
+impl<R: SampleReader, G: Gate> Promise<Option<LeftOfRing>> for Telling<R, G> {
     ghost use Rattle.std.specs.Prelude.{IfSome};
     ghost use Rattle.std.specs.Arc.{arc_value};
     ghost use Rattle.ring_collect.specs.Telling.{SentAll};
@@ -41,10 +38,7 @@ impl<R: SampleReader, G: Gate> Promise<Option<Finished<RingRecord, Global, Limit
     ghost kept_by = { λ p r. IfSome r (SentAll (G.may_stop (arc_value p.gate.value)) (G.may_go (arc_value p.gate.value)) p.source (R.rest p.reader.value) p.producer.value) };
 }
 
-pub type TellingHandle<R, G> = PromisedHandle<
-    Option<Finished<RingRecord, Global, Limits>>,
-    Telling<R, G>,
->;
+pub type TellingHandle<R, G> = PromisedHandle<Option<LeftOfRing>, Telling<R, G>>;
 
 /// A started source: its thread, with what that promises, and what the collecting thread has of it.
 #[derive(Drop)]

@@ -1,16 +1,17 @@
 //! Starting the reader threads.
 
-ghost use Rattle.std.specs.Prelude.{◌≡◌, ◌≤◌, ◌↔◌, [], IsTrue, Some, IfOk, IfNone, length, map, vec_capacity};
-ghost use Rattle.ring_collect.specs.Started.{IsPromised, ArePromised, IsFresh, AreFresh};
+ghost use Rattle.std.specs.Prelude.{◌≡◌, ◌≤◌, ◌<◌, ◌↔◌, [], IsTrue, Some, IfOk, IfSome, IfNone, length, map, vec_capacity};
+ghost use Rattle.ring_collect.specs.Started.{IsOfSize, IsPromised, ArePromised, IsFresh, AreFresh};
 ghost use Rattle.rtrb.specs.Ring.{sent};
 ghost use Rattle.std.specs.Arc.{arc_value};
 
 use crate::intakes::{Intake, Stage};
+use crate::kept::KeptSample;
 use crate::limits::{Limits, RecordProducer};
 use crate::started::{RingEnds, Started, Telling, TellingHandle};
 use crate::telling::tell_all;
 use rtrb::RingBuffer;
-use stack_core::{Gate, Ledger, Names, Sample, SampleReader};
+use stack_core::{Gate, Ledger, SampleReader};
 use std::alloc::{AllocError, Global};
 use std::snapshot::Snapshot;
 use std::sync::{Arc, Wait};
@@ -18,7 +19,9 @@ use std::thread;
 use std::thread::Threads;
 
 /// A ring of this size.
-pub fn make_ring(alloc: Global, size: u32) -> Result<RingEnds, AllocError> {
+pub fn make_ring(alloc: Global, size: u32) -> Result<RingEnds, AllocError>
+    ensures { IfOk result (IsOfSize size) }
+{
     let (producer, consumer) = RingBuffer::with_protocol::<Global, Limits>(alloc, size as usize)?;
     Ok(RingEnds { producer, consumer })
 }
@@ -104,10 +107,7 @@ fn start_source<
         number: source,
         consumer,
         ledger: Ledger::new(alloc),
-        kept: Sample {
-            stack: Names::of(Vec::new(alloc)),
-            weight: 0,
-        },
+        kept: KeptSample::new(alloc),
         stage: Stage::Following,
         close: None,
     };
@@ -133,6 +133,7 @@ pub fn start_all<
     requires nothing { all.old.items ≡ [] }
     ensures promised { ArePromised (arc_value gate.now) readers.items (map (λ started. started.handle.promise) all.new.items) }
     ensures all { IfNone result (length all.new.items ≡ length readers.items) }
+    ensures fault { IfSome result (λ _. length all.new.items < length readers.items) }
     ensures fresh { AreFresh (map (λ started. started.intake) all.new.items) }
 {
     let mut rings = rings;

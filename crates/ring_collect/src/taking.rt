@@ -4,12 +4,11 @@
 ghost use Rattle.std.specs.Prelude.{None, ◌≡◌, ◌≤◌, ◌<◌, ◌↔◌, IsTrue, All, length};
 ghost use Rattle.ring_collect.specs.Taking.{TakesName, TakesRow, TakesItem, close_after};
 ghost use Rattle.ring_collect.specs.Limits.{IsLimitedRecord};
+ghost use Rattle.ring_collect.specs.Kept.{IsKept};
 ghost use Rattle.stack_core.specs.Ledgers.{named, IsRow};
 
-use crate::kept::bring_up_to_date;
-use stack_core::{
-    Close, FRAME_LIMIT, Ledger, Listed, RingRecord, Sample, Sink, Text, WEIGHT_LIMIT,
-};
+use crate::kept::{KeptSample, bring_up_to_date};
+use stack_core::{Close, FRAME_LIMIT, Ledger, Listed, RingRecord, Sink, Text, WEIGHT_LIMIT};
 use std::alloc::Global;
 
 /// What became of a record.
@@ -42,20 +41,22 @@ fn take_name(ledger: &mut Ledger, name: Text) -> Taken
     }
 }
 
-/// Takes a row, of which the kept sample is made: the sink first, then the ledger and the order.
+/// Takes a row, of which the kept sample is made: by the sink first, then by the ledger and the order.
 fn take_row<S: Sink>(
     alloc: Global,
     source: u32,
     ledger: &mut Ledger,
     frames: Listed<usize>,
     weight: u64,
-    kept: &mut Sample,
+    kept: &mut KeptSample,
     sink: &mut S,
     order: &mut Vec<u32>,
 ) -> Taken
     requires open { ledger.old.close ≡ None }
     requires depth { length frames ≤ FRAME_LIMIT }
     requires limit { weight ≤ WEIGHT_LIMIT }
+    requires kept { IsKept ledger.old.told kept.old }
+    ensures kept { IsKept ledger.new.told kept.new }
     ensures row { TakesRow source (record { frames = frames; weight = weight }) ledger.old ledger.new (S.taken sink.old) (S.taken sink.new) order.old.items order.new.items result }
     ensures still_open { ledger.new.close ≡ None }
     ensures setting { S.setting sink.new ≡ S.setting sink.old }
@@ -66,7 +67,7 @@ fn take_row<S: Sink>(
     if bring_up_to_date(alloc, ledger, frames.get(), weight, kept).is_err() {
         return Taken::Refused;
     }
-    if sink.take(alloc, source, kept).is_err() {
+    if sink.take(alloc, source, &kept.sample).is_err() {
         return Taken::Refused;
     }
     if ledger.take_row(frames, weight).is_err() || order.push(source).is_err() {
@@ -91,12 +92,14 @@ pub fn take_item<S: Sink>(
     ledger: &mut Ledger,
     close: &mut Option<Close>,
     item: RingRecord,
-    kept: &mut Sample,
+    kept: &mut KeptSample,
     sink: &mut S,
     order: &mut Vec<u32>,
 ) -> Taken
     requires open { ledger.old.close ≡ None }
     requires limits { IsLimitedRecord item }
+    requires kept { IsKept ledger.old.told kept.old }
+    ensures kept { IsKept ledger.new.told kept.new }
     ensures item { TakesItem source item ledger.old ledger.new close.old close.new (S.taken sink.old) (S.taken sink.new) order.old.items order.new.items result }
     ensures still_open { ledger.new.close ≡ None }
     ensures setting { S.setting sink.new ≡ S.setting sink.old }

@@ -3,22 +3,32 @@
 ghost use Rattle.std.specs.Prelude.{◌≡◌, ◌≤◌, ◌<◌, ◌++◌, ◌∷◌, [], ℕ, List, IfOk, IfSome, IfNone, ◌^◌, OnOk, OnErr, All, Some, map, length, vec_len, slice_get, string_bytes};
 ghost use Rattle.rtrb.specs.Ring.{sent, SameProducer};
 ghost use Rattle.ring_collect.specs.Limits.{IsLimitedRecord};
-ghost use Rattle.ring_collect.specs.Telling.{Tells, GrowsTo, TellsOne, Closes, SentAll};
+ghost use Rattle.ring_collect.specs.NamesInOrder.{AreNamesOf, with_stack};
+ghost use Rattle.ring_collect.specs.Telling.{Tells, GrowsTo, TellsOne, Closes, TellsAll, SentAll};
+ghost use Rattle.call_tree.specs.FrameTable.{with_name};
 ghost use Rattle.stack_core.specs.Reading.{IsLimited};
 ghost use Rattle.stack_core.specs.Records.{names_told, names_at, stands_for, IsWellTold};
 ghost use Rattle.stack_core.specs.Told.{IsToldUnder};
 ghost use Rattle.stack_core.specs.declared.endings.Item.TheVariants as item;
 ghost use Rattle.std.specs.Arc.{arc_value};
 
-use crate::limits::{Limits, RecordProducer};
+use crate::limits::{LeftOfRing, RecordProducer};
 use call_tree::FrameTable;
-use rtrb::{Finished, PushError};
+use rtrb::PushError;
 use stack_core::{
     Close, Gate, Listed, RingRecord, Sample, SampleReader, SourceEnd, Step, Text, Turn,
 };
 use std::alloc::{AllocError, Global};
 use std::sync::{Arc, Wait};
 use std::thread;
+
+/// Gives the processor away as often as half of the ring has places, so that the ring's ends seldom look at one another's work;
+/// but at most 64 times, so that the reader of a large ring comes back to it.
+fn give_time(producer: &RecordProducer) {
+    for _ in 0..(producer.capacity() / 2).clamp(1, 64) {
+        thread::yield_now();
+    }
+}
 
 /// Waits until the record is in the ring.
 fn push_waiting<W: Wait>(rt: &W, producer: &mut RecordProducer, item: RingRecord)
@@ -32,7 +42,7 @@ fn push_waiting<W: Wait>(rt: &W, producer: &mut RecordProducer, item: RingRecord
             Ok(()) => return,
             Err(PushError::Full(back)) => item = back,
         }
-        thread::yield_now();
+        give_time(producer);
     }
     unreachable!()
 }
@@ -48,6 +58,7 @@ fn tell_name<W: Wait>(
     ensures ring { SameProducer producer.old producer.new }
     ensures told { Tells [] (sent producer.old) (sent producer.new) }
     ensures names { OnOk result (names.new ≡ names_told (sent producer.new)) }
+    ensures asked { OnOk result (names.new ≡ with_name names.old (string_bytes name)) }
     ensures kept { OnOk result (GrowsTo names.old names.new) }
     ensures number { IfOk result (λ n. slice_get names.new n ≡ Some (string_bytes name)) }
 {
@@ -71,6 +82,7 @@ fn tell_names<W: Wait>(
     ensures ring { SameProducer producer.old producer.new }
     ensures told { Tells [] (sent producer.old) (sent producer.new) }
     ensures names { OnOk result (names.new ≡ names_told (sent producer.new)) }
+    ensures asked { OnOk result (names.new ≡ with_stack names.old (map string_bytes stack.items)) }
     ensures numbers { IfOk result (λ numbers. names_at names.new numbers.items ≡ map string_bytes stack.items) }
     ensures known { IfOk result (λ numbers. All (λ number. number < length names.new) numbers.items) }
 {
@@ -94,6 +106,7 @@ fn tell_sample<W: Wait>(
     ensures ring { SameProducer producer.old producer.new }
     ensures ok { OnOk result (Tells (item.Sample sample ∷ []) (sent producer.old) (sent producer.new)) }
     ensures names { OnOk result (names.new ≡ names_told (sent producer.new)) }
+    ensures asked { OnOk result (names.new ≡ with_stack names.old sample.stack) }
     ensures refused { OnErr result (Tells [] (sent producer.old) (sent producer.new)) }
 {
     let Sample { stack, weight } = sample;
@@ -152,6 +165,7 @@ fn tell_samples<W: Wait, R: SampleReader, G: Gate>(
     ensures told { IsToldUnder (G.may_stop gate.now) (G.may_go gate.now) source (R.rest reader.old)
         (stands_for (sent producer.new) ++ item.Close result ∷ []) }
     ensures well_told { IsWellTold (sent producer.new) }
+    ensures in_order { AreNamesOf (stands_for (sent producer.new) ++ item.Close result ∷ []) (names_told (sent producer.new)) }
 {
     let mut index = 0u64;
     for _ in rt.forever() {
@@ -163,8 +177,27 @@ fn tell_samples<W: Wait, R: SampleReader, G: Gate>(
     unreachable!()
 }
 
+/// Tells all that a reader gives, and then the close.
+fn tell_source<W: Wait, R: SampleReader + Drop, G: Gate>(
+    rt: &W,
+    alloc: Global,
+    reader: R,
+    gate: &G,
+    source: u32,
+    producer: &mut RecordProducer,
+)
+    requires { sent producer.old ≡ [] }
+    ensures ring { SameProducer producer.old producer.new }
+    ensures told { TellsAll (G.may_stop gate.now) (G.may_go gate.now) source (R.rest reader) (sent producer.new) }
+{
+    let mut reader = reader;
+    let mut names = FrameTable::new(alloc);
+    let close = tell_samples(rt, alloc, &mut reader, gate, source, &mut names, producer);
+    push_waiting(rt, producer, RingRecord::Close(close));
+}
+
 /// What runs in the thread of a source: it tells all that its reader gives, then the close, and hands back what
-/// shows that it sent no more.
+/// shows that it sent no more. `None` where the ring's end left nothing, which no clause of the ring rules out.
 pub fn tell_all<W: Wait, R: SampleReader + Drop, G: Gate + Drop>(
     rt: &W,
     alloc: Global,
@@ -172,22 +205,11 @@ pub fn tell_all<W: Wait, R: SampleReader + Drop, G: Gate + Drop>(
     gate: Arc<G>,
     source: u32,
     producer: RecordProducer,
-) -> Option<Finished<RingRecord, Global, Limits>>
+) -> Option<LeftOfRing>
     requires { sent producer ≡ [] }
     ensures { IfSome result (SentAll (G.may_stop (arc_value gate)) (G.may_go (arc_value gate)) source (R.rest reader) producer) }
 {
-    let mut reader = reader;
     let mut producer = producer;
-    let mut names = FrameTable::new(alloc);
-    let close = tell_samples(
-        rt,
-        alloc,
-        &mut reader,
-        &*gate,
-        source,
-        &mut names,
-        &mut producer,
-    );
-    push_waiting(rt, &mut producer, RingRecord::Close(close));
+    tell_source(rt, alloc, reader, &*gate, source, &mut producer);
     producer.finish()
 }

@@ -1,6 +1,6 @@
 //! Runs over files in memory.
 
-use flame_tool::{CountedWriter, MemoryFiles, NamedFile, SOURCE_LIMIT, run};
+use flame_tool::{CountedWriter, MemoryFiles, NamedFile, Outlet, SOURCE_LIMIT, run};
 use std::alloc::{AllocError, Global};
 use std::process::Abort;
 use std::sync::Wait;
@@ -37,11 +37,12 @@ fn texts(alloc: Global, words: &[&str]) -> Result<Vec<String>, AllocError> {
     Ok(texts)
 }
 
-/// Runs the program over what is given.
-pub(super) fn answer<T: Threads + Wait + AllocGlobal + Copy + Send + 'static>(
-    rt: &T,
-    given: &Given<'_>,
-) -> Result<Outcome, Fail> {
+/// Runs the program over what is given, and answers its status.
+pub(super) fn status_of<
+    T: Threads + Wait + AllocGlobal + Copy + Send + 'static,
+    W: Outlet,
+    E: Outlet,
+>(rt: &T, given: &Given<'_>, out: &mut W, err: &mut E) -> Result<u8, Fail> {
     let alloc = rt.alloc();
     let mut files = MemoryFiles::new(alloc, given.input.to_vec(alloc)?, SOURCE_LIMIT);
     for (path, bytes) in given.files {
@@ -50,10 +51,19 @@ pub(super) fn answer<T: Threads + Wait + AllocGlobal + Copy + Send + 'static>(
             bytes: bytes.to_vec(alloc)?,
         })?;
     }
+    let words = texts(alloc, given.words)?;
+    Ok(run(rt, alloc, words, &mut files, out, err))
+}
+
+/// Runs the program over what is given.
+pub(super) fn answer<T: Threads + Wait + AllocGlobal + Copy + Send + 'static>(
+    rt: &T,
+    given: &Given<'_>,
+) -> Result<Outcome, Fail> {
+    let alloc = rt.alloc();
     let mut out = CountedWriter::new(Vec::new(alloc));
     let mut err = CountedWriter::new(Vec::new(alloc));
-    let words = texts(alloc, given.words)?;
-    let status = run(rt, alloc, words, &mut files, &mut out, &mut err);
+    let status = status_of(rt, given, &mut out, &mut err)?;
     Ok(Outcome {
         status,
         out: out.into_inner(),

@@ -112,7 +112,7 @@ fn faults_of_several_sources(rt: HostRuntime) -> Result<(), Fail> {
 
 // The order of stacks does not depend on the order in which samples arrive.
 #[test]
-fn three_sources(rt: HostRuntime) -> Result<(), Fail> {
+fn fold_of_several_sources(rt: HostRuntime) -> Result<(), Fail> {
     let given = Given {
         words: &["fold", "--ring", "1", "x", "y", "z"],
         files: &[

@@ -56,7 +56,7 @@ fn depth_of(rt: &(impl Abort + AllocGlobal), file: Vec<u8>) -> Result<usize, All
 }
 
 #[test]
-fn limits_of_depth(rt: HostRuntime) -> Result<(), Fail> {
+fn limits_of_weights_and_depth_by_depth(rt: HostRuntime) -> Result<(), Fail> {
     let alloc = rt.alloc();
     assert_eq!(rt; depth_of(&rt, deep_profile(alloc, 4_096, 1)?)?, 4_096);
     assert_eq!(rt; depth_of(&rt, deep_profile(alloc, 4_097, 1)?)?, 0);

@@ -1,5 +1,7 @@
 //! The bytes of profiles.
 
+use stack_core::ReadKind;
+
 /// One sample of `main`, weight 7, which stands before its tables, packed.
 pub(super) const SMALLEST: &[u8] = &[
     0x0a, 0x04, 0x08, 0x01, 0x10, 0x02, 0x12, 0x06, 0x0a, 0x01, 0x01, 0x12, 0x01, 0x07, 0x22, 0x06,
@@ -58,3 +60,40 @@ pub(super) const TWO_LINES: &[u8] = &[
     0x22, 0x04, 0x08, 0x01, 0x10, 0x02, 0x2a, 0x04, 0x08, 0x01, 0x10, 0x02, 0x32, 0x00, 0x32, 0x01,
     0x6e, 0x32, 0x01, 0x66,
 ];
+/// What gives a fault behind `BASE` before its samples are read.
+pub(super) const TABLE_FAULTS: [(&[u8], ReadKind); 8] = [
+    (
+        b"\x80\x80\x80\x80\x80\x80\x80\x80\x80\x02",
+        ReadKind::BadVarint,
+    ),
+    (b"\x00", ReadKind::BadFieldNumber),
+    (b"\x0b", ReadKind::BadWireType),
+    (b"\x72\x00", ReadKind::WrongKind),
+    (b"\x22\x00", ReadKind::ZeroId),
+    (b"\x2a\x04\x08\x01\x10\x03", ReadKind::DuplicateId),
+    (
+        b"\x22\x06\x08\x02\x22\x02\x08\x07",
+        ReadKind::UnknownFunction,
+    ),
+    (b"\x70\x04", ReadKind::BadString),
+];
+/// What gives a fault behind `BASE` and its sample.
+pub(super) const SAMPLE_FAULTS: [(&[u8], ReadKind); 3] = [
+    (b"\x12\x02\x0a\x05", ReadKind::Truncated),
+    (b"\x12\x06\x0a\x01\x01\x12\x01\x07", ReadKind::ValueCount),
+    (
+        b"\x12\x07\x0a\x01\x02\x12\x02\x05\x09",
+        ReadKind::UnknownLocation,
+    ),
+];
+/// A sample with the values 5 and -1.
+pub(super) const NEGATIVE: &[u8] = &[
+    0x12, 0x10, 0x0a, 0x01, 0x01, 0x12, 0x0b, 0x05, 0xff, 0xff, 0xff, 0xff, 0xff, 0xff, 0xff, 0xff,
+    0xff, 0x01,
+];
+/// A field of the greatest length.
+pub(super) const GREATEST_LENGTH: &[u8] = b"\x0a\xff\xff\xff\xff\xff\xff\xff\xff\xff\x01";
+/// A default type at the index -1, and at the least index.
+pub(super) const MINUS_ONE: &[u8] = b"\x70\xff\xff\xff\xff\xff\xff\xff\xff\xff\x01";
+
+pub(super) const LEAST_INDEX: &[u8] = b"\x70\x80\x80\x80\x80\x80\x80\x80\x80\x80\x01";

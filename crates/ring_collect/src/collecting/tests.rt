@@ -3,7 +3,9 @@
 mod fakes;
 mod refusals;
 
-use self::fakes::{AfterATake, AllAsked, BothAsked, CLEAN, Counts, Kept, StopsAt, Tape};
+use self::fakes::{
+    AfterATake, AllAsked, BothAsked, CLEAN, Counts, Kept, StopsAt, StopsAtTwo, Tape,
+};
 use super::*;
 use stack_core::{OpenGate, ReadFault, ReadKind, Sample, SourceEnd};
 use std::process::Abort;
@@ -58,6 +60,7 @@ pub fn collected<
 /// The list has the samples of these weights, with the frame of its source.
 fn is_list(rt: &impl Abort, source: usize, list: &SourceList, weights: &[u8], ending: SourceEnd) {
     assert_eq!(rt; list.len(), weights.len(), "source {source}");
+    assert_eq!(rt; list.told(), weights.len().min(1), "source {source}");
     for i in 0..list.len() {
         assert_eq!(rt; list.weight(i), u64::from(weights[i]));
         assert_eq!(rt; list.depth(i), 1);
@@ -169,7 +172,10 @@ fn gate_stops_one_source(rt: HostRuntime) -> Result<(), Fail> {
     let alloc = rt.alloc();
     let counts = Counts::new(alloc)?;
     let mut sink = Kept::new(alloc, &counts)?;
-    let gate = StopsAt { stops: &[(1, 2)] };
+    let gate = StopsAt {
+        source: 1,
+        index: 2,
+    };
     let readers = tapes(alloc, &counts, &[THREE, THREE])?;
     let run = collected(&rt, alloc, readers, 2, gate, &mut sink)??;
     let stopped = SourceEnd::Stopped { after: 2 };
@@ -182,8 +188,15 @@ fn gate_stops_two_sources(rt: HostRuntime) -> Result<(), Fail> {
     let alloc = rt.alloc();
     let counts = Counts::new(alloc)?;
     let mut sink = Kept::new(alloc, &counts)?;
-    let gate = StopsAt {
-        stops: &[(1, 2), (2, 0)],
+    let gate = StopsAtTwo {
+        first: StopsAt {
+            source: 1,
+            index: 2,
+        },
+        second: StopsAt {
+            source: 2,
+            index: 0,
+        },
     };
     let readers = tapes(alloc, &counts, &[THREE; 3])?;
     let run = collected(&rt, alloc, readers, 1, gate, &mut sink)??;

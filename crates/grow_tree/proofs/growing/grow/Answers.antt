@@ -1,11 +1,12 @@
-use Rattle.std.proofs.Common.{sym, subst, arith}
-use Rattle.call_tree.specs.FrameTable.{HasDistinctNames}
+use Rattle.std.proofs.Common.{sym, subst}
 use Rattle.call_tree.specs.Listing.{HasNumbersOf}
 use Rattle.call_tree.proofs.Numbers.{HasNumbersOf-empty}
+use Rattle.grow_tree.specs.Depth.{IsShallow}
+use Rattle.grow_tree.proofs.GrowLemmas.{shallow-empty}
 use Rattle.grow_tree.proofs.growing.grow.Goals as goal
 
-pub samples-init : goal.samples-init
-samples-init g c = record {
-  distinct = subst HasDistinctNames (sym c.new-table.ensures) (λ i j below _ _. absurd (omega (arith, below)));
-  numbers = subst (HasNumbersOf c.new-table.result) (sym c.in_ok-tree.ensures) (HasNumbersOf-empty c.new-table.result);
+pub loop-at-init : goal.loop-at-init
+loop-at-init c = record {
+  numbers = subst (HasNumbersOf c.args.list.now.told) (sym c.in_ok-tree.ensures) (HasNumbersOf-empty c.args.list.now.told);
+  depth = subst IsShallow (sym c.in_ok-tree.ensures) shallow-empty;
 }

@@ -1,14 +1,10 @@
--- The names and numbers so far are the table's.
-use Rattle.std.proofs.Common.{length}
-use Rattle.call_tree.specs.FrameTable.{HasDistinctNames}
+-- The tree so far has numbers of told names, and is no deeper than a stack.
 use Rattle.call_tree.specs.Listing.{HasNumbersOf}
+use Rattle.grow_tree.specs.Depth.{IsShallow}
 use Rattle.grow_tree.proofs.growing.grow.Given as goal
 
-abbrev pub invariant-samples : goal.invariant-samples
-invariant-samples g l = record {
-  distinct : HasDistinctNames l.table;
-  numbers : HasNumbersOf l.table l.tree;
+abbrev pub invariant-loop-at : goal.invariant-loop-at
+invariant-loop-at l = record {
+  numbers : HasNumbersOf l.fn.list.told l.tree;
+  depth : IsShallow l.tree;
 }
-
-abbrev pub decreases-samples : goal.decreases-samples
-decreases-samples g l = length (g.R.SampleReader.rest l.reader).samples

@@ -4,7 +4,7 @@ use Rattle.std.proofs.lemmas.Option.{IfSome_then}
 use Rattle.std.specs.Arc.{arc_value}
 use Rattle.ring_collect.specs.Started.{ArePromised}
 use Rattle.ring_collect.specs.Gathering.{Gathered}
-use Rattle.ring_collect.proofs.RunLemmas.{fresh_gathered, same_promises, gains_of, gains_first, runs_whole, all_started, none_then}
+use Rattle.ring_collect.proofs.RunLemmas.{fresh_gathered, same_promises, gains_of, gains_allowed, gains_first, runs_whole, all_started, none_then}
 use Rattle.ring_collect.proofs.collecting.run_sources.Goals as goal
 
 gathered : (g : _) (c : goal.After-lacks_thread-no_thread g) → Gathered (g.S.Sink.taken c.args.sink.now) (map (λ started. started.intake) c.drain.new.all.items) (g.S.Sink.taken c.drain.new.sink) c.drain.new.order.items c.drain.new.refused
@@ -25,6 +25,9 @@ same_count g c = sym (length-map c.drain.new.all.items (λ s. s.handle)) ∙ ap 
 
 pub returns-clause-gains : goal.returns-clause-gains
 returns-clause-gains g c = none_then c.settle_all-unfinished.result c.settle_all-unfinished.ensures.settled (λ settled. gains_first (promised g c) settled (gathered g c))
+
+pub returns-clause-popped : goal.returns-clause-popped
+returns-clause-popped g c = none_then c.settle_all-unfinished.result c.settle_all-unfinished.ensures.settled (λ settled. gains_allowed (promised g c) settled (gathered g c))
 
 pub returns-clause-whole : goal.returns-clause-whole
 returns-clause-whole g c = none_then c.settle_all-unfinished.result c.settle_all-unfinished.ensures.settled (λ settled not_refused has_thread.

@@ -2,6 +2,9 @@ use Rattle.std.proofs.Common.{◌∙◌, ap, sym, subst, rules, [], ◌<◌, ◌
 use Rattle.std.proofs.lemmas.List.{map-append}
 use Rattle.rtrb.specs.Ring.{sent}
 use Rattle.stack_core.specs.Records.{names_at}
+use Rattle.call_tree.specs.FrameTable.{with_name}
+use Rattle.ring_collect.specs.NamesInOrder.{with_stack}
+use Rattle.ring_collect.proofs.NameOrder.{with_stack_push}
 use Rattle.ring_collect.proofs.Records.{tells_on, names_at_push, known_push}
 use Rattle.ring_collect.proofs.telling.tell_names.Goals as goal
 
@@ -14,6 +17,8 @@ loop-name-preserved g c =
       ring = search rules;
       told = tells_on [] [] (sent c.args.producer.now) (sent c.loop-name.producer) (sent c.tell_name.new.producer) so_far.told told.told;
       names = told.names;
+      asked = told.asked ∙ ap (λ names. with_name names (string_bytes c.in-Some.name)) so_far.asked
+          ∙ sym (ap (with_stack c.args.names.now) (map-append string_bytes c.loop-name.yielded (c.in-Some.name ∷ [])) ∙ with_stack_push c.args.names.now (map string_bytes c.loop-name.yielded) (string_bytes c.in-Some.name));
       numbers = ap (names_at c.tell_name.new.names) pushed ∙ names_at_push c.loop-name.names c.tell_name.new.names c.loop-name.numbers.items c.in_ok-tell_name.field-0 (string_bytes c.in-Some.name) (map string_bytes c.loop-name.yielded) told.kept so_far.known so_far.numbers told.number ∙ sym (map-append string_bytes c.loop-name.yielded (c.in-Some.name ∷ []));
       known = subst (All (λ k. k < length c.tell_name.new.names)) (sym pushed) (known_push c.loop-name.names c.tell_name.new.names c.loop-name.numbers.items c.in_ok-tell_name.field-0 (string_bytes c.in-Some.name) told.kept so_far.known told.number);
     }

@@ -3,6 +3,7 @@ use Rattle.rtrb.specs.Ring.{sent}
 use Rattle.stack_core.specs.Records.{names_at, names_told}
 use Rattle.stack_core.specs.declared.records.RingRecord.TheVariants.{Row}
 use Rattle.stack_core.specs.declared.endings.Item.TheVariants as item
+use Rattle.ring_collect.specs.NamesInOrder.{with_stack}
 use Rattle.ring_collect.specs.Telling.{Tells}
 use Rattle.stack_core.proofs.RecordLemmas.{names_told-append}
 use Rattle.ring_collect.proofs.Records.{tells_on, tells_row}
@@ -22,3 +23,6 @@ returns-clause-ok g c =
 pub returns-clause-names : goal.returns-clause-names
 returns-clause-names g c =
     c.in_ok-numbers.ensures.names ∙ sym (ap names_told c.push_waiting.ensures.sent ∙ names_told-append (sent c.tell_names.new.producer) (Row c.of-frames.result c.args.sample.weight ∷ []) ∙ append-nil (names_told (sent c.tell_names.new.producer)))
+
+pub returns-clause-asked : goal.returns-clause-asked
+returns-clause-asked g c = c.in_ok-numbers.ensures.asked ∙ ap (with_stack c.args.names.now) c.into_plain.ensures

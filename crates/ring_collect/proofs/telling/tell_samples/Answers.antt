@@ -1,5 +1,5 @@
 use Rattle.std.proofs.Common.{sym, subst, refl, rules, []}
-use Rattle.ring_collect.proofs.Progress.{ToldSoFar, nothing_told, one_more, closed}
+use Rattle.ring_collect.proofs.Progress.{ToldSoFar, nothing_told, one_more, closed, closed_names}
 use Rattle.ring_collect.proofs.telling.tell_samples.Goals as goal
 
 pub loop-init : goal.loop-init
@@ -14,6 +14,9 @@ loop-init g c = record {
 
 pub returns-in-Some-tell_next-clause-told : goal.returns-in-Some-tell_next-clause-told
 returns-in-Some-tell_next-clause-told g c = closed c.loop.invariant.told (g.G.Gate.may_stop c.args.gate.now) c.in-Some-tell_next.ensures.closes
+
+pub returns-in-Some-tell_next-clause-in_order : goal.returns-in-Some-tell_next-clause-in_order
+returns-in-Some-tell_next-clause-in_order g c = closed_names c.loop.invariant.told (g.G.Gate.may_stop c.args.gate.now) c.in-Some-tell_next.ensures.closes
 
 pub loop-preserved : goal.loop-preserved
 loop-preserved g c = record {

@@ -116,22 +116,49 @@ pub fn waited(count: &AtomicU64, wanted: u64) -> Turn {
     Turn::Stop
 }
 
-/// Stops these sources before the samples of these numbers.
+/// Stops this source before the sample of this number, and nothing else: there it never goes, elsewhere it never stops.
 #[derive(Drop)]
 pub struct StopsAt {
-    pub stops: &'static [(u32, u64)],
+    pub source: u32,
+    pub index: u64,
 }
 
 impl Gate for StopsAt {
-    ghost may_stop = { λ _ _ _. Unit {0} };
+    ghost use Rattle.std.specs.Prelude.{◌≡◌};
 
-    ghost may_go = { λ _ _ _. Unit {0} };
+    ghost may_stop = { λ gate source index. (source ≡ gate.source) × (index ≡ gate.index) };
+
+    ghost may_go = { λ gate source index. (source ≡ gate.source) × (index ≡ gate.index) → ⊥ };
 
     fn before(&self, source: u32, index: u64) -> Turn {
-        if self.stops.contains(&(source, index)) {
+        if source == self.source && index == self.index {
             Turn::Stop
         } else {
             Turn::Go
+        }
+    }
+}
+
+/// Stops where one of two gates does.
+#[derive(Drop)]
+pub struct StopsAtTwo {
+    pub first: StopsAt,
+    pub second: StopsAt,
+}
+
+impl Gate for StopsAtTwo {
+    ghost use Rattle.std.specs.Prelude.{◌≡◌, ◌⊎◌};
+
+    ghost may_stop = { λ gate source index. ((source ≡ gate.first.source) × (index ≡ gate.first.index))
+        ⊎ ((source ≡ gate.second.source) × (index ≡ gate.second.index)) };
+
+    ghost may_go = { λ gate source index. ((source ≡ gate.first.source) × (index ≡ gate.first.index) → ⊥)
+        × ((source ≡ gate.second.source) × (index ≡ gate.second.index) → ⊥) };
+
+    fn before(&self, source: u32, index: u64) -> Turn {
+        match self.first.before(source, index) {
+            Turn::Stop => Turn::Stop,
+            Turn::Go => self.second.before(source, index),
         }
     }
 }

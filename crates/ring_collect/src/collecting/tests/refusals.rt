@@ -63,7 +63,10 @@ fn sink_refuses_beside_a_stop(rt: HostRuntime) -> Result<(), Fail> {
     let counts = Counts::new(alloc)?;
     let mut sink = Kept::new(alloc, &counts)?;
     sink.refuses_after = Some(0);
-    let gate = StopsAt { stops: &[(1, 0)] };
+    let gate = StopsAt {
+        source: 1,
+        index: 0,
+    };
     let readers = tapes(alloc, &counts, &[THREE; 3])?;
     let answer = collected(&rt, alloc, readers, 2, gate, &mut sink)?;
     assert_eq!(rt; answer.err(), Some(CollectFault::OutOfMemory));

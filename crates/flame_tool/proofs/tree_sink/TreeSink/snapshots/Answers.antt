@@ -10,4 +10,4 @@ pub returns-clause-made : goal.returns-clause-made
 returns-clause-made c =
     let s = c.self.inside in
     subst (λ (state : TreeSinkState). AreSnapshots state.every state.names (sources_of state.taken) (first_samples state.taken) state.snapshots) c.self.view_is
-    (merged_snapshots s.every s.table s.tree (rows_of s.rows.frames.items s.rows.spans.items) s.snapshots.items c.self.invariant.merged)
+    (merged_snapshots s.tally.every s.table s.tree (rows_of s.tally.taken) s.snapshots.items c.self.invariant.merged)

@@ -10,4 +10,4 @@ pub returns-clause-sums : goal.returns-clause-sums
 returns-clause-sums c =
     let s = c.self.inside in
     subst (λ (state : TreeSinkState). HasSumsOf state.names state.tree (samples_of_pairs state.taken)) c.self.view_is
-    (merged_sums s.every s.table s.tree (rows_of s.rows.frames.items s.rows.spans.items) s.snapshots.items c.self.invariant.merged)
+    (merged_sums s.tally.every s.table s.tree (rows_of s.tally.taken) s.snapshots.items c.self.invariant.merged)

@@ -4,6 +4,7 @@ use Rattle.stack_core.specs.declared.endings.ReadKind.TheVariants.{Compressed}
 use Rattle.stack_core.specs.declared.endings.SourceEnd.TheVariants as ends
 use Rattle.folded_lines.specs.Reading.{begins_compressed}
 use Rattle.folded_lines.proofs.ReadLemmas.{read_folded-start, IsSourceLimited-read_folded}
+use Rattle.folded_lines.proofs.UnstoppedLemmas.{unstopped-read_folded}
 use Rattle.folded_lines.proofs.reader.FoldedReader.over.Goals as goal
 
 pub returns-clause-rest : goal.returns-clause-rest
@@ -14,3 +15,6 @@ returns-clause-rest c =
 
 pub returns-clause-limits : goal.returns-clause-limits
 returns-clause-limits c = IsSourceLimited-read_folded c.args.bytes.items
+
+pub returns-clause-unstopped : goal.returns-clause-unstopped
+returns-clause-unstopped c = unstopped-read_folded c.args.bytes.items

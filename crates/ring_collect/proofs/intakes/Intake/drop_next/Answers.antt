@@ -10,6 +10,6 @@ returns-clause-tracks c = λ list tracked.
     let old = c.args.self.now in
     let records = received old.consumer in
     let open_before = subst (λ close. Tracked records close old.ledger old.stage list) c.requires tracked in
-    let after = tracked_dropped {ledger' = old.ledger} {stage' = c.dropping-self.result} c.in-Ok.item c.dropping-self.ensures open_before in
+    let after = tracked_dropped {ledger' = old.ledger} {stage' = c.dropping-self.result} c.in-Ok.item c.dropping-self.ensures.dropped c.dropping-self.ensures.untold.0 open_before in
     subst (λ records. Tracked records c.note_close.new.close old.ledger c.dropping-self.result list) (sym c.in-Ok.ensures.ok.0)
     (subst (λ close. Tracked (records ++ c.in-Ok.item ∷ []) close old.ledger c.dropping-self.result list) (sym (c.note_close.ensures ∙ ap (λ close. close_after close c.in-Ok.item) c.requires)) after)

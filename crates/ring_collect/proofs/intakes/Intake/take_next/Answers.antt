@@ -51,7 +51,7 @@ returns-then-not-is_following-clause-turned g c = λ list tracked.
     let records = received old.consumer in
     let other : old.stage ≢ stage.Following = λ e. true≢false (sym (c.if-not-is_following.ensures.1 e)) in
     let open_before = subst (λ close. Tracked records close old.ledger old.stage list) c.requires tracked in
-    let after = tracked_dropped {ledger' = old.ledger} {stage' = old.stage} c.in-Ok.item other open_before in
+    let after = tracked_dropped {ledger' = old.ledger} {stage' = old.stage} c.in-Ok.item other (λ e. e) open_before in
     turns_nothing {tracks = Tracked (received c.pop.new.self) c.note_close.new.close old.ledger old.stage}
     (subst (λ rs. Tracked rs c.note_close.new.close old.ledger old.stage list) (sym c.in-Ok.ensures.ok.0)
     (subst (λ close. Tracked (records ++ c.in-Ok.item ∷ []) close old.ledger old.stage list) (sym (c.note_close.ensures ∙ ap (λ close. close_after close c.in-Ok.item) c.requires)) after))

@@ -1,0 +1,139 @@
+//! Runs whose sources are read in different ways.
+use super::shown::{CLEAN, folded, is_list, plain, run, run_folded};
+use crate::tests::worked::{BASE, INLINED_LINES};
+use flame_tool::{Format, Options, Source, Views};
+use profile_tables::{Naming, Pick};
+use ring_collect::RingSize;
+use stack_core::{OpenGate, ReadFault, ReadKind, SourceEnd, Text};
+use std::alloc::{AllocError, Global};
+use std::process::Abort;
+use std::sync::Wait;
+use std::test::Fail;
+use std::thread::Threads;
+
+/// An empty folded source, and a profile.
+fn with_profile(alloc: Global, bytes: &[u8]) -> Result<Vec<Source>, AllocError> {
+    let mut sources = Vec::new(alloc);
+    sources.push(folded(alloc, "")?)?;
+    sources.push(Source {
+        format: Format::Pprof,
+        bytes: bytes.to_vec(alloc)?,
+    })?;
+    Ok(sources)
+}
+
+/// The first list has no samples, the second these.
+fn are_read(rt: &impl Abort, alloc: Global, views: &Views, text: &str) -> Result<(), AllocError> {
+    assert_eq!(rt; views.lists().len(), 2);
+    is_list(rt, alloc, &views.lists()[0], "", CLEAN)?;
+    is_list(rt, alloc, &views.lists()[1], text, CLEAN)
+}
+
+/// The profile is read as this text.
+fn reads<T: Threads + Wait + Abort + Copy + Send + 'static>(
+    rt: &T,
+    alloc: Global,
+    bytes: &[u8],
+    pick: Pick,
+    naming: Naming,
+    text: &str,
+) -> Result<(), Fail> {
+    let options = Options {
+        ring: RingSize::of(4).expect(rt, "the size of a ring"),
+        pick,
+        naming,
+        every: None,
+    };
+    let views = run(rt, alloc, with_profile(alloc, bytes)?, &options, OpenGate)?;
+    are_read(rt, alloc, &views, text)?;
+    Ok(())
+}
+
+#[test]
+fn picking_a_value(rt: HostRuntime) -> Result<(), Fail> {
+    let alloc = rt.alloc();
+    reads(&rt, alloc, BASE, Pick::Preferred, Naming::Plain, "f 9\n")?;
+    let named = Pick::Named(Text::from_str(alloc, "n")?);
+    reads(&rt, alloc, BASE, named, Naming::Plain, "f 5\n")
+}
+
+#[test]
+fn lines_of_inlined_frames(rt: HostRuntime) -> Result<(), Fail> {
+    let alloc = rt.alloc();
+    let plain = "printf;memcpy 7\n";
+    reads(
+        &rt,
+        alloc,
+        INLINED_LINES,
+        Pick::Preferred,
+        Naming::Plain,
+        plain,
+    )?;
+    let lines = "printf:40;memcpy:12 7\n";
+    reads(
+        &rt,
+        alloc,
+        INLINED_LINES,
+        Pick::Preferred,
+        Naming::Lines,
+        lines,
+    )
+}
+
+/// There is nothing to see.
+fn are_empty(rt: &impl Abort, views: &Views) {
+    assert_eq!(rt; views.lists().len(), 0);
+    assert_eq!(rt; views.order().len(), 0);
+    assert_eq!(rt; views.table().len(), 0);
+    assert_eq!(rt; views.tree().total(&[]), 0);
+    assert_eq!(rt; views.graph().len(), 0);
+    assert_eq!(rt; views.chart().len(), 0);
+    assert_eq!(rt; views.snapshots().len(), 0);
+}
+
+#[test]
+fn no_sources(rt: HostRuntime) -> Result<(), Fail> {
+    let views = run_folded(&rt, rt.alloc(), &[], &plain(&rt, 1, Some(1)), OpenGate)?;
+    are_empty(&rt, &views);
+    Ok(())
+}
+
+/// What stands before the fault is seen, and what other sources have.
+fn are_cut(rt: &impl Abort, alloc: Global, views: &Views) -> Result<(), AllocError> {
+    let lists = views.lists();
+    assert_eq!(rt; lists.len(), 2);
+    let fault = SourceEnd::Fault(ReadFault {
+        kind: ReadKind::DecimalWeight,
+        at: 2,
+    });
+    is_list(rt, alloc, &lists[0], "b 2\n", fault)?;
+    is_list(
+        rt,
+        alloc,
+        &lists[1],
+        "c 3\n",
+        SourceEnd::Clean { ignored: 1 },
+    )?;
+    assert_eq!(rt; views.tree().total(&[]), 5);
+    Ok(())
+}
+
+#[test]
+fn refused_counts(rt: HostRuntime) -> Result<(), Fail> {
+    let texts = ["b 2\na 1.5\n", "c 3\n\n"];
+    let views = run_folded(&rt, rt.alloc(), &texts, &plain(&rt, 1, None), OpenGate)?;
+    are_cut(&rt, rt.alloc(), &views)?;
+    Ok(())
+}
+
+/// As many sources as there may be, each as heavy as it may be.
+#[test]
+fn limits_of_weights(rt: HostRuntime) -> Result<(), Fail> {
+    let texts = ["a 72057594037927935\n"; 64];
+    let views = run_folded(&rt, rt.alloc(), &texts, &plain(&rt, 1, None), OpenGate)?;
+    assert_eq!(rt; views.tree().total(&[0]), 4_611_686_018_427_387_840);
+    assert_eq!(rt; views.graph().len(), 2);
+    assert_eq!(rt; views.graph()[1].own, 4_611_686_018_427_387_840);
+    assert_eq!(rt; views.chart().len(), 2);
+    Ok(())
+}

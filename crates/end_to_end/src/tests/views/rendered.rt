@@ -1,0 +1,88 @@
+//! Views rendered as text, behind what stood there.
+use super::shown::{plain, run_folded, shows};
+use crate::tests::worked::{
+    AFTER, BEFORE, CHART_OF_THREE_LINES, COMPARISON_BOXES, COMPARISON_LINES, FIVE_LINES,
+    GRAPH_OF_THREE_LINES, SNAPSHOT_LINES, THREE_LINES,
+};
+use flame_layout::Width;
+use flame_tool::{View, Views};
+use stack_core::OpenGate;
+use std::alloc::{AllocError, Global};
+use std::process::Abort;
+use std::test::Fail;
+
+fn pixels(rt: &impl Abort, count: u32) -> Width {
+    Width::of(count).expect(rt, "the width of an image")
+}
+
+#[test]
+fn stored_run(rt: HostRuntime) -> Result<(), Fail> {
+    let options = plain(&rt, 1_024, None);
+    let views = run_folded(
+        &rt,
+        rt.alloc(),
+        &["a;b 2\na 1\na;b 3\n"],
+        &options,
+        OpenGate,
+    )?;
+    shows(&rt, rt.alloc(), &views, View::Fold, "a 1\na;b 5\n")?;
+    Ok(())
+}
+
+/// A source without samples has no lines and no boxes.
+fn shows_nothing(rt: &impl Abort, alloc: Global, views: &Views) -> Result<(), AllocError> {
+    let graph = "{\"boxes\":[],\"total\":0,\"view\":\"graph\",\"width\":1200}\n";
+    let chart = "{\"boxes\":[],\"total\":0,\"view\":\"chart\",\"width\":1200}\n";
+    let width = pixels(rt, 1_200);
+    shows(rt, alloc, views, View::Fold, "")?;
+    shows(rt, alloc, views, View::Graph(width), graph)?;
+    shows(rt, alloc, views, View::Chart(width), chart)
+}
+
+#[test]
+fn empty_sources(rt: HostRuntime) -> Result<(), Fail> {
+    let options = plain(&rt, 1, Some(1));
+    let views = run_folded(&rt, rt.alloc(), &[""], &options, OpenGate)?;
+    shows_nothing(&rt, rt.alloc(), &views)?;
+    Ok(())
+}
+
+fn shows_three_lines(rt: &impl Abort, alloc: Global, views: &Views) -> Result<(), AllocError> {
+    let width = pixels(rt, 10);
+    shows(rt, alloc, views, View::Fold, "a 1\nb 2\n")?;
+    shows(rt, alloc, views, View::Graph(width), GRAPH_OF_THREE_LINES)?;
+    shows(rt, alloc, views, View::Chart(width), CHART_OF_THREE_LINES)
+}
+
+#[test]
+fn graph_of_three_lines(rt: HostRuntime) -> Result<(), Fail> {
+    let options = plain(&rt, 1_024, None);
+    let views = run_folded(&rt, rt.alloc(), &[THREE_LINES], &options, OpenGate)?;
+    shows_three_lines(&rt, rt.alloc(), &views)?;
+    Ok(())
+}
+
+fn shows_comparison(rt: &impl Abort, alloc: Global, views: &Views) -> Result<(), AllocError> {
+    assert_eq!(rt; views.lists().len(), 2);
+    let boxes = View::PairBoxes(pixels(rt, 10));
+    shows(rt, alloc, views, View::Pairs, COMPARISON_LINES)?;
+    shows(rt, alloc, views, boxes, COMPARISON_BOXES)
+}
+
+#[test]
+fn comparison(rt: HostRuntime) -> Result<(), Fail> {
+    let options = plain(&rt, 1_024, None);
+    let views = run_folded(&rt, rt.alloc(), &[BEFORE, AFTER], &options, OpenGate)?;
+    shows_comparison(&rt, rt.alloc(), &views)?;
+    Ok(())
+}
+
+/// The graph's lines are those of the snapshots at 2 and at 4, and that of all samples.
+#[test]
+fn snapshots_of_one_source(rt: HostRuntime) -> Result<(), Fail> {
+    let options = plain(&rt, 1_024, Some(2));
+    let views = run_folded(&rt, rt.alloc(), &[FIVE_LINES], &options, OpenGate)?;
+    let graph = View::Graph(pixels(&rt, 10));
+    shows(&rt, rt.alloc(), &views, graph, SNAPSHOT_LINES)?;
+    Ok(())
+}

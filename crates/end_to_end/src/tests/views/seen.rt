@@ -1,0 +1,183 @@
+//! Runs over folded sources and a profile.
+ghost use Rattle.std.specs.Prelude.{◌≤◌, IfSome};
+
+use super::gates::{AllAsked, BothAsked};
+use super::shown::{CLEAN, folded, is_list, number_of, plain, run, run_folded, shows};
+use crate::tests::worked::SMALLEST;
+use flame_tool::{Format, Options, Source, View, Views};
+use stack_core::{Gate, OpenGate};
+use std::alloc::{AllocError, Global};
+use std::process::Abort;
+use std::sync::Wait;
+use std::sync::atomic::AtomicU64;
+use std::test::Fail;
+use std::thread::Threads;
+
+/// Runs over sources of the one line `a 1`, each of which waits for the others.
+fn meet<T: Threads + Wait + Abort + Copy + Send + 'static, G: Gate + Send + Sync + Drop + 'static>(
+    rt: &T,
+    alloc: Global,
+    texts: &[&str],
+    gate: G,
+) -> Result<(), Fail> {
+    let options = plain(rt, 1, None);
+    let views = run_folded(rt, alloc, texts, &options, gate)?;
+    have_one_sample(rt, alloc, &views, texts.len())?;
+    Ok(())
+}
+
+/// There are so many lists, each of the sample `a 1` alone.
+fn have_one_sample(
+    rt: &impl Abort,
+    alloc: Global,
+    views: &Views,
+    count: usize,
+) -> Result<(), AllocError> {
+    assert_eq!(rt; views.lists().len(), count);
+    assert_eq!(rt; views.order().len(), count);
+    for list in views.lists() {
+        is_list(rt, alloc, list, "a 1\n", CLEAN)?;
+    }
+    Ok(())
+}
+
+#[test]
+fn two_readers_meet(rt: HostRuntime) -> Result<(), Fail> {
+    let two = BothAsked {
+        first: AtomicU64::new(0),
+        second: AtomicU64::new(0),
+    };
+    meet(&rt, rt.alloc(), &["a 1\n"; 2], two)?;
+    let eight = AllAsked {
+        asked: AtomicU64::new(0),
+        wanted: 8,
+    };
+    meet(&rt, rt.alloc(), &["a 1\n"; 8], eight)
+}
+
+/// The smallest profile with its sample a thousand times.
+fn thousand_samples(alloc: Global) -> Result<Source, AllocError> {
+    let mut bytes = SMALLEST[..6].to_vec(alloc)?;
+    for _ in 0..1_000 {
+        bytes.extend_from_slice(&SMALLEST[6..14])?;
+    }
+    bytes.extend_from_slice(&SMALLEST[14..])?;
+    Ok(Source {
+        format: Format::Pprof,
+        bytes,
+    })
+}
+
+/// A thousand lines `NAME;fK 1`, K the last digit of the line's number.
+fn lines(alloc: Global, name: &str) -> Result<String, AllocError> {
+    let mut text = String::new(alloc);
+    for i in 0..1_000u32 {
+        let digit = i % 10;
+        let line = format!(in alloc; "{name};f{digit} 1\n")?;
+        text.push_str(&line)?;
+    }
+    Ok(text)
+}
+
+/// Two folded sources and a profile, of a thousand samples each.
+fn three(alloc: Global) -> Result<Vec<Source>, AllocError> {
+    let mut sources = Vec::new(alloc);
+    sources.push(folded(alloc, &lines(alloc, "s0")?)?)?;
+    sources.push(folded(alloc, &lines(alloc, "s1")?)?)?;
+    sources.push(thousand_samples(alloc)?)?;
+    Ok(sources)
+}
+
+/// The lists are these, in file order.
+fn are_three(rt: &impl Abort, alloc: Global, views: &Views) -> Result<(), AllocError> {
+    let lists = views.lists();
+    assert_eq!(rt; lists.len(), 3);
+    is_list(rt, alloc, &lists[0], &lines(alloc, "s0")?, CLEAN)?;
+    is_list(rt, alloc, &lists[1], &lines(alloc, "s1")?, CLEAN)?;
+    assert_eq!(rt; lists[2].len(), 1_000);
+    assert_eq!(rt; lists[2].total(), 7_000);
+    assert_eq!(rt; *lists[2].ending(), CLEAN);
+    assert_eq!(rt; views.order().len(), 3_000);
+    Ok(())
+}
+
+/// The merged sums are those of all three.
+fn are_merged(rt: &impl Abort, views: &Views) {
+    let table = views.table();
+    let main = number_of(table, "main").expect(rt, "main");
+    let second = number_of(table, "s1").expect(rt, "s1");
+    let digit = number_of(table, "f9").expect(rt, "f9");
+    let tree = views.tree();
+    assert_eq!(rt; tree.total(&[]), 9_000);
+    assert_eq!(rt; tree.own(&[main]), 7_000);
+    assert_eq!(rt; tree.total(&[second]), 1_000);
+    assert_eq!(rt; tree.own(&[second]), 0);
+    assert_eq!(rt; tree.own(&[second, digit]), 100);
+    assert_eq!(rt; tree.total(&[digit]), 0);
+    assert_eq!(rt; tree.len(), 24);
+    assert_eq!(rt; views.graph().len(), 24);
+    assert_eq!(rt; views.chart().len(), 2_004);
+}
+
+/// Runs over the three sources with these options.
+fn run_three<T: Threads + Wait + Abort + Copy + Send + 'static>(
+    rt: &T,
+    alloc: Global,
+    options: &Options,
+) -> Result<Views, Fail>
+    requires { IfSome options.now.every (λ every. 1 ≤ every) }
+{
+    run(rt, alloc, three(alloc)?, options, OpenGate)
+}
+
+/// The fold text of the three.
+const FOLD_OF_THREE_SOURCES: &str = "main 7000\n\
+    s0;f0 100\ns0;f1 100\ns0;f2 100\ns0;f3 100\ns0;f4 100\n\
+    s0;f5 100\ns0;f6 100\ns0;f7 100\ns0;f8 100\ns0;f9 100\n\
+    s1;f0 100\ns1;f1 100\ns1;f2 100\ns1;f3 100\ns1;f4 100\n\
+    s1;f5 100\ns1;f6 100\ns1;f7 100\ns1;f8 100\ns1;f9 100\n";
+
+#[test]
+fn three_sources_in_small_rings(rt: HostRuntime) -> Result<(), Fail> {
+    let views = run_three(&rt, rt.alloc(), &plain(&rt, 1, None))?;
+    are_merged(&rt, &views);
+    assert_eq!(rt; views.snapshots().len(), 0);
+    are_three(&rt, rt.alloc(), &views)?;
+    shows(&rt, rt.alloc(), &views, View::Fold, FOLD_OF_THREE_SOURCES)?;
+    Ok(())
+}
+
+#[test]
+fn three_sources_in_large_rings(rt: HostRuntime) -> Result<(), Fail> {
+    let views = run_three(&rt, rt.alloc(), &plain(&rt, 65_536, None))?;
+    are_merged(&rt, &views);
+    are_three(&rt, rt.alloc(), &views)?;
+    Ok(())
+}
+
+/// The counts of each snapshot add up to its number, and none falls.
+fn are_rising(rt: &impl Abort, views: &Views) {
+    assert_eq!(rt; views.snapshots().len(), 3);
+    let mut before = [0; 3];
+    for (i, snapshot) in views.snapshots().iter().enumerate() {
+        let mut sum = 0u64;
+        for (source, count) in snapshot.counts.get().iter().enumerate() {
+            assert!(rt; source < 3);
+            assert!(rt; before[source] <= *count);
+            before[source] = *count;
+            sum = sum.wrapping_add(*count);
+        }
+        assert_eq!(rt; snapshot.at, 1_000 * (i as u64 + 1));
+        assert_eq!(rt; sum, snapshot.at);
+    }
+    assert_eq!(rt; before, [1_000; 3]);
+}
+
+#[test]
+fn three_sources_every_thousand(rt: HostRuntime) -> Result<(), Fail> {
+    let views = run_three(&rt, rt.alloc(), &plain(&rt, 1_024, Some(1_000)))?;
+    are_merged(&rt, &views);
+    are_rising(&rt, &views);
+    are_three(&rt, rt.alloc(), &views)?;
+    Ok(())
+}

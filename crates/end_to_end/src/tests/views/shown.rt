@@ -1,0 +1,151 @@
+//! What the runs of the tests read, and what is shown of them.
+ghost use Rattle.std.specs.Prelude.{◌≡◌, ◌≤◌, ◌<◌, IfSome, length};
+ghost use Rattle.flame_tool.specs.Plans.{IsComparison};
+
+use call_tree::FrameTable;
+use flame_layout::SpanBox;
+use flame_tool::{Format, Options, Source, View, Views, render, views};
+use profile_tables::{Naming, Pick};
+use ring_collect::RingSize;
+use stack_core::{Gate, SourceEnd, SourceList};
+use std::alloc::{AllocError, Global};
+use std::process::Abort;
+use std::sync::{Arc, Wait};
+use std::test::Fail;
+use std::thread::Threads;
+
+pub const CLEAN: SourceEnd = SourceEnd::Clean { ignored: 0 };
+
+/// Folded text as a source.
+pub fn folded(alloc: Global, text: &str) -> Result<Source, AllocError> {
+    Ok(Source {
+        format: Format::Folded,
+        bytes: text.as_bytes().to_vec(alloc)?,
+    })
+}
+
+/// Rings of this many items, and nothing else chosen.
+pub fn plain(rt: &impl Abort, ring: u32, every: Option<u64>) -> Options
+    ensures { result.every ≡ every }
+{
+    Options {
+        ring: RingSize::of(ring).expect(rt, "the size of a ring"),
+        pick: Pick::Preferred,
+        naming: Naming::Plain,
+        every,
+    }
+}
+
+/// The views of these sources.
+pub fn run<
+    T: Threads + Wait + Abort + Copy + Send + 'static,
+    G: Gate + Send + Sync + Drop + 'static,
+>(rt: &T, alloc: Global, sources: Vec<Source>, options: &Options, gate: G) -> Result<Views, Fail>
+    requires { IfSome options.now.every (λ every. 1 ≤ every) }
+{
+    assert!(rt; sources.len() <= 64);
+    let gate = Arc::new(alloc, gate)?;
+    Ok(views(rt, alloc, sources, options, gate)?)
+}
+
+/// The views of folded texts.
+pub fn run_folded<
+    T: Threads + Wait + Abort + Copy + Send + 'static,
+    G: Gate + Send + Sync + Drop + 'static,
+>(rt: &T, alloc: Global, texts: &[&str], options: &Options, gate: G) -> Result<Views, Fail>
+    requires { IfSome options.now.every (λ every. 1 ≤ every) }
+{
+    let mut sources = Vec::new(alloc);
+    for text in texts {
+        sources.push(folded(alloc, text)?)?;
+    }
+    run(rt, alloc, sources, options, gate)
+}
+
+/// The list has the samples of this folded text, and ends so.
+pub fn is_list(
+    rt: &impl Abort,
+    alloc: Global,
+    list: &SourceList,
+    text: &str,
+    ending: SourceEnd,
+) -> Result<(), AllocError> {
+    let mut shown = String::new(alloc);
+    for i in 0..list.len() {
+        push_sample(alloc, &mut shown, list, i)?;
+    }
+    assert_eq!(rt; shown.as_str(), text);
+    assert_eq!(rt; *list.ending(), ending);
+    Ok(())
+}
+
+fn push_sample(
+    alloc: Global,
+    text: &mut String,
+    list: &SourceList,
+    i: usize,
+) -> Result<(), AllocError>
+    requires { i < length list.now.samples }
+{
+    for d in 0..list.depth(i) {
+        if d > 0 {
+            text.push_str(";")?;
+        }
+        text.push_str(list.name(i, d))?;
+    }
+    let weight = list.weight(i);
+    let end = format!(in alloc; " {weight}\n")?;
+    text.push_str(&end)
+}
+
+/// The boxes have these depths, names, starts, weights and own weights.
+pub fn are_boxes(
+    rt: &impl Abort,
+    alloc: Global,
+    boxes: &[SpanBox],
+    text: &str,
+) -> Result<(), AllocError> {
+    let mut shown = String::new(alloc);
+    for span in boxes {
+        push_box(alloc, &mut shown, span)?;
+    }
+    assert_eq!(rt; shown.as_str(), text);
+    Ok(())
+}
+
+fn push_box(alloc: Global, text: &mut String, span: &SpanBox) -> Result<(), AllocError> {
+    let depth = span.depth;
+    let name = span.name.get();
+    let start = span.start;
+    let weight = span.weight;
+    let own = span.own;
+    let line = format!(in alloc; "({depth} {name} {start} {weight} {own})")?;
+    text.push_str(&line)
+}
+
+/// The view is rendered as this text, behind what stood there.
+pub fn shows(
+    rt: &impl Abort,
+    alloc: Global,
+    views: &Views,
+    view: View,
+    text: &str,
+) -> Result<(), AllocError>
+    requires { IsComparison view → length views.now.lists ≡ 2 }
+{
+    let mut out = b"in front\n".to_vec(alloc)?;
+    render(alloc, views, view, &mut out)?;
+    let whole = format!(in alloc; "in front\n{text}")?;
+    assert_eq!(rt; out.as_slice(), whole.as_bytes());
+    Ok(())
+}
+
+/// The number of a name.
+pub fn number_of(table: &FrameTable, name: &str) -> Option<usize> {
+    for number in 0..table.len() {
+        if table.name(number) == name {
+            return Some(number);
+        }
+    }
+    None
+}

@@ -1,0 +1,121 @@
+//! A tree sink, alone and under a run.
+use super::gates::{AfterSnapshots, Watched};
+use super::shown::number_of;
+use flame_tool::TreeSink;
+use folded_lines::FoldedReader;
+use ring_collect::{RingSize, collect};
+use stack_core::{Names, Sample, Sink};
+use std::alloc::{AllocError, Global};
+use std::process::Abort;
+use std::sync::atomic::AtomicU64;
+use std::sync::{Arc, Wait};
+use std::test::Fail;
+use std::thread::Threads;
+
+/// Takes the sample of these names and this weight.
+fn take(
+    alloc: Global,
+    sink: &mut TreeSink,
+    source: u32,
+    names: &[&str],
+    weight: u64,
+) -> Result<(), AllocError> {
+    let sample = Sample {
+        stack: Names::from_strs(alloc, names)?,
+        weight,
+    };
+    sink.take(alloc, source, &sample)
+}
+
+/// Takes five samples of three sources.
+fn take_five(alloc: Global, sink: &mut TreeSink) -> Result<(), AllocError> {
+    take(alloc, sink, 2, &["a"], 1)?;
+    take(alloc, sink, 0, &["a", "b"], 2)?;
+    take(alloc, sink, 2, &[], 4)?;
+    take(alloc, sink, 1, &["b"], 0)?;
+    take(alloc, sink, 2, &["b", "a"], 8)
+}
+
+/// The sums of the five.
+fn has_five(rt: &impl Abort, sink: &TreeSink) {
+    assert_eq!(rt; sink.table().len(), 2);
+    let a = number_of(sink.table(), "a").expect(rt, "a");
+    let b = number_of(sink.table(), "b").expect(rt, "b");
+    let tree = sink.tree();
+    assert_eq!(rt; tree.total(&[]), 15);
+    assert_eq!(rt; tree.own(&[]), 4);
+    assert_eq!(rt; tree.total(&[a]), 3);
+    assert_eq!(rt; tree.own(&[a, b]), 2);
+    assert_eq!(rt; tree.total(&[b]), 8);
+    assert_eq!(rt; tree.own(&[b]), 0);
+}
+
+/// The snapshots after two and after four of them.
+fn has_snapshots(rt: &impl Abort, sink: &TreeSink) {
+    let snapshots = sink.snapshots();
+    assert_eq!(rt; snapshots.len(), 2);
+    assert_eq!(rt; snapshots[0].at, 2);
+    assert_eq!(rt; snapshots[0].counts.get(), [1, 0, 1].as_slice());
+    assert_eq!(rt; snapshots[0].tree.total(&[]), 3);
+    assert_eq!(rt; snapshots[1].at, 4);
+    assert_eq!(rt; snapshots[1].counts.get(), [1, 1, 2].as_slice());
+    assert_eq!(rt; snapshots[1].tree.total(&[]), 7);
+}
+
+#[test]
+fn sink_alone(rt: HostRuntime) -> Result<(), Fail> {
+    let mut sink = TreeSink::new(rt.alloc(), Some(2))?;
+    take_five(rt.alloc(), &mut sink)?;
+    has_five(&rt, &sink);
+    has_snapshots(&rt, &sink);
+    Ok(())
+}
+
+/// No count of sources is kept where no snapshot asks for it, and sums go past 64 bits.
+#[test]
+fn sink_without_snapshots(rt: HostRuntime) -> Result<(), Fail> {
+    let mut sink = TreeSink::new(rt.alloc(), None)?;
+    assert_eq!(rt; sink.table().len(), 0);
+    assert_eq!(rt; sink.tree().total(&[]), 0);
+    for _ in 0..5 {
+        take(rt.alloc(), &mut sink, 4_000_000_000, &["a"], u64::MAX)?;
+    }
+    assert_eq!(rt; sink.tree().total(&[0]), 5 * u128::from(u64::MAX));
+    assert_eq!(rt; sink.snapshots().len(), 0);
+    Ok(())
+}
+
+/// Runs over seven samples `a 1`, the last of which waits for three snapshots.
+fn run_seven<T: Threads + Wait + Abort + Copy + Send + 'static>(
+    rt: &T,
+    alloc: Global,
+    watched: &mut Watched,
+) -> Result<(), Fail> {
+    let gate = AfterSnapshots {
+        made: Arc::try_clone(&watched.made)?,
+    };
+    let gate = Arc::new(alloc, gate)?;
+    let mut readers = Vec::new(alloc);
+    let text = b"a 1\na 1\na 1\na 1\na 1\na 1\na 1\n";
+    readers.push(FoldedReader::over(text.to_vec(alloc)?))?;
+    let ring = RingSize::of(2).expect(rt, "the size of a ring");
+    let run = collect(rt, alloc, readers, ring, gate, watched)?;
+    assert_eq!(rt; run.order.as_slice(), [0; 7].as_slice());
+    Ok(())
+}
+
+#[test]
+fn snapshot_while_running(rt: HostRuntime) -> Result<(), Fail> {
+    let mut watched = Watched {
+        sink: TreeSink::new(rt.alloc(), Some(2))?,
+        made: Arc::new(rt.alloc(), AtomicU64::new(0))?,
+    };
+    run_seven(&rt, rt.alloc(), &mut watched)?;
+    assert_eq!(rt; watched.sink.snapshots().len(), 3);
+    for (i, snapshot) in watched.sink.snapshots().iter().enumerate() {
+        assert_eq!(rt; snapshot.at, 2 * (i as u64 + 1));
+        assert_eq!(rt; snapshot.tree.total(&[]), u128::from(snapshot.at));
+    }
+    assert_eq!(rt; watched.sink.tree().total(&[]), 7);
+    Ok(())
+}
