@@ -1,5 +1,7 @@
 /* Loaded before the C library, refuses one request for memory: that of number REFUSE, counted from 1. It then makes the file that
- * REFUSED names, so that who counts upwards sees when a run meets no refusal. Each call of the C library that gives memory counts. */
+ * REFUSED names, so that who counts upwards sees when a run meets no refusal. A request is a call of malloc, calloc, realloc,
+ * aligned_alloc, memalign or posix_memalign, by whichever thread, in the order in which the calls come here; memory that is had in
+ * another way, as by mmap, is not seen. */
 #define _GNU_SOURCE
 #include <dlfcn.h>
 #include <errno.h>

@@ -8,6 +8,7 @@ use borrow.Author.Tests.{eqb-true}
 use Rattle.call_tree.specs.declared.listing.Visit.{Visit}
 use Rattle.call_tree.specs.declared.nodes.Place.{Place}
 use Rattle.call_tree.specs.CallTree.{total_weight, tree_of}
+use Rattle.call_tree.specs.FrameTable.{HasDistinctNames}
 use Rattle.call_tree.specs.Listing.{named, visit_of, HasNumbersOf, IsListing}
 use Rattle.call_tree.specs.NodeOrder.{HasFramesOf, LeadsByName, visit_at}
 use Rattle.call_tree.specs.Nodes.{path_of, samples_of, IsTree}
@@ -31,8 +32,9 @@ last_of : (front : List ℕ) (f : ℕ) → get_or (front ++ f ∷ []) (length (f
 last_of front f = ap (λ n. get_or (front ++ f ∷ []) n 0) (omega (arith, length-append front (f ∷ []))) ∙ get_or-append_seam front f [] 0
 
 -- where the grand total is 0 there is nothing to list
-pub listed_nothing : (names : List (List ℕ)) (places : List Place) (owns totals : List ℕ) → IsTree places owns totals → get_or totals 0 0 ≡ 0 → IsListing names (tree_of (samples_of places owns)) []
-listed_nothing names places owns totals t none = record {
+pub listed_nothing : (names : List (List ℕ)) (places : List Place) (owns totals : List ℕ) → HasDistinctNames names → IsTree places owns totals → get_or totals 0 0 ≡ 0 → IsListing names (tree_of (samples_of places owns)) []
+listed_nothing names places owns totals d t none = record {
+  distinct = d;
   paths = [];
   are = refl;
   rises = λ i j lt lj. absurd (omega arith);
@@ -97,9 +99,10 @@ module _ (names : List (List ℕ)) (places : List Place) (owns totals : List ℕ
     node_within : (i : ℕ) (d : ℕ) → i < length lead.order → get_or lead.order i d < length places + 1
     node_within i d lt = (lead.members (get_or lead.order i d)).0 (i, lt, get_or_default lead.order i (get_or lead.order i d) d lt)
 
-    listed_order : 0 < get_or totals 0 0 → (visits : List Visit) → visits ≡ map (λ n. visit_at places owns totals (length (path_of places n)) n) lead.order
+    listed_order : HasDistinctNames names → 0 < get_or totals 0 0 → (visits : List Visit) → visits ≡ map (λ n. visit_at places owns totals (length (path_of places n)) n) lead.order
         → IsListing names (tree_of (samples_of places owns)) visits
-    listed_order root visits are = record {
+    listed_order d root visits are = record {
+      distinct = d;
       paths = map (path_of places) lead.order;
       are = are
           ∙ sym (map_same (λ n. visit_of (tree_of (samples_of places owns)) (path_of places n)) (λ n. visit_at places owns totals (length (path_of places n)) n) lead.order
@@ -147,5 +150,5 @@ module _ (names : List (List ℕ)) (places : List Place) (owns totals : List ℕ
         }
 
     -- behind the last visit
-    pub listed : length next ≤ k → (get_or totals 0 0 ≡ 0 → ⊥) → IsListing names (tree_of (samples_of places owns)) visits
-    listed le root = listed_order next v.lead (omega arith) visits (v.are ∙ ap (map (λ m. visit_at places owns totals (length (path_of places m)) m)) (take_all k v.lead.order (omega (arith, v.lead.len, v.lead.count))))
+    pub listed : HasDistinctNames names → length next ≤ k → (get_or totals 0 0 ≡ 0 → ⊥) → IsListing names (tree_of (samples_of places owns)) visits
+    listed d le root = listed_order next v.lead d (omega arith) visits (v.are ∙ ap (map (λ m. visit_at places owns totals (length (path_of places m)) m)) (take_all k v.lead.order (omega (arith, v.lead.len, v.lead.count))))

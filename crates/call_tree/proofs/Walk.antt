@@ -6,7 +6,7 @@ use Rattle.std.proofs.lemmas.Slice.Eq.{bytes_eq-Decides}
 use Rattle.call_tree.specs.declared.nodes.Place.{Place}
 use Rattle.call_tree.specs.PathSums.{begins_with, total_of, own_of}
 use Rattle.call_tree.specs.CallTree.{total_weight, with_weight, tree_of}
-use Rattle.call_tree.specs.Nodes.{paths_of, path_of, samples_of, IsTree, IsWalked, IsNodeOf}
+use Rattle.call_tree.specs.Nodes.{paths_of, path_of, samples_of, HasShape, IsTree, IsNodeOf}
 use Rattle.call_tree.proofs.Begins.{begins_with_push, begins_with_longer, begins_with-itself}
 use Rattle.call_tree.proofs.Paths.{length-paths_of, path_of_root}
 use Rattle.call_tree.proofs.Shape.{root_or_stands, path_at}
@@ -51,6 +51,13 @@ begins_nothing (x ∷ q) f = refl
 pub or_false : (a b : Bool) → b ≡ false → (a || b) ≡ a
 or_false true b e = refl
 or_false false b e = e
+
+-- the nodes of a tree, but `weight` has been added to the totals of those from the root to `front`
+pub record IsWalked (places : List Place) (owns totals : List ℕ) (front : List ℕ) (weight : ℕ) : Type 0 where
+  pub shape : HasShape places owns totals
+  pub sums : (i : ℕ) → i < length places + 1
+      → get_or totals i 0 ≡ total_of nat_eq (samples_of places owns) (path_of places i) + (if begins_with nat_eq (path_of places i) front then weight else 0)
+  pub positive : (i : ℕ) → 0 < i → i < length places + 1 → 0 < get_or totals i 0
 
 module _ (places : List Place) (owns totals : List ℕ) where
   -- the root's total has the weight

@@ -7,14 +7,14 @@ use Rattle.std.proofs.Math.Seq.{get_or-append_seam}
 use Rattle.call_tree.specs.declared.nodes.Place.{Place}
 use Rattle.call_tree.specs.PathSums.{begins_with, total_of, own_of}
 use Rattle.call_tree.specs.CallTree.{tree_of}
-use Rattle.call_tree.specs.Nodes.{paths_of, path_of, samples_of, IsWalked, IsNodeOf}
+use Rattle.call_tree.specs.Nodes.{paths_of, path_of, samples_of, IsNodeOf}
 use Rattle.call_tree.proofs.Begins.{begins_with_push, begins_with-itself}
 use Rattle.call_tree.proofs.Frames.{any_child}
 use Rattle.call_tree.proofs.Paths.{length-paths_of, paths_of_push, path_of_kept, path_of_last}
 use Rattle.call_tree.proofs.Places.{same_place}
 use Rattle.call_tree.proofs.Shape.{no_node}
 use Rattle.call_tree.proofs.TreeSums.{tree_of_same}
-use Rattle.call_tree.proofs.Walk.{unequal_paths, or_false}
+use Rattle.call_tree.proofs.Walk.{IsWalked, unequal_paths, or_false}
 use Rattle.call_tree.proofs.Weights.{weight_where, not_true, sum_none, sum_push}
 
 module _ (places : List Place) (owns totals : List ℕ) (front : List ℕ) (w node f : ℕ) (k : IsWalked places owns totals front w) (is : IsNodeOf places front node)

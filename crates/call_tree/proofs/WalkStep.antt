@@ -4,10 +4,10 @@ use Rattle.std.proofs.lemmas.Grind.{get_or_default_zero}
 use Rattle.std.proofs.lemmas.List.{take_all}
 use Rattle.call_tree.specs.declared.nodes.Place.{Place}
 use Rattle.call_tree.specs.CallTree.{total_weight, with_weight, tree_of}
-use Rattle.call_tree.specs.Nodes.{samples_of, IsTree, IsWalked, IsNodeOf, EntersChild, MakesChild}
+use Rattle.call_tree.specs.Nodes.{samples_of, IsTree, IsNodeOf, EntersChild, MakesChild}
 use Rattle.call_tree.proofs.Found.{root_total, own_le}
 use Rattle.call_tree.proofs.Shape.{path_at}
-use Rattle.call_tree.proofs.Walk.{walk_enters, child_total, walk_ends, walk_ends_tree}
+use Rattle.call_tree.proofs.Walk.{IsWalked, walk_enters, child_total, walk_ends, walk_ends_tree}
 use Rattle.call_tree.proofs.WalkOn.{walk_makes, walk_makes_node, walk_makes_tree}
 
 -- the walk is at `front`, and the tree has the same weights as the first one

@@ -6,6 +6,7 @@ use Rattle.std.specs.Cmp.Lexicographic.{slice_cmp}
 use Rattle.std.specs.declared.cmp.Ordering.TheVariants.{Less}
 use Rattle.call_tree.specs.declared.listing.Visit.{Visit}
 use Rattle.call_tree.specs.CallTree.{Tree, own_weight, total_weight}
+use Rattle.call_tree.specs.FrameTable.{HasDistinctNames}
 
 -- the names of a path's numbers
 abbrev pub named : List (List ℕ) → List ℕ → List (List ℕ)
@@ -24,8 +25,10 @@ AreIn names (n ∷ path) = (n < length names) × AreIn names path
 abbrev pub HasNumbersOf : List (List ℕ) → Tree → Type 0
 HasNumbersOf names tree = (front : List ℕ) (n : ℕ) → 0 < total_weight tree (front ++ n ∷ []) → n < length names
 
--- `visits` are the paths with weight, each once, ordered as lists of names: so a path stands before those that begin with it
+-- the names differ, and `visits` are the paths with weight, each once, ordered as lists of names: so a path stands before those
+-- that begin with it
 pub record IsListing (names : List (List ℕ)) (tree : Tree) (visits : List Visit) : Type 0 where
+  pub distinct : HasDistinctNames names
   pub paths : List (List ℕ)
   pub are : visits ≡ map (visit_of tree) paths
   pub rises : (i j : ℕ) → i < j → j < length paths → slice_cmp (slice_cmp nat_cmp) (named names (slice_index_or paths i [])) (named names (slice_index_or paths j [])) ≡ Less

@@ -1,8 +1,8 @@
 -- What the nodes of a tree stand for. Node 0 is the root, and node i + 1 has the i-th place: its parent and its frame number.
-use Rattle.std.specs.Prelude.{◌≡◌, ℕ, ◌+◌, ◌<◌, ◌≤◌, List, [], ◌∷◌, ◌++◌, length, nat_eq, slice_set, Contains, map, filter, if◌then◌else◌}
+use Rattle.std.specs.Prelude.{◌≡◌, ℕ, ◌+◌, ◌<◌, ◌≤◌, List, [], ◌∷◌, ◌++◌, length, nat_eq, slice_set, Contains, map, filter}
 use Rattle.std.specs.List.{zip, slice_index, slice_index_or}
 use Rattle.call_tree.specs.declared.nodes.Place.{Place}
-use Rattle.call_tree.specs.PathSums.{begins_with, total_of}
+use Rattle.call_tree.specs.PathSums.{total_of}
 
 -- the paths of the nodes, where `paths` are those of the nodes before `places`
 abbrev pub paths_after : List (List ℕ) → List Place → List (List ℕ)
@@ -30,13 +30,6 @@ pub record HasShape (places : List Place) (owns totals : List ℕ) : Type 0 wher
 pub record IsTree (places : List Place) (owns totals : List ℕ) : Type 0 where
   pub shape : HasShape places owns totals
   pub sums : (i : ℕ) → i < length places + 1 → slice_index totals i ≡ total_of nat_eq (samples_of places owns) (path_of places i)
-  pub positive : (i : ℕ) → 0 < i → i < length places + 1 → 0 < slice_index totals i
-
--- the same, but `weight` has been added to the totals of the nodes from the root to `front`
-pub record IsWalked (places : List Place) (owns totals : List ℕ) (front : List ℕ) (weight : ℕ) : Type 0 where
-  pub shape : HasShape places owns totals
-  pub sums : (i : ℕ) → i < length places + 1
-      → slice_index totals i ≡ total_of nat_eq (samples_of places owns) (path_of places i) + (if begins_with nat_eq (path_of places i) front then weight else 0)
   pub positive : (i : ℕ) → 0 < i → i < length places + 1 → 0 < slice_index totals i
 
 -- `child` is a known node, at `place`, and its total has `weight` more

@@ -78,7 +78,8 @@ fn depths(alloc: Global, nodes: &Nodes) -> Result<Vec<usize>, AllocError>
 fn visit_node(nodes: &Nodes, depth: usize, node: usize) -> Visit
     requires shape { HasShape nodes.now.places.keys nodes.now.owns.items nodes.now.totals.items }
     requires within { node < length nodes.now.places.keys + 1 }
-    ensures { result ≡ visit_at nodes.now.places.keys nodes.now.owns.items nodes.now.totals.items depth node }
+    ensures { result ≡ visit_at nodes.now.places.keys nodes.now.owns.items nodes.now.totals.items
+        depth node }
 {
     let frame = if node == 0 {
         0
@@ -97,8 +98,11 @@ fn visit_node(nodes: &Nodes, depth: usize, node: usize) -> Visit
 pub fn listing(alloc: Global, nodes: &Nodes, table: &FrameTable) -> Result<Vec<Visit>, AllocError>
     requires tree { IsTree nodes.now.places.keys nodes.now.owns.items nodes.now.totals.items }
     requires distinct { HasDistinctNames table.now }
-    requires numbers { HasNumbersOf table.now (tree_of (samples_of nodes.now.places.keys nodes.now.owns.items)) }
-    ensures { IfOk result (λ visits. IsListing table.now (tree_of (samples_of nodes.now.places.keys nodes.now.owns.items)) visits.items) }
+    requires numbers { HasNumbersOf table.now
+        (tree_of (samples_of nodes.now.places.keys nodes.now.owns.items)) }
+    ensures { IfOk result (λ visits.
+        IsListing table.now (tree_of (samples_of nodes.now.places.keys nodes.now.owns.items))
+        visits.items) }
 {
     if nodes.totals[0] == 0 {
         return Ok(Vec::new(alloc));

@@ -42,7 +42,8 @@ impl Nodes {
     pub fn find(&self, path: &[usize]) -> Option<usize>
         requires { HasShape self.now.places.keys self.now.owns.items self.now.totals.items }
         ensures { MatchOption result
-            ((i : ℕ) → i < length self.now.places.keys + 1 → begins_with nat_eq path.now (path_of self.now.places.keys i) ≡ false)
+            ((i : ℕ) → i < length self.now.places.keys + 1
+            → begins_with nat_eq path.now (path_of self.now.places.keys i) ≡ false)
             (λ node. IsNodeOf self.now.places.keys path.now node) }
     {
         let mut node = 0;
@@ -74,8 +75,10 @@ impl Nodes {
         ensures owns { self.new.owns.items ≡ self.old.owns.items }
         ensures totals { self.new.totals.items ≡ self.old.totals.items }
         ensures places_room { OnOk result (count ≤ spare self.new.places) }
-        ensures owns_room { OnOk result (vec_len self.new.owns + count ≤ vec_capacity self.new.owns) }
-        ensures totals_room { OnOk result (vec_len self.new.totals + count ≤ vec_capacity self.new.totals) }
+        ensures owns_room { OnOk result
+            (vec_len self.new.owns + count ≤ vec_capacity self.new.owns) }
+        ensures totals_room { OnOk result
+            (vec_len self.new.totals + count ≤ vec_capacity self.new.totals) }
     {
         self.places.reserve(count)?;
         self.owns.reserve(count)?;
@@ -91,13 +94,20 @@ impl Nodes {
         requires owns_room { vec_len self.old.owns < vec_capacity self.old.owns }
         requires totals_room { vec_len self.old.totals < vec_capacity self.old.totals }
         requires fits { (i : ℕ) → i < length self.old.places.keys
-            → slice_index_or self.old.places.keys i (record { parent = node; frame = frame }) ≡ record { parent = node; frame = frame }
+            → slice_index_or self.old.places.keys i (record { parent = node; frame = frame })
+            ≡ record { parent = node; frame = frame }
             → slice_index self.old.totals.items (i + 1) + weight < 2 ^ 128 }
-        ensures child { EntersChild self.old.places.keys self.new.places.keys self.old.owns.items self.new.owns.items self.old.totals.items self.new.totals.items (record { parent = node; frame = frame }) weight result
-            ⊎ MakesChild self.old.places.keys self.new.places.keys self.old.owns.items self.new.owns.items self.old.totals.items self.new.totals.items (record { parent = node; frame = frame }) weight result }
+        ensures child { EntersChild self.old.places.keys self.new.places.keys
+            self.old.owns.items self.new.owns.items self.old.totals.items self.new.totals.items
+            (record { parent = node; frame = frame }) weight result
+            ⊎ MakesChild self.old.places.keys self.new.places.keys
+            self.old.owns.items self.new.owns.items self.old.totals.items self.new.totals.items
+            (record { parent = node; frame = frame }) weight result }
         ensures places_room { spare self.old.places ≤ spare self.new.places + 1 }
-        ensures owns_room { vec_capacity self.old.owns + vec_len self.new.owns ≤ vec_capacity self.new.owns + vec_len self.old.owns + 1 }
-        ensures totals_room { vec_capacity self.old.totals + vec_len self.new.totals ≤ vec_capacity self.new.totals + vec_len self.old.totals + 1 }
+        ensures owns_room { vec_capacity self.old.owns + vec_len self.new.owns
+            ≤ vec_capacity self.new.owns + vec_len self.old.owns + 1 }
+        ensures totals_room { vec_capacity self.old.totals + vec_len self.new.totals
+            ≤ vec_capacity self.new.totals + vec_len self.old.totals + 1 }
     {
         let place = Place {
             parent: node,
@@ -124,7 +134,8 @@ impl Nodes {
         requires fits { slice_index self.old.totals.items 0 + weight < 2 ^ 128 }
         ensures tree { IsTree self.new.places.keys self.new.owns.items self.new.totals.items }
         ensures ok { OnOk result (tree_of (samples_of self.new.places.keys self.new.owns.items)
-            ≡ with_weight (tree_of (samples_of self.old.places.keys self.old.owns.items)) ids.now weight) }
+            ≡ with_weight (tree_of (samples_of self.old.places.keys self.old.owns.items))
+            ids.now weight) }
         ensures err { OnErr result (tree_of (samples_of self.new.places.keys self.new.owns.items)
             ≡ tree_of (samples_of self.old.places.keys self.old.owns.items)) }
     {
@@ -141,8 +152,10 @@ impl Nodes {
     /// The frame numbers of a node's children, rising.
     pub fn children(&self, alloc: Global, node: usize) -> Result<Vec<usize>, AllocError>
         requires { HasShape self.now.places.keys self.now.owns.items self.now.totals.items }
-        ensures rises { IfOk result (λ v. (i j : ℕ) → i < j → j < length v.items → slice_index v.items i < slice_index v.items j) }
-        ensures members { IfOk result (λ v. (n : ℕ) → Contains v.items n ↔ HasChild self.now.places.keys node n) }
+        ensures rises { IfOk result (λ v. (i j : ℕ) → i < j → j < length v.items
+            → slice_index v.items i < slice_index v.items j) }
+        ensures members { IfOk result (λ v. (n : ℕ)
+            → Contains v.items n ↔ HasChild self.now.places.keys node n) }
     {
         let mut frames = self.frames_below(alloc, node)?;
         frames.sort()?;

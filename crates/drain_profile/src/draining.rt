@@ -15,8 +15,10 @@ pub struct Drained {
 /// Reads a source to its ending.
 pub fn drain<R: SampleReader>(alloc: Global, reader: &mut R) -> Result<Drained, AllocError>
     requires { sum_by (λ sample. sample.weight) (R.rest reader.old).samples < 2 ^ 64 }
-    ensures samples { IfOk result (λ drained. drained.samples ≡ length (R.rest reader.old).samples) }
-    ensures weight { IfOk result (λ drained. drained.weight ≡ sum_by (λ sample. sample.weight) (R.rest reader.old).samples) }
+    ensures samples { IfOk result (λ drained.
+        drained.samples ≡ length (R.rest reader.old).samples) }
+    ensures weight { IfOk result (λ drained.
+        drained.weight ≡ sum_by (λ sample. sample.weight) (R.rest reader.old).samples) }
 {
     let mut drained = Drained {
         samples: 0,

@@ -8,7 +8,7 @@ use Rattle.stack_core.specs.declared.samples.Sample.{Sample}
 use Rattle.flame_layout.specs.declared.boxes.SpanBox.{SpanBox}
 use Rattle.flame_layout.specs.Timeline.{Stack, weight_of, total_weight}
 use Rattle.flame_layout.specs.Chart.{names_shared, run_at, box_at, boxes_from, first_new, boxes_after, chart_of}
-use Rattle.flame_layout.specs.Runs.{last_stack, first_stack, IsApart, IsLongestRun, StandsBefore, IsListed, LiesInside, DontOverlap, SpansAll}
+use Rattle.flame_layout.specs.Runs.{last_stack, first_stack, IsApart, IsLongestRun, StandsBefore, IsListed, LiesInside, DontOverlap}
 use Rattle.flame_layout.proofs.Shared.{IsAlike, IsAlike-sym, IsAlike-trans, alike_from_shared, shared_from_alike}
 use Rattle.flame_layout.proofs.Runs.{total_weight-cons, run_at-alike, run_at-apart, run_at-same, names_shared-self}
 use Rattle.flame_layout.proofs.Ascending.{IsPositive, each-weaker}
@@ -129,6 +129,15 @@ chart-listed xs w = boxes-listed None 0 xs w
 run-all : (a : Stack) (xs : List Sample) → run_at 0 a xs ≡ xs
 run-all a [] = refl
 run-all a (s ∷ xs) = run_at-alike 0 a s xs (omega arith) ∙ ap (λ r. s ∷ r) (run-all a xs)
+
+-- the first box is the root's, and spans all
+pub record SpansAll (total : ℕ) (boxes : List SpanBox) : Type 0 where
+  pub root : SpanBox
+  pub rest : List SpanBox
+  pub first : boxes ≡ root ∷ rest
+  pub depth : root.depth ≡ 0
+  pub start : root.start ≡ 0
+  pub weight : root.weight ≡ total
 
 pub chart-root : (s : Sample) (rest : List Sample) → SpansAll (total_weight (s ∷ rest)) (chart_of (s ∷ rest))
 chart-root s rest = by (length s.stack) (length s.stack + 1 - 0) (omega arith)

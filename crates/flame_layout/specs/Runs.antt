@@ -82,12 +82,3 @@ pub record LiesInside (samples : List Sample) (depth : ℕ) (before : List Sampl
 abbrev pub DontOverlap : List SpanBox → Type 0
 DontOverlap [] = ⊤
 DontOverlap (span ∷ rest) = AllByRecursion (λ other. span.depth ≡ other.depth → span.start + span.weight ≤ other.start) rest × DontOverlap rest
-
--- the first box is the root's, and spans all
-pub record SpansAll (total : ℕ) (boxes : List SpanBox) : Type 0 where
-  pub root : SpanBox
-  pub rest : List SpanBox
-  pub first : boxes ≡ root ∷ rest
-  pub depth : root.depth ≡ 0
-  pub start : root.start ≡ 0
-  pub weight : root.weight ≡ total

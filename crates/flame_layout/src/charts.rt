@@ -72,9 +72,9 @@ fn enter_list<'a>(
     Ok(start)
 }
 
-/// The boxes of the flame chart of the lists, one after another: for each longest run of
-/// neighbouring samples whose stacks begin with the same names one box, listed by start, then
-/// depth.
+/// The boxes of the flame chart of the lists, one after another. Samples of weight 0 are left out
+/// first, so that their neighbours meet; then there is one box for each longest run of neighbouring
+/// samples whose stacks begin with the same names. They are listed by start, then depth.
 pub fn chart_boxes(alloc: Global, lists: &[SourceList]) -> Result<Vec<SpanBox>, AllocError>
     requires { total_weight (timeline (samples_of lists.now)) < 2 ^ 64 }
     ensures chart { IfOk result (λ boxes.

@@ -204,7 +204,7 @@ fn compared_box(alloc: Global, row: &PairRow, start: u64) -> Result<ComparedBox,
     Ok(ComparedBox {
         span: SpanBox {
             depth: path.len() as u32,
-            name: Text::of(String::from_str(alloc, name)?),
+            name: Text::from_str(alloc, name)?,
             start,
             weight: row.total_after,
             own: row.own_after,

@@ -30,8 +30,6 @@ pub fn graph_boxes(
     ensures positive { IfOk result (λ boxes. 0 < length boxes.items
         → 0 < total_weight tree.now []) }
 {
-    // The names are distinct: the listing asks it, and a call of the table tells it.
-    let _count = table.len();
     let visits = tree.listing(table)?;
     visit_boxes(alloc, table, &visits)
 }
@@ -77,7 +75,7 @@ fn visit_box(
     };
     Ok(SpanBox {
         depth: visit.depth as u32,
-        name: Text::of(String::from_str(alloc, name)?),
+        name: Text::from_str(alloc, name)?,
         start,
         weight: visit.total as u64,
         own: visit.own as u64,

@@ -34,7 +34,7 @@ pub fn boxes_have_paths()
         → AllZip (HasPath samples) (chart_of samples) (paths_of samples) }
 {}
 
-/// The boxes are listed by start, then depth, so each stands there once.
+/// Where all weights are positive, the boxes are listed by start, then depth, so each stands there once.
 pub fn boxes_are_listed()
     ensures { (samples : List Sample) → All (λ sample. 0 < sample.weight) samples
         → IsListed (chart_of samples) }

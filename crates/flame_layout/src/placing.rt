@@ -43,6 +43,7 @@ fn placed_box(span: SpanBox, total: u64, width: Width) -> PlacedBox
     requires positive { 0 < total }
     ensures { result ≡ placed_at total width span }
 {
+    let (left, right) = edges(&span, total, width);
     let SpanBox {
         depth,
         name,
@@ -56,8 +57,8 @@ fn placed_box(span: SpanBox, total: u64, width: Width) -> PlacedBox
         start,
         weight,
         own,
-        left: edge(start, total, width),
-        right: edge(start + weight, total, width),
+        left,
+        right,
     }
 }
 

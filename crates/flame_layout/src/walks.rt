@@ -113,7 +113,7 @@ pub(crate) fn close<'a>(
 {
     'each: while runs.len() > keep {
         let Some(run) = runs.pop() else {
-            return Ok(());
+            unreachable!();
         };
         boxes.push(span(alloc, runs.len(), start, run)?)?;
     }
@@ -128,7 +128,7 @@ fn span(alloc: Global, depth: usize, start: u64, run: OpenRun<'_>) -> Result<Spa
     let OpenRun { name, end, own } = run;
     Ok(SpanBox {
         depth: depth as u32,
-        name: Text::of(String::from_str(alloc, name)?),
+        name: Text::from_str(alloc, name)?,
         start,
         weight: end - start,
         own,

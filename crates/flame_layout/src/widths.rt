@@ -29,7 +29,7 @@ impl Model for Width {
 impl Width {
     /// The width of that many pixels, or `None` for 0 and for more than 65,536.
     pub fn of(pixels: u32) -> Option<Width>
-        ensures { SomeIff result ((1 ≤ pixels) × (pixels ≤ MAX_WIDTH)) pixels }
+        ensures { SomeIff result ((1 ≤ pixels) × (pixels ≤ 65536)) pixels }
     {
         if pixels >= 1 && pixels <= MAX_WIDTH {
             Some(Width { pixels })
@@ -42,7 +42,7 @@ impl Width {
     pub fn get(self) -> u32
         ensures number { result ≡ self }
         ensures least { 1 ≤ result }
-        ensures most { result ≤ MAX_WIDTH }
+        ensures most { result ≤ 65536 }
     {
         self.pixels
     }

@@ -1,5 +1,5 @@
 -- What is collected of the input, where no gate stops it, is what its bytes stand for.
-use Rattle.std.proofs.Common.{◌≡◌, ℕ, List, [], ◌∷◌, ◌++◌, map, Option, Some, None, Result, Ok, Err, IfSome, IfErr, OnOk, take, ap, sym, ◌∙◌, subst, refl, Bool, true, false, ◌||◌, suc, length, arith}
+use Rattle.std.proofs.Common.{◌≡◌, ℕ, List, [], ◌∷◌, map, Option, Some, None, Result, Ok, Err, IfSome, IfErr, OnOk, take, ap, sym, ◌∙◌, subst, refl, true, false, ◌||◌, suc, length, arith}
 use Rattle.std.proofs.lemmas.Bool.{true≢false, false≢true}
 use Rattle.std.proofs.lemmas.List.{append-nil, length-map}
 use Rattle.std.proofs.Math.Bool.{or-false}
@@ -7,7 +7,6 @@ use Rattle.std.specs.List.{list_any}
 use Rattle.std.specs.Io.KnownBytes.{Appends, Keeps}
 use Rattle.stack_core.specs.Reading.{Rest}
 use Rattle.stack_core.specs.Ledgers.{ListState}
-use Rattle.stack_core.specs.declared.samples.Sample.{Sample}
 use Rattle.stack_core.specs.declared.endings.SourceEnd.{SourceEnd}
 use Rattle.stack_core.specs.declared.endings.SourceEnd.TheVariants as ends
 use Rattle.folded_lines.specs.Reading.{read_folded}
@@ -23,7 +22,6 @@ use Rattle.flame_tool.specs.declared.failures.Failure.{Failure}
 use Rattle.flame_tool.specs.declared.failures.Failure.TheVariants.{TooManyFiles, Unreadable, TooLarge, OutOfMemory, NoThread, Unfinished, Faults, Output}
 use Rattle.flame_tool.specs.declared.options.Options.{Options}
 use Rattle.flame_tool.specs.declared.plans.Plan.{Plan}
-use Rattle.flame_tool.specs.declared.plans.View.TheVariants.{Fold}
 use Rattle.flame_tool.specs.declared.sources.Source.{Source}
 use Rattle.flame_tool.proofs.FoldedEndings.{IsNotStopped, read_folded-ends}
 

@@ -29,4 +29,5 @@ pub mod VisitedLines
 mod WorkedFold
 mod WorkedLines
 mod WorkedRows
+mod WorkedSnapshots
 pub mod WorkedWords

@@ -1,5 +1,5 @@
 -- How a run ends, and what it leaves on its output.
-use Rattle.std.specs.Prelude.{◌≡◌, ℕ, ◌<◌, List, [], ◌∷◌, Bool, true, false, Option, take}
+use Rattle.std.specs.Prelude.{◌≡◌, ℕ, ◌<◌, List, [], Bool, true, false, Option, take}
 use Rattle.std.specs.List.{list_any}
 use Rattle.std.specs.Io.KnownBytes.{Appends, Keeps}
 use Rattle.stack_core.specs.Ledgers.{ListState}
@@ -14,8 +14,7 @@ use Rattle.flame_tool.specs.declared.failures.Failure.TheVariants.{TooManyFiles,
 use Rattle.flame_tool.specs.declared.loading.LoadFault.{LoadFault}
 use Rattle.flame_tool.specs.declared.loading.LoadFault.TheVariants as load
 use Rattle.flame_tool.specs.declared.plans.Plan.{Plan}
-use Rattle.flame_tool.specs.declared.plans.View.{View}
-use Rattle.flame_tool.specs.declared.plans.View.TheVariants.{Fold, Graph, Chart, Pairs, PairBoxes}
+use Rattle.flame_tool.specs.declared.plans.View.TheVariants.{Fold}
 
 -- all of the source was read
 abbrev pub IsClean : SourceEnd → Type 0

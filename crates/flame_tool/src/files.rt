@@ -75,11 +75,14 @@ impl Files for MemoryFiles {
         ensures input { Some (input_bytes self.new) ≡ Some (input_bytes self.old) }
         ensures unchanged { self.new ≡ self.old }
         ensures bytes { IfOk result (λ bytes.
-            IfSome (file_at (named_files self.old) path.now) (λ file. bytes.items ≡ file.bytes.items)) }
+            IfSome (file_at (named_files self.old) path.now) (λ file.
+            bytes.items ≡ file.bytes.items)) }
         ensures within { IfOk result (λ bytes. vec_len bytes ≤ byte_limit self.old) }
         ensures too_large { IsErrOf result LoadFault.TooLarge →
-            IfSome (file_at (named_files self.old) path.now) (λ file. byte_limit self.old < vec_len file.bytes) }
-        ensures absent { IsNone (file_at (named_files self.old) path.now) → result ≡ Err LoadFault.Io }
+            IfSome (file_at (named_files self.old) path.now) (λ file.
+            byte_limit self.old < vec_len file.bytes) }
+        ensures absent { IsNone (file_at (named_files self.old) path.now)
+            → result ≡ Err LoadFault.Io }
         ensures io { result ≡ Err LoadFault.Io → IsNone (file_at (named_files self.old) path.now) }
     {
         match first_at(self.named.as_slice(), path) {

@@ -28,8 +28,6 @@ pub fn append_fold_text(
         → out.new.items ≡ out.old.items ++ fold_text samples) }
     ensures err { OnErr result (out.new.items ≡ out.old.items) }
 {
-    // The names are distinct: the listing asks it, and a call of the table tells it.
-    let _count = table.len();
     let visits = tree.listing(table)?;
     append_listing(alloc, out, table, &visits)
 }

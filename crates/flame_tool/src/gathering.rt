@@ -54,7 +54,8 @@ impl Model for Gathered {
     } };
 
     ghost invariant = { λ g.
-        IsGathered g.lists.items g.order.items g.sink.every g.sink.names g.sink.tree g.sink.snapshots };
+        IsGathered g.lists.items g.order.items g.sink.every g.sink.names g.sink.tree
+        g.sink.snapshots };
 }
 
 impl Gathered {
@@ -111,7 +112,8 @@ impl Gathered {
     /// The merged samples of all lists.
     pub fn tree(&self) -> &CallTree
         ensures tree { result.now ≡ self.now.tree }
-        ensures sums { HasSumsOf self.now.names self.now.tree (all_samples (samples_of self.now.lists)) }
+        ensures sums { HasSumsOf self.now.names self.now.tree
+            (all_samples (samples_of self.now.lists)) }
         ensures drawable { IsDrawable self.now.names self.now.tree }
     {
         self.sink.tree()
@@ -121,8 +123,10 @@ impl Gathered {
     pub fn snapshots(&self) -> &[Snapshot]
         ensures snapshots { result.now ≡ self.now.snapshots }
         ensures made { AreSnapshots self.now.every self.now.names self.now.order
-            (λ m. snapshot_samples m self.now.order (samples_of self.now.lists)) self.now.snapshots }
-        ensures drawable { All (λ snapshot. IsDrawable self.now.names snapshot.tree) self.now.snapshots }
+            (λ m. snapshot_samples m self.now.order (samples_of self.now.lists))
+            self.now.snapshots }
+        ensures drawable { All (λ snapshot.
+            IsDrawable self.now.names snapshot.tree) self.now.snapshots }
     {
         self.sink.snapshots()
     }
@@ -194,6 +198,7 @@ pub fn gather<T: Threads + Wait + Copy + Send + 'static, G: Gate + Send + Sync +
     ensures snapshots { IfOk result (λ gathered.
         AreSnapshots options.now.every gathered.names gathered.order
         (λ m. snapshot_samples m gathered.order (samples_of gathered.lists)) gathered.snapshots) }
+    ensures every { IfOk result (λ gathered. gathered.every ≡ options.now.every) }
 
     ensures refused { (source : ℕ) → IsErrOf result (CollectFault.Unfinished source)
         → source < length sources.items }

@@ -68,7 +68,8 @@ pub fn append_pair_boxes_line(
     total: u64,
     width: Width,
 ) -> Result<(), AllocError>
-    requires within { All (λ compared. compared.span.start + compared.span.weight ≤ total) boxes.now }
+    requires within { All (λ compared.
+        compared.span.start + compared.span.weight ≤ total) boxes.now }
     requires positive { 0 < length boxes.now → 0 < total }
     ensures ok { OnOk result
         (out.new.items ≡ out.old.items ++ pair_boxes_line before total width boxes.now) }

@@ -40,7 +40,8 @@ pub fn load<R: Inlet>(alloc: Global, reader: &mut R, limit: usize) -> Result<Vec
         IfSome (R.remaining reader.old) (λ had. limit < length had) }
 
     // `Io` comes only where a call of the reader failed, and no call failed otherwise.
-    ensures io { IsErrOf result LoadFault.Io → R.failures reader.new ≡ one_more (R.failures reader.old) }
+    ensures io { IsErrOf result LoadFault.Io
+        → R.failures reader.new ≡ one_more (R.failures reader.old) }
     ensures unfailed { result ≢ Err LoadFault.Io → R.failures reader.new ≡ R.failures reader.old }
 {
     let mut buffer = zeros(alloc, CHUNK)?;
@@ -68,7 +69,8 @@ fn load_through<R: Inlet>(
     ensures end { OnOk result (IsAtEnd (R.remaining reader.new)) }
     ensures too_large { IsErrOf result LoadFault.TooLarge →
         IfSome (R.remaining reader.old) (λ had. limit < length had) }
-    ensures io { IsErrOf result LoadFault.Io → R.failures reader.new ≡ one_more (R.failures reader.old) }
+    ensures io { IsErrOf result LoadFault.Io
+        → R.failures reader.new ≡ one_more (R.failures reader.old) }
     ensures unfailed { result ≢ Err LoadFault.Io → R.failures reader.new ≡ R.failures reader.old }
 {
     let mut bytes = Vec::new(alloc);
@@ -95,7 +97,8 @@ fn load_chunk<R: Inlet>(
     ensures end { result ≡ Ok false → IsAtEnd (R.remaining reader.new) }
     ensures too_large { IsErrOf result LoadFault.TooLarge →
         IfSome (R.remaining reader.old) (λ had. limit < vec_len bytes.old + length had) }
-    ensures io { IsErrOf result LoadFault.Io → R.failures reader.new ≡ one_more (R.failures reader.old) }
+    ensures io { IsErrOf result LoadFault.Io
+        → R.failures reader.new ≡ one_more (R.failures reader.old) }
     ensures unfailed { result ≢ Err LoadFault.Io → R.failures reader.new ≡ R.failures reader.old }
 {
     let count = match reader.read(chunk) {

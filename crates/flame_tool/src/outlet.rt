@@ -1,5 +1,5 @@
 //! Where bytes go out: the trait, and a wrapper of any of std's writers.
-ghost use Rattle.std.specs.Prelude.{◌≡◌, ℕ, List, Option, OnOk, IsTrue};
+ghost use Rattle.std.specs.Prelude.{◌≡◌, ℕ, List, Option, OnOk, IsTrue, false};
 ghost use Rattle.std.specs.Io.{WritesAtMost};
 ghost use Rattle.std.specs.Io.KnownBytes.{Keeps, WriteAppends};
 ghost use Rattle.flame_tool.specs.Calls.{CountsWrite, CountsFlush};
@@ -48,6 +48,7 @@ impl<W> CountedWriter<W> {
     pub fn new(writer: W) -> CountedWriter<W>
         ensures inner { inner_writer result ≡ writer }
         ensures count { failed_writes result ≡ 0 }
+        ensures unflushed { was_flushed result ≡ false }
     {
         CountedWriter {
             writer,
@@ -83,7 +84,14 @@ impl<W: Write> Outlet for CountedWriter<W> {
 
     ghost is_flushed = { λ s. IsTrue (was_flushed s) };
 
-    fn write(&mut self, bytes: &[u8]) -> io::Result<usize> {
+    fn write(&mut self, bytes: &[u8]) -> io::Result<usize>
+        ensures bound { WritesAtMost result bytes.now }
+        ensures bytes { WriteAppends (W.contents (inner_writer self.old))
+            (W.contents (inner_writer self.new)) result bytes.now }
+        ensures count { CountsWrite (failed_writes self.old) (failed_writes self.new)
+            result bytes.now }
+        ensures unflushed { was_flushed self.new ≡ false }
+    {
         let answer = write_uninterrupted(&mut self.writer, bytes);
         let failed = match &answer {
             Ok(count) => *count == 0 && !bytes.is_empty(),

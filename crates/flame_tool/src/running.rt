@@ -24,10 +24,10 @@ use std::sync::{Arc, Wait};
 use std::thread::Threads;
 
 /// Runs the program with the words after its name, and answers its exit status: 0 where it wrote what was
-/// asked for, 1 where a source has a fault, 2 where the words are refused, and 3 where a source can't be
-/// read, there is no memory or no thread, or the output fails. Without words it writes the fold text of the
-/// input, which is folded text. Messages go to `err`, a line each, and a failure to write them changes
-/// nothing.
+/// asked for, 1 where a source has a fault, 2 where the words are refused or there are more than 64 files,
+/// and 3 where a source can't be read, there is no memory or no thread, or the output fails. Without words
+/// it writes the fold text of the input, which is folded text. Messages go to `err`, a line each, and a
+/// failure to write them changes nothing.
 pub fn run<T: Threads + Wait + Copy + Send + 'static, F: Files, W: Outlet, E: Outlet>(
     rt: &T,
     alloc: Global,
@@ -45,7 +45,8 @@ pub fn run<T: Threads + Wait + Copy + Send + 'static, F: Files, W: Outlet, E: Ou
     ensures text { vec_len words ≡ 0 → result ≡ 0 → IfSome (F.told_input files.old) (λ input.
         Appends (W.contents out.old) (W.contents out.new) (text_of input)) }
 
-    // 1 is a fault of a source, and 2 are words that are refused: nothing is written.
+    // 1 is a fault of a source, and 2 are words that are refused or more than 64 files: nothing is
+    // written.
     ensures fault { vec_len words ≡ 0 → result ≡ 1 → IfSome (F.told_input files.old) (λ input.
         IsFault (read_folded input).ending) }
     ensures unwritten { result ≡ 1 → Keeps (W.contents out.old) (W.contents out.new) }

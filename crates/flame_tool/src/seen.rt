@@ -115,7 +115,8 @@ impl Views {
     /// The merged samples of all lists, under the numbers of the table.
     pub fn tree(&self) -> &CallTree
         ensures tree { result.now ≡ self.now.tree }
-        ensures sums { HasSumsOf self.now.names self.now.tree (all_samples (samples_of self.now.lists)) }
+        ensures sums { HasSumsOf self.now.names self.now.tree
+            (all_samples (samples_of self.now.lists)) }
         ensures drawable { IsDrawable self.now.names self.now.tree }
     {
         self.gathered.tree()
@@ -141,8 +142,10 @@ impl Views {
     pub fn snapshots(&self) -> &[Snapshot]
         ensures snapshots { result.now ≡ self.now.snapshots }
         ensures made { AreSnapshots self.now.every self.now.names self.now.order
-            (λ m. snapshot_samples m self.now.order (samples_of self.now.lists)) self.now.snapshots }
-        ensures drawable { All (λ snapshot. IsDrawable self.now.names snapshot.tree) self.now.snapshots }
+            (λ m. snapshot_samples m self.now.order (samples_of self.now.lists))
+            self.now.snapshots }
+        ensures drawable { All (λ snapshot.
+            IsDrawable self.now.names snapshot.tree) self.now.snapshots }
     {
         self.gathered.snapshots()
     }

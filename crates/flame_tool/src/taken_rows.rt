@@ -3,6 +3,7 @@
 
 ghost use Rattle.std.specs.Prelude.{◌≡◌, ◌++◌, ◌∷◌, [], OnOk, map, string_bytes};
 ghost use Rattle.call_tree.specs.FrameTable.{HasDistinctNames};
+ghost use Rattle.ring_collect.specs.NamesInOrder.{with_stack};
 ghost use Rattle.ring_collect.specs.Telling.{GrowsTo};
 ghost use Rattle.flame_tool.specs.Merging.{IsRowFor};
 ghost use Rattle.flame_tool.specs.TakenRows.{AreNumbersOf, row_of, rows_of};
@@ -43,6 +44,8 @@ impl NumberedSample {
         ensures row { OnOk result (IsRowFor table.new source (map string_bytes stack.now) weight
             (row_of self.new)) }
         ensures grows { GrowsTo table.old table.new }
+        ensures in_order { OnOk result
+            (table.new ≡ with_stack table.old (map string_bytes stack.now)) }
         ensures distinct { HasDistinctNames table.new }
     {
         number_names(table, &mut self.numbers, stack)?;
@@ -84,6 +87,8 @@ fn number_names(
     ensures numbers { OnOk result
         (AreNumbersOf (map string_bytes names.now) table.new numbers.new.items) }
     ensures grows { GrowsTo table.old table.new }
+    ensures in_order { OnOk result
+        (table.new ≡ with_stack table.old (map string_bytes names.now)) }
     ensures distinct { HasDistinctNames table.new }
 {
     numbers.clear();

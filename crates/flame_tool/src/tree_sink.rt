@@ -5,6 +5,7 @@ ghost use Rattle.std.specs.Prelude.{◌≡◌, ◌≤◌, ◌<◌, ◌++◌, ◌
 ghost use Rattle.std.specs.Option.{option_to_list};
 ghost use Rattle.stack_core.specs.Interleaving.{sources_of};
 ghost use Rattle.call_tree.specs.FrameTable.{HasDistinctNames};
+ghost use Rattle.ring_collect.specs.NamesInOrder.{with_stack};
 ghost use Rattle.ring_collect.specs.Telling.{GrowsTo};
 ghost use Rattle.flame_tool.specs.Snapshots.{samples_of_pairs, first_samples, AreSnapshots};
 ghost use Rattle.flame_tool.specs.Sums.{HasSumsOf};
@@ -75,7 +76,8 @@ impl TreeSink {
         })
     }
 
-    /// The names of all samples that were taken.
+    /// The names of all samples that were taken, in the order in which they first came. After a refusal
+    /// it may have more.
     pub fn table(&self) -> &FrameTable
         ensures names { result.now ≡ self.now.names }
         ensures distinct { HasDistinctNames self.now.names }
@@ -116,6 +118,8 @@ impl Sink for TreeSink {
         ensures tree { OnErr result (self.new.tree ≡ self.old.tree) }
         ensures snapshots { OnErr result (self.new.snapshots ≡ self.old.snapshots) }
         ensures names { GrowsTo self.old.names self.new.names }
+        ensures in_order { OnOk result
+            (self.new.names ≡ with_stack self.old.names sample.now.stack) }
         ensures every { self.new.every ≡ self.old.every }
         ensures setting { option_to_list self.new.every ≡ option_to_list self.old.every }
     {

@@ -59,6 +59,7 @@ pub fn views<T: Threads + Wait + Copy + Send + 'static, G: Gate + Send + Sync + 
     ensures snapshots { IfOk result (λ views.
         AreSnapshots options.now.every views.names views.order
         (λ m. snapshot_samples m views.order (samples_of views.lists)) views.snapshots) }
+    ensures every { IfOk result (λ views. views.every ≡ options.now.every) }
 
     ensures refused { (source : ℕ) → IsErrOf result (CollectFault.Unfinished source)
         → source < length sources.items }

@@ -1,6 +1,7 @@
 pub mod BackLemmas
 pub mod ColumnLemmas
 pub mod Computing
+pub mod Cuts
 pub mod DecimalLemmas
 pub mod JoinLemmas
 pub mod LimitLemmas

@@ -11,7 +11,7 @@ use Rattle.std.proofs.lemmas.Str.{encodes-append, encode_ascii, inside_one}
 use Rattle.bstr.specs.Utf8.{Decoded, decoded, good, pieces, second, continues, code_of_3, code_of_4, or_replacement, lossy_chars}
 use Rattle.bstr.proofs.lemmas.PieceLemmas.{pieces-append, lossy_chars-step, lossy_chars-nil, by-shape, value-1, piece-bounds}
 use Rattle.folded_lines.specs.Lines.{is_semicolon, lossy_text}
-use Rattle.folded_lines.specs.Cutting.{names_between}
+use Rattle.folded_lines.proofs.Cuts.{names_between}
 use lib.Utf8.{encode}
 
 semicolon_first : (ys : List ℕ) → lossy_text (59 ∷ ys) ≡ 59 ∷ lossy_text ys

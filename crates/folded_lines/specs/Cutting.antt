@@ -1,9 +1,7 @@
 -- A head as it is cut: its trailing ';' go first, and each of what they separate is a name.
-use Rattle.std.specs.Prelude.{ℕ, ◌+◌, nat_lt, if◌then◌else◌, List, [], ◌∷◌, length, map, Option, Some, None}
-use Rattle.std.specs.Borrow.{Bor}
-use Rattle.std.specs.List.{slice_split}
+use Rattle.std.specs.Prelude.{ℕ, nat_lt, if◌then◌else◌, List, [], ◌∷◌, length, Option, Some, None}
 use Rattle.stack_core.specs.declared.samples.TheConstants.{FRAME_LIMIT}
-use Rattle.folded_lines.specs.Lines.{is_semicolon, lossy_text}
+use Rattle.folded_lines.specs.Lines.{is_semicolon}
 
 -- a byte in front of the bytes that are kept: none is dropped but a ';' at the end
 abbrev pub onto_trimmed : ℕ → List ℕ → List ℕ
@@ -14,20 +12,6 @@ abbrev pub without_trailing_semicolons : List ℕ → List ℕ
 without_trailing_semicolons [] = []
 without_trailing_semicolons (b ∷ bytes) = onto_trimmed b (without_trailing_semicolons bytes)
 
--- the names that the bytes separate
-abbrev pub names_between : List ℕ → List (List ℕ)
-names_between head = map lossy_text (slice_split is_semicolon head)
-
 -- the names, unless there are too many
 abbrev pub if_few : List (List ℕ) → Option (List (List ℕ))
 if_few names = if nat_lt FRAME_LIMIT (length names) then None else Some names
-
--- the names of what is left
-abbrev pub names_left : Option (Bor (List ℕ)) → List (List ℕ)
-names_left None = []
-names_left (Some rest) = slice_split is_semicolon rest.now
-
--- how many bytes are left, and one more where a name is left
-abbrev pub bytes_left : Option (Bor (List ℕ)) → ℕ
-bytes_left None = 0
-bytes_left (Some rest) = length rest.now + 1

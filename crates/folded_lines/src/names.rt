@@ -24,7 +24,8 @@ fn without_trailing_semicolons(head: &[u8]) -> &[u8]
 fn first_name(text: &str) -> (&str, Option<&str>)
     ensures split { MatchOption result.1
         (slice_split is_semicolon text.now ≡ result.0.now ∷ [])
-        (λ rest. slice_split is_semicolon text.now ≡ result.0.now ∷ slice_split is_semicolon rest.now) }
+        (λ rest. slice_split is_semicolon text.now
+        ≡ result.0.now ∷ slice_split is_semicolon rest.now) }
     ensures shorter { IfSome result.1 (λ rest. length rest.now < length text.now) }
 {
     match memchr(b';', text.as_bytes()) {

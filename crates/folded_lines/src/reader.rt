@@ -13,7 +13,7 @@ use std::marker::Model;
 /// Reads the samples of folded text: names joined by `;`, root first, a space or tab and a count, a sample
 /// a line, as the FlameGraph tools write it. Lines without a count are ignored and counted. The first fault
 /// ends the source, and its `at` is the number of its line, from 1. Contracts see what the reader still has
-/// to give, and whether it has answered the ending.
+/// to give, and whether it has come to the ending: compressed bytes are at it from the start.
 #[derive(Debug, Drop)]
 pub struct FoldedReader {
     bytes: Vec<u8>,

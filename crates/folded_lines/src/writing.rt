@@ -37,7 +37,8 @@ pub fn append_line(
     stack: &[String],
     weight: u64,
 ) -> Result<(), AllocError>
-    ensures ok { OnOk result (out.new.items ≡ out.old.items ++ line_of (map string_bytes stack.now) weight) }
+    ensures ok { OnOk result (out.new.items
+        ≡ out.old.items ++ line_of (map string_bytes stack.now) weight) }
     ensures refused { OnErr result (out.new.items ≡ out.old.items) }
 {
     let mut line = joined(alloc, stack)?;
@@ -54,7 +55,8 @@ pub fn append_pair_line(
     before: u64,
     after: u64,
 ) -> Result<(), AllocError>
-    ensures ok { OnOk result (out.new.items ≡ out.old.items ++ pair_line_of (map string_bytes stack.now) before after) }
+    ensures ok { OnOk result (out.new.items
+        ≡ out.old.items ++ pair_line_of (map string_bytes stack.now) before after) }
     ensures refused { OnErr result (out.new.items ≡ out.old.items) }
 {
     let mut line = joined(alloc, stack)?;

@@ -19,8 +19,6 @@ fn add_sample(tree: &mut CallTree, list: &SourceList, at: usize) -> Result<(), A
     if tree.total(&[]) > u128::from(u64::MAX) {
         return Ok(());
     }
-    // How many numbers there are is told by the depth.
-    let _depth = list.depth(at);
     tree.add(list.frames(at), list.weight(at))?;
     Ok(())
 }

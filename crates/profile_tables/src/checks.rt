@@ -16,7 +16,8 @@ use wire_fields::{FieldValue, Fields};
 
 /// The first fault of the string indexes of a profile.
 pub(crate) fn string_fault(entries: &Entries<'_>) -> Option<ReadFault>
-    ensures { (file : List ℕ) → AreEntriesOf file entries.now → result ≡ first (string_faults file) }
+    ensures { (file : List ℕ) → AreEntriesOf file entries.now
+        → result ≡ first (string_faults file) }
 {
     let count = entries.strings.len();
     if let Some(fault) = table_fault(count, 1, 2, &entries.sample_types) {
@@ -30,7 +31,8 @@ pub(crate) fn string_fault(entries: &Entries<'_>) -> Option<ReadFault>
 
 /// The fault of a location with a line of an unknown function.
 fn location_fault(functions: &Index, location: Content<'_>) -> Option<ReadFault>
-    ensures { result ≡ first (location_faults (known_in functions.now) (seen_content location.entry)) }
+    ensures { result ≡ first
+        (location_faults (known_in functions.now) (seen_content location.entry)) }
 {
     let mut fields = Fields::over(location.bytes);
     while let Some(field) = next_field(&mut fields) {
@@ -52,7 +54,8 @@ fn location_fault(functions: &Index, location: Content<'_>) -> Option<ReadFault>
 
 /// The first fault of the lines of a profile.
 pub(crate) fn function_fault(functions: &Index, locations: &[Content<'_>]) -> Option<ReadFault>
-    ensures { result ≡ first (all_location_faults (known_in functions.now) (seen_table locations.now)) }
+    ensures { result ≡ first
+        (all_location_faults (known_in functions.now) (seen_table locations.now)) }
 {
     for location in locations {
         if let Some(fault) = location_fault(functions, *location) {

@@ -75,7 +75,8 @@ pub(crate) fn function_names(
 ) -> Result<FunctionNames, AllocError>
     ensures { IfOk result (λ named.
         map (slice_get (map string_bytes named.names.items)) named.places.items
-        ≡ map (λ function. Some (name_of_function (texts_of strings.now) function)) (seen_table functions.now)) }
+        ≡ map (λ function. Some (name_of_function (texts_of strings.now) function))
+        (seen_table functions.now)) }
 {
     let mut made = MadeNames {
         names: Vec::new(alloc),

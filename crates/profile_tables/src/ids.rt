@@ -34,7 +34,9 @@ impl Index {
 
     /// Gives an id a place.
     fn insert(&mut self, id: u64, place: usize) -> Result<(), AllocError>
-        ensures { IfOk result (λ _. (other : ℕ) → place_in self.new other ≡ (if id == other then Some place else place_in self.old other)) }
+        ensures { IfOk result (λ _. (other : ℕ)
+            → place_in self.new other
+            ≡ (if id == other then Some place else place_in self.old other)) }
     {
         if id < self.near.len() as u64 {
             self.near[id as usize] = Some(place);

@@ -17,7 +17,8 @@ use wire_fields::{FieldValue, Fields};
 fn frame_of(functions: &Index, names: &[usize], address: u64, line: Content<'_>) -> Frame
     ensures { (naming : Naming) (texts : List (List ℕ)) →
         text_of texts naming result
-        ≡ frame_named (name_in functions.now names.now texts) naming address (seen_content line.entry) }
+        ≡ frame_named (name_in functions.now names.now texts) naming address
+        (seen_content line.entry) }
 {
     let id = scalar(line.bytes, 1);
     if id == 0 {
@@ -43,7 +44,8 @@ fn append_frames(
     ensures { IfOk result (λ _. (naming : Naming) (texts : List (List ℕ)) →
         map (text_of texts naming) all.new.items
         ≡ map (text_of texts naming) all.old.items
-        ++ lines_named (name_in functions.now names.now texts) naming (seen_content location.entry)) }
+        ++ lines_named (name_in functions.now names.now texts) naming
+        (seen_content location.entry)) }
 {
     let address = scalar(location.bytes, 3);
     let before = all.len();
@@ -72,7 +74,8 @@ pub(crate) fn frames_of(
     locations: Index,
 ) -> Result<Frames, AllocError>
     requires { IsIndexOf (seen_table table.now) locations }
-    ensures frames { IfOk result (AreFramesOf (named_in functions.now named) naming (seen_table table.now)) }
+    ensures frames { IfOk result
+        (AreFramesOf (named_in functions.now named) naming (seen_table table.now)) }
     ensures whole { IfOk result IsWhole }
 {
     let FunctionNames { names, places } = named;

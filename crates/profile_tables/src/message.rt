@@ -16,7 +16,8 @@ pub(crate) struct Content<'a> {
 
 /// The next field, and None behind the last one or at a fault.
 pub(crate) fn next_field<'a>(fields: &mut Fields<'a>) -> Option<Field<'a>>
-    ensures { MatchOption result (fields.old.items ≡ []) (λ field. fields.old.items ≡ seen_field field ∷ fields.new.items) }
+    ensures { MatchOption result (fields.old.items ≡ []) (λ field.
+        fields.old.items ≡ seen_field field ∷ fields.new.items) }
 {
     match fields.next() {
         Ok(Some(field)) => Some(field),

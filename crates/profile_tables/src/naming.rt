@@ -46,7 +46,8 @@ pub(crate) fn address_frame(alloc: Global, address: u64) -> Result<String, Alloc
 
 /// Appends the line, seen as its 64 bits, where lines are asked for and it is above 0.
 pub(crate) fn append_line(text: &mut String, naming: Naming, line: u64) -> Result<(), AllocError>
-    ensures { IfOk result (λ _. string_bytes text.new ≡ string_bytes text.old ++ line_suffix naming line) }
+    ensures { IfOk result (λ _.
+        string_bytes text.new ≡ string_bytes text.old ++ line_suffix naming line) }
 {
     match naming {
         Naming::Lines if 0 < line && line < 1 << 63 => write!(text, ":{line}"),

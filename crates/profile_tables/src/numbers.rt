@@ -40,7 +40,8 @@ fn append_numbers(
     numbers: &mut Vec<u64>,
     value: FieldValue<'_>,
 ) -> Result<Option<ReadKind>, AllocError>
-    ensures { IfOk result (IsGathered (seen_value value.entry) numbers.old.items numbers.new.items) }
+    ensures { IfOk result
+        (IsGathered (seen_value value.entry) numbers.old.items numbers.new.items) }
 {
     match value {
         FieldValue::Varint(number) => {

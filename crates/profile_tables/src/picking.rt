@@ -15,7 +15,8 @@ use std::alloc::{AllocError, Global};
 
 /// For each string whether it is this name. Each is compared once, however many sample types name it.
 fn matches_of(alloc: Global, strings: &[Content<'_>], name: &[u8]) -> Result<Vec<bool>, AllocError>
-    ensures { IfOk result (λ matches. matches.items ≡ map (λ string. bytes_eq string name.now) (texts_of strings.now)) }
+    ensures { IfOk result (λ matches.
+        matches.items ≡ map (λ string. bytes_eq string name.now) (texts_of strings.now)) }
 {
     let mut matches = Vec::with_capacity(alloc, strings.len())?;
     for string in strings {
@@ -83,7 +84,8 @@ pub(crate) fn type_fault(
     chosen: Option<usize>,
 ) -> Option<ReadFault>
     requires { AreEntriesOf file.now entries.now }
-    ensures { (pick : Pick) → chosen ≡ value_chosen file.now pick → result ≡ first (type_faults file.now pick) }
+    ensures { (pick : Pick) → chosen ≡ value_chosen file.now pick
+        → result ≡ first (type_faults file.now pick) }
 {
     let at = file.len() as u64;
     if entries.samples.is_empty() {

@@ -82,7 +82,8 @@ pub(crate) fn plan_of(
     ensures faultless { IfOk result (λ _. first (file_faults file.now pick.now) ≡ None) }
     ensures tables { IfOk result (λ plan. seen_plan plan ≡ tables_of file.now pick.now naming) }
     ensures whole { IfOk result (λ plan. IsWhole plan.frames) }
-    ensures samples { IfOk result (λ plan. plan.samples.items ≡ map place_of (samples_of file.now)) }
+    ensures samples { IfOk result (λ plan.
+        plan.samples.items ≡ map place_of (samples_of file.now)) }
     ensures fault { IfErr result (IsFirstOf (file_faults file.now pick.now)) }
 {
     if let Some(fault) = early_fault(file) {

@@ -48,7 +48,8 @@ impl PprofReader {
     pub fn over(bytes: Vec<u8>, pick: Pick, naming: Naming) -> Self
         ensures rest { result.rest ≡ read_pprof bytes.items pick naming }
         ensures limits { IsSourceLimited (read_pprof bytes.items pick naming).samples }
-        ensures unstopped { (after : ℕ) → (read_pprof bytes.items pick naming).ending ≢ Stopped after }
+        ensures unstopped { (after : ℕ)
+            → (read_pprof bytes.items pick naming).ending ≢ Stopped after }
     {
         PprofReader {
             bytes,

@@ -30,7 +30,8 @@ pub(crate) fn stack_of(
     ids: &[u64],
     depth: usize,
 ) -> Result<Vec<String>, AllocError>
-    ensures { IfOk result (λ stack. map string_bytes stack.items ≡ stack_of_ids (frames_at frames.now) ids.now) }
+    ensures { IfOk result (λ stack.
+        map string_bytes stack.items ≡ stack_of_ids (frames_at frames.now) ids.now) }
 {
     let mut stack = Vec::with_capacity(alloc, depth)?;
     let mut left = ids;

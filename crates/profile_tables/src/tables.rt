@@ -37,7 +37,8 @@ impl Tables {
         naming: Naming,
     ) -> Result<Tables, TableFault>
         ensures faultless { IfOk result (λ _. first (file_faults bytes.now pick.now) ≡ None) }
-        ensures tables { IfOk result (λ tables. seen_tables tables ≡ tables_of bytes.now pick.now naming) }
+        ensures tables { IfOk result (λ tables.
+            seen_tables tables ≡ tables_of bytes.now pick.now naming) }
         ensures fault { IfErr result (IsFirstOf (file_faults bytes.now pick.now)) }
     {
         let plan = plan_of(alloc, bytes, pick, naming)?;

@@ -58,7 +58,8 @@ fn lists_of(alloc: Global, ledgers: Vec<Ledger>) -> Option<Vec<SourceList>>
 
 /// The list that a ledger hands out. `None` where it was closed for want of memory.
 fn list_of_ledger(ledger: Ledger) -> Option<SourceList>
-    ensures list { IfSome result (λ list. (list.samples ≡ ledger.samples) × (ledger.close ≡ Some (Close.Read list.ending))) }
+    ensures list { IfSome result (λ list. (list.samples ≡ ledger.samples)
+        × (ledger.close ≡ Some (Close.Read list.ending))) }
     ensures names { IfSome result (λ list. list.told ≡ ledger.told) }
     ensures read { IsRead ledger.close → IsSome result }
 {
@@ -101,11 +102,16 @@ fn run_sources<
     requires room { length readers.items ≤ vec_capacity all }
     requires room_for_ledgers { length readers.items ≤ vec_capacity ledgers.old }
     requires nothing { (all.items ≡ []) × (order.old.items ≡ []) × (ledgers.old.items ≡ []) }
-    ensures gains { IfNone result.unfinished (GainsFirst (map R.rest readers.items) (S.taken sink.old) (S.taken sink.new)) }
-    ensures popped { IfNone result.unfinished (GainsAllowed (G.may_go (arc_value gate.now)) (S.taken sink.old) (S.taken sink.new)) }
+    ensures gains { IfNone result.unfinished
+        (GainsFirst (map R.rest readers.items) (S.taken sink.old) (S.taken sink.new)) }
+    ensures popped { IfNone result.unfinished
+        (GainsAllowed (G.may_go (arc_value gate.now)) (S.taken sink.old) (S.taken sink.new)) }
     ensures whole { IfNone result.unfinished (result.refused ≡ false → result.no_thread ≡ false
-        → RunsWhole (G.may_stop (arc_value gate.now)) (G.may_go (arc_value gate.now)) (map R.rest readers.items) ledgers.new.items order.new.items (S.taken sink.old) (S.taken sink.new)) }
-    ensures unfinished { IfSome result.unfinished (λ source. Unfinishes (length readers.items) source (S.taken sink.old) (S.taken sink.new)) }
+        → RunsWhole (G.may_stop (arc_value gate.now)) (G.may_go (arc_value gate.now))
+        (map R.rest readers.items) ledgers.new.items order.new.items (S.taken sink.old)
+        (S.taken sink.new)) }
+    ensures unfinished { IfSome result.unfinished (λ source.
+        Unfinishes (length readers.items) source (S.taken sink.old) (S.taken sink.new)) }
     ensures setting { S.setting sink.new ≡ S.setting sink.old }
 {
     let mut all = all;
@@ -140,10 +146,13 @@ fn answer(
     ledgers: Vec<Ledger>,
     order: Vec<u32>,
 ) -> Result<Collected, CollectFault>
-    ensures ok { IfOk result (λ run. (ran.unfinished ≡ None) × (ran.refused ≡ false) × (ran.no_thread ≡ false)
+    ensures ok { IfOk result (λ run. (ran.unfinished ≡ None) × (ran.refused ≡ false)
+        × (ran.no_thread ≡ false)
         × (run.order.items ≡ order.items) × AreListsOf ledgers.items run.lists.items) }
-    ensures refused { IsErrOf result CollectFault.OutOfMemory ⊎ IsErrOf result CollectFault.NoThread → ran.unfinished ≡ None }
-    ensures unfinished { (source : ℕ) → IsErrOf result (CollectFault.Unfinished source) → ran.unfinished ≡ Some source }
+    ensures refused { IsErrOf result CollectFault.OutOfMemory ⊎ IsErrOf result CollectFault.NoThread
+        → ran.unfinished ≡ None }
+    ensures unfinished { (source : ℕ) → IsErrOf result (CollectFault.Unfinished source)
+        → ran.unfinished ≡ Some source }
 {
     if let Some(source) = ran.unfinished {
         return Err(CollectFault::Unfinished { source });
@@ -181,23 +190,35 @@ pub fn collect<
     requires { length readers.items ≤ 64 }
 
     // One list for each reader: its whole rest, or its first samples where the gate stopped it.
-    ensures lists { IfOk result (λ run. Collects (G.may_stop (arc_value gate)) (G.may_go (arc_value gate)) (map R.rest readers.items) run.lists.items) }
-    ensures whole { ((source index : ℕ) → G.may_stop (arc_value gate) source index → ⊥) → IfOk result (λ run. AreWhole (map R.rest readers.items) run.lists.items) }
+    ensures lists { IfOk result (λ run.
+        Collects (G.may_stop (arc_value gate)) (G.may_go (arc_value gate))
+        (map R.rest readers.items) run.lists.items) }
+    ensures whole { ((source index : ℕ) → G.may_stop (arc_value gate) source index → ⊥)
+        → IfOk result (λ run. AreWhole (map R.rest readers.items) run.lists.items) }
 
     // Each list was told exactly the names of its samples, in the order in which they first appear: none twice.
-    ensures told { IfOk result (λ run. All (λ list. list.told ≡ names_in_order list.samples) run.lists.items) }
-    ensures distinct { IfOk result (λ run. All (λ list. HasDistinctNames list.told) run.lists.items) }
+    ensures told { IfOk result (λ run.
+        All (λ list. list.told ≡ names_in_order list.samples) run.lists.items) }
+    ensures distinct { IfOk result (λ run.
+        All (λ list. HasDistinctNames list.told) run.lists.items) }
 
     // The sink gained exactly the lists' samples, in the order of arrival.
-    ensures order { IfOk result (λ run. IsInterleaving run.order.items (map (λ list. list.samples) run.lists.items)) }
-    ensures sink { IfOk result (λ run. S.taken sink.new ≡ S.taken sink.old ++ interleaved run.order.items (map (λ list. list.samples) run.lists.items)) }
-    ensures by_source { IfOk result (λ run. AreOf (interleaved run.order.items (map (λ list. list.samples) run.lists.items)) (map (λ list. list.samples) run.lists.items)) }
+    ensures order { IfOk result (λ run.
+        IsInterleaving run.order.items (map (λ list. list.samples) run.lists.items)) }
+    ensures sink { IfOk result (λ run.
+        S.taken sink.new ≡ S.taken sink.old ++ interleaved run.order.items
+        (map (λ list. list.samples) run.lists.items)) }
+    ensures by_source { IfOk result (λ run.
+        AreOf (interleaved run.order.items (map (λ list. list.samples) run.lists.items))
+        (map (λ list. list.samples) run.lists.items)) }
 
     // What a refusal leaves in the sink: of each source a beginning, at each sample of which the gate may go.
-    ensures refused { IsErrOf result CollectFault.OutOfMemory ⊎ IsErrOf result CollectFault.NoThread → GainsFirst (map R.rest readers.items) (S.taken sink.old) (S.taken sink.new) }
+    ensures refused { IsErrOf result CollectFault.OutOfMemory ⊎ IsErrOf result CollectFault.NoThread
+        → GainsFirst (map R.rest readers.items) (S.taken sink.old) (S.taken sink.new) }
     ensures popped { IsErrOf result CollectFault.OutOfMemory ⊎ IsErrOf result CollectFault.NoThread
         → GainsAllowed (G.may_go (arc_value gate)) (S.taken sink.old) (S.taken sink.new) }
-    ensures unfinished { (source : ℕ) → IsErrOf result (CollectFault.Unfinished source) → Unfinishes (length readers.items) source (S.taken sink.old) (S.taken sink.new) }
+    ensures unfinished { (source : ℕ) → IsErrOf result (CollectFault.Unfinished source)
+        → Unfinishes (length readers.items) source (S.taken sink.old) (S.taken sink.new) }
     ensures setting { S.setting sink.new ≡ S.setting sink.old }
 {
     let count = readers.len();

@@ -27,9 +27,11 @@ fn look_into<S: Sink>(
     ensures nothing { result ≡ false → FindsNothing intake.old.consumer intake.new.consumer }
     ensures one { result ≡ true → PopsOne intake.old.consumer intake.new.consumer }
     ensures looks { (list : List TakenSample) → Tracks intake.old list
-        → TurnsTo intake.new.number (Tracks intake.new) list (S.taken sink.old) (S.taken sink.new) order.old.items order.new.items (refused.new ≡ false) }
+        → TurnsTo intake.new.number (Tracks intake.new) list (S.taken sink.old)
+        (S.taken sink.new) order.old.items order.new.items (refused.new ≡ false) }
     ensures refused { refused.new ≡ false → refused.old ≡ false }
-    ensures going { refused.new ≡ false → intake.new.stage ≡ Stage.Dropping → intake.old.stage ≡ Stage.Dropping }
+    ensures going { refused.new ≡ false → intake.new.stage ≡ Stage.Dropping
+        → intake.old.stage ≡ Stage.Dropping }
     ensures setting { S.setting sink.new ≡ S.setting sink.old }
 {
     if *refused {
@@ -75,11 +77,16 @@ fn look_at<R: SampleReader, G: Gate, S: Sink>(
     refused: &mut bool,
 ) -> Look
     requires { at < length all.old.items }
-    ensures handles { map (λ started. started.handle) all.new.items ≡ map (λ started. started.handle) all.old.items }
-    ensures gathered { (start : List (ℕ × TakenSample)) → Gathered start (map (λ started. started.intake) all.old.items) (S.taken sink.old) order.old.items refused.old
-        → Gathered start (map (λ started. started.intake) all.new.items) (S.taken sink.new) order.new.items refused.new }
+    ensures handles { map (λ started. started.handle) all.new.items
+        ≡ map (λ started. started.handle) all.old.items }
+    ensures gathered { (start : List (ℕ × TakenSample))
+        → Gathered start (map (λ started. started.intake) all.old.items)
+        (S.taken sink.old) order.old.items refused.old
+        → Gathered start (map (λ started. started.intake) all.new.items)
+        (S.taken sink.new) order.new.items refused.new }
     ensures refused { refused.new ≡ false → refused.old ≡ false }
-    ensures closed { result ≡ Look.Closed → (all.new.items ≡ all.old.items) × IfSome (slice_get all.old.items at) (λ started. IsSome started.intake.close) }
+    ensures closed { result ≡ Look.Closed → (all.new.items ≡ all.old.items)
+        × IfSome (slice_get all.old.items at) (λ started. IsSome started.intake.close) }
     ensures setting { S.setting sink.new ≡ S.setting sink.old }
 {
     let started = &mut all[at];
@@ -107,11 +114,16 @@ fn look_round<R: SampleReader, G: Gate, S: Sink>(
     order: &mut Vec<u32>,
     refused: &mut bool,
 ) -> Round
-    ensures handles { map (λ started. started.handle) all.new.items ≡ map (λ started. started.handle) all.old.items }
-    ensures gathered { (start : List (ℕ × TakenSample)) → Gathered start (map (λ started. started.intake) all.old.items) (S.taken sink.old) order.old.items refused.old
-        → Gathered start (map (λ started. started.intake) all.new.items) (S.taken sink.new) order.new.items refused.new }
+    ensures handles { map (λ started. started.handle) all.new.items
+        ≡ map (λ started. started.handle) all.old.items }
+    ensures gathered { (start : List (ℕ × TakenSample))
+        → Gathered start (map (λ started. started.intake) all.old.items)
+        (S.taken sink.old) order.old.items refused.old
+        → Gathered start (map (λ started. started.intake) all.new.items)
+        (S.taken sink.new) order.new.items refused.new }
     ensures refused { refused.new ≡ false → refused.old ≡ false }
-    ensures closed { IsFalse result.open → (source : ℕ) → source < length all.new.items → IfSome (slice_get all.new.items source) (λ started. IsSome started.intake.close) }
+    ensures closed { IsFalse result.open → (source : ℕ) → source < length all.new.items
+        → IfSome (slice_get all.new.items source) (λ started. IsSome started.intake.close) }
     ensures setting { S.setting sink.new ≡ S.setting sink.old }
 {
     let mut round = Round {
@@ -135,11 +147,16 @@ pub fn drain<W: Wait, R: SampleReader, G: Gate, S: Sink>(
     order: &mut Vec<u32>,
     refused: &mut bool,
 )
-    ensures handles { map (λ started. started.handle) all.new.items ≡ map (λ started. started.handle) all.old.items }
-    ensures gathered { (start : List (ℕ × TakenSample)) → Gathered start (map (λ started. started.intake) all.old.items) (S.taken sink.old) order.old.items refused.old
-        → Gathered start (map (λ started. started.intake) all.new.items) (S.taken sink.new) order.new.items refused.new }
+    ensures handles { map (λ started. started.handle) all.new.items
+        ≡ map (λ started. started.handle) all.old.items }
+    ensures gathered { (start : List (ℕ × TakenSample))
+        → Gathered start (map (λ started. started.intake) all.old.items)
+        (S.taken sink.old) order.old.items refused.old
+        → Gathered start (map (λ started. started.intake) all.new.items)
+        (S.taken sink.new) order.new.items refused.new }
     ensures refused { refused.new ≡ false → refused.old ≡ false }
-    ensures closed { (source : ℕ) → source < length all.new.items → IfSome (slice_get all.new.items source) (λ started. IsSome started.intake.close) }
+    ensures closed { (source : ℕ) → source < length all.new.items
+        → IfSome (slice_get all.new.items source) (λ started. IsSome started.intake.close) }
     ensures setting { S.setting sink.new ≡ S.setting sink.old }
 {
     for _ in rt.forever() {

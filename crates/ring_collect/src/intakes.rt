@@ -90,8 +90,10 @@ impl Intake {
         ensures nothing { result ≡ Turned.Idle → FindsNothing self.old.consumer self.new.consumer }
         ensures one { result ≢ Turned.Idle → PopsOne self.old.consumer self.new.consumer }
         ensures turned { (list : List TakenSample) → Tracks self.old list
-            → TurnsTo self.new.number (Tracks self.new) list (S.taken sink.old) (S.taken sink.new) order.old.items order.new.items (result ≢ Turned.Refused) }
-        ensures stage { self.new.stage ≡ Stage.Dropping → (self.old.stage ≡ Stage.Dropping) ⊎ (result ≡ Turned.Refused) }
+            → TurnsTo self.new.number (Tracks self.new) list (S.taken sink.old)
+            (S.taken sink.new) order.old.items order.new.items (result ≢ Turned.Refused) }
+        ensures stage { self.new.stage ≡ Stage.Dropping → (self.old.stage ≡ Stage.Dropping)
+            ⊎ (result ≡ Turned.Refused) }
         ensures setting { S.setting sink.new ≡ S.setting sink.old }
     {
         let Ok(item) = self.consumer.pop() else {

@@ -45,9 +45,12 @@ fn set_frame(
     requires told { number < length ledger.now.told }
     requires place { at ≤ length numbers.old.items }
     requires named { map string_bytes names.old.items ≡ names_at ledger.now.told numbers.old.items }
-    ensures placed { OnOk result (take (at + 1) numbers.new.items ≡ take at numbers.old.items ++ number ∷ []) }
-    ensures count { OnOk result (length numbers.new.items ≡ max (length numbers.old.items) (at + 1)) }
-    ensures named { OnOk result (map string_bytes names.new.items ≡ names_at ledger.now.told numbers.new.items) }
+    ensures placed { OnOk result (take (at + 1) numbers.new.items
+        ≡ take at numbers.old.items ++ number ∷ []) }
+    ensures count { OnOk result (length numbers.new.items
+        ≡ max (length numbers.old.items) (at + 1)) }
+    ensures named { OnOk result (map string_bytes names.new.items
+        ≡ names_at ledger.now.told numbers.new.items) }
 {
     if at == numbers.len() {
         names.push(String::from_str(alloc, ledger.told_name(number))?)?;
@@ -75,7 +78,8 @@ fn set_frames(
     requires no_more { length numbers.old.items ≤ length frames.now }
     requires named { map string_bytes names.old.items ≡ names_at ledger.now.told numbers.old.items }
     ensures numbers { OnOk result (numbers.new.items ≡ frames.now) }
-    ensures named { OnOk result (map string_bytes names.new.items ≡ names_at ledger.now.told frames.now) }
+    ensures named { OnOk result (map string_bytes names.new.items
+        ≡ names_at ledger.now.told frames.now) }
 {
     for at in 0..frames.len() {
         set_frame(alloc, ledger, at, frames[at], numbers, names)?;
@@ -93,7 +97,8 @@ pub fn bring_up_to_date(
 ) -> Result<(), AllocError>
     requires told { All (λ number. number < length ledger.now.told) frames.now }
     requires kept { IsKept ledger.now.told kept.old }
-    ensures sample { OnOk result (kept.new.sample ≡ named ledger.now.told (record { frames = frames.now; weight = weight })) }
+    ensures sample { OnOk result (kept.new.sample
+        ≡ named ledger.now.told (record { frames = frames.now; weight = weight })) }
     ensures kept { IsKept ledger.now.told kept.new }
 {
     let mut numbers = mem::replace(&mut kept.numbers, Vec::new(alloc));

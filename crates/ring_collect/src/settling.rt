@@ -49,7 +49,9 @@ fn settle_by(left: Option<LeftOfRing>, intake: Intake) -> Option<Ledger>
 /// Joins the thread of a source whose ring is closed, and hands its ledger out.
 fn settle<T: Threads, R: SampleReader, G: Gate>(rt: &T, started: Started<R, G>) -> Option<Ledger>
     requires { IsSome started.intake.close }
-    ensures { IfSome result (λ ledger. IsSettled (λ gate. G.may_stop gate) (λ gate. G.may_go gate) (λ reader. R.rest reader) started ledger) }
+    ensures { IfSome result (λ ledger.
+        IsSettled (λ gate. G.may_stop gate) (λ gate. G.may_go gate) (λ reader. R.rest reader)
+        started ledger) }
 {
     let Started { handle, intake } = started;
     settle_by(handle.join(rt), intake)
@@ -63,7 +65,9 @@ fn keep(
     unfinished: Option<u32>,
 ) -> Option<u32>
     requires { length ledgers.old.items < vec_capacity ledgers.old }
-    ensures kept { IfNone result ((unfinished ≡ None) × (IfSome settled (λ ledger. ledgers.new.items ≡ ledgers.old.items ++ ledger ∷ [])) × IsSome settled) }
+    ensures kept { IfNone result ((unfinished ≡ None)
+        × (IfSome settled (λ ledger. ledgers.new.items ≡ ledgers.old.items ++ ledger ∷ []))
+        × IsSome settled) }
     ensures first { IfSome result (λ first. (unfinished ≡ Some first) ⊎ (first ≡ source)) }
     ensures earlier { IsSome unfinished → result ≡ unfinished }
     ensures unsettled { unfinished ≡ None → IfSome result (λ _. settled ≡ None) }
@@ -90,10 +94,12 @@ pub fn settle_all<T: Threads, R: SampleReader, G: Gate>(
     ledgers: &mut Vec<Ledger>,
 ) -> Option<u32>
     requires few { length all.items ≤ 64 }
-    requires closed { (source : ℕ) → source < length all.items → IfSome (slice_get all.items source) (λ started. IsSome started.intake.close) }
+    requires closed { (source : ℕ) → source < length all.items
+        → IfSome (slice_get all.items source) (λ started. IsSome started.intake.close) }
     requires room { length all.items ≤ vec_capacity ledgers.old }
     requires none { ledgers.old.items ≡ [] }
-    ensures settled { IfNone result (AreSettled (λ gate. G.may_stop gate) (λ gate. G.may_go gate) (λ reader. R.rest reader) all.items ledgers.new.items) }
+    ensures settled { IfNone result (AreSettled (λ gate. G.may_stop gate) (λ gate. G.may_go gate)
+        (λ reader. R.rest reader) all.items ledgers.new.items) }
     ensures unfinished { IfSome result (λ source. source < length all.items) }
 {
     let mut unfinished = None;

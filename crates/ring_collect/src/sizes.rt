@@ -29,7 +29,7 @@ impl Model for RingSize {
 impl RingSize {
     /// The size of this many items. `None` for 0, and for more than 65,536.
     pub fn of(items: u32) -> Option<Self>
-        ensures range { IsSome result ↔ ((1 ≤ items) × (items ≤ LARGEST_RING)) }
+        ensures range { IsSome result ↔ ((1 ≤ items) × (items ≤ 65536)) }
         ensures size { IfSome result (λ size. size ≡ items) }
     {
         if items == 0 || items > LARGEST_RING {
@@ -41,7 +41,7 @@ impl RingSize {
     /// The number of items.
     pub fn get(self) -> u32
         ensures number { result ≡ self }
-        ensures range { (1 ≤ result) × (result ≤ LARGEST_RING) }
+        ensures range { (1 ≤ result) × (result ≤ 65536) }
     {
         self.items
     }

@@ -35,7 +35,9 @@ impl<R: SampleReader, G: Gate> Promise<Option<LeftOfRing>> for Telling<R, G> {
     ghost use Rattle.std.specs.Arc.{arc_value};
     ghost use Rattle.ring_collect.specs.Telling.{SentAll};
 
-    ghost kept_by = { λ p r. IfSome r (SentAll (G.may_stop (arc_value p.gate.value)) (G.may_go (arc_value p.gate.value)) p.source (R.rest p.reader.value) p.producer.value) };
+    ghost kept_by = { λ p r.
+        IfSome r (SentAll (G.may_stop (arc_value p.gate.value)) (G.may_go (arc_value p.gate.value))
+        p.source (R.rest p.reader.value) p.producer.value) };
 }
 
 pub type TellingHandle<R, G> = PromisedHandle<Option<LeftOfRing>, Telling<R, G>>;

@@ -93,7 +93,8 @@ fn start_source<
     source: u32,
     ends: RingEnds,
 ) -> Result<Started<R, G>, StartFault>
-    ensures promised { IfOk result (λ started. IsPromised (arc_value gate.now) source reader started.handle.promise) }
+    ensures promised { IfOk result (λ started.
+        IsPromised (arc_value gate.now) source reader started.handle.promise) }
     ensures fresh { IfOk result (λ started. IsFresh source started.intake) }
 {
     let Ok(gate) = Arc::try_clone(gate) else {
@@ -131,7 +132,8 @@ pub fn start_all<
     requires rings { length rings.items ≡ length readers.items }
     requires room { length readers.items ≤ vec_capacity all.old }
     requires nothing { all.old.items ≡ [] }
-    ensures promised { ArePromised (arc_value gate.now) readers.items (map (λ started. started.handle.promise) all.new.items) }
+    ensures promised { ArePromised (arc_value gate.now) readers.items
+        (map (λ started. started.handle.promise) all.new.items) }
     ensures all { IfNone result (length all.new.items ≡ length readers.items) }
     ensures fault { IfSome result (λ _. length all.new.items < length readers.items) }
     ensures fresh { AreFresh (map (λ started. started.intake) all.new.items) }

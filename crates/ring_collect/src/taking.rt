@@ -57,7 +57,8 @@ fn take_row<S: Sink>(
     requires limit { weight ≤ WEIGHT_LIMIT }
     requires kept { IsKept ledger.old.told kept.old }
     ensures kept { IsKept ledger.new.told kept.new }
-    ensures row { TakesRow source (record { frames = frames; weight = weight }) ledger.old ledger.new (S.taken sink.old) (S.taken sink.new) order.old.items order.new.items result }
+    ensures row { TakesRow source (record { frames = frames; weight = weight }) ledger.old
+        ledger.new (S.taken sink.old) (S.taken sink.new) order.old.items order.new.items result }
     ensures still_open { ledger.new.close ≡ None }
     ensures setting { S.setting sink.new ≡ S.setting sink.old }
 {
@@ -100,7 +101,8 @@ pub fn take_item<S: Sink>(
     requires limits { IsLimitedRecord item }
     requires kept { IsKept ledger.old.told kept.old }
     ensures kept { IsKept ledger.new.told kept.new }
-    ensures item { TakesItem source item ledger.old ledger.new close.old close.new (S.taken sink.old) (S.taken sink.new) order.old.items order.new.items result }
+    ensures item { TakesItem source item ledger.old ledger.new close.old close.new
+        (S.taken sink.old) (S.taken sink.new) order.old.items order.new.items result }
     ensures still_open { ledger.new.close ≡ None }
     ensures setting { S.setting sink.new ≡ S.setting sink.old }
 {

@@ -83,8 +83,10 @@ fn tell_names<W: Wait>(
     ensures told { Tells [] (sent producer.old) (sent producer.new) }
     ensures names { OnOk result (names.new ≡ names_told (sent producer.new)) }
     ensures asked { OnOk result (names.new ≡ with_stack names.old (map string_bytes stack.items)) }
-    ensures numbers { IfOk result (λ numbers. names_at names.new numbers.items ≡ map string_bytes stack.items) }
-    ensures known { IfOk result (λ numbers. All (λ number. number < length names.new) numbers.items) }
+    ensures numbers { IfOk result (λ numbers.
+        names_at names.new numbers.items ≡ map string_bytes stack.items) }
+    ensures known { IfOk result (λ numbers.
+        All (λ number. number < length names.new) numbers.items) }
 {
     let mut numbers = Vec::with_capacity(alloc, stack.len())?;
     for name in stack {
@@ -104,7 +106,8 @@ fn tell_sample<W: Wait>(
     requires known { names.old ≡ names_told (sent producer.old) }
     requires limits { IsLimited sample }
     ensures ring { SameProducer producer.old producer.new }
-    ensures ok { OnOk result (Tells (item.Sample sample ∷ []) (sent producer.old) (sent producer.new)) }
+    ensures ok { OnOk result
+        (Tells (item.Sample sample ∷ []) (sent producer.old) (sent producer.new)) }
     ensures names { OnOk result (names.new ≡ names_told (sent producer.new)) }
     ensures asked { OnOk result (names.new ≡ with_stack names.old sample.stack) }
     ensures refused { OnErr result (Tells [] (sent producer.old) (sent producer.new)) }
@@ -131,8 +134,12 @@ fn tell_next<W: Wait, R: SampleReader, G: Gate>(
     requires { names.old ≡ names_told (sent producer.old) }
     ensures ring { SameProducer producer.old producer.new }
     ensures few { length (R.rest reader.old).samples < 2 ^ 64 }
-    ensures told { IfNone result (TellsOne (G.may_go gate.now) source index (R.rest reader.old) (R.rest reader.new) names.new (sent producer.old) (sent producer.new)) }
-    ensures closes { IfSome result (Closes (G.may_stop gate.now) source index (R.rest reader.old) (sent producer.old) (sent producer.new)) }
+    ensures told { IfNone result
+        (TellsOne (G.may_go gate.now) source index (R.rest reader.old) (R.rest reader.new) names.new
+        (sent producer.old) (sent producer.new)) }
+    ensures closes { IfSome result
+        (Closes (G.may_stop gate.now) source index (R.rest reader.old) (sent producer.old)
+        (sent producer.new)) }
 {
     let sample = match reader.next(alloc) {
         Ok(Step::Sample(sample)) => sample,
@@ -165,7 +172,8 @@ fn tell_samples<W: Wait, R: SampleReader, G: Gate>(
     ensures told { IsToldUnder (G.may_stop gate.now) (G.may_go gate.now) source (R.rest reader.old)
         (stands_for (sent producer.new) ++ item.Close result ∷ []) }
     ensures well_told { IsWellTold (sent producer.new) }
-    ensures in_order { AreNamesOf (stands_for (sent producer.new) ++ item.Close result ∷ []) (names_told (sent producer.new)) }
+    ensures in_order { AreNamesOf (stands_for (sent producer.new) ++ item.Close result ∷ [])
+        (names_told (sent producer.new)) }
 {
     let mut index = 0u64;
     for _ in rt.forever() {
@@ -188,7 +196,8 @@ fn tell_source<W: Wait, R: SampleReader + Drop, G: Gate>(
 )
     requires { sent producer.old ≡ [] }
     ensures ring { SameProducer producer.old producer.new }
-    ensures told { TellsAll (G.may_stop gate.now) (G.may_go gate.now) source (R.rest reader) (sent producer.new) }
+    ensures told { TellsAll (G.may_stop gate.now) (G.may_go gate.now) source (R.rest reader)
+        (sent producer.new) }
 {
     let mut reader = reader;
     let mut names = FrameTable::new(alloc);
@@ -207,7 +216,9 @@ pub fn tell_all<W: Wait, R: SampleReader + Drop, G: Gate + Drop>(
     producer: RecordProducer,
 ) -> Option<LeftOfRing>
     requires { sent producer ≡ [] }
-    ensures { IfSome result (SentAll (G.may_stop (arc_value gate)) (G.may_go (arc_value gate)) source (R.rest reader) producer) }
+    ensures { IfSome result
+        (SentAll (G.may_stop (arc_value gate)) (G.may_go (arc_value gate)) source
+        (R.rest reader) producer) }
 {
     let mut producer = producer;
     tell_source(rt, alloc, reader, &*gate, source, &mut producer);

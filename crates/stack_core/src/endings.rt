@@ -9,7 +9,7 @@ pub enum ReadKind {
     Compressed,
     /// The bytes end inside a field of the wire format.
     Truncated,
-    /// A varint of more than 64 bits.
+    /// A varint whose tenth byte is above 1: it is longer than ten bytes, or has more than 64 bits.
     BadVarint,
     /// A field number that is 0 or too large.
     BadFieldNumber,

@@ -28,7 +28,8 @@ impl Model for Lane {
       received = take lane.popped lane.told.items;
     } };
 
-    ghost invariant = { λ lane. (lane.popped ≤ lane.pushed) × (lane.pushed ≤ length lane.told.items) };
+    ghost invariant = { λ lane. (lane.popped ≤ lane.pushed)
+        × (lane.pushed ≤ length lane.told.items) };
 }
 
 impl Lane {

@@ -1,6 +1,6 @@
-//! Laws of the definitions, for all lists. Each function carries one, and does nothing.
+//! Laws of the definitions, for all lists, and of the limits. Each function carries one, and does nothing.
 
-ghost use Rattle.std.specs.Prelude.{◌≡◌, ◌<◌, ◌≤◌, ℕ, List, [], ◌++◌, length, take};
+ghost use Rattle.std.specs.Prelude.{◌≡◌, ◌<◌, ◌≤◌, ◌+◌, ◌^◌, ℕ, List, [], ◌++◌, length, take};
 ghost use Rattle.std.specs.Prelude.{Option, Some, All, Contains, slice_get};
 ghost use Rattle.std.specs.Option.{option_map};
 ghost use Rattle.stack_core.specs.Interleaving.{IsInterleaving, AreOf, AreInterleaved};
@@ -15,9 +15,16 @@ ghost use Rattle.stack_core.specs.declared.endings.Item.{Item};
 ghost use Rattle.stack_core.specs.declared.endings.Item.TheVariants as item;
 ghost use Rattle.stack_core.specs.declared.records.RingRecord.{RingRecord};
 ghost use Rattle.stack_core.specs.declared.samples.Sample.{Sample};
+ghost use Rattle.stack_core.specs.declared.samples.TheConstants.{FRAME_LIMIT, WEIGHT_LIMIT};
 ghost use Rattle.stack_core.specs.declared.worlds.Event.{Event};
 
 use crate::gates::Gate;
+
+/// The most frames of a stack and the greatest weight, of a sample and of a source, are these numbers.
+pub fn limits()
+    ensures frames { FRAME_LIMIT ≡ 4096 }
+    ensures weights { WEIGHT_LIMIT + 1 ≡ 2 ^ 56 }
+{}
 
 /// Whatever happens, no item is lost, comes twice or overtakes another: what was received is the beginning of
 /// what was told, and the queue and what is still to push are the rest of it. What was received at one moment is
@@ -41,7 +48,8 @@ pub fn queues_stay_bounded<T>()
 
 /// Where a told list's close was received, the whole list was, and nothing of it is queued.
 pub fn a_received_close_is_the_last()
-    ensures { (size : ℕ) (lists : List (List Item)) (events : List Event) (source : ℕ) (rest : Rest) (close : Close)
+    ensures { (size : ℕ) (lists : List (List Item)) (events : List Event) (source : ℕ) (rest : Rest)
+        (close : Close)
         → IsToldList rest (list_of lists source)
         → let lane = lane_after size lists events source in
         Contains lane.received (item.Close close)
@@ -72,11 +80,14 @@ pub fn an_order_stands_for_its_lists<T>()
         → sources_of (interleaved order lists) ≡ order }
     ensures lists { (order : List ℕ) (lists : List (List T)) → IsInterleaving order lists
         → AreOf (interleaved order lists) lists }
-    ensures entry { (order : List ℕ) (lists : List (List T)) (k source : ℕ) → IsInterleaving order lists
+    ensures entry { (order : List ℕ) (lists : List (List T)) (k source : ℕ)
+        → IsInterleaving order lists
         → slice_get order k ≡ Some source
         → slice_get (interleaved order lists) k
-        ≡ option_map (λ item. (source, item)) (slice_get (list_of lists source) (counts_at k order source)) }
-    ensures first { (order : List ℕ) (lists : List (List T)) (m source : ℕ) → IsInterleaving order lists
+        ≡ option_map (λ item.
+        (source, item)) (slice_get (list_of lists source) (counts_at k order source)) }
+    ensures first { (order : List ℕ) (lists : List (List T)) (m source : ℕ)
+        → IsInterleaving order lists
         → of_source source (take m (interleaved order lists))
         ≡ take (counts_at m order source) (list_of lists source) }
 {}
@@ -92,8 +103,10 @@ pub fn two_forms_of_an_interleaving<T>()
 /// The beginning of well told records is well told, and stands for the beginning of the items; and in well told
 /// records each number is its name among all that the ring tells.
 pub fn well_told_records()
-    ensures prefix { (records more : List RingRecord) → IsWellTold (records ++ more) → IsWellTold records }
-    ensures items { (records more : List RingRecord) → IsPrefixOf (stands_for records) (stands_for (records ++ more)) }
+    ensures prefix { (records more : List RingRecord) → IsWellTold (records ++ more)
+        → IsWellTold records }
+    ensures items { (records more : List RingRecord)
+        → IsPrefixOf (stands_for records) (stands_for (records ++ more)) }
     ensures names { (records : List RingRecord) → IsWellTold records
         → stands_for records ≡ written (names_told records) records }
 {}
@@ -114,7 +127,8 @@ pub fn lists_told_under_a_gate<G: Gate>()
     ensures collected { (gate : G) (source : ℕ) (rest list : Rest)
         → IsToldUnder (G.may_stop gate) (G.may_go gate) source rest (told_whole list)
         → IsCollected (G.may_stop gate) (G.may_go gate) source rest list }
-    ensures whole { (gate : G) (source : ℕ) (rest list : Rest) → ((i : ℕ) → ¬ G.may_stop gate source i)
+    ensures whole { (gate : G) (source : ℕ) (rest list : Rest)
+        → ((i : ℕ) → ¬ G.may_stop gate source i)
         → IsCollected (G.may_stop gate) (G.may_go gate) source rest list
         → list ≡ rest }
 {}

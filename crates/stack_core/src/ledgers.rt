@@ -52,7 +52,8 @@ impl Ledger {
     /// Tells a name, which gets the least number that no name has. Want of memory changes nothing.
     pub fn tell(&mut self, name: Text) -> Result<(), AllocError>
         requires { self.old.close ≡ None }
-        ensures ok { OnOk result (self.new ≡ record self.old { told = self.old.told ++ name ∷ [] }) }
+        ensures ok { OnOk result (self.new
+            ≡ record self.old { told = self.old.told ++ name ∷ [] }) }
         ensures refused { OnErr result (self.new ≡ self.old) }
     {
         self.table.tell(name)
@@ -64,7 +65,8 @@ impl Ledger {
         requires depth { length frames ≤ FRAME_LIMIT }
         requires numbers { All (λ k. k < length self.old.told) frames }
         requires limit { weight ≤ WEIGHT_LIMIT }
-        ensures ok { OnOk result (self.new ≡ with_row self.old (record { frames = frames; weight = weight })) }
+        ensures ok { OnOk result (self.new
+            ≡ with_row self.old (record { frames = frames; weight = weight })) }
         ensures refused { OnErr result (self.new ≡ self.old) }
     {
         self.table.take_row(frames, weight)

@@ -74,8 +74,10 @@ impl SourceList {
     pub fn frames(&self, i: usize) -> &[usize]
         requires { i < length self.now.samples }
         ensures value { result.now ≡ (row_at self.now.rows i).frames }
+        ensures limit { length result.now ≤ FRAME_LIMIT }
         ensures told { All (λ k. k < length self.now.told) result.now }
-        ensures names { map (name_at self.now.told) result.now ≡ (sample_at self.now.samples i).stack }
+        ensures names { map (name_at self.now.told) result.now
+            ≡ (sample_at self.now.samples i).stack }
     {
         self.table.frames(i)
     }
@@ -86,7 +88,8 @@ impl SourceList {
         requires frame { d < length (sample_at self.now.samples i).stack }
         ensures value { result ≡ slice_index (row_at self.now.rows i).frames d }
         ensures told { result < length self.now.told }
-        ensures name { name_at self.now.told result ≡ name_at (sample_at self.now.samples i).stack d }
+        ensures name { name_at self.now.told result
+            ≡ name_at (sample_at self.now.samples i).stack d }
     {
         self.table.frames(i)[d]
     }

@@ -35,9 +35,11 @@ impl Model for RowTable {
 
     ghost Value = { Table };
 
-    ghost view = { λ t. record { told = map string_bytes t.names.items; rows = rows_of t.frames.items t.spans.items } };
+    ghost view = { λ t. record
+        { told = map string_bytes t.names.items; rows = rows_of t.frames.items t.spans.items } };
 
-    ghost invariant = { λ t. AreSpans (map string_bytes t.names.items) t.frames.items t.spans.items t.total };
+    ghost invariant = { λ t.
+        AreSpans (map string_bytes t.names.items) t.frames.items t.spans.items t.total };
 }
 
 impl RowTable {
@@ -54,7 +56,8 @@ impl RowTable {
     }
 
     pub fn tell(&mut self, name: Text) -> Result<(), AllocError>
-        ensures ok { OnOk result (self.new ≡ record self.old { told = self.old.told ++ name ∷ [] }) }
+        ensures ok { OnOk result (self.new
+            ≡ record self.old { told = self.old.told ++ name ∷ [] }) }
         ensures refused { OnErr result (self.new ≡ self.old) }
         ensures rows { All (IsRow self.old.told) self.old.rows }
     {
@@ -108,7 +111,8 @@ impl RowTable {
     pub fn take_row(&mut self, frames: Listed<usize>, weight: u64) -> Result<(), AllocError>
         requires { IsRow self.old.told (record { frames = frames; weight = weight }) }
         ensures ok { OnOk result
-            (self.new ≡ record self.old { rows = self.old.rows ++ record { frames = frames; weight = weight } ∷ [] }) }
+            (self.new ≡ record self.old
+            { rows = self.old.rows ++ record { frames = frames; weight = weight } ∷ [] }) }
         ensures refused { OnErr result (self.new ≡ self.old) }
     {
         self.spans.reserve(1)?;
@@ -151,7 +155,8 @@ impl RowTable {
 
 /// Appends the numbers from `from` up to `to`. Want of memory may leave some of them behind.
 fn number(frames: &mut Vec<usize>, from: usize, to: usize) -> Result<(), AllocError>
-    ensures ok { OnOk result (frames.new.items ≡ frames.old.items ++ range_with_len from (to - from)) }
+    ensures ok { OnOk result (frames.new.items
+        ≡ frames.old.items ++ range_with_len from (to - from)) }
     ensures begins { (more : List ℕ) × (frames.new.items ≡ frames.old.items ++ more) }
 {
     frames.extend(from..to)

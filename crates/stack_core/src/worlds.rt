@@ -38,7 +38,8 @@ impl World {
     /// A world in which everything is still to push. It makes all the room that its events need.
     pub fn new(alloc: Global, told: Vec<Vec<Item>>, size: u32) -> Result<World, AllocError>
         requires { 1 ≤ size }
-        ensures { IfOk result (λ world. world ≡ start size (map (λ items. items.items) told.items)) }
+        ensures { IfOk result (λ world.
+            world ≡ start size (map (λ items. items.items) told.items)) }
     {
         let mut lanes = Vec::with_capacity(alloc, told.len())?;
         for items in told {

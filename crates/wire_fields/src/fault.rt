@@ -5,7 +5,7 @@
 pub enum WireKind {
     /// The bytes end inside a tag or a value, or fewer bytes are left than a length says.
     Truncated,
-    /// The tenth byte of a varint is above 1: the number takes more than 64 bits.
+    /// The tenth byte of a varint is above 1: it is longer than ten bytes, or has more than 64 bits.
     BadVarint,
     /// A tag above 2^32-1, or of field number 0.
     BadFieldNumber,

@@ -17,22 +17,26 @@ pub fn fields_have_one_reading()
 /// No varint is a proper prefix of another, no bytes spell two lists of numbers, and each number takes 64 bits at most.
 pub fn numbers_have_one_reading()
     ensures prefix { (number other : ℕ) (spelling longer more : List ℕ) →
-        IsVarintOf number spelling → IsVarintOf other longer → longer ≡ spelling ++ more → more ≡ [] }
+        IsVarintOf number spelling → IsVarintOf other longer → longer ≡ spelling ++ more
+        → more ≡ [] }
     ensures one_list { (numbers others : List ℕ) (bytes : List ℕ) →
         SpellsNumbers numbers bytes → SpellsNumbers others bytes → numbers ≡ others }
-    ensures below { (number : ℕ) (spelling : List ℕ) → IsVarintOf number spelling → number < 2 ^ 64 }
+    ensures below { (number : ℕ) (spelling : List ℕ) → IsVarintOf number spelling
+        → number < 2 ^ 64 }
 {}
 
 /// `fields_of` is the one reading: the fields of the longest front that spells a list, then the end or the first fault.
 pub fn fields_are_those_spelled()
     ensures reading { (bytes : List ℕ) → IsReadingOfFields bytes (fields_of bytes) }
-    ensures only { (bytes : List ℕ) (left : Left WireField) → IsReadingOfFields bytes left → left ≡ fields_of bytes }
+    ensures only { (bytes : List ℕ) (left : Left WireField) → IsReadingOfFields bytes left
+        → left ≡ fields_of bytes }
     ensures at_most { (bytes : List ℕ) → length (fields_of bytes).items ≤ length bytes }
 {}
 
 /// `numbers_of` is the one reading of a packed run.
 pub fn numbers_are_those_spelled()
     ensures reading { (bytes : List ℕ) → IsReadingOfNumbers bytes (numbers_of bytes) }
-    ensures only { (bytes : List ℕ) (left : Left ℕ) → IsReadingOfNumbers bytes left → left ≡ numbers_of bytes }
+    ensures only { (bytes : List ℕ) (left : Left ℕ) → IsReadingOfNumbers bytes left
+        → left ≡ numbers_of bytes }
     ensures at_most { (bytes : List ℕ) → length (numbers_of bytes).items ≤ length bytes }
 {}

@@ -18,6 +18,13 @@ const ADDRESS: &[u8] = &[
     0x08, 0x01, 0x18, 0xf0, 0x03, 0x32, 0x00, 0x32, 0x03, 0x63, 0x70, 0x75, 0x32, 0x02, 0x6e, 0x73,
 ];
 
+// One sample whose frame is named `a`, a semicolon, a byte that is no text, and a line feed.
+const LOSSY: &[u8] = &[
+    0x0a, 0x04, 0x08, 0x01, 0x10, 0x02, 0x12, 0x06, 0x0a, 0x01, 0x01, 0x12, 0x01, 0x07, 0x22, 0x06,
+    0x08, 0x01, 0x22, 0x02, 0x08, 0x01, 0x2a, 0x04, 0x08, 0x01, 0x10, 0x03, 0x32, 0x00, 0x32, 0x03,
+    0x63, 0x70, 0x75, 0x32, 0x02, 0x6e, 0x73, 0x32, 0x04, 0x61, 0x3b, 0xff, 0x0a,
+];
+
 #[test]
 fn smallest_profile(rt: HostRuntime) -> Result<(), Fail> {
     for path in ["cpu.prof", "x.pprof", "x.pb"] {
@@ -51,7 +58,7 @@ fn picking_a_value(rt: HostRuntime) -> Result<(), Fail> {
 }
 
 #[test]
-fn address_frames(rt: HostRuntime) -> Result<(), Fail> {
+fn address_frames_and_lossy_names(rt: HostRuntime) -> Result<(), Fail> {
     let file = ("x.pb", ADDRESS);
     assert!(rt; gives(&rt, &["fold", "x.pb"], file, (0, "0x1f0 7\n", ""))?);
     assert!(rt;
@@ -62,6 +69,8 @@ fn address_frames(rt: HostRuntime) -> Result<(), Fail> {
             (0, "0x1f0 7\n", "")
         )?
     );
+    let file = ("x.pb", LOSSY);
+    assert!(rt; gives(&rt, &["fold", "x.pb"], file, (0, "a:\u{fffd}  7\n", ""))?);
     Ok(())
 }
 

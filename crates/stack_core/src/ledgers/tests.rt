@@ -1,4 +1,4 @@
-ghost use Rattle.std.specs.Prelude.{◌≡◌, IfOk};
+ghost use Rattle.std.specs.Prelude.{◌≡◌, ◌<◌, None, length, IfOk, OnOk};
 
 use super::*;
 use crate::endings::SourceEnd;
@@ -68,50 +68,66 @@ fn world_and_ledger(rt: HostRuntime) -> Result<(), Fail> {
     Ok(())
 }
 
-/// Runs through with ample memory. Where an allocation fails, what the refused call leaves is compared
-/// with what stood before.
+/// What a ledger says of itself: its samples, their weight and its names.
+fn numbers(ledger: &Ledger) -> (u64, u128, usize) {
+    (ledger.count(), ledger.weight(), ledger.told())
+}
+
+fn tell(alloc: Global, ledger: &mut Ledger) -> Result<(), AllocError>
+    requires { ledger.old.close ≡ None }
+    ensures open { ledger.new.close ≡ None }
+    ensures told { OnOk result (0 < length ledger.new.told) }
+{
+    ledger.tell(Text::from_str(alloc, "a")?)
+}
+
+fn take_row(alloc: Global, ledger: &mut Ledger, weight: u64) -> Result<(), AllocError>
+    requires open { ledger.old.close ≡ None }
+    requires told { 0 < length ledger.old.told }
+    requires light { weight < 9 }
+    ensures open { ledger.new.close ≡ None }
+    ensures told { 0 < length ledger.new.told }
+{
+    ledger.take_row(Listed::of(vec![in alloc; 0]?), weight)
+}
+
+fn take(alloc: Global, ledger: &mut Ledger, weight: u64) -> Result<(), AllocError>
+    requires open { ledger.old.close ≡ None }
+    requires light { weight < 9 }
+    ensures { ledger.new.close ≡ None }
+{
+    let stack = Names::from_strs(alloc, &["b", "c"])?;
+    ledger.take(Sample { stack, weight })
+}
+
+/// Runs through with ample memory, and where an allocation fails once: a refused call leaves what stood
+/// before, and is asked again. Where it is refused again, no more is asked.
 #[test]
 fn refusals_change_nothing(rt: HostRuntime) {
     let alloc = rt.alloc();
     let mut ledger = Ledger::new(alloc);
     for i in 0..9u64 {
-        let Ok(name) = Text::from_str(alloc, "a") else {
-            return
-        };
-        let Ok(stack) = Names::from_strs(alloc, &["b", "c"]) else {
-            return
-        };
-        let Ok(frames) = vec![in alloc; 0] else {
-            return
-        };
-        let (count, weight, told) = (ledger.count(), ledger.weight(), ledger.told());
-        let refused = ledger.tell(name).is_err();
-        if refused || ledger.told() == 0 {
-            assert_eq!(rt;
-                (ledger.count(), ledger.weight(), ledger.told()),
-                (count, weight, told)
-            );
-            return;
+        let before = numbers(&ledger);
+        if tell(alloc, &mut ledger).is_err() {
+            assert_eq!(rt; numbers(&ledger), before);
+            if tell(alloc, &mut ledger).is_err() {
+                return;
+            }
         }
-        let told = ledger.told();
-        if ledger.take_row(Listed::of(frames), i).is_err() {
-            assert_eq!(rt;
-                (ledger.count(), ledger.weight(), ledger.told()),
-                (count, weight, told)
-            );
-            return;
+        let before = numbers(&ledger);
+        if take_row(alloc, &mut ledger, i).is_err() {
+            assert_eq!(rt; numbers(&ledger), before);
+            if take_row(alloc, &mut ledger, i).is_err() {
+                return;
+            }
         }
-        let (count, weight) = (ledger.count(), ledger.weight());
-        if ledger.take(Sample { stack, weight: i }).is_err() {
-            assert_eq!(rt;
-                (ledger.count(), ledger.weight(), ledger.told()),
-                (count, weight, told)
-            );
-            return;
+        let before = numbers(&ledger);
+        if take(alloc, &mut ledger, i).is_err() {
+            assert_eq!(rt; numbers(&ledger), before);
+            if take(alloc, &mut ledger, i).is_err() {
+                return;
+            }
         }
     }
-    assert_eq!(rt;
-        (ledger.count(), ledger.weight(), ledger.told()),
-        (18, 72, 27)
-    );
+    assert_eq!(rt; numbers(&ledger), (18, 72, 27));
 }

@@ -137,6 +137,7 @@ fn no_sources(rt: HostRuntime) -> Result<(), Fail> {
 
 #[test]
 fn laws_return() {
+    laws::limits();
     laws::received_comes_first::<Item>();
     laws::queues_stay_bounded::<Item>();
     laws::a_received_close_is_the_last();

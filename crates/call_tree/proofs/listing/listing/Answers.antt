@@ -7,7 +7,7 @@ pub returns-then-index-eq0 : goal.returns-then-index-eq0
 returns-then-index-eq0 c =
     let none : get_or c.args.nodes.now.totals.items 0 0 ≡ 0 =
     sym (c.index.ensures ∙ get_or_default_zero c.args.nodes.now.totals.items 0 c.index.result.now (omega (arith, c.requires.tree.shape.totals_len))) ∙ c.if-index-eq0.true in
-    rw c.new.ensures.items (listed_nothing c.args.table.now _ _ _ c.requires.tree none)
+    rw c.new.ensures.items (listed_nothing c.args.table.now _ _ _ c.requires.distinct c.requires.tree none)
 
 pub next_nodes-requires-clause-frames : goal.next_nodes-requires-clause-frames
 next_nodes-requires-clause-frames c = place_frames c.args.table.now _ _ _ c.requires.tree c.requires.numbers
@@ -44,4 +44,4 @@ pub returns : goal.returns
 returns c =
     let root : get_or c.args.nodes.now.totals.items 0 0 ≡ 0 → ⊥ =
     λ e. c.if-index-eq0.false (c.index.ensures ∙ get_or_default_zero c.args.nodes.now.totals.items 0 c.index.result.now (omega (arith, c.requires.tree.shape.totals_len)) ∙ e) in
-    listed c.args.table.now _ _ _ c.requires.tree c.in_ok-next.next.items c.loop.counter c.loop.node c.loop.visits.items c.loop.invariant (omega arith) root
+    listed c.args.table.now _ _ _ c.requires.tree c.in_ok-next.next.items c.loop.counter c.loop.node c.loop.visits.items c.loop.invariant c.requires.distinct (omega arith) root

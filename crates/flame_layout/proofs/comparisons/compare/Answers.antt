@@ -12,8 +12,8 @@ pub add_list-requires-2-clause-both : goal.add_list-requires-2-clause-both
 add_list-requires-2-clause-both c =
     (c.args.before.now.samples, c.in_ok-add_list.ensures.both [] (holds-empty c.new-table.result c.in_ok-both.both c.in_ok-both.ensures), omega (arith, c.requires.before, c.requires.after))
 
-pub listing-requires-clause-numbers : goal.listing-requires-clause-numbers
-listing-requires-clause-numbers c =
+pub listing-requires : goal.listing-requires
+listing-requires c =
     let before = c.args.before.now.samples in
     let first = c.in_ok-add_list.ensures.both [] (holds-empty c.new-table.result c.in_ok-both.both c.in_ok-both.ensures) in
     holds-numbers c.add_list-2.new.table c.add_list-2.new.both (before ++ c.args.after.now.samples) (c.in_ok-add_list-2.ensures.both before first)

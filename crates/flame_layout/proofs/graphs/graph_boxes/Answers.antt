@@ -22,12 +22,12 @@ visit_boxes-requires-clause-named c =
 
 pub visit_boxes-requires-clause-sums : goal.visit_boxes-requires-clause-sums
 visit_boxes-requires-clause-sums c =
-    let is = listed_graph c.args.table.now c.args.tree.now c.in_ok-visits.visits.items c.in_ok-visits.ensures c.len-count.ensures.distinct c.requires.numbers in
+    let is = listed_graph c.args.table.now c.args.tree.now c.in_ok-visits.visits.items c.in_ok-visits.ensures c.in_ok-visits.ensures.distinct c.requires.numbers in
     listed_sums c.args.table.now c.args.tree.now (listed_boxes c.args.table.now 0 c.deref.result.now) (ap (listed_boxes c.args.table.now 0) c.deref.ensures.value ∙ is) c.requires.total
 
 -- the boxes are the graph of the tree's samples
 boxes_are : (c : goal.After-drop-visits) → listed_boxes c.args.table.now 0 c.deref.result.now ≡ graph_of (tree_samples c.args.table.now c.args.tree.now)
-boxes_are c = ap (listed_boxes c.args.table.now 0) c.deref.ensures.value ∙ listed_graph c.args.table.now c.args.tree.now c.in_ok-visits.visits.items c.in_ok-visits.ensures c.len-count.ensures.distinct c.requires.numbers
+boxes_are c = ap (listed_boxes c.args.table.now 0) c.deref.ensures.value ∙ listed_graph c.args.table.now c.args.tree.now c.in_ok-visits.visits.items c.in_ok-visits.ensures c.in_ok-visits.ensures.distinct c.requires.numbers
 
 pub returns-clause-graph : goal.returns-clause-graph
 returns-clause-graph c =

@@ -21,7 +21,7 @@ returns-clause-ok c =
     let names = c.args.table.now in
     let tree = c.args.tree.now in
     let start = c.args.out.now.items in
-    let text = listing_text names tree c.in_ok-visits.visits.items c.in_ok-visits.ensures c.len-count.ensures.distinct c.requires.numbers in
+    let text = listing_text names tree c.in_ok-visits.visits.items c.in_ok-visits.ensures c.in_ok-visits.ensures.distinct c.requires.numbers in
     on_ok_weaker c.append_listing.result
     (λ e samples same. e ∙ (ap (λ visits. start ++ visited_lines names [] visits) c.deref.ensures.value ∙ ap (λ lines. start ++ lines) (text samples same)))
     c.append_listing.ensures.ok

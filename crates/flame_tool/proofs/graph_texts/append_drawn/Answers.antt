@@ -1,4 +1,4 @@
-use Rattle.std.proofs.Common.{rules, ◌∙◌, sym}
+use Rattle.std.proofs.Common.{rules}
 use Rattle.flame_tool.proofs.TextLemmas.{snapshot_appended}
 use Rattle.flame_tool.proofs.graph_texts.append_drawn.Goals as goal
 

@@ -1,4 +1,4 @@
-use Rattle.std.proofs.Common.{rules, ◌≡◌, ◌++◌, ◌∷◌, [], ◌∙◌, sym, ap, get_or}
+use Rattle.std.proofs.Common.{rules, ◌≡◌, ◌++◌, ◌∷◌, [], ◌∙◌, sym, get_or}
 use Rattle.flame_tool.proofs.TextLemmas.{filled_more}
 use Rattle.flame_tool.proofs.graph_texts.filled_counts.Goals as goal
 

@@ -1,4 +1,4 @@
-use Rattle.std.proofs.Common.{◌≡◌, ℕ, length}
+use Rattle.std.proofs.Common.{◌≡◌, length}
 use Rattle.flame_tool.proofs.opening.open_sources.Given as goal
 
 abbrev pub invariant-loop-at : goal.invariant-loop-at

@@ -1,4 +1,4 @@
-use Rattle.std.proofs.Common.{rules, sym, ◌∙◌}
+use Rattle.std.proofs.Common.{rules, ◌∙◌}
 use Rattle.flame_tool.proofs.InputLists.{ok_shown, err_shown, no_paths}
 use Rattle.flame_tool.proofs.running.show.Goals as goal
 

@@ -1,5 +1,8 @@
 use Rattle.std.proofs.Common.{◌≡◌, ◌+◌, ◌++◌, ◌∷◌, [], ◌∙◌, ap, arith, map, string_bytes, take, get_or, List, ℕ, subst, sym}
 use Rattle.std.proofs.lemmas.List.{map_more}
+use Rattle.call_tree.specs.FrameTable.{with_name}
+use Rattle.ring_collect.specs.NamesInOrder.{with_stack}
+use Rattle.ring_collect.proofs.NameOrder.{with_stack_push}
 use Rattle.flame_layout.proofs.Held.{grows-trans, grows-interned, got}
 use Rattle.flame_tool.specs.TakenRows.{AreNumbersOf}
 use Rattle.flame_tool.proofs.RowLemmas.{numbers-push}
@@ -25,5 +28,9 @@ loop-name-preserved c =
           (numbers-push (map string_bytes (take c.loop-name.name-index names)) old new c.loop-name.numbers.items c.push.new.self.items (string_bytes c.name-item.result) c.in_ok-number.number
           c.loop-name.invariant.numbers grows name c.in_ok-number.ensures.below c.in_ok-push.ensures.items);
       grows = grows-trans c.args.table.now old new c.loop-name.invariant.grows grows;
+      in_order =
+          c.in_ok-number.ensures.names
+          ∙ ((λ i. with_name (c.loop-name.invariant.in_order i) (c.as_str.ensures.value i))
+          ∙ sym (ap (with_stack c.args.table.now) more ∙ with_stack_push c.args.table.now (map string_bytes (take c.loop-name.name-index names)) (string_bytes c.name-item.result)));
       distinct = c.in_ok-number.ensures.distinct;
     }

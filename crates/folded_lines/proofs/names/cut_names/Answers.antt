@@ -1,6 +1,6 @@
 use Rattle.std.proofs.Common.{ap, sym, ◌∙◌, arith, map, string_bytes, ◌++◌, Global}
 use Rattle.std.proofs.lemmas.List.{length-map}
-use Rattle.folded_lines.specs.Cutting.{names_left}
+use Rattle.folded_lines.proofs.Cuts.{names_left}
 use Rattle.folded_lines.proofs.SplitLemmas.{names_left-some}
 use Rattle.folded_lines.proofs.names.cut_names.Goals as goal
 

@@ -1,7 +1,4 @@
-use Rattle.std.proofs.Common.{◌≤◌, ap, sym, subst, length, arith}
-use Rattle.std.proofs.lemmas.List.{length-map}
-use Rattle.stack_core.specs.declared.samples.TheConstants.{FRAME_LIMIT}
-use Rattle.stack_core.specs.Ledgers.{name_at}
+use Rattle.std.proofs.Common.{sym, subst}
 use Rattle.call_tree.specs.Listing.{HasNumbersOf}
 use Rattle.call_tree.proofs.Numbers.{HasNumbersOf-with_weight}
 use Rattle.grow_tree.specs.Depth.{IsShallow}
@@ -16,7 +13,4 @@ returns-clause-numbers c =
 
 pub returns-clause-depth : goal.returns-clause-depth
 returns-clause-depth c =
-    let told = c.args.list.now.told in
-    let path = c.frames.result.now in
-    let few : length path ≤ FRAME_LIMIT = omega (arith, length-map path (name_at told), ap length c.frames.ensures.names, c.depth-depth.ensures.value, c.depth-depth.ensures.limit) in
-    subst IsShallow (sym c.in_ok-add.ensures.ok) (shallow-with_weight c.args.tree.now path c.weight.result c.requires.depth few)
+    subst IsShallow (sym c.in_ok-add.ensures.ok) (shallow-with_weight c.args.tree.now c.frames.result.now c.weight.result c.requires.depth c.frames.ensures.limit)

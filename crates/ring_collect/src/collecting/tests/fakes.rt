@@ -80,7 +80,8 @@ impl SampleReader for Tape {
     ghost use Rattle.std.specs.Prelude.{◌≡◌, [], ◌∷◌, map};
 
     ghost rest = { λ tape. record {
-      samples = map (λ weight. record { stack = tape.name.now ∷ []; weight = weight }) tape.weights.now;
+      samples = map (λ weight.
+          record { stack = tape.name.now ∷ []; weight = weight }) tape.weights.now;
       ending = tape.ending;
     } };
 
@@ -149,10 +150,12 @@ pub struct StopsAtTwo {
 impl Gate for StopsAtTwo {
     ghost use Rattle.std.specs.Prelude.{◌≡◌, ◌⊎◌};
 
-    ghost may_stop = { λ gate source index. ((source ≡ gate.first.source) × (index ≡ gate.first.index))
+    ghost may_stop = { λ gate source index.
+        ((source ≡ gate.first.source) × (index ≡ gate.first.index))
         ⊎ ((source ≡ gate.second.source) × (index ≡ gate.second.index)) };
 
-    ghost may_go = { λ gate source index. ((source ≡ gate.first.source) × (index ≡ gate.first.index) → ⊥)
+    ghost may_go = { λ gate source index.
+        ((source ≡ gate.first.source) × (index ≡ gate.first.index) → ⊥)
         × ((source ≡ gate.second.source) × (index ≡ gate.second.index) → ⊥) };
 
     fn before(&self, source: u32, index: u64) -> Turn {

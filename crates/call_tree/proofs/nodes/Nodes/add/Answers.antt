@@ -2,9 +2,9 @@ use Rattle.std.proofs.Common.{◌≡◌, ◌+◌, ◌^◌, [], get_or, set, sym,
 use Rattle.std.proofs.lemmas.Grind.{get_or_default_zero}
 use Rattle.std.proofs.lemmas.List.{take_more}
 use Rattle.call_tree.specs.CallTree.{tree_of}
-use Rattle.call_tree.specs.Nodes.{samples_of, IsTree, IsWalked}
+use Rattle.call_tree.specs.Nodes.{samples_of, IsTree}
 use Rattle.call_tree.proofs.Paths.{path_of_root}
-use Rattle.call_tree.proofs.Walk.{walk_starts}
+use Rattle.call_tree.proofs.Walk.{IsWalked, walk_starts}
 use Rattle.call_tree.proofs.WalkStep.{IsOnTheWay, walk_steps, child_fits, on_at_end, own_fits, ends_tree, ends_weights}
 use Rattle.call_tree.proofs.nodes.Nodes.add.Goals as goal
 

@@ -1,6 +1,7 @@
 use Rattle.std.proofs.Common.{◌≡◌, ◌++◌, ◌∷◌, [], ◌∙◌, ap, arith, rules, refl, map, string_bytes}
 use Rattle.std.specs.Option.{option_to_list}
 use Rattle.call_tree.specs.CallTree.{with_weight}
+use Rattle.ring_collect.specs.NamesInOrder.{with_stack}
 use Rattle.flame_tool.specs.TakenRows.{rows_of, row_of}
 use Rattle.flame_tool.specs.TreeSinkState.{TreeSinkState}
 use Rattle.flame_tool.specs.Merging.{due_after}
@@ -93,3 +94,6 @@ returns-clause-ok c =
     let pairs = grown.pairs_are ∙ ap (λ (state : TreeSinkState). state.taken) c.self.view_is in
     pairs-push c.set.new.table (rows_of r.new.self.taken) (rows_of c.count.new.self.taken) (row_of c.set.new.self) c.args.source (map string_bytes c.get-stack.result.now) c.args.sample.now c.in_ok-set.ensures.row c.get-stack.ensures c.count.ensures.taken
     ∙ ap (λ front. front ++ (c.args.source, c.args.sample.now) ∷ []) pairs
+
+pub returns-clause-in_order : goal.returns-clause-in_order
+returns-clause-in_order c = c.in_ok-set.ensures.in_order ∙ (λ i. with_stack (c.self.view_is i).names (c.get-stack.ensures i))
