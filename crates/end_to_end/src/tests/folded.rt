@@ -50,7 +50,7 @@ fn refused_counts(rt: HostRuntime) -> Result<(), Fail> {
 }
 
 #[test]
-fn limits_of_weights_and_depth(rt: HostRuntime) -> Result<(), Fail> {
+fn limits_of_weights_and_depth_by_weights(rt: HostRuntime) -> Result<(), Fail> {
     let most = b"a 72057594037927935\nb 0\n";
     assert!(rt; folds(&rt, most, (0, "a 72057594037927935\n", ""))?);
     let over = b"a 72057594037927935\nb 1\n";

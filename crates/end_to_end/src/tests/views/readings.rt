@@ -128,7 +128,7 @@ fn refused_counts(rt: HostRuntime) -> Result<(), Fail> {
 
 /// As many sources as there may be, each as heavy as it may be.
 #[test]
-fn limits_of_weights_and_depth(rt: HostRuntime) -> Result<(), Fail> {
+fn limits_of_weights_and_depth_by_weights(rt: HostRuntime) -> Result<(), Fail> {
     let texts = ["a 72057594037927935\n"; 64];
     let views = run_folded(&rt, rt.alloc(), &texts, &plain(&rt, 1, None), OpenGate)?;
     assert_eq!(rt; views.tree().total(&[0]), 4_611_686_018_427_387_840);
