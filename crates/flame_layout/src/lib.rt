@@ -11,11 +11,10 @@ mod placing;
 #[cfg(test)]
 mod tests;
 mod walks;
-mod widths;
 
 pub use boxes::{ComparedBox, PairRow, PlacedBox, SpanBox};
 pub use charts::chart_boxes;
 pub use comparisons::{compare, compared_boxes};
 pub use graphs::graph_boxes;
 pub use placing::{edges, place};
-pub use widths::{MAX_WIDTH, Width};
+pub use run_options::{MAX_WIDTH, Width};

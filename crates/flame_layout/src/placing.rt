@@ -4,7 +4,7 @@ ghost use Rattle.std.specs.Prelude.{◌≡◌, ℕ, ◌+◌, ◌*◌, ◌/◌, �
 ghost use Rattle.flame_layout.specs.Edges.{placed_at, left_edge, right_edge};
 
 use crate::boxes::{PlacedBox, SpanBox};
-use crate::widths::Width;
+use run_options::Width;
 use std::alloc::{AllocError, Global};
 
 /// The boxes in order, each with its edges: where it begins and where it ends, as parts of the

@@ -13,16 +13,16 @@ use Rattle.folded_lines.specs.Reading.{read_folded}
 use Rattle.ring_collect.specs.Collecting.{AreWhole, seen_as_rest}
 use Rattle.flame_layout.specs.Timeline.{samples_of}
 use Rattle.flame_tool.specs.Opening.{IsInput}
-use Rattle.flame_tool.specs.Sources.{rests_of, read_bytes}
-use Rattle.flame_tool.specs.Sums.{all_samples}
+use Rattle.merging.specs.Sources.{rests_of, read_bytes}
+use Rattle.merging.specs.Sums.{all_samples}
 use Rattle.flame_tool.specs.Texts.{view_text}
-use Rattle.flame_tool.specs.Fold.{fold_text}
+use Rattle.view_texts.specs.Fold.{fold_text}
 use Rattle.flame_tool.specs.Runs.{IsClean, IsFault, IsFoldOfInput, text_of, has_fault, ends_in_fault, Succeeds, GainsFront, Fails, FailsToShow, KeepsOutput, status_of}
 use Rattle.flame_tool.specs.declared.failures.Failure.{Failure}
 use Rattle.flame_tool.specs.declared.failures.Failure.TheVariants.{TooManyFiles, Unreadable, TooLarge, OutOfMemory, NoThread, Unfinished, Faults, Output}
-use Rattle.flame_tool.specs.declared.options.Options.{Options}
-use Rattle.flame_tool.specs.declared.plans.Plan.{Plan}
-use Rattle.flame_tool.specs.declared.sources.Source.{Source}
+use Rattle.run_options.specs.declared.options.Options.{Options}
+use Rattle.command_line.specs.declared.plans.Plan.{Plan}
+use Rattle.merging.specs.declared.sources.Source.{Source}
 use Rattle.flame_tool.proofs.FoldedEndings.{IsNotStopped, read_folded-ends}
 
 -- the lists are that of these folded bytes alone

@@ -18,12 +18,12 @@ use Rattle.std.specs.List.{range_with_len}
 use Rattle.std.proofs.lemmas.List.FromFn.{map-range_with_len_more}
 use Rattle.stack_core.specs.Interleaving.{counts_at}
 use Rattle.flame_tool.specs.Filling.{filled}
-use Rattle.flame_tool.specs.Json.{snapshot_line, boxes_line}
-use Rattle.flame_tool.specs.Snapshots.{snapshot_counts, snapshot_samples, snapshot_places, IsSnapshot, AreSnapshots}
-use Rattle.flame_tool.specs.Sums.{all_samples}
+use Rattle.view_texts.specs.Json.{snapshot_line, boxes_line}
+use Rattle.merging.specs.Snapshots.{snapshot_counts, snapshot_samples, snapshot_places, IsSnapshot, AreSnapshots}
+use Rattle.merging.specs.Sums.{all_samples}
 use Rattle.flame_tool.specs.Texts.{all_counts, snapshot_line_at, snapshot_lines, places_of, graph_line, graph_text}
-use Rattle.flame_tool.specs.declared.snapshots.Snapshot.{Snapshot}
-use Rattle.flame_tool.proofs.CountLemmas.{get_or-source_counts}
+use Rattle.merging.specs.declared.snapshots.Snapshot.{Snapshot}
+use Rattle.merging.proofs.CountLemmas.{get_or-source_counts}
 
 -- counts filled up are those of all sources
 pub filled_counts : (sources m : ℕ) (order : List ℕ) → filled sources (snapshot_counts m order) ≡ map (counts_at m order) (range_with_len 0 sources)

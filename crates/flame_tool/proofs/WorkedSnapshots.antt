@@ -6,8 +6,8 @@ use Rattle.json.specs.Print.{escape_byte}
 use Rattle.call_tree.specs.PathSums.{total_of, own_of}
 use Rattle.stack_core.specs.declared.samples.Sample.{Sample}
 use Rattle.flame_layout.specs.Timeline.{Stack}
-use Rattle.flame_tool.specs.Json.{boxes_line, snapshot_line, pair_boxes_line}
-use Rattle.flame_tool.specs.Snapshots.{snapshot_counts, snapshot_places, snapshot_samples}
+use Rattle.view_texts.specs.Json.{boxes_line, snapshot_line, pair_boxes_line}
+use Rattle.merging.specs.Snapshots.{snapshot_counts, snapshot_places, snapshot_samples}
 use Rattle.flame_tool.specs.Texts.{graph_text, chart_text, pair_boxes_text}
 
 abbrev taken : Stack → ℕ → Sample

@@ -1,7 +1,7 @@
 -- What is loaded where there are no files.
 use Rattle.std.specs.Prelude.{◌≡◌, ℕ, List, [], ◌∷◌}
-use Rattle.flame_tool.specs.declared.formats.Format.TheVariants.{Folded}
-use Rattle.flame_tool.specs.declared.sources.Source.{Source}
+use Rattle.run_options.specs.declared.formats.Format.TheVariants.{Folded}
+use Rattle.merging.specs.declared.sources.Source.{Source}
 
 -- one source: the input, which is folded text
 abbrev pub IsInput : List Source → List ℕ → Type 0

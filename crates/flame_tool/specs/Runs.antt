@@ -8,13 +8,13 @@ use Rattle.stack_core.specs.declared.endings.SourceEnd.TheVariants as ends
 use Rattle.folded_lines.specs.Reading.{read_folded}
 use Rattle.ring_collect.specs.declared.collecting.CollectFault.{CollectFault}
 use Rattle.ring_collect.specs.declared.collecting.CollectFault.TheVariants as collect
-use Rattle.flame_tool.specs.Fold.{fold_text}
+use Rattle.view_texts.specs.Fold.{fold_text}
 use Rattle.flame_tool.specs.declared.failures.Failure.{Failure}
 use Rattle.flame_tool.specs.declared.failures.Failure.TheVariants.{TooManyFiles, Unreadable, TooLarge, OutOfMemory, NoThread, Unfinished, Faults, Output}
-use Rattle.flame_tool.specs.declared.loading.LoadFault.{LoadFault}
-use Rattle.flame_tool.specs.declared.loading.LoadFault.TheVariants as load
-use Rattle.flame_tool.specs.declared.plans.Plan.{Plan}
-use Rattle.flame_tool.specs.declared.plans.View.TheVariants.{Fold}
+use Rattle.byte_io.specs.declared.whole_input.LoadFault.{LoadFault}
+use Rattle.byte_io.specs.declared.whole_input.LoadFault.TheVariants as load
+use Rattle.command_line.specs.declared.plans.Plan.{Plan}
+use Rattle.command_line.specs.declared.plans.View.TheVariants.{Fold}
 
 -- all of the source was read
 abbrev pub IsClean : SourceEnd → Type 0

@@ -7,14 +7,14 @@ use Rattle.flame_layout.specs.Timeline.{timeline, total_weight}
 use Rattle.flame_layout.specs.Chart.{chart_of}
 use Rattle.flame_layout.specs.Graph.{graph_of}
 use Rattle.flame_layout.specs.Comparison.{compared_boxes_of}
-use Rattle.flame_tool.specs.Fold.{fold_text}
-use Rattle.flame_tool.specs.Json.{boxes_line, snapshot_line, pair_boxes_line}
-use Rattle.flame_tool.specs.Pairs.{pairs_text}
-use Rattle.flame_tool.specs.Snapshots.{snapshot_samples, snapshot_places}
-use Rattle.flame_tool.specs.Sums.{all_samples}
-use Rattle.flame_tool.specs.declared.plans.View.{View}
-use Rattle.flame_tool.specs.declared.snapshots.Snapshot.{Snapshot}
-use Rattle.flame_tool.specs.declared.plans.View.TheVariants.{Fold, Graph, Chart, Pairs, PairBoxes}
+use Rattle.view_texts.specs.Fold.{fold_text}
+use Rattle.view_texts.specs.Json.{boxes_line, snapshot_line, pair_boxes_line}
+use Rattle.view_texts.specs.Pairs.{pairs_text}
+use Rattle.merging.specs.Snapshots.{snapshot_samples, snapshot_places}
+use Rattle.merging.specs.Sums.{all_samples}
+use Rattle.command_line.specs.declared.plans.View.{View}
+use Rattle.merging.specs.declared.snapshots.Snapshot.{Snapshot}
+use Rattle.command_line.specs.declared.plans.View.TheVariants.{Fold, Graph, Chart, Pairs, PairBoxes}
 
 -- the flame graph of samples
 abbrev pub graph_line : ℕ → List Sample → List ℕ

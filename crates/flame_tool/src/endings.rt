@@ -3,7 +3,7 @@ ghost use Rattle.std.specs.Prelude.{◌≡◌};
 ghost use Rattle.flame_tool.specs.Runs.{ends_in_fault, has_fault};
 
 use crate::messages::tell_ending;
-use crate::outlet::Outlet;
+use byte_io::Outlet;
 use stack_core::{SourceEnd, SourceList};
 
 // Says of each source, in order, how it ended, where there is something to say.

@@ -3,8 +3,7 @@ ghost use Rattle.std.specs.Prelude.{◌≡◌};
 ghost use Rattle.flame_tool.specs.Runs.{status_of, failure_of_load, failure_of_collect};
 ghost use Rattle.flame_tool.specs.declared.failures.Failure.TheVariants.{OutOfMemory, Output};
 
-use crate::loading::LoadFault;
-use crate::sending::SendFault;
+use byte_io::{LoadFault, SendFault};
 use ring_collect::CollectFault;
 use std::alloc::AllocError;
 

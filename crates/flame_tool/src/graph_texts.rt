@@ -7,19 +7,18 @@ ghost use Rattle.flame_layout.specs.Paths.{SameOwn, tree_samples};
 ghost use Rattle.flame_layout.specs.Timeline.{samples_of, timeline, total_weight};
 ghost use Rattle.flame_layout.specs.Chart.{chart_of};
 ghost use Rattle.flame_layout.specs.Graph.{graph_of};
-ghost use Rattle.flame_tool.specs.Json.{snapshot_line};
-ghost use Rattle.flame_tool.specs.Sums.{all_samples, IsDrawable};
-ghost use Rattle.flame_tool.specs.Snapshots.{snapshot_places};
+ghost use Rattle.view_texts.specs.Json.{snapshot_line};
+ghost use Rattle.merging.specs.Sums.{all_samples, IsDrawable};
+ghost use Rattle.merging.specs.Snapshots.{snapshot_places};
 ghost use Rattle.flame_tool.specs.Texts.{chart_text, graph_text, snapshot_lines, snapshot_line_at, places_of};
 ghost use Rattle.flame_tool.specs.Filling.{filled};
 
-use crate::drawing::total_of;
-use crate::gathering::Gathered;
-use crate::json_lines::{append_boxes_line, append_snapshot_line};
-use crate::snapshots::Snapshot;
+use crate::drawings::total_of;
 use call_tree::FrameTable;
 use flame_layout::{SpanBox, Width, graph_boxes};
+use merging::{Gathered, Snapshot};
 use std::alloc::{AllocError, Global};
+use view_texts::{append_boxes_line, append_snapshot_line};
 
 // Appends the line of the chart. An `Err` changes nothing.
 pub(crate) fn append_chart(

@@ -4,66 +4,29 @@
 
 pub mod laws;
 
-// The command line.
-mod commands;
-mod formats;
-mod options;
-mod planning;
-mod plans;
-
-// Bytes in, and bytes out.
-mod calls;
-mod files;
-mod inlet;
-mod loading;
-mod outlet;
-mod sending;
-
-// Sources, collected and merged.
-mod gathering;
-mod opening;
-mod readers;
-mod snapshots;
-mod sources;
-mod taken_rows;
-mod tally;
-mod tree_sink;
-
-// Boxes and texts.
-mod drawing;
-mod folding;
+// What is seen of the sources: boxes and texts.
+mod drawings;
 mod graph_texts;
-mod json_boxes;
-mod json_lines;
-mod json_pieces;
-mod pairing;
-mod rendering;
-mod seen;
-mod viewing;
+mod view_set;
+mod view_text;
+mod whole_run;
 
 // A run of the program.
 mod endings;
 mod failures;
 mod messages;
-mod running;
+mod program;
+mod source_files;
 
-pub use files::{Files, MachineFiles, MemoryFiles, NamedFile, SOURCE_LIMIT};
-pub use formats::{Format, format_of};
-pub use inlet::{CountedReader, Inlet};
-pub use loading::{LoadFault, load};
-pub use opening::SOURCE_COUNT;
-pub use options::Options;
-pub use outlet::{CountedWriter, Outlet};
-pub use planning::plan;
-pub use plans::{Plan, PlanFault, View};
-pub use rendering::render;
-pub use running::run;
-pub use seen::Views;
-pub use sending::{SendFault, send};
-pub use snapshots::Snapshot;
-pub use sources::Source;
-pub use tree_sink::TreeSink;
-pub use viewing::views;
-
-#[cfg(test)]
-mod tests;
+pub use byte_io::{
+    CountedReader, CountedWriter, Files, Inlet, LoadFault, MachineFiles, MemoryFiles, NamedFile,
+    Outlet, SOURCE_LIMIT, SendFault, load, send,
+};
+pub use command_line::{Plan, PlanFault, View, plan};
+pub use merging::{Gathered, Snapshot, Source, TreeSink, gather};
+pub use program::run;
+pub use run_options::{Format, Options, format_of};
+pub use source_files::SOURCE_COUNT;
+pub use view_set::Views;
+pub use view_text::render;
+pub use whole_run::views;

@@ -4,8 +4,7 @@ ghost use Rattle.std.specs.Prelude.{◌≡◌};
 ghost use Rattle.flame_tool.specs.Names.{kind_text};
 
 use crate::failures::Failure;
-use crate::outlet::Outlet;
-use crate::sending::send;
+use byte_io::{Outlet, send};
 use itoa::Buffer;
 use stack_core::{ReadKind, SourceEnd};
 

@@ -6,8 +6,8 @@ use Rattle.std.specs.List.{slice_get}
 use Rattle.std.proofs.lemmas.Option.{slice_get-map}
 use Rattle.stack_core.specs.declared.endings.ReadFault.{ReadFault}
 use Rattle.stack_core.specs.declared.endings.ReadKind.TheVariants.{UnknownFunction}
-use Rattle.profile_tables.specs.declared.choices.Pick.{Pick}
-use Rattle.profile_tables.specs.declared.choices.Naming.{Naming}
+use Rattle.run_options.specs.declared.choices.Pick.{Pick}
+use Rattle.run_options.specs.declared.choices.Naming.{Naming}
 use Rattle.profile_tables.specs.declared.entries.Entries.{Entries}
 use Rattle.profile_tables.specs.declared.faults.TableFault.{TableFault}
 use Rattle.profile_tables.specs.declared.faults.TableFault.TheVariants.{Read, OutOfMemory}

@@ -5,7 +5,7 @@ use Rattle.std.specs.List.{position_or_len}
 use Rattle.std.proofs.lemmas.List.{get_or-map, get_or_past, length-map}
 use Rattle.std.proofs.lemmas.List.Sums.{position_or_len_is}
 use Rattle.std.proofs.lemmas.Grind.{common_steps}
-use Rattle.profile_tables.specs.declared.choices.Pick.{Pick}
+use Rattle.run_options.specs.declared.choices.Pick.{Pick}
 use Rattle.profile_tables.specs.declared.entries.Entries.{Entries}
 use Rattle.profile_tables.specs.declared.message.Content.{Content as CodeContent}
 use Rattle.profile_tables.specs.Message.{Content, scalar}

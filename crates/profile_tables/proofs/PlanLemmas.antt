@@ -10,8 +10,8 @@ use Rattle.stack_core.specs.declared.endings.ReadKind.{ReadKind}
 use Rattle.stack_core.specs.declared.endings.ReadKind.TheVariants.{TooDeep, TotalTooLarge}
 use Rattle.stack_core.specs.declared.endings.ReadFault.{ReadFault}
 use Rattle.stack_core.specs.Reading.{Rest, IsLimited, IsSourceLimited}
-use Rattle.profile_tables.specs.declared.choices.Pick.{Pick}
-use Rattle.profile_tables.specs.declared.choices.Naming.{Naming}
+use Rattle.run_options.specs.declared.choices.Pick.{Pick}
+use Rattle.run_options.specs.declared.choices.Naming.{Naming}
 use Rattle.wire_fields.specs.Reading.{fields_of}
 use Rattle.profile_tables.specs.Message.{first, Content, content_of}
 use Rattle.profile_tables.specs.Shapes.{faults_in, sample_shape}

@@ -6,8 +6,8 @@ use Rattle.stack_core.specs.declared.endings.ReadFault.{ReadFault}
 use Rattle.stack_core.specs.declared.endings.SourceEnd.{SourceEnd}
 use Rattle.stack_core.specs.declared.endings.SourceEnd.TheVariants.{Clean, Fault, Stopped}
 use Rattle.stack_core.specs.Reading.{Rest}
-use Rattle.profile_tables.specs.declared.choices.Pick.{Pick}
-use Rattle.profile_tables.specs.declared.choices.Naming.{Naming}
+use Rattle.run_options.specs.declared.choices.Pick.{Pick}
+use Rattle.run_options.specs.declared.choices.Naming.{Naming}
 use Rattle.profile_tables.specs.Message.{first, Content}
 use Rattle.profile_tables.specs.Tables.{samples_of}
 use Rattle.profile_tables.specs.Samples.{SampleTables, tables_of, weight_of, sample_faults, sample_of, sample_then, read_samples, rest_of, file_faults, read_pprof}

@@ -1,6 +1,6 @@
 -- The tables of a file as the code has them.
 use Rattle.std.specs.Prelude.{◌≡◌, ℕ, List, ◌++◌, length, Option, None, map, unwrap_or, option_to_list, ◌==◌, ◌||◌, if◌then◌else◌}
-use Rattle.profile_tables.specs.declared.choices.Pick.{Pick}
+use Rattle.run_options.specs.declared.choices.Pick.{Pick}
 use Rattle.profile_tables.specs.declared.entries.Entries.{Entries}
 use Rattle.profile_tables.specs.declared.entries.PlacedNumber.{PlacedNumber as CodeNumber}
 use Rattle.wire_fields.specs.Field.{WireField}

@@ -3,7 +3,7 @@ use Rattle.std.specs.Prelude.{◌≡◌, ℕ, List, [], ◌∷◌, ◌++◌, len
 use Rattle.std.specs.Option.{option_and_then}
 use Rattle.std.specs.List.{slice_get}
 use Rattle.std.specs.Borrow.{Bor}
-use Rattle.profile_tables.specs.declared.choices.Naming.{Naming}
+use Rattle.run_options.specs.declared.choices.Naming.{Naming}
 use Rattle.profile_tables.specs.declared.ids.Index.{Index}
 use Rattle.profile_tables.specs.declared.functions.FunctionNames.{FunctionNames}
 use Rattle.profile_tables.specs.declared.frames.Frame.{Frame}

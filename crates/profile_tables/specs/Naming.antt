@@ -3,8 +3,8 @@ use Rattle.std.specs.Prelude.{ℕ, ◌^◌, List, [], ◌∷◌, ◌++◌, lengt
 use Rattle.std.specs.Fmt.{digits}
 use Rattle.std.specs.Prelude.{false}
 use Rattle.bstr.specs.Utf8.{lossy_chars}
-use Rattle.profile_tables.specs.declared.choices.Naming.{Naming}
-use Rattle.profile_tables.specs.declared.choices.Naming.TheVariants.{Plain, Lines}
+use Rattle.run_options.specs.declared.choices.Naming.{Naming}
+use Rattle.run_options.specs.declared.choices.Naming.TheVariants.{Plain, Lines}
 use Rattle.profile_tables.specs.Message.{scalar, Content, contents}
 use Rattle.profile_tables.specs.Tables.{strings_of, functions_of, locations_of, string_at, entry_of}
 

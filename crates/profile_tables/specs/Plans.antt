@@ -5,8 +5,8 @@ use Rattle.stack_core.specs.declared.readers.Step.{Step}
 use Rattle.stack_core.specs.declared.readers.Step.TheVariants as step
 use Rattle.stack_core.specs.declared.endings.SourceEnd.{SourceEnd}
 use Rattle.stack_core.specs.Reading.{Rest, IsLimited}
-use Rattle.profile_tables.specs.declared.choices.Pick.{Pick}
-use Rattle.profile_tables.specs.declared.choices.Naming.{Naming}
+use Rattle.run_options.specs.declared.choices.Pick.{Pick}
+use Rattle.run_options.specs.declared.choices.Naming.{Naming}
 use Rattle.profile_tables.specs.declared.plan.Plan.{Plan}
 use Rattle.profile_tables.specs.declared.steps.Start.{Start}
 use Rattle.profile_tables.specs.declared.steps.Start.TheVariants as start

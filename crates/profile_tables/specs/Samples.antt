@@ -8,8 +8,8 @@ use Rattle.stack_core.specs.declared.endings.SourceEnd.TheVariants.{Clean, Fault
 use Rattle.stack_core.specs.declared.samples.Sample.{Sample}
 use Rattle.stack_core.specs.declared.samples.TheConstants.{FRAME_LIMIT, WEIGHT_LIMIT}
 use Rattle.stack_core.specs.Reading.{Rest}
-use Rattle.profile_tables.specs.declared.choices.Pick.{Pick}
-use Rattle.profile_tables.specs.declared.choices.Naming.{Naming}
+use Rattle.run_options.specs.declared.choices.Pick.{Pick}
+use Rattle.run_options.specs.declared.choices.Naming.{Naming}
 use Rattle.profile_tables.specs.Message.{first, Content, repeated_numbers}
 use Rattle.profile_tables.specs.Shapes.{faults_in, sample_shape, fault_at, field_faults}
 use Rattle.profile_tables.specs.Tables.{sample_types_of, samples_of, chosen_value, table_faults}

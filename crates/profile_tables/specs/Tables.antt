@@ -6,8 +6,8 @@ use Rattle.stack_core.specs.declared.endings.ReadKind.TheVariants.{BadStringZero
 use Rattle.stack_core.specs.declared.endings.ReadFault.{ReadFault}
 use Rattle.wire_fields.specs.Field.{WireField}
 use Rattle.wire_fields.specs.Reading.{fields_of}
-use Rattle.profile_tables.specs.declared.choices.Pick.{Pick}
-use Rattle.profile_tables.specs.declared.choices.Pick.TheVariants.{Preferred, Named}
+use Rattle.run_options.specs.declared.choices.Pick.{Pick}
+use Rattle.run_options.specs.declared.choices.Pick.TheVariants.{Preferred, Named}
 use Rattle.profile_tables.specs.Message.{last_or, scalar, scalar_from, Content, contents}
 use Rattle.profile_tables.specs.Shapes.{fault_at}
 

@@ -3,8 +3,8 @@ use Rattle.std.specs.Prelude.{◌≡◌, ◌≤◌, ℕ, List, length, Option, S
 use Rattle.stack_core.specs.declared.samples.TheConstants.{WEIGHT_LIMIT}
 use Rattle.stack_core.specs.declared.endings.SourceEnd.{SourceEnd}
 use Rattle.stack_core.specs.Reading.{Rest}
-use Rattle.profile_tables.specs.declared.choices.Pick.{Pick}
-use Rattle.profile_tables.specs.declared.choices.Naming.{Naming}
+use Rattle.run_options.specs.declared.choices.Pick.{Pick}
+use Rattle.run_options.specs.declared.choices.Naming.{Naming}
 use Rattle.profile_tables.specs.declared.plan.Plan.{Plan}
 use Rattle.profile_tables.specs.declared.reader.PprofReader.TheInside.{Inside}
 use Rattle.profile_tables.specs.Samples.{read_pprof}

@@ -2,9 +2,9 @@
 
 ghost use Rattle.std.specs.Prelude.{◌≡◌, ◌++◌, IfOk, map, reverse, string_bytes};
 
-use crate::choices::Naming;
 use crate::ids::Index;
 use crate::naming::{address_frame, append_line};
+use run_options::Naming;
 use stack_core::Names;
 use std::alloc::{AllocError, Global};
 

@@ -2,7 +2,6 @@
 #![tactic(auto)]
 
 mod checks;
-mod choices;
 mod entries;
 mod faults;
 mod frames;
@@ -25,7 +24,7 @@ mod tables;
 #[cfg(test)]
 mod tests;
 
-pub use choices::{Naming, Pick};
 pub use faults::TableFault;
 pub use reader::PprofReader;
+pub use run_options::{Naming, Pick};
 pub use tables::Tables;

@@ -5,11 +5,11 @@ ghost use Rattle.profile_tables.specs.Contents.{seen_content, seen_table};
 ghost use Rattle.profile_tables.specs.Index.{IsIndexOf};
 ghost use Rattle.profile_tables.specs.Frames.{text_of, name_in, named_in, frame_named, lines_named, AreFramesOf, IsWhole};
 
-use crate::choices::Naming;
 use crate::frames::{Frame, Frames, Span};
 use crate::functions::FunctionNames;
 use crate::ids::Index;
 use crate::message::{Content, next_field, scalar};
+use run_options::Naming;
 use std::alloc::{AllocError, Global};
 use wire_fields::{FieldValue, Fields};
 

@@ -4,8 +4,8 @@ ghost use Rattle.std.specs.Prelude.{◌≡◌, ◌++◌, IfOk, string_bytes};
 ghost use Rattle.profile_tables.specs.Naming.{plain_char as plain, plain_text as plain_bytes, address_frame as address_bytes, line_suffix};
 ghost use Rattle.profile_tables.specs.Functions.{name_or_unknown as name_of};
 
-use crate::choices::Naming;
 use bstr::ByteSlice;
+use run_options::Naming;
 use std::alloc::{AllocError, Global};
 
 /// A character of a frame's name: `;` separates the names of a folded line, and line feed ends it.

@@ -6,10 +6,10 @@ ghost use Rattle.profile_tables.specs.Tables.{string_at as string_of, place_of a
 ghost use Rattle.profile_tables.specs.Contents.{texts_of};
 ghost use Rattle.profile_tables.specs.Entries.{names_of_types, chosen_of, AreEntriesOf};
 
-use crate::choices::Pick;
 use crate::entries::Entries;
 use crate::message::{Content, scalar};
 use crate::strings::string_at;
+use run_options::Pick;
 use stack_core::{ReadFault, ReadKind};
 use std::alloc::{AllocError, Global};
 

@@ -13,7 +13,6 @@ ghost use Rattle.profile_tables.specs.Frames.{frames_at, IsWhole};
 ghost use Rattle.profile_tables.specs.SeenPlan.{seen_plan};
 
 use crate::checks::{function_fault, string_fault};
-use crate::choices::{Naming, Pick};
 use crate::entries::{Entries, entries_of};
 use crate::faults::TableFault;
 use crate::frames::Frames;
@@ -23,6 +22,7 @@ use crate::lines::frames_of;
 use crate::picking::{chosen_value, type_fault};
 use crate::shapes::field_fault;
 use crate::strings::string_zero_fault;
+use run_options::{Naming, Pick};
 use stack_core::{ReadFault, ReadKind};
 use std::alloc::{AllocError, Global};
 

@@ -5,9 +5,9 @@ ghost use Rattle.stack_core.specs.Reading.{IsSourceLimited};
 ghost use Rattle.stack_core.specs.declared.endings.SourceEnd.TheVariants.{Stopped};
 ghost use Rattle.profile_tables.specs.Samples.{read_pprof};
 
-use crate::choices::{Naming, Pick};
 use crate::plan::Plan;
 use crate::steps::{Start, next_step, start_of};
+use run_options::{Naming, Pick};
 use stack_core::{SampleReader, SourceEnd, Step};
 use std::alloc::{AllocError, Global};
 use std::marker::Model;

@@ -3,11 +3,11 @@
 ghost use Rattle.std.specs.Prelude.{◌≤◌, IfOk};
 ghost use Rattle.profile_tables.specs.Plans.{IsStart, IsNext};
 
-use crate::choices::{Naming, Pick};
 use crate::faults::TableFault;
 use crate::places::content_at;
 use crate::plan::{Plan, plan_of};
 use crate::samples::read_sample;
+use run_options::{Naming, Pick};
 use stack_core::{ReadFault, SourceEnd, Step, WEIGHT_LIMIT};
 use std::alloc::{AllocError, Global};
 

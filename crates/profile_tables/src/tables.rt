@@ -6,10 +6,10 @@ ghost use Rattle.profile_tables.specs.Contents.{IsFirstOf};
 ghost use Rattle.profile_tables.specs.Samples.{file_faults, tables_of};
 ghost use Rattle.profile_tables.specs.SeenTables.{seen_tables, LendsNames};
 
-use crate::choices::{Naming, Pick};
 use crate::faults::TableFault;
 use crate::ids::Index;
 use crate::plan::plan_of;
+use run_options::{Naming, Pick};
 use stack_core::Names;
 use std::alloc::Global;
 

@@ -12,9 +12,9 @@ ghost use Rattle.stack_core.specs.Interleaving.{IsInterleaving, AreOf, interleav
 
 use crate::gathering::drain;
 use crate::settling::settle_all;
-use crate::sizes::RingSize;
 use crate::started::{RingEnds, Started};
 use crate::starting::{lacks_memory, lacks_thread, make_ring, start_all};
+use run_options::RingSize;
 use stack_core::{Close, Gate, Ledger, SampleReader, Sink, SourceList};
 use std::alloc::{AllocError, Global};
 use std::sync::{Arc, Wait};

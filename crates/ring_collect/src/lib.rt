@@ -8,12 +8,11 @@ mod intakes;
 mod kept;
 mod limits;
 mod settling;
-mod sizes;
 mod started;
 mod starting;
 mod taking;
 mod telling;
 
 pub use collecting::{CollectFault, Collected, collect};
-pub use sizes::{LARGEST_RING, RingSize};
+pub use run_options::{LARGEST_RING, RingSize};
 pub use stack_core::RingRecord;

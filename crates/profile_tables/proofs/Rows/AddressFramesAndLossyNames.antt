@@ -5,8 +5,8 @@ use Rattle.bstr.proofs.Computing.{computing}
 use Rattle.stack_core.specs.declared.endings.SourceEnd.TheVariants.{Clean}
 use Rattle.wire_fields.specs.Varint.{varint_within}
 use Rattle.wire_fields.specs.Reading.{value_at, field_at, left_at, fields_of, numbers_of}
-use Rattle.profile_tables.specs.declared.choices.Pick.TheVariants.{Preferred}
-use Rattle.profile_tables.specs.declared.choices.Naming.TheVariants.{Plain, Lines}
+use Rattle.run_options.specs.declared.choices.Pick.TheVariants.{Preferred}
+use Rattle.run_options.specs.declared.choices.Naming.TheVariants.{Plain, Lines}
 use Rattle.profile_tables.specs.Samples.{read_pprof}
 
 pub address_frames_and_lossy_names-address : read_pprof (10 ∷ 4 ∷ 8 ∷ 1 ∷ 16 ∷ 2 ∷ 18 ∷ 6 ∷ 10 ∷ 1 ∷ 1 ∷ 18 ∷ 1 ∷ 7 ∷ 34 ∷ 5 ∷ 8 ∷ 1 ∷ 24 ∷ 240 ∷ 3 ∷ 50 ∷ 0 ∷ 50 ∷ 3 ∷ 99 ∷ 112 ∷ 117 ∷ 50 ∷ 2 ∷ 110 ∷ 115 ∷ []) Preferred Plain ≡

@@ -5,8 +5,8 @@ use Rattle.bstr.proofs.Computing.{computing}
 use Rattle.stack_core.specs.declared.endings.SourceEnd.TheVariants.{Clean}
 use Rattle.wire_fields.specs.Varint.{varint_within}
 use Rattle.wire_fields.specs.Reading.{value_at, field_at, left_at, fields_of, numbers_of}
-use Rattle.profile_tables.specs.declared.choices.Pick.TheVariants.{Preferred}
-use Rattle.profile_tables.specs.declared.choices.Naming.TheVariants.{Plain}
+use Rattle.run_options.specs.declared.choices.Pick.TheVariants.{Preferred}
+use Rattle.run_options.specs.declared.choices.Naming.TheVariants.{Plain}
 use Rattle.profile_tables.specs.Samples.{read_pprof}
 
 pub empty_sources : read_pprof ([]) Preferred Plain ≡

@@ -6,8 +6,8 @@ use Rattle.stack_core.specs.declared.endings.ReadKind.TheVariants as kind
 use Rattle.stack_core.specs.declared.endings.SourceEnd.TheVariants.{Clean, Fault}
 use Rattle.wire_fields.specs.Varint.{varint_within}
 use Rattle.wire_fields.specs.Reading.{value_at, field_at, left_at, fields_of, numbers_of}
-use Rattle.profile_tables.specs.declared.choices.Pick.TheVariants.{Preferred, Named}
-use Rattle.profile_tables.specs.declared.choices.Naming.TheVariants.{Plain}
+use Rattle.run_options.specs.declared.choices.Pick.TheVariants.{Preferred, Named}
+use Rattle.run_options.specs.declared.choices.Naming.TheVariants.{Plain}
 use Rattle.profile_tables.specs.Samples.{read_pprof}
 
 pub negative_weight-preferred : read_pprof (10 ∷ 4 ∷ 8 ∷ 1 ∷ 16 ∷ 1 ∷ 10 ∷ 4 ∷ 8 ∷ 2 ∷ 16 ∷ 2 ∷ 18 ∷ 7 ∷ 10 ∷ 1 ∷ 1 ∷ 18 ∷ 2 ∷ 5 ∷ 9 ∷ 34 ∷ 6 ∷ 8 ∷ 1 ∷ 34 ∷ 2 ∷ 8 ∷ 1 ∷ 42 ∷ 4 ∷ 8 ∷ 1 ∷ 16 ∷ 3 ∷ 50 ∷ 0 ∷ 50 ∷ 1 ∷ 110 ∷ 50 ∷ 3 ∷ 99 ∷ 112 ∷ 117 ∷ 50 ∷ 1 ∷ 102 ∷ 18 ∷ 16 ∷ 10 ∷ 1 ∷ 1 ∷ 18 ∷ 11 ∷ 5 ∷ 255 ∷ 255 ∷ 255 ∷ 255 ∷ 255 ∷ 255 ∷ 255 ∷ 255 ∷ 255 ∷ 1 ∷ []) Preferred Plain ≡

@@ -5,8 +5,8 @@ use Rattle.bstr.proofs.Computing.{computing}
 use Rattle.stack_core.specs.declared.endings.SourceEnd.TheVariants.{Clean}
 use Rattle.wire_fields.specs.Varint.{varint_within}
 use Rattle.wire_fields.specs.Reading.{value_at, field_at, left_at, fields_of, numbers_of}
-use Rattle.profile_tables.specs.declared.choices.Pick.TheVariants.{Preferred}
-use Rattle.profile_tables.specs.declared.choices.Naming.TheVariants.{Plain, Lines}
+use Rattle.run_options.specs.declared.choices.Pick.TheVariants.{Preferred}
+use Rattle.run_options.specs.declared.choices.Naming.TheVariants.{Plain, Lines}
 use Rattle.profile_tables.specs.Samples.{read_pprof}
 
 pub one_function_two_lines-plain : read_pprof (10 ∷ 4 ∷ 8 ∷ 1 ∷ 16 ∷ 1 ∷ 18 ∷ 4 ∷ 8 ∷ 1 ∷ 16 ∷ 1 ∷ 18 ∷ 4 ∷ 8 ∷ 2 ∷ 16 ∷ 1 ∷ 34 ∷ 8 ∷ 8 ∷ 1 ∷ 34 ∷ 4 ∷ 8 ∷ 1 ∷ 16 ∷ 1 ∷ 34 ∷ 8 ∷ 8 ∷ 2 ∷ 34 ∷ 4 ∷ 8 ∷ 1 ∷ 16 ∷ 2 ∷ 42 ∷ 4 ∷ 8 ∷ 1 ∷ 16 ∷ 2 ∷ 50 ∷ 0 ∷ 50 ∷ 1 ∷ 110 ∷ 50 ∷ 1 ∷ 102 ∷ []) Preferred Plain ≡

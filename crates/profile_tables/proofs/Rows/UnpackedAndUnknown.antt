@@ -5,8 +5,8 @@ use Rattle.bstr.proofs.Computing.{computing}
 use Rattle.stack_core.specs.declared.endings.SourceEnd.TheVariants.{Clean}
 use Rattle.wire_fields.specs.Varint.{varint_within}
 use Rattle.wire_fields.specs.Reading.{value_at, field_at, left_at, fields_of, numbers_of}
-use Rattle.profile_tables.specs.declared.choices.Pick.TheVariants.{Preferred}
-use Rattle.profile_tables.specs.declared.choices.Naming.TheVariants.{Plain}
+use Rattle.run_options.specs.declared.choices.Pick.TheVariants.{Preferred}
+use Rattle.run_options.specs.declared.choices.Naming.TheVariants.{Plain}
 use Rattle.profile_tables.specs.Samples.{read_pprof}
 
 pub unpacked_and_unknown : read_pprof (152 ∷ 6 ∷ 42 ∷ 10 ∷ 4 ∷ 8 ∷ 1 ∷ 16 ∷ 2 ∷ 18 ∷ 5 ∷ 8 ∷ 1 ∷ 16 ∷ 135 ∷ 0 ∷ 34 ∷ 6 ∷ 8 ∷ 1 ∷ 34 ∷ 2 ∷ 8 ∷ 1 ∷ 42 ∷ 4 ∷ 8 ∷ 1 ∷ 16 ∷ 3 ∷ 50 ∷ 0 ∷ 50 ∷ 3 ∷ 99 ∷ 112 ∷ 117 ∷ 50 ∷ 2 ∷ 110 ∷ 115 ∷ 50 ∷ 4 ∷ 109 ∷ 97 ∷ 105 ∷ 110 ∷ []) Preferred Plain ≡

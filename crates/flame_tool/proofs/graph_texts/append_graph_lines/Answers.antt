@@ -1,5 +1,5 @@
 use Rattle.flame_layout.specs.Timeline.{samples_of}
-use Rattle.flame_tool.specs.Sums.{all_samples}
+use Rattle.merging.specs.Sums.{all_samples}
 use Rattle.flame_tool.proofs.TextLemmas.{graph_within, graph_positive, graph_appended}
 use Rattle.flame_tool.proofs.graph_texts.append_graph_lines.Goals as goal
 

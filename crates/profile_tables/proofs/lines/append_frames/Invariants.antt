@@ -1,6 +1,6 @@
 use Rattle.std.proofs.Common.{◌≡◌, ◌++◌, ℕ, List, length, map}
 use Rattle.std.specs.Prelude.{filter_map}
-use Rattle.profile_tables.specs.declared.choices.Naming.{Naming}
+use Rattle.run_options.specs.declared.choices.Naming.{Naming}
 use Rattle.profile_tables.specs.Message.{content_of, contents}
 use Rattle.profile_tables.specs.Frames.{text_of, name_in, frame_named}
 use Rattle.profile_tables.proofs.lines.append_frames.Given as goal

@@ -1,0 +1,5 @@
+-- The definitions that the contracts of byte_io cite.
+pub mod Calls
+pub mod Files
+pub mod Inlet
+pub mod Outlet

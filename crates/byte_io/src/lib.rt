@@ -1,0 +1,19 @@
+//! Bytes in, and bytes out: readers and writers that count their failed calls, whole inputs and outputs
+//! over them, and the files of a run.
+#![tactic(auto)]
+
+mod failure_counts;
+mod files;
+mod inlet;
+mod outlet;
+mod whole_input;
+mod whole_output;
+
+pub use files::{Files, MachineFiles, MemoryFiles, NamedFile, SOURCE_LIMIT};
+pub use inlet::{CountedReader, Inlet};
+pub use outlet::{CountedWriter, Outlet};
+pub use whole_input::{LoadFault, load};
+pub use whole_output::{SendFault, send};
+
+#[cfg(test)]
+mod tests;

@@ -1,0 +1,72 @@
+-- What the getters of matches read of the entries.
+use Rattle.std.proofs.Common.{◌≡◌, ◌∙◌, ◌<◌, ◌≤◌, ◌^◌, ◌⊎◌, inl, inr, ℕ, Bool, true, false, refl, sym, ap, arith, List, [], Option, Some, None, Result, option_map, codes}
+use Rattle.std.specs.Prelude.{unwrap_or, IfSome, SomeIff}
+use Rattle.std.specs.Option.{option_map_or}
+use Rattle.std.specs.Str.{bytes_eq}
+use Rattle.std.specs.Str.Parse.{ExplainsUnsignedError, HasUnsignedDigitsIfOk, IsNumeral, ParsesUnsigned, digits_value, without_leading_plus}
+use Rattle.std.specs.declared.num.ParseIntError.{ParseIntError}
+use Rattle.clap.specs.Matches.{ReadsOne, first_value, found_of, matched_of, one_text, raw_values}
+use Rattle.clap.specs.Walk.{Text, one_of}
+use Rattle.clap.specs.declared.parser.matches.ArgMatches.{ArgMatches}
+use Rattle.clap.proofs.WalkLemmas.{first_value-rows, one_text-rows, raw_values-rows}
+use Rattle.run_options.specs.declared.choices.Pick.TheVariants.{Preferred, Named}
+use Rattle.command_line.specs.Entries.{IsFlagAt, IsNumberAt, entries_of}
+use Rattle.command_line.specs.Plans.{is_set, number_at, pick_of, values_at}
+
+-- how `u32` reads a text
+abbrev pub ReadsU32 : Text → Result ℕ ParseIntError → Type 0
+ReadsU32 t r = ParsesUnsigned 32 10 t r × ExplainsUnsignedError 10 t r × HasUnsignedDigitsIfOk t r
+
+-- `get_one` of an option with a number
+pub number_given : (m : ArgMatches) (id : Text) (most : ℕ) (r : Option ℕ) → most < 2 ^ 32 → IsNumberAt id most (entries_of m)
+    → (one_text (found_of m) id ≡ None → r ≡ None) → ((t : Text) → one_text (found_of m) id ≡ Some t → ReadsOne ReadsU32 t r)
+    → (r ≡ number_at id (entries_of m)) × IfSome r (λ n. (1 ≤ n) × (n ≤ most))
+number_given m id most r fits number none value = go (one_of id (entries_of m)) refl number
+  where
+    read : (t : Text) (o : Option ℕ) → IsNumeral 10 (without_leading_plus t) → 1 ≤ digits_value 10 (without_leading_plus t)
+        → digits_value 10 (without_leading_plus t) ≤ most → ReadsOne ReadsU32 t o
+        → (o ≡ Some (digits_value 10 (without_leading_plus t))) × IfSome o (λ n. (1 ≤ n) × (n ≤ most))
+    read t (Some n) numeral low high gives = (ap (λ m. Some m) gives.0.1, (rw gives.0.1 low, rw gives.0.1 high))
+    read t None numeral low high gives =
+        let small : digits_value 10 (without_leading_plus t) < 2 ^ 32 = omega arith in
+        absurd (gives.1.0 (numeral, small))
+
+    go : (o : Option Text) → one_of id (entries_of m) ≡ o
+        → IfSome o (λ t. IsNumeral 10 (without_leading_plus t) × (1 ≤ digits_value 10 (without_leading_plus t)) × (digits_value 10 (without_leading_plus t) ≤ most))
+        → (r ≡ option_map (λ t. digits_value 10 (without_leading_plus t)) o) × IfSome r (λ n. (1 ≤ n) × (n ≤ most))
+    go None is number =
+        let absent : r ≡ None = none (one_text-rows (found_of m) id ∙ is) in
+        (absent, rw absent tt)
+    go (Some t) is number = read t r number.0 number.1 number.2 (value t (one_text-rows (found_of m) id ∙ is))
+
+-- the number, or a default in the range
+pub number_or : (m : ArgMatches) (id : Text) (most d : ℕ) (r : Option ℕ) → 1 ≤ d → d ≤ most
+    → (r ≡ number_at id (entries_of m)) × IfSome r (λ n. (1 ≤ n) × (n ≤ most))
+    → (1 ≤ unwrap_or r d) × (unwrap_or r d ≤ most) × (unwrap_or r d ≡ unwrap_or (number_at id (entries_of m)) d)
+number_or m id most d None low high given = (low, high, ap (λ o. unwrap_or o d) given.0)
+number_or m id most d (Some n) low high given = (given.1.0, given.1.1, ap (λ o. unwrap_or o d) given.0)
+
+pub given_by_iff : (r : Option ℕ) (P : Type 0) (n : ℕ) → SomeIff r P n → P → r ≡ Some n
+given_by_iff None P n iff p = absurd (iff p)
+given_by_iff (Some m) P n iff p = ap (λ k. Some k) iff.1
+
+-- `get_flag`
+pub flag_given : (m : ArgMatches) (id : Text) (r : Bool) → IsFlagAt id (entries_of m)
+    → (one_text (found_of m) id ≡ None → r ≡ false) → (one_text (found_of m) id ≡ Some (codes "true") → r ≡ true)
+    → (one_text (found_of m) id ≡ Some (codes "false") → r ≡ false) → r ≡ is_set id (entries_of m)
+flag_given m id r flag none set unset = go (one_of id (entries_of m)) refl flag
+  where
+    go : (o : Option Text) → one_of id (entries_of m) ≡ o → IfSome o (λ t. (t ≡ codes "true") ⊎ (t ≡ codes "false"))
+        → r ≡ option_map_or (λ t. bytes_eq t (codes "true")) o false
+    go None is flag = none (one_text-rows (found_of m) id ∙ is)
+    go (Some t) is (inl e) = set (one_text-rows (found_of m) id ∙ is ∙ ap (λ u. Some u) e) ∙ ap (λ u. bytes_eq u (codes "true")) (sym e)
+    go (Some t) is (inr e) = unset (one_text-rows (found_of m) id ∙ is ∙ ap (λ u. Some u) e) ∙ ap (λ u. bytes_eq u (codes "true")) (sym e)
+
+-- `get_strs`
+pub values_given : (m : ArgMatches) (id : Text) (vs : Option (List Text)) → vs ≡ option_map raw_values (matched_of (found_of m) id)
+    → values_at id (entries_of m) ≡ unwrap_or vs []
+values_given m id vs is = ap (λ (o : Option (List Text)). unwrap_or o []) (sym (raw_values-rows (found_of m) id) ∙ sym is)
+
+-- `get_str`
+pub pick_given : (m : ArgMatches) (name : Option Text) → name ≡ first_value (found_of m) (codes "type") → pick_of (entries_of m) ≡ option_map_or Named name Preferred
+pick_given m name is = ap (λ o. option_map_or Named o Preferred) (sym (first_value-rows (found_of m) (codes "type")) ∙ sym is)

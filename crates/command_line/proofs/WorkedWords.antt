@@ -1,0 +1,105 @@
+-- Worked command lines, computed on the definitions.
+use Rattle.std.proofs.Common.{◌≡◌, true, refl, List, [], ◌∷◌, Some, None, codes}
+use Rattle.clap.proofs.OnLiterals.{clap_on_literals}
+use Rattle.clap.specs.Faults.{fault_of, is_simple_and_free}
+use Rattle.clap.specs.Takes.{takes}
+use Rattle.clap.specs.Walk.{Text}
+use Rattle.clap.specs.declared.error.kind.ErrorKind.TheVariants as kind
+use Rattle.run_options.specs.declared.choices.Naming.TheVariants.{Plain, Lines}
+use Rattle.run_options.specs.declared.choices.Pick.TheVariants.{Preferred, Named}
+use Rattle.command_line.specs.CommandLine.{command_line}
+use Rattle.run_options.specs.Formats.{format_at}
+use Rattle.command_line.specs.Plans.{plan_of}
+use Rattle.run_options.specs.declared.formats.Format.TheVariants.{Folded, Pprof}
+use Rattle.run_options.specs.declared.options.Options.{Options}
+use Rattle.command_line.specs.declared.plans.Plan.{Plan}
+use Rattle.command_line.specs.declared.plans.View.{View}
+use Rattle.command_line.specs.declared.plans.View.TheVariants.{Fold, Graph, Chart, Pairs, PairBoxes}
+
+-- what `clap` says in `plan`'s clauses it says of this command line
+line_is_simple : is_simple_and_free command_line ≡ true
+line_is_simple = refl
+
+abbrev defaults : Options
+defaults = record { ring = 1024; pick = Preferred; naming = Plain; every = None }
+
+abbrev plan_with : View → Options → List Text → Plan
+plan_with view options files = record { view = view; options = options; files = files }
+
+graph_with_a_width : plan_of (codes "graph" ∷ codes "--width" ∷ codes "10" ∷ codes "x.folded" ∷ [])
+    ≡ Some (plan_with (Graph 10) defaults (codes "x.folded" ∷ []))
+unfolding clap_on_literals
+graph_with_a_width = refl
+
+fold_alone : plan_of (codes "fold" ∷ []) ≡ Some (plan_with Fold defaults [])
+unfolding clap_on_literals
+fold_alone = refl
+
+chart_alone : plan_of (codes "chart" ∷ []) ≡ Some (plan_with (Chart 1200) defaults [])
+unfolding clap_on_literals
+chart_alone = refl
+
+options_after_files : plan_of (codes "graph" ∷ codes "a" ∷ codes "--ring=7" ∷ codes "b" ∷ codes "--every" ∷ codes "2" ∷ codes "--lines" ∷ codes "--type" ∷ codes "cpu" ∷ [])
+    ≡ Some (plan_with (Graph 1200) (record { ring = 7; pick = Named (codes "cpu"); naming = Lines; every = Some 2 }) (codes "a" ∷ codes "b" ∷ []))
+unfolding clap_on_literals
+options_after_files = refl
+
+pairs : plan_of (codes "compare" ∷ codes "--width" ∷ codes "10" ∷ codes "b" ∷ codes "a" ∷ []) ≡ Some (plan_with Pairs defaults (codes "b" ∷ codes "a" ∷ []))
+unfolding clap_on_literals
+pairs = refl
+
+pair_boxes : plan_of (codes "compare" ∷ codes "b" ∷ codes "--boxes" ∷ codes "--width" ∷ codes "10" ∷ codes "a" ∷ [])
+    ≡ Some (plan_with (PairBoxes 10) defaults (codes "b" ∷ codes "a" ∷ []))
+unfolding clap_on_literals
+pair_boxes = refl
+
+files_of_odd_names : plan_of (codes "fold" ∷ codes "-" ∷ codes "help" ∷ codes "--" ∷ codes "--ring" ∷ [])
+    ≡ Some (plan_with Fold defaults (codes "-" ∷ codes "help" ∷ codes "--ring" ∷ []))
+unfolding clap_on_literals
+files_of_odd_names = refl
+
+taken : takes command_line (codes "graph" ∷ codes "--width" ∷ codes "65536" ∷ codes "--every" ∷ codes "1000000000" ∷ []) ≡ true
+unfolding clap_on_literals
+taken = refl
+
+width_zero : fault_of command_line (codes "graph" ∷ codes "--width" ∷ codes "0" ∷ []) ≡ kind.ValueValidation ∷ []
+unfolding clap_on_literals
+width_zero = refl
+
+ring_too_large : fault_of command_line (codes "fold" ∷ codes "--ring" ∷ codes "65537" ∷ []) ≡ kind.ValueValidation ∷ []
+unfolding clap_on_literals
+ring_too_large = refl
+
+snapshots_too_far_apart : fault_of command_line (codes "graph" ∷ codes "--every" ∷ codes "1000000001" ∷ []) ≡ kind.ValueValidation ∷ []
+unfolding clap_on_literals
+snapshots_too_far_apart = refl
+
+no_snapshots_of_fold : fault_of command_line (codes "fold" ∷ codes "--every" ∷ codes "5" ∷ []) ≡ kind.UnknownArgument ∷ []
+unfolding clap_on_literals
+no_snapshots_of_fold = refl
+
+nothing_to_compare : fault_of command_line (codes "compare" ∷ codes "a" ∷ []) ≡ kind.MissingRequiredArgument ∷ []
+unfolding clap_on_literals
+nothing_to_compare = refl
+
+too_much_to_compare : fault_of command_line (codes "compare" ∷ codes "a" ∷ codes "b" ∷ codes "c" ∷ []) ≡ kind.UnknownArgument ∷ []
+unfolding clap_on_literals
+too_much_to_compare = refl
+
+no_command : fault_of command_line [] ≡ kind.MissingSubcommand ∷ []
+unfolding clap_on_literals
+no_command = refl
+
+fold_help : fault_of command_line (codes "fold" ∷ codes "--help" ∷ []) ≡ kind.DisplayHelp ∷ []
+unfolding clap_on_literals
+fold_help = refl
+
+help_alone : fault_of command_line (codes "--help" ∷ []) ≡ kind.DisplayHelp ∷ []
+unfolding clap_on_literals
+help_alone = refl
+
+cpu_prof : format_at (codes "cpu.prof") ≡ Pprof
+cpu_prof = refl
+
+x_folded : format_at (codes "x.folded") ≡ Folded
+x_folded = refl

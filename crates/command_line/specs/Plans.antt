@@ -1,0 +1,104 @@
+-- The plan that words stand for, by the entries that `clap` makes of them.
+use Rattle.std.specs.Prelude.{◌≢◌, ℕ, Bool, false, List, [], ◌++◌, Option, Some, None}
+use Rattle.std.specs.Prelude.{codes, if◌then◌else◌, option_and_then, option_map, unwrap_or}
+use Rattle.std.specs.Option.{option_map_or}
+use Rattle.std.specs.Str.{bytes_eq}
+use Rattle.std.specs.Str.Parse.{digits_value, without_leading_plus}
+use Rattle.clap.specs.Kinds.{IsAmong, Kinds}
+use Rattle.clap.specs.Simple.{subcommand_of}
+use Rattle.clap.specs.Walk.{Row, Text, all_of, first_of, one_of}
+use Rattle.clap.specs.declared.error.kind.ErrorKind.{ErrorKind}
+use Rattle.clap.specs.declared.error.kind.ErrorKind.TheVariants as kind
+use Rattle.run_options.specs.declared.choices.Naming.{Naming}
+use Rattle.run_options.specs.declared.choices.Naming.TheVariants.{Plain, Lines}
+use Rattle.run_options.specs.declared.choices.Pick.{Pick}
+use Rattle.run_options.specs.declared.choices.Pick.TheVariants.{Preferred, Named}
+use Rattle.command_line.specs.CommandLine.{command_line}
+use Rattle.run_options.specs.declared.options.Options.{Options}
+use Rattle.command_line.specs.declared.plans.Plan.{Plan}
+use Rattle.command_line.specs.declared.plans.PlanFault.{PlanFault}
+use Rattle.command_line.specs.declared.plans.PlanFault.TheVariants as fault
+use Rattle.command_line.specs.declared.plans.View.{View}
+use Rattle.command_line.specs.declared.plans.View.TheVariants.{Fold, Graph, Chart, Pairs, PairBoxes}
+
+-- ---- the entries of a command, by the ids of its arguments
+
+-- the number that an option's value writes, if the option was used
+abbrev pub number_at : Text → List Row → Option ℕ
+number_at id entries =
+    option_map (λ text. digits_value 10 (without_leading_plus text)) (one_of id entries)
+
+-- the flag was used
+abbrev pub is_set : Text → List Row → Bool
+is_set id entries = option_map_or (λ text. bytes_eq text (codes "true")) (one_of id entries) false
+
+-- all values of an argument, in their order
+abbrev pub values_at : Text → List Row → List Text
+values_at id entries = unwrap_or (all_of id entries) []
+
+-- ---- the plan, where what no entry sets has its default
+
+abbrev pub pick_of : List Row → Pick
+pick_of entries = option_map_or Named (first_of (codes "type") entries) Preferred
+
+abbrev pub naming_of : List Row → Naming
+naming_of entries = if is_set (codes "lines") entries then Lines else Plain
+
+abbrev pub options_of : List Row → Options
+options_of entries = record {
+  ring = unwrap_or (number_at (codes "ring") entries) 1024;
+  pick = pick_of entries;
+  naming = naming_of entries;
+  every = number_at (codes "every") entries;
+}
+
+abbrev pub width_of : List Row → ℕ
+width_of entries = unwrap_or (number_at (codes "width") entries) 1200
+
+abbrev pub compared_view : List Row → View
+compared_view entries =
+    if is_set (codes "boxes") entries then PairBoxes (width_of entries) else Pairs
+
+abbrev pub view_of : Text → List Row → Option View
+view_of name entries =
+    if bytes_eq name (codes "fold") then Some Fold
+    else (if bytes_eq name (codes "graph") then Some (Graph (width_of entries))
+    else (if bytes_eq name (codes "chart") then Some (Chart (width_of entries))
+    else (if bytes_eq name (codes "compare") then Some (compared_view entries) else None)))
+
+-- a command has either FILEs or BEFORE and AFTER
+abbrev pub files_of : List Row → List Text
+files_of entries = values_at (codes "file") entries
+    ++ (values_at (codes "before") entries ++ values_at (codes "after") entries)
+
+-- the plan of a command with its entries
+abbrev pub command_plan : Text → List Row → Option Plan
+command_plan name entries = option_map (λ view. record {
+  view = view;
+  options = options_of entries;
+  files = files_of entries;
+}) (view_of name entries)
+
+-- the plan of the command that was entered
+abbrev pub entered_plan : Option (Text × List Row) → Option Plan
+entered_plan = option_and_then (λ entered. command_plan entered.0 entered.1)
+
+-- the plan of a command line: that of the command which its words enter, as `clap` reads them
+abbrev pub plan_of : List Text → Option Plan
+plan_of words = entered_plan (subcommand_of command_line words)
+
+-- two files are compared
+abbrev pub IsComparison : View → Type 0
+IsComparison Pairs = Unit {0}
+IsComparison (PairBoxes width) = Unit {0}
+IsComparison Fold = ⊥
+IsComparison (Graph width) = ⊥
+IsComparison (Chart width) = ⊥
+
+-- ---- refusals
+
+-- the fault is one of the kinds: help where it was asked for, and refused words by another kind
+abbrev pub IsFaultAmong : Kinds → PlanFault → Type 0
+IsFaultAmong kinds (fault.Words text) = (k : ErrorKind) × IsAmong k kinds × (k ≢ kind.DisplayHelp)
+IsFaultAmong kinds (fault.Help text) = IsAmong kind.DisplayHelp kinds
+IsFaultAmong kinds fault.OutOfMemory = Unit {0}

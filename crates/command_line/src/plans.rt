@@ -1,0 +1,50 @@
+//! What the words of a command line ask for.
+ghost use Rattle.std.specs.Prelude.{◌≡◌};
+ghost use Rattle.command_line.specs.declared.plans.PlanFault.TheVariants.{OutOfMemory};
+
+use run_options::{Options, Width};
+use stack_core::Names;
+use std::alloc::AllocError;
+
+/// What a run shows of the collected samples.
+#[derive(Clone, Copy, Debug, PartialEq)]
+pub enum View {
+    /// Merged folded text.
+    Fold,
+    /// The flame graph, after its snapshots.
+    Graph(Width),
+    /// The flame chart.
+    Chart(Width),
+    /// The stacks of two sources side by side.
+    Pairs,
+    /// The flame graph of the second of two sources, with the weights of the first.
+    PairBoxes(Width),
+}
+
+/// A run as the words ask for it.
+#[derive(Debug, Drop)]
+pub struct Plan {
+    pub view: View,
+    pub options: Options,
+    /// The paths of the sources, in order. None is the standard input.
+    pub files: Names,
+}
+
+/// Why words are no plan.
+#[derive(Debug, Drop)]
+pub enum PlanFault {
+    /// The words are refused: the text for standard error.
+    Words(String),
+    /// There was no memory.
+    OutOfMemory,
+    /// Help was asked for: the text for standard output.
+    Help(String),
+}
+
+impl From<AllocError> for PlanFault {
+    ghost from_gives = { λ _ fault. fault ≡ OutOfMemory };
+
+    fn from(_error: AllocError) -> PlanFault {
+        PlanFault::OutOfMemory
+    }
+}

@@ -1,0 +1,2 @@
+//! Worked command lines.
+mod words;

@@ -1,0 +1,203 @@
+//! From words to a plan.
+ghost use Rattle.std.specs.Prelude.{◌≡◌, ◌≤◌, ◌++◌, [], None, IfErr, IfOk, IfSome, IsSomeAnd, OnOk, codes, length, map, string_bytes, true};
+ghost use Rattle.clap.specs.Walk.{texts};
+ghost use Rattle.clap.specs.Words.{fault_of, kind_of, subcommand_rows_of, takes};
+ghost use Rattle.command_line.specs.CommandLine.{command_line};
+ghost use Rattle.command_line.specs.Entries.{IsFaultOf, IsFlagAt, IsNumberAt, IsRead, entries_of};
+ghost use Rattle.command_line.specs.Plans.{IsComparison, IsFaultAmong, compared_view, entered_plan, files_of, naming_of, number_at, options_of, pick_of, plan_of, values_at, view_of, width_of};
+ghost use Rattle.command_line.specs.declared.plans.PlanFault.TheVariants.{OutOfMemory};
+
+use crate::commands::command_line;
+use crate::plans::{Plan, PlanFault, View};
+use clap::error::ErrorKind;
+use clap::{ArgMatches, Error};
+use run_options::{Naming, Options, Pick, RingSize, Width};
+use stack_core::{Names, Text};
+use std::alloc::{AllocError, Global};
+
+// The width of an image unless the words set it.
+const DEFAULT_WIDTH: u32 = 1_200;
+
+// The size of a ring unless the words set it.
+const DEFAULT_RING: u32 = 1_024;
+
+/// The plan of the words after the program's name. A refusal has the text that `clap` writes; no
+/// words at all are refused too.
+pub fn plan(alloc: Global, words: &[String]) -> Result<Plan, PlanFault>
+    // The plan is that of the words, and only words without a fault have one.
+    ensures plan { IfOk result (λ plan. plan_of (map string_bytes words.now) ≡ Some plan) }
+    ensures taken { OnOk result (fault_of command_line (map string_bytes words.now) ≡ []) }
+
+    // A refusal is one of the faults of the words, if it is not for memory.
+    ensures refused { IfErr result
+        (IsFaultAmong (fault_of command_line (map string_bytes words.now))) }
+    ensures passes { takes command_line (map string_bytes words.now) ≡ true
+        → IfErr result (λ fault. fault ≡ OutOfMemory) }
+
+    // What a run asks of its plan.
+    ensures pair { IfOk result (λ plan. IsComparison plan.view → length plan.files ≡ 2) }
+    ensures every { IfOk result (λ plan. IfSome plan.options.every (λ every.
+        (1 ≤ every) × (every ≤ 1000000000))) }
+{
+    let line = command_line(alloc)?;
+    match line.try_get_matches_from(words) {
+        Ok(matches) => Ok(planned(alloc, &matches)?),
+        Err(error) => Err(refusal(alloc, &error)),
+    }
+}
+
+/// The plan of a run without words: the input is folded.
+pub fn plan_without_words(alloc: Global) -> Plan
+    ensures view { result.view ≡ View.Fold }
+    ensures files { result.files ≡ [] }
+    ensures every { result.options.every ≡ None }
+{
+    Plan {
+        view: View::Fold,
+        options: Options {
+            ring: RingSize::of(DEFAULT_RING).unwrap(),
+            pick: Pick::Preferred,
+            naming: Naming::Plain,
+            every: None,
+        },
+        files: Names::of(Vec::new(alloc)),
+    }
+}
+
+// What the error is told as.
+fn refusal(alloc: Global, error: &Error) -> PlanFault
+    ensures { IsFaultOf (kind_of error.now) result }
+{
+    let kind = error.kind();
+    if kind == ErrorKind::OutOfMemory {
+        return PlanFault::OutOfMemory;
+    }
+    match error.to_string(alloc) {
+        Ok(text) if kind == ErrorKind::DisplayHelp => PlanFault::Help(text),
+        Ok(text) => PlanFault::Words(text),
+        Err(_) => PlanFault::OutOfMemory,
+    }
+}
+
+// The plan of the command that was entered.
+fn planned(alloc: Global, matches: &ArgMatches<'_>) -> Result<Plan, AllocError>
+    requires { IsSomeAnd (subcommand_rows_of matches.now) (λ entered.
+        IsRead entered.0 entered.1) }
+    ensures { IfOk result (λ plan. entered_plan (subcommand_rows_of matches.now) ≡ Some plan) }
+{
+    let Some((name, entries)) = matches.subcommand() else {
+        unreachable!()
+    };
+    Ok(Plan {
+        view: view(name, entries),
+        options: options(alloc, entries)?,
+        files: files(alloc, entries)?,
+    })
+}
+
+fn view(name: &str, entries: &ArgMatches<'_>) -> View
+    requires { IsRead name.now (entries_of entries.now) }
+    ensures { view_of name.now (entries_of entries.now) ≡ Some result }
+{
+    match name {
+        "fold" => View::Fold,
+        "graph" => View::Graph(width(entries)),
+        "chart" => View::Chart(width(entries)),
+        "compare" => compared_view(entries),
+        _ => unreachable!(),
+    }
+}
+
+fn compared_view(entries: &ArgMatches<'_>) -> View
+    requires width { IsNumberAt (codes "width") 65536 (entries_of entries.now) }
+    requires boxes { IsFlagAt (codes "boxes") (entries_of entries.now) }
+    ensures { result ≡ compared_view (entries_of entries.now) }
+{
+    if entries.get_flag("boxes") {
+        View::PairBoxes(width(entries))
+    } else {
+        View::Pairs
+    }
+}
+
+fn width(entries: &ArgMatches<'_>) -> Width
+    requires { IsNumberAt (codes "width") 65536 (entries_of entries.now) }
+    ensures { result ≡ width_of (entries_of entries.now) }
+{
+    let pixels = entries.get_one::<u32>("width").unwrap_or(DEFAULT_WIDTH);
+    Width::of(pixels).unwrap()
+}
+
+fn options(alloc: Global, entries: &ArgMatches<'_>) -> Result<Options, AllocError>
+    requires ring { IsNumberAt (codes "ring") 65536 (entries_of entries.now) }
+    requires every { IsNumberAt (codes "every") 1000000000 (entries_of entries.now) }
+    requires lines { IsFlagAt (codes "lines") (entries_of entries.now) }
+    ensures { IfOk result (λ options. options ≡ options_of (entries_of entries.now)) }
+{
+    Ok(Options {
+        ring: ring(entries),
+        pick: pick(alloc, entries)?,
+        naming: naming(entries),
+        every: every(entries),
+    })
+}
+
+fn ring(entries: &ArgMatches<'_>) -> RingSize
+    requires { IsNumberAt (codes "ring") 65536 (entries_of entries.now) }
+    ensures { result ≡ (options_of (entries_of entries.now)).ring }
+{
+    let items = entries.get_one::<u32>("ring").unwrap_or(DEFAULT_RING);
+    RingSize::of(items).unwrap()
+}
+
+fn pick(alloc: Global, entries: &ArgMatches<'_>) -> Result<Pick, AllocError>
+    ensures { IfOk result (λ pick. pick ≡ pick_of (entries_of entries.now)) }
+{
+    match entries.get_str("type") {
+        Some(name) => Ok(Pick::Named(Text::from_str(alloc, name)?)),
+        None => Ok(Pick::Preferred),
+    }
+}
+
+fn naming(entries: &ArgMatches<'_>) -> Naming
+    requires { IsFlagAt (codes "lines") (entries_of entries.now) }
+    ensures { result ≡ naming_of (entries_of entries.now) }
+{
+    if entries.get_flag("lines") {
+        Naming::Lines
+    } else {
+        Naming::Plain
+    }
+}
+
+fn every(entries: &ArgMatches<'_>) -> Option<u64>
+    requires { IsNumberAt (codes "every") 1000000000 (entries_of entries.now) }
+    ensures { result ≡ number_at (codes "every") (entries_of entries.now) }
+{
+    entries.get_one::<u32>("every").map(u64::from)
+}
+
+// A command has either FILEs or BEFORE and AFTER.
+fn files(alloc: Global, entries: &ArgMatches<'_>) -> Result<Names, AllocError>
+    ensures { IfOk result (λ files. files ≡ files_of (entries_of entries.now)) }
+{
+    let mut paths = Vec::new(alloc);
+    add_values(&mut paths, entries, "file")?;
+    add_values(&mut paths, entries, "before")?;
+    add_values(&mut paths, entries, "after")?;
+    Names::from_strs(alloc, paths.as_slice())
+}
+
+fn add_values<'a>(
+    paths: &mut Vec<&'a str>,
+    entries: &ArgMatches<'a>,
+    id: &str,
+) -> Result<(), AllocError>
+    ensures { OnOk result (texts paths.new.items
+        ≡ texts paths.old.items ++ values_at id.now (entries_of entries.now)) }
+{
+    if let Some(values) = entries.get_strs(id) {
+        paths.extend_from_slice(values)?;
+    }
+    Ok(())
+}

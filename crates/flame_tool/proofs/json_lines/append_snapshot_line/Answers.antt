@@ -1,9 +1,0 @@
-use Rattle.std.proofs.Common.{arith}
-use Rattle.std.proofs.lemmas.Grind.{common_steps}
-use Rattle.flame_tool.proofs.JsonFrames.{snapshot_line-parts}
-use Rattle.flame_tool.proofs.json_lines.append_snapshot_line.Goals as goal
-
-pub returns-clause-ok : goal.returns-clause-ok
-returns-clause-ok c =
-    let parts = snapshot_line-parts c.args.at c.args.counts.now c.args.total c.args.width c.args.boxes.now in
-    grind (arith, common_steps, parts)

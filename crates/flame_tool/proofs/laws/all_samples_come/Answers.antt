@@ -1,7 +1,0 @@
-use Rattle.flame_tool.proofs.CountLemmas.{first_lists-all}
-use Rattle.std.proofs.Common.{ap}
-use Rattle.flame_tool.specs.Sums.{all_samples}
-use Rattle.flame_tool.proofs.laws.all_samples_come.Goals as goal
-
-pub returns : goal.returns
-returns c order lists is = ap all_samples (first_lists-all order lists is)

@@ -1,6 +1,0 @@
-use Rattle.std.proofs.Common.{take}
-use Rattle.flame_tool.proofs.CountLemmas.{get_or-source_counts}
-use Rattle.flame_tool.proofs.laws.counts_have_each_source.Goals as goal
-
-pub returns : goal.returns
-returns c m order source = get_or-source_counts (take m order) source

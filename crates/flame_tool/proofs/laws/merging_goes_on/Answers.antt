@@ -1,8 +1,0 @@
-use Rattle.flame_tool.proofs.MergedRows.{merged-append, sum_at-merged}
-use Rattle.flame_tool.proofs.laws.merging_goes_on.Goals as goal
-
-pub returns-clause-rows : goal.returns-clause-rows
-returns-clause-rows c = merged-append
-
-pub returns-clause-sums : goal.returns-clause-sums
-returns-clause-sums c = sum_at-merged

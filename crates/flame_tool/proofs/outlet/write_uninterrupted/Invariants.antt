@@ -1,6 +1,0 @@
--- A write that was interrupted took nothing.
-use Rattle.std.specs.Io.KnownBytes.{Keeps}
-use Rattle.flame_tool.proofs.outlet.write_uninterrupted.Given as goal
-
-abbrev pub invariant-loop-turn : goal.invariant-loop-turn
-invariant-loop-turn g l = Keeps (g.W.Write.contents l.initial.writer) (g.W.Write.contents l.writer)

@@ -1,8 +1,0 @@
--- The tree holds samples.
-use Rattle.std.proofs.Common.{List}
-use Rattle.stack_core.specs.declared.samples.Sample.{Sample}
-use Rattle.flame_layout.specs.Paired.{Holds}
-use Rattle.flame_tool.proofs.tests.fold.text.Given as goal
-
-abbrev pub invariant-loop-names : goal.invariant-loop-names
-invariant-loop-names g l = (samples : List Sample) × Holds l.table l.tree samples

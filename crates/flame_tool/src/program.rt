@@ -1,0 +1,177 @@
+//! A run of the program.
+ghost use Rattle.std.specs.Prelude.{◌≡◌, ◌≢◌, ◌≤◌, ◌<◌, [], false, IfSome, IfErr, OnOk, vec_len, length};
+ghost use Rattle.std.specs.Io.KnownBytes.{Appends, Keeps};
+ghost use Rattle.folded_lines.specs.Reading.{read_folded};
+ghost use Rattle.flame_layout.specs.Timeline.{samples_of};
+ghost use Rattle.command_line.specs.Plans.{IsComparison};
+ghost use Rattle.flame_tool.specs.Texts.{view_text};
+ghost use Rattle.flame_tool.specs.Runs.{IsClean, IsFault, IsFoldOfInput, text_of, has_fault, Succeeds, GainsFront, Fails, FailsToShow, KeepsOutput};
+
+use crate::endings::{any_fault, tell_endings};
+use crate::failures::Failure;
+use crate::messages::tell_failure;
+use crate::source_files::open_sources;
+use crate::view_text::append_view;
+use byte_io::{Files, Outlet, send};
+use command_line::{Plan, PlanFault, View, plan, plan_without_words};
+use merging::{Gathered, gather};
+use stack_core::OpenGate;
+use std::alloc::{AllocError, Global};
+use std::sync::{Arc, Wait};
+use std::thread::Threads;
+
+/// Runs the program with the words after its name, and answers its exit status: 0 where it wrote what was
+/// asked for, 1 where a source has a fault, 2 where the words are refused or there are more than 64 files,
+/// and 3 where a source can't be read, there is no memory or no thread, or the output fails. Without words
+/// it writes the fold text of the input, which is folded text. Messages go to `err`, a line each, and a
+/// failure to write them changes nothing.
+pub fn run<T: Threads + Wait + Copy + Send + 'static, F: Files, W: Outlet, E: Outlet>(
+    rt: &T,
+    alloc: Global,
+    words: Vec<String>,
+    files: &mut F,
+    out: &mut W,
+    err: &mut E,
+) -> u8
+    ensures status { result ≤ 3 }
+    ensures no_words { vec_len words ≡ 0 → result ≢ 2 }
+
+    // Without words 0 is success: the input has no fault, and its whole fold text went out.
+    ensures clean { vec_len words ≡ 0 → result ≡ 0 → IfSome (F.told_input files.old) (λ input.
+        IsClean (read_folded input).ending) }
+    ensures text { vec_len words ≡ 0 → result ≡ 0 → IfSome (F.told_input files.old) (λ input.
+        Appends (W.contents out.old) (W.contents out.new) (text_of input)) }
+
+    // 1 is a fault of a source, and 2 are words that are refused or more than 64 files: nothing is
+    // written.
+    ensures fault { vec_len words ≡ 0 → result ≡ 1 → IfSome (F.told_input files.old) (λ input.
+        IsFault (read_folded input).ending) }
+    ensures unwritten { result ≡ 1 → Keeps (W.contents out.old) (W.contents out.new) }
+    ensures refused { result ≡ 2 → Keeps (W.contents out.old) (W.contents out.new) }
+
+    // 3 is want of memory or a thread, an input that was not loaded, or an output that failed on the way.
+    ensures front { vec_len words ≡ 0 → result ≡ 3 → IfSome (F.told_input files.old) (λ input.
+        GainsFront input (W.contents out.old) (W.contents out.new)) }
+{
+    if words.is_empty() {
+        return follow(rt, alloc, plan_without_words(alloc), files, out, err);
+    }
+    match plan(alloc, words.as_slice()) {
+        Ok(plan) => follow(rt, alloc, plan, files, out, err),
+        Err(fault) => refuse(fault, out, err),
+    }
+}
+
+// Says what is wrong with the words, or the help that they ask for.
+fn refuse<W: Outlet, E: Outlet>(fault: PlanFault, out: &mut W, err: &mut E) -> u8
+    ensures status { result ≤ 3 }
+    ensures no_fault { result ≢ 1 }
+    ensures refused { result ≡ 2 → Keeps (W.contents out.old) (W.contents out.new) }
+{
+    match fault {
+        PlanFault::Words(text) => {
+            let _ = send(text.as_bytes(), err);
+            2
+        }
+        PlanFault::Help(text) => match send(text.as_bytes(), out) {
+            Ok(()) => 0,
+            Err(_) => {
+                tell_failure(err, &[], Failure::Output);
+                3
+            }
+        },
+        PlanFault::OutOfMemory => {
+            tell_failure(err, &[], Failure::OutOfMemory);
+            3
+        }
+    }
+}
+
+// Does what the plan says.
+fn follow<T: Threads + Wait + Copy + Send + 'static, F: Files, W: Outlet, E: Outlet>(
+    rt: &T,
+    alloc: Global,
+    plan: Plan,
+    files: &mut F,
+    out: &mut W,
+    err: &mut E,
+) -> u8
+    requires pairs { IsComparison plan.view → length plan.files ≡ 2 }
+    requires every { IfSome plan.options.every (λ every. 1 ≤ every) }
+    ensures status { result ≤ 3 }
+    ensures few { plan.files ≡ [] → result ≢ 2 }
+    ensures clean { IsFoldOfInput plan → result ≡ 0 → IfSome (F.told_input files.old) (λ input.
+        IsClean (read_folded input).ending) }
+    ensures text { IsFoldOfInput plan → result ≡ 0 → IfSome (F.told_input files.old) (λ input.
+        Appends (W.contents out.old) (W.contents out.new) (text_of input)) }
+    ensures fault { IsFoldOfInput plan → result ≡ 1 → IfSome (F.told_input files.old) (λ input.
+        IsFault (read_folded input).ending) }
+    ensures unwritten { result ≡ 1 → Keeps (W.contents out.old) (W.contents out.new) }
+    ensures refused { result ≡ 2 → Keeps (W.contents out.old) (W.contents out.new) }
+    ensures front { IsFoldOfInput plan → result ≡ 3 → IfSome (F.told_input files.old) (λ input.
+        GainsFront input (W.contents out.old) (W.contents out.new)) }
+{
+    match show(rt, alloc, &plan, files, out, err) {
+        Ok(()) => 0,
+        Err(failure) => {
+            tell_failure(err, plan.files.get(), failure);
+            failure.status()
+        }
+    }
+}
+
+fn open_gate(alloc: Global) -> Result<Arc<OpenGate>, AllocError> {
+    Ok(Arc::new(alloc, OpenGate)?)
+}
+
+// Reads the sources, collects their samples, and writes the view of them.
+fn show<T: Threads + Wait + Copy + Send + 'static, F: Files, W: Outlet, E: Outlet>(
+    rt: &T,
+    alloc: Global,
+    plan: &Plan,
+    files: &mut F,
+    out: &mut W,
+    err: &mut E,
+) -> Result<(), Failure>
+    requires pairs { IsComparison plan.now.view → length plan.now.files ≡ 2 }
+    requires every { IfSome plan.now.options.every (λ every. 1 ≤ every) }
+    ensures ok { OnOk result (IsFoldOfInput plan.now → IfSome (F.told_input files.old) (λ input.
+        Succeeds input (W.contents out.old) (W.contents out.new))) }
+    ensures err { IfErr result (λ failure. IsFoldOfInput plan.now
+        → IfSome (F.told_input files.old) (λ input.
+        Fails input (W.contents out.old) (W.contents out.new) failure)) }
+    ensures kept { IfErr result (λ failure.
+        KeepsOutput (W.contents out.old) (W.contents out.new) failure) }
+    ensures few { plan.now.files ≡ [] → result ≢ Err Failure.TooManyFiles }
+{
+    let paths = plan.files.get();
+    let sources = open_sources(alloc, files, paths)?;
+    let gathered = gather(rt, alloc, sources, &plan.options, open_gate(alloc)?)?;
+    tell_endings(err, paths, gathered.lists());
+    send_view(alloc, &gathered, plan.view, out)
+}
+
+// Writes the view of what was collected, unless a source has a fault. All of the text is made before the
+// first of it goes out.
+fn send_view<W: Outlet>(
+    alloc: Global,
+    gathered: &Gathered,
+    view: View,
+    out: &mut W,
+) -> Result<(), Failure>
+    requires pairs { IsComparison view → length gathered.now.lists ≡ 2 }
+    ensures faultless { OnOk result (has_fault gathered.now.lists ≡ false) }
+    ensures ok { OnOk result (Appends (W.contents out.old) (W.contents out.new)
+        (view_text view (samples_of gathered.now.lists) gathered.now.order gathered.now.every)) }
+    ensures err { IfErr result (FailsToShow gathered.now.lists
+        (view_text view (samples_of gathered.now.lists) gathered.now.order gathered.now.every)
+        (W.contents out.old) (W.contents out.new)) }
+{
+    if any_fault(gathered.lists()) {
+        return Err(Failure::Faults);
+    }
+    let mut text = Vec::new(alloc);
+    append_view(alloc, gathered, view, &mut text)?;
+    send(text.as_slice(), out)?;
+    Ok(())
+}

@@ -1,0 +1,76 @@
+//! The sources of a run, loaded.
+ghost use Rattle.std.specs.Prelude.{◌≡◌, ◌≤◌, ◌+◌, [], ◌∷◌, ◌++◌, IfOk, IfErr, IfSome, OnOk, length};
+ghost use Rattle.flame_tool.specs.Opening.{IsInput};
+ghost use Rattle.flame_tool.specs.Runs.{IsOpening};
+
+use crate::failures::Failure;
+use byte_io::Files;
+use merging::Source;
+use run_options::{Format, format_of};
+use std::alloc::{AllocError, Global};
+
+/// The most sources of a run.
+pub const SOURCE_COUNT: usize = 64;
+
+// The sources of these paths, in order, or the input where there is none. The first that fails ends
+// it.
+pub(crate) fn open_sources<F: Files>(
+    alloc: Global,
+    files: &mut F,
+    paths: &[String],
+) -> Result<Vec<Source>, Failure>
+    ensures few { IfOk result (λ sources. length sources.items ≤ 64) }
+    ensures count { IfOk result (λ sources.
+        length paths.now ≡ 2 → length sources.items ≡ 2) }
+    ensures input { paths.now ≡ [] → IfOk result (λ sources.
+        IfSome (F.told_input files.old) (IsInput sources.items)) }
+    ensures err { IfErr result (IsOpening (length paths.now)) }
+{
+    if paths.len() > SOURCE_COUNT {
+        return Err(Failure::TooManyFiles);
+    }
+    let mut sources = Vec::new(alloc);
+    if paths.is_empty() {
+        keep(&mut sources, input(alloc, files)?)?;
+        return Ok(sources);
+    }
+    for (at, path) in paths.iter().enumerate() {
+        keep(&mut sources, named(alloc, files, at, path)?)?;
+    }
+    Ok(sources)
+}
+
+fn keep(sources: &mut Vec<Source>, source: Source) -> Result<(), AllocError>
+    ensures { OnOk result (sources.new.items ≡ sources.old.items ++ source ∷ []) }
+{
+    sources.push(source)?;
+    Ok(())
+}
+
+// The input, which is folded text.
+fn input<F: Files>(alloc: Global, files: &mut F) -> Result<Source, Failure>
+    ensures input { IfOk result (λ source.
+        IfSome (F.told_input files.old) (IsInput (source ∷ []))) }
+    ensures err { IfErr result (IsOpening 0) }
+{
+    match files.input(alloc) {
+        Ok(bytes) => Ok(Source {
+            format: Format::Folded,
+            bytes,
+        }),
+        Err(fault) => Err(Failure::of_load(0, fault)),
+    }
+}
+
+// The source of a path.
+fn named<F: Files>(alloc: Global, files: &mut F, at: usize, path: &str) -> Result<Source, Failure>
+    ensures err { IfErr result (IsOpening 0) }
+{
+    match files.named(alloc, path) {
+        Ok(bytes) => Ok(Source {
+            format: format_of(path),
+            bytes,
+        }),
+        Err(fault) => Err(Failure::of_load(at, fault)),
+    }
+}

@@ -1,6 +1,0 @@
-//! Worked examples.
-mod edge;
-mod fakes;
-mod fold;
-mod lines;
-mod words;

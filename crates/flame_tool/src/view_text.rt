@@ -1,0 +1,122 @@
+//! The text of a view of what was collected.
+ghost use Rattle.std.specs.Prelude.{◌≡◌, ◌++◌, ◌<◌, ◌^◌, OnOk, OnErr, length};
+ghost use Rattle.flame_layout.specs.Timeline.{samples_of, total_weight};
+ghost use Rattle.view_texts.specs.Fold.{fold_text};
+ghost use Rattle.view_texts.specs.Pairs.{pairs_text};
+ghost use Rattle.merging.specs.Sums.{all_samples};
+ghost use Rattle.command_line.specs.Plans.{IsComparison};
+ghost use Rattle.flame_tool.specs.Texts.{view_text, pair_boxes_text};
+ghost use Rattle.stack_core.specs.Interleaving.{list_of};
+
+use crate::drawings::{draw_chart, draw_graph};
+use crate::graph_texts::{append_chart, append_graph};
+use crate::view_set::Views;
+use command_line::View;
+use flame_layout::{Width, compare, compared_boxes};
+use merging::Gathered;
+use stack_core::SourceList;
+use std::alloc::{AllocError, Global};
+use view_texts::{append_fold_text, append_pair_boxes_line, append_pairs_text};
+
+/// Appends the whole text of a view: folded lines, two-column lines, or lines of JSON. An `Err` changes
+/// nothing. The two views of a comparison are of exactly two sources.
+pub fn render(alloc: Global, views: &Views, view: View, out: &mut Vec<u8>) -> Result<(), AllocError>
+    requires pairs { IsComparison view → length views.now.lists ≡ 2 }
+    ensures ok { OnOk result (out.new.items ≡ out.old.items
+        ++ view_text view (samples_of views.now.lists) views.now.order views.now.every) }
+    ensures err { OnErr result (out.new.items ≡ out.old.items) }
+{
+    match view {
+        View::Graph(width) => append_graph(alloc, out, views.gathered(), views.graph(), width),
+        View::Chart(width) => append_chart(alloc, out, views.gathered(), views.chart(), width),
+        View::Fold | View::Pairs | View::PairBoxes(_) => {
+            append_view(alloc, views.gathered(), view, out)
+        }
+    }
+}
+
+// Appends the text of a view, and draws no more than that view needs. An `Err` changes nothing.
+pub(crate) fn append_view(
+    alloc: Global,
+    gathered: &Gathered,
+    view: View,
+    out: &mut Vec<u8>,
+) -> Result<(), AllocError>
+    requires pairs { IsComparison view → length gathered.now.lists ≡ 2 }
+    ensures ok { OnOk result (out.new.items ≡ out.old.items
+        ++ view_text view (samples_of gathered.now.lists) gathered.now.order gathered.now.every) }
+    ensures err { OnErr result (out.new.items ≡ out.old.items) }
+{
+    match view {
+        View::Fold => append_fold(alloc, out, gathered),
+        View::Graph(width) => {
+            let boxes = draw_graph(alloc, gathered)?;
+            append_graph(alloc, out, gathered, &boxes, width)
+        }
+        View::Chart(width) => {
+            let boxes = draw_chart(alloc, gathered)?;
+            append_chart(alloc, out, gathered, &boxes, width)
+        }
+        View::Pairs => append_pairs(alloc, out, gathered),
+        View::PairBoxes(width) => append_pair_boxes(alloc, out, gathered, width),
+    }
+}
+
+// Appends the fold text of all samples.
+fn append_fold(alloc: Global, out: &mut Vec<u8>, gathered: &Gathered) -> Result<(), AllocError>
+    ensures ok { OnOk result (out.new.items ≡ out.old.items
+        ++ fold_text (all_samples (samples_of gathered.now.lists))) }
+    ensures err { OnErr result (out.new.items ≡ out.old.items) }
+{
+    append_fold_text(alloc, out, gathered.tree(), gathered.table())
+}
+
+// Appends the two-column text of the first two sources.
+fn append_pairs(alloc: Global, out: &mut Vec<u8>, gathered: &Gathered) -> Result<(), AllocError>
+    requires { length gathered.now.lists ≡ 2 }
+    ensures ok { OnOk result (out.new.items ≡ out.old.items
+        ++ pairs_text (list_of (samples_of gathered.now.lists) 0)
+        (list_of (samples_of gathered.now.lists) 1)) }
+    ensures err { OnErr result (out.new.items ≡ out.old.items) }
+{
+    let lists = gathered.lists();
+    let rows = compare(alloc, &lists[0], &lists[1])?;
+    append_pairs_text(alloc, out, &rows)
+}
+
+// Appends the flame graph of the second source, with the weights of the first.
+fn append_pair_boxes(
+    alloc: Global,
+    out: &mut Vec<u8>,
+    gathered: &Gathered,
+    width: Width,
+) -> Result<(), AllocError>
+    requires { length gathered.now.lists ≡ 2 }
+    ensures ok { OnOk result (out.new.items ≡ out.old.items
+        ++ pair_boxes_text width (list_of (samples_of gathered.now.lists) 0)
+        (list_of (samples_of gathered.now.lists) 1)) }
+    ensures err { OnErr result (out.new.items ≡ out.old.items) }
+{
+    let lists = gathered.lists();
+    append_compared(alloc, out, &lists[0], &lists[1], width)
+}
+
+// Appends the flame graph of the second profile, with the weights of the first.
+fn append_compared(
+    alloc: Global,
+    out: &mut Vec<u8>,
+    before: &SourceList,
+    after: &SourceList,
+    width: Width,
+) -> Result<(), AllocError>
+    requires before { total_weight before.now.samples < 2 ^ 64 }
+    requires after { total_weight after.now.samples < 2 ^ 64 }
+    ensures ok { OnOk result (out.new.items ≡ out.old.items
+        ++ pair_boxes_text width before.now.samples after.now.samples) }
+    ensures err { OnErr result (out.new.items ≡ out.old.items) }
+{
+    let rows = compare(alloc, before, after)?;
+    let boxes = compared_boxes(alloc, &rows)?;
+    let total = after.total() as u64;
+    append_pair_boxes_line(alloc, out, before.total() as u64, &boxes, total, width)
+}

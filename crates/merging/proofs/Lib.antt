@@ -1,0 +1,7 @@
+pub mod CountLemmas
+pub mod GatherLemmas
+pub mod PairSums
+pub mod RowLemmas
+pub mod SinkLemmas
+pub mod SnapshotLemmas
+pub mod SumLemmas

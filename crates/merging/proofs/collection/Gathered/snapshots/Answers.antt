@@ -1,0 +1,11 @@
+use Rattle.std.proofs.Common.{subst, All}
+use Rattle.merging.specs.Gathered.{GatheredState}
+use Rattle.merging.specs.Sums.{IsDrawable}
+use Rattle.merging.proofs.GatherLemmas.{snapshots_drawable}
+use Rattle.merging.proofs.collection.Gathered.snapshots.Goals as goal
+
+pub returns-clause-drawable : goal.returns-clause-drawable
+returns-clause-drawable c =
+    let g = c.self.inside in
+    subst (λ (state : GatheredState). All (λ snapshot. IsDrawable state.names snapshot.tree) state.snapshots) c.self.view_is
+    (snapshots_drawable g.lists.items g.order.items g.sink.every g.sink.names g.sink.tree g.sink.snapshots c.self.invariant)

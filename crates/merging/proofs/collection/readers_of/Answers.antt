@@ -1,0 +1,25 @@
+use Rattle.std.proofs.Common.{◌≡◌, ◌++◌, ◌∷◌, [], ◌∙◌, sym, ap, subst, All, List, map}
+use Rattle.std.proofs.lemmas.List.{map_push}
+use Rattle.std.proofs.lemmas.List.Elements.{All-push}
+use Rattle.stack_core.specs.Reading.{Rest, IsSourceLimited}
+use Rattle.merging.specs.Readers.{reader_rest}
+use Rattle.merging.specs.Sources.{source_rest, rests_of}
+use Rattle.merging.proofs.collection.readers_of.Goals as goal
+
+pub loop-source-preserved : goal.loop-source-preserved
+loop-source-preserved c =
+    let options = c.args.options.now in
+    let rest_of = source_rest options.pick options.naming in
+    let old = c.loop-source.yielded in
+    let source = c.in-Some.source in
+    let h = c.loop-source.invariant in
+    let more : rests_of options (old ++ source ∷ []) ≡ rests_of options old ++ rest_of source ∷ [] = map_push rest_of old source in
+    record {
+      rests =
+          ap (map reader_rest) c.in_ok-push.ensures.items
+          ∙ (map_push reader_rest c.loop-source.readers.items c.in_ok-over.field-0
+          ∙ ((λ i. h.rests i ++ c.in_ok-over.ensures.rest i ∷ []) ∙ sym more));
+      limits =
+          subst (λ (rests : List Rest). All (λ rest. IsSourceLimited rest.samples) rests) (sym more)
+          (All-push (λ rest. IsSourceLimited rest.samples) (rests_of options old) (rest_of source) h.limits c.in_ok-over.ensures.limits);
+    }

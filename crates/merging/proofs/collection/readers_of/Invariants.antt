@@ -1,0 +1,11 @@
+use Rattle.std.proofs.Common.{◌≡◌, All, map}
+use Rattle.stack_core.specs.Reading.{IsSourceLimited}
+use Rattle.merging.specs.Readers.{reader_rest}
+use Rattle.merging.specs.Sources.{rests_of}
+use Rattle.merging.proofs.collection.readers_of.Given as goal
+
+abbrev pub invariant-loop-source : goal.invariant-loop-source
+invariant-loop-source l = record {
+  rests : map reader_rest l.readers.items ≡ rests_of l.options l.yielded;
+  limits : All (λ rest. IsSourceLimited rest.samples) (rests_of l.options l.yielded);
+}

@@ -1,0 +1,14 @@
+-- What a reader of either format still has to give.
+use Rattle.std.specs.Prelude.{IsTrue}
+use Rattle.stack_core.specs.Reading.{Rest}
+use Rattle.merging.specs.declared.source_reader.SourceReader.{SourceReader}
+use Rattle.merging.specs.declared.source_reader.SourceReader.TheVariants.{Folded, Pprof}
+
+abbrev pub reader_rest : SourceReader → Rest
+reader_rest (Folded reader) = reader.rest
+reader_rest (Pprof reader) = reader.rest
+
+-- it has answered the ending
+abbrev pub HasEnded : SourceReader → Type 0
+HasEnded (Folded reader) = IsTrue reader.has_ended
+HasEnded (Pprof reader) = IsTrue reader.has_ended

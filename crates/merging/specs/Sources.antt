@@ -1,0 +1,23 @@
+-- What the bytes of sources stand for.
+use Rattle.std.specs.Prelude.{ℕ, List, map}
+use Rattle.stack_core.specs.Reading.{Rest}
+use Rattle.folded_lines.specs.Reading.{read_folded}
+use Rattle.run_options.specs.declared.choices.Pick.{Pick}
+use Rattle.run_options.specs.declared.choices.Naming.{Naming}
+use Rattle.profile_tables.specs.Samples.{read_pprof}
+use Rattle.run_options.specs.declared.formats.Format.{Format}
+use Rattle.run_options.specs.declared.formats.Format.TheVariants.{Folded, Pprof}
+use Rattle.merging.specs.declared.sources.Source.{Source}
+use Rattle.run_options.specs.declared.options.Options.{Options}
+
+-- the samples and the ending for which bytes of a format stand
+abbrev pub read_bytes : Format → List ℕ → Pick → Naming → Rest
+read_bytes Folded bytes pick naming = read_folded bytes
+read_bytes Pprof bytes pick naming = read_pprof bytes pick naming
+
+abbrev pub source_rest : Pick → Naming → Source → Rest
+source_rest pick naming source = read_bytes source.format source.bytes.items pick naming
+
+-- the same of all sources, by the options of a run
+abbrev pub rests_of : Options → List Source → List Rest
+rests_of options sources = map (source_rest options.pick options.naming) sources

@@ -1,0 +1,212 @@
+//! A run whose samples are merged as they arrive.
+
+ghost use Rattle.std.specs.Prelude.{◌≡◌, ◌≤◌, ◌<◌, ℕ, [], All, IfOk, IfSome, IsErrOf, length, map};
+ghost use Rattle.std.specs.Arc.{arc_value};
+ghost use Rattle.stack_core.specs.Interleaving.{IsInterleaving, interleaved};
+ghost use Rattle.stack_core.specs.Reading.{IsSourceLimited};
+ghost use Rattle.call_tree.specs.FrameTable.{HasDistinctNames};
+ghost use Rattle.ring_collect.specs.Collecting.{Collects, AreWhole};
+ghost use Rattle.flame_layout.specs.Timeline.{samples_of};
+ghost use Rattle.merging.specs.Sources.{rests_of};
+ghost use Rattle.merging.specs.Readers.{reader_rest};
+ghost use Rattle.merging.specs.Snapshots.{snapshot_samples, AreSnapshots};
+ghost use Rattle.merging.specs.Sums.{all_samples, HasSumsOf, IsDrawable};
+ghost use Rattle.merging.specs.Gathered.{AreLimited, IsGathered};
+
+use crate::snapshots::Snapshot;
+use crate::source_reader::SourceReader;
+use crate::sources::Source;
+use crate::tree_sink::TreeSink;
+use call_tree::{CallTree, FrameTable};
+use ring_collect::{CollectFault, Collected, collect};
+use run_options::Options;
+use stack_core::{Gate, SourceList};
+use std::alloc::{AllocError, Global};
+use std::marker::Model;
+use std::sync::{Arc, Wait};
+use std::thread::Threads;
+
+/// What a run collected, and what was merged of it. No call takes memory.
+#[derive(Drop)]
+pub struct Gathered {
+    lists: Vec<SourceList>,
+    order: Vec<u32>,
+    sink: TreeSink,
+}
+
+impl Model for Gathered {
+    ghost use Rattle.std.specs.Coded.{codes};
+    ghost use Rattle.call_tree.specs.contracts.tree.CallTree as call_tree;
+    ghost use Rattle.merging.specs.contracts.snapshots.Snapshot as snapshot;
+    ghost use Rattle.merging.specs.Gathered.{GatheredState, IsGathered};
+
+    ghost Value = { GatheredState };
+
+    ghost coded = { Prim.hlevel (codes, snapshot.the_row.coded, call_tree.the_row.coded) };
+
+    ghost view = { λ g. record {
+      lists = g.lists.items;
+      order = g.order.items;
+      every = g.sink.every;
+      names = g.sink.names;
+      tree = g.sink.tree;
+      snapshots = g.sink.snapshots;
+    } };
+
+    ghost invariant = { λ g.
+        IsGathered g.lists.items g.order.items g.sink.every g.sink.names g.sink.tree
+        g.sink.snapshots };
+}
+
+impl Gathered {
+    /// What a run collected, with the sink that it fed, which held nothing before.
+    fn of(run: Collected, sink: TreeSink) -> Gathered
+        requires limits { AreLimited run.lists.items }
+        requires ordered { IsInterleaving run.order.items (samples_of run.lists.items) }
+        requires taken { sink.taken ≡ interleaved run.order.items (samples_of run.lists.items) }
+        ensures state { result ≡ record {
+          lists = run.lists.items;
+          order = run.order.items;
+          every = sink.every;
+          names = sink.names;
+          tree = sink.tree;
+          snapshots = sink.snapshots;
+        } }
+        ensures gathered { IsGathered result.lists result.order result.every
+            result.names result.tree result.snapshots }
+    {
+        // What the sink merged is told by these calls.
+        let _tree = sink.tree();
+        let _snapshots = sink.snapshots();
+        Gathered {
+            lists: run.lists,
+            order: run.order,
+            sink,
+        }
+    }
+
+    /// One list for each source, in their order.
+    pub fn lists(&self) -> &[SourceList]
+        ensures lists { result.now ≡ self.now.lists }
+        ensures limits { AreLimited self.now.lists }
+    {
+        &self.lists
+    }
+
+    /// The source of each sample, in the order in which the samples came out of the rings.
+    pub fn order(&self) -> &[u32]
+        ensures order { result.now ≡ self.now.order }
+        ensures ordered { IsInterleaving self.now.order (samples_of self.now.lists) }
+    {
+        &self.order
+    }
+
+    /// The names of all frames.
+    pub fn table(&self) -> &FrameTable
+        ensures names { result.now ≡ self.now.names }
+        ensures distinct { HasDistinctNames self.now.names }
+    {
+        self.sink.table()
+    }
+
+    /// The merged samples of all lists.
+    pub fn tree(&self) -> &CallTree
+        ensures tree { result.now ≡ self.now.tree }
+        ensures sums { HasSumsOf self.now.names self.now.tree
+            (all_samples (samples_of self.now.lists)) }
+        ensures drawable { IsDrawable self.now.names self.now.tree }
+    {
+        self.sink.tree()
+    }
+
+    /// The snapshots, in the order in which they were made.
+    pub fn snapshots(&self) -> &[Snapshot]
+        ensures snapshots { result.now ≡ self.now.snapshots }
+        ensures made { AreSnapshots self.now.every self.now.names self.now.order
+            (λ m. snapshot_samples m self.now.order (samples_of self.now.lists))
+            self.now.snapshots }
+        ensures drawable { All (λ snapshot.
+            IsDrawable self.now.names snapshot.tree) self.now.snapshots }
+    {
+        self.sink.snapshots()
+    }
+}
+
+/// A reader for each source.
+fn readers_of(
+    alloc: Global,
+    sources: Vec<Source>,
+    options: &Options,
+) -> Result<Vec<SourceReader>, AllocError>
+    ensures rests { IfOk result (λ readers.
+        map reader_rest readers.items ≡ rests_of options.now sources.items) }
+    ensures limits { IfOk result (λ readers.
+        All (λ rest. IsSourceLimited rest.samples) (rests_of options.now sources.items)) }
+{
+    let mut readers = Vec::with_capacity(alloc, sources.len())?;
+    for source in sources {
+        readers.push(SourceReader::over(alloc, source, options)?)?;
+    }
+    Ok(readers)
+}
+
+/// A reader for each source, and a sink for all.
+fn prepare(
+    alloc: Global,
+    sources: Vec<Source>,
+    options: &Options,
+) -> Result<(Vec<SourceReader>, TreeSink), AllocError>
+    requires { IfSome options.now.every (λ every. 1 ≤ every) }
+    ensures rests { IfOk result (λ made.
+        map reader_rest made.0.items ≡ rests_of options.now sources.items) }
+    ensures limits { IfOk result (λ made.
+        All (λ rest. IsSourceLimited rest.samples) (rests_of options.now sources.items)) }
+    ensures count { IfOk result (λ made. length made.0.items ≡ length sources.items) }
+    ensures taken { IfOk result (λ made. made.1.taken ≡ []) }
+    ensures every { IfOk result (λ made. made.1.every ≡ options.now.every) }
+{
+    let readers = readers_of(alloc, sources, options)?;
+    let sink = TreeSink::new(alloc, options.every)?;
+    Ok((readers, sink))
+}
+
+/// Reads and collects all sources at the same time, and merges their samples as they arrive. At most
+/// 64 sources.
+pub fn gather<T: Threads + Wait + Copy + Send + 'static, G: Gate + Send + Sync + Drop + 'static>(
+    rt: &T,
+    alloc: Global,
+    sources: Vec<Source>,
+    options: &Options,
+    gate: Arc<G>,
+) -> Result<Gathered, CollectFault>
+    requires sources { length sources.items ≤ 64 }
+    requires every { IfSome options.now.every (λ every. 1 ≤ every) }
+
+    // Each list is the samples that the source's bytes stand for: all of them, or the first ones
+    // where the gate stopped the source.
+    ensures collected_lists { IfOk result (λ gathered.
+        Collects (G.may_stop (arc_value gate)) (G.may_go (arc_value gate))
+        (rests_of options.now sources.items) gathered.lists) }
+    ensures whole_lists { ((source index : ℕ) → G.may_stop (arc_value gate) source index → ⊥)
+        → IfOk result (λ gathered. AreWhole (rests_of options.now sources.items) gathered.lists) }
+
+    // What was merged is their samples, and each snapshot the first of them.
+    ensures merged_totals { IfOk result (λ gathered.
+        HasSumsOf gathered.names gathered.tree (all_samples (samples_of gathered.lists))) }
+    ensures order { IfOk result (λ gathered.
+        IsInterleaving gathered.order (samples_of gathered.lists)) }
+    ensures snapshots { IfOk result (λ gathered.
+        AreSnapshots options.now.every gathered.names gathered.order
+        (λ m. snapshot_samples m gathered.order (samples_of gathered.lists)) gathered.snapshots) }
+    ensures every { IfOk result (λ gathered. gathered.every ≡ options.now.every) }
+
+    ensures refused { (source : ℕ) → IsErrOf result (CollectFault.Unfinished source)
+        → source < length sources.items }
+{
+    let Ok((readers, sink)) = prepare(alloc, sources, options) else {
+        return Err(CollectFault::OutOfMemory);
+    };
+    let mut sink = sink;
+    let run = collect(rt, alloc, readers, options.ring, gate, &mut sink)?;
+    Ok(Gathered::of(run, sink))
+}

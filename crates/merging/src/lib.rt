@@ -1,0 +1,17 @@
+//! Sources, collected and merged: a reader for each source, a sink that merges their samples as they
+//! arrive, and what a run gathers of them.
+#![tactic(auto)]
+
+mod collection;
+pub mod laws;
+mod snapshots;
+mod source_reader;
+mod sources;
+mod taken_rows;
+mod tally;
+mod tree_sink;
+
+pub use collection::{Gathered, gather};
+pub use snapshots::Snapshot;
+pub use sources::Source;
+pub use tree_sink::TreeSink;

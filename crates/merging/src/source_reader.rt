@@ -1,0 +1,59 @@
+//! The readers of all formats as one type.
+
+ghost use Rattle.std.specs.Prelude.{◌≡◌, IfOk, OnOk};
+ghost use Rattle.stack_core.specs.Reading.{IsSourceLimited};
+ghost use Rattle.merging.specs.Sources.{source_rest};
+
+use crate::sources::Source;
+use folded_lines::FoldedReader;
+use profile_tables::PprofReader;
+use run_options::{Format, Options};
+use stack_core::{SampleReader, Step};
+use std::alloc::{AllocError, Global};
+
+/// The reader of a source.
+#[derive(Drop)]
+pub enum SourceReader {
+    Folded(FoldedReader),
+    Pprof(PprofReader),
+}
+
+impl SourceReader {
+    ghost use Rattle.merging.specs.Readers.{reader_rest};
+
+    /// A reader of the source from its beginning.
+    pub fn over(
+        alloc: Global,
+        source: Source,
+        options: &Options,
+    ) -> Result<SourceReader, AllocError>
+        ensures rest { IfOk result (λ reader.
+            reader_rest reader ≡ source_rest options.now.pick options.now.naming source) }
+        ensures limits { OnOk result
+            (IsSourceLimited (source_rest options.now.pick options.now.naming source).samples) }
+    {
+        match source.format {
+            Format::Folded => Ok(SourceReader::Folded(FoldedReader::over(source.bytes))),
+            Format::Pprof => {
+                let pick = options.pick.copy(alloc)?;
+                let reader = PprofReader::over(source.bytes, pick, options.naming);
+                Ok(SourceReader::Pprof(reader))
+            }
+        }
+    }
+}
+
+impl SampleReader for SourceReader {
+    ghost use Rattle.merging.specs.Readers.{reader_rest, HasEnded};
+
+    ghost rest = { reader_rest };
+
+    ghost has_ended = { HasEnded };
+
+    fn next(&mut self, alloc: Global) -> Result<Step, AllocError> {
+        match self {
+            SourceReader::Folded(reader) => reader.next(alloc),
+            SourceReader::Pprof(reader) => reader.next(alloc),
+        }
+    }
+}

@@ -1,0 +1,15 @@
+//! What a run is asked for: how many items a ring holds, which value of a profile weighs its samples, how
+//! frames are named, which format a source has, and how wide an image is.
+#![tactic(auto)]
+
+mod choices;
+mod formats;
+mod options;
+mod ring_sizes;
+mod widths;
+
+pub use choices::{Naming, Pick};
+pub use formats::{Format, format_of};
+pub use options::Options;
+pub use ring_sizes::{LARGEST_RING, RingSize};
+pub use widths::{MAX_WIDTH, Width};

@@ -1,0 +1,163 @@
+-- the lines of a tree's listing are the fold text of its samples
+use Rattle.std.proofs.Common.{◌≡◌, ℕ, ◌+◌, ◌-◌, ◌^◌, ◌<◌, List, [], ◌∷◌, ◌++◌, Bool, true, false, cond, ◌&&◌, length, map, filter, take, get_or, ltb, nat_eq, Some, None, T, Decides, sym, ◌∙◌, ap, subst, refl, arith, inl, inr, ⊎_elim, All}
+use Rattle.std.specs.List.{AllByRecursion}
+use Rattle.std.specs.declared.cmp.Ordering.TheVariants.{Equal}
+use Rattle.std.specs.Ordering.{is_eq, is_lt}
+use Rattle.std.specs.Str.{bytes_eq}
+use Rattle.std.specs.Cmp.Lexicographic.{pointwise}
+use Rattle.std.specs.FinMap.{entries}
+use Rattle.std.specs.FinMap.Entries.{find, is_sorted, below_all}
+use Rattle.std.proofs.lemmas.Cmp.{tied_itself}
+use Rattle.std.proofs.lemmas.List.{take-map, map_push}
+use Rattle.std.proofs.lemmas.Bool.{cases_lt}
+use Rattle.std.proofs.lemmas.Bool.Decides.{same_from_decides}
+use Rattle.call_tree.specs.CallTree.{Tree, own_weight, total_weight}
+use Rattle.call_tree.specs.FrameTable.{HasDistinctNames}
+use Rattle.call_tree.specs.declared.listing.Visit.{Visit as TreeVisit}
+use Rattle.call_tree.specs.Listing.{named, visit_of as tree_visit, HasNumbersOf, IsListing as IsTreeListing}
+use Rattle.stack_core.specs.declared.samples.Sample.{Sample}
+use Rattle.folded_lines.specs.Writing.{line_of}
+use Rattle.flame_layout.specs.Timeline.{Stack}
+use Rattle.flame_layout.specs.Graph.{stack_cmp}
+use Rattle.flame_layout.specs.Paths.{Visit, IsRising, SameOwn, tree_samples}
+use Rattle.flame_layout.specs.Paired.{next_path}
+use Rattle.flame_layout.proofs.PathWords.{path_total, path_own, own_at-is, visit_of}
+use Rattle.flame_layout.proofs.Order.{Lt, Lt-irrefl, stack_same, stack_total}
+use Rattle.flame_layout.proofs.Rising.{Among, each-among}
+use Rattle.flame_layout.proofs.Visits.{Decides-stack, own-part, path_own-cons}
+use Rattle.flame_layout.proofs.Sums.{IsListing, visits_weigh}
+use Rattle.flame_layout.proofs.TreeSamples.{equal_is, named_visit, named_listing, own_weight-sum, entries_named, path_in}
+use Rattle.flame_layout.proofs.Chained.{Chained, next_is}
+use Rattle.flame_layout.proofs.Held.{own_le, listing_chained, each_path}
+use Rattle.flame_layout.proofs.GraphBoxes.{each_at, tree_weight}
+use Rattle.view_texts.specs.Fold.{Weighed, sum_at, merged, weighed, lines_of, if_positive, fold_text}
+use Rattle.view_texts.proofs.MergedRows.{is_true, as_true, sum_at-cons, sum_at-nil, merged-only, merged-same}
+use Rattle.view_texts.specs.Visited.{next_names, visited_lines}
+
+-- ---- the lines of the visits
+
+-- the visits with an own weight, as rows
+abbrev rows_of_visits : List Visit → List Weighed
+rows_of_visits visits = filter (λ row. ltb 0 row.1) (map (λ visit. (visit.path, visit.own)) visits)
+
+-- the names of the next path are those of its numbers
+next_named : (names : List (List ℕ)) (before : List ℕ) (v : TreeVisit) → next_names names (named names before) v ≡ named names (next_path before v)
+next_named names before v = by (nat_eq v.depth 0)
+  where
+    name : ℕ → List ℕ
+    name = λ n. get_or names n []
+
+    by : (b : Bool) → cond b [] (take (v.depth - 1) (named names before) ++ get_or names v.frame [] ∷ []) ≡ named names (cond b [] (take (v.depth - 1) before ++ v.frame ∷ []))
+    by true = refl
+    by false = ap (λ front. front ++ name v.frame ∷ []) (take-map name (v.depth - 1) before) ∙ sym (map_push name (take (v.depth - 1) before) v.frame)
+
+lines_of_visits : (names : List (List ℕ)) (tree : Tree) (before : List ℕ) (paths : List (List ℕ)) → Chained before paths →
+    visited_lines names (named names before) (map (tree_visit tree) paths) ≡ lines_of (rows_of_visits (map (named_visit names tree) paths))
+lines_of_visits names tree before [] h = refl
+lines_of_visits names tree before (p ∷ ps) h =
+    let own = own_weight tree p in
+    let next : next_names names (named names before) (tree_visit tree p) ≡ named names p = next_named names before (tree_visit tree p) ∙ ap (named names) (next_is tree before p h.0) in
+    ap (λ path. cond (ltb 0 own) (line_of path own) [] ++ visited_lines names path (map (tree_visit tree) ps)) next ∙
+    (ap (λ text. cond (ltb 0 own) (line_of (named names p) own) [] ++ text) (lines_of_visits names tree p ps h.1) ∙ by (ltb 0 own))
+  where
+    by : (b : Bool) → cond b (line_of (named names p) (own_weight tree p)) [] ++ lines_of (rows_of_visits (map (named_visit names tree) ps))
+        ≡ lines_of (cond b ((named names p, own_weight tree p) ∷ rows_of_visits (map (named_visit names tree) ps)) (rows_of_visits (map (named_visit names tree) ps)))
+    by true = refl
+    by false = refl
+
+-- ---- the rows are merged
+
+Decides-order : (a b : Stack) → Decides (is_eq (stack_cmp a b)) (a ≡ b)
+Decides-order a b = ((λ e. stack_same a b (equal_is (stack_cmp a b) e)), (λ e. ap is_eq (subst (λ c. stack_cmp a c ≡ Equal) e (tied_itself stack_total a))))
+
+-- the sum of a stack's samples is its own weight
+sum_at-own : (q : Stack) (samples : List Sample) → sum_at (map weighed samples) q ≡ path_own q samples
+sum_at-own q [] = sum_at-nil q
+sum_at-own q (s ∷ samples) =
+    let same : is_eq (stack_cmp q s.stack) ≡ pointwise bytes_eq q s.stack = same_from_decides _ _ (Decides-order q s.stack) (Decides-stack q s.stack) in
+    sum_at-cons (weighed s) (map weighed samples) q ∙ ((λ i. cond (same i) s.weight 0 + sum_at-own q samples i) ∙ sym (path_own-cons q s samples))
+
+below_rows : (p : Stack) (visits : List Visit) → AllByRecursion (Lt p) (map (λ visit. visit.path) visits) → T (below_all stack_cmp p (rows_of_visits visits))
+below_rows p [] h = tt
+below_rows p (v ∷ vs) h = by (ltb 0 v.own) (below_rows p vs h.1)
+  where
+    by : (b : Bool) → T (below_all stack_cmp p (rows_of_visits vs)) → T (below_all stack_cmp p (cond b ((v.path, v.own) ∷ rows_of_visits vs) (rows_of_visits vs)))
+    by true ih = as_true _ (λ i. is_lt (h.0 i) && is_true (below_all stack_cmp p (rows_of_visits vs)) ih i)
+    by false ih = ih
+
+sorted_rows : (visits : List Visit) → IsRising (map (λ visit. visit.path) visits) → T (is_sorted stack_cmp (rows_of_visits visits))
+sorted_rows [] h = tt
+sorted_rows (v ∷ vs) h = by (ltb 0 v.own) (sorted_rows vs h.1)
+  where
+    by : (b : Bool) → T (is_sorted stack_cmp (rows_of_visits vs)) → T (is_sorted stack_cmp (cond b ((v.path, v.own) ∷ rows_of_visits vs) (rows_of_visits vs)))
+    by true ih = as_true _ (λ i. is_true (below_all stack_cmp v.path (rows_of_visits vs)) (below_rows v.path vs h.0) i && is_true (is_sorted stack_cmp (rows_of_visits vs)) ih i)
+    by false ih = ih
+
+missing_row : (q : Stack) (visits : List Visit) → (Among q (map (λ visit. visit.path) visits) → ⊥) → find stack_cmp q (rows_of_visits visits) ≡ None
+missing_row q [] n = refl
+missing_row q (v ∷ vs) n = by (ltb 0 v.own) (is_eq (stack_cmp q v.path)) refl (missing_row q vs (λ m. n (inr m)))
+  where
+    by : (b t : Bool) → is_eq (stack_cmp q v.path) ≡ t → find stack_cmp q (rows_of_visits vs) ≡ None → find stack_cmp q (cond b ((v.path, v.own) ∷ rows_of_visits vs) (rows_of_visits vs)) ≡ None
+    by true true e ih = absurd (n (inl (stack_same q v.path (equal_is _ e))))
+    by true false e ih = ap (λ t. cond t (Some v.own) (find stack_cmp q (rows_of_visits vs))) e ∙ ih
+    by false t e ih = ih
+
+found_row : (samples : List Sample) (q : Stack) (visits : List Visit) → IsRising (map (λ visit. visit.path) visits) →
+    AllByRecursion (λ visit. (visit ≡ visit_of samples visit.path) × (0 < path_total visit.path samples)) visits → Among q (map (λ visit. visit.path) visits) →
+    find stack_cmp q (rows_of_visits visits) ≡ if_positive (path_own q samples)
+found_row samples q [] r s m = absurd m
+found_row samples q (v ∷ vs) r s m = ⊎_elim here (λ n. later n (found_row samples q vs r.1 s.1 n)) m
+  where
+    here : q ≡ v.path → find stack_cmp q (rows_of_visits (v ∷ vs)) ≡ if_positive (path_own q samples)
+    here e =
+        let own : v.own ≡ path_own q samples = ap (λ (w : Visit). w.own) s.0.0 ∙ ap (λ p. path_own p samples) (sym e) in
+        by (ltb 0 v.own) ∙ ap if_positive own
+      where
+        none : find stack_cmp q (rows_of_visits vs) ≡ None
+        none = missing_row q vs (λ n. Lt-irrefl q (subst (λ p. Lt p q) (sym e) (each-among (Lt v.path) q (map (λ visit. visit.path) vs) r.0 n)))
+
+        by : (b : Bool) → find stack_cmp q (cond b ((v.path, v.own) ∷ rows_of_visits vs) (rows_of_visits vs)) ≡ cond b (Some v.own) None
+        by true = ap (λ t. cond t (Some v.own) (find stack_cmp q (rows_of_visits vs))) ((Decides-order q v.path).1 e)
+        by false = none
+
+    later : Among q (map (λ visit. visit.path) vs) → find stack_cmp q (rows_of_visits vs) ≡ if_positive (path_own q samples) → find stack_cmp q (rows_of_visits (v ∷ vs)) ≡ if_positive (path_own q samples)
+    later n ih = by (ltb 0 v.own) (is_eq (stack_cmp q v.path)) refl
+      where
+        by : (b t : Bool) → is_eq (stack_cmp q v.path) ≡ t → find stack_cmp q (cond b ((v.path, v.own) ∷ rows_of_visits vs) (rows_of_visits vs)) ≡ if_positive (path_own q samples)
+        by true true e = absurd (Lt-irrefl q (subst (λ p. Lt p q) (sym (stack_same q v.path (equal_is _ e))) (each-among (Lt v.path) q (map (λ visit. visit.path) vs) r.0 n)))
+        by true false e = ap (λ t. cond t (Some v.own) (find stack_cmp q (rows_of_visits vs))) e ∙ ih
+        by false t e = ih
+
+row_at : (samples : List Sample) (visits : List Visit) → IsListing visits samples → (q : Stack) → find stack_cmp q (rows_of_visits visits) ≡ if_positive (path_own q samples)
+row_at samples visits l q =
+    ⊎_elim
+    (λ w. found_row samples q visits l.rises l.sums (l.all q w))
+    (λ none.
+    let own : 0 ≡ path_own q samples = omega (arith, none, own-part q samples) in
+    missing_row q visits (λ m. absurd (omega (arith, none, each-among (λ p. 0 < path_total p samples) q (map (λ visit. visit.path) visits) (visits_weigh samples visits l.sums) m))) ∙ ap if_positive own)
+    (cases_lt 0 (path_total q samples))
+
+rows_merged : (samples : List Sample) (visits : List Visit) → IsListing visits samples → rows_of_visits visits ≡ merged (map weighed samples)
+rows_merged samples visits l =
+    merged-only (map weighed samples) (rows_of_visits visits) (sorted_rows visits l.rises) (λ q. row_at samples visits l q ∙ ap if_positive (sym (sum_at-own q samples)))
+
+-- ---- a tree's listing
+
+same_rows : (xs ys : List Sample) → SameOwn xs ys → merged (map weighed xs) ≡ merged (map weighed ys)
+same_rows xs ys h =
+    merged-same (map weighed xs) (map weighed ys) (λ q. sum_at-own q xs ∙ (sym (own_at-is q xs) ∙ (h q ∙ (own_at-is q ys ∙ sym (sum_at-own q ys)))))
+
+pub listing_text : (names : List (List ℕ)) (tree : Tree) (visits : List TreeVisit) → IsTreeListing names tree visits → HasDistinctNames names → HasNumbersOf names tree →
+    (samples : List Sample) → SameOwn samples (tree_samples names tree) → visited_lines names [] visits ≡ fold_text samples
+listing_text names tree visits l d numbers samples h =
+    let listing = named_listing names tree visits l d numbers in
+    let known = each_path (λ p. AllByRecursion (λ n. n < length names) p) l.paths (λ p c. path_in names (entries tree) p (entries_named names tree numbers) ((l.members p).0 c)) in
+    let chained = listing_chained names tree (tree_samples names tree) visits l listing known d in
+    ap (visited_lines names []) l.are ∙ (lines_of_visits names tree [] l.paths chained ∙
+    ap lines_of (rows_merged (tree_samples names tree) (map (named_visit names tree) l.paths) listing ∙ sym (same_rows samples (tree_samples names tree) h)))
+
+-- each own weight is at most the tree's whole weight
+pub listing_fits : (names : List (List ℕ)) (tree : Tree) (visits : List TreeVisit) → IsTreeListing names tree visits → total_weight tree [] < 2 ^ 64 → All (λ visit. visit.own < 2 ^ 64) visits
+listing_fits names tree visits l small =
+    each_at (λ visit. visit.own < 2 ^ 64) tree l.paths visits l.are
+    (λ p c. omega (arith, own_weight-sum tree p, own_le p names (entries tree), tree_weight names tree, small))

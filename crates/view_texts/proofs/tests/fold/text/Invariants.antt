@@ -1,0 +1,8 @@
+-- The tree holds samples.
+use Rattle.std.proofs.Common.{List}
+use Rattle.stack_core.specs.declared.samples.Sample.{Sample}
+use Rattle.flame_layout.specs.Paired.{Holds}
+use Rattle.view_texts.proofs.tests.fold.text.Given as goal
+
+abbrev pub invariant-loop-names : goal.invariant-loop-names
+invariant-loop-names g l = (samples : List Sample) × Holds l.table l.tree samples

@@ -1,0 +1,6 @@
+-- The definitions that the contracts of view_texts cite.
+pub mod Fold
+pub mod Json
+pub mod JsonLaws
+pub mod Pairs
+pub mod Visited

@@ -1,0 +1,92 @@
+//! Boxes in JSON.
+
+ghost use Rattle.std.specs.Prelude.{◌≡◌, ℕ, ◌+◌, ◌<◌, ◌≤◌, ◌++◌, false, OnOk};
+ghost use Rattle.serde_json.specs.Data.{Data};
+ghost use Rattle.serde_json.specs.Written.{compact_text, members_text};
+ghost use Rattle.flame_layout.specs.Edges.{placed_at};
+ghost use Rattle.view_texts.specs.Json.{box_data, box_members, compared_box_data};
+
+use crate::json_pieces::{append_number, append_text};
+use flame_layout::{ComparedBox, SpanBox, Width, edges};
+use std::alloc::{AllocError, Global};
+
+// A box of a line, which is an object there.
+pub(crate) trait JsonBox {
+    // The object, in an image of that width whose boxes span that total.
+    ghost object_of: { ℕ → ℕ → Self → Data };
+
+    // Where the box ends.
+    ghost end: { Self → ℕ };
+
+    fn append(
+        &self,
+        alloc: Global,
+        text: &mut Vec<u8>,
+        total: u64,
+        width: Width,
+    ) -> Result<(), AllocError>
+        requires within { end self.now ≤ total }
+        requires positive { 0 < total }
+        ensures { OnOk result
+            (text.new.items ≡ text.old.items ++ compact_text (object_of total width self.now)) };
+}
+
+impl JsonBox for SpanBox {
+    ghost object_of = { box_data };
+
+    ghost end = { λ span. span.start + span.weight };
+
+    fn append(
+        &self,
+        alloc: Global,
+        text: &mut Vec<u8>,
+        total: u64,
+        width: Width,
+    ) -> Result<(), AllocError> {
+        text.push(b'{')?;
+        append_members(alloc, text, self, total, width)
+    }
+}
+
+impl JsonBox for ComparedBox {
+    ghost object_of = { compared_box_data };
+
+    ghost end = { λ compared. compared.span.start + compared.span.weight };
+
+    fn append(
+        &self,
+        alloc: Global,
+        text: &mut Vec<u8>,
+        total: u64,
+        width: Width,
+    ) -> Result<(), AllocError> {
+        append_number(text, b"{\"before\":", self.before)?;
+        text.push(b',')?;
+        append_members(alloc, text, &self.span, total, width)
+    }
+}
+
+// Appends the members of a box, and the bracket after them.
+fn append_members(
+    alloc: Global,
+    text: &mut Vec<u8>,
+    span: &SpanBox,
+    total: u64,
+    width: Width,
+) -> Result<(), AllocError>
+    requires within { span.now.start + span.now.weight ≤ total }
+    requires positive { 0 < total }
+    ensures { OnOk result (text.new.items
+        ≡ text.old.items ++ members_text false (box_members (placed_at total width span.now))) }
+{
+    let (left, right) = edges(span, total, width);
+    append_number(text, b"\"depth\":", u64::from(span.depth))?;
+    append_number(text, b",\"left\":", u64::from(left))?;
+    append_text(alloc, text, b",\"name\":", span.name.get())?;
+    append_number(text, b",\"own\":", span.own)?;
+    append_number(text, b",\"right\":", u64::from(right))?;
+    append_number(text, b",\"start\":", span.start)?;
+    append_number(text, b",\"weight\":", span.weight)?;
+    text.push(b'}')?;
+    Ok(())
+}

@@ -1,0 +1,17 @@
+//! The texts of the views: folded lines of a merged tree, two-column lines of a comparison, and lines of
+//! JSON.
+#![tactic(auto)]
+
+mod fold_lines;
+mod json_boxes;
+mod json_lines;
+mod json_pieces;
+pub mod laws;
+mod pair_lines;
+
+pub use fold_lines::append_fold_text;
+pub use json_lines::{append_boxes_line, append_pair_boxes_line, append_snapshot_line};
+pub use pair_lines::append_pairs_text;
+
+#[cfg(test)]
+mod tests;

@@ -1,0 +1,3 @@
+//! Worked texts.
+mod fold;
+mod lines;
