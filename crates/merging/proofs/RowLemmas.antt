@@ -4,7 +4,7 @@ use Rattle.std.proofs.lemmas.List.{map_push}
 use Rattle.call_tree.specs.Listing.{named}
 use Rattle.ring_collect.specs.Telling.{GrowsTo}
 use Rattle.flame_layout.proofs.Held.{known-grows, named-grows, each-push}
-use Rattle.merging.specs.TakenRows.{AreNumbersOf}
+use Rattle.merging.specs.checked.TakenRows.{AreNumbersOf}
 
 -- one number more
 pub numbers-push : (stack names longer : List (List ℕ)) (numbers more : List ℕ) (name : List ℕ) (n : ℕ) → AreNumbersOf stack names numbers → GrowsTo names longer → get_or longer n [] ≡ name → n < length longer → more ≡ numbers ++ n ∷ []

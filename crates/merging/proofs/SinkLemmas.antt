@@ -23,9 +23,9 @@ use Rattle.merging.specs.Snapshots.{snapshot_places, snapshot_counts, samples_of
 use Rattle.ring_collect.specs.Telling.{GrowsTo}
 use Rattle.merging.specs.declared.taken_rows.TakenRows.{TakenRows}
 use Rattle.merging.specs.declared.tally.Tally.{Tally}
-use Rattle.merging.specs.TakenRows.{TakenRow, rows_of, pair_of, pairs_of, order_of, paths_of}
-use Rattle.merging.specs.Tallies.{IsTally}
-use Rattle.merging.specs.Merging.{IsNumbered, AreMerged, IsTreeSink, IsRowFor, snapshot_of, snapshots_of, due_after}
+use Rattle.merging.specs.checked.TakenRows.{TakenRow, rows_of, pair_of, pairs_of, order_of, paths_of}
+use Rattle.merging.specs.checked.Tallies.{IsTally}
+use Rattle.merging.specs.checked.Merging.{IsNumbered, AreMerged, IsTreeSink, IsRowFor, snapshot_of, snapshots_of, due_after}
 use Rattle.merging.proofs.SumLemmas.{sums-held}
 use Rattle.merging.proofs.SnapshotLemmas.{tree_of-push, snapshots_of-push}
 

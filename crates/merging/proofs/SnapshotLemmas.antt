@@ -14,8 +14,8 @@ use Rattle.std.proofs.lemmas.List.Sums.{fold_push}
 use Rattle.call_tree.specs.CallTree.{Tree, tree_of, with_weight}
 use Rattle.merging.specs.declared.snapshots.Snapshot.{Snapshot}
 use Rattle.merging.specs.Snapshots.{multiples_upto, snapshot_places, source_counts}
-use Rattle.merging.specs.TakenRows.{TakenRow, order_of, paths_of}
-use Rattle.merging.specs.Merging.{snapshot_of, snapshots_of, is_due, due_after}
+use Rattle.merging.specs.checked.TakenRows.{TakenRow, order_of, paths_of}
+use Rattle.merging.specs.checked.Merging.{snapshot_of, snapshots_of, is_due, due_after}
 
 -- ---- where snapshots are
 

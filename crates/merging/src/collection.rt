@@ -8,7 +8,7 @@ ghost use Rattle.call_tree.specs.FrameTable.{HasDistinctNames};
 ghost use Rattle.ring_collect.specs.Collecting.{Collects, AreWhole};
 ghost use Rattle.flame_layout.specs.Timeline.{samples_of};
 ghost use Rattle.merging.specs.Sources.{rests_of};
-ghost use Rattle.merging.specs.Readers.{reader_rest};
+ghost use Rattle.merging.specs.checked.Readers.{reader_rest};
 ghost use Rattle.merging.specs.Snapshots.{snapshot_samples, AreSnapshots};
 ghost use Rattle.merging.specs.Sums.{all_samples, HasSumsOf, IsDrawable};
 ghost use Rattle.merging.specs.Gathered.{AreLimited, IsGathered};
@@ -26,7 +26,8 @@ use std::marker::Model;
 use std::sync::{Arc, Wait};
 use std::thread::Threads;
 
-/// What a run collected, and what was merged of it. No call takes memory.
+/// What a run collected and merged: the lists, the order, the tree and the snapshots, without boxes. No
+/// call takes memory.
 #[derive(Drop)]
 pub struct Gathered {
     lists: Vec<SourceList>,
@@ -75,9 +76,7 @@ impl Gathered {
         ensures gathered { IsGathered result.lists result.order result.every
             result.names result.tree result.snapshots }
     {
-        // What the sink merged is told by these calls.
-        let _tree = sink.tree();
-        let _snapshots = sink.snapshots();
+        sink.recall_merged();
         Gathered {
             lists: run.lists,
             order: run.order,
@@ -170,8 +169,12 @@ fn prepare(
     Ok((readers, sink))
 }
 
-/// Reads and collects all sources at the same time, and merges their samples as they arrive. At most
-/// 64 sources.
+/// Reads and collects all sources at the same time, each in a thread of its own and through a ring of
+/// its own, and merges their samples as they arrive: the lists, the order, the tree and the snapshots of
+/// a run, without boxes. At most 64 sources.
+///
+/// The gate is asked before each sample of a source. Where it says Stop, the source's list has the
+/// samples before, and the ending `Stopped`.
 pub fn gather<T: Threads + Wait + Copy + Send + 'static, G: Gate + Send + Sync + Drop + 'static>(
     rt: &T,
     alloc: Global,

@@ -15,3 +15,6 @@ pub use collection::{Gathered, gather};
 pub use snapshots::Snapshot;
 pub use sources::Source;
 pub use tree_sink::TreeSink;
+
+#[cfg(test)]
+mod tests;

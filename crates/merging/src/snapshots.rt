@@ -2,9 +2,9 @@
 
 ghost use Rattle.std.specs.Prelude.{◌≡◌, ◌≤◌, ◌<◌, ◌+◌, ◌++◌, ◌∷◌, ◌^◌, [], IfOk, OnSome, IfSome, vec_len, vec_capacity};
 ghost use Rattle.call_tree.specs.CallTree.{tree_of, total_weight, with_weight};
-ghost use Rattle.merging.specs.Merging.{is_due, due_after};
-ghost use Rattle.merging.specs.Tallies.{HasRoom, IsTally};
-ghost use Rattle.merging.specs.TakenRows.{row_of, rows_of, paths_of};
+ghost use Rattle.merging.specs.checked.Merging.{is_due, due_after};
+ghost use Rattle.merging.specs.checked.Tallies.{HasRoom, IsTally};
+ghost use Rattle.merging.specs.checked.TakenRows.{row_of, rows_of, paths_of};
 
 use crate::taken_rows::NumberedSample;
 use crate::tally::{Tally, counts_with};

@@ -19,7 +19,7 @@ pub enum SourceReader {
 }
 
 impl SourceReader {
-    ghost use Rattle.merging.specs.Readers.{reader_rest};
+    ghost use Rattle.merging.specs.checked.Readers.{reader_rest};
 
     /// A reader of the source from its beginning.
     pub fn over(
@@ -44,7 +44,7 @@ impl SourceReader {
 }
 
 impl SampleReader for SourceReader {
-    ghost use Rattle.merging.specs.Readers.{reader_rest, HasEnded};
+    ghost use Rattle.merging.specs.checked.Readers.{reader_rest, HasEnded};
 
     ghost rest = { reader_rest };
 

@@ -5,8 +5,8 @@ ghost use Rattle.std.specs.Prelude.{◌≡◌, ◌++◌, ◌∷◌, [], OnOk, ma
 ghost use Rattle.call_tree.specs.FrameTable.{HasDistinctNames};
 ghost use Rattle.ring_collect.specs.NamesInOrder.{with_stack};
 ghost use Rattle.ring_collect.specs.Telling.{GrowsTo};
-ghost use Rattle.merging.specs.Merging.{IsRowFor};
-ghost use Rattle.merging.specs.TakenRows.{AreNumbersOf, row_of, rows_of};
+ghost use Rattle.merging.specs.checked.Merging.{IsRowFor};
+ghost use Rattle.merging.specs.checked.TakenRows.{AreNumbersOf, row_of, rows_of};
 
 use call_tree::FrameTable;
 use std::alloc::{AllocError, Global};

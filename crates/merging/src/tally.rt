@@ -2,8 +2,8 @@
 
 ghost use Rattle.std.specs.Prelude.{max, slice_index, ◌≡◌, ◌<◌, ◌+◌, ◌++◌, ◌∷◌, ◌^◌, ℕ, List, [], IfOk, OnOk, length, vec_capacity};
 ghost use Rattle.merging.specs.Snapshots.{source_counts};
-ghost use Rattle.merging.specs.Tallies.{HasRoom, IsTally};
-ghost use Rattle.merging.specs.TakenRows.{row_of, rows_of};
+ghost use Rattle.merging.specs.checked.Tallies.{HasRoom, IsTally};
+ghost use Rattle.merging.specs.checked.TakenRows.{row_of, rows_of};
 
 use crate::taken_rows::{NumberedSample, TakenRows};
 use std::alloc::{AllocError, Global};

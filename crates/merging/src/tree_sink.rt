@@ -36,8 +36,8 @@ impl Model for TreeSink {
     ghost use Rattle.call_tree.specs.contracts.tree.CallTree as call_tree;
     ghost use Rattle.merging.specs.contracts.snapshots.Snapshot as snapshot;
     ghost use Rattle.merging.specs.TreeSinkState.{TreeSinkState};
-    ghost use Rattle.merging.specs.TakenRows.{rows_of, pairs_of};
-    ghost use Rattle.merging.specs.Merging.{IsTreeSink};
+    ghost use Rattle.merging.specs.checked.TakenRows.{rows_of, pairs_of};
+    ghost use Rattle.merging.specs.checked.Merging.{IsTreeSink};
 
     ghost Value = { TreeSinkState };
 
@@ -101,6 +101,16 @@ impl TreeSink {
     {
         &self.snapshots
     }
+
+    /// For contracts alone: what was merged of the pairs that were taken.
+    pub(crate) fn recall_merged(&self)
+        ensures sums { HasSumsOf self.now.names self.now.tree (samples_of_pairs self.now.taken) }
+        ensures made { AreSnapshots self.now.every self.now.names (sources_of self.now.taken)
+            (first_samples self.now.taken) self.now.snapshots }
+    {
+        let _tree = self.tree();
+        let _snapshots = self.snapshots();
+    }
 }
 
 impl Sink for TreeSink {
@@ -136,13 +146,13 @@ impl Sink for TreeSink {
         )?;
         self.tree.add(&self.sample.numbers, self.sample.weight)?;
         self.tally.count(&self.sample);
-        keep(&mut self.snapshots, due);
+        append_due(&mut self.snapshots, due);
         Ok(())
     }
 }
 
-/// Appends what is due, for which there is room.
-fn keep(snapshots: &mut Vec<Snapshot>, due: Option<Snapshot>)
+/// Appends the snapshot that is due, if one is. There is room for it.
+fn append_due(snapshots: &mut Vec<Snapshot>, due: Option<Snapshot>)
     requires { OnSome due (vec_len snapshots.old < vec_capacity snapshots.old) }
     ensures { snapshots.new.items ≡ snapshots.old.items ++ option_to_list due }
 {

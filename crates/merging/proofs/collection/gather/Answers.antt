@@ -2,7 +2,7 @@ use Rattle.std.proofs.Common.{◌≡◌, arith, sym, subst, map, List, All}
 use Rattle.std.specs.Arc.{arc_value}
 use Rattle.stack_core.specs.Reading.{Rest, IsSourceLimited}
 use Rattle.std.proofs.lemmas.List.{length-map}
-use Rattle.merging.specs.Readers.{reader_rest}
+use Rattle.merging.specs.checked.Readers.{reader_rest}
 use Rattle.merging.specs.Sources.{rests_of}
 use Rattle.merging.proofs.GatherLemmas.{collected-limited}
 use Rattle.merging.proofs.collection.gather.Goals as goal

@@ -1,6 +1,6 @@
 use Rattle.std.proofs.Common.{arith, ap, length}
 use Rattle.std.proofs.lemmas.List.{length-map}
-use Rattle.merging.specs.Readers.{reader_rest}
+use Rattle.merging.specs.checked.Readers.{reader_rest}
 use Rattle.merging.specs.Sources.{source_rest}
 use Rattle.merging.proofs.collection.prepare.Goals as goal
 

@@ -2,7 +2,7 @@ use Rattle.std.proofs.Common.{◌≡◌, ◌++◌, ◌∷◌, [], ◌∙◌, sym
 use Rattle.std.proofs.lemmas.List.{map_push}
 use Rattle.std.proofs.lemmas.List.Elements.{All-push}
 use Rattle.stack_core.specs.Reading.{Rest, IsSourceLimited}
-use Rattle.merging.specs.Readers.{reader_rest}
+use Rattle.merging.specs.checked.Readers.{reader_rest}
 use Rattle.merging.specs.Sources.{source_rest, rests_of}
 use Rattle.merging.proofs.collection.readers_of.Goals as goal
 

@@ -1,6 +1,6 @@
 use Rattle.std.proofs.Common.{◌≡◌, All, map}
 use Rattle.stack_core.specs.Reading.{IsSourceLimited}
-use Rattle.merging.specs.Readers.{reader_rest}
+use Rattle.merging.specs.checked.Readers.{reader_rest}
 use Rattle.merging.specs.Sources.{rests_of}
 use Rattle.merging.proofs.collection.readers_of.Given as goal
 

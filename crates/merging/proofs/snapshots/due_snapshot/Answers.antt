@@ -2,8 +2,8 @@ use Rattle.std.proofs.Common.{◌≡◌, ◌+◌, ◌∙◌, sym, ap, arith, tru
 use Rattle.std.proofs.lemmas.List.{length-map}
 use Rattle.call_tree.specs.CallTree.{with_weight}
 use Rattle.merging.specs.Snapshots.{source_counts}
-use Rattle.merging.specs.Merging.{is_due}
-use Rattle.merging.specs.TakenRows.{rows_of, row_of, order_of}
+use Rattle.merging.specs.checked.Merging.{is_due}
+use Rattle.merging.specs.checked.TakenRows.{rows_of, row_of, order_of}
 use Rattle.merging.proofs.SnapshotLemmas.{where_due, due_with}
 use Rattle.merging.proofs.snapshots.due_snapshot.Goals as goal
 

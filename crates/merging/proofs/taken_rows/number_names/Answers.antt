@@ -4,7 +4,7 @@ use Rattle.call_tree.specs.FrameTable.{with_name}
 use Rattle.ring_collect.specs.NamesInOrder.{with_stack}
 use Rattle.ring_collect.proofs.NameOrder.{with_stack_push}
 use Rattle.flame_layout.proofs.Held.{grows-trans, grows-interned, got}
-use Rattle.merging.specs.TakenRows.{AreNumbersOf}
+use Rattle.merging.specs.checked.TakenRows.{AreNumbersOf}
 use Rattle.merging.proofs.RowLemmas.{numbers-push}
 use Rattle.merging.proofs.taken_rows.number_names.Goals as goal
 

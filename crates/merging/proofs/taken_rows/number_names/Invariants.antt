@@ -2,7 +2,7 @@ use Rattle.std.proofs.Common.{◌≡◌, map, take, string_bytes}
 use Rattle.call_tree.specs.FrameTable.{HasDistinctNames}
 use Rattle.ring_collect.specs.NamesInOrder.{with_stack}
 use Rattle.ring_collect.specs.Telling.{GrowsTo}
-use Rattle.merging.specs.TakenRows.{AreNumbersOf}
+use Rattle.merging.specs.checked.TakenRows.{AreNumbersOf}
 use Rattle.merging.proofs.taken_rows.number_names.Given as goal
 
 abbrev pub invariant-loop-name : goal.invariant-loop-name

@@ -1,7 +1,7 @@
 use Rattle.std.proofs.Common.{subst}
 use Rattle.stack_core.specs.Interleaving.{sources_of}
 use Rattle.merging.specs.Snapshots.{first_samples, AreSnapshots}
-use Rattle.merging.specs.TakenRows.{rows_of}
+use Rattle.merging.specs.checked.TakenRows.{rows_of}
 use Rattle.merging.specs.TreeSinkState.{TreeSinkState}
 use Rattle.merging.proofs.SinkLemmas.{merged_snapshots}
 use Rattle.merging.proofs.tree_sink.TreeSink.snapshots.Goals as goal

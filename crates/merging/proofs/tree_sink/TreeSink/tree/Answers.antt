@@ -1,7 +1,7 @@
 use Rattle.std.proofs.Common.{subst}
 use Rattle.merging.specs.Snapshots.{samples_of_pairs}
 use Rattle.merging.specs.Sums.{HasSumsOf}
-use Rattle.merging.specs.TakenRows.{rows_of}
+use Rattle.merging.specs.checked.TakenRows.{rows_of}
 use Rattle.merging.specs.TreeSinkState.{TreeSinkState}
 use Rattle.merging.proofs.SinkLemmas.{merged_sums}
 use Rattle.merging.proofs.tree_sink.TreeSink.tree.Goals as goal

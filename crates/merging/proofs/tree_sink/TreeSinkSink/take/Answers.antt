@@ -2,9 +2,9 @@ use Rattle.std.proofs.Common.{◌≡◌, ◌++◌, ◌∷◌, [], ◌∙◌, ap,
 use Rattle.std.specs.Option.{option_to_list}
 use Rattle.call_tree.specs.CallTree.{with_weight}
 use Rattle.ring_collect.specs.NamesInOrder.{with_stack}
-use Rattle.merging.specs.TakenRows.{rows_of, row_of}
+use Rattle.merging.specs.checked.TakenRows.{rows_of, row_of}
 use Rattle.merging.specs.TreeSinkState.{TreeSinkState}
-use Rattle.merging.specs.Merging.{due_after}
+use Rattle.merging.specs.checked.Merging.{due_after}
 use Rattle.merging.proofs.SinkLemmas.{sink-grows, sink-same, sink-push, pairs-push, tree_fits}
 use Rattle.merging.proofs.tree_sink.TreeSinkSink.take.Goals as goal
 
@@ -82,9 +82,9 @@ invariant_of-self-2 c =
     let row = row_of c.set.new.self in
     let added : c.add.new.self ≡ with_weight s.tree (row_of c.set.new.self).numbers (row_of c.set.new.self).weight =
     c.in_ok-add.ensures.ok ∙ ap (λ xs. with_weight s.tree xs c.set.new.self.weight) c.deref.ensures.value in
-    let kept : c.keep.new.snapshots.items ≡ s.snapshots.items ++ option_to_list (due_after r.new.self.every (rows_of r.new.self.taken ++ row_of c.set.new.self ∷ [])) =
-    c.keep.ensures ∙ (λ i. c.due_snapshot.ensures.kept i ++ option_to_list (c.in_ok-due.ensures.due i)) in
-    sink-push r.new.self c.count.new.self c.set.new.table s.tree c.add.new.self row s.snapshots.items c.keep.new.snapshots.items grown.sink c.in_ok-set.ensures.row.numbered c.count.ensures.tallied c.count.ensures.every c.count.ensures.taken added kept
+    let kept : c.append_due.new.snapshots.items ≡ s.snapshots.items ++ option_to_list (due_after r.new.self.every (rows_of r.new.self.taken ++ row_of c.set.new.self ∷ [])) =
+    c.append_due.ensures ∙ (λ i. c.due_snapshot.ensures.kept i ++ option_to_list (c.in_ok-due.ensures.due i)) in
+    sink-push r.new.self c.count.new.self c.set.new.table s.tree c.add.new.self row s.snapshots.items c.append_due.new.snapshots.items grown.sink c.in_ok-set.ensures.row.numbered c.count.ensures.tallied c.count.ensures.every c.count.ensures.taken added kept
 
 pub returns-clause-ok : goal.returns-clause-ok
 returns-clause-ok c =

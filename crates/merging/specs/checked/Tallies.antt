@@ -2,7 +2,7 @@
 use Rattle.std.specs.Prelude.{◌≡◌, ℕ, ◌+◌, ◌<◌, ◌^◌, length, IfSome, vec_capacity}
 use Rattle.merging.specs.declared.tally.Tally.{Tally}
 use Rattle.merging.specs.Snapshots.{source_counts}
-use Rattle.merging.specs.TakenRows.{order_of, rows_of}
+use Rattle.merging.specs.checked.TakenRows.{order_of, rows_of}
 
 -- it has their number and, where every so many want a snapshot, how many of each source
 pub record IsTally (tally : Tally) : Type 0 where

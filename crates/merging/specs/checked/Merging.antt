@@ -6,9 +6,9 @@ use Rattle.call_tree.specs.FrameTable.{HasDistinctNames}
 use Rattle.flame_layout.specs.Paired.{IsKnown}
 use Rattle.merging.specs.declared.snapshots.Snapshot.{Snapshot}
 use Rattle.merging.specs.declared.tally.Tally.{Tally}
-use Rattle.merging.specs.Tallies.{IsTally}
+use Rattle.merging.specs.checked.Tallies.{IsTally}
 use Rattle.merging.specs.Snapshots.{snapshot_counts, snapshot_places}
-use Rattle.merging.specs.TakenRows.{TakenRow, rows_of, pair_of, order_of, paths_of}
+use Rattle.merging.specs.checked.TakenRows.{TakenRow, rows_of, pair_of, order_of, paths_of}
 
 -- the snapshot of the first m rows
 abbrev pub snapshot_of : List TakenRow → ℕ → Snapshot
