@@ -2,6 +2,7 @@
 mod gates;
 mod growths;
 mod readings;
+mod refusals;
 mod rendered;
 mod seen;
 mod shown;

@@ -1,0 +1,57 @@
+//! What `views` answers where a request for memory is refused.
+use super::shown::{CLEAN, folded, is_list, plain};
+use flame_tool::{Views, views};
+use ring_collect::CollectFault;
+use stack_core::OpenGate;
+use std::alloc::{AllocError, Global};
+use std::process::Abort;
+use std::sync::{Arc, Wait};
+use std::test::Fail;
+use std::thread::Threads;
+
+const TEXTS: [&str; 2] = ["a;b 1\nc 2\na;b 3\n", "c 4\na 5\n"];
+
+/// What a run over both texts answers, with rings of one record and a snapshot after every two samples.
+fn run_both<T: Threads + Wait + Abort + Copy + Send + 'static>(
+    rt: &T,
+    alloc: Global,
+) -> Result<Result<Views, CollectFault>, AllocError> {
+    let mut sources = Vec::new(alloc);
+    for text in TEXTS {
+        sources.push(folded(alloc, text)?)?;
+    }
+    assert!(rt; sources.len() <= 64);
+    let gate = Arc::new(alloc, OpenGate)?;
+    let options = plain(rt, 1, Some(2));
+    Ok(views(rt, alloc, sources, &options, gate))
+}
+
+/// The views have the samples of both texts, and two snapshots.
+fn have_both(rt: &impl Abort, alloc: Global, views: &Views) -> Result<(), AllocError> {
+    assert_eq!(rt; views.lists().len(), 2);
+    is_list(rt, alloc, &views.lists()[0], TEXTS[0], CLEAN)?;
+    is_list(rt, alloc, &views.lists()[1], TEXTS[1], CLEAN)?;
+    assert_eq!(rt; views.order().len(), 5);
+    assert_eq!(rt; views.tree().total(&[]), 15);
+    assert_eq!(rt; views.snapshots().len(), 2);
+    Ok(())
+}
+
+/// With any one request refused, `views` gives what it gives with ample memory, or says what was not there;
+/// asked again, it gives it. The test then ends in the refusal.
+#[test]
+fn each_request_of_views_refused(rt: HostRuntime) -> Result<(), Fail> {
+    let alloc = rt.alloc();
+    match run_both(&rt, alloc)? {
+        Ok(views) => have_both(&rt, alloc, &views)?,
+        Err(fault) => {
+            if let CollectFault::Unfinished { source } = fault {
+                assert!(rt; source < 2);
+            }
+            let again = run_both(&rt, alloc)??;
+            have_both(&rt, alloc, &again)?;
+            return Err(fault.into());
+        }
+    }
+    Ok(())
+}
