@@ -9,8 +9,8 @@ use Rattle.std.proofs.Math.Seq.{drop-append_seam}
 use Rattle.stack_core.specs.declared.tables.Span.{Span}
 use Rattle.stack_core.specs.declared.samples.TheConstants.{FRAME_LIMIT, WEIGHT_LIMIT}
 use Rattle.stack_core.specs.Ledgers.{Row, IsRow}
-use Rattle.stack_core.specs.Tables.{Table, with_stack}
-use Rattle.stack_core.specs.Spans.{row_of, rows_of, AreSpans}
+use Rattle.stack_core.specs.checked.Tables.{Table, with_stack}
+use Rattle.stack_core.specs.checked.Spans.{row_of, rows_of, AreSpans}
 
 -- two functions that agree at each element map a list alike
 pub map_agree : {X Y : Type 0} (f g : X → Y) (xs : List X) → All (λ x. f x ≡ g x) xs → map f xs ≡ map g xs

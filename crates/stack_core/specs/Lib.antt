@@ -3,6 +3,5 @@ pub mod Ledgers
 pub mod Reading
 pub mod Records
 pub mod Schedule
-pub mod Spans
-pub mod Tables
 pub mod Told
+pub mod checked

@@ -5,7 +5,7 @@ ghost use Rattle.std.specs.Prelude.{◌≡◌, ◌<◌, ◌≤◌, ◌++◌, ◌
 ghost use Rattle.std.specs.List.{range_with_len};
 ghost use Rattle.stack_core.specs.declared.samples.TheConstants.{FRAME_LIMIT, WEIGHT_LIMIT};
 ghost use Rattle.stack_core.specs.Ledgers.{Row, IsRow, name_at, row_at};
-ghost use Rattle.stack_core.specs.Tables.{with_stack};
+ghost use Rattle.stack_core.specs.checked.Tables.{with_stack};
 
 use crate::values::{Listed, Names, Text};
 use std::alloc::{AllocError, Global};
@@ -30,8 +30,8 @@ pub struct RowTable {
 
 impl Model for RowTable {
     ghost use Rattle.std.specs.Prelude.{map, string_bytes};
-    ghost use Rattle.stack_core.specs.Tables.{Table};
-    ghost use Rattle.stack_core.specs.Spans.{rows_of, AreSpans};
+    ghost use Rattle.stack_core.specs.checked.Tables.{Table};
+    ghost use Rattle.stack_core.specs.checked.Spans.{rows_of, AreSpans};
 
     ghost Value = { Table };
 

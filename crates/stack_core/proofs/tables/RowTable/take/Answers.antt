@@ -1,7 +1,7 @@
 use Rattle.std.proofs.Common.{◌≡◌, ◌++◌, ◌∷◌, [], ◌+◌, ◌-◌, length, map, string_bytes, ap, ◌∙◌, arith, rules}
 use Rattle.std.specs.List.{range_with_len}
 use Rattle.std.proofs.lemmas.List.{map-append, length-map}
-use Rattle.stack_core.specs.Tables.{Table, with_stack}
+use Rattle.stack_core.specs.checked.Tables.{Table, with_stack}
 use Rattle.stack_core.proofs.Spans.{sample_taken, total-bound, same_table}
 use Rattle.stack_core.proofs.tables.RowTable.take.Goals as goal
 

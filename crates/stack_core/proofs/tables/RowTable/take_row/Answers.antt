@@ -1,7 +1,7 @@
 use Rattle.std.proofs.Common.{◌≡◌, ◌++◌, ◌∷◌, [], ◌+◌, List, map, string_bytes, ap, sym, subst, ◌∙◌, arith}
 use Rattle.stack_core.specs.Ledgers.{Row, IsRow}
-use Rattle.stack_core.specs.Tables.{Table}
-use Rattle.stack_core.specs.Spans.{rows_of}
+use Rattle.stack_core.specs.checked.Tables.{Table}
+use Rattle.stack_core.specs.checked.Spans.{rows_of}
 use Rattle.stack_core.proofs.Spans.{taken, total-bound}
 use Rattle.stack_core.proofs.tables.RowTable.take_row.Goals as goal
 

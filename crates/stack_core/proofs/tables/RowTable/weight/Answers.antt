@@ -1,8 +1,8 @@
 use Rattle.std.proofs.Common.{◌<◌, [], length, ap, arith}
 use Rattle.std.proofs.lemmas.List.{get_or-map, length-map}
 use Rattle.stack_core.specs.Ledgers.{Row}
-use Rattle.stack_core.specs.Tables.{Table}
-use Rattle.stack_core.specs.Spans.{row_of}
+use Rattle.stack_core.specs.checked.Tables.{Table}
+use Rattle.stack_core.specs.checked.Spans.{row_of}
 use Rattle.stack_core.specs.declared.tables.Span.{Span}
 use Rattle.stack_core.proofs.tables.RowTable.weight.Goals as goal
 
