@@ -1,3 +1,4 @@
+pub mod Faults
 pub mod Interleaving
 pub mod Ledgers
 pub mod Reading

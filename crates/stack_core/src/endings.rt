@@ -1,6 +1,14 @@
 //! How a source ends, how a ring is closed, and what a reader tells.
 
+ghost use Rattle.std.specs.Prelude.{◌≡◌};
+ghost use Rattle.stack_core.specs.Faults.{kind_text};
+
 use crate::samples::Sample;
+use std::error::Error;
+use std::fmt;
+
+#[cfg(test)]
+mod tests;
 
 /// What is wrong with a source's bytes. `at` of the fault says where.
 #[derive(Clone, Copy, Debug, PartialEq, Eq)]
@@ -37,14 +45,55 @@ pub enum ReadKind {
     UnknownLocation,
     /// The chosen value of a sample is below 0.
     NegativeWeight,
-    /// A stack of more than 4,096 frames.
+    /// A stack of more than `FRAME_LIMIT` frames.
     TooDeep,
-    /// The weights of the source add up to more than 2^56-1.
+    /// The weights of the source add up to more than `WEIGHT_LIMIT`.
     TotalTooLarge,
     /// A folded line whose count has a decimal point.
     DecimalWeight,
     /// A folded line with two counts.
     TwoColumns,
+}
+
+impl ReadKind {
+    /// Its name, as it is written here and in messages.
+    pub fn name(self) -> &'static str
+        ensures { result.now ≡ kind_text self }
+    {
+        match self {
+            ReadKind::Compressed => "Compressed",
+            ReadKind::Truncated => "Truncated",
+            ReadKind::BadVarint => "BadVarint",
+            ReadKind::BadFieldNumber => "BadFieldNumber",
+            ReadKind::BadWireType => "BadWireType",
+            ReadKind::WrongKind => "WrongKind",
+            ReadKind::BadStringZero => "BadStringZero",
+            ReadKind::BadString => "BadString",
+            ReadKind::ZeroId => "ZeroId",
+            ReadKind::DuplicateId => "DuplicateId",
+            ReadKind::UnknownFunction => "UnknownFunction",
+            ReadKind::UnknownSampleType => "UnknownSampleType",
+            ReadKind::NoSampleType => "NoSampleType",
+            ReadKind::ValueCount => "ValueCount",
+            ReadKind::UnknownLocation => "UnknownLocation",
+            ReadKind::NegativeWeight => "NegativeWeight",
+            ReadKind::TooDeep => "TooDeep",
+            ReadKind::TotalTooLarge => "TotalTooLarge",
+            ReadKind::DecimalWeight => "DecimalWeight",
+            ReadKind::TwoColumns => "TwoColumns",
+        }
+    }
+}
+
+impl fmt::Display for ReadKind {
+    ghost use Rattle.std.specs.Prelude.{Some};
+    ghost use Rattle.stack_core.specs.Faults.{kind_text};
+
+    ghost output = { λ kind. Some (kind_text kind) };
+
+    fn fmt<W: fmt::Write>(&self, f: &mut fmt::Formatter<W>) -> fmt::Result {
+        f.write_str(self.name())
+    }
 }
 
 /// A fault of a source.
@@ -56,6 +105,20 @@ pub struct ReadFault {
     /// the fault is of no field, and 0 for compressed bytes. For folded text the line's number, from 1.
     pub at: u64,
 }
+
+/// Writes the kind, and where it stands: `UnknownFunction at 12`.
+impl fmt::Display for ReadFault {
+    ghost use Rattle.std.specs.Prelude.{Some};
+    ghost use Rattle.stack_core.specs.Faults.{fault_text};
+
+    ghost output = { λ fault. Some (fault_text fault) };
+
+    fn fmt<W: fmt::Write>(&self, f: &mut fmt::Formatter<W>) -> fmt::Result {
+        write!(f, "{} at {}", self.kind, self.at)
+    }
+}
+
+impl Error for ReadFault {}
 
 /// How a source's list of samples ends.
 #[derive(Clone, Copy, Debug, PartialEq, Eq)]
