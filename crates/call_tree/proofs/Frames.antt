@@ -8,9 +8,9 @@ use Rattle.std.proofs.lemmas.List.Sums.{sum_by-cons}
 use Rattle.std.proofs.lemmas.List.Folds.{list_any_at, Any-from_list_any}
 use Rattle.std.proofs.lemmas.List.Sorted.{IsNonDecreasingBy-from_sort, sum_by-IsPermutation, list_any-IsPermutation}
 use borrow.Author.Tests.{eqb-true}
-use Rattle.call_tree.specs.declared.nodes.Place.{Place}
-use Rattle.call_tree.specs.Nodes.{path_of, HasShape, HasChild, frames_below}
-use Rattle.call_tree.proofs.Places.{same_place, same_place_is, same_place_equal}
+use Rattle.call_tree.specs.declared.nodes.Link.{Link}
+use Rattle.call_tree.specs.checked.Nodes.{path_of, HasShape, HasChild, frames_below}
+use Rattle.call_tree.proofs.Links.{same_link, same_link_is, same_link_equal}
 use Rattle.call_tree.proofs.Shape.{origin}
 use Rattle.call_tree.proofs.Paths.{path_of_child}
 
@@ -47,25 +47,25 @@ module _ {X : Type 0} (p : X → Bool) where
       by true e rest = omega (arith, count_none xs d (λ i lt at. apart 0 (suc i) (omega arith) (omega arith) e at))
       by false e rest = omega arith
 
-any_below : (node n : ℕ) (places : List Place) → list_any (nat_eq n) (frames_below node places) ≡ list_any (same_place (record { parent = node; frame = n })) places
+any_below : (node n : ℕ) (links : List Link) → list_any (nat_eq n) (frames_below node links) ≡ list_any (same_link (record { parent = node; frame = n })) links
 any_below node n [] = refl
-any_below node n (x ∷ places) = by (nat_eq node x.parent) (any_below node n places)
+any_below node n (x ∷ links) = by (nat_eq node x.parent) (any_below node n links)
   where
-    by : (b : Bool) → list_any (nat_eq n) (frames_below node places) ≡ list_any (same_place (record { parent = node; frame = n })) places
-        → list_any (nat_eq n) (map (λ y. y.frame) (cond b (x ∷ filter (λ y. nat_eq node y.parent) places) (filter (λ y. nat_eq node y.parent) places)))
-        ≡ ((b && nat_eq n x.frame) || list_any (same_place (record { parent = node; frame = n })) places)
+    by : (b : Bool) → list_any (nat_eq n) (frames_below node links) ≡ list_any (same_link (record { parent = node; frame = n })) links
+        → list_any (nat_eq n) (map (λ y. y.frame) (cond b (x ∷ filter (λ y. nat_eq node y.parent) links) (filter (λ y. nat_eq node y.parent) links)))
+        ≡ ((b && nat_eq n x.frame) || list_any (same_link (record { parent = node; frame = n })) links)
     by true rest = ap (λ b. nat_eq n x.frame || b) rest
     by false rest = rest
 
-count_below : (node n : ℕ) (places : List Place) → count_by (nat_eq n) (frames_below node places) ≡ count_by (same_place (record { parent = node; frame = n })) places
+count_below : (node n : ℕ) (links : List Link) → count_by (nat_eq n) (frames_below node links) ≡ count_by (same_link (record { parent = node; frame = n })) links
 count_below node n [] = refl
-count_below node n (x ∷ places) =
-    by (nat_eq node x.parent) (count_below node n places) ∙ sym (sum_by-cons (λ y. cond (same_place (record { parent = node; frame = n }) y) 1 0) x places)
+count_below node n (x ∷ links) =
+    by (nat_eq node x.parent) (count_below node n links) ∙ sym (sum_by-cons (λ y. cond (same_link (record { parent = node; frame = n }) y) 1 0) x links)
   where
-    by : (b : Bool) → count_by (nat_eq n) (frames_below node places) ≡ count_by (same_place (record { parent = node; frame = n })) places
-        → count_by (nat_eq n) (map (λ y. y.frame) (cond b (x ∷ filter (λ y. nat_eq node y.parent) places) (filter (λ y. nat_eq node y.parent) places)))
-        ≡ cond (b && nat_eq n x.frame) 1 0 + count_by (same_place (record { parent = node; frame = n })) places
-    by true rest = sum_by-cons (λ y. cond (nat_eq n y) 1 0) x.frame (frames_below node places) ∙ ap (λ m. cond (nat_eq n x.frame) 1 0 + m) rest
+    by : (b : Bool) → count_by (nat_eq n) (frames_below node links) ≡ count_by (same_link (record { parent = node; frame = n })) links
+        → count_by (nat_eq n) (map (λ y. y.frame) (cond b (x ∷ filter (λ y. nat_eq node y.parent) links) (filter (λ y. nat_eq node y.parent) links)))
+        ≡ cond (b && nat_eq n x.frame) 1 0 + count_by (same_link (record { parent = node; frame = n })) links
+    by true rest = sum_by-cons (λ y. cond (nat_eq n y) 1 0) x.frame (frames_below node links) ∙ ap (λ m. cond (nat_eq n x.frame) 1 0 + m) rest
     by false rest = omega (arith, rest)
 
 has_any : (n : ℕ) (xs : List ℕ) → Contains xs n → list_any (nat_eq n) xs ≡ true
@@ -76,35 +76,35 @@ any_has n xs e =
     let at = Any-from_list_any (nat_eq n) xs e in
     (at.0, at.2, get_or_default xs at.0 n at.1 at.2 ∙ at.3 ∙ sym (eqb-true n at.1 at.4))
 
-child_any : (node n : ℕ) (places : List Place) → HasChild places node n → list_any (same_place (record { parent = node; frame = n })) places ≡ true
-child_any node n places has = list_any_at (same_place (record { parent = node; frame = n })) places has.0 (record { parent = node; frame = n }) has.1 (same_place_equal _ _ (sym has.2))
+child_any : (node n : ℕ) (links : List Link) → HasChild links node n → list_any (same_link (record { parent = node; frame = n })) links ≡ true
+child_any node n links has = list_any_at (same_link (record { parent = node; frame = n })) links has.0 (record { parent = node; frame = n }) has.1 (same_link_equal _ _ (sym has.2))
 
-pub any_child : (node n : ℕ) (places : List Place) → list_any (same_place (record { parent = node; frame = n })) places ≡ true → HasChild places node n
-any_child node n places e =
-    let at = Any-from_list_any (same_place (record { parent = node; frame = n })) places e in
-    (at.0, at.2, get_or_default places at.0 _ at.1 at.2 ∙ at.3 ∙ sym (same_place_is _ at.1 at.4))
+pub any_child : (node n : ℕ) (links : List Link) → list_any (same_link (record { parent = node; frame = n })) links ≡ true → HasChild links node n
+any_child node n links e =
+    let at = Any-from_list_any (same_link (record { parent = node; frame = n })) links e in
+    (at.0, at.2, get_or_default links at.0 _ at.1 at.2 ∙ at.3 ∙ sym (same_link_is _ at.1 at.4))
 
-pub members_sorted : (node : ℕ) (places : List Place) (sorted : List ℕ) → IsPermutation (frames_below node places) sorted → (n : ℕ) → Contains sorted n ↔ HasChild places node n
-members_sorted node places sorted same n = (
-  (λ has. any_child node n places (sym (any_below node n places) ∙ list_any-IsPermutation (nat_eq n) _ _ same ∙ has_any n sorted has)),
-  (λ has. any_has n sorted (sym (list_any-IsPermutation (nat_eq n) _ _ same) ∙ any_below node n places ∙ child_any node n places has)),
+pub members_sorted : (node : ℕ) (links : List Link) (sorted : List ℕ) → IsPermutation (frames_below node links) sorted → (n : ℕ) → Contains sorted n ↔ HasChild links node n
+members_sorted node links sorted same n = (
+  (λ has. any_child node n links (sym (any_below node n links) ∙ list_any-IsPermutation (nat_eq n) _ _ same ∙ has_any n sorted has)),
+  (λ has. any_has n sorted (sym (list_any-IsPermutation (nat_eq n) _ _ same) ∙ any_below node n links ∙ child_any node n links has)),
 )
 
--- each child's place stands once
-place_once : (places : List Place) (owns totals : List ℕ) → HasShape places owns totals → (x : Place) → count_by (same_place x) places ≤ 1
-place_once places owns totals s x =
-    count_at_most_one (same_place x) places origin (λ i j lt lj ai aj.
-    let one : get_or places i origin ≡ get_or places j origin = sym (same_place_is x _ ai) ∙ same_place_is x _ aj in
-    let path : path_of places (i + 1) ≡ path_of places (j + 1) =
-    path_of_child places i origin (omega arith) (s.after_parent i origin (omega arith))
-    ∙ ap (λ (y : Place). path_of places y.parent ++ y.frame ∷ []) one
-    ∙ sym (path_of_child places j origin lj (s.after_parent j origin lj)) in
+-- each child's link stands once
+link_once : (links : List Link) (owns totals : List ℕ) → HasShape links owns totals → (x : Link) → count_by (same_link x) links ≤ 1
+link_once links owns totals s x =
+    count_at_most_one (same_link x) links origin (λ i j lt lj ai aj.
+    let one : get_or links i origin ≡ get_or links j origin = sym (same_link_is x _ ai) ∙ same_link_is x _ aj in
+    let path : path_of links (i + 1) ≡ path_of links (j + 1) =
+    path_of_child links i origin (omega arith) (s.after_parent i origin (omega arith))
+    ∙ ap (λ (y : Link). path_of links y.parent ++ y.frame ∷ []) one
+    ∙ sym (path_of_child links j origin lj (s.after_parent j origin lj)) in
     let e = s.distinct (i + 1) (j + 1) (omega arith) (omega arith) path in
     omega arith)
 
-pub sorted_rises : (places : List Place) (owns totals : List ℕ) → HasShape places owns totals → (node : ℕ) (sorted : List ℕ)
-    → IsPermutation (frames_below node places) sorted → IsSorted nat_cmp sorted → (i j : ℕ) → i < j → j < length sorted → get_or sorted i 0 < get_or sorted j 0
-sorted_rises places owns totals s node sorted same up i j lt lj =
+pub sorted_rises : (links : List Link) (owns totals : List ℕ) → HasShape links owns totals → (node : ℕ) (sorted : List ℕ)
+    → IsPermutation (frames_below node links) sorted → IsSorted nat_cmp sorted → (i j : ℕ) → i < j → j < length sorted → get_or sorted i 0 < get_or sorted j 0
+sorted_rises links owns totals s node sorted same up i j lt lj =
     by (least _ _ (IsNonDecreasingBy-from_sort (λ x. x) sorted up i j 0 (omega arith) lj))
   where
     least : (a b : ℕ) → a ≤ b → (a < b) ⊎ (a ≡ b)
@@ -115,5 +115,5 @@ sorted_rises places owns totals s node sorted same up i j lt lj =
     by (inr e) =
         let n = get_or sorted i 0 in
         let two = count_two (nat_eq n) sorted i j 0 lt lj (eq-eqb n n refl) (eq-eqb n _ e) in
-        let one = place_once places owns totals s (record { parent = node; frame = n }) in
-        absurd (omega (arith, two, one, count_below node n places, sum_by-IsPermutation (λ y. cond (nat_eq n y) 1 0) _ _ same))
+        let one = link_once links owns totals s (record { parent = node; frame = n }) in
+        absurd (omega (arith, two, one, count_below node n links, sum_by-IsPermutation (λ y. cond (nat_eq n y) 1 0) _ _ same))

@@ -8,7 +8,7 @@ pub mod NameOrder
 pub mod Names
 pub mod Numbers
 pub mod Paths
-pub mod Places
+pub mod Links
 pub mod RowOrder
 mod Rows
 pub mod Shape

@@ -8,11 +8,11 @@ use Rattle.std.specs.declared.cmp.Ordering.{Ordering}
 use Rattle.std.specs.declared.cmp.Ordering.TheVariants.{Less, Equal, Greater}
 use Rattle.std.proofs.lemmas.Cmp.{nat_list_cmp_total}
 use Rattle.std.proofs.lemmas.List.{append-nil, map-append}
-use Rattle.call_tree.specs.declared.nodes.Place.{Place}
+use Rattle.call_tree.specs.declared.nodes.Link.{Link}
 use Rattle.call_tree.specs.FrameTable.{HasDistinctNames}
 use Rattle.call_tree.specs.Listing.{named, AreIn}
-use Rattle.call_tree.specs.NodeOrder.{HasFramesOf, Row, IsRowOf, StandsBefore}
-use Rattle.call_tree.specs.Nodes.{path_of, HasShape}
+use Rattle.call_tree.specs.checked.NodeOrder.{HasFramesOf, Row, IsRowOf, StandsBefore}
+use Rattle.call_tree.specs.checked.Nodes.{path_of, HasShape}
 use Rattle.call_tree.proofs.Begins.{same_ends, no_push_empty}
 use Rattle.call_tree.proofs.NameOrder.{AreIn-path_of}
 use Rattle.call_tree.proofs.Paths.{path_of_child, path_of_root}
@@ -94,57 +94,57 @@ front_and_last (x ∷ r) = elim (front_and_last r) [
   | inr f ↦ inr (x ∷ f.0, f.1, ap (λ q. x ∷ q) f.2)
 ]
 
-module _ (names : List (List ℕ)) (places : List Place) (owns totals : List ℕ) (s : HasShape places owns totals) (distinct : HasDistinctNames names)
-    (frames : HasFramesOf names places) where
+module _ (names : List (List ℕ)) (links : List Link) (owns totals : List ℕ) (s : HasShape links owns totals) (distinct : HasDistinctNames names)
+    (frames : HasFramesOf names links) where
   abbrev pub key : ℕ → List (List ℕ)
-  key node = named names (path_of places node)
+  key node = named names (path_of links node)
 
   -- no node comes before one that its path goes on from
-  ancestor_before : (fuel node p : ℕ) (r : List ℕ) → node < fuel → node < length places + 1 → p < length places + 1 → path_of places node ≡ path_of places p ++ r → p ≤ node
+  ancestor_before : (fuel node p : ℕ) (r : List ℕ) → node < fuel → node < length links + 1 → p < length links + 1 → path_of links node ≡ path_of links p ++ r → p ≤ node
   ancestor_before zero node p r lt ln lp e = absurd (omega arith)
   ancestor_before (suc fuel) node p r lt ln lp e = elim (front_and_last r) [
     | inl none ↦
-        let same : node ≡ p = s.distinct node p ln lp (e ∙ ap (λ q. path_of places p ++ q) none ∙ append-nil (path_of places p)) in
+        let same : node ≡ p = s.distinct node p ln lp (e ∙ ap (λ q. path_of links p ++ q) none ∙ append-nil (path_of links p)) in
         omega arith
     | inr f ↦
-        let whole : path_of places node ≡ (path_of places p ++ f.0) ++ f.1 ∷ [] = e ∙ ap (λ q. path_of places p ++ q) f.2 ∙ sym (append_assoc (path_of places p) f.0 (f.1 ∷ [])) in
-        elim (root_or_stands places owns totals s node ln) [
-          | inl z ↦ absurd (no_push_empty (path_of places p ++ f.0) f.1 (sym (path_of_root places) ∙ ap (path_of places) (sym z) ∙ whole))
+        let whole : path_of links node ≡ (path_of links p ++ f.0) ++ f.1 ∷ [] = e ∙ ap (λ q. path_of links p ++ q) f.2 ∙ sym (append_assoc (path_of links p) f.0 (f.1 ∷ [])) in
+        elim (root_or_stands links owns totals s node ln) [
+          | inl z ↦ absurd (no_push_empty (path_of links p ++ f.0) f.1 (sym (path_of_root links) ∙ ap (path_of links) (sym z) ∙ whole))
           | inr st ↦
               let up = (same_ends _ _ _ _ (sym st.path ∙ whole)).fronts in
-              let before = ancestor_before fuel (get_or places st.at origin).parent p f.0 (omega (arith, st.before, st.is)) (omega (arith, st.before, st.within)) lp up in
+              let before = ancestor_before fuel (get_or links st.at origin).parent p f.0 (omega (arith, st.before, st.is)) (omega (arith, st.before, st.within)) lp up in
               omega (arith, before, st.before, st.is)
         ]
   ]
 
   -- so its parent does not either, where the path goes on from there
-  parent_not_before : (at p : ℕ) (r : List ℕ) → at < length places → p < length places + 1 → path_of places (at + 1) ≡ path_of places p ++ r → (r ≡ [] → ⊥) → p ≤ (get_or places at origin).parent
+  parent_not_before : (at p : ℕ) (r : List ℕ) → at < length links → p < length links + 1 → path_of links (at + 1) ≡ path_of links p ++ r → (r ≡ [] → ⊥) → p ≤ (get_or links at origin).parent
   parent_not_before at p r lt lp e some = elim (front_and_last r) [
     | inl none ↦ absurd (some none)
     | inr f ↦
-        let path = path_of_child places at origin lt (s.after_parent at origin lt) in
-        let whole : path_of places (at + 1) ≡ (path_of places p ++ f.0) ++ f.1 ∷ [] = e ∙ ap (λ q. path_of places p ++ q) f.2 ∙ sym (append_assoc (path_of places p) f.0 (f.1 ∷ [])) in
-        let before : (get_or places at origin).parent ≤ at = s.after_parent at origin lt in
-        ancestor_before (at + 1) (get_or places at origin).parent p f.0 (omega (arith, before)) (omega (arith, before)) lp (same_ends _ _ _ _ (sym path ∙ whole)).fronts
+        let path = path_of_child links at origin lt (s.after_parent at origin lt) in
+        let whole : path_of links (at + 1) ≡ (path_of links p ++ f.0) ++ f.1 ∷ [] = e ∙ ap (λ q. path_of links p ++ q) f.2 ∙ sym (append_assoc (path_of links p) f.0 (f.1 ∷ [])) in
+        let before : (get_or links at origin).parent ≤ at = s.after_parent at origin lt in
+        ancestor_before (at + 1) (get_or links at origin).parent p f.0 (omega (arith, before)) (omega (arith, before)) lp (same_ends _ _ _ _ (sym path ∙ whole)).fronts
   ]
 
-  key_of_row : (at : ℕ) (row : Row) → at < length places → IsRowOf names places at row → key (at + 1) ≡ key row.0 ++ row.1.0.now ∷ []
+  key_of_row : (at : ℕ) (row : Row) → at < length links → IsRowOf names links at row → key (at + 1) ≡ key row.0 ++ row.1.0.now ∷ []
   key_of_row at row lt is =
-      ap (named names) (path_of_child places at origin lt (s.after_parent at origin lt))
-      ∙ map-append (λ n. get_or names n []) (path_of places (get_or places at origin).parent) ((get_or places at origin).frame ∷ [])
+      ap (named names) (path_of_child links at origin lt (s.after_parent at origin lt))
+      ∙ map-append (λ n. get_or names n []) (path_of links (get_or links at origin).parent) ((get_or links at origin).frame ∷ [])
       ∙ (λ i. key (sym (is.parent origin) i) ++ sym (is.name origin) i ∷ [])
 
-  pub child_after : (at : ℕ) (row : Row) → at < length places → IsRowOf names places at row → names_cmp (key row.0) (key (at + 1)) ≡ Less
+  pub child_after : (at : ℕ) (row : Row) → at < length links → IsRowOf names links at row → names_cmp (key row.0) (key (at + 1)) ≡ Less
   child_after at row lt is = ap (names_cmp (key row.0)) (key_of_row at row lt is) ∙ longer_after (key row.0) row.1.0.now
 
   -- a child comes before what an earlier row has put behind its parent
-  pub child_before : (at later : ℕ) (row other : Row) → at < length places → later < length places → IsRowOf names places at row → IsRowOf names places later other
+  pub child_before : (at later : ℕ) (row other : Row) → at < length links → later < length links → IsRowOf names links at row → IsRowOf names links later other
       → StandsBefore other row → names_cmp (key row.0) (key (later + 1)) ≡ Less → names_cmp (key (at + 1)) (key (later + 1)) ≡ Less
   child_before at later row other lt ll is are (inl less) behind = elim (goes_on_or_above (key row.0) (key (later + 1)) behind) [
     | inl on ↦
-        let parent : row.0 < length places + 1 = omega (arith, is.parent origin, s.after_parent at origin lt) in
-        let r = named_onward names distinct (path_of places row.0) (path_of places (later + 1)) (AreIn-path_of names places owns totals s frames row.0 parent)
-        (AreIn-path_of names places owns totals s frames (later + 1) (omega arith)) (on.first ∷ on.more) on.is in
+        let parent : row.0 < length links + 1 = omega (arith, is.parent origin, s.after_parent at origin lt) in
+        let r = named_onward names distinct (path_of links row.0) (path_of links (later + 1)) (AreIn-path_of names links owns totals s frames row.0 parent)
+        (AreIn-path_of names links owns totals s frames (later + 1) (omega arith)) (on.first ∷ on.more) on.is in
         let not_before = parent_not_before later row.0 r.0 ll parent r.1 (λ none. some on.first on.more (sym r.2 ∙ ap (named names) none)) in
         absurd (omega (arith, not_before, are.parent origin))
     | inr above ↦ ap (λ k. names_cmp k (key (later + 1))) (key_of_row at row lt is) ∙ above (row.1.0.now ∷ [])

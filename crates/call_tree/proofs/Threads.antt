@@ -7,8 +7,8 @@ abbrev pub IsIn : ℕ → List ℕ → Type 0
 IsIn n [] = ⊥
 IsIn n (x ∷ xs) = (n ≡ x) ⊎ IsIn n xs
 
--- R holds of x and the first of the numbers, and of each and the next
-abbrev pub Chained : (ℕ → ℕ → Type 0) → ℕ → List ℕ → Type 0
+-- R holds of x and the first of the list, and of each and the next
+abbrev pub Chained : {A : Type 0} → (A → A → Type 0) → A → List A → Type 0
 Chained R x [] = Unit {0}
 Chained R x (y ∷ rest) = R x y × Chained R y rest
 
@@ -67,7 +67,7 @@ new_in p c (x ∷ front) back = inr (new_in p c front back)
 pub length_inserted : (p c : ℕ) (front back : List ℕ) → length (front ++ p ∷ c ∷ back) ≡ length (front ++ p ∷ back) + 1
 length_inserted p c front back = omega (arith, length-append front (p ∷ c ∷ back), length-append front (p ∷ back))
 
--- R of each number and the next, by places
+-- R of each number and the next, by indices
 pub chained_at : (R : ℕ → ℕ → Type 0) (x : ℕ) (rest : List ℕ) → Chained R x rest → (i : ℕ) → i + 1 < length (x ∷ rest) → R (get_or (x ∷ rest) i 0) (get_or (x ∷ rest) (i + 1) 0)
 chained_at R x [] c i lt = absurd (omega arith)
 chained_at R x (y ∷ rest) c zero lt = c.0

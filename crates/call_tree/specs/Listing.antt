@@ -1,6 +1,6 @@
 -- The nodes of a tree in the order of their names.
 use Rattle.std.specs.Prelude.{◌≡◌, ℕ, ◌-◌, ◌<◌, ◌↔◌, List, [], ◌∷◌, ◌++◌, length, map, Contains}
-use Rattle.std.specs.List.{slice_index, slice_index_or}
+use Rattle.std.specs.List.{slice_index, slice_index_or, AllByRecursion}
 use Rattle.std.specs.Ordering.{nat_cmp}
 use Rattle.std.specs.Cmp.Lexicographic.{slice_cmp}
 use Rattle.std.specs.declared.cmp.Ordering.TheVariants.{Less}
@@ -18,8 +18,7 @@ visit_of tree path = record { depth = length path; frame = slice_index path (len
 
 -- each number of the path is one of the table's
 abbrev pub AreIn : List (List ℕ) → List ℕ → Type 0
-AreIn names [] = Unit {0}
-AreIn names (n ∷ path) = (n < length names) × AreIn names path
+AreIn names path = AllByRecursion (λ n. n < length names) path
 
 -- each number of a path with weight is one of the table's
 abbrev pub HasNumbersOf : List (List ℕ) → Tree → Type 0
@@ -36,8 +35,7 @@ pub record IsListing (names : List (List ℕ)) (tree : Tree) (visits : List Visi
 
 -- the numbers of all samples are the table's
 abbrev pub AreAllIn : List (List ℕ) → List (List ℕ × ℕ) → Type 0
-AreAllIn names [] = Unit {0}
-AreAllIn names (s ∷ samples) = AreIn names s.0 × AreAllIn names samples
+AreAllIn names samples = AllByRecursion (λ s. AreIn names s.0) samples
 
 -- the samples with names in place of numbers
 abbrev pub named_samples : List (List ℕ) → List (List ℕ × ℕ) → List (List (List ℕ) × ℕ)

@@ -75,4 +75,11 @@ impl FrameTable {
     {
         self.names.is_empty()
     }
+
+    /// Tells a proof that no two names are the same. It does nothing.
+    pub(crate) fn knows_distinct_names(&self)
+        ensures { HasDistinctNames self.now }
+    {
+        let _names = &self.names;
+    }
 }

@@ -1,10 +1,9 @@
 //! The nodes of a tree in the order of their names.
 ghost use Rattle.std.specs.Prelude.{◌≡◌, ◌+◌, ◌<◌, length, IfOk};
-ghost use Rattle.call_tree.specs.CallTree.{tree_of};
 ghost use Rattle.call_tree.specs.FrameTable.{HasDistinctNames};
 ghost use Rattle.call_tree.specs.Listing.{HasNumbersOf, IsListing};
-ghost use Rattle.call_tree.specs.NodeOrder.{AreDepths, AreRows, HasFramesOf, LeadsByName, visit_at};
-ghost use Rattle.call_tree.specs.Nodes.{samples_of, HasShape, IsTree};
+ghost use Rattle.call_tree.specs.checked.NodeOrder.{AreDepths, AreRows, HasFramesOf, LeadsByName, visit_at};
+ghost use Rattle.call_tree.specs.checked.Nodes.{weights_of};
 
 use crate::frame_table::FrameTable;
 use crate::nodes::Nodes;
@@ -29,15 +28,15 @@ fn sorted_rows<'a>(
     nodes: &Nodes,
     table: &'a FrameTable,
 ) -> Result<Vec<Row<'a>>, AllocError>
-    requires shape { HasShape nodes.now.places.keys nodes.now.owns.items nodes.now.totals.items }
-    requires frames { HasFramesOf table.now nodes.now.places.keys }
+    requires frames { HasFramesOf table.now nodes.now.links }
     requires distinct { HasDistinctNames table.now }
-    ensures { IfOk result (λ rows. AreRows table.now nodes.now.places.keys rows.items) }
+    ensures { IfOk result (λ rows. AreRows table.now nodes.now.links rows.items) }
 {
-    let mut rows = Vec::with_capacity(alloc, nodes.places.len())?;
-    for index in 0..nodes.places.len() {
-        let place = nodes.place(index);
-        rows.push((place.parent, Reverse(table.name(place.frame)), index + 1))?;
+    let links = nodes.len() - 1;
+    let mut rows = Vec::with_capacity(alloc, links)?;
+    for index in 0..links {
+        let link = nodes.link(index);
+        rows.push((link.parent, Reverse(table.name(link.frame)), index + 1))?;
     }
     rows.sort_unstable();
     Ok(rows)
@@ -45,13 +44,12 @@ fn sorted_rows<'a>(
 
 /// For each node the one after it in the order of their names; for the last one 0.
 fn next_nodes(alloc: Global, nodes: &Nodes, table: &FrameTable) -> Result<Vec<usize>, AllocError>
-    requires shape { HasShape nodes.now.places.keys nodes.now.owns.items nodes.now.totals.items }
-    requires frames { HasFramesOf table.now nodes.now.places.keys }
+    requires frames { HasFramesOf table.now nodes.now.links }
     requires distinct { HasDistinctNames table.now }
-    ensures { IfOk result (λ next. LeadsByName table.now nodes.now.places.keys next.items) }
+    ensures { IfOk result (λ next. LeadsByName table.now nodes.now.links next.items) }
 {
     let rows = sorted_rows(alloc, nodes, table)?;
-    let mut next = vec![in alloc; 0; nodes.totals.len()]?;
+    let mut next = vec![in alloc; 0; nodes.len()]?;
     // A row comes after its parent's own and after those of later names: its node goes right behind the parent.
     for (parent, _, node) in &rows {
         next[*node] = next[*parent];
@@ -62,56 +60,51 @@ fn next_nodes(alloc: Global, nodes: &Nodes, table: &FrameTable) -> Result<Vec<us
 
 /// How many frames each node's path has.
 fn depths(alloc: Global, nodes: &Nodes) -> Result<Vec<usize>, AllocError>
-    requires { HasShape nodes.now.places.keys nodes.now.owns.items nodes.now.totals.items }
-    ensures { IfOk result (λ depths. AreDepths nodes.now.places.keys depths.items) }
+    ensures { IfOk result (λ depths. AreDepths nodes.now.links depths.items) }
 {
-    let mut depths = Vec::with_capacity(alloc, nodes.totals.len())?;
+    let len = nodes.len();
+    let mut depths = Vec::with_capacity(alloc, len)?;
     depths.push(0)?;
-    for index in 0..nodes.places.len() {
-        let place = nodes.place(index);
-        depths.push(depths[place.parent] + 1)?;
+    for index in 0..len - 1 {
+        let link = nodes.link(index);
+        depths.push(depths[link.parent] + 1)?;
     }
     Ok(depths)
 }
 
 /// What a listing says of a node at a depth.
 fn visit_node(nodes: &Nodes, depth: usize, node: usize) -> Visit
-    requires shape { HasShape nodes.now.places.keys nodes.now.owns.items nodes.now.totals.items }
-    requires within { node < length nodes.now.places.keys + 1 }
-    ensures { result ≡ visit_at nodes.now.places.keys nodes.now.owns.items nodes.now.totals.items
-        depth node }
+    requires { node < length nodes.now.links + 1 }
+    ensures { result ≡ visit_at nodes.now.links nodes.now.owns nodes.now.totals depth node }
 {
     let frame = if node == 0 {
         0
     } else {
-        nodes.place(node - 1).frame
+        nodes.link(node - 1).frame
     };
     Visit {
         depth,
         frame,
-        total: nodes.totals[node],
-        own: nodes.owns[node],
+        total: nodes.total(node),
+        own: nodes.own(node),
     }
 }
 
 /// Each node whose total is positive, once, ordered by the names of its path.
 pub fn listing(alloc: Global, nodes: &Nodes, table: &FrameTable) -> Result<Vec<Visit>, AllocError>
-    requires tree { IsTree nodes.now.places.keys nodes.now.owns.items nodes.now.totals.items }
     requires distinct { HasDistinctNames table.now }
-    requires numbers { HasNumbersOf table.now
-        (tree_of (samples_of nodes.now.places.keys nodes.now.owns.items)) }
-    ensures { IfOk result (λ visits.
-        IsListing table.now (tree_of (samples_of nodes.now.places.keys nodes.now.owns.items))
-        visits.items) }
+    requires numbers { HasNumbersOf table.now (weights_of nodes.now) }
+    ensures { IfOk result (λ visits. IsListing table.now (weights_of nodes.now) visits.items) }
 {
-    if nodes.totals[0] == 0 {
+    let len = nodes.len();
+    if nodes.total(0) == 0 {
         return Ok(Vec::new(alloc));
     }
     let next = next_nodes(alloc, nodes, table)?;
     let depths = depths(alloc, nodes)?;
-    let mut visits = Vec::with_capacity(alloc, next.len())?;
+    let mut visits = Vec::with_capacity(alloc, len)?;
     let mut node = 0;
-    for _ in 0..next.len() {
+    for _ in 0..len {
         visits.push(visit_node(nodes, depths[node], node))?;
         node = next[node];
     }

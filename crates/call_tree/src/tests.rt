@@ -279,7 +279,7 @@ fn listing_of_levels(rt: HostRuntime) -> Result<(), Fail> {
     let paths: [&[usize]; 6] = [&[0, 1], &[2], &[0, 2, 1], &[1], &[0, 0], &[2, 1]];
     add_known(&rt, &table, &mut tree, &paths)?;
     let visits = tree.listing(&table)?;
-    let places = [
+    let expected = [
         (0, 0),
         (1, 1),
         (1, 2),
@@ -290,8 +290,8 @@ fn listing_of_levels(rt: HostRuntime) -> Result<(), Fail> {
         (3, 1),
         (2, 0),
     ];
-    assert_eq!(rt; visits.len(), places.len());
-    for (visit, (depth, frame)) in visits.iter().zip(places) {
+    assert_eq!(rt; visits.len(), expected.len());
+    for (visit, (depth, frame)) in visits.iter().zip(expected) {
         assert_eq!(rt; (visit.depth, visit.frame), (depth, frame));
     }
     Ok(())
@@ -329,8 +329,8 @@ fn recursion_counts_once(rt: HostRuntime) -> Result<(), Fail> {
 fn each_growth_refused(rt: HostRuntime) -> Result<(), Fail> {
     let mut refused = false;
     let mut table = FrameTable::new(rt.alloc());
-    for (place, name) in NAMES.iter().enumerate() {
-        assert_eq!(rt; intern_again(&rt, &mut table, name, &mut refused)?, place);
+    for (number, name) in NAMES.iter().enumerate() {
+        assert_eq!(rt; intern_again(&rt, &mut table, name, &mut refused)?, number);
     }
     let mut tree = CallTree::new(rt.alloc())?;
     for frame in 0..8 {
@@ -347,5 +347,23 @@ fn each_growth_refused(rt: HostRuntime) -> Result<(), Fail> {
     if refused {
         return Err(AllocError.into());
     }
+    Ok(())
+}
+
+/// The example of README.md.
+#[test]
+fn readme_example(rt: HostRuntime) -> Result<(), Fail> {
+    let alloc = rt.alloc();
+    let mut table = FrameTable::new(alloc);
+    let main = table.intern("main")?;
+    let read = table.intern("read")?;
+    let mut tree = CallTree::new(alloc)?;
+    assert_eq!(rt; tree.total(&[]), 0);
+    tree.add(&[main, read], 3)?;
+    assert_eq!(rt; tree.total(&[]), 3);
+    tree.add(&[main], 1)?;
+    assert_eq!(rt; tree.total(&[main]), 4);
+    assert_eq!(rt; tree.own(&[main]), 1);
+    assert_eq!(rt; tree.children(&[main])?.as_slice(), [read].as_slice());
     Ok(())
 }

@@ -1,6 +1,6 @@
 //! The merged tree of call paths.
 ghost use Rattle.std.specs.FinMap as map;
-ghost use Rattle.std.specs.Prelude.{◌≡◌, ◌+◌, ◌<◌, ◌^◌, [], ◌∷◌, IsOk, OnOk, OnErr, IfOk};
+ghost use Rattle.std.specs.Prelude.{◌≡◌, ◌+◌, ◌<◌, ◌^◌, [], IsOk, OnOk, OnErr, IfOk};
 ghost use Rattle.call_tree.specs.CallTree.{own_weight, total_weight, with_weight, IsChildren, IsNodeCount};
 ghost use Rattle.call_tree.specs.Listing.{HasNumbersOf, IsListing};
 
@@ -20,16 +20,14 @@ pub struct CallTree {
 impl Model for CallTree {
     ghost use Rattle.std.specs.FinMap as map;
     ghost use Rattle.std.specs.Coded.{coded_ℕ, coded_list};
-    ghost use Rattle.call_tree.specs.CallTree.{Tree, tree_of};
-    ghost use Rattle.call_tree.specs.Nodes.{samples_of, IsTree};
+    ghost use Rattle.call_tree.specs.CallTree.{Tree};
+    ghost use Rattle.call_tree.specs.checked.Nodes.{weights_of};
 
     ghost Value = { Tree };
 
     ghost coded = { map.code (coded_list coded_ℕ) coded_ℕ };
 
-    ghost view = { λ t. tree_of (samples_of t.nodes.places.keys t.nodes.owns.items) };
-
-    ghost invariant = { λ t. IsTree t.nodes.places.keys t.nodes.owns.items t.nodes.totals.items };
+    ghost view = { λ t. weights_of t.nodes };
 }
 
 impl CallTree {
@@ -59,7 +57,7 @@ impl CallTree {
         ensures { result ≡ total_weight self.now path.now }
     {
         match self.nodes.find(path) {
-            Some(node) => self.nodes.totals[node],
+            Some(node) => self.nodes.total(node),
             None => 0,
         }
     }
@@ -69,7 +67,7 @@ impl CallTree {
         ensures { result ≡ own_weight self.now path.now }
     {
         match self.nodes.find(path) {
-            Some(node) => self.nodes.owns[node],
+            Some(node) => self.nodes.own(node),
             None => 0,
         }
     }
@@ -88,7 +86,7 @@ impl CallTree {
     pub fn len(&self) -> usize
         ensures { IsNodeCount self.now result }
     {
-        self.nodes.places.len() + 1
+        self.nodes.len()
     }
 
     /// A tree of its own with the same weights.
@@ -108,8 +106,7 @@ impl CallTree {
         requires { HasNumbersOf table.now self.now }
         ensures { IfOk result (λ visits. IsListing table.now self.now visits.items) }
     {
-        // The names are distinct: the count tells it.
-        let _count = table.len();
+        table.knows_distinct_names();
         listing(self.alloc, &self.nodes, table)
     }
 }

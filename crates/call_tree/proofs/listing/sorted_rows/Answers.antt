@@ -1,7 +1,7 @@
 use Rattle.std.proofs.Common.{◌≡◌, ◌+◌, ◌<◌, ℕ, List, [], ◌∷◌, ◌++◌, length, get_or, refl, sym, ap, subst, ◌∙◌, arith}
 use Rattle.std.proofs.lemmas.List.{length-append, get_or_default}
-use Rattle.call_tree.specs.declared.nodes.Place.{Place}
-use Rattle.call_tree.specs.NodeOrder.{Row, IsRowOf}
+use Rattle.call_tree.specs.declared.nodes.Link.{Link}
+use Rattle.call_tree.specs.checked.NodeOrder.{Row, IsRowOf}
 use Rattle.call_tree.proofs.RowOrder.{sorted_are}
 use Rattle.call_tree.proofs.Steps.{pushed}
 use Rattle.call_tree.proofs.listing.sorted_rows.Goals as goal
@@ -15,15 +15,15 @@ loop-index-init c = record {
 pub loop-index-preserved : goal.loop-index-preserved
 loop-index-preserved c =
     let names : List (List ℕ) = c.args.table.now in
-    let keys : List Place = c.args.nodes.now.places.keys in
+    let keys : List Link = c.args.nodes.now.links in
     let at : ℕ = c.loop-index.index in
     let rows : List Row = c.loop-index.rows.items in
-    let place : Place = c.place-place.result in
-    let row : Row = (place.parent, record { 0 = c.name.result }, at + 1) in
-    let stands = λ (d : Place). get_or_default keys at d place (omega arith) ∙ c.place-place.ensures in
+    let link : Link = c.link-link.result in
+    let row : Row = (link.parent, record { 0 = c.name.result }, at + 1) in
+    let stands = λ (d : Link). get_or_default keys at d link (omega arith) ∙ c.link-link.ensures in
     let here : IsRowOf names keys at row = record {
-      parent = λ d. ap (λ (x : Place). x.parent) (sym (stands d));
-      name = λ d. c.name.ensures ∙ ap (λ (x : Place). get_or names x.frame []) (sym (stands d));
+      parent = λ d. ap (λ (x : Link). x.parent) (sym (stands d));
+      name = λ d. c.name.ensures ∙ ap (λ (x : Link). get_or names x.frame []) (sym (stands d));
       number = refl;
     } in
     let grown : c.push.new.self.items ≡ rows ++ row ∷ [] = c.in_ok-push.ensures.items in
@@ -34,5 +34,5 @@ loop-index-preserved c =
     }
 
 pub returns : goal.returns
-returns c = sorted_are c.args.table.now c.args.nodes.now.places.keys _ _ c.requires.shape c.requires.distinct c.requires.frames c.loop-index.rows.items c.sort_unstable.new.self.items
+returns c = sorted_are c.args.table.now c.args.nodes.now.links _ _ c.len-links.ensures.tree.shape c.requires.distinct c.requires.frames c.loop-index.rows.items c.sort_unstable.new.self.items
     (omega (arith, c.loop-index.invariant.len)) c.loop-index.invariant.rows_are c.sort_unstable.ensures.permutation c.sort_unstable.ensures.sorted
