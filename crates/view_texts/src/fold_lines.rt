@@ -8,6 +8,7 @@ ghost use Rattle.flame_layout.specs.Paths.{SameOwn, tree_samples};
 ghost use Rattle.view_texts.specs.Fold.{fold_text};
 ghost use Rattle.view_texts.specs.Visited.{next_names, visited_lines};
 
+use crate::rollback::truncate_on_error;
 use call_tree::{CallTree, FrameTable, Visit};
 use folded_lines::append_line;
 use std::alloc::{AllocError, Global};
@@ -47,10 +48,7 @@ fn append_listing(
 {
     let before = out.len();
     let answer = append_visits(alloc, out, table, visits);
-    if answer.is_err() {
-        out.truncate(before);
-    }
-    answer
+    truncate_on_error(out, before, answer)
 }
 
 // Appends the lines of the visits of a listing, or of those at the front.
@@ -68,7 +66,7 @@ fn append_visits(
 {
     let mut path = Vec::new(alloc);
     for visit in visits {
-        follow(alloc, table, &mut path, *visit)?;
+        step_to(alloc, table, &mut path, *visit)?;
         if visit.own > 0 {
             append_line(alloc, out, &path, visit.own as u64)?;
         }
@@ -77,7 +75,7 @@ fn append_visits(
 }
 
 // Goes on to the path of the next visit, which costs at most one name.
-fn follow(
+fn step_to(
     alloc: Global,
     table: &FrameTable,
     path: &mut Vec<String>,

@@ -8,6 +8,7 @@ ghost use Rattle.view_texts.specs.Json.{list_data, view_members, boxes_line, sna
 
 use crate::json_boxes::JsonBox;
 use crate::json_pieces::{append_number, append_numbers, append_text, comma_if};
+use crate::rollback::truncate_on_error;
 use flame_layout::{ComparedBox, SpanBox, Width};
 use std::alloc::{AllocError, Global};
 
@@ -119,10 +120,7 @@ fn append_line<B: JsonBox>(
 {
     let before = out.len();
     let answer = append_parts(alloc, out, head, boxes, tail, total, width);
-    if answer.is_err() {
-        out.truncate(before);
-    }
-    answer
+    truncate_on_error(out, before, answer)
 }
 
 // The same, but an `Err` may leave the front of the line.

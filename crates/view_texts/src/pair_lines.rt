@@ -5,6 +5,7 @@ ghost use Rattle.stack_core.specs.declared.samples.Sample.{Sample};
 ghost use Rattle.flame_layout.specs.Comparison.{comparison_of};
 ghost use Rattle.view_texts.specs.Pairs.{pairs_of, pair_lines_of, pairs_text};
 
+use crate::rollback::truncate_on_error;
 use flame_layout::PairRow;
 use folded_lines::append_pair_line;
 use std::alloc::{AllocError, Global};
@@ -26,10 +27,7 @@ pub fn append_pairs_text(
 {
     let before = out.len();
     let answer = append_pairs(alloc, out, rows);
-    if answer.is_err() {
-        out.truncate(before);
-    }
-    answer
+    truncate_on_error(out, before, answer)
 }
 
 // Appends the lines of the rows, or of those at the front.

@@ -11,8 +11,8 @@ loop-visit-preserved c =
     let i = c.loop-visit.visit-index in
     let start = c.args.out.now.items in
     let out = c.loop-visit.out.items in
-    let path = map string_bytes c.follow.new.path.items in
-    let more = names_more names visits i (map string_bytes c.loop-visit.path.items) path c.loop-visit-test.true c.loop-visit.invariant.path c.in_ok-follow.ensures in
+    let path = map string_bytes c.step_to.new.path.items in
+    let more = names_more names visits i (map string_bytes c.loop-visit.path.items) path c.loop-visit-test.true c.loop-visit.invariant.path c.in_ok-step_to.ensures in
     let own = (visit_at visits i).own in
     record {
       path = more;

@@ -2,7 +2,7 @@ use Rattle.std.proofs.Common.{◌-◌, ◌++◌, ◌∷◌, [], ◌∙◌, sym, 
 use Rattle.std.specs.Prelude.{if◌then◌else◌}
 use Rattle.std.proofs.lemmas.List.{take-map, map_push}
 use Rattle.std.proofs.lemmas.Bool.{ne_eqb}
-use Rattle.view_texts.proofs.fold_lines.follow.Goals as goal
+use Rattle.view_texts.proofs.fold_lines.step_to.Goals as goal
 
 pub returns : goal.returns
 returns c =
