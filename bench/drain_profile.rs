@@ -1,4 +1,4 @@
-//! What the program `drain_profile` does to a well-formed pprof profile on standard input, in plain Rust.
+//! What the program `bench_profile` does to a well-formed pprof profile on standard input, in plain Rust.
 
 mod profiles;
 

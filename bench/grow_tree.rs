@@ -1,4 +1,4 @@
-//! What the program `grow_tree` does to well-formed folded text on standard input, as one would write it in plain Rust with std's
+//! What the program `bench_tree` does to well-formed folded text on standard input, as one would write it in plain Rust with std's
 //! collections: frame names by number, a list of the samples, a tree of call paths with the weight of each path and of all below it,
 //! the boxes of the tree's flame graph in the order of its names, and those of the list's flame chart.
 //!
