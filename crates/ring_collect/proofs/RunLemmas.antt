@@ -8,7 +8,7 @@ use Rattle.stack_core.specs.Reading.{Rest}
 use Rattle.stack_core.specs.Ledgers.{LedgerState}
 use Rattle.stack_core.specs.Told.{GoesBelow}
 use Rattle.stack_core.specs.Interleaving.{list_of, of_source}
-use Rattle.stack_core.specs.Schedule.{IsPrefixOf}
+use Rattle.stack_core.specs.Prefixes.{IsPrefixOf}
 use Rattle.stack_core.proofs.InterleavingLemmas.{of_source_at, of_source_past}
 use Rattle.stack_core.specs.declared.samples.Sample.{Sample}
 use Rattle.ring_collect.specs.Tracking.{Tracked}

@@ -8,7 +8,7 @@ use Rattle.rtrb.specs.declared.finished.Finished.{Finished}
 use Rattle.stack_core.specs.Reading.{Rest}
 use Rattle.stack_core.specs.Ledgers.{LedgerState}
 use Rattle.stack_core.specs.Records.{stands_for, stands_for_after, names_told, IsWellTold}
-use Rattle.stack_core.specs.Schedule.{IsPrefixOf}
+use Rattle.stack_core.specs.Prefixes.{IsPrefixOf}
 use Rattle.stack_core.specs.Told.{GoesBelow, IsToldUnder, Whole, StoppedAt, ShortOfMemory, told}
 use Rattle.stack_core.proofs.RecordLemmas.{stands_for-append, stands_for_after-append, IsWellTold-front}
 use Rattle.stack_core.proofs.ToldLemmas.{told_under_is_told, same_told, told_list_whole}

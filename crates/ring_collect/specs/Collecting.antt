@@ -2,7 +2,7 @@ use Rattle.std.specs.Prelude.{◌≡◌, ◌≤◌, ◌<◌, ◌++◌, ℕ, List
 use Rattle.stack_core.specs.Reading.{Rest}
 use Rattle.stack_core.specs.Ledgers.{LedgerState, ListState}
 use Rattle.ring_collect.specs.Settling.{IsAllTold}
-use Rattle.stack_core.specs.Schedule.{IsPrefixOf}
+use Rattle.stack_core.specs.Prefixes.{IsPrefixOf}
 use Rattle.stack_core.specs.Interleaving.{AreOf, list_of, of_source, sources_of}
 use Rattle.stack_core.specs.declared.samples.Sample.{Sample}
 use Rattle.stack_core.specs.Told.{GoesBelow, IsCollected}

@@ -3,7 +3,7 @@ use Rattle.std.specs.Arc.{arc_value}
 use Rattle.rtrb.specs.Ring.{received}
 use Rattle.stack_core.specs.Reading.{Rest}
 use Rattle.stack_core.specs.Ledgers.{LedgerState, ListState}
-use Rattle.stack_core.specs.Schedule.{IsPrefixOf}
+use Rattle.stack_core.specs.Prefixes.{IsPrefixOf}
 use Rattle.stack_core.specs.Told.{GoesBelow, IsToldUnder, told}
 use Rattle.stack_core.specs.declared.samples.Sample.{Sample}
 use Rattle.stack_core.specs.declared.endings.Close.{Close}

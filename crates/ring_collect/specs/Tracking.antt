@@ -4,7 +4,7 @@ use Rattle.rtrb.specs.declared.consumer.Consumer.{Consumer}
 use Rattle.stack_core.specs.Ledgers.{LedgerState}
 use Rattle.stack_core.specs.Records.{stands_for, names_told, IsWellTold}
 use Rattle.stack_core.specs.Interleaving.{sources_of}
-use Rattle.stack_core.specs.Schedule.{IsPrefixOf}
+use Rattle.stack_core.specs.Prefixes.{IsPrefixOf}
 use Rattle.stack_core.specs.declared.samples.Sample.{Sample}
 use Rattle.stack_core.specs.declared.endings.Close.{Close}
 use Rattle.stack_core.specs.declared.endings.Item.{Item}

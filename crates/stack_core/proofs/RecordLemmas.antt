@@ -7,7 +7,7 @@ use Rattle.stack_core.specs.declared.endings.Item.TheVariants as item
 use Rattle.stack_core.specs.declared.endings.Close.{Close as Ending}
 use Rattle.stack_core.specs.declared.records.RingRecord.{RingRecord}
 use Rattle.stack_core.specs.declared.records.RingRecord.TheVariants.{Name, Row, Close}
-use Rattle.stack_core.specs.Records.{names_told, names_at, stands_for_after, stands_for, written, IsWellToldAfter, IsWellTold, row_of}
+use Rattle.stack_core.specs.Records.{names_told, names_at, stands_for_after, stands_for, written, IsWellToldAfter, IsWellTold, sample_item}
 
 pub names_told-append : (records more : List RingRecord) → names_told (records ++ more) ≡ names_told records ++ names_told more
 names_told-append [] more = refl
@@ -86,7 +86,7 @@ stands_for-written records well = stands_for_after-written [] records well
 pub stands_for_push_name : (records : List RingRecord) (name : List ℕ) → stands_for (records ++ Name name ∷ []) ≡ stands_for records
 stands_for_push_name records name = stands_for-append records (Name name ∷ []) ∙ append-nil (stands_for records)
 
-pub stands_for_push_row : (records : List RingRecord) (frames : List ℕ) (weight : ℕ) → stands_for (records ++ Row frames weight ∷ []) ≡ stands_for records ++ row_of (names_told records) frames weight ∷ []
+pub stands_for_push_row : (records : List RingRecord) (frames : List ℕ) (weight : ℕ) → stands_for (records ++ Row frames weight ∷ []) ≡ stands_for records ++ sample_item (names_told records) frames weight ∷ []
 stands_for_push_row records frames weight = stands_for-append records (Row frames weight ∷ [])
 
 pub stands_for_push_close : (records : List RingRecord) (last : Ending) → stands_for (records ++ Close last ∷ []) ≡ stands_for records ++ item.Close last ∷ []

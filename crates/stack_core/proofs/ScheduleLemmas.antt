@@ -13,7 +13,8 @@ use Rattle.stack_core.specs.declared.endings.Item.{Item}
 use Rattle.stack_core.specs.declared.endings.Item.TheVariants as item
 use Rattle.stack_core.specs.declared.worlds.Event.{Event}
 use Rattle.stack_core.specs.declared.worlds.Event.TheVariants.{Push, Pop}
-use Rattle.stack_core.specs.Schedule.{Lane, Schedule, unpushed, start, lane_at, pushed, popped, is_possible, changed_at, moved, happens, after_events, handed_out, all_handed_out, IsPrefixOf, only, received_lists}
+use Rattle.stack_core.specs.Prefixes.{IsPrefixOf}
+use Rattle.stack_core.specs.Schedule.{Lane, Schedule, unpushed, start, lane_at, pushed, popped, is_possible, changed_at, moved, happens, after_events, handed_out, all_handed_out, only, received_lists}
 use Rattle.stack_core.specs.Interleaving.{of_source, AreOf, list_of}
 use Rattle.stack_core.proofs.ToldLemmas.{told_list_whole}
 use Rattle.stack_core.proofs.InterleavingLemmas.{of_source_at, of_source_past, of_source-append}

@@ -9,7 +9,7 @@ use Rattle.std.proofs.Math.Seq.{drop-append_seam}
 use Rattle.stack_core.specs.declared.tables.Span.{Span}
 use Rattle.stack_core.specs.declared.samples.TheConstants.{FRAME_LIMIT, WEIGHT_LIMIT}
 use Rattle.stack_core.specs.Ledgers.{Row, IsRow}
-use Rattle.stack_core.specs.checked.Tables.{Table, with_stack}
+use Rattle.stack_core.specs.checked.Tables.{Table, table_with_sample}
 use Rattle.stack_core.specs.checked.Spans.{row_of, rows_of, AreSpans}
 
 -- two functions that agree at each element map a list alike
@@ -40,8 +40,8 @@ rows_of-push frames more spans b w e h =
     map-append (row_of (frames ++ more)) spans _ ∙ cc (rows_of-append frames more spans h, slice-seam frames more b e)
 
 -- a row is taken at the end
-AreSpans-push : (told : List (List ℕ)) (frames more : List ℕ) (spans : List Span) (total b w : ℕ) → AreSpans told frames spans total → IsRow told (record { frames = more; weight = w }) → b ≡ length frames + length more → AreSpans told (frames ++ more) (spans ++ record { start = length frames; end = b; weight = w } ∷ []) (total + w)
-AreSpans-push told frames more spans total b w h row e =
+AreSpans-push : (known : List (List ℕ)) (frames more : List ℕ) (spans : List Span) (total b w : ℕ) → AreSpans known frames spans total → IsRow known (record { frames = more; weight = w }) → b ≡ length frames + length more → AreSpans known (frames ++ more) (spans ++ record { start = length frames; end = b; weight = w } ∷ []) (total + w)
+AreSpans-push known frames more spans total b w h row e =
     let rows = rows_of-push frames more spans b w e h.within in
     record {
       within =
@@ -49,82 +49,82 @@ AreSpans-push told frames more spans total b w h row e =
           let Q : Span → Type 0 = λ span. (span.start ≤ span.end) × (span.end ≤ length (frames ++ more)) in
           let grows : (span : Span) → P span → Q span = λ span l. (l.0, omega (arith, l.1, length-append frames more)) in
           All-push Q spans _ (All-weaker P Q grows spans h.within) (omega arith, omega (arith, length-append frames more));
-      rows = All-same (IsRow told) _ _ rows (All-push (IsRow told) (rows_of frames spans) _ h.rows row);
+      rows = All-same (IsRow known) _ _ rows (All-push (IsRow known) (rows_of frames spans) _ h.rows row);
       summed =
           rw rows (omega (arith, h.summed, sum_by-append (λ (row : Row). row.weight) (rows_of frames spans) (record { frames = more; weight = w } ∷ [])));
     }
 
-pub record Taken (told : List (List ℕ)) (frames : List ℕ) (old_spans : List Span) (row : Row) (new_frames : List ℕ) (new_spans : List Span) (new_total : ℕ) : Type 0 where
-  pub spans : AreSpans told new_frames new_spans new_total
+pub record RowTaken (known : List (List ℕ)) (frames : List ℕ) (old_spans : List Span) (row : Row) (new_frames : List ℕ) (new_spans : List Span) (new_total : ℕ) : Type 0 where
+  pub spans : AreSpans known new_frames new_spans new_total
   pub rows : rows_of new_frames new_spans ≡ rows_of frames old_spans ++ row ∷ []
 
-pub taken : (told : List (List ℕ)) (frames : List ℕ) (spans : List Span) (total : ℕ) (row : Row) (start end : ℕ) (new_frames : List ℕ) (new_spans : List Span) (new_total : ℕ) → AreSpans told frames spans total → IsRow told row → new_frames ≡ frames ++ row.frames → start ≡ length frames → end ≡ length new_frames → new_spans ≡ spans ++ record { start = start; end = end; weight = row.weight } ∷ [] → new_total ≡ total + row.weight → Taken told frames spans row new_frames new_spans new_total
-taken told frames spans total row start end new_frames new_spans new_total h r e s n t u =
+pub row_taken : (known : List (List ℕ)) (frames : List ℕ) (spans : List Span) (total : ℕ) (row : Row) (start end : ℕ) (new_frames : List ℕ) (new_spans : List Span) (new_total : ℕ) → AreSpans known frames spans total → IsRow known row → new_frames ≡ frames ++ row.frames → start ≡ length frames → end ≡ length new_frames → new_spans ≡ spans ++ record { start = start; end = end; weight = row.weight } ∷ [] → new_total ≡ total + row.weight → RowTaken known frames spans row new_frames new_spans new_total
+row_taken known frames spans total row start end new_frames new_spans new_total h r e s n t u =
     let n' : end ≡ length frames + length row.frames = n ∙ ap length e ∙ length-append frames row.frames in
     record {
-      spans = rw (e, t, u, s) (AreSpans-push told frames row.frames spans total end row.weight h r n');
+      spans = rw (e, t, u, s) (AreSpans-push known frames row.frames spans total end row.weight h r n');
       rows = rw (e, t, s) (rows_of-push frames row.frames spans end row.weight n' h.within);
     }
 
 -- the total of the rows
-sum-bound : (told : List (List ℕ)) (rows : List Row) → All (IsRow told) rows → sum_by (λ row. row.weight) rows ≤ length rows * WEIGHT_LIMIT
-sum-bound told [] h = omega arith
-sum-bound told (row ∷ rows) h =
-    omega (arith, sum_by-cons (λ (row : Row). row.weight) row rows, (All-head (IsRow told) row rows h).weight, sum-bound told rows (All-tail (IsRow told) row rows h))
+sum-bound : (known : List (List ℕ)) (rows : List Row) → All (IsRow known) rows → sum_by (λ row. row.weight) rows ≤ length rows * WEIGHT_LIMIT
+sum-bound known [] h = omega arith
+sum-bound known (row ∷ rows) h =
+    omega (arith, sum_by-cons (λ (row : Row). row.weight) row rows, (All-head (IsRow known) row rows h).weight, sum-bound known rows (All-tail (IsRow known) row rows h))
 
-pub total-bound : (told : List (List ℕ)) (frames : List ℕ) (spans : List Span) (total : ℕ) → AreSpans told frames spans total → total ≤ length spans * WEIGHT_LIMIT
-total-bound told frames spans total h =
-    omega (arith, h.summed, sum-bound told (rows_of frames spans) h.rows, length-map spans (row_of frames))
+pub total-bound : (known : List (List ℕ)) (frames : List ℕ) (spans : List Span) (total : ℕ) → AreSpans known frames spans total → total ≤ length spans * WEIGHT_LIMIT
+total-bound known frames spans total h =
+    omega (arith, h.summed, sum-bound known (rows_of frames spans) h.rows, length-map spans (row_of frames))
 
 -- numbers left behind change nothing
-pub AreSpans-room : (told : List (List ℕ)) (frames more : List ℕ) (spans : List Span) (total : ℕ) → AreSpans told frames spans total → AreSpans told (frames ++ more) spans total
-AreSpans-room told frames more spans total h =
+pub AreSpans-room : (known : List (List ℕ)) (frames more : List ℕ) (spans : List Span) (total : ℕ) → AreSpans known frames spans total → AreSpans known (frames ++ more) spans total
+AreSpans-room known frames more spans total h =
     let rows = rows_of-append frames more spans h.within in
     let P : Span → Type 0 = λ span. (span.start ≤ span.end) × (span.end ≤ length frames) in
     let Q : Span → Type 0 = λ span. (span.start ≤ span.end) × (span.end ≤ length (frames ++ more)) in
     let grows : (span : Span) → P span → Q span = λ span l. (l.0, omega (arith, l.1, length-append frames more)) in
-    record { within = All-weaker P Q grows spans h.within; rows = All-same (IsRow told) _ _ rows h.rows; summed = rw rows h.summed }
+    record { within = All-weaker P Q grows spans h.within; rows = All-same (IsRow known) _ _ rows h.rows; summed = rw rows h.summed }
 
--- names told after change no row
-pub IsRow-more : (told more : List (List ℕ)) (row : Row) → IsRow told row → IsRow (told ++ more) row
-IsRow-more told more row h =
-    let P : ℕ → Type 0 = λ k. k < length told in
-    let Q : ℕ → Type 0 = λ k. k < length (told ++ more) in
-    let grows : (k : ℕ) → P k → Q k = λ k l. omega (arith, l, length-append told more) in
+-- names that come after change no row
+pub IsRow-more : (known more : List (List ℕ)) (row : Row) → IsRow known row → IsRow (known ++ more) row
+IsRow-more known more row h =
+    let P : ℕ → Type 0 = λ k. k < length known in
+    let Q : ℕ → Type 0 = λ k. k < length (known ++ more) in
+    let grows : (k : ℕ) → P k → Q k = λ k l. omega (arith, l, length-append known more) in
     record { depth = h.depth; numbers = All-weaker P Q grows row.frames h.numbers; weight = h.weight }
 
-AreSpans-told : (told more : List (List ℕ)) (frames : List ℕ) (spans : List Span) (total : ℕ) → AreSpans told frames spans total → AreSpans (told ++ more) frames spans total
-AreSpans-told told more frames spans total h =
-    record { within = h.within; rows = All-weaker (IsRow told) (IsRow (told ++ more)) (IsRow-more told more) _ h.rows; summed = h.summed }
+AreSpans-names : (known more : List (List ℕ)) (frames : List ℕ) (spans : List Span) (total : ℕ) → AreSpans known frames spans total → AreSpans (known ++ more) frames spans total
+AreSpans-names known more frames spans total h =
+    record { within = h.within; rows = All-weaker (IsRow known) (IsRow (known ++ more)) (IsRow-more known more) _ h.rows; summed = h.summed }
 
--- the names told last have the last numbers
-pub IsRow-fresh : (told stack : List (List ℕ)) (weight : ℕ) → length stack ≤ FRAME_LIMIT → weight ≤ WEIGHT_LIMIT → IsRow (told ++ stack) (record { frames = range_with_len (length told) (length stack); weight = weight })
-IsRow-fresh told stack weight d w =
-    let n = length-range_with_len (length told) (length stack) in
+-- the names that come last have the last numbers
+pub IsRow-fresh : (known stack : List (List ℕ)) (weight : ℕ) → length stack ≤ FRAME_LIMIT → weight ≤ WEIGHT_LIMIT → IsRow (known ++ stack) (record { frames = range_with_len (length known) (length stack); weight = weight })
+IsRow-fresh known stack weight d w =
+    let n = length-range_with_len (length known) (length stack) in
     record {
       depth = omega (arith, n);
       numbers =
-          λ k e l. let l' : k < length stack = omega (arith, n) in rw get_or-range_with_len (omega (arith, length-append told stack));
+          λ k e l. let l' : k < length stack = omega (arith, n) in rw get_or-range_with_len (omega (arith, length-append known stack));
       weight = w;
     }
 
 pub record SampleTaken (table : Table) (stack : List (List ℕ)) (weight : ℕ) (names : List (List ℕ)) (frames : List ℕ) (new_spans : List Span) (total : ℕ) : Type 0 where
   pub spans : AreSpans names frames new_spans total
-  pub table_is : record { told = names; rows = rows_of frames new_spans } ≡ with_stack table stack weight
+  pub table_is : record { names = names; rows = rows_of frames new_spans } ≡ table_with_sample table stack weight
 
-pub sample_taken : (told : List (List ℕ)) (frames : List ℕ) (spans : List Span) (total : ℕ) (stack : List (List ℕ)) (weight start end : ℕ) (names : List (List ℕ)) (new_frames : List ℕ) (new_spans : List Span) (new_total : ℕ) → AreSpans told frames spans total → length stack ≤ FRAME_LIMIT → weight ≤ WEIGHT_LIMIT → names ≡ told ++ stack → new_frames ≡ frames ++ range_with_len (length told) (length stack) → start ≡ length frames → end ≡ length new_frames → new_spans ≡ spans ++ record { start = start; end = end; weight = weight } ∷ [] → new_total ≡ total + weight → SampleTaken (record { told = told; rows = rows_of frames spans }) stack weight names new_frames new_spans new_total
-sample_taken told frames spans total stack weight start end names new_frames new_spans new_total h d w m e s n t u =
-    let row : Row = record { frames = range_with_len (length told) (length stack); weight = weight } in
-    let all = taken (told ++ stack) frames spans total row start end new_frames new_spans new_total (AreSpans-told told stack frames spans total h) (IsRow-fresh told stack weight d w) e s n t u in
+pub sample_taken : (known : List (List ℕ)) (frames : List ℕ) (spans : List Span) (total : ℕ) (stack : List (List ℕ)) (weight start end : ℕ) (names : List (List ℕ)) (new_frames : List ℕ) (new_spans : List Span) (new_total : ℕ) → AreSpans known frames spans total → length stack ≤ FRAME_LIMIT → weight ≤ WEIGHT_LIMIT → names ≡ known ++ stack → new_frames ≡ frames ++ range_with_len (length known) (length stack) → start ≡ length frames → end ≡ length new_frames → new_spans ≡ spans ++ record { start = start; end = end; weight = weight } ∷ [] → new_total ≡ total + weight → SampleTaken (record { names = known; rows = rows_of frames spans }) stack weight names new_frames new_spans new_total
+sample_taken known frames spans total stack weight start end names new_frames new_spans new_total h d w m e s n t u =
+    let row : Row = record { frames = range_with_len (length known) (length stack); weight = weight } in
+    let all = row_taken (known ++ stack) frames spans total row start end new_frames new_spans new_total (AreSpans-names known stack frames spans total h) (IsRow-fresh known stack weight d w) e s n t u in
     record { spans = rw m all.spans; table_is = cc (m, all.rows) }
 
-pub record SameTable (table : Table) (told : List (List ℕ)) (frames : List ℕ) (new_spans : List Span) (total : ℕ) : Type 0 where
-  pub spans : AreSpans told frames new_spans total
-  pub table_is : record { told = told; rows = rows_of frames new_spans } ≡ table
+pub record SameTable (table : Table) (known : List (List ℕ)) (frames : List ℕ) (new_spans : List Span) (total : ℕ) : Type 0 where
+  pub spans : AreSpans known frames new_spans total
+  pub table_is : record { names = known; rows = rows_of frames new_spans } ≡ table
 
-pub same_table : (told : List (List ℕ)) (frames more : List ℕ) (spans : List Span) (total : ℕ) (names : List (List ℕ)) (new_frames : List ℕ) (new_spans : List Span) → AreSpans told frames spans total → names ≡ told → new_frames ≡ frames ++ more → new_spans ≡ spans → SameTable (record { told = told; rows = rows_of frames spans }) names new_frames new_spans total
-same_table told frames more spans total names new_frames new_spans h m e t =
+pub same_table : (known : List (List ℕ)) (frames more : List ℕ) (spans : List Span) (total : ℕ) (names : List (List ℕ)) (new_frames : List ℕ) (new_spans : List Span) → AreSpans known frames spans total → names ≡ known → new_frames ≡ frames ++ more → new_spans ≡ spans → SameTable (record { names = known; rows = rows_of frames spans }) names new_frames new_spans total
+same_table known frames more spans total names new_frames new_spans h m e t =
     record {
-      spans = rw (m, e, t) (AreSpans-room told frames more spans total h);
+      spans = rw (m, e, t) (AreSpans-room known frames more spans total h);
       table_is = cc (m, e, t, rows_of-append frames more spans h.within);
     }

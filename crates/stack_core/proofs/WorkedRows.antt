@@ -1,5 +1,6 @@
 use Rattle.std.proofs.Common.{◌≡◌, [], ◌∷◌, length, None, refl}
-use Rattle.stack_core.specs.Ledgers.{LedgerState, with_row, with_sample, weight_of, name_at, row_at, sample_at}
+use Rattle.stack_core.specs.Ledgers.{LedgerState, with_row, with_sample, name_at, row_at, sample_at}
+use Rattle.stack_core.specs.Samples.{total_weight}
 
 -- `a` and `b` are told, and then the rows of both and of `a` are taken
 abbrev rows_taken : LedgerState
@@ -10,7 +11,7 @@ rows_taken =
     (record { frames = 0 ∷ 1 ∷ []; weight = 2 }))
     (record { frames = 0 ∷ []; weight = 1 })
 
-pub names_told_once : (length rows_taken.samples ≡ 2) × (weight_of rows_taken.samples ≡ 3) × (name_at (sample_at rows_taken.samples 0).stack 1 ≡ 98 ∷ []) × (length (sample_at rows_taken.samples 1).stack ≡ 1) × ((row_at rows_taken.rows 1).frames ≡ 0 ∷ [])
+pub names_told_once : (length rows_taken.samples ≡ 2) × (total_weight rows_taken.samples ≡ 3) × (name_at (sample_at rows_taken.samples 0).stack 1 ≡ 98 ∷ []) × (length (sample_at rows_taken.samples 1).stack ≡ 1) × ((row_at rows_taken.rows 1).frames ≡ 0 ∷ [])
 names_told_once = (refl, refl, refl, refl, refl)
 
 -- one sample of `x` is taken twice: its name is told anew
@@ -22,5 +23,5 @@ samples_taken =
     (record { stack = (120 ∷ []) ∷ []; weight = 2 }))
     (record { stack = (120 ∷ []) ∷ []; weight = 2 })
 
-pub world_and_ledger : (length samples_taken.samples ≡ 2) × (weight_of samples_taken.samples ≡ 4) × ((row_at samples_taken.rows 1).frames ≡ 1 ∷ [])
+pub world_and_ledger : (length samples_taken.samples ≡ 2) × (total_weight samples_taken.samples ≡ 4) × ((row_at samples_taken.rows 1).frames ≡ 1 ∷ [])
 world_and_ledger = (refl, refl, refl)

@@ -1,4 +1,4 @@
-use Rattle.std.specs.Prelude.{◌≡◌, ◌<◌, ◌≤◌, ℕ, List, [], ◌∷◌, ◌++◌, map, length, All, Option, Some, slice_index_or, sum_by}
+use Rattle.std.specs.Prelude.{◌≡◌, ◌<◌, ◌≤◌, ℕ, List, [], ◌∷◌, ◌++◌, map, length, All, Option, Some, slice_index_or}
 use Rattle.std.specs.List.{range_with_len}
 use Rattle.stack_core.specs.declared.samples.TheConstants.{FRAME_LIMIT, WEIGHT_LIMIT}
 use Rattle.stack_core.specs.declared.samples.Sample.{Sample}
@@ -6,23 +6,23 @@ use Rattle.stack_core.specs.declared.endings.Close.{Close}
 use Rattle.stack_core.specs.declared.endings.Close.TheVariants.{Read}
 use Rattle.stack_core.specs.declared.endings.SourceEnd.{SourceEnd}
 
--- a sample told by numbers: those of its names, root first, and its weight
+-- a sample by numbers: those of its names, root first, and its weight
 pub record Row : Type 0 where
   pub frames : List ℕ
   pub weight : ℕ
 
--- the name that number k stands for: the one told k-th, from 0
+-- the name that number k stands for: the k-th, from 0
 abbrev pub name_at : List (List ℕ) → ℕ → List ℕ
-name_at told k = slice_index_or told k []
+name_at names k = slice_index_or names k []
 
 -- the sample that a row stands for
 abbrev pub named : List (List ℕ) → Row → Sample
-named told row = record { stack = map (name_at told) row.frames; weight = row.weight }
+named names row = record { stack = map (name_at names) row.frames; weight = row.weight }
 
 -- a row within the limits, whose numbers all stand for names
-pub record IsRow (told : List (List ℕ)) (row : Row) : Type 0 where
+pub record IsRow (names : List (List ℕ)) (row : Row) : Type 0 where
   pub depth : length row.frames ≤ FRAME_LIMIT
-  pub numbers : All (λ k. k < length told) row.frames
+  pub numbers : All (λ k. k < length names) row.frames
   pub weight : row.weight ≤ WEIGHT_LIMIT
 
 -- row i, and sample i; an empty one past the end
@@ -48,14 +48,14 @@ pub record ListState : Type 0 where
   pub rows : List Row
 
 -- the samples are the rows' with their names, and each row is within the limits
-pub record AreNamed (told : List (List ℕ)) (rows : List Row) (samples : List Sample) : Type 0 where
-  pub rows_told : All (IsRow told) rows
-  pub samples_named : samples ≡ map (named told) rows
+pub record AreNamed (names : List (List ℕ)) (rows : List Row) (samples : List Sample) : Type 0 where
+  pub each : All (IsRow names) rows
+  pub samples_named : samples ≡ map (named names) rows
 
--- the row of a sample whose names are told anew, after the told ones
+-- the row of a sample whose names come anew, after the names that were there
 abbrev pub fresh_row : List (List ℕ) → Sample → Row
-fresh_row told sample =
-    record { frames = range_with_len (length told) (length sample.stack); weight = sample.weight }
+fresh_row names sample =
+    record { frames = range_with_len (length names) (length sample.stack); weight = sample.weight }
 
 -- a row is taken: the sample that it stands for comes last
 abbrev pub with_row : LedgerState → Row → LedgerState
@@ -77,7 +77,3 @@ with_sample state sample =
 -- closed at an ending to which the source was read
 abbrev pub IsRead : Option Close → Type 0
 IsRead close = (ending : SourceEnd) × (close ≡ Some (Read ending))
-
--- the sum of the samples' weights
-abbrev pub weight_of : List Sample → ℕ
-weight_of samples = sum_by (λ sample. sample.weight) samples

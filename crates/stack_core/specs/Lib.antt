@@ -1,8 +1,10 @@
 pub mod Faults
 pub mod Interleaving
 pub mod Ledgers
+pub mod Prefixes
 pub mod Reading
 pub mod Records
+pub mod Samples
 pub mod Schedule
 pub mod Told
 pub mod checked

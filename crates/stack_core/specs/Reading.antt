@@ -1,4 +1,5 @@
-use Rattle.std.specs.Prelude.{◌≡◌, ◌≤◌, List, [], ◌∷◌, length, sum_by, All}
+use Rattle.std.specs.Prelude.{◌≡◌, ◌≤◌, List, [], ◌∷◌, length, All}
+use Rattle.stack_core.specs.Samples.{total_weight}
 use Rattle.stack_core.specs.declared.samples.TheConstants.{FRAME_LIMIT, WEIGHT_LIMIT}
 use Rattle.stack_core.specs.declared.samples.Sample.{Sample}
 use Rattle.stack_core.specs.declared.endings.SourceEnd.{SourceEnd}
@@ -31,4 +32,4 @@ IsWithinLimits (step.End ending) = Unit {0}
 -- the samples of one source: each within the limits, and the sum of their weights too
 pub record IsSourceLimited (samples : List Sample) : Type 0 where
   pub each : All IsLimited samples
-  pub total : sum_by (λ sample. sample.weight) samples ≤ WEIGHT_LIMIT
+  pub total : total_weight samples ≤ WEIGHT_LIMIT

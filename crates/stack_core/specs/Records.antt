@@ -1,5 +1,5 @@
 use Rattle.std.specs.Prelude.{ℕ, ◌+◌, ◌<◌, List, [], ◌∷◌, ◌++◌, map, All}
-use Rattle.stack_core.specs.Ledgers.{name_at, named}
+use Rattle.stack_core.specs.Ledgers.{name_at}
 use Rattle.stack_core.specs.declared.endings.Item.{Item}
 use Rattle.stack_core.specs.declared.endings.Item.TheVariants as item
 use Rattle.stack_core.specs.declared.records.RingRecord.{RingRecord}
@@ -16,15 +16,15 @@ names_told (Close last ∷ records) = names_told records
 abbrev pub names_at : List (List ℕ) → List ℕ → List (List ℕ)
 names_at names numbers = map (name_at names) numbers
 
--- the sample for which a row stands
-abbrev pub row_of : List (List ℕ) → List ℕ → ℕ → Item
-row_of names frames weight = item.Sample (named names (record { frames = frames; weight = weight }))
+-- the sample for which a row stands, as an item
+abbrev pub sample_item : List (List ℕ) → List ℕ → ℕ → Item
+sample_item names frames weight = item.Sample (record { stack = names_at names frames; weight = weight })
 
 -- the items for which records stand that follow these names: the names are left out, and each number is its name
 abbrev pub stands_for_after : List (List ℕ) → List RingRecord → List Item
 stands_for_after names [] = []
 stands_for_after names (Name name ∷ records) = stands_for_after (names ++ name ∷ []) records
-stands_for_after names (Row frames weight ∷ records) = row_of names frames weight ∷ stands_for_after names records
+stands_for_after names (Row frames weight ∷ records) = sample_item names frames weight ∷ stands_for_after names records
 stands_for_after names (Close last ∷ records) = item.Close last ∷ stands_for_after names records
 
 -- the items for which the records of a ring stand
@@ -47,5 +47,5 @@ IsWellTold records = IsWellToldAfter 0 records
 abbrev pub written : List (List ℕ) → List RingRecord → List Item
 written names [] = []
 written names (Name name ∷ records) = written names records
-written names (Row frames weight ∷ records) = row_of names frames weight ∷ written names records
+written names (Row frames weight ∷ records) = sample_item names frames weight ∷ written names records
 written names (Close last ∷ records) = item.Close last ∷ written names records

@@ -87,10 +87,6 @@ all_handed_out state (event ∷ events) = handed_out state event ++ all_handed_o
 abbrev pub received_lists : {A B : Type 0} → (A → Option B) → Schedule A → List (List B)
 received_lists h state = map (λ lane. filter_map h lane.received) state.lanes
 
--- xs is the beginning of ys
-abbrev pub IsPrefixOf : {A : Type 0} → List A → List A → Type 0
-IsPrefixOf {A} xs ys = (rest : List A) × (xs ++ rest ≡ ys)
-
 -- the pairs of a source and what h makes of its item, of the items of which it makes something
 abbrev pub only : {A B : Type 0} → (A → Option B) → List (ℕ × A) → List (ℕ × B)
 only h pairs = filter_map (λ pair. option_map (λ made. (pair.0, made)) (h pair.1)) pairs

@@ -3,7 +3,8 @@
 ghost use Rattle.std.specs.Prelude.{◌≡◌, ◌<◌, ◌≤◌, ◌++◌, ◌∷◌, [], List, All, length, map, None, Some, is_some, option_copied, OnOk, OnErr};
 ghost use Rattle.stack_core.specs.declared.samples.TheConstants.{FRAME_LIMIT, WEIGHT_LIMIT};
 ghost use Rattle.stack_core.specs.Reading.{IsLimited};
-ghost use Rattle.stack_core.specs.Ledgers.{AreNamed, IsRead, IsRow, name_at, named, weight_of, with_row, with_sample};
+ghost use Rattle.stack_core.specs.Ledgers.{AreNamed, IsRead, IsRow, name_at, named, with_row, with_sample};
+ghost use Rattle.stack_core.specs.Samples.{total_weight};
 
 use crate::endings::Close;
 use crate::lists::SourceList;
@@ -31,9 +32,9 @@ impl Model for Ledger {
     ghost Value = { LedgerState };
 
     ghost view = { λ ledger. record {
-      samples = map (named ledger.table.told) ledger.table.rows;
+      samples = map (named ledger.table.names) ledger.table.rows;
       close = ledger.close;
-      told = ledger.table.told;
+      told = ledger.table.names;
       rows = ledger.table.rows;
     } };
 }
@@ -56,7 +57,7 @@ impl Ledger {
             ≡ record self.old { told = self.old.told ++ name ∷ [] }) }
         ensures refused { OnErr result (self.new ≡ self.old) }
     {
-        self.table.tell(name)
+        self.table.add_name(name)
     }
 
     /// Takes the sample whose names have these numbers, root first. Want of memory changes nothing.
@@ -102,7 +103,7 @@ impl Ledger {
 
     /// The sum of the weights.
     pub fn weight(&self) -> u128
-        ensures { result ≡ weight_of self.now.samples }
+        ensures { result ≡ total_weight self.now.samples }
     {
         self.table.total()
     }
@@ -125,7 +126,7 @@ impl Ledger {
     pub fn told(&self) -> usize
         ensures { result ≡ length self.now.told }
     {
-        self.table.told()
+        self.table.name_count()
     }
 
     /// The name of number `k`.
@@ -133,7 +134,7 @@ impl Ledger {
         requires { k < length self.now.told }
         ensures { result.now ≡ name_at self.now.told k }
     {
-        self.table.told_name(k)
+        self.table.name(k)
     }
 
     /// The list of a source that was read to an ending. It takes no memory.

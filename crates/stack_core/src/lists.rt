@@ -3,7 +3,8 @@
 ghost use Rattle.std.specs.Prelude.{◌≡◌, ◌<◌, ◌≤◌, ℕ, List, All, length, map, slice_index};
 ghost use Rattle.stack_core.specs.declared.samples.TheConstants.{FRAME_LIMIT, WEIGHT_LIMIT};
 ghost use Rattle.stack_core.specs.Reading.{IsLimited};
-ghost use Rattle.stack_core.specs.Ledgers.{AreNamed, IsRow, name_at, row_at, sample_at, named, weight_of};
+ghost use Rattle.stack_core.specs.Ledgers.{AreNamed, IsRow, name_at, row_at, sample_at, named};
+ghost use Rattle.stack_core.specs.Samples.{total_weight};
 
 use crate::endings::SourceEnd;
 use crate::tables::RowTable;
@@ -25,18 +26,18 @@ impl Model for SourceList {
     ghost Value = { ListState };
 
     ghost view = { λ list. record {
-      samples = map (named list.table.told) list.table.rows;
+      samples = map (named list.table.names) list.table.rows;
       ending = list.ending;
-      told = list.table.told;
+      told = list.table.names;
       rows = list.table.rows;
     } };
 }
 
 impl SourceList {
     pub(crate) fn of(table: RowTable, ending: SourceEnd) -> Self
-        ensures samples { result.samples ≡ map (named table.told) table.rows }
+        ensures samples { result.samples ≡ map (named table.names) table.rows }
         ensures ending { result.ending ≡ ending }
-        ensures told { result.told ≡ table.told }
+        ensures told { result.told ≡ table.names }
         ensures rows { result.rows ≡ table.rows }
     {
         SourceList { table, ending }
@@ -100,14 +101,14 @@ impl SourceList {
         requires frame { d < length (sample_at self.now.samples i).stack }
         ensures { result.now ≡ name_at (sample_at self.now.samples i).stack d }
     {
-        self.table.told_name(self.number(i, d))
+        self.table.name(self.number(i, d))
     }
 
     /// How many names were told.
     pub fn told(&self) -> usize
         ensures { result ≡ length self.now.told }
     {
-        self.table.told()
+        self.table.name_count()
     }
 
     /// The name of number `k`.
@@ -115,12 +116,12 @@ impl SourceList {
         requires { k < length self.now.told }
         ensures { result.now ≡ name_at self.now.told k }
     {
-        self.table.told_name(k)
+        self.table.name(k)
     }
 
     /// The sum of the weights.
     pub fn total(&self) -> u128
-        ensures { result ≡ weight_of self.now.samples }
+        ensures { result ≡ total_weight self.now.samples }
     {
         self.table.total()
     }

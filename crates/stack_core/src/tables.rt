@@ -1,11 +1,11 @@
-//! Names told once, and rows of their numbers, kept in a few flat vectors: a sample costs no allocation
+//! Names, and rows of their numbers, kept in a few flat vectors: a sample costs no allocation
 //! of its own.
 
 ghost use Rattle.std.specs.Prelude.{◌≡◌, ◌<◌, ◌≤◌, ◌++◌, ◌-◌, ◌∷◌, [], ℕ, List, All, length, map, sum_by, slice_index, OnOk, OnErr};
 ghost use Rattle.std.specs.List.{range_with_len};
 ghost use Rattle.stack_core.specs.declared.samples.TheConstants.{FRAME_LIMIT, WEIGHT_LIMIT};
 ghost use Rattle.stack_core.specs.Ledgers.{Row, IsRow, name_at, row_at};
-ghost use Rattle.stack_core.specs.checked.Tables.{with_stack};
+ghost use Rattle.stack_core.specs.checked.Tables.{table_with_sample};
 
 use crate::values::{Listed, Names, Text};
 use std::alloc::{AllocError, Global};
@@ -19,7 +19,7 @@ struct Span {
     weight: u64,
 }
 
-/// The told names, and the rows. Numbers that no span covers stand for nothing.
+/// The names, and the rows. Numbers that no span covers stand for nothing.
 #[derive(Debug, Drop)]
 pub struct RowTable {
     names: Vec<String>,
@@ -36,7 +36,7 @@ impl Model for RowTable {
     ghost Value = { Table };
 
     ghost view = { λ t. record
-        { told = map string_bytes t.names.items; rows = rows_of t.frames.items t.spans.items } };
+        { names = map string_bytes t.names.items; rows = rows_of t.frames.items t.spans.items } };
 
     ghost invariant = { λ t.
         AreSpans (map string_bytes t.names.items) t.frames.items t.spans.items t.total };
@@ -44,7 +44,7 @@ impl Model for RowTable {
 
 impl RowTable {
     pub fn new(alloc: Global) -> Self
-        ensures told { result.told ≡ [] }
+        ensures names { result.names ≡ [] }
         ensures rows { result.rows ≡ [] }
     {
         RowTable {
@@ -55,32 +55,32 @@ impl RowTable {
         }
     }
 
-    pub fn tell(&mut self, name: Text) -> Result<(), AllocError>
+    pub fn add_name(&mut self, name: Text) -> Result<(), AllocError>
         ensures ok { OnOk result (self.new
-            ≡ record self.old { told = self.old.told ++ name ∷ [] }) }
+            ≡ record self.old { names = self.old.names ++ name ∷ [] }) }
         ensures refused { OnErr result (self.new ≡ self.old) }
-        ensures rows { All (IsRow self.old.told) self.old.rows }
+        ensures rows { All (IsRow self.old.names) self.old.rows }
     {
         self.names.push(name.into_plain())?;
         Ok(())
     }
 
-    pub fn told(&self) -> usize
-        ensures { result ≡ length self.now.told }
+    pub fn name_count(&self) -> usize
+        ensures { result ≡ length self.now.names }
     {
         self.names.len()
     }
 
-    pub fn told_name(&self, k: usize) -> &str
-        requires { k < length self.now.told }
-        ensures { result.now ≡ name_at self.now.told k }
+    pub fn name(&self, k: usize) -> &str
+        requires { k < length self.now.names }
+        ensures { result.now ≡ name_at self.now.names k }
     {
         self.names[k].as_str()
     }
 
     pub fn len(&self) -> usize
         ensures count { result ≡ length self.now.rows }
-        ensures rows { All (IsRow self.now.told) self.now.rows }
+        ensures rows { All (IsRow self.now.names) self.now.rows }
     {
         self.spans.len()
     }
@@ -102,14 +102,14 @@ impl RowTable {
     pub fn frames(&self, i: usize) -> &[usize]
         requires { i < length self.now.rows }
         ensures value { result.now ≡ (row_at self.now.rows i).frames }
-        ensures row { IsRow self.now.told (row_at self.now.rows i) }
+        ensures row { IsRow self.now.names (row_at self.now.rows i) }
     {
         let span = self.spans[i];
         &self.frames[span.start..span.end]
     }
 
     pub fn take_row(&mut self, frames: Listed<usize>, weight: u64) -> Result<(), AllocError>
-        requires { IsRow self.old.told (record { frames = frames; weight = weight }) }
+        requires { IsRow self.old.names (record { frames = frames; weight = weight }) }
         ensures ok { OnOk result
             (self.new ≡ record self.old
             { rows = self.old.rows ++ record { frames = frames; weight = weight } ∷ [] }) }
@@ -130,9 +130,9 @@ impl RowTable {
     pub fn take(&mut self, stack: Names, weight: u64) -> Result<(), AllocError>
         requires depth { length stack ≤ FRAME_LIMIT }
         requires limit { weight ≤ WEIGHT_LIMIT }
-        ensures ok { OnOk result (self.new ≡ with_stack self.old stack weight) }
+        ensures ok { OnOk result (self.new ≡ table_with_sample self.old stack weight) }
         ensures refused { OnErr result (self.new ≡ self.old) }
-        ensures rows { All (IsRow self.old.told) self.old.rows }
+        ensures rows { All (IsRow self.old.names) self.old.rows }
     {
         let mut names = stack.into_plain();
         let depth = names.len();

@@ -10,7 +10,7 @@ abbrev pub rows_of : List ℕ → List Span → List Row
 rows_of frames spans = map (row_of frames) spans
 
 -- each span lies in the numbers, and the rows and their total are as they should be
-pub record AreSpans (told : List (List ℕ)) (frames : List ℕ) (spans : List Span) (total : ℕ) : Type 0 where
+pub record AreSpans (names : List (List ℕ)) (frames : List ℕ) (spans : List Span) (total : ℕ) : Type 0 where
   pub within : All (λ span. (span.start ≤ span.end) × (span.end ≤ length frames)) spans
-  pub rows : All (IsRow told) (rows_of frames spans)
+  pub rows : All (IsRow names) (rows_of frames spans)
   pub summed : total ≡ sum_by (λ row. row.weight) (rows_of frames spans)
