@@ -11,6 +11,24 @@ fn copied(sample: &Sample) -> Result<Sample, AllocError>
     sample.clone()
 }
 
+// The example of README.md.
+#[test]
+fn example_of_the_page(rt: HostRuntime) -> Result<(), Fail> {
+    let alloc = rt.alloc();
+    let mut ledger = Ledger::new(alloc);
+    ledger.tell(Text::from_str(alloc, "main")?)?;
+    ledger.tell(Text::from_str(alloc, "parse")?)?;
+    ledger.take_row(Listed::of(vec![in alloc; 0, 1]?), 5)?;
+    ledger.take_row(Listed::of(vec![in alloc; 0]?), 2)?;
+    ledger.close(Close::Read(SourceEnd::Clean { ignored: 0 }));
+
+    let list = ledger.into_list();
+    assert_eq!(rt; list.len(), 2);
+    assert_eq!(rt; list.name(0, 1), "parse");
+    assert_eq!(rt; list.total(), 7);
+    Ok(())
+}
+
 #[test]
 fn names_told_once(rt: HostRuntime) -> Result<(), Fail> {
     let alloc = rt.alloc();
