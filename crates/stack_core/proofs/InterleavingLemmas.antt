@@ -21,16 +21,6 @@ of_source-append source pairs more =
     ap (map (λ pair. pair.1)) (filter-append (λ pair. nat_eq pair.0 source) pairs more)
     ∙ map-append (λ pair. pair.1) (filter (λ pair. nat_eq pair.0 source) pairs) (filter (λ pair. nat_eq pair.0 source) more)
 
--- one more pair at the end, of this source or of another
-pub of_source_push_same : {A : Type 0} (source : ℕ) (pairs : List (ℕ × A)) (item : A) → of_source source (pairs ++ (source, item) ∷ []) ≡ of_source source pairs ++ item ∷ []
-of_source_push_same source pairs item =
-    of_source-append source pairs ((source, item) ∷ []) ∙ ap (λ more. of_source source pairs ++ more) (of_source_at source source item [] refl)
-
-pub of_source_push_other : {A : Type 0} (source other : ℕ) (pairs : List (ℕ × A)) (item : A) → (other ≡ source → ⊥) → of_source source (pairs ++ (other, item) ∷ []) ≡ of_source source pairs
-of_source_push_other source other pairs item apart =
-    of_source-append source pairs ((other, item) ∷ [])
-    ∙ (ap (λ more. of_source source pairs ++ more) (of_source_past source other item [] apart) ∙ append-nil (of_source source pairs))
-
 pub count_of_at : (source other : ℕ) (order : List ℕ) → other ≡ source → count_of source (other ∷ order) ≡ suc (count_of source order)
 count_of_at source other order is =
     let same : nat_eq other source ≡ true = eq-eqb other source is in

@@ -23,16 +23,6 @@ can_push-laid told p q size ordered within room =
     let left : length (drop p told) ≡ length told - p = length-drop p told in
     rw (queue, left) (grind (arith, nat_tests))
 
-pub can_push-full : {A : Type 0} (told : List A) (p q size : ℕ) → q ≤ p → p ≤ length told → size ≤ p - q → can_push size (laid told p q) ≡ false
-can_push-full told p q size ordered within full =
-    let queue : length (drop q (take p told)) ≡ p - q = length-queue told p q ordered within in
-    rw queue (grind (arith, nat_tests))
-
-pub can_push-end : {A : Type 0} (told : List A) (p q size : ℕ) → p ≡ length told → can_push size (laid told p q) ≡ false
-can_push-end told p q size end =
-    let left : length (drop p told) ≡ length told - p = length-drop p told in
-    rw left (grind (arith, nat_tests))
-
 pub pushed-laid : {A : Type 0} (told : List A) (p q : ℕ) → q ≤ p → p < length told → laid told (p + 1) q ≡ pushed (laid told p q)
 pushed-laid told p q ordered within =
     let long : length (take p told) ≡ p = length-take-le p told (omega arith) in
@@ -44,11 +34,6 @@ pushed-laid told p q ordered within =
 
 pub can_pop-laid : {A : Type 0} (told : List A) (p q : ℕ) → q < p → p ≤ length told → can_pop (laid told p q) ≡ true
 can_pop-laid told p q some within =
-    let queue : length (drop q (take p told)) ≡ p - q = length-queue told p q (omega arith) within in
-    rw queue (grind (arith, nat_tests))
-
-pub can_pop-none : {A : Type 0} (told : List A) (p q : ℕ) → q ≡ p → p ≤ length told → can_pop (laid told p q) ≡ false
-can_pop-none told p q none within =
     let queue : length (drop q (take p told)) ≡ p - q = length-queue told p q (omega arith) within in
     rw queue (grind (arith, nat_tests))
 

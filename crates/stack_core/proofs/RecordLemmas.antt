@@ -81,26 +81,3 @@ stands_for_after-written names (Close last ∷ records) well = ap (λ items. ite
 
 pub stands_for-written : (records : List RingRecord) → IsWellTold records → stands_for records ≡ written (names_told records) records
 stands_for-written records well = stands_for_after-written [] records well
-
--- one more record of each kind
-pub stands_for_push_name : (records : List RingRecord) (name : List ℕ) → stands_for (records ++ Name name ∷ []) ≡ stands_for records
-stands_for_push_name records name = stands_for-append records (Name name ∷ []) ∙ append-nil (stands_for records)
-
-pub stands_for_push_row : (records : List RingRecord) (frames : List ℕ) (weight : ℕ) → stands_for (records ++ Row frames weight ∷ []) ≡ stands_for records ++ sample_item (names_told records) frames weight ∷ []
-stands_for_push_row records frames weight = stands_for-append records (Row frames weight ∷ [])
-
-pub stands_for_push_close : (records : List RingRecord) (last : Ending) → stands_for (records ++ Close last ∷ []) ≡ stands_for records ++ item.Close last ∷ []
-stands_for_push_close records last = stands_for-append records (Close last ∷ [])
-
-pub IsWellTold_push_name : (records : List RingRecord) (name : List ℕ) → IsWellTold records → IsWellTold (records ++ Name name ∷ [])
-IsWellTold_push_name records name well = IsWellTold-append records (Name name ∷ []) well tt
-
-pub IsWellTold_push_row : (records : List RingRecord) (frames : List ℕ) (weight : ℕ) → IsWellTold records → All (λ number. number < length (names_told records)) frames → IsWellTold (records ++ Row frames weight ∷ [])
-IsWellTold_push_row records frames weight well within = IsWellTold-append records (Row frames weight ∷ []) well (within, tt)
-
-pub IsWellTold_push_close : (records : List RingRecord) (last : Ending) → IsWellTold records → IsWellTold (records ++ Close last ∷ [])
-IsWellTold_push_close records last well = IsWellTold-append records (Close last ∷ []) well tt
-
--- a row of well told records has names that were told before it
-pub IsWellTold-row : (records more : List RingRecord) (frames : List ℕ) (weight : ℕ) → IsWellTold (records ++ Row frames weight ∷ more) → All (λ number. number < length (names_told records)) frames
-IsWellTold-row records more frames weight well = (IsWellTold-back records (Row frames weight ∷ more) well).0

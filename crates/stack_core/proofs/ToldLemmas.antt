@@ -9,7 +9,7 @@ use Rattle.stack_core.specs.declared.endings.Close.{Close}
 use Rattle.stack_core.specs.declared.endings.Close.TheVariants as close
 use Rattle.stack_core.specs.declared.endings.Item.{Item}
 use Rattle.stack_core.specs.declared.endings.Item.TheVariants as item
-use Rattle.stack_core.specs.Told.{told, IsToldList, IsToldUnder, samples_of, IsCollected, told_whole, stopped}
+use Rattle.stack_core.specs.Told.{told, IsToldList, IsToldUnder, IsCollected, told_whole, stopped}
 
 pub told_under_is_told : (may_stop may_go : ℕ → ℕ → Type 0) (source : ℕ) (rest : Rest) (items : List Item) → IsToldUnder may_stop may_go source rest items → IsToldList rest items
 told_under_is_told may_stop may_go source rest items (IsToldUnder.Whole go is) = IsToldList.Whole is
@@ -27,10 +27,6 @@ same_told (x ∷ xs) (y ∷ ys) c d same =
     (cc, both.1)
 same_told [] (y ∷ ys) c d same = absurd (cc)
 same_told (x ∷ xs) [] c d same = absurd (cc)
-
-pub samples_of-told : (samples : List Sample) (last : Close) → samples_of (told samples last) ≡ samples
-samples_of-told [] last = refl
-samples_of-told (sample ∷ samples) last = ap (λ rest. sample ∷ rest) (samples_of-told samples last)
 
 -- what a list has that does not begin with it
 pub contains_behind : {A : Type 0} (first : A) (front : List A) (x : A) → Contains (first ∷ front) x → (first ≡ x → ⊥) → Contains front x

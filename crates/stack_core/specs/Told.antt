@@ -1,6 +1,5 @@
 use Rattle.std.specs.Prelude.{◌≡◌, ℕ, ◌<◌, ◌≤◌, List, [], ◌∷◌, ◌++◌, length, take, map}
 use Rattle.std.specs.Prelude.{Option, Some, None}
-use Rattle.std.specs.List.{filter_map}
 use Rattle.stack_core.specs.Reading.{Rest}
 use Rattle.stack_core.specs.declared.samples.Sample.{Sample}
 use Rattle.stack_core.specs.declared.endings.SourceEnd.TheVariants as ending
@@ -58,7 +57,3 @@ pub data IsCollected (may_stop may_go : ℕ → ℕ → Type 0) (source : ℕ) (
 abbrev pub sample_of : Item → Option Sample
 sample_of (item.Sample sample) = Some sample
 sample_of (item.Close last) = None
-
--- the samples among items, in order
-abbrev pub samples_of : List Item → List Sample
-samples_of items = filter_map sample_of items
