@@ -1,8 +1,8 @@
--- What a clause reads of a `MemoryFiles`.
-use Rattle.std.specs.Prelude.{ℕ, List, Option, None, nat_eq, string_bytes, find}
+-- What a clause reads of files in memory and of the machine's.
+use Rattle.std.specs.Prelude.{ℕ, List, Option, None, nat_eq, string_bytes, find, option_map}
 use Rattle.std.specs.Cmp.Lexicographic.{pointwise}
-use Rattle.byte_io.specs.declared.files.MemoryFiles.{MemoryFiles}
-use Rattle.byte_io.specs.declared.files.NamedFile.{NamedFile}
+use Rattle.byte_io.specs.declared.memory_files.MemoryFiles.{MemoryFiles}
+use Rattle.byte_io.specs.declared.memory_files.NamedFile.{NamedFile}
 
 -- the bytes of the input
 abbrev pub input_bytes : MemoryFiles → List ℕ
@@ -20,6 +20,13 @@ byte_limit files = files.limit
 abbrev pub file_at : List NamedFile → List ℕ → Option NamedFile
 file_at files path = find (λ file. pointwise nat_eq (string_bytes file.path) path) files
 
--- what the machine tells of its input
-abbrev pub untold : Option (List ℕ)
-untold = None
+-- the bytes of that file
+abbrev pub bytes_at : MemoryFiles → List ℕ → Option (List ℕ)
+bytes_at files path = option_map (λ file. file.bytes.items) (file_at (named_files files) path)
+
+-- the bytes of the machine's files and of its input are not known
+abbrev pub unknown : Option (List ℕ)
+unknown = None
+
+abbrev pub unknown_files : List ℕ → Option (List ℕ)
+unknown_files path = unknown

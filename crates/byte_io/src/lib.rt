@@ -5,12 +5,16 @@
 mod failure_counts;
 mod files;
 mod inlet;
+mod machine_files;
+mod memory_files;
 mod outlet;
 mod whole_input;
 mod whole_output;
 
-pub use files::{Files, MachineFiles, MemoryFiles, NamedFile, SOURCE_LIMIT};
+pub use files::Files;
 pub use inlet::{CountedReader, Inlet};
+pub use machine_files::{MachineFiles, SOURCE_LIMIT};
+pub use memory_files::{MemoryFiles, NamedFile};
 pub use outlet::{CountedWriter, Outlet};
 pub use whole_input::{LoadFault, load};
 pub use whole_output::{SendFault, send};

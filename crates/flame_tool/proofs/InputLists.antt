@@ -65,7 +65,7 @@ fault_is_fault (ends.Clean ignored) faulty = absurd (false≢true faulty)
 fault_is_fault (ends.Fault fault) faulty = tt
 fault_is_fault (ends.Stopped after) faulty = absurd (false≢true faulty)
 
-module _ (plan : Plan) (told : Option (List ℕ)) (sources : List Source) (lists : List ListState) (order : List ℕ) (every : Option ℕ) where
+module _ (plan : Plan) (known : Option (List ℕ)) (sources : List Source) (lists : List ListState) (order : List ℕ) (every : Option ℕ) where
   abbrev text : List ℕ
   text = view_text plan.view (samples_of lists) order every
 
@@ -74,7 +74,7 @@ module _ (plan : Plan) (told : Option (List ℕ)) (sources : List Source) (lists
       ap (λ view. view_text view (samples_of lists) order every) of_input.0 ∙ input_text bytes lists are
 
   abbrev Loaded : Type 0
-  Loaded = plan.files ≡ [] → IfSome told (IsInput sources)
+  Loaded = plan.files ≡ [] → IfSome known (IsInput sources)
 
   input_lists : (bytes : List ℕ) → IsFoldOfInput plan → IsInput sources bytes → AreWhole (rests_of plan.options sources) lists → IsListOf bytes lists
   input_lists bytes of_input alone whole = whole_input plan.options sources lists bytes alone whole
@@ -101,9 +101,9 @@ module _ (plan : Plan) (told : Option (List ℕ)) (sources : List Source) (lists
 
   pub ok_shown : {T E : Type 0} (result : Result T E) (old new : Option (List ℕ)) → Loaded → AreWhole (rests_of plan.options sources) lists
       → OnOk result (has_fault lists ≡ false) → OnOk result (Appends old new text)
-      → OnOk result (IsFoldOfInput plan → IfSome told (λ bytes. Succeeds bytes old new))
+      → OnOk result (IsFoldOfInput plan → IfSome known (λ bytes. Succeeds bytes old new))
   ok_shown (Ok done) old new loaded whole faultless appends =
-      λ of_input. elim told as (λ told. IfSome told (IsInput sources) → IfSome told (λ bytes. Succeeds bytes old new)) [
+      λ of_input. elim known as (λ known. IfSome known (IsInput sources) → IfSome known (λ bytes. Succeeds bytes old new)) [
         | None ↦ λ _. tt
         | Some bytes ↦ λ alone. shown bytes old new of_input (input_lists bytes of_input alone whole) faultless appends
       ] (loaded of_input.1)
@@ -111,10 +111,10 @@ module _ (plan : Plan) (told : Option (List ℕ)) (sources : List Source) (lists
 
   pub err_shown : {T : Type 0} (result : Result T Failure) (old new : Option (List ℕ)) → Loaded → AreWhole (rests_of plan.options sources) lists
       → IfErr result (FailsToShow lists text old new)
-      → IfErr result (λ failure. IsFoldOfInput plan → IfSome told (λ bytes. Fails bytes old new failure))
+      → IfErr result (λ failure. IsFoldOfInput plan → IfSome known (λ bytes. Fails bytes old new failure))
   err_shown (Ok done) old new loaded whole fails = tt
   err_shown (Err failure) old new loaded whole fails =
-      λ of_input. elim told as (λ told. IfSome told (IsInput sources) → IfSome told (λ bytes. Fails bytes old new failure)) [
+      λ of_input. elim known as (λ known. IfSome known (IsInput sources) → IfSome known (λ bytes. Fails bytes old new failure)) [
         | None ↦ λ _. tt
         | Some bytes ↦ λ alone. not_shown bytes old new failure of_input (input_lists bytes of_input alone whole) fails
       ] (loaded of_input.1)
@@ -140,7 +140,7 @@ failed_front bytes old new (Unfinished source) three kept fails = front_of_kept 
 failed_front bytes old new Faults three kept fails = front_of_kept bytes old new kept
 failed_front bytes old new Output three kept fails = fails
 
-pub fronts : (told : Option (List ℕ)) (old new : Option (List ℕ)) (failure : Failure) → status_of failure ≡ 3 → KeepsOutput old new failure
-    → IfSome told (λ bytes. Fails bytes old new failure) → IfSome told (λ bytes. GainsFront bytes old new)
+pub fronts : (known : Option (List ℕ)) (old new : Option (List ℕ)) (failure : Failure) → status_of failure ≡ 3 → KeepsOutput old new failure
+    → IfSome known (λ bytes. Fails bytes old new failure) → IfSome known (λ bytes. GainsFront bytes old new)
 fronts None old new failure three kept fails = tt
 fronts (Some bytes) old new failure three kept fails = failed_front bytes old new failure three kept fails

@@ -53,7 +53,7 @@ Succeeds bytes old new = IsClean (read_folded bytes).ending × Appends old new (
 abbrev pub GainsFront : List ℕ → Option (List ℕ) → Option (List ℕ) → Type 0
 GainsFront bytes old new = (count : ℕ) × Appends old new (take count (text_of bytes))
 
--- what a failed run over these bytes tells of them and of the output
+-- what a failed run over these bytes says of them and of the output
 abbrev pub Fails : List ℕ → Option (List ℕ) → Option (List ℕ) → Failure → Type 0
 Fails bytes old new TooManyFiles = Unit {0}
 Fails bytes old new (Unreadable source) = Unit {0}

@@ -2,14 +2,14 @@
 ghost use Rattle.std.specs.Prelude.{◌≡◌};
 ghost use Rattle.flame_tool.specs.Runs.{ends_in_fault, has_fault};
 
-use crate::messages::tell_ending;
+use crate::messages::report_ending;
 use byte_io::Outlet;
 use stack_core::{SourceEnd, SourceList};
 
 // Says of each source, in order, how it ended, where there is something to say.
-pub(crate) fn tell_endings<E: Outlet>(err: &mut E, files: &[String], lists: &[SourceList]) {
+pub(crate) fn report_endings<E: Outlet>(err: &mut E, files: &[String], lists: &[SourceList]) {
     for (source, list) in lists.iter().enumerate() {
-        tell_ending(err, files, source, list.ending());
+        report_ending(err, files, source, list.ending());
     }
 }
 

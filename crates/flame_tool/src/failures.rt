@@ -22,7 +22,7 @@ pub(crate) enum Failure {
     NoThread,
     // It isn't known whether all of the source was received.
     Unfinished { source: u32 },
-    // A source has a fault, or several have; each was told.
+    // A source has a fault, or several have; each was reported.
     Faults,
     // The output can't be written.
     Output,

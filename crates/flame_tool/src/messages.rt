@@ -20,26 +20,26 @@ fn path_of(files: &[String], source: usize) -> &str {
 }
 
 // Says why a run over these files failed.
-pub(crate) fn tell_failure<E: Outlet>(err: &mut E, files: &[String], failure: Failure) {
+pub(crate) fn report_failure<E: Outlet>(err: &mut E, files: &[String], failure: Failure) {
     match failure {
-        Failure::TooManyFiles => tell(err, &["too many files"]),
+        Failure::TooManyFiles => write_line(err, &["too many files"]),
         Failure::Unreadable { source } => {
-            tell(err, &[path_of(files, source), ": cannot be read"]);
+            write_line(err, &[path_of(files, source), ": cannot be read"]);
         }
-        Failure::TooLarge { source } => tell(err, &[path_of(files, source), ": too large"]),
-        Failure::OutOfMemory => tell(err, &["out of memory"]),
-        Failure::NoThread => tell(err, &["no thread"]),
+        Failure::TooLarge { source } => write_line(err, &[path_of(files, source), ": too large"]),
+        Failure::OutOfMemory => write_line(err, &["out of memory"]),
+        Failure::NoThread => write_line(err, &["no thread"]),
         Failure::Unfinished { source } => {
-            tell(err, &[path_of(files, source as usize), ": unfinished"]);
+            write_line(err, &[path_of(files, source as usize), ": unfinished"]);
         }
         Failure::Faults => {}
-        Failure::Output => tell(err, &["output failed"]),
+        Failure::Output => write_line(err, &["output failed"]),
     }
 }
 
 // Says what there is to say of the ending of a source: its fault, or how many lines were ignored, if
 // any were.
-pub(crate) fn tell_ending<E: Outlet>(
+pub(crate) fn report_ending<E: Outlet>(
     err: &mut E,
     files: &[String],
     source: usize,
@@ -47,28 +47,28 @@ pub(crate) fn tell_ending<E: Outlet>(
 ) {
     let path = path_of(files, source);
     match ending {
-        SourceEnd::Clean { ignored } => tell_ignored(err, path, *ignored),
-        SourceEnd::Fault(fault) => tell_fault(err, path, kind_name(fault.kind), fault.at),
+        SourceEnd::Clean { ignored } => report_ignored(err, path, *ignored),
+        SourceEnd::Fault(fault) => report_fault(err, path, kind_name(fault.kind), fault.at),
         SourceEnd::Stopped { after: _ } => {}
     }
 }
 
 // Says how many lines of the source were ignored, if any were.
-fn tell_ignored<E: Outlet>(err: &mut E, path: &str, ignored: u64) {
+fn report_ignored<E: Outlet>(err: &mut E, path: &str, ignored: u64) {
     if ignored > 0 {
         let mut digits = Buffer::new();
-        tell(err, &[path, ": ignored ", digits.format(ignored)]);
+        write_line(err, &[path, ": ignored ", digits.format(ignored)]);
     }
 }
 
 // Says what is wrong with the source, and where.
-fn tell_fault<E: Outlet>(err: &mut E, path: &str, kind: &str, at: u64) {
+fn report_fault<E: Outlet>(err: &mut E, path: &str, kind: &str, at: u64) {
     let mut digits = Buffer::new();
-    tell(err, &[path, ": ", kind, " at ", digits.format(at)]);
+    write_line(err, &[path, ": ", kind, " at ", digits.format(at)]);
 }
 
 // Writes a line of these parts.
-fn tell<E: Outlet>(err: &mut E, parts: &[&str]) {
+fn write_line<E: Outlet>(err: &mut E, parts: &[&str]) {
     if send(b"flamecollect: ", err).is_err() {
         return;
     }

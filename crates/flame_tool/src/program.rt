@@ -7,9 +7,9 @@ ghost use Rattle.command_line.specs.Plans.{IsComparison};
 ghost use Rattle.flame_tool.specs.Texts.{view_text};
 ghost use Rattle.flame_tool.specs.Runs.{IsClean, IsFault, IsFoldOfInput, text_of, has_fault, Succeeds, GainsFront, Fails, FailsToShow, KeepsOutput};
 
-use crate::endings::{any_fault, tell_endings};
+use crate::endings::{any_fault, report_endings};
 use crate::failures::Failure;
-use crate::messages::tell_failure;
+use crate::messages::report_failure;
 use crate::source_files::open_sources;
 use crate::view_text::append_view;
 use byte_io::{Files, Outlet, send};
@@ -37,27 +37,27 @@ pub fn run<T: Threads + Wait + Copy + Send + 'static, F: Files, W: Outlet, E: Ou
     ensures no_words { vec_len words ≡ 0 → result ≢ 2 }
 
     // Without words 0 is success: the input has no fault, and its whole fold text went out.
-    ensures clean { vec_len words ≡ 0 → result ≡ 0 → IfSome (F.told_input files.old) (λ input.
+    ensures clean { vec_len words ≡ 0 → result ≡ 0 → IfSome (F.known_input files.old) (λ input.
         IsClean (read_folded input).ending) }
-    ensures text { vec_len words ≡ 0 → result ≡ 0 → IfSome (F.told_input files.old) (λ input.
+    ensures text { vec_len words ≡ 0 → result ≡ 0 → IfSome (F.known_input files.old) (λ input.
         Appends (W.contents out.old) (W.contents out.new) (text_of input)) }
 
     // 1 is a fault of a source, and 2 are words that are refused or more than 64 files: nothing is
     // written.
-    ensures fault { vec_len words ≡ 0 → result ≡ 1 → IfSome (F.told_input files.old) (λ input.
+    ensures fault { vec_len words ≡ 0 → result ≡ 1 → IfSome (F.known_input files.old) (λ input.
         IsFault (read_folded input).ending) }
     ensures unwritten { result ≡ 1 → Keeps (W.contents out.old) (W.contents out.new) }
     ensures refused { result ≡ 2 → Keeps (W.contents out.old) (W.contents out.new) }
 
     // 3 is want of memory or a thread, an input that was not loaded, or an output that failed on the way.
-    ensures front { vec_len words ≡ 0 → result ≡ 3 → IfSome (F.told_input files.old) (λ input.
+    ensures front { vec_len words ≡ 0 → result ≡ 3 → IfSome (F.known_input files.old) (λ input.
         GainsFront input (W.contents out.old) (W.contents out.new)) }
 {
     if words.is_empty() {
-        return follow(rt, alloc, plan_without_words(alloc), files, out, err);
+        return run_plan(rt, alloc, plan_without_words(alloc), files, out, err);
     }
     match plan(alloc, words.as_slice()) {
-        Ok(plan) => follow(rt, alloc, plan, files, out, err),
+        Ok(plan) => run_plan(rt, alloc, plan, files, out, err),
         Err(fault) => refuse(fault, out, err),
     }
 }
@@ -76,19 +76,19 @@ fn refuse<W: Outlet, E: Outlet>(fault: PlanFault, out: &mut W, err: &mut E) -> u
         PlanFault::Help(text) => match send(text.as_bytes(), out) {
             Ok(()) => 0,
             Err(_) => {
-                tell_failure(err, &[], Failure::Output);
+                report_failure(err, &[], Failure::Output);
                 3
             }
         },
         PlanFault::OutOfMemory => {
-            tell_failure(err, &[], Failure::OutOfMemory);
+            report_failure(err, &[], Failure::OutOfMemory);
             3
         }
     }
 }
 
 // Does what the plan says.
-fn follow<T: Threads + Wait + Copy + Send + 'static, F: Files, W: Outlet, E: Outlet>(
+fn run_plan<T: Threads + Wait + Copy + Send + 'static, F: Files, W: Outlet, E: Outlet>(
     rt: &T,
     alloc: Global,
     plan: Plan,
@@ -100,21 +100,21 @@ fn follow<T: Threads + Wait + Copy + Send + 'static, F: Files, W: Outlet, E: Out
     requires every { IfSome plan.options.every (λ every. 1 ≤ every) }
     ensures status { result ≤ 3 }
     ensures few { plan.files ≡ [] → result ≢ 2 }
-    ensures clean { IsFoldOfInput plan → result ≡ 0 → IfSome (F.told_input files.old) (λ input.
+    ensures clean { IsFoldOfInput plan → result ≡ 0 → IfSome (F.known_input files.old) (λ input.
         IsClean (read_folded input).ending) }
-    ensures text { IsFoldOfInput plan → result ≡ 0 → IfSome (F.told_input files.old) (λ input.
+    ensures text { IsFoldOfInput plan → result ≡ 0 → IfSome (F.known_input files.old) (λ input.
         Appends (W.contents out.old) (W.contents out.new) (text_of input)) }
-    ensures fault { IsFoldOfInput plan → result ≡ 1 → IfSome (F.told_input files.old) (λ input.
+    ensures fault { IsFoldOfInput plan → result ≡ 1 → IfSome (F.known_input files.old) (λ input.
         IsFault (read_folded input).ending) }
     ensures unwritten { result ≡ 1 → Keeps (W.contents out.old) (W.contents out.new) }
     ensures refused { result ≡ 2 → Keeps (W.contents out.old) (W.contents out.new) }
-    ensures front { IsFoldOfInput plan → result ≡ 3 → IfSome (F.told_input files.old) (λ input.
+    ensures front { IsFoldOfInput plan → result ≡ 3 → IfSome (F.known_input files.old) (λ input.
         GainsFront input (W.contents out.old) (W.contents out.new)) }
 {
     match show(rt, alloc, &plan, files, out, err) {
         Ok(()) => 0,
         Err(failure) => {
-            tell_failure(err, plan.files.get(), failure);
+            report_failure(err, plan.files.get(), failure);
             failure.status()
         }
     }
@@ -135,10 +135,10 @@ fn show<T: Threads + Wait + Copy + Send + 'static, F: Files, W: Outlet, E: Outle
 ) -> Result<(), Failure>
     requires pairs { IsComparison plan.now.view → length plan.now.files ≡ 2 }
     requires every { IfSome plan.now.options.every (λ every. 1 ≤ every) }
-    ensures ok { OnOk result (IsFoldOfInput plan.now → IfSome (F.told_input files.old) (λ input.
+    ensures ok { OnOk result (IsFoldOfInput plan.now → IfSome (F.known_input files.old) (λ input.
         Succeeds input (W.contents out.old) (W.contents out.new))) }
     ensures err { IfErr result (λ failure. IsFoldOfInput plan.now
-        → IfSome (F.told_input files.old) (λ input.
+        → IfSome (F.known_input files.old) (λ input.
         Fails input (W.contents out.old) (W.contents out.new) failure)) }
     ensures kept { IfErr result (λ failure.
         KeepsOutput (W.contents out.old) (W.contents out.new) failure) }
@@ -147,7 +147,7 @@ fn show<T: Threads + Wait + Copy + Send + 'static, F: Files, W: Outlet, E: Outle
     let paths = plan.files.get();
     let sources = open_sources(alloc, files, paths)?;
     let gathered = gather(rt, alloc, sources, &plan.options, open_gate(alloc)?)?;
-    tell_endings(err, paths, gathered.lists());
+    report_endings(err, paths, gathered.lists());
     send_view(alloc, &gathered, plan.view, out)
 }
 

@@ -1,5 +1,5 @@
 //! The sources of a run, loaded.
-ghost use Rattle.std.specs.Prelude.{◌≡◌, ◌≤◌, ◌+◌, [], ◌∷◌, ◌++◌, IfOk, IfErr, IfSome, OnOk, length};
+ghost use Rattle.std.specs.Prelude.{◌≡◌, ◌≤◌, [], ◌∷◌, ◌++◌, IfOk, IfErr, IfSome, OnOk, length};
 ghost use Rattle.flame_tool.specs.Opening.{IsInput};
 ghost use Rattle.flame_tool.specs.Runs.{IsOpening};
 
@@ -23,7 +23,7 @@ pub(crate) fn open_sources<F: Files>(
     ensures count { IfOk result (λ sources.
         length paths.now ≡ 2 → length sources.items ≡ 2) }
     ensures input { paths.now ≡ [] → IfOk result (λ sources.
-        IfSome (F.told_input files.old) (IsInput sources.items)) }
+        IfSome (F.known_input files.old) (IsInput sources.items)) }
     ensures err { IfErr result (IsOpening (length paths.now)) }
 {
     if paths.len() > SOURCE_COUNT {
@@ -31,16 +31,16 @@ pub(crate) fn open_sources<F: Files>(
     }
     let mut sources = Vec::new(alloc);
     if paths.is_empty() {
-        keep(&mut sources, input(alloc, files)?)?;
+        add_source(&mut sources, input(alloc, files)?)?;
         return Ok(sources);
     }
     for (at, path) in paths.iter().enumerate() {
-        keep(&mut sources, named(alloc, files, at, path)?)?;
+        add_source(&mut sources, named(alloc, files, at, path)?)?;
     }
     Ok(sources)
 }
 
-fn keep(sources: &mut Vec<Source>, source: Source) -> Result<(), AllocError>
+fn add_source(sources: &mut Vec<Source>, source: Source) -> Result<(), AllocError>
     ensures { OnOk result (sources.new.items ≡ sources.old.items ++ source ∷ []) }
 {
     sources.push(source)?;
@@ -50,7 +50,7 @@ fn keep(sources: &mut Vec<Source>, source: Source) -> Result<(), AllocError>
 // The input, which is folded text.
 fn input<F: Files>(alloc: Global, files: &mut F) -> Result<Source, Failure>
     ensures input { IfOk result (λ source.
-        IfSome (F.told_input files.old) (IsInput (source ∷ []))) }
+        IfSome (F.known_input files.old) (IsInput (source ∷ []))) }
     ensures err { IfErr result (IsOpening 0) }
 {
     match files.input(alloc) {

@@ -1,6 +1,6 @@
 use Rattle.std.proofs.Common.{rules, sym, ◌∙◌}
 use Rattle.flame_tool.proofs.InputLists.{fronts}
-use Rattle.flame_tool.proofs.program.follow.Goals as goal
+use Rattle.flame_tool.proofs.program.run_plan.Goals as goal
 
 pub returns-clause-front : goal.returns-clause-front
 returns-clause-front g c =

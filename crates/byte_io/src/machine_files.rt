@@ -1,0 +1,56 @@
+//! The files and the standard input of the machine.
+ghost use Rattle.std.specs.Prelude.{◌≡◌, ◌≤◌, vec_len, IfOk, IfSome};
+ghost use Rattle.byte_io.specs.Files.{unknown, unknown_files};
+
+use crate::files::Files;
+use crate::inlet::CountedReader;
+use crate::whole_input::{LoadFault, load};
+use std::alloc::Global;
+use std::{fs, rt};
+
+/// The most bytes of one source.
+pub const SOURCE_LIMIT: usize = 1 << 30;
+
+/// The files and the standard input of the machine, at most `SOURCE_LIMIT` bytes of each.
+#[derive(Drop)]
+pub struct MachineFiles<'a, T> {
+    rt: &'a T,
+}
+
+impl<'a, T: rt::Files + Input> MachineFiles<'a, T> {
+    /// What the runtime reaches.
+    pub fn new(rt: &'a T) -> MachineFiles<'a, T> {
+        MachineFiles { rt }
+    }
+}
+
+impl<T: rt::Files + Input> Files for MachineFiles<'_, T> {
+    ghost known_input = { λ _. unknown };
+
+    ghost known_file = { λ _. unknown_files };
+
+    fn named(&mut self, alloc: Global, path: &str) -> Result<Vec<u8>, LoadFault>
+        ensures bytes { IfOk result (λ bytes. IfSome unknown (λ known. bytes.items ≡ known)) }
+        ensures input { unknown ≡ unknown }
+        ensures files { unknown_files ≡ unknown_files }
+        ensures within { IfOk result (λ bytes. vec_len bytes ≤ SOURCE_LIMIT) }
+    {
+        match fs::open(self.rt, path) {
+            Ok(file) => {
+                let mut reader = CountedReader::new(file);
+                load(alloc, &mut reader, SOURCE_LIMIT)
+            }
+            Err(_) => Err(LoadFault::Io),
+        }
+    }
+
+    fn input(&mut self, alloc: Global) -> Result<Vec<u8>, LoadFault>
+        ensures bytes { IfOk result (λ bytes. IfSome unknown (λ known. bytes.items ≡ known)) }
+        ensures input { unknown ≡ unknown }
+        ensures files { unknown_files ≡ unknown_files }
+        ensures within { IfOk result (λ bytes. vec_len bytes ≤ SOURCE_LIMIT) }
+    {
+        let mut reader = CountedReader::new(self.rt.reader());
+        load(alloc, &mut reader, SOURCE_LIMIT)
+    }
+}
