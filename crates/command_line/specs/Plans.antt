@@ -87,6 +87,10 @@ entered_plan = option_and_then (λ entered. command_plan entered.0 entered.1)
 abbrev pub plan_of : List Text → Option Plan
 plan_of words = entered_plan (subcommand_of command_line words)
 
+-- the plan without words: the input is folded, and each option has its default
+abbrev pub default_plan : Plan
+default_plan = record { view = Fold; options = options_of []; files = [] }
+
 -- two files are compared
 abbrev pub IsComparison : View → Type 0
 IsComparison Pairs = Unit {0}

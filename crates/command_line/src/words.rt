@@ -4,7 +4,7 @@ ghost use Rattle.clap.specs.Walk.{texts};
 ghost use Rattle.clap.specs.Words.{fault_of, kind_of, subcommand_rows_of, takes};
 ghost use Rattle.command_line.specs.CommandLine.{command_line};
 ghost use Rattle.command_line.specs.Entries.{IsFaultOf, IsFlagAt, IsNumberAt, IsRead, entries_of};
-ghost use Rattle.command_line.specs.Plans.{IsComparison, IsFaultAmong, compared_view, entered_plan, files_of, naming_of, number_at, options_of, pick_of, plan_of, values_at, view_of, width_of};
+ghost use Rattle.command_line.specs.Plans.{IsComparison, IsFaultAmong, compared_view, default_plan, entered_plan, files_of, naming_of, number_at, options_of, pick_of, plan_of, values_at, view_of, width_of};
 ghost use Rattle.command_line.specs.declared.plans.PlanFault.TheVariants.{OutOfMemory};
 
 use crate::commands::command_line;
@@ -48,6 +48,7 @@ pub fn plan(alloc: Global, words: &[String]) -> Result<Plan, PlanFault>
 
 /// The plan of a run without words: the input is folded.
 pub fn plan_without_words(alloc: Global) -> Plan
+    ensures plan { result ≡ default_plan }
     ensures view { result.view ≡ View.Fold }
     ensures files { result.files ≡ [] }
     ensures every { result.options.every ≡ None }
