@@ -7,7 +7,7 @@ use Rattle.clap.specs.Walk.{Rule, is_empty, is_simple_arg, rule_of}
 use Rattle.clap.specs.declared.builder.arg.Arg.{Arg}
 use Rattle.clap.specs.declared.builder.command.Command.{Command}
 use Rattle.clap.specs.declared.builder.command.Command.TheViews.{out-Command}
-use Rattle.command_line.specs.CommandLine.{as_app}
+use Rattle.command_line.specs.checked.Apps.{as_app}
 
 is_no : (b : Bool) → not b ≡ true → b ≡ false
 is_no false e = refl

@@ -15,8 +15,9 @@ use Rattle.clap.specs.declared.error.kind.ErrorKind.{ErrorKind}
 use Rattle.clap.specs.declared.error.kind.ErrorKind.TheVariants as kind
 use Rattle.clap.specs.declared.parser.matches.ArgMatches.{ArgMatches}
 use Rattle.command_line.specs.CommandLine.{command_line}
-use Rattle.command_line.specs.Entries.{IsFaultOf, IsNumberAt, IsRead}
+use Rattle.command_line.specs.checked.Entries.{IsFaultOf, IsNumberAt, IsRead}
 use Rattle.command_line.specs.Plans.{IsComparison, IsFaultAmong, command_plan, compared_view, entered_plan, files_of, number_at, options_of, view_of, width_of}
+use Rattle.command_line.specs.declared.commands.TheConstants.{MOST_BETWEEN_SNAPSHOTS}
 use Rattle.command_line.specs.declared.plans.Plan.{Plan}
 use Rattle.command_line.specs.declared.plans.PlanFault.{PlanFault}
 use Rattle.command_line.specs.declared.plans.PlanFault.TheVariants as fault
@@ -72,22 +73,22 @@ number_in_range id most entries number = go (one_of id entries) number
     go (Some t) known = (known.1, known.2)
 
 command_asks : (name : Text) (entries : List Row) (plan : Plan) → IsRead name entries → command_plan name entries ≡ Some plan
-    → (IsComparison plan.view → length plan.files ≡ 2) × IfSome plan.options.every (λ every. (1 ≤ every) × (every ≤ 1000000000))
+    → (IsComparison plan.view → length plan.files ≡ 2) × IfSome plan.options.every (λ every. (1 ≤ every) × (every ≤ MOST_BETWEEN_SNAPSHOTS))
 command_asks name entries plan read is = of_view (view_of name entries) refl is
   where
     of_view : (view : Option View) → view_of name entries ≡ view
         → option_map (λ v. record { view = v; options = options_of entries; files = files_of entries }) view ≡ Some plan
-        → (IsComparison plan.view → length plan.files ≡ 2) × IfSome plan.options.every (λ every. (1 ≤ every) × (every ≤ 1000000000))
+        → (IsComparison plan.view → length plan.files ≡ 2) × IfSome plan.options.every (λ every. (1 ≤ every) × (every ≤ MOST_BETWEEN_SNAPSHOTS))
     of_view None known at = cc
     of_view (Some view) known at =
         let whole : ◌≡◌ {A = Plan} (record { view = view; options = options_of entries; files = files_of entries }) plan =
         ap (λ (o : Option Plan). unwrap_or o plan) at in
-        subst (λ (p : Plan). (IsComparison p.view → length p.files ≡ 2) × IfSome p.options.every (λ every. (1 ≤ every) × (every ≤ 1000000000))) whole
-        (λ compares. read.pair (comparison_named name entries view known compares), number_in_range (codes "every") 1000000000 entries read.every)
+        subst (λ (p : Plan). (IsComparison p.view → length p.files ≡ 2) × IfSome p.options.every (λ every. (1 ≤ every) × (every ≤ MOST_BETWEEN_SNAPSHOTS))) whole
+        (λ compares. read.pair (comparison_named name entries view known compares), number_in_range (codes "every") MOST_BETWEEN_SNAPSHOTS entries read.every)
 
 pub plan_asks : (entered : Option (Text × List Row)) (plan : Plan) → IsSomeAnd entered (λ p. IsRead p.0 p.1)
     → entered_plan entered ≡ Some plan → (IsComparison plan.view → length plan.files ≡ 2)
-    × IfSome plan.options.every (λ every. (1 ≤ every) × (every ≤ 1000000000))
+    × IfSome plan.options.every (λ every. (1 ≤ every) × (every ≤ MOST_BETWEEN_SNAPSHOTS))
 plan_asks None plan read is = absurd read
 plan_asks (Some p) plan read is = command_asks p.0 p.1 plan read is
 
@@ -101,18 +102,18 @@ pub only_memory : (a : App) (words : List Text) (e : Error) → a ≡ command_li
     → (takes a words ≡ true → kind_of e ≡ kind.OutOfMemory) → takes command_line words ≡ true → kind_of e ≡ kind.OutOfMemory
 only_memory a words e is passes taken = passes (ap (λ b. takes b words) is ∙ taken)
 
-pub told_fault : (kinds : Kinds) (e : Error) (f : PlanFault) → HasKind kinds e → IsFaultOf (kind_of e) f → IsFaultAmong kinds f
-told_fault kinds e fault.OutOfMemory has told = tt
-told_fault kinds e (fault.Words text) (inl memory) told = absurd (told.1 memory)
-told_fault kinds e (fault.Words text) (inr among) told = (kind_of e, among, told.0)
-told_fault kinds e (fault.Help text) (inl memory) told =
-    let no : kind.OutOfMemory ≡ kind.DisplayHelp = sym memory ∙ told in
+pub fault_among : (kinds : Kinds) (e : Error) (f : PlanFault) → HasKind kinds e → IsFaultOf (kind_of e) f → IsFaultAmong kinds f
+fault_among kinds e fault.OutOfMemory has is = tt
+fault_among kinds e (fault.Words text) (inl memory) is = absurd (is.1 memory)
+fault_among kinds e (fault.Words text) (inr among) is = (kind_of e, among, is.0)
+fault_among kinds e (fault.Help text) (inl memory) is =
+    let no : kind.OutOfMemory ≡ kind.DisplayHelp = sym memory ∙ is in
     cc
-told_fault kinds e (fault.Help text) (inr among) told = subst (λ (k : ErrorKind). IsAmong k kinds) told among
+fault_among kinds e (fault.Help text) (inr among) is = subst (λ (k : ErrorKind). IsAmong k kinds) is among
 
-pub told_memory : (e : Error) (f : PlanFault) → kind_of e ≡ kind.OutOfMemory → IsFaultOf (kind_of e) f → f ≡ fault.OutOfMemory
-told_memory e fault.OutOfMemory memory told = refl
-told_memory e (fault.Words text) memory told = absurd (told.1 memory)
-told_memory e (fault.Help text) memory told =
-    let no : kind.OutOfMemory ≡ kind.DisplayHelp = sym memory ∙ told in
+pub fault_of_memory : (e : Error) (f : PlanFault) → kind_of e ≡ kind.OutOfMemory → IsFaultOf (kind_of e) f → f ≡ fault.OutOfMemory
+fault_of_memory e fault.OutOfMemory memory is = refl
+fault_of_memory e (fault.Words text) memory is = absurd (is.1 memory)
+fault_of_memory e (fault.Help text) memory is =
+    let no : kind.OutOfMemory ≡ kind.DisplayHelp = sym memory ∙ is in
     cc

@@ -23,8 +23,11 @@ use Rattle.clap.specs.declared.builder.value_parser.ValueParser.{ValueParser}
 use Rattle.clap.specs.declared.builder.value_parser.ValueParser.TheVariants as vp
 use Rattle.clap.proofs.ValueTestLemmas.{accepts-Accepts}
 use Rattle.clap.proofs.WalkLemmas.{both}
+use Rattle.run_options.specs.declared.ring_sizes.TheConstants.{LARGEST_RING}
+use Rattle.run_options.specs.declared.widths.TheConstants.{MAX_WIDTH}
+use Rattle.command_line.specs.declared.commands.TheConstants.{MOST_BETWEEN_SNAPSHOTS}
 use Rattle.command_line.specs.CommandLine.{command_line}
-use Rattle.command_line.specs.Entries.{IsFlagAt, IsNumberAt, IsRead}
+use Rattle.command_line.specs.checked.Entries.{IsFlagAt, IsNumberAt, IsRead}
 use Rattle.command_line.specs.Plans.{files_of, values_at, view_of}
 use Rattle.command_line.proofs.PassedLevels.{level_holds}
 use Rattle.command_line.proofs.PassedUses.{IsFirstOfId, IsRow, IsRowOf, IsSingle, found_each}
@@ -163,9 +166,9 @@ IsFlagRule found = IfSome found (λ a. a.parser ≡ Some vp.Bool)
 -- the arguments of a command that are numbers and flags
 record KnowsArguments (c : List Rule) : Type 0 where
   firsts : Each (IsFirstOfId c) c
-  width : IsNumberRule 65536 (arg_by_id c (codes "width"))
-  ring : IsNumberRule 65536 (arg_by_id c (codes "ring"))
-  every : IsNumberRule 1000000000 (arg_by_id c (codes "every"))
+  width : IsNumberRule MAX_WIDTH (arg_by_id c (codes "width"))
+  ring : IsNumberRule LARGEST_RING (arg_by_id c (codes "ring"))
+  every : IsNumberRule MOST_BETWEEN_SNAPSHOTS (arg_by_id c (codes "every"))
   lines : IsFlagRule (arg_by_id c (codes "lines"))
   boxes : IsFlagRule (arg_by_id c (codes "boxes"))
 
@@ -183,9 +186,9 @@ module _ (s : Shape) (known : KnowsArguments s.rules) (once : s.args_override_se
   reads_command : IsSome (view_of s.name rows) → (s.name ≡ codes "compare" → length (files_of rows) ≡ 2) → IsRead s.name rows
   reads_command viewed pair = record {
     command = viewed;
-    width = number_at_id s.rules rows each_row (codes "width") 65536 known.width;
-    ring = number_at_id s.rules rows each_row (codes "ring") 65536 known.ring;
-    every = number_at_id s.rules rows each_row (codes "every") 1000000000 known.every;
+    width = number_at_id s.rules rows each_row (codes "width") MAX_WIDTH known.width;
+    ring = number_at_id s.rules rows each_row (codes "ring") LARGEST_RING known.ring;
+    every = number_at_id s.rules rows each_row (codes "every") MOST_BETWEEN_SNAPSHOTS known.every;
     lines = flag_at_id s.rules rows each_row (codes "lines") known.lines;
     boxes = flag_at_id s.rules rows each_row (codes "boxes") known.boxes;
     pair = pair;

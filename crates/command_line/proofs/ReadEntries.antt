@@ -10,7 +10,7 @@ use Rattle.clap.specs.Walk.{Text, one_of}
 use Rattle.clap.specs.declared.parser.matches.ArgMatches.{ArgMatches}
 use Rattle.clap.proofs.WalkLemmas.{first_value-rows, one_text-rows, raw_values-rows}
 use Rattle.run_options.specs.declared.choices.Pick.TheVariants.{Preferred, Named}
-use Rattle.command_line.specs.Entries.{IsFlagAt, IsNumberAt, entries_of}
+use Rattle.command_line.specs.checked.Entries.{IsFlagAt, IsNumberAt, entries_of}
 use Rattle.command_line.specs.Plans.{is_set, number_at, pick_of, values_at}
 
 -- how `u32` reads a text

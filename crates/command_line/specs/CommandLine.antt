@@ -4,6 +4,9 @@ use Rattle.clap.specs.Simple.{App, Shape, new_rule, new_shape}
 use Rattle.clap.specs.Walk.{Rule, Text}
 use Rattle.clap.specs.declared.builder.action.ArgAction.TheVariants.{Append, SetTrue}
 use Rattle.clap.specs.declared.builder.value_parser.ValueParser.TheVariants.{Signed}
+use Rattle.run_options.specs.declared.ring_sizes.TheConstants.{LARGEST_RING}
+use Rattle.run_options.specs.declared.widths.TheConstants.{MAX_WIDTH}
+use Rattle.command_line.specs.declared.commands.TheConstants.{MOST_BETWEEN_SNAPSHOTS}
 
 -- an option with a value: a text, or a number from 1 to `most`
 abbrev pub text_option : Text → Rule
@@ -24,16 +27,16 @@ abbrev pub one_file : Text → Rule
 one_file name = record (new_rule name) { value_names = 1; required = true }
 
 abbrev pub width_option : Rule
-width_option = number_option (codes "width") 65536
+width_option = number_option (codes "width") MAX_WIDTH
 
 abbrev pub type_option : Rule
 type_option = text_option (codes "type")
 
 abbrev pub ring_option : Rule
-ring_option = number_option (codes "ring") 65536
+ring_option = number_option (codes "ring") LARGEST_RING
 
 abbrev pub every_option : Rule
-every_option = number_option (codes "every") 1000000000
+every_option = number_option (codes "every") MOST_BETWEEN_SNAPSHOTS
 
 abbrev pub lines_flag : Rule
 lines_flag = flag (codes "lines")
@@ -41,12 +44,9 @@ lines_flag = flag (codes "lines")
 abbrev pub boxes_flag : Rule
 boxes_flag = flag (codes "boxes")
 
--- a command with its arguments, and what `clap` reads of it on its own
+-- a command with its arguments
 abbrev pub command : Text → List Rule → Shape
 command name arguments = record (new_shape name) { rules = arguments }
-
-abbrev pub as_app : Shape → App
-as_app shape = record { top = shape; subs = [] }
 
 abbrev pub fold_command : Shape
 fold_command = command (codes "fold")

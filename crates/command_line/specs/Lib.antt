@@ -1,4 +1,4 @@
 -- The definitions that the contracts of command_line cite.
 pub mod CommandLine
-pub mod Entries
 pub mod Plans
+pub mod checked

@@ -1,15 +1,16 @@
 //! The command line, as `clap` reads it and as its help shows it.
 ghost use Rattle.std.specs.Prelude.{◌≡◌, IfOk, codes};
 ghost use Rattle.clap.specs.Words.{app_of, rule_of};
-ghost use Rattle.command_line.specs.CommandLine.{as_app, chart_command, command_line, compare_command, fold_command, graph_command};
+ghost use Rattle.command_line.specs.CommandLine.{chart_command, command_line, compare_command, fold_command, graph_command};
 ghost use Rattle.command_line.specs.CommandLine.{any_files, boxes_flag, every_option, lines_flag, one_file, ring_option, type_option, width_option};
+ghost use Rattle.command_line.specs.checked.Apps.{as_app};
 
 use clap::{Arg, ArgAction, Command, value_parser};
 use run_options::{LARGEST_RING, MAX_WIDTH};
 use std::alloc::{AllocError, Global};
 
 // The most samples from one snapshot to the next.
-const MOST_BETWEEN_SNAPSHOTS: i64 = 1_000_000_000;
+const MOST_BETWEEN_SNAPSHOTS: u32 = 1_000_000_000;
 
 // The whole command line. Its words begin after the program's name.
 pub(crate) fn command_line<'a>(alloc: Global) -> Result<Command<'a>, AllocError>
@@ -111,7 +112,7 @@ fn every_option<'a>(alloc: Global) -> Arg<'a>
     Arg::new(alloc, "every")
         .long("every")
         .value_name("N")
-        .value_parser(value_parser!(u32).range(1..=MOST_BETWEEN_SNAPSHOTS))
+        .value_parser(value_parser!(u32).range(1..=i64::from(MOST_BETWEEN_SNAPSHOTS)))
         .help("Write a snapshot after every N samples too, 1 to 1000000000")
 }
 

@@ -5,6 +5,8 @@ ghost use Rattle.command_line.specs.declared.plans.PlanFault.TheVariants.{OutOfM
 use run_options::{Options, Width};
 use stack_core::Names;
 use std::alloc::AllocError;
+use std::error::Error;
+use std::fmt;
 
 /// What a run shows of the collected samples.
 #[derive(Clone, Copy, Debug, PartialEq)]
@@ -40,6 +42,17 @@ pub enum PlanFault {
     /// Help was asked for: the text for standard output.
     Help(String),
 }
+
+impl fmt::Display for PlanFault {
+    fn fmt<W: fmt::Write>(&self, f: &mut fmt::Formatter<W>) -> fmt::Result {
+        match self {
+            PlanFault::Words(text) | PlanFault::Help(text) => f.write_str(text.as_str()),
+            PlanFault::OutOfMemory => f.write_str("out of memory"),
+        }
+    }
+}
+
+impl Error for PlanFault {}
 
 impl From<AllocError> for PlanFault {
     ghost from_gives = { λ _ fault. fault ≡ OutOfMemory };

@@ -1,2 +1,3 @@
 //! Worked command lines.
+mod examples;
 mod words;

@@ -3,9 +3,12 @@ ghost use Rattle.std.specs.Prelude.{◌≡◌, ◌≤◌, ◌++◌, [], None, If
 ghost use Rattle.clap.specs.Walk.{texts};
 ghost use Rattle.clap.specs.Words.{fault_of, kind_of, subcommand_rows_of, takes};
 ghost use Rattle.command_line.specs.CommandLine.{command_line};
-ghost use Rattle.command_line.specs.Entries.{IsFaultOf, IsFlagAt, IsNumberAt, IsRead, entries_of};
 ghost use Rattle.command_line.specs.Plans.{IsComparison, IsFaultAmong, compared_view, default_plan, entered_plan, files_of, naming_of, number_at, options_of, pick_of, plan_of, values_at, view_of, width_of};
+ghost use Rattle.command_line.specs.checked.Entries.{IsFaultOf, IsFlagAt, IsNumberAt, IsRead, entries_of};
+ghost use Rattle.command_line.specs.declared.commands.TheConstants.{MOST_BETWEEN_SNAPSHOTS};
 ghost use Rattle.command_line.specs.declared.plans.PlanFault.TheVariants.{OutOfMemory};
+ghost use Rattle.run_options.specs.declared.ring_sizes.TheConstants.{LARGEST_RING};
+ghost use Rattle.run_options.specs.declared.widths.TheConstants.{MAX_WIDTH};
 
 use crate::commands::command_line;
 use crate::plans::{Plan, PlanFault, View};
@@ -65,7 +68,7 @@ pub fn plan_without_words(alloc: Global) -> Plan
     }
 }
 
-// What the error is told as.
+// What the error is for the caller.
 fn refusal(alloc: Global, error: &Error) -> PlanFault
     ensures { IsFaultOf (kind_of error.now) result }
 {
@@ -110,7 +113,7 @@ fn view(name: &str, entries: &ArgMatches<'_>) -> View
 }
 
 fn compared_view(entries: &ArgMatches<'_>) -> View
-    requires width { IsNumberAt (codes "width") 65536 (entries_of entries.now) }
+    requires width { IsNumberAt (codes "width") MAX_WIDTH (entries_of entries.now) }
     requires boxes { IsFlagAt (codes "boxes") (entries_of entries.now) }
     ensures { result ≡ compared_view (entries_of entries.now) }
 {
@@ -122,7 +125,7 @@ fn compared_view(entries: &ArgMatches<'_>) -> View
 }
 
 fn width(entries: &ArgMatches<'_>) -> Width
-    requires { IsNumberAt (codes "width") 65536 (entries_of entries.now) }
+    requires { IsNumberAt (codes "width") MAX_WIDTH (entries_of entries.now) }
     ensures { result ≡ width_of (entries_of entries.now) }
 {
     let pixels = entries.get_one::<u32>("width").unwrap_or(DEFAULT_WIDTH);
@@ -130,8 +133,8 @@ fn width(entries: &ArgMatches<'_>) -> Width
 }
 
 fn options(alloc: Global, entries: &ArgMatches<'_>) -> Result<Options, AllocError>
-    requires ring { IsNumberAt (codes "ring") 65536 (entries_of entries.now) }
-    requires every { IsNumberAt (codes "every") 1000000000 (entries_of entries.now) }
+    requires ring { IsNumberAt (codes "ring") LARGEST_RING (entries_of entries.now) }
+    requires every { IsNumberAt (codes "every") MOST_BETWEEN_SNAPSHOTS (entries_of entries.now) }
     requires lines { IsFlagAt (codes "lines") (entries_of entries.now) }
     ensures { IfOk result (λ options. options ≡ options_of (entries_of entries.now)) }
 {
@@ -144,7 +147,7 @@ fn options(alloc: Global, entries: &ArgMatches<'_>) -> Result<Options, AllocErro
 }
 
 fn ring(entries: &ArgMatches<'_>) -> RingSize
-    requires { IsNumberAt (codes "ring") 65536 (entries_of entries.now) }
+    requires { IsNumberAt (codes "ring") LARGEST_RING (entries_of entries.now) }
     ensures { result ≡ (options_of (entries_of entries.now)).ring }
 {
     let items = entries.get_one::<u32>("ring").unwrap_or(DEFAULT_RING);
@@ -172,7 +175,7 @@ fn naming(entries: &ArgMatches<'_>) -> Naming
 }
 
 fn every(entries: &ArgMatches<'_>) -> Option<u64>
-    requires { IsNumberAt (codes "every") 1000000000 (entries_of entries.now) }
+    requires { IsNumberAt (codes "every") MOST_BETWEEN_SNAPSHOTS (entries_of entries.now) }
     ensures { result ≡ number_at (codes "every") (entries_of entries.now) }
 {
     entries.get_one::<u32>("every").map(u64::from)

@@ -13,3 +13,6 @@ pub use formats::{Format, format_of};
 pub use options::Options;
 pub use ring_sizes::{LARGEST_RING, RingSize};
 pub use widths::{MAX_WIDTH, Width};
+
+#[cfg(test)]
+mod tests;

@@ -1,6 +1,7 @@
 //! How many items a ring holds.
 
-ghost use Rattle.std.specs.Prelude.{◌≡◌, ◌≤◌, ◌↔◌, IsSome, IfSome, ℕ};
+ghost use Rattle.std.specs.Prelude.{◌≡◌, ◌≤◌, ◌↔◌, IsSome, IfSome};
+ghost use Rattle.run_options.specs.declared.ring_sizes.TheConstants.{LARGEST_RING};
 
 use std::marker::Model;
 
@@ -8,7 +9,7 @@ use std::marker::Model;
 pub const LARGEST_RING: u32 = 65_536;
 
 /// The size of a ring: 1 to 65,536 items.
-#[derive(Clone, Copy, Debug)]
+#[derive(Clone, Copy, Debug, PartialEq, Eq)]
 pub struct RingSize {
     items: u32,
 }
@@ -32,16 +33,17 @@ impl RingSize {
         ensures range { IsSome result ↔ ((1 ≤ items) × (items ≤ 65536)) }
         ensures size { IfSome result (λ size. size ≡ items) }
     {
-        if items == 0 || items > LARGEST_RING {
-            return None;
+        if (1..=LARGEST_RING).contains(&items) {
+            Some(RingSize { items })
+        } else {
+            None
         }
-        Some(RingSize { items })
     }
 
     /// The number of items.
     pub fn get(self) -> u32
         ensures number { result ≡ self }
-        ensures range { (1 ≤ result) × (result ≤ 65536) }
+        ensures range { (1 ≤ result) × (result ≤ LARGEST_RING) }
     {
         self.items
     }

@@ -1,6 +1,7 @@
 //! The width of an image.
 
 ghost use Rattle.std.specs.Prelude.{◌≡◌, ◌≤◌, SomeIff};
+ghost use Rattle.run_options.specs.declared.widths.TheConstants.{MAX_WIDTH};
 
 use std::marker::Model;
 
@@ -31,7 +32,7 @@ impl Width {
     pub fn of(pixels: u32) -> Option<Width>
         ensures { SomeIff result ((1 ≤ pixels) × (pixels ≤ 65536)) pixels }
     {
-        if pixels >= 1 && pixels <= MAX_WIDTH {
+        if (1..=MAX_WIDTH).contains(&pixels) {
             Some(Width { pixels })
         } else {
             None
@@ -42,7 +43,7 @@ impl Width {
     pub fn get(self) -> u32
         ensures number { result ≡ self }
         ensures least { 1 ≤ result }
-        ensures most { result ≤ 65536 }
+        ensures most { result ≤ MAX_WIDTH }
     {
         self.pixels
     }

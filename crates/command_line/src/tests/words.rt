@@ -1,13 +1,13 @@
 //! Worked command lines.
 
 use crate::{Plan, PlanFault, View, plan};
-use run_options::{Format, Naming, Options, Pick, Width, format_of};
+use run_options::{Naming, Options, Pick, Width};
 use std::alloc::Global;
 use std::process::Abort;
 use std::test::Fail;
 
 // The plan of the words of a line, which stand between single spaces.
-fn planned(alloc: Global, line: &str) -> Result<Plan, PlanFault> {
+pub(crate) fn planned(alloc: Global, line: &str) -> Result<Plan, PlanFault> {
     let mut words = Vec::new(alloc);
     for word in line.split(' ') {
         words
@@ -282,23 +282,4 @@ fn help_lists_the_commands(rt: HostRuntime) -> Result<(), Fail> {
 fn no_words(rt: HostRuntime) {
     let answer = plan(rt.alloc(), &[]);
     assert!(rt; matches!(answer, Err(PlanFault::Words(_))));
-}
-
-#[test]
-fn formats_by_name(rt: HostRuntime) {
-    for path in ["cpu.prof", "x.pprof", "x.pb", "a/b.c/d.pb", ".prof"] {
-        assert_eq!(rt; format_of(path), Format::Pprof, "{path}");
-    }
-    for path in [
-        "x.folded",
-        "-",
-        "",
-        "prof",
-        "x.prof.txt",
-        "x.PROF",
-        "pb",
-        "x.pb.gz",
-    ] {
-        assert_eq!(rt; format_of(path), Format::Folded, "{path}");
-    }
 }

@@ -1,6 +1,6 @@
 use Rattle.std.proofs.Common.{◌∙◌, ap, map, string_bytes, sym}
 use Rattle.command_line.specs.Plans.{entered_plan}
-use Rattle.command_line.proofs.PlannedWords.{entered_reads, entered_rows, error_kind, no_fault, only_memory, plan_asks, told_fault, told_memory}
+use Rattle.command_line.proofs.PlannedWords.{entered_reads, entered_rows, error_kind, fault_among, fault_of_memory, no_fault, only_memory, plan_asks}
 use Rattle.command_line.proofs.words.plan.Goals as goal
 
 pub planned-requires : goal.planned-requires
@@ -31,9 +31,9 @@ returns-in_ok-planned-in-Ok-clause-every c =
 pub returns-in-Err-clause-refused : goal.returns-in-Err-clause-refused
 returns-in-Err-clause-refused c =
     let has = error_kind _ (map string_bytes c.args.words.now) c.in-Err.error c.in_ok-line.ensures c.in-Err.ensures.kinds in
-    told_fault _ c.in-Err.error c.refusal.result has c.refusal.ensures
+    fault_among _ c.in-Err.error c.refusal.result has c.refusal.ensures
 
 pub returns-in-Err-clause-passes : goal.returns-in-Err-clause-passes
 returns-in-Err-clause-passes c = λ taken.
     let memory = only_memory _ (map string_bytes c.args.words.now) c.in-Err.error c.in_ok-line.ensures c.in-Err.ensures.passes taken in
-    told_memory c.in-Err.error c.refusal.result memory c.refusal.ensures
+    fault_of_memory c.in-Err.error c.refusal.result memory c.refusal.ensures

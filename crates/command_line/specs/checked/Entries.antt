@@ -6,7 +6,10 @@ use Rattle.clap.specs.Walk.{Row, Text, one_of, rows_of}
 use Rattle.clap.specs.declared.error.kind.ErrorKind.{ErrorKind}
 use Rattle.clap.specs.declared.error.kind.ErrorKind.TheVariants as kind
 use Rattle.clap.specs.declared.parser.matches.ArgMatches.{ArgMatches}
+use Rattle.run_options.specs.declared.ring_sizes.TheConstants.{LARGEST_RING}
+use Rattle.run_options.specs.declared.widths.TheConstants.{MAX_WIDTH}
 use Rattle.command_line.specs.Plans.{files_of, view_of}
+use Rattle.command_line.specs.declared.commands.TheConstants.{MOST_BETWEEN_SNAPSHOTS}
 use Rattle.command_line.specs.declared.plans.PlanFault.{PlanFault}
 use Rattle.command_line.specs.declared.plans.PlanFault.TheVariants as fault
 
@@ -27,14 +30,14 @@ IsFlagAt id entries =
 -- the command is one of the four, its values are read as they are meant, and a comparison has two files
 pub record IsRead (name : Text) (entries : List Row) : Type 0 where
   pub command : IsSome (view_of name entries)
-  pub width : IsNumberAt (codes "width") 65536 entries
-  pub ring : IsNumberAt (codes "ring") 65536 entries
-  pub every : IsNumberAt (codes "every") 1000000000 entries
+  pub width : IsNumberAt (codes "width") MAX_WIDTH entries
+  pub ring : IsNumberAt (codes "ring") LARGEST_RING entries
+  pub every : IsNumberAt (codes "every") MOST_BETWEEN_SNAPSHOTS entries
   pub lines : IsFlagAt (codes "lines") entries
   pub boxes : IsFlagAt (codes "boxes") entries
   pub pair : name ≡ codes "compare" → length (files_of entries) ≡ 2
 
--- what an error of that kind is told as
+-- what an error of that kind is for the caller
 abbrev pub IsFaultOf : ErrorKind → PlanFault → Type 0
 IsFaultOf k (fault.Words text) = (k ≢ kind.DisplayHelp) × (k ≢ kind.OutOfMemory)
 IsFaultOf k (fault.Help text) = k ≡ kind.DisplayHelp
