@@ -18,7 +18,7 @@ use call_tree::FrameTable;
 use flame_layout::{SpanBox, Width, graph_boxes};
 use merging::{Gathered, Snapshot};
 use std::alloc::{AllocError, Global};
-use view_texts::{append_boxes_line, append_snapshot_line};
+use view_texts::{Scale, append_boxes_line, append_snapshot_line};
 
 // Appends the line of the chart. An `Err` changes nothing.
 pub(crate) fn append_chart(
@@ -33,7 +33,11 @@ pub(crate) fn append_chart(
         ++ chart_text width (samples_of gathered.now.lists)) }
     ensures err { OnErr result (out.new.items ≡ out.old.items) }
 {
-    append_boxes_line(alloc, out, "chart", boxes, total_of(gathered), width)
+    let scale = Scale {
+        total: total_of(gathered),
+        width,
+    };
+    append_boxes_line(alloc, out, "chart", boxes, &scale)
 }
 
 // Appends the line of each snapshot, and then that of the graph. An `Err` changes nothing.
@@ -71,7 +75,11 @@ fn append_graph_lines(
     ensures front { StartsWith out.new.items out.old.items }
 {
     append_snapshots(alloc, out, gathered, width)?;
-    append_boxes_line(alloc, out, "graph", boxes, total_of(gathered), width)
+    let scale = Scale {
+        total: total_of(gathered),
+        width,
+    };
+    append_boxes_line(alloc, out, "graph", boxes, &scale)
 }
 
 // Appends the lines of the snapshots, or of those at the front.
@@ -131,7 +139,8 @@ fn append_drawn(
     let boxes = graph_boxes(alloc, &snapshot.tree, table)?;
     let counts = filled_counts(alloc, snapshot.counts.get(), sources)?;
     let total = snapshot.tree.total(&[]) as u64;
-    append_snapshot_line(alloc, out, snapshot.at, &counts, &boxes, total, width)
+    let scale = Scale { total, width };
+    append_snapshot_line(alloc, out, snapshot.at, &counts, &boxes, &scale)
 }
 
 // A count for each source, 0 where there is none.

@@ -16,7 +16,7 @@ use flame_layout::{Width, compare, compared_boxes};
 use merging::Gathered;
 use stack_core::SourceList;
 use std::alloc::{AllocError, Global};
-use view_texts::{append_fold_text, append_pair_boxes_line, append_pairs_text};
+use view_texts::{Scale, append_fold_text, append_pair_boxes_line, append_pairs_text};
 
 /// Appends the whole text of a view: folded lines, two-column lines, or lines of JSON. An `Err` changes
 /// nothing. The two views of a comparison are of exactly two sources.
@@ -118,5 +118,6 @@ fn append_compared(
     let rows = compare(alloc, before, after)?;
     let boxes = compared_boxes(alloc, &rows)?;
     let total = after.total() as u64;
-    append_pair_boxes_line(alloc, out, before.total() as u64, &boxes, total, width)
+    let scale = Scale { total, width };
+    append_pair_boxes_line(alloc, out, before.total() as u64, &boxes, &scale)
 }

@@ -32,7 +32,7 @@ use Rattle.flame_layout.proofs.Held.{own_le, listing_chained, each_path}
 use Rattle.flame_layout.proofs.GraphBoxes.{each_at, tree_weight}
 use Rattle.view_texts.specs.Fold.{Weighed, sum_at, merged, weighed, lines_of, if_positive, fold_text}
 use Rattle.view_texts.proofs.MergedRows.{is_true, as_true, sum_at-cons, sum_at-nil, merged-only, merged-same}
-use Rattle.view_texts.specs.Visited.{next_names, visited_lines}
+use Rattle.view_texts.specs.checked.Visited.{next_names, visited_lines}
 
 -- ---- the lines of the visits
 

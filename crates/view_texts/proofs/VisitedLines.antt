@@ -7,7 +7,7 @@ use Rattle.std.proofs.lemmas.Bool.{lt-ltb, le-ltb}
 use Rattle.call_tree.specs.declared.listing.Visit.{Visit}
 use Rattle.folded_lines.specs.Writing.{line_of}
 use Rattle.flame_layout.specs.Timeline.{Stack}
-use Rattle.view_texts.specs.Visited.{next_names, visited_lines}
+use Rattle.view_texts.specs.checked.Visited.{next_names, visited_lines}
 
 -- the names of the path of the last visit
 abbrev pub names_after : List (List ℕ) → Stack → List Visit → Stack

@@ -3,4 +3,4 @@ pub mod Fold
 pub mod Json
 pub mod JsonLaws
 pub mod Pairs
-pub mod Visited
+pub mod checked

@@ -6,7 +6,7 @@ ghost use Rattle.call_tree.specs.CallTree.{total_weight};
 ghost use Rattle.call_tree.specs.Listing.{HasNumbersOf};
 ghost use Rattle.flame_layout.specs.Paths.{SameOwn, tree_samples};
 ghost use Rattle.view_texts.specs.Fold.{fold_text};
-ghost use Rattle.view_texts.specs.Visited.{next_names, visited_lines};
+ghost use Rattle.view_texts.specs.checked.Visited.{next_names, visited_lines};
 
 use crate::rollback::truncate_on_error;
 use call_tree::{CallTree, FrameTable, Visit};

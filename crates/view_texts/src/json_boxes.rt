@@ -7,28 +7,23 @@ ghost use Rattle.flame_layout.specs.Edges.{placed_at};
 ghost use Rattle.view_texts.specs.Json.{box_data, box_members, compared_box_data};
 
 use crate::json_pieces::{append_number, append_text};
-use flame_layout::{ComparedBox, SpanBox, Width, edges};
+use crate::scales::Scale;
+use flame_layout::{ComparedBox, SpanBox, edges};
 use std::alloc::{AllocError, Global};
 
 // A box of a line, which is an object there.
 pub(crate) trait JsonBox {
-    // The object, in an image of that width whose boxes span that total.
+    // The object, in an image of that total and width.
     ghost object_of: { ℕ → ℕ → Self → Data };
 
     // Where the box ends.
     ghost end: { Self → ℕ };
 
-    fn append(
-        &self,
-        alloc: Global,
-        text: &mut Vec<u8>,
-        total: u64,
-        width: Width,
-    ) -> Result<(), AllocError>
-        requires within { end self.now ≤ total }
-        requires positive { 0 < total }
-        ensures { OnOk result
-            (text.new.items ≡ text.old.items ++ compact_text (object_of total width self.now)) };
+    fn append(&self, alloc: Global, text: &mut Vec<u8>, scale: &Scale) -> Result<(), AllocError>
+        requires within { end self.now ≤ scale.now.total }
+        requires positive { 0 < scale.now.total }
+        ensures { OnOk result (text.new.items
+            ≡ text.old.items ++ compact_text (object_of scale.now.total scale.now.width self.now)) };
 }
 
 impl JsonBox for SpanBox {
@@ -36,15 +31,9 @@ impl JsonBox for SpanBox {
 
     ghost end = { λ span. span.start + span.weight };
 
-    fn append(
-        &self,
-        alloc: Global,
-        text: &mut Vec<u8>,
-        total: u64,
-        width: Width,
-    ) -> Result<(), AllocError> {
+    fn append(&self, alloc: Global, text: &mut Vec<u8>, scale: &Scale) -> Result<(), AllocError> {
         text.push(b'{')?;
-        append_members(alloc, text, self, total, width)
+        append_members(alloc, text, self, scale)
     }
 }
 
@@ -53,16 +42,10 @@ impl JsonBox for ComparedBox {
 
     ghost end = { λ compared. compared.span.start + compared.span.weight };
 
-    fn append(
-        &self,
-        alloc: Global,
-        text: &mut Vec<u8>,
-        total: u64,
-        width: Width,
-    ) -> Result<(), AllocError> {
+    fn append(&self, alloc: Global, text: &mut Vec<u8>, scale: &Scale) -> Result<(), AllocError> {
         append_number(text, b"{\"before\":", self.before)?;
         text.push(b',')?;
-        append_members(alloc, text, &self.span, total, width)
+        append_members(alloc, text, &self.span, scale)
     }
 }
 
@@ -71,15 +54,14 @@ fn append_members(
     alloc: Global,
     text: &mut Vec<u8>,
     span: &SpanBox,
-    total: u64,
-    width: Width,
+    scale: &Scale,
 ) -> Result<(), AllocError>
-    requires within { span.now.start + span.now.weight ≤ total }
-    requires positive { 0 < total }
-    ensures { OnOk result (text.new.items
-        ≡ text.old.items ++ members_text false (box_members (placed_at total width span.now))) }
+    requires within { span.now.start + span.now.weight ≤ scale.now.total }
+    requires positive { 0 < scale.now.total }
+    ensures { OnOk result (text.new.items ≡ text.old.items
+        ++ members_text false (box_members (placed_at scale.now.total scale.now.width span.now))) }
 {
-    let (left, right) = edges(span, total, width);
+    let (left, right) = edges(span, scale.total, scale.width);
     append_number(text, b"\"depth\":", u64::from(span.depth))?;
     append_number(text, b",\"left\":", u64::from(left))?;
     append_text(alloc, text, b",\"name\":", span.name.get())?;

@@ -9,45 +9,46 @@ ghost use Rattle.view_texts.specs.Json.{list_data, view_members, boxes_line, sna
 use crate::json_boxes::JsonBox;
 use crate::json_pieces::{append_number, append_numbers, append_text, comma_if};
 use crate::rollback::truncate_on_error;
-use flame_layout::{ComparedBox, SpanBox, Width};
+use crate::scales::Scale;
+use flame_layout::{ComparedBox, SpanBox};
 use std::alloc::{AllocError, Global};
 
 /// Appends the line of a picture: the name of its view, as `graph` or `chart`, and its boxes in their
-/// order, in an image of that many pixels whose boxes span the total. An `Err` changes nothing.
+/// order, in an image of that scale. An `Err` changes nothing.
 pub fn append_boxes_line(
     alloc: Global,
     out: &mut Vec<u8>,
     view: &str,
     boxes: &[SpanBox],
-    total: u64,
-    width: Width,
+    scale: &Scale,
 ) -> Result<(), AllocError>
-    requires within { All (λ span. span.start + span.weight ≤ total) boxes.now }
-    requires positive { 0 < length boxes.now → 0 < total }
+    requires within { All (λ span. span.start + span.weight ≤ scale.now.total) boxes.now }
+    requires positive { 0 < length boxes.now → 0 < scale.now.total }
     ensures ok { OnOk result
-        (out.new.items ≡ out.old.items ++ boxes_line view.now total width boxes.now) }
+        (out.new.items ≡ out.old.items
+        ++ boxes_line view.now scale.now.total scale.now.width boxes.now) }
     ensures err { OnErr result (out.new.items ≡ out.old.items) }
 {
     let mut tail = Vec::new(alloc);
-    append_tail(alloc, &mut tail, view, total, width)?;
-    append_line(alloc, out, b"{\"boxes\":", boxes, &tail, total, width)
+    append_tail(alloc, &mut tail, view, scale)?;
+    append_line(alloc, out, b"{\"boxes\":", boxes, &tail, scale)
 }
 
 /// Appends the line of a snapshot: after how many samples it was made, how many of them each source
-/// has, and its boxes and their total. An `Err` changes nothing.
+/// has, and its boxes in an image of that scale. An `Err` changes nothing.
 pub fn append_snapshot_line(
     alloc: Global,
     out: &mut Vec<u8>,
     at: u64,
     counts: &[u64],
     boxes: &[SpanBox],
-    total: u64,
-    width: Width,
+    scale: &Scale,
 ) -> Result<(), AllocError>
-    requires within { All (λ span. span.start + span.weight ≤ total) boxes.now }
-    requires positive { 0 < length boxes.now → 0 < total }
+    requires within { All (λ span. span.start + span.weight ≤ scale.now.total) boxes.now }
+    requires positive { 0 < length boxes.now → 0 < scale.now.total }
     ensures ok { OnOk result
-        (out.new.items ≡ out.old.items ++ snapshot_line at counts.now total width boxes.now) }
+        (out.new.items ≡ out.old.items
+        ++ snapshot_line at counts.now scale.now.total scale.now.width boxes.now) }
     ensures err { OnErr result (out.new.items ≡ out.old.items) }
 {
     let mut head = Vec::new(alloc);
@@ -55,33 +56,33 @@ pub fn append_snapshot_line(
     head.extend_from_slice(b",\"boxes\":")?;
     let mut tail = Vec::new(alloc);
     append_numbers(&mut tail, b",\"counts\":", counts)?;
-    append_tail(alloc, &mut tail, "snapshot", total, width)?;
-    append_line(alloc, out, &head, boxes, &tail, total, width)
+    append_tail(alloc, &mut tail, "snapshot", scale)?;
+    append_line(alloc, out, &head, boxes, &tail, scale)
 }
 
 /// Appends the line of a comparison: the total of the profile before, and the boxes of the profile
-/// after and their total, each box with the total of its path before. An `Err` changes nothing.
+/// after in an image of that scale, each with the total of its path before. An `Err` changes nothing.
 pub fn append_pair_boxes_line(
     alloc: Global,
     out: &mut Vec<u8>,
     before: u64,
     boxes: &[ComparedBox],
-    total: u64,
-    width: Width,
+    scale: &Scale,
 ) -> Result<(), AllocError>
     requires within { All (λ compared.
-        compared.span.start + compared.span.weight ≤ total) boxes.now }
-    requires positive { 0 < length boxes.now → 0 < total }
+        compared.span.start + compared.span.weight ≤ scale.now.total) boxes.now }
+    requires positive { 0 < length boxes.now → 0 < scale.now.total }
     ensures ok { OnOk result
-        (out.new.items ≡ out.old.items ++ pair_boxes_line before total width boxes.now) }
+        (out.new.items ≡ out.old.items
+        ++ pair_boxes_line before scale.now.total scale.now.width boxes.now) }
     ensures err { OnErr result (out.new.items ≡ out.old.items) }
 {
     let mut head = Vec::new(alloc);
     append_number(&mut head, b"{\"before\":", before)?;
     head.extend_from_slice(b",\"boxes\":")?;
     let mut tail = Vec::new(alloc);
-    append_tail(alloc, &mut tail, "compare", total, width)?;
-    append_line(alloc, out, &head, boxes, &tail, total, width)
+    append_tail(alloc, &mut tail, "compare", scale)?;
+    append_line(alloc, out, &head, boxes, &tail, scale)
 }
 
 // Appends the members that each line ends with, the bracket after them, and a line feed.
@@ -89,15 +90,14 @@ fn append_tail(
     alloc: Global,
     tail: &mut Vec<u8>,
     view: &str,
-    total: u64,
-    width: Width,
+    scale: &Scale,
 ) -> Result<(), AllocError>
-    ensures { OnOk result (tail.new.items
-        ≡ tail.old.items ++ (members_text true (view_members view.now total width) ++ 10 ∷ [])) }
+    ensures { OnOk result (tail.new.items ≡ tail.old.items
+        ++ (members_text true (view_members view.now scale.now.total scale.now.width) ++ 10 ∷ [])) }
 {
-    append_number(tail, b",\"total\":", total)?;
+    append_number(tail, b",\"total\":", scale.total)?;
     append_text(alloc, tail, b",\"view\":", view)?;
-    append_number(tail, b",\"width\":", u64::from(width.get()))?;
+    append_number(tail, b",\"width\":", u64::from(scale.width.get()))?;
     tail.extend_from_slice(b"}\n")
 }
 
@@ -109,17 +109,17 @@ fn append_line<B: JsonBox>(
     head: &[u8],
     boxes: &[B],
     tail: &[u8],
-    total: u64,
-    width: Width,
+    scale: &Scale,
 ) -> Result<(), AllocError>
-    requires within { All (λ item. B.end item ≤ total) boxes.now }
-    requires positive { 0 < length boxes.now → 0 < total }
+    requires within { All (λ item. B.end item ≤ scale.now.total) boxes.now }
+    requires positive { 0 < length boxes.now → 0 < scale.now.total }
     ensures ok { OnOk result (out.new.items ≡ out.old.items ++ (head.now
-        ++ (compact_text (list_data (map (B.object_of total width) boxes.now)) ++ tail.now))) }
+        ++ (compact_text (list_data (map (B.object_of scale.now.total scale.now.width) boxes.now))
+        ++ tail.now))) }
     ensures err { OnErr result (out.new.items ≡ out.old.items) }
 {
     let before = out.len();
-    let answer = append_parts(alloc, out, head, boxes, tail, total, width);
+    let answer = append_parts(alloc, out, head, boxes, tail, scale);
     truncate_on_error(out, before, answer)
 }
 
@@ -130,17 +130,17 @@ fn append_parts<B: JsonBox>(
     head: &[u8],
     boxes: &[B],
     tail: &[u8],
-    total: u64,
-    width: Width,
+    scale: &Scale,
 ) -> Result<(), AllocError>
-    requires within { All (λ item. B.end item ≤ total) boxes.now }
-    requires positive { 0 < length boxes.now → 0 < total }
+    requires within { All (λ item. B.end item ≤ scale.now.total) boxes.now }
+    requires positive { 0 < length boxes.now → 0 < scale.now.total }
     ensures ok { OnOk result (out.new.items ≡ out.old.items ++ (head.now
-        ++ (compact_text (list_data (map (B.object_of total width) boxes.now)) ++ tail.now))) }
+        ++ (compact_text (list_data (map (B.object_of scale.now.total scale.now.width) boxes.now))
+        ++ tail.now))) }
     ensures front { StartsWith out.new.items out.old.items }
 {
     out.extend_from_slice(head)?;
-    append_list(alloc, out, boxes, total, width)?;
+    append_list(alloc, out, boxes, scale)?;
     out.extend_from_slice(tail)
 }
 
@@ -149,19 +149,18 @@ fn append_list<B: JsonBox>(
     alloc: Global,
     out: &mut Vec<u8>,
     boxes: &[B],
-    total: u64,
-    width: Width,
+    scale: &Scale,
 ) -> Result<(), AllocError>
-    requires within { All (λ item. B.end item ≤ total) boxes.now }
-    requires positive { 0 < length boxes.now → 0 < total }
-    ensures ok { OnOk result (out.new.items
-        ≡ out.old.items ++ compact_text (list_data (map (B.object_of total width) boxes.now))) }
+    requires within { All (λ item. B.end item ≤ scale.now.total) boxes.now }
+    requires positive { 0 < length boxes.now → 0 < scale.now.total }
+    ensures ok { OnOk result (out.new.items ≡ out.old.items
+        ++ compact_text (list_data (map (B.object_of scale.now.total scale.now.width) boxes.now))) }
     ensures front { StartsWith out.new.items out.old.items }
 {
     out.push(b'[')?;
     let mut text = Vec::new(alloc);
     for (i, item) in boxes.iter().enumerate() {
-        set_item(alloc, &mut text, i > 0, item, total, width)?;
+        set_item(alloc, &mut text, i > 0, item, scale)?;
         out.extend_from_slice(&text)?;
     }
     out.push(b']')?;
@@ -174,15 +173,14 @@ fn set_item<B: JsonBox>(
     text: &mut Vec<u8>,
     later: bool,
     item: &B,
-    total: u64,
-    width: Width,
+    scale: &Scale,
 ) -> Result<(), AllocError>
-    requires within { B.end item.now ≤ total }
-    requires positive { 0 < total }
-    ensures { OnOk result
-        (text.new.items ≡ comma_if later ++ compact_text (B.object_of total width item.now)) }
+    requires within { B.end item.now ≤ scale.now.total }
+    requires positive { 0 < scale.now.total }
+    ensures { OnOk result (text.new.items
+        ≡ comma_if later ++ compact_text (B.object_of scale.now.total scale.now.width item.now)) }
 {
     text.clear();
     text.extend_from_slice(comma_if(later))?;
-    item.append(alloc, text, total, width)
+    item.append(alloc, text, scale)
 }

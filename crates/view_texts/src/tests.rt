@@ -1,3 +1,4 @@
 //! Worked texts.
+mod examples;
 mod fold;
 mod lines;

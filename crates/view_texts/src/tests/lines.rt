@@ -1,8 +1,9 @@
 //! Worked examples.
 
-ghost use Rattle.std.specs.Prelude.{◌+◌, ◌≤◌, All, IsTrue};
+ghost use Rattle.std.specs.Prelude.{◌≡◌, ◌+◌, ◌≤◌, All, IfOk, IsTrue};
 
 use crate::json_lines::{append_boxes_line, append_pair_boxes_line, append_snapshot_line};
+use crate::scales::Scale;
 use flame_layout::{ComparedBox, SpanBox, Width};
 use stack_core::Text;
 use std::alloc::{AllocError, Global};
@@ -50,6 +51,13 @@ fn are_pairs_within(boxes: &[ComparedBox], total: u64) -> bool
         .all(|compared| is_within(&compared.span, total))
 }
 
+fn scale_of(total: u64, width: u32) -> Result<Scale, Fail>
+    ensures { IfOk result (λ scale. scale.total ≡ total) }
+{
+    let width = Width::of(width).ok_or("no width")?;
+    Ok(Scale { total, width })
+}
+
 // Appends the line of the boxes.
 fn append(
     rt: &impl Abort,
@@ -57,31 +65,28 @@ fn append(
     out: &mut Vec<u8>,
     view: &str,
     rows: &[Row<'_>],
-    total: u64,
-    width: u32,
+    scale: Scale,
 ) -> Result<(), Fail> {
     let boxes = boxes_of(alloc, rows)?;
-    assert!(rt; are_within(&boxes, total));
-    assert!(rt; total > 0 || boxes.is_empty());
-    let width = Width::of(width).ok_or("no width")?;
-    Ok(append_boxes_line(alloc, out, view, &boxes, total, width)?)
+    assert!(rt; are_within(&boxes, scale.total));
+    assert!(rt; scale.total > 0 || boxes.is_empty());
+    Ok(append_boxes_line(alloc, out, view, &boxes, &scale)?)
 }
 
-// Appends the line of a snapshot.
+// Appends the line of a snapshot, after so many samples and with these counts.
 fn append_snapshot(
     rt: &impl Abort,
     alloc: Global,
     out: &mut Vec<u8>,
-    at: u64,
-    counts: &[u64],
+    (at, counts): (u64, &[u64]),
     rows: &[Row<'_>],
     total: u64,
 ) -> Result<(), Fail> {
     let boxes = boxes_of(alloc, rows)?;
     assert!(rt; are_within(&boxes, total));
     assert!(rt; total > 0 || boxes.is_empty());
-    let width = Width::of(10).ok_or("no width")?;
-    Ok(append_snapshot_line(alloc, out, at, counts, &boxes, total, width)?)
+    let scale = scale_of(total, 10)?;
+    Ok(append_snapshot_line(alloc, out, at, counts, &boxes, &scale)?)
 }
 
 // Appends the line of a comparison, whose boxes have these totals before.
@@ -109,16 +114,16 @@ fn append_pair_boxes(
     }
     assert!(rt; are_pairs_within(&boxes, total));
     assert!(rt; total > 0 || boxes.is_empty());
-    let width = Width::of(10).ok_or("no width")?;
-    Ok(append_pair_boxes_line(alloc, out, before, &boxes, total, width)?)
+    let scale = scale_of(total, 10)?;
+    Ok(append_pair_boxes_line(alloc, out, before, &boxes, &scale)?)
 }
 
 #[test]
 fn graph_of_three_lines(rt: HostRuntime) -> Result<(), Fail> {
     let rows = [(0, "all", 0, 3, 0), (1, "a", 0, 1, 1), (1, "b", 1, 2, 2)];
     let mut out = Vec::new(rt.alloc());
-    append(&rt, rt.alloc(), &mut out, "graph", &rows, 3, 10)?;
-    append(&rt, rt.alloc(), &mut out, "chart", &rows, 3, 10)?;
+    append(&rt, rt.alloc(), &mut out, "graph", &rows, scale_of(3, 10)?)?;
+    append(&rt, rt.alloc(), &mut out, "chart", &rows, scale_of(3, 10)?)?;
     let lines = concat!(
         r#"{"boxes":[{"depth":0,"left":0,"name":"all","own":0,"right":10,"start":0,"weight":3},"#,
         r#"{"depth":1,"left":0,"name":"a","own":1,"right":3,"start":0,"weight":1},"#,
@@ -138,7 +143,7 @@ fn graph_of_three_lines(rt: HostRuntime) -> Result<(), Fail> {
 #[test]
 fn empty_graph(rt: HostRuntime) -> Result<(), Fail> {
     let mut out = Vec::new(rt.alloc());
-    append(&rt, rt.alloc(), &mut out, "graph", &[], 0, 1_200)?;
+    append(&rt, rt.alloc(), &mut out, "graph", &[], scale_of(0, 1_200)?)?;
     let line = concat!(
         r#"{"boxes":[],"total":0,"view":"graph","width":1200}"#,
         "\n"
@@ -157,8 +162,8 @@ fn snapshots_of_one_source(rt: HostRuntime) -> Result<(), Fail> {
         (1, "c", 3, 2, 2),
     ];
     let mut out = Vec::new(rt.alloc());
-    append_snapshot(&rt, rt.alloc(), &mut out, 2, &[2], &first, 2)?;
-    append_snapshot(&rt, rt.alloc(), &mut out, 4, &[4], &second, 5)?;
+    append_snapshot(&rt, rt.alloc(), &mut out, (2, &[2]), &first, 2)?;
+    append_snapshot(&rt, rt.alloc(), &mut out, (4, &[4]), &second, 5)?;
     let lines = concat!(
         r#"{"at":2,"boxes":["#,
         r#"{"depth":0,"left":0,"name":"all","own":0,"right":10,"start":0,"weight":2},"#,
@@ -181,8 +186,8 @@ fn snapshots_of_one_source(rt: HostRuntime) -> Result<(), Fail> {
 #[test]
 fn counts_of_three_sources(rt: HostRuntime) -> Result<(), Fail> {
     let mut out = Vec::from_slice(rt.alloc(), b"before\n")?;
-    append_snapshot(&rt, rt.alloc(), &mut out, 12, &[0, 2, 10], &[], 0)?;
-    append_snapshot(&rt, rt.alloc(), &mut out, 0, &[], &[], 0)?;
+    append_snapshot(&rt, rt.alloc(), &mut out, (12, &[0, 2, 10]), &[], 0)?;
+    append_snapshot(&rt, rt.alloc(), &mut out, (0, &[]), &[], 0)?;
     let lines = concat!(
         "before\n",
         r#"{"at":12,"boxes":[],"counts":[0,2,10],"total":0,"view":"snapshot","width":10}"#,
@@ -225,7 +230,7 @@ fn escaped_names(rt: HostRuntime) -> Result<(), Fail> {
         (1, "", 3, 1, 1),
     ];
     let mut out = Vec::new(rt.alloc());
-    append(&rt, rt.alloc(), &mut out, "graph", &rows, 4, 4)?;
+    append(&rt, rt.alloc(), &mut out, "graph", &rows, scale_of(4, 4)?)?;
     let line = concat!(
         r#"{"boxes":["#,
         r#"{"depth":1,"left":0,"name":"a\"b\\c","own":1,"right":1,"start":0,"weight":1},"#,

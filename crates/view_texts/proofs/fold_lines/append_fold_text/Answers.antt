@@ -2,7 +2,7 @@ use Rattle.std.proofs.Common.{◌<◌, ◌^◌, ◌++◌, [], ◌∙◌, sym, ap
 use Rattle.std.proofs.lemmas.Result.{on_ok_weaker}
 use Rattle.call_tree.specs.declared.listing.Visit.{Visit}
 use Rattle.flame_layout.proofs.GraphBoxes.{listed_named}
-use Rattle.view_texts.specs.Visited.{visited_lines}
+use Rattle.view_texts.specs.checked.Visited.{visited_lines}
 use Rattle.view_texts.proofs.FoldRows.{listing_text, listing_fits}
 use Rattle.view_texts.proofs.fold_lines.append_fold_text.Goals as goal
 

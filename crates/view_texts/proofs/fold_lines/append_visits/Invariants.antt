@@ -1,6 +1,6 @@
 -- What was appended are the lines of the visits so far, and the path is that of the last.
 use Rattle.std.proofs.Common.{◌≡◌, ◌++◌, [], map, take, string_bytes}
-use Rattle.view_texts.specs.Visited.{visited_lines}
+use Rattle.view_texts.specs.checked.Visited.{visited_lines}
 use Rattle.view_texts.proofs.VisitedLines.{names_after}
 use Rattle.view_texts.proofs.fold_lines.append_visits.Given as goal
 

@@ -5,10 +5,10 @@ use Rattle.view_texts.proofs.json_lines.append_list.Goals as goal
 
 pub loop-i-preserved : goal.loop-i-preserved
 loop-i-preserved g c =
-    let more = values_text-more (g.B.JsonBox.object_of c.args.total c.args.width) c.args.boxes.now c.loop-i.i c.index-boxes-i.result (omega arith) in
+    let more = values_text-more (g.B.JsonBox.object_of c.args.scale.now.total c.args.scale.now.width) c.args.boxes.now c.loop-i.i c.index-boxes-i.result (omega arith) in
     grind (arith, common_steps, more, c.index-boxes-i.is)
 
 pub returns-clause-ok : goal.returns-clause-ok
 returns-clause-ok g c =
-    let closed = items_text-items_of false (map (g.B.JsonBox.object_of c.args.total c.args.width) c.args.boxes.now) in
+    let closed = items_text-items_of false (map (g.B.JsonBox.object_of c.args.scale.now.total c.args.scale.now.width) c.args.boxes.now) in
     grind (arith, common_steps, closed)
