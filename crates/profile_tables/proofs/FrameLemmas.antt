@@ -9,9 +9,10 @@ use Rattle.std.proofs.lemmas.List.{take-map, drop-map, take_more, length-map}
 use Rattle.std.proofs.lemmas.Option.{slice_get-get_or}
 use Rattle.std.proofs.lemmas.Grind.{common_steps}
 use Rattle.profile_tables.specs.declared.frames.Frame.{Frame}
-use Rattle.profile_tables.specs.declared.frames.Span.{Span}
+use Rattle.profile_tables.specs.declared.messages.Span.{Span}
 use Rattle.profile_tables.specs.declared.frames.Frames.{Frames}
-use Rattle.profile_tables.specs.Frames.{text_in, items_in, texts_in, frames_at, LendsFrames}
+use Rattle.profile_tables.specs.Frames.{text_in, texts_in, frames_at, LendsFrames}
+use Rattle.profile_tables.specs.Profile.{items_in}
 use Rattle.profile_tables.specs.Index.{place_in}
 use Rattle.profile_tables.proofs.ItemLemmas.{map-push}
 

@@ -6,15 +6,12 @@ use Rattle.std.specs.Ordering.{nat_cmp, is_eq}
 use Rattle.std.specs.BTreeMap.{get, Updates}
 use Rattle.std.proofs.lemmas.List.{take_more, length-map}
 use Rattle.std.proofs.lemmas.Grind.{common_steps}
-use Rattle.profile_tables.specs.declared.message.Content.{Content as CodeContent}
+use Rattle.profile_tables.specs.declared.messages.Function.{Function}
 use Rattle.profile_tables.specs.declared.functions.MadeNames.{MadeNames}
-use Rattle.profile_tables.specs.Message.{Content, scalar}
 use Rattle.profile_tables.specs.Tables.{string_at}
 use Rattle.profile_tables.specs.Naming.{function_name}
-use Rattle.profile_tables.specs.Contents.{seen_content, seen_table}
 use Rattle.profile_tables.specs.Functions.{text_index, name_or_unknown, AreMade}
 use Rattle.profile_tables.proofs.ItemLemmas.{map-push, slice_get-append, slice_get-push, referred-kept}
-use Rattle.profile_tables.proofs.IndexLemmas.{nowhere}
 
 is_eq-nat_cmp : (a b : ℕ) → is_eq (nat_cmp a b) ≡ (a == b)
 is_eq-nat_cmp a b = grind (arith, common_steps)
@@ -54,17 +51,20 @@ named-by true strings name system_name = refl
 named-by false strings name system_name = refl
 
 -- a function's name is the one that its string makes
-function_name-is : (strings : List (List ℕ)) (function : Content) → name_or_unknown (string_at strings (text_index strings function)) ≡ function_name strings function
+function_name-is : (strings : List (List ℕ)) (function : Function) → name_or_unknown (string_at strings (text_index strings function)) ≡ function_name strings function
 function_name-is strings function =
-    ap name_or_unknown (sym (named-by (length (string_at strings (scalar 2 function.bytes)) == 0) strings (scalar 2 function.bytes) (scalar 3 function.bytes)))
+    ap name_or_unknown (sym (named-by (length (string_at strings function.name) == 0) strings function.name function.system_name))
 
 -- one more function
-pub names-more : (strings names names' : List (List ℕ)) (functions : List CodeContent) (places places' : List ℕ) (k place index : ℕ) → k < length functions → map (slice_get names) places ≡ map (λ function. Some (function_name strings function)) (seen_table (take k functions)) → ((at : ℕ) (name : List ℕ) → slice_get names at ≡ Some name → slice_get names' at ≡ Some name) → slice_get names' place ≡ Some (name_or_unknown (string_at strings index)) → index ≡ text_index strings (seen_content (get_or functions k nowhere)) → places' ≡ places ++ place ∷ [] → map (slice_get names') places' ≡ map (λ function. Some (function_name strings function)) (seen_table (take (k + 1) functions))
-names-more strings names names' functions places places' k place index lt before kept here index_is more =
-    let named : Content → Option (List ℕ) = λ function. Some (function_name strings function) in
-    let entry : Content = seen_content (get_or functions k nowhere) in
+pub names-more : (strings names names' : List (List ℕ)) (functions : List Function) (d : Function) (places places' : List ℕ) (k place index : ℕ) → k < length functions → map (slice_get names) places ≡ map (λ function. Some (function_name strings function)) (take k functions) → ((at : ℕ) (name : List ℕ) → slice_get names at ≡ Some name → slice_get names' at ≡ Some name) → slice_get names' place ≡ Some (name_or_unknown (string_at strings index)) → index ≡ text_index strings (get_or functions k d) → places' ≡ places ++ place ∷ [] → map (slice_get names') places' ≡ map (λ function. Some (function_name strings function)) (take (k + 1) functions)
+names-more strings names names' functions d places places' k place index lt before kept here index_is more =
+    let named : Function → Option (List ℕ) = λ function. Some (function_name strings function) in
     ap (map (slice_get names')) more ∙ map-push (slice_get names') places place
-    ∙ ap (λ last. map (slice_get names') places ++ last ∷ []) (here ∙ ap (λ i. Some (name_or_unknown (string_at strings i))) index_is ∙ ap Some (function_name-is strings entry))
-    ∙ ap (λ list. list ++ named entry ∷ []) (referred-kept (slice_get names) (slice_get names') (function_name strings) places (seen_table (take k functions)) kept before)
-    ∙ sym (map-push named (seen_table (take k functions)) entry)
-    ∙ sym (ap (map named) (ap seen_table (take_more functions k nowhere lt) ∙ map-push seen_content (take k functions) (get_or functions k nowhere)))
+    ∙ ap (λ last. map (slice_get names') places ++ last ∷ []) (here ∙ ap (λ i. Some (name_or_unknown (string_at strings i))) index_is ∙ ap Some (function_name-is strings (get_or functions k d)))
+    ∙ ap (λ list. list ++ named (get_or functions k d) ∷ []) (referred-kept (slice_get names) (slice_get names') (function_name strings) places (take k functions) kept before)
+    ∙ sym (map-push named (take k functions) (get_or functions k d))
+    ∙ sym (ap (map named) (take_more functions k d lt))
+
+-- what no function has
+abbrev pub no_function : Function
+no_function = record { at = 0; id = 0; name = 0; system_name = 0 }

@@ -1,7 +1,7 @@
 pub mod OwnFrameLemmas
 pub mod LineLemmas
 pub mod FunctionLemmas
-pub mod EntryLemmas
+pub mod ProfileLemmas
 pub mod ItemLemmas
 pub mod FileLemmas
 pub mod FirstLemmas
@@ -11,7 +11,7 @@ pub mod TableLemmas
 pub mod PickLemmas
 pub mod PlaceLemmas
 pub mod SampleLemmas
-pub mod PlanLemmas
+pub mod RestLemmas
 pub mod ReaderLemmas
 pub mod UnstoppedLemmas
 pub mod Rows

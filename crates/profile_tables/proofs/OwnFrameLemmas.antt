@@ -4,7 +4,7 @@ use Rattle.std.specs.Prelude.{option_map, unwrap_or, is_some}
 use Rattle.std.specs.Option.{option_and_then}
 use Rattle.std.specs.List.{slice_get}
 use Rattle.std.proofs.lemmas.Option.{slice_get-map}
-use Rattle.profile_tables.specs.declared.frames.Span.{Span}
+use Rattle.profile_tables.specs.declared.messages.Span.{Span}
 use Rattle.profile_tables.specs.declared.frames.Frames.{Frames}
 use Rattle.profile_tables.specs.Frames.{texts_in, frames_at, stacks_of, IsWhole}
 use Rattle.profile_tables.specs.Index.{place_in}

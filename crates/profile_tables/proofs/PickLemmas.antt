@@ -6,14 +6,14 @@ use Rattle.std.proofs.lemmas.List.{get_or-map, get_or_past, length-map}
 use Rattle.std.proofs.lemmas.List.Sums.{position_or_len_is}
 use Rattle.std.proofs.lemmas.Grind.{common_steps}
 use Rattle.run_options.specs.declared.choices.Pick.{Pick}
-use Rattle.profile_tables.specs.declared.entries.Entries.{Entries}
-use Rattle.profile_tables.specs.declared.message.Content.{Content as CodeContent}
-use Rattle.profile_tables.specs.Message.{Content, scalar}
-use Rattle.profile_tables.specs.Tables.{PlacedNumber, string_at, strings_of, samples_of, sample_types_of, default_of, type_names, place_of, place_picked, chosen_value}
-use Rattle.profile_tables.specs.Contents.{seen_content, seen_table, texts_of}
-use Rattle.profile_tables.specs.Entries.{names_of_types, chosen_of, AreEntriesOf}
+use Rattle.profile_tables.specs.declared.profile.Profile.{Profile}
+use Rattle.profile_tables.specs.declared.messages.PlacedNumber.{PlacedNumber}
+use Rattle.profile_tables.specs.declared.messages.ValueType.{ValueType}
+use Rattle.profile_tables.specs.Message.{Content}
+use Rattle.profile_tables.specs.Tables.{string_at, strings_of, samples_of, sample_types_of, default_of, type_names, place_of, place_picked, chosen_value}
+use Rattle.profile_tables.specs.Contents.{texts_of}
+use Rattle.profile_tables.specs.Profile.{names_of_types, chosen_of, IsProfileOf}
 use Rattle.profile_tables.specs.Places.{place_of as place_of_content}
-use Rattle.profile_tables.proofs.IndexLemmas.{nowhere}
 
 pub place-found : (name : List ℕ) (names : List (List ℕ)) (i : ℕ) → i < length names → ((k : ℕ) → k < i → bytes_eq (get_or names k []) name ≡ false) → bytes_eq (get_or names i []) name ≡ true → place_of name names ≡ Some i
 place-found name names i lt before here =
@@ -29,39 +29,40 @@ place-none name names before =
     let below : nat_lt (length names) (length names) ≡ false = grind (arith, common_steps) in
     rw (at, below) refl
 
-pub length-names_of_types : (entries : Entries) → length (names_of_types entries) ≡ length entries.sample_types.items
-length-names_of_types entries =
-    length-map (seen_table entries.sample_types.items) (λ (entry : Content). string_at (texts_of entries.strings.items) (scalar 1 entry.bytes))
-    ∙ length-map entries.sample_types.items seen_content
+-- what no sample type has
+abbrev pub no_type : ValueType
+no_type = record { at = 0; type_ = 0; unit = 0 }
+
+pub length-names_of_types : (profile : Profile) → length (names_of_types profile) ≡ length profile.sample_types.items
+length-names_of_types profile =
+    length-map profile.sample_types.items (λ (value_type : ValueType). string_at (texts_of profile.strings.items) value_type.type_)
 
 -- the name at a place, as the loop has it
-pub name_here : (entries : Entries) (k n : ℕ) (types : List CodeContent) (strings : List (List ℕ)) → types ≡ entries.sample_types.items → strings ≡ texts_of entries.strings.items → k < length types → n ≡ scalar 1 (get_or types k nowhere).bytes.now → get_or (names_of_types entries) k [] ≡ string_at strings n
-name_here entries k n types strings types_are strings_are lt n_is =
-    let name : Content → List ℕ = λ entry. string_at (texts_of entries.strings.items) (scalar 1 entry.bytes) in
-    let len : length (seen_table types) ≡ length types = length-map types seen_content in
-    ap (λ (table : List CodeContent). get_or (map name (seen_table table)) k []) (sym types_are)
-    ∙ get_or-map name (seen_table types) k (seen_content nowhere) [] (omega arith)
-    ∙ ap name (get_or-map seen_content types k nowhere (seen_content nowhere) lt)
-    ∙ ap (string_at (texts_of entries.strings.items)) (sym n_is)
+pub name_here : (profile : Profile) (k n : ℕ) (types : List ValueType) (strings : List (List ℕ)) → types ≡ profile.sample_types.items → strings ≡ texts_of profile.strings.items → k < length types → n ≡ (get_or types k no_type).type_ → get_or (names_of_types profile) k [] ≡ string_at strings n
+name_here profile k n types strings types_are strings_are lt n_is =
+    let name : ValueType → List ℕ = λ value_type. string_at (texts_of profile.strings.items) value_type.type_ in
+    ap (λ (table : List ValueType). get_or (map name table) k []) (sym types_are)
+    ∙ get_or-map name types k no_type [] lt
+    ∙ ap (string_at (texts_of profile.strings.items)) (sym n_is)
     ∙ ap (λ (texts : List (List ℕ)). string_at texts n) (sym strings_are)
 
 -- the names of a file's sample types
-pub names-are : (file : List ℕ) (entries : Entries) → AreEntriesOf file entries → names_of_types entries ≡ type_names file
-names-are file entries is =
-    ap (λ (table : List Content). map (λ (entry : Content). string_at (texts_of entries.strings.items) (scalar 1 entry.bytes)) table) is.sample_types
-    ∙ ap (λ (texts : List Content). map (λ (entry : Content). string_at (map (λ (text : Content). text.bytes) texts) (scalar 1 entry.bytes)) (sample_types_of file)) is.strings
+pub names-are : (file : List ℕ) (profile : Profile) → IsProfileOf file profile → names_of_types profile ≡ type_names file
+names-are file profile is =
+    ap (λ (table : List ValueType). map (λ (value_type : ValueType). string_at (texts_of profile.strings.items) value_type.type_) table) is.sample_types
+    ∙ ap (λ (texts : List Content). map (λ (value_type : ValueType). string_at (map (λ (text : Content). text.bytes) texts) value_type.type_) (sample_types_of file)) is.strings
 
 -- the place of a file's chosen value
-pub chosen-is : (file : List ℕ) (entries : Entries) (pick : Pick) → AreEntriesOf file entries → chosen_of entries pick ≡ chosen_value file pick
-chosen-is file entries pick is =
-    let samples : length entries.samples.items ≡ length (samples_of file) = ap (λ (list : List ℕ). length list) is.samples ∙ length-map (samples_of file) place_of_content in
-    let types : length entries.sample_types.items ≡ length (sample_types_of file) = sym (length-map entries.sample_types.items seen_content) ∙ ap (λ (list : List Content). length list) is.sample_types in
-    let default : string_at (texts_of entries.strings.items) entries.default.number ≡ string_at (strings_of file) (default_of file).number =
-    ap (λ (texts : List Content). string_at (map (λ (text : Content). text.bytes) texts) entries.default.number) is.strings ∙ ap (λ (n : PlacedNumber). string_at (strings_of file) n.number) is.default in
-    ap (λ n. if n == 0 || length entries.sample_types.items == 0 then None else place_picked pick (string_at (texts_of entries.strings.items) entries.default.number) (names_of_types entries)) samples
-    ∙ ap (λ n. if length (samples_of file) == 0 || n == 0 then None else place_picked pick (string_at (texts_of entries.strings.items) entries.default.number) (names_of_types entries)) types
-    ∙ ap (λ name. if length (samples_of file) == 0 || length (sample_types_of file) == 0 then None else place_picked pick name (names_of_types entries)) default
-    ∙ ap (λ names. if length (samples_of file) == 0 || length (sample_types_of file) == 0 then None else place_picked pick (string_at (strings_of file) (default_of file).number) names) (names-are file entries is)
+pub chosen-is : (file : List ℕ) (profile : Profile) (pick : Pick) → IsProfileOf file profile → chosen_of profile pick ≡ chosen_value file pick
+chosen-is file profile pick is =
+    let samples : length profile.samples.items ≡ length (samples_of file) = ap (λ (list : List ℕ). length list) is.samples ∙ length-map (samples_of file) place_of_content in
+    let types : length profile.sample_types.items ≡ length (sample_types_of file) = ap (λ (list : List ValueType). length list) is.sample_types in
+    let default : string_at (texts_of profile.strings.items) profile.default.number ≡ string_at (strings_of file) (default_of file).number =
+    ap (λ (texts : List Content). string_at (map (λ (text : Content). text.bytes) texts) profile.default.number) is.strings ∙ ap (λ (n : PlacedNumber). string_at (strings_of file) n.number) is.default in
+    ap (λ n. if n == 0 || length profile.sample_types.items == 0 then None else place_picked pick (string_at (texts_of profile.strings.items) profile.default.number) (names_of_types profile)) samples
+    ∙ ap (λ n. if length (samples_of file) == 0 || n == 0 then None else place_picked pick (string_at (texts_of profile.strings.items) profile.default.number) (names_of_types profile)) types
+    ∙ ap (λ name. if length (samples_of file) == 0 || length (sample_types_of file) == 0 then None else place_picked pick name (names_of_types profile)) default
+    ∙ ap (λ names. if length (samples_of file) == 0 || length (sample_types_of file) == 0 then None else place_picked pick (string_at (strings_of file) (default_of file).number) names) (names-are file profile is)
 
 -- ---- the strings that are the name
 

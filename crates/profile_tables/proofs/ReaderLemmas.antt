@@ -8,25 +8,25 @@ use Rattle.stack_core.specs.declared.endings.SourceEnd.{SourceEnd}
 use Rattle.stack_core.specs.Reading.{Rest}
 use Rattle.run_options.specs.declared.choices.Pick.{Pick}
 use Rattle.run_options.specs.declared.choices.Naming.{Naming}
-use Rattle.profile_tables.specs.declared.plan.Plan.{Plan}
+use Rattle.profile_tables.specs.declared.outline.Outline.{Outline}
 use Rattle.profile_tables.specs.declared.reader.PprofReader.TheInside.{Inside}
 use Rattle.profile_tables.specs.Places.{found_at}
-use Rattle.profile_tables.specs.SeenPlan.{seen_plan}
+use Rattle.profile_tables.specs.SeenOutline.{seen_outline}
 use Rattle.profile_tables.specs.State.{State}
 use Rattle.profile_tables.specs.View.{rest_by, rest_or_ended, state_of}
-use Rattle.profile_tables.proofs.PlanLemmas.{few-read, few-pprof}
+use Rattle.profile_tables.proofs.RestLemmas.{few-read, few-pprof}
 
 few-items : {A : Type 0} (v : Vec A Global) → length v.items < 2 ^ 64
 few-items v = let s : v.cap < 2 ^ 63 = v.small in let o : v.len ≡ length v.items = v.ok.0 in let p : v.len ≤ v.cap = v.ok.1 in omega arith
 
-few-rest : (bytes : Vec ℕ Global) (pick : Pick) (naming : Naming) (plan : Option Plan) (given total : ℕ) → length (rest_by bytes.items pick naming plan given total).samples < 2 ^ 64
+few-rest : (bytes : Vec ℕ Global) (pick : Pick) (naming : Naming) (outline : Option Outline) (given total : ℕ) → length (rest_by bytes.items pick naming outline given total).samples < 2 ^ 64
 few-rest bytes pick naming None given total = let a = few-pprof bytes.items pick naming in let b = few-items bytes in omega (arith, a, b)
-few-rest bytes pick naming (Some plan) given total =
-    let places : List ℕ = plan.samples.items in
-    let a = few-read (seen_plan plan) total (map (found_at bytes.items) (drop given places)) in
+few-rest bytes pick naming (Some outline) given total =
+    let places : List ℕ = outline.samples.items in
+    let a = few-read (seen_outline outline) total (map (found_at bytes.items) (drop given places)) in
     let b = length-map (drop given places) (found_at bytes.items) in
     let d = length-drop given places in
-    let e = few-items plan.samples in omega (arith, a, b, d, e)
+    let e = few-items outline.samples in omega (arith, a, b, d, e)
 
 few-or-ended : (o : Option SourceEnd) (rest : Rest) → length rest.samples < 2 ^ 64 → length (rest_or_ended o rest).samples < 2 ^ 64
 few-or-ended None rest few = few
@@ -35,4 +35,4 @@ few-or-ended (Some ending) rest few = omega arith
 pub few-state : (a : Inside) (state : State) → state_of a ≡ state → length state.rest.samples < 2 ^ 64
 few-state a state is =
     subst (λ (s : State). length s.rest.samples < 2 ^ 64) is
-    (few-or-ended a.ended _ (few-rest a.bytes a.pick a.naming a.plan a.given a.total))
+    (few-or-ended a.ended _ (few-rest a.bytes a.pick a.naming a.outline a.given a.total))

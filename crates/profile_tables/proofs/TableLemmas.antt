@@ -4,7 +4,10 @@ use Rattle.std.proofs.Math.ListN.{get_or-map}
 use Rattle.profile_tables.specs.declared.message.Content.{Content as CodeContent}
 use Rattle.profile_tables.specs.Message.{Content}
 use Rattle.profile_tables.specs.Contents.{seen_content, seen_table, texts_of}
-use Rattle.profile_tables.proofs.IndexLemmas.{nowhere}
+
+-- what a string of no index has
+abbrev pub nowhere : CodeContent
+nowhere = record { at = 0; bytes = record { ref_ptr = (0, 0); now = [] } }
 
 pub text-at : (strings : List CodeContent) (index : ℕ) → get_or (texts_of strings) index [] ≡ (get_or strings index nowhere).bytes.now
 text-at strings index =

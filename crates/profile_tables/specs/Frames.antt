@@ -8,12 +8,14 @@ use Rattle.profile_tables.specs.declared.ids.Index.{Index}
 use Rattle.profile_tables.specs.declared.functions.FunctionNames.{FunctionNames}
 use Rattle.profile_tables.specs.declared.frames.Frame.{Frame}
 use Rattle.profile_tables.specs.declared.frames.Frame.TheVariants.{Address, Function}
-use Rattle.profile_tables.specs.declared.frames.Span.{Span}
+use Rattle.profile_tables.specs.declared.messages.Span.{Span}
+use Rattle.profile_tables.specs.declared.messages.Line.{Line}
 use Rattle.profile_tables.specs.declared.frames.Frames.{Frames}
-use Rattle.profile_tables.specs.Message.{scalar, Content, contents}
-use Rattle.profile_tables.specs.Tables.{entry_of}
+use Rattle.profile_tables.specs.Records.{Location}
+use Rattle.profile_tables.specs.Tables.{location_at}
 use Rattle.profile_tables.specs.Naming.{address_frame, line_suffix}
 use Rattle.profile_tables.specs.Index.{place_in}
+use Rattle.profile_tables.specs.Profile.{items_in}
 
 -- ---- what the code keeps
 
@@ -24,12 +26,6 @@ text_of names naming (Function place line) = unwrap_or (slice_get names place) [
 
 abbrev pub text_in : Frames → Frame → List ℕ
 text_in frames frame = text_of (map string_bytes frames.names.items) frames.naming frame
-
--- the items of a span, where it is one of the list
-abbrev pub items_in : {A : Type 0} → List A → Span → Option (List A)
-items_in items span =
-    if nat_le span.start span.end && nat_le span.end (length items) then Some (slice_range items span.start span.end)
-    else None
 
 -- the frames at a span, leaf first
 abbrev pub texts_in : Frames → Span → Option (List (List ℕ))
@@ -59,18 +55,21 @@ abbrev pub named_line : Naming → ℕ → ℕ → Option (List ℕ) → List �
 named_line naming address line None = address_frame address
 named_line naming address line (Some name) = name ++ line_suffix naming line
 
-abbrev pub frame_named : (ℕ → Option (List ℕ)) → Naming → ℕ → Content → List ℕ
-frame_named name_at naming address line = let id = scalar 1 line.bytes in
-    named_line naming address (scalar 2 line.bytes) (if id == 0 then None else name_at id)
+abbrev pub frame_named : (ℕ → Option (List ℕ)) → Naming → ℕ → Line → List ℕ
+frame_named name_at naming address line =
+    named_line naming address line.line (if line.function_id == 0 then None else name_at line.function_id)
 
 abbrev pub or_address : ℕ → List (List ℕ) → List (List ℕ)
 or_address address [] = address_frame address ∷ []
 or_address address (name ∷ names) = name ∷ names
 
+-- the frames of lines at an address, leaf first
+abbrev pub lines_named : (ℕ → Option (List ℕ)) → Naming → ℕ → List Line → List (List ℕ)
+lines_named name_at naming address lines = or_address address (map (frame_named name_at naming address) lines)
+
 -- the frames of a location, leaf first
-abbrev pub lines_named : (ℕ → Option (List ℕ)) → Naming → Content → List (List ℕ)
-lines_named name_at naming location = let address = scalar 3 location.bytes in
-    or_address address (map (frame_named name_at naming address) (contents 4 location.bytes))
+abbrev pub location_named : (ℕ → Option (List ℕ)) → Naming → Location → List (List ℕ)
+location_named name_at naming location = lines_named name_at naming location.address location.lines
 
 -- the name of a function id, where functions have these places, and their names these
 abbrev pub name_in : Index → List ℕ → List (List ℕ) → ℕ → Option (List ℕ)
@@ -81,5 +80,5 @@ abbrev pub named_in : Index → FunctionNames → ℕ → Option (List ℕ)
 named_in functions named id = name_in functions named.places.items (map string_bytes named.names.items) id
 
 -- the frames of each location id
-pub record AreFramesOf (name_at : ℕ → Option (List ℕ)) (naming : Naming) (locations : List Content) (frames : Frames) : Type 0 where
-  pub each : (id : ℕ) → frames_at frames id ≡ option_map (λ location. reverse (lines_named name_at naming location)) (entry_of locations id)
+pub record AreFramesOf (name_at : ℕ → Option (List ℕ)) (naming : Naming) (locations : List Location) (frames : Frames) : Type 0 where
+  pub each : (id : ℕ) → frames_at frames id ≡ option_map (λ location. reverse (location_named name_at naming location)) (location_at locations id)

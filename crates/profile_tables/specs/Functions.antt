@@ -4,14 +4,13 @@ use Rattle.std.specs.List.{slice_get}
 use Rattle.std.specs.Ordering.{nat_cmp}
 use Rattle.std.specs.BTreeMap.{get}
 use Rattle.profile_tables.specs.declared.functions.MadeNames.{MadeNames}
-use Rattle.profile_tables.specs.Message.{scalar, Content}
+use Rattle.profile_tables.specs.declared.messages.Function.{Function}
 use Rattle.profile_tables.specs.Tables.{string_at}
 use Rattle.profile_tables.specs.Naming.{plain_text, name_or}
 
 -- the index of the string that a function is named by
-abbrev pub text_index : List (List ℕ) → Content → ℕ
-text_index strings function = let name = scalar 2 function.bytes in
-    if length (string_at strings name) == 0 then scalar 3 function.bytes else name
+abbrev pub text_index : List (List ℕ) → Function → ℕ
+text_index strings function = if length (string_at strings function.name) == 0 then function.system_name else function.name
 
 -- the name that a string makes
 abbrev pub name_or_unknown : List ℕ → List ℕ

@@ -1,6 +1,6 @@
 -- The tables of a profile (profile.proto, messages Profile, ValueType, Location, Line and Function), what can be wrong with them, and
 -- which value of a sample is its weight.
-use Rattle.std.specs.Prelude.{ℕ, ◌-◌, ◌^◌, List, [], ◌∷◌, ◌++◌, length, Option, Some, None, map, flat_map, filter_map, find, position, is_some, slice_index_or, unwrap_or, nat_lt, bytes_eq, ◌==◌, ◌&&◌, ◌||◌, if◌then◌else◌}
+use Rattle.std.specs.Prelude.{ℕ, ◌-◌, ◌^◌, List, [], ◌∷◌, ◌++◌, length, Bool, Option, Some, None, map, flat_map, filter_map, find, position, is_some, slice_index_or, unwrap_or, nat_lt, bytes_eq, ◌==◌, ◌&&◌, ◌||◌, if◌then◌else◌}
 use Rattle.std.specs.List.{list_any}
 use Rattle.stack_core.specs.declared.endings.ReadKind.TheVariants.{BadStringZero, ZeroId, DuplicateId, BadString, UnknownFunction, NoSampleType, UnknownSampleType}
 use Rattle.stack_core.specs.declared.endings.ReadFault.{ReadFault}
@@ -8,34 +8,41 @@ use Rattle.wire_fields.specs.Field.{WireField}
 use Rattle.wire_fields.specs.Reading.{fields_of}
 use Rattle.run_options.specs.declared.choices.Pick.{Pick}
 use Rattle.run_options.specs.declared.choices.Pick.TheVariants.{Preferred, Named}
-use Rattle.profile_tables.specs.Message.{last_or, scalar, scalar_from, Content, contents}
+use Rattle.profile_tables.specs.declared.messages.PlacedNumber.{PlacedNumber}
+use Rattle.profile_tables.specs.declared.messages.ValueType.{ValueType}
+use Rattle.profile_tables.specs.declared.messages.Line.{Line}
+use Rattle.profile_tables.specs.declared.messages.Function.{Function}
+use Rattle.profile_tables.specs.Message.{last_or, scalar_from, Content, contents}
+use Rattle.profile_tables.specs.Records.{Location, value_type_of, function_of, function_id, location_of, location_id}
 use Rattle.profile_tables.specs.Shapes.{fault_at}
 
 -- ---- the tables
 
-abbrev pub sample_types_of : List ℕ → List Content
-sample_types_of file = contents 1 file
+abbrev pub sample_types_of : List ℕ → List ValueType
+sample_types_of file = map value_type_of (contents 1 file)
 
 abbrev pub samples_of : List ℕ → List Content
 samples_of file = contents 2 file
 
-abbrev pub locations_of : List ℕ → List Content
-locations_of file = contents 4 file
+abbrev pub locations_of : List ℕ → List Location
+locations_of file = map location_of (contents 4 file)
 
-abbrev pub functions_of : List ℕ → List Content
-functions_of file = contents 5 file
+abbrev pub functions_of : List ℕ → List Function
+functions_of file = map function_of (contents 5 file)
 
 -- the bytes of a string need not be text
 abbrev pub strings_of : List ℕ → List (List ℕ)
 strings_of file = map (λ text. text.bytes) (contents 6 file)
 
--- the id of a location or a function
-abbrev pub id_of : Content → ℕ
-id_of entry = scalar 1 entry.bytes
+-- the entry of a table that has an id
+abbrev pub entry_of : {A : Type 0} → (A → PlacedNumber) → List A → ℕ → Option A
+entry_of id_of table id = find (λ entry. (id_of entry).number == id) table
 
--- the entry of an id
-abbrev pub entry_of : List Content → ℕ → Option Content
-entry_of table id = find (λ entry. id_of entry == id) table
+abbrev pub function_at : List Function → ℕ → Option Function
+function_at functions id = entry_of function_id functions id
+
+abbrev pub location_at : List Location → ℕ → Option Location
+location_at locations id = entry_of location_id locations id
 
 -- The string at an index. Index 0 is always the empty string, also in an empty table.
 abbrev pub string_at : List (List ℕ) → ℕ → List ℕ
@@ -48,29 +55,27 @@ string_zero_faults [] = []
 string_zero_faults (text ∷ texts) = if length text.bytes == 0 then [] else fault_at text.at BadStringZero ∷ []
 
 -- The id is 0, or one of those of the entries before it.
-abbrev pub faults_of_id : List ℕ → Content → List ReadFault
-faults_of_id earlier entry =
-    if id_of entry == 0 then fault_at entry.at ZeroId ∷ []
-    else if list_any (λ id. id == id_of entry) earlier then fault_at entry.at DuplicateId ∷ []
+abbrev pub faults_of_id : List ℕ → PlacedNumber → List ReadFault
+faults_of_id earlier id =
+    if id.number == 0 then fault_at id.at ZeroId ∷ []
+    else if list_any (λ other. other == id.number) earlier then fault_at id.at DuplicateId ∷ []
     else []
 
-abbrev pub id_faults : List ℕ → List Content → List ReadFault
+abbrev pub id_faults : List ℕ → List PlacedNumber → List ReadFault
 id_faults earlier [] = []
-id_faults earlier (entry ∷ table) = faults_of_id earlier entry ++ id_faults (earlier ++ id_of entry ∷ []) table
+id_faults earlier (id ∷ ids) = faults_of_id earlier id ++ id_faults (earlier ++ id.number ∷ []) ids
 
 -- An index, of which a negative one is seen as its 64 bits, that is neither 0 nor below the number of strings.
 abbrev pub index_faults : ℕ → ℕ → ℕ → List ReadFault
 index_faults count at index = if index == 0 || nat_lt index count && nat_lt index (2 ^ 63) then [] else fault_at at BadString ∷ []
 
--- the string indexes that an entry holds as these two fields
-abbrev pub string_faults_of : ℕ → ℕ → ℕ → Content → List ReadFault
-string_faults_of count this next entry =
-    index_faults count entry.at (scalar this entry.bytes) ++ index_faults count entry.at (scalar next entry.bytes)
+abbrev pub faults_of_type : ℕ → ValueType → List ReadFault
+faults_of_type count value_type =
+    index_faults count value_type.at value_type.type_ ++ index_faults count value_type.at value_type.unit
 
--- a scalar of the profile, and where its last field stands
-pub record PlacedNumber : Type 0 where
-  pub at : ℕ
-  pub number : ℕ
+abbrev pub faults_of_function : ℕ → Function → List ReadFault
+faults_of_function count function =
+    index_faults count function.at function.name ++ index_faults count function.at function.system_name
 
 abbrev pub placed_from : ℕ → Option ℕ → Option PlacedNumber
 placed_from at None = None
@@ -79,30 +84,32 @@ placed_from at (Some n) = Some (record { at = at; number = n })
 abbrev pub default_from : WireField → Option PlacedNumber
 default_from field = placed_from field.at (scalar_from 14 field)
 
--- `default_sample_type`
+-- `default_sample_type`, and where its last field stands
 abbrev pub default_of : List ℕ → PlacedNumber
 default_of file = last_or (record { at = 0; number = 0 }) (filter_map default_from (fields_of file).items)
 
 -- `type` and `unit` of each sample type, the default, `name` and `system_name` of each function
 abbrev pub string_faults : List ℕ → List ReadFault
 string_faults file = let count = length (strings_of file) in
-    flat_map (string_faults_of count 1 2) (sample_types_of file)
+    flat_map (faults_of_type count) (sample_types_of file)
     ++ index_faults count (default_of file).at (default_of file).number
-    ++ flat_map (string_faults_of count 2 3) (functions_of file)
+    ++ flat_map (faults_of_function count) (functions_of file)
 
--- a line's function, where it is not 0, is one of the table
-abbrev pub line_faults : (ℕ → Option Content) → ℕ → Content → List ReadFault
-line_faults function_at at line = let id = scalar 1 line.bytes in
-    if id == 0 || is_some (function_at id) then [] else fault_at at UnknownFunction ∷ []
+-- a line's function, where it is not 0, is one that is known
+abbrev pub line_faults : (ℕ → Bool) → ℕ → Line → List ReadFault
+line_faults is_known at line = if line.function_id == 0 || is_known line.function_id then [] else fault_at at UnknownFunction ∷ []
 
-abbrev pub location_faults : (ℕ → Option Content) → Content → List ReadFault
-location_faults function_at location = flat_map (line_faults function_at location.at) (contents 4 location.bytes)
+abbrev pub location_faults : (ℕ → Bool) → Location → List ReadFault
+location_faults is_known location = flat_map (line_faults is_known location.at) location.lines
+
+abbrev pub is_function : List Function → ℕ → Bool
+is_function functions id = is_some (function_at functions id)
 
 -- ---- the chosen value
 
 -- the names of the sample types
 abbrev pub type_names : List ℕ → List (List ℕ)
-type_names file = map (λ entry. string_at (strings_of file) (scalar 1 entry.bytes)) (sample_types_of file)
+type_names file = map (λ value_type. string_at (strings_of file) value_type.type_) (sample_types_of file)
 
 -- the place of the first name that is this one
 abbrev pub place_of : List ℕ → List (List ℕ) → Option ℕ
@@ -133,8 +140,8 @@ type_faults file pick =
 abbrev pub table_faults : List ℕ → Pick → List ReadFault
 table_faults file pick =
     string_zero_faults (contents 6 file)
-    ++ id_faults [] (functions_of file)
-    ++ id_faults [] (locations_of file)
+    ++ id_faults [] (map function_id (functions_of file))
+    ++ id_faults [] (map location_id (locations_of file))
     ++ string_faults file
-    ++ flat_map (location_faults (entry_of (functions_of file))) (locations_of file)
+    ++ flat_map (location_faults (is_function (functions_of file))) (locations_of file)
     ++ type_faults file pick

@@ -1,64 +1,57 @@
 //! What is wrong with the tables of a profile.
 
-ghost use Rattle.std.specs.Prelude.{◌≡◌, ℕ, List};
+ghost use Rattle.std.specs.Prelude.{◌≡◌, ℕ, List, flat_map};
 ghost use Rattle.profile_tables.specs.Message.{first};
-ghost use Rattle.profile_tables.specs.Tables.{string_faults, location_faults};
-ghost use Rattle.profile_tables.specs.Contents.{seen_content, seen_table, all_location_faults};
-ghost use Rattle.profile_tables.specs.Index.{known_in};
-ghost use Rattle.profile_tables.specs.Entries.{AreEntriesOf};
+ghost use Rattle.profile_tables.specs.Tables.{string_faults, line_faults, location_faults};
+ghost use Rattle.profile_tables.specs.Index.{is_in};
+ghost use Rattle.profile_tables.specs.Profile.{seen_locations, IsProfileOf};
 
-use crate::entries::Entries;
 use crate::ids::Index;
-use crate::message::{Content, next_field, scalar};
-use crate::strings::{index_fault, table_fault};
+use crate::messages::Line;
+use crate::profile::Profile;
+use crate::strings::{function_names_fault, index_fault, type_names_fault};
 use stack_core::{ReadFault, ReadKind};
-use wire_fields::{FieldValue, Fields};
 
 /// The first fault of the string indexes of a profile.
-pub(crate) fn string_fault(entries: &Entries<'_>) -> Option<ReadFault>
-    ensures { (file : List ℕ) → AreEntriesOf file entries.now
+pub(crate) fn string_fault(profile: &Profile<'_>) -> Option<ReadFault>
+    ensures { (file : List ℕ) → IsProfileOf file profile.now
         → result ≡ first (string_faults file) }
 {
-    let count = entries.strings.len();
-    if let Some(fault) = table_fault(count, 1, 2, &entries.sample_types) {
+    let count = profile.strings.len();
+    if let Some(fault) = type_names_fault(count, &profile.sample_types) {
         return Some(fault);
     }
-    if let Some(fault) = index_fault(count, entries.default.at, entries.default.number) {
+    if let Some(fault) = index_fault(count, profile.default.at, profile.default.number) {
         return Some(fault);
     }
-    table_fault(count, 2, 3, &entries.functions)
+    function_names_fault(count, &profile.functions)
 }
 
-/// The fault of a location with a line of an unknown function.
-fn location_fault(functions: &Index, location: Content<'_>) -> Option<ReadFault>
-    ensures { result ≡ first
-        (location_faults (known_in functions.now) (seen_content location.entry)) }
+/// The fault of lines, of which one is of an unknown function, in a location at this offset.
+fn line_fault(functions: &Index, at: usize, lines: &[Line]) -> Option<ReadFault>
+    ensures { result ≡ first (flat_map (line_faults (is_in functions.now) at) lines.now) }
 {
-    let mut fields = Fields::over(location.bytes);
-    while let Some(field) = next_field(&mut fields) {
-        if field.number == 4
-            && let FieldValue::Bytes(line) = field.value
-        {
-            let function = scalar(line, 1);
-            if function != 0 && functions.place(function).is_none() {
-                let at = location.at as u64;
-                return Some(ReadFault {
-                    kind: ReadKind::UnknownFunction,
-                    at,
-                });
-            }
+    for line in lines {
+        let function = line.function_id;
+        if function != 0 && functions.get(function).is_none() {
+            let at = at as u64;
+            return Some(ReadFault {
+                kind: ReadKind::UnknownFunction,
+                at,
+            });
         }
     }
     None
 }
 
 /// The first fault of the lines of a profile.
-pub(crate) fn function_fault(functions: &Index, locations: &[Content<'_>]) -> Option<ReadFault>
+pub(crate) fn function_fault(functions: &Index, profile: &Profile<'_>) -> Option<ReadFault>
     ensures { result ≡ first
-        (all_location_faults (known_in functions.now) (seen_table locations.now)) }
+        (flat_map (location_faults (is_in functions.now)) (seen_locations profile.now)) }
 {
-    for location in locations {
-        if let Some(fault) = location_fault(functions, *location) {
+    for location in &profile.locations {
+        let lines = profile.lines(location.lines);
+        if let Some(fault) = line_fault(functions, location.at, lines) {
             return Some(fault);
         }
     }

@@ -3,6 +3,7 @@
 ghost use Rattle.std.specs.Prelude.{◌≡◌, ◌++◌, IfOk, map, reverse, string_bytes};
 
 use crate::ids::Index;
+use crate::messages::Span;
 use crate::naming::{address_frame, append_line};
 use run_options::Naming;
 use stack_core::Names;
@@ -17,13 +18,6 @@ pub(crate) enum Frame {
     Function(usize, u64),
 }
 
-/// Where the frames of a location stand among all frames.
-#[derive(Clone, Copy, Debug)]
-pub(crate) struct Span {
-    pub(crate) start: usize,
-    pub(crate) end: usize,
-}
-
 /// The frames of a profile's locations. They refer to names, so that a name which many frames have is kept once.
 #[derive(Debug, Drop)]
 pub(crate) struct Frames {
@@ -31,7 +25,7 @@ pub(crate) struct Frames {
     pub(crate) naming: Naming,
     /// The frames of all locations, each one's as its lines stand in the file, which is leaf first.
     pub(crate) all: Vec<Frame>,
-    /// By the location's place.
+    /// Where the frames of each location stand among all, by its place.
     pub(crate) spans: Vec<Span>,
     pub(crate) locations: Index,
 }
@@ -44,7 +38,7 @@ impl Frames {
     pub(crate) fn of(&self, id: u64) -> Option<&[Frame]>
         ensures { LendsFrames self.now id result }
     {
-        let span = self.spans.get(self.locations.place(id)?)?;
+        let span = self.spans.get(self.locations.get(id)?)?;
         self.all.get(span.start..span.end)
     }
 

@@ -4,10 +4,11 @@ ghost use Rattle.std.specs.Prelude.{◌≡◌, ℕ, List, Some, IfOk, map, strin
 ghost use Rattle.std.specs.List.{slice_get};
 ghost use Rattle.profile_tables.specs.Tables.{string_at as string_of};
 ghost use Rattle.profile_tables.specs.Naming.{function_name as name_of_function};
-ghost use Rattle.profile_tables.specs.Contents.{seen_content, seen_table, texts_of};
+ghost use Rattle.profile_tables.specs.Contents.{texts_of};
 ghost use Rattle.profile_tables.specs.Functions.{name_or_unknown, text_index as index_of_text, AreMade};
 
-use crate::message::{Content, scalar};
+use crate::message::Content;
+use crate::messages::Function;
 use crate::naming::function_name;
 use crate::strings::string_at;
 use std::alloc::{AllocError, Global};
@@ -30,14 +31,13 @@ pub(crate) struct FunctionNames {
 }
 
 /// The index of a function's name, where that is not empty, else of its system name (profile.proto, message Function).
-fn text_index(strings: &[Content<'_>], function: Content<'_>) -> u64
-    ensures { result ≡ index_of_text (texts_of strings.now) (seen_content function.entry) }
+fn text_index(strings: &[Content<'_>], function: &Function) -> u64
+    ensures { result ≡ index_of_text (texts_of strings.now) function.now }
 {
-    let name = scalar(function.bytes, 2);
-    if string_at(strings, name).is_empty() {
-        scalar(function.bytes, 3)
+    if string_at(strings, function.name).is_empty() {
+        function.system_name
     } else {
-        name
+        function.name
     }
 }
 
@@ -71,12 +71,12 @@ fn place_of_name(
 pub(crate) fn function_names(
     alloc: Global,
     strings: &[Content<'_>],
-    functions: &[Content<'_>],
+    functions: &[Function],
 ) -> Result<FunctionNames, AllocError>
     ensures { IfOk result (λ named.
         map (slice_get (map string_bytes named.names.items)) named.places.items
         ≡ map (λ function. Some (name_of_function (texts_of strings.now) function))
-        (seen_table functions.now)) }
+        functions.now) }
 {
     let mut made = MadeNames {
         names: Vec::new(alloc),
@@ -84,7 +84,7 @@ pub(crate) fn function_names(
     };
     let mut places = Vec::with_capacity(alloc, functions.len())?;
     for function in functions {
-        let index = text_index(strings, *function);
+        let index = text_index(strings, function);
         places.push(place_of_name(alloc, strings, &mut made, index)?)?;
     }
     let MadeNames { names, places: _ } = made;

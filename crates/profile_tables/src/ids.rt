@@ -1,16 +1,52 @@
 //! The entries of a table by their ids.
 
-ghost use Rattle.std.specs.Prelude.{◌≡◌, ◌==◌, ℕ, Some, None, [], IfOk, IfErr, if◌then◌else◌};
+ghost use Rattle.std.specs.Prelude.{◌≡◌, ◌==◌, ℕ, Some, None, [], map, IfOk, IfErr, if◌then◌else◌};
+ghost use Rattle.profile_tables.specs.declared.messages.PlacedNumber.{PlacedNumber};
 ghost use Rattle.profile_tables.specs.Message.{first};
 ghost use Rattle.profile_tables.specs.Tables.{id_faults};
-ghost use Rattle.profile_tables.specs.Contents.{seen_table, IsFirstOf};
+ghost use Rattle.profile_tables.specs.Contents.{IsFirstOf};
 ghost use Rattle.profile_tables.specs.Index.{place_in, IsIndexOf};
 
 use crate::faults::TableFault;
-use crate::message::{Content, scalar};
+use crate::messages::{Function, Location, PlacedNumber};
 use stack_core::{ReadFault, ReadKind};
 use std::alloc::{AllocError, Global};
 use std::collections::BTreeMap;
+
+/// An entry of a table, which others name by its id.
+pub(crate) trait Entry {
+    ghost id_of: { Self → PlacedNumber };
+
+    /// The id, and where the entry stands.
+    fn id(&self) -> PlacedNumber
+        ensures { result ≡ id_of self.now };
+}
+
+impl Entry for Function {
+    ghost use Rattle.profile_tables.specs.Records.{function_id};
+
+    ghost id_of = { function_id };
+
+    fn id(&self) -> PlacedNumber {
+        PlacedNumber {
+            at: self.at,
+            number: self.id,
+        }
+    }
+}
+
+impl Entry for Location {
+    ghost use Rattle.profile_tables.specs.Index.{code_location_id};
+
+    ghost id_of = { code_location_id };
+
+    fn id(&self) -> PlacedNumber {
+        PlacedNumber {
+            at: self.at,
+            number: self.id,
+        }
+    }
+}
 
 /// The places of a table's entries, in file order, by their ids. Ids mostly count from 1, so a list has those up to the number of
 /// entries, and a map the greater ones.
@@ -23,7 +59,7 @@ pub(crate) struct Index {
 impl Index {
     /// The place of the entry that has an id.
     #[inline]
-    pub(crate) fn place(&self, id: u64) -> Option<usize>
+    pub(crate) fn get(&self, id: u64) -> Option<usize>
         ensures { result ≡ place_in self.now id }
     {
         match self.near.get(id as usize) {
@@ -48,23 +84,23 @@ impl Index {
 }
 
 /// The locations or the functions of a profile by their ids, where no id is 0 and none stands twice.
-pub(crate) fn index_of(alloc: Global, table: &[Content<'_>]) -> Result<Index, TableFault>
-    ensures ids { IfOk result (λ _. first (id_faults [] (seen_table table.now)) ≡ None) }
-    ensures places { IfOk result (IsIndexOf (seen_table table.now)) }
-    ensures fault { IfErr result (IsFirstOf (id_faults [] (seen_table table.now))) }
+pub(crate) fn index_of<E: Entry>(alloc: Global, table: &[E]) -> Result<Index, TableFault>
+    ensures ids { IfOk result (λ _. first (id_faults [] (map E.id_of table.now)) ≡ None) }
+    ensures places { IfOk result (IsIndexOf E.id_of table.now) }
+    ensures fault { IfErr result (IsFirstOf (id_faults [] (map E.id_of table.now))) }
 {
     let mut index = Index {
-        near: vec![in alloc; None; table.len() + 1]?,
+        near: vec![in alloc; None; table.len().saturating_add(1)]?,
         far: BTreeMap::new(alloc),
     };
     for (place, entry) in table.iter().enumerate() {
-        let id = scalar(entry.bytes, 1);
-        let at = entry.at as u64;
+        let PlacedNumber { at, number: id } = entry.id();
+        let at = at as u64;
         if id == 0 {
             let kind = ReadKind::ZeroId;
             return Err(TableFault::Read(ReadFault { kind, at }));
         }
-        if index.place(id).is_some() {
+        if index.get(id).is_some() {
             let kind = ReadKind::DuplicateId;
             return Err(TableFault::Read(ReadFault { kind, at }));
         }

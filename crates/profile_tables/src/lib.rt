@@ -2,21 +2,21 @@
 #![tactic(auto)]
 
 mod checks;
-mod entries;
 mod faults;
 mod frames;
 mod functions;
 mod ids;
 mod lines;
 mod message;
+mod messages;
 mod naming;
 mod numbers;
+mod outline;
 mod picking;
 mod places;
-mod plan;
+mod profile;
 mod reader;
 mod samples;
-mod shapes;
 mod stacks;
 mod steps;
 mod strings;

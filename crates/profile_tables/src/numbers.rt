@@ -4,7 +4,7 @@ ghost use Rattle.std.specs.Prelude.{◌≡◌, ◌++◌, IfOk};
 ghost use Rattle.wire_fields.specs.Field.{seen_value};
 ghost use Rattle.profile_tables.specs.Gathered.{IsGathered, IsRunGathered, AreNumbersOf};
 
-use crate::shapes::read_kind;
+use crate::messages::read_kind;
 use stack_core::ReadKind;
 use std::alloc::{AllocError, Global};
 use wire_fields::{FieldValue, Fields, Packed};

@@ -4,10 +4,10 @@ ghost use Rattle.std.specs.Prelude.{◌≡◌, List, ℕ, IfOk, map, bytes_eq};
 ghost use Rattle.profile_tables.specs.Message.{first};
 ghost use Rattle.profile_tables.specs.Tables.{string_at as string_of, place_of as place_in, chosen_value as value_chosen, type_faults};
 ghost use Rattle.profile_tables.specs.Contents.{texts_of};
-ghost use Rattle.profile_tables.specs.Entries.{names_of_types, chosen_of, AreEntriesOf};
+ghost use Rattle.profile_tables.specs.Profile.{names_of_types, chosen_of, IsProfileOf};
 
-use crate::entries::Entries;
-use crate::message::{Content, scalar};
+use crate::message::Content;
+use crate::profile::Profile;
 use crate::strings::string_at;
 use run_options::Pick;
 use stack_core::{ReadFault, ReadKind};
@@ -38,12 +38,12 @@ fn is_match(matches: &[bool], name: &[u8], index: u64) -> bool
 }
 
 /// The place of the first sample type of this name.
-fn place_of(alloc: Global, entries: &Entries<'_>, name: &[u8]) -> Result<Option<usize>, AllocError>
-    ensures { IfOk result (λ place. place ≡ place_in name.now (names_of_types entries.now)) }
+fn place_of(alloc: Global, profile: &Profile<'_>, name: &[u8]) -> Result<Option<usize>, AllocError>
+    ensures { IfOk result (λ place. place ≡ place_in name.now (names_of_types profile.now)) }
 {
-    let matches = matches_of(alloc, &entries.strings, name)?;
-    for (place, sample_type) in entries.sample_types.iter().enumerate() {
-        if is_match(&matches, name, scalar(sample_type.bytes, 1)) {
+    let matches = matches_of(alloc, &profile.strings, name)?;
+    for (place, sample_type) in profile.sample_types.iter().enumerate() {
+        if is_match(&matches, name, sample_type.type_) {
             return Ok(Some(place));
         }
     }
@@ -53,23 +53,23 @@ fn place_of(alloc: Global, entries: &Entries<'_>, name: &[u8]) -> Result<Option<
 /// The place of the chosen value, where there are samples and sample types.
 pub(crate) fn chosen_value(
     alloc: Global,
-    entries: &Entries<'_>,
+    profile: &Profile<'_>,
     pick: &Pick,
 ) -> Result<Option<usize>, AllocError>
-    ensures { IfOk result (λ place. place ≡ chosen_of entries.now pick.now) }
+    ensures { IfOk result (λ place. place ≡ chosen_of profile.now pick.now) }
 {
-    let types = entries.sample_types.len();
-    if entries.samples.is_empty() || types == 0 {
+    let types = profile.sample_types.len();
+    if profile.samples.is_empty() || types == 0 {
         return Ok(None);
     }
     match pick {
-        Pick::Named(name) => place_of(alloc, entries, name.get().as_bytes()),
+        Pick::Named(name) => place_of(alloc, profile, name.get().as_bytes()),
         Pick::Preferred => {
-            let default = string_at(&entries.strings, entries.default.number);
+            let default = string_at(&profile.strings, profile.default.number);
             if default.is_empty() {
                 return Ok(Some(types - 1));
             }
-            match place_of(alloc, entries, default)? {
+            match place_of(alloc, profile, default)? {
                 Some(place) => Ok(Some(place)),
                 None => Ok(Some(types - 1)),
             }
@@ -80,18 +80,18 @@ pub(crate) fn chosen_value(
 /// The fault of samples without sample types, or without the one that was asked for, where this value is chosen.
 pub(crate) fn type_fault(
     file: &[u8],
-    entries: &Entries<'_>,
+    profile: &Profile<'_>,
     chosen: Option<usize>,
 ) -> Option<ReadFault>
-    requires { AreEntriesOf file.now entries.now }
+    requires { IsProfileOf file.now profile.now }
     ensures { (pick : Pick) → chosen ≡ value_chosen file.now pick
         → result ≡ first (type_faults file.now pick) }
 {
     let at = file.len() as u64;
-    if entries.samples.is_empty() {
+    if profile.samples.is_empty() {
         return None;
     }
-    if entries.sample_types.is_empty() {
+    if profile.sample_types.is_empty() {
         let kind = ReadKind::NoSampleType;
         return Some(ReadFault { kind, at });
     }

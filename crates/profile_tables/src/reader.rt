@@ -5,7 +5,7 @@ ghost use Rattle.stack_core.specs.Reading.{IsSourceLimited};
 ghost use Rattle.stack_core.specs.declared.endings.SourceEnd.TheVariants.{Stopped};
 ghost use Rattle.profile_tables.specs.Samples.{read_pprof};
 
-use crate::plan::Plan;
+use crate::outline::Outline;
 use crate::steps::{Start, next_step, start_of};
 use run_options::{Naming, Pick};
 use stack_core::{SampleReader, SourceEnd, Step};
@@ -23,7 +23,7 @@ pub struct PprofReader {
     pick: Pick,
     naming: Naming,
     /// None before the tables were read.
-    plan: Option<Plan>,
+    outline: Option<Outline>,
     /// How many samples were given.
     given: usize,
     /// Their weights together.
@@ -55,7 +55,7 @@ impl PprofReader {
             bytes,
             pick,
             naming,
-            plan: None,
+            outline: None,
             given: 0,
             total: 0,
             ended: None,
@@ -72,9 +72,9 @@ impl SampleReader for PprofReader {
         if let Some(ending) = self.ended {
             return Ok(Step::End(ending));
         }
-        if self.plan.is_none() {
+        if self.outline.is_none() {
             match start_of(alloc, &self.bytes, &self.pick, self.naming)? {
-                Start::Plan(plan) => self.plan = Some(plan),
+                Start::Outline(outline) => self.outline = Some(outline),
                 Start::Fault(fault) => {
                     let ending = SourceEnd::Fault(fault);
                     self.ended = Some(ending);
@@ -82,10 +82,10 @@ impl SampleReader for PprofReader {
                 }
             }
         }
-        let Some(plan) = &self.plan else {
+        let Some(outline) = &self.outline else {
             unreachable!();
         };
-        let step = next_step(alloc, &self.bytes, plan, self.given, self.total)?;
+        let step = next_step(alloc, &self.bytes, outline, self.given, self.total)?;
         match &step {
             Step::Sample(sample) => {
                 self.given += 1;

@@ -1,11 +1,11 @@
 //! The samples of a profile.
 
 ghost use Rattle.std.specs.Prelude.{◌≡◌, ◌≤◌, IfOk, slice_index, unwrap_or};
-ghost use Rattle.profile_tables.specs.SeenPlan.{seen_plan};
+ghost use Rattle.profile_tables.specs.SeenOutline.{seen_outline};
 ghost use Rattle.profile_tables.specs.Outcome.{IsOutcome};
 
 use crate::numbers::numbers_of;
-use crate::plan::Plan;
+use crate::outline::Outline;
 use crate::stacks::{frame_count, stack_of};
 use stack_core::{FRAME_LIMIT, Names, ReadKind, Sample, WEIGHT_LIMIT};
 use std::alloc::{AllocError, Global};
@@ -23,24 +23,24 @@ fn weight_among(chosen: Option<usize>, values: &[u64]) -> u64
 /// The sample of a message (profile.proto, message Sample), behind samples of this total weight, or what is wrong with it.
 pub(crate) fn read_sample(
     alloc: Global,
-    plan: &Plan,
+    outline: &Outline,
     total: u64,
     sample: &[u8],
 ) -> Result<Result<Sample, ReadKind>, AllocError>
     requires { total ≤ WEIGHT_LIMIT }
-    ensures { IfOk result (IsOutcome (seen_plan plan.now) total sample.now) }
+    ensures { IfOk result (IsOutcome (seen_outline outline.now) total sample.now) }
 {
     let numbers = match numbers_of(alloc, sample)? {
         Ok(numbers) => numbers,
         Err(kind) => return Ok(Err(kind)),
     };
-    if numbers.values.len() != plan.sample_types {
+    if numbers.values.len() != outline.sample_types {
         return Ok(Err(ReadKind::ValueCount));
     }
-    let Some(depth) = frame_count(&plan.frames, &numbers.ids) else {
+    let Some(depth) = frame_count(&outline.frames, &numbers.ids) else {
         return Ok(Err(ReadKind::UnknownLocation));
     };
-    let weight = weight_among(plan.chosen, &numbers.values);
+    let weight = weight_among(outline.chosen, &numbers.values);
     if weight >= 1 << 63 {
         return Ok(Err(ReadKind::NegativeWeight));
     }
@@ -50,6 +50,6 @@ pub(crate) fn read_sample(
     if total + weight > WEIGHT_LIMIT {
         return Ok(Err(ReadKind::TotalTooLarge));
     }
-    let stack = Names::of(stack_of(alloc, &plan.frames, &numbers.ids, depth)?);
+    let stack = Names::of(stack_of(alloc, &outline.frames, &numbers.ids, depth)?);
     Ok(Ok(Sample { stack, weight }))
 }

@@ -1,11 +1,11 @@
 //! The steps of a reader.
 
 ghost use Rattle.std.specs.Prelude.{◌≤◌, IfOk};
-ghost use Rattle.profile_tables.specs.Plans.{IsStart, IsNext};
+ghost use Rattle.profile_tables.specs.Rests.{IsStart, IsNext};
 
 use crate::faults::TableFault;
+use crate::outline::{Outline, outline_of};
 use crate::places::content_at;
-use crate::plan::{Plan, plan_of};
 use crate::samples::read_sample;
 use run_options::{Naming, Pick};
 use stack_core::{ReadFault, SourceEnd, Step, WEIGHT_LIMIT};
@@ -14,7 +14,7 @@ use std::alloc::{AllocError, Global};
 /// What reading the tables of a file gives.
 #[derive(Drop)]
 pub(crate) enum Start {
-    Plan(Plan),
+    Outline(Outline),
     Fault(ReadFault),
 }
 
@@ -27,8 +27,8 @@ pub(crate) fn start_of(
 ) -> Result<Start, AllocError>
     ensures { IfOk result (IsStart file.now pick.now naming) }
 {
-    match plan_of(alloc, file, pick, naming) {
-        Ok(plan) => Ok(Start::Plan(plan)),
+    match outline_of(alloc, file, pick, naming) {
+        Ok(outline) => Ok(Start::Outline(outline)),
         Err(TableFault::Read(fault)) => Ok(Start::Fault(fault)),
         Err(TableFault::OutOfMemory) => Err(AllocError),
     }
@@ -38,17 +38,17 @@ pub(crate) fn start_of(
 pub(crate) fn next_step(
     alloc: Global,
     file: &[u8],
-    plan: &Plan,
+    outline: &Outline,
     next: usize,
     total: u64,
 ) -> Result<Step, AllocError>
     requires { total ≤ WEIGHT_LIMIT }
-    ensures { IfOk result (IsNext file.now plan.now next total) }
+    ensures { IfOk result (IsNext file.now outline.now next total) }
 {
-    let Some(at) = plan.samples.get(next) else {
+    let Some(at) = outline.samples.get(next) else {
         return Ok(Step::End(SourceEnd::Clean { ignored: 0 }));
     };
-    match read_sample(alloc, plan, total, content_at(file, *at))? {
+    match read_sample(alloc, outline, total, content_at(file, *at))? {
         Ok(sample) => Ok(Step::Sample(sample)),
         Err(kind) => {
             let at = *at as u64;

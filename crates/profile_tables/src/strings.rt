@@ -1,11 +1,12 @@
 //! The string table, and the indexes into it.
 
-ghost use Rattle.std.specs.Prelude.{◌≡◌};
+ghost use Rattle.std.specs.Prelude.{◌≡◌, ◌++◌, flat_map};
 ghost use Rattle.profile_tables.specs.Message.{first};
-ghost use Rattle.profile_tables.specs.Tables.{string_at as string_of, string_zero_faults, index_faults, string_faults_of};
-ghost use Rattle.profile_tables.specs.Contents.{seen_content, seen_table, texts_of, all_string_faults};
+ghost use Rattle.profile_tables.specs.Tables.{string_at as string_of, string_zero_faults, index_faults, faults_of_type, faults_of_function};
+ghost use Rattle.profile_tables.specs.Contents.{seen_table, texts_of};
 
-use crate::message::{Content, scalar};
+use crate::message::Content;
+use crate::messages::{Function, ValueType};
 use stack_core::{ReadFault, ReadKind};
 
 /// The string at an index. Index 0 is always the empty string, also in an empty table.
@@ -45,28 +46,37 @@ pub(crate) fn index_fault(count: usize, at: usize, index: u64) -> Option<ReadFau
     })
 }
 
-/// What is wrong with the two string indexes of an entry, which are these fields of it.
-fn entry_fault(count: usize, this: u32, next: u32, entry: Content<'_>) -> Option<ReadFault>
-    ensures { result ≡ first (string_faults_of count this next (seen_content entry.entry)) }
+/// The fault of two indexes that an entry holds.
+fn pair_fault(count: usize, at: usize, this: u64, next: u64) -> Option<ReadFault>
+    ensures { result ≡ first (index_faults count at this ++ index_faults count at next) }
 {
-    match index_fault(count, entry.at, scalar(entry.bytes, this)) {
+    match index_fault(count, at, this) {
         Some(fault) => Some(fault),
-        None => index_fault(count, entry.at, scalar(entry.bytes, next)),
+        None => index_fault(count, at, next),
     }
 }
 
-/// What is wrong with the string indexes of a table.
-pub(crate) fn table_fault(
-    count: usize,
-    this: u32,
-    next: u32,
-    table: &[Content<'_>],
-) -> Option<ReadFault>
-    ensures { result ≡ first (all_string_faults count this next (seen_table table.now)) }
+/// What is wrong with the string indexes of sample types.
+pub(crate) fn type_names_fault(count: usize, value_types: &[ValueType]) -> Option<ReadFault>
+    ensures { result ≡ first (flat_map (faults_of_type count) value_types.now) }
 {
-    for entry in table {
-        if let Some(fault) = entry_fault(count, this, next, *entry) {
-            return Some(fault);
+    for value_type in value_types {
+        let fault = pair_fault(count, value_type.at, value_type.type_, value_type.unit);
+        if fault.is_some() {
+            return fault;
+        }
+    }
+    None
+}
+
+/// What is wrong with the string indexes of functions.
+pub(crate) fn function_names_fault(count: usize, functions: &[Function]) -> Option<ReadFault>
+    ensures { result ≡ first (flat_map (faults_of_function count) functions.now) }
+{
+    for function in functions {
+        let fault = pair_fault(count, function.at, function.name, function.system_name);
+        if fault.is_some() {
+            return fault;
         }
     }
     None

@@ -8,7 +8,7 @@ ghost use Rattle.profile_tables.specs.SeenTables.{seen_tables, LendsNames};
 
 use crate::faults::TableFault;
 use crate::ids::Index;
-use crate::plan::plan_of;
+use crate::outline::outline_of;
 use run_options::{Naming, Pick};
 use stack_core::Names;
 use std::alloc::Global;
@@ -41,12 +41,12 @@ impl Tables {
             seen_tables tables ≡ tables_of bytes.now pick.now naming) }
         ensures fault { IfErr result (IsFirstOf (file_faults bytes.now pick.now)) }
     {
-        let plan = plan_of(alloc, bytes, pick, naming)?;
-        let frames = plan.frames.stacks(alloc)?;
+        let outline = outline_of(alloc, bytes, pick, naming)?;
+        let frames = outline.frames.stacks(alloc)?;
         Ok(Tables {
-            sample_types: plan.sample_types,
-            chosen: plan.chosen,
-            locations: plan.frames.locations,
+            sample_types: outline.sample_types,
+            chosen: outline.chosen,
+            locations: outline.frames.locations,
             frames,
         })
     }
@@ -69,7 +69,7 @@ impl Tables {
     pub fn location(&self, id: u64) -> Option<&[String]>
         ensures { LendsNames ((seen_tables self.now).frames id) result }
     {
-        let names = self.frames.get(self.locations.place(id)?)?;
+        let names = self.frames.get(self.locations.get(id)?)?;
         Some(names.get())
     }
 }

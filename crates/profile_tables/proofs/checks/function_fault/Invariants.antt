@@ -1,10 +1,12 @@
-use Rattle.std.proofs.Common.{◌≡◌, drop}
+use Rattle.std.proofs.Common.{◌≡◌, drop, map}
+use Rattle.std.specs.Prelude.{flat_map}
 use Rattle.profile_tables.specs.Message.{first}
-use Rattle.profile_tables.specs.Contents.{seen_table, all_location_faults}
-use Rattle.profile_tables.specs.Index.{known_in}
+use Rattle.profile_tables.specs.Tables.{location_faults}
+use Rattle.profile_tables.specs.Index.{is_in}
+use Rattle.profile_tables.specs.Profile.{seen_location, seen_locations}
 use Rattle.profile_tables.proofs.checks.function_fault.Given as goal
 
 abbrev pub invariant-loop-location : goal.invariant-loop-location
 invariant-loop-location l =
-    first (all_location_faults (known_in l.functions) (seen_table (drop l.location-index l.locations)))
-    ≡ first (all_location_faults (known_in l.functions) (seen_table l.locations))
+    first (flat_map (location_faults (is_in l.functions)) (map (seen_location l.profile.lines.items) (drop l.location-index l.profile.locations.items)))
+    ≡ first (flat_map (location_faults (is_in l.functions)) (seen_locations l.profile))

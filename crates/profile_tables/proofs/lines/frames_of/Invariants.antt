@@ -1,10 +1,10 @@
 use Rattle.std.proofs.Common.{◌≡◌, Some, take, map}
 use Rattle.std.specs.Prelude.{string_bytes}
-use Rattle.profile_tables.specs.Contents.{seen_table}
-use Rattle.profile_tables.specs.Frames.{text_of, items_in, name_in, lines_named}
+use Rattle.profile_tables.specs.Profile.{items_in, seen_location}
+use Rattle.profile_tables.specs.Frames.{text_of, name_in, location_named}
 use Rattle.profile_tables.proofs.lines.frames_of.Given as goal
 
 abbrev pub invariant-loop-location : goal.invariant-loop-location
 invariant-loop-location l =
     map (items_in (map (text_of (map string_bytes l.names.items) l.naming) l.all.items)) l.spans.items
-    ≡ map (λ location. Some (lines_named (name_in l.functions l.places.items (map string_bytes l.names.items)) l.naming location)) (seen_table (take l.location-index l.table))
+    ≡ map (λ location. Some (location_named (name_in l.functions l.places.items (map string_bytes l.names.items)) l.naming (seen_location l.profile.lines.items location))) (take l.location-index l.location-items)

@@ -2,22 +2,22 @@ use Rattle.std.proofs.Common.{◌≡◌, ℕ, List, Ok, sym, ◌∙◌, ap, subs
 use Rattle.std.specs.Prelude.{is_none, slice_index, unwrap_or}
 use Rattle.std.specs.List.{list_any}
 use Rattle.profile_tables.specs.Samples.{stack_of_ids}
-use Rattle.profile_tables.specs.SeenPlan.{seen_plan}
+use Rattle.profile_tables.specs.SeenOutline.{seen_outline}
 use Rattle.profile_tables.specs.Gathered.{AreNumbersOf}
 use Rattle.profile_tables.proofs.SampleLemmas.{Passes, counted, too_deep, too_large, no_fault, sample_is}
 use Rattle.profile_tables.proofs.samples.read_sample.Goals as goal
 
 pub returns-then-depth-gt-FRAME_LIMIT : goal.returns-then-depth-gt-FRAME_LIMIT
 returns-then-depth-gt-FRAME_LIMIT c =
-    let tables = seen_plan c.args.plan.now in
+    let tables = seen_outline c.args.outline.now in
     let numbers : AreNumbersOf c.args.sample.now (Ok c.in-Ok.numbers) = subst (AreNumbersOf c.args.sample.now) c.in-Ok.is c.in_ok-numbers.ensures in
     let passes : Passes tables c.args.sample.now c.in-Ok.numbers.values.items c.in-Ok.numbers.ids.items c.weight_among-weight.result = record {
       message = numbers.0;
       values_are = numbers.2;
       ids_are = numbers.1;
-      count = sym c.in-Ok.numbers.values.ok.0 ∙ sym c.len.ensures ∙ omega (arith, c.if-len-plan.false);
+      count = sym c.in-Ok.numbers.values.ok.0 ∙ sym c.len.ensures ∙ omega (arith, c.if-len-outline.false);
       known = ap (list_any (λ id. is_none (tables.frames id))) (sym c.deref.ensures.value) ∙ c.in-Some.ensures.0;
-      weight_is = c.weight_among-weight.ensures ∙ ap (λ (list : List ℕ). slice_index list (unwrap_or c.args.plan.now.chosen 0)) c.deref-2.ensures.value;
+      weight_is = c.weight_among-weight.ensures ∙ ap (λ (list : List ℕ). slice_index list (unwrap_or c.args.outline.now.chosen 0)) c.deref-2.ensures.value;
       positive = omega (arith, c.if-weight.false);
     } in
     let depth : c.in-Some.depth ≡ counted tables c.in-Ok.numbers.ids.items = c.in-Some.ensures.1 ∙ ap (counted tables) c.deref.ensures.value in
@@ -25,15 +25,15 @@ returns-then-depth-gt-FRAME_LIMIT c =
 
 pub returns-then-total-weight-gt-WEIGHT_LIMIT : goal.returns-then-total-weight-gt-WEIGHT_LIMIT
 returns-then-total-weight-gt-WEIGHT_LIMIT c =
-    let tables = seen_plan c.args.plan.now in
+    let tables = seen_outline c.args.outline.now in
     let numbers : AreNumbersOf c.args.sample.now (Ok c.in-Ok.numbers) = subst (AreNumbersOf c.args.sample.now) c.in-Ok.is c.in_ok-numbers.ensures in
     let passes : Passes tables c.args.sample.now c.in-Ok.numbers.values.items c.in-Ok.numbers.ids.items c.weight_among-weight.result = record {
       message = numbers.0;
       values_are = numbers.2;
       ids_are = numbers.1;
-      count = sym c.in-Ok.numbers.values.ok.0 ∙ sym c.len.ensures ∙ omega (arith, c.if-len-plan.false);
+      count = sym c.in-Ok.numbers.values.ok.0 ∙ sym c.len.ensures ∙ omega (arith, c.if-len-outline.false);
       known = ap (list_any (λ id. is_none (tables.frames id))) (sym c.deref.ensures.value) ∙ c.in-Some.ensures.0;
-      weight_is = c.weight_among-weight.ensures ∙ ap (λ (list : List ℕ). slice_index list (unwrap_or c.args.plan.now.chosen 0)) c.deref-2.ensures.value;
+      weight_is = c.weight_among-weight.ensures ∙ ap (λ (list : List ℕ). slice_index list (unwrap_or c.args.outline.now.chosen 0)) c.deref-2.ensures.value;
       positive = omega (arith, c.if-weight.false);
     } in
     let depth : c.in-Some.depth ≡ counted tables c.in-Ok.numbers.ids.items = c.in-Some.ensures.1 ∙ ap (counted tables) c.deref.ensures.value in
@@ -41,15 +41,15 @@ returns-then-total-weight-gt-WEIGHT_LIMIT c =
 
 pub returns : goal.returns
 returns c =
-    let tables = seen_plan c.args.plan.now in
+    let tables = seen_outline c.args.outline.now in
     let numbers : AreNumbersOf c.args.sample.now (Ok c.in-Ok.numbers) = subst (AreNumbersOf c.args.sample.now) c.in-Ok.is c.in_ok-numbers.ensures in
     let passes : Passes tables c.args.sample.now c.in-Ok.numbers.values.items c.in-Ok.numbers.ids.items c.weight_among-weight.result = record {
       message = numbers.0;
       values_are = numbers.2;
       ids_are = numbers.1;
-      count = sym c.in-Ok.numbers.values.ok.0 ∙ sym c.len.ensures ∙ omega (arith, c.if-len-plan.false);
+      count = sym c.in-Ok.numbers.values.ok.0 ∙ sym c.len.ensures ∙ omega (arith, c.if-len-outline.false);
       known = ap (list_any (λ id. is_none (tables.frames id))) (sym c.deref.ensures.value) ∙ c.in-Some.ensures.0;
-      weight_is = c.weight_among-weight.ensures ∙ ap (λ (list : List ℕ). slice_index list (unwrap_or c.args.plan.now.chosen 0)) c.deref-2.ensures.value;
+      weight_is = c.weight_among-weight.ensures ∙ ap (λ (list : List ℕ). slice_index list (unwrap_or c.args.outline.now.chosen 0)) c.deref-2.ensures.value;
       positive = omega (arith, c.if-weight.false);
     } in
     let depth : c.in-Some.depth ≡ counted tables c.in-Ok.numbers.ids.items = c.in-Some.ensures.1 ∙ ap (counted tables) c.deref.ensures.value in (

@@ -1,6 +1,6 @@
 use Rattle.std.proofs.Common.{sym, ◌∙◌, ap}
 use Rattle.profile_tables.specs.declared.message.Content.{Content}
-use Rattle.profile_tables.proofs.IndexLemmas.{nowhere}
+use Rattle.profile_tables.proofs.TableLemmas.{nowhere}
 use Rattle.profile_tables.proofs.TableLemmas.{text-at}
 use Rattle.profile_tables.proofs.strings.string_at.Goals as goal
 

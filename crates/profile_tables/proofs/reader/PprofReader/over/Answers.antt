@@ -1,4 +1,4 @@
-use Rattle.profile_tables.proofs.PlanLemmas.{pprof-limited}
+use Rattle.profile_tables.proofs.RestLemmas.{pprof-limited}
 use Rattle.profile_tables.proofs.UnstoppedLemmas.{unstopped-read_pprof}
 use Rattle.profile_tables.proofs.reader.PprofReader.over.Goals as goal
 

@@ -7,28 +7,28 @@ use Rattle.stack_core.specs.declared.endings.SourceEnd.{SourceEnd}
 use Rattle.stack_core.specs.Reading.{Rest, IsLimited}
 use Rattle.run_options.specs.declared.choices.Pick.{Pick}
 use Rattle.run_options.specs.declared.choices.Naming.{Naming}
-use Rattle.profile_tables.specs.declared.plan.Plan.{Plan}
+use Rattle.profile_tables.specs.declared.outline.Outline.{Outline}
 use Rattle.profile_tables.specs.declared.steps.Start.{Start}
 use Rattle.profile_tables.specs.declared.steps.Start.TheVariants as start
 use Rattle.profile_tables.specs.Places.{found_at}
 use Rattle.profile_tables.specs.Samples.{read_samples, read_pprof, with_sample, no_samples}
-use Rattle.profile_tables.specs.SeenPlan.{seen_plan}
+use Rattle.profile_tables.specs.SeenOutline.{seen_outline}
 
 -- the rest behind the first `next` samples of a file, which have this total weight
-abbrev pub rest_from : List ℕ → Plan → ℕ → ℕ → Rest
-rest_from file plan next total = read_samples (seen_plan plan) total (map (found_at file) (drop next plan.samples.items))
+abbrev pub rest_from : List ℕ → Outline → ℕ → ℕ → Rest
+rest_from file outline next total = read_samples (seen_outline outline) total (map (found_at file) (drop next outline.samples.items))
 
 -- the rest of a reader that has given its last sample
 abbrev pub ended : SourceEnd → Rest
 ended ending = record { samples = []; ending = ending }
 
 abbrev pub IsStart : List ℕ → Pick → Naming → Start → Type 0
-IsStart file pick naming (start.Plan plan) = rest_from file plan 0 0 ≡ read_pprof file pick naming
+IsStart file pick naming (start.Outline outline) = rest_from file outline 0 0 ≡ read_pprof file pick naming
 IsStart file pick naming (start.Fault fault) = no_samples fault ≡ read_pprof file pick naming
 
 -- the sample is the first of the rest, and stays within the limits; the ending is the rest's, which has no sample
-abbrev pub IsNext : List ℕ → Plan → ℕ → ℕ → Step → Type 0
-IsNext file plan next total (step.Sample sample) =
-    (rest_from file plan next total ≡ with_sample sample (rest_from file plan (next + 1) (total + sample.weight)))
-    × IsLimited sample × (total + sample.weight ≤ WEIGHT_LIMIT) × (next < length plan.samples.items)
-IsNext file plan next total (step.End ending) = rest_from file plan next total ≡ ended ending
+abbrev pub IsNext : List ℕ → Outline → ℕ → ℕ → Step → Type 0
+IsNext file outline next total (step.Sample sample) =
+    (rest_from file outline next total ≡ with_sample sample (rest_from file outline (next + 1) (total + sample.weight)))
+    × IsLimited sample × (total + sample.weight ≤ WEIGHT_LIMIT) × (next < length outline.samples.items)
+IsNext file outline next total (step.End ending) = rest_from file outline next total ≡ ended ending
