@@ -12,7 +12,7 @@ use Rattle.flame_layout.specs.Timeline.{Stack, total_weight, drawn}
 use Rattle.flame_layout.specs.Graph.{sorted_by_stack, graph_of}
 use Rattle.flame_layout.specs.Paths.{total_at, own_at, paths_of, visit_at, boxes_of_visits}
 use Rattle.flame_layout.specs.Comparison.{row_of, comparison_of, compared_box, compared_boxes_of}
-use Rattle.flame_layout.specs.Paired.{row_box}
+use Rattle.flame_layout.specs.checked.Paired.{row_box}
 use Rattle.flame_layout.specs.Runs.{HasPath}
 use Rattle.flame_layout.proofs.PathWords.{total_at-is}
 use Rattle.flame_layout.proofs.Ascending.{sorted-ascending}

@@ -16,7 +16,7 @@ use Rattle.flame_layout.specs.declared.boxes.SpanBox.{SpanBox}
 use Rattle.flame_layout.specs.Timeline.{Stack, weight_of, total_weight as timeline_total, drawn}
 use Rattle.flame_layout.specs.Chart.{box_name, box_at, boxes_from, boxes_after, chart_of, first_new, run_at}
 use Rattle.flame_layout.specs.Graph.{sorted_by_stack, graph_of}
-use Rattle.flame_layout.specs.Listed.{listed_box, listed_boxes}
+use Rattle.flame_layout.specs.checked.Listed.{listed_box, listed_boxes}
 use Rattle.flame_layout.specs.Paths.{boxes_of_visits, SameOwn, tree_samples}
 use Rattle.flame_layout.proofs.Walked.{own_weight-le}
 use Rattle.flame_layout.proofs.Timelines.{total_weight-drawn, drawn-nil}

@@ -11,7 +11,7 @@ use Rattle.call_tree.specs.CallTree.{Tree, own_weight, total_weight as tree_tota
 use Rattle.call_tree.specs.PathSums.{begins_with, total_of, own_of}
 use Rattle.call_tree.specs.FrameTable.{HasDistinctNames, with_name}
 use Rattle.call_tree.specs.declared.listing.Visit.{Visit as TreeVisit}
-use Rattle.call_tree.specs.Listing.{named, HasNumbersOf, IsListing as IsTreeListing}
+use Rattle.call_tree.specs.Listing.{named, HasNumbersOf, IsListing as IsTreeListing, AreIn}
 use Rattle.call_tree.proofs.TreeSums.{total_weight-tree_of, own_weight-tree_of}
 use Rattle.stack_core.specs.declared.samples.Sample.{Sample}
 use Rattle.stack_core.specs.Ledgers.{sample_at}
@@ -19,26 +19,26 @@ use Rattle.flame_layout.specs.Timeline.{weight_of, total_weight, drawn}
 use Rattle.flame_layout.specs.Graph.{sorted_by_stack}
 use Rattle.flame_layout.specs.Paths.{total_at, own_at, paths_of, IsRising}
 use Rattle.flame_layout.specs.Comparison.{row_of, comparison_of}
-use Rattle.flame_layout.specs.Paired.{Grows, IsKnown, Holds, pair_row, visit_paths}
+use Rattle.flame_layout.specs.checked.Paired.{Grows, Holds, pair_row, visit_paths}
 use Rattle.flame_layout.proofs.PathWords.{path_total, visit_of, visit_at-is, total_at-is}
 use Rattle.flame_layout.proofs.Sums.{IsListing, listing_paths}
 use Rattle.flame_layout.proofs.Rising.{Among}
 use Rattle.flame_layout.proofs.ChartLaws.{In}
 use Rattle.flame_layout.proofs.TreeSamples.{IsNamed, sampled, path_in, total_named, own_named, has_numbers, named_visit, rising_named, paths_of_visits, in_paths, paths_in, among_named, each_visit}
 use Rattle.flame_layout.proofs.Timelines.{no_sample}
-use Rattle.flame_layout.proofs.Chained.{Chained, chained_paths, visit_paths_are, numbers_chained}
+use Rattle.flame_layout.proofs.Chained.{PathsGoOn, chained_paths, visit_paths_are, numbers_chained}
 
 -- ---- a longer table
 
-pub known_more : (names more : List (List ℕ)) (p : List ℕ) → IsKnown names p → IsKnown (names ++ more) p
+pub known_more : (names more : List (List ℕ)) (p : List ℕ) → AreIn names p → AreIn (names ++ more) p
 known_more names more [] h = tt
 known_more names more (n ∷ p) h = (omega (arith, h.0, length-append names more), known_more names more p h.1)
 
-pub named_more : (names more : List (List ℕ)) (p : List ℕ) → IsKnown names p → named names p ≡ named (names ++ more) p
+pub named_more : (names more : List (List ℕ)) (p : List ℕ) → AreIn names p → named names p ≡ named (names ++ more) p
 named_more names more [] h = refl
 named_more names more (n ∷ p) h = λ i. sym (get_or_append_left names more [] n h.0) i ∷ named_more names more p h.1 i
 
-rows_more : (names more : List (List ℕ)) (rows : List (List ℕ × ℕ)) → AllByRecursion (λ row. IsKnown names row.0) rows → (sampled names rows ≡ sampled (names ++ more) rows) × AllByRecursion (λ row. IsKnown (names ++ more) row.0) rows
+rows_more : (names more : List (List ℕ)) (rows : List (List ℕ × ℕ)) → AllByRecursion (λ row. AreIn names row.0) rows → (sampled names rows ≡ sampled (names ++ more) rows) × AllByRecursion (λ row. AreIn (names ++ more) row.0) rows
 rows_more names more [] h = (refl, tt)
 rows_more names more (r ∷ rows) h =
     let rest = rows_more names more rows h.1 in
@@ -54,12 +54,12 @@ each-push P [] x h g = (g, tt)
 each-push P (y ∷ ys) x h g = (h.0, each-push P ys x h.1 g)
 
 -- one row more
-pub holds-push : (names : List (List ℕ)) (tree new : Tree) (xs : List Sample) (s : Sample) (ids : List ℕ) → Holds names tree xs → new ≡ with_weight tree ids s.weight → named names ids ≡ s.stack → IsKnown names ids → Holds names new (xs ++ s ∷ [])
+pub holds-push : (names : List (List ℕ)) (tree new : Tree) (xs : List Sample) (s : Sample) (ids : List ℕ) → Holds names tree xs → new ≡ with_weight tree ids s.weight → named names ids ≡ s.stack → AreIn names ids → Holds names new (xs ++ s ∷ [])
 holds-push names tree new xs s ids h e n k = record {
   rows = h.rows ++ (ids, s.weight) ∷ [];
   tree_is = e ∙ (ap (λ t. with_weight t ids s.weight) h.tree_is ∙ sym (fold_push (λ (t : Tree) (r : List ℕ × ℕ). with_weight t r.0 r.1) tree_map.empty h.rows (ids, s.weight)));
   samples_are = (λ i. h.samples_are i ++ record { stack = sym n i; weight = s.weight } ∷ []) ∙ sym (map-append (λ (row : List ℕ × ℕ). (let t : Sample = record { stack = named names row.0; weight = row.1 } in t)) h.rows ((ids, s.weight) ∷ []));
-  known = each-push (λ row. IsKnown names row.0) h.rows (ids, s.weight) h.known k;
+  known = each-push (λ row. AreIn names row.0) h.rows (ids, s.weight) h.known k;
 }
 
 pub holds-empty : (names : List (List ℕ)) (tree : Tree) → tree ≡ tree_map.empty → Holds names tree []
@@ -95,11 +95,11 @@ pub holds-small : (names : List (List ℕ)) (tree : Tree) (xs : List Sample) →
 holds-small names tree xs h p =
     (omega (arith, holds-total names tree xs h p, total_le p names h.rows, ap total_weight h.samples_are), omega (arith, holds-own names tree xs h p, own_le p names h.rows, ap total_weight h.samples_are))
 
-all_named : (names : List (List ℕ)) (rows : List (List ℕ × ℕ)) → AllByRecursion (λ row. IsKnown names row.0) rows → AllByRecursion (IsNamed names) rows
+all_named : (names : List (List ℕ)) (rows : List (List ℕ × ℕ)) → AllByRecursion (λ row. AreIn names row.0) rows → AllByRecursion (IsNamed names) rows
 all_named names [] h = tt
 all_named names (r ∷ rows) h = (inr h.0, all_named names rows h.1)
 
-pub holds-known : (names : List (List ℕ)) (tree : Tree) (xs : List Sample) → Holds names tree xs → (p : List ℕ) → 0 < tree_total tree p → IsKnown names p
+pub holds-known : (names : List (List ℕ)) (tree : Tree) (xs : List Sample) → Holds names tree xs → (p : List ℕ) → 0 < tree_total tree p → AreIn names p
 holds-known names tree xs h p w = path_in names h.rows p (all_named names h.rows h.known) (omega (arith, w, holds-total names tree xs h p))
 
 -- ---- its depth
@@ -133,17 +133,17 @@ pub holds-depth : (names : List (List ℕ)) (tree : Tree) (xs : List Sample) →
 holds-depth names tree xs h most deep p w =
     rows_depth names most p h.rows (subst (λ (samples : List Sample). All (λ s. length s.stack ≤ most) samples) h.samples_are deep) (omega (arith, w, holds-total names tree xs h p))
 
-last_known : (names : List (List ℕ)) (front : List ℕ) (n : ℕ) → IsKnown names (front ++ n ∷ []) → n < length names
+last_known : (names : List (List ℕ)) (front : List ℕ) (n : ℕ) → AreIn names (front ++ n ∷ []) → n < length names
 last_known names [] n h = h.0
 last_known names (x ∷ front) n h = last_known names front n h.1
 
 pub holds-numbers : (names : List (List ℕ)) (tree : Tree) (xs : List Sample) → Holds names tree xs → HasNumbersOf names tree
 holds-numbers names tree xs h front n w = last_known names front n (holds-known names tree xs h (front ++ n ∷ []) w)
 
-pub total-held : (names : List (List ℕ)) (tree : Tree) (xs : List Sample) → Holds names tree xs → HasDistinctNames names → (p : List ℕ) → IsKnown names p → tree_total tree p ≡ total_at (named names p) xs
+pub total-held : (names : List (List ℕ)) (tree : Tree) (xs : List Sample) → Holds names tree xs → HasDistinctNames names → (p : List ℕ) → AreIn names p → tree_total tree p ≡ total_at (named names p) xs
 total-held names tree xs h d p k = holds-total names tree xs h p ∙ (total_named names d p h.rows k (all_named names h.rows h.known) ∙ ap (total_at (named names p)) (sym h.samples_are))
 
-pub own-held : (names : List (List ℕ)) (tree : Tree) (xs : List Sample) → Holds names tree xs → HasDistinctNames names → (p : List ℕ) → IsKnown names p → own_weight tree p ≡ own_at (named names p) xs
+pub own-held : (names : List (List ℕ)) (tree : Tree) (xs : List Sample) → Holds names tree xs → HasDistinctNames names → (p : List ℕ) → AreIn names p → own_weight tree p ≡ own_at (named names p) xs
 own-held names tree xs h d p k = holds-own names tree xs h p ∙ (own_named names d p h.rows k (all_named names h.rows h.known) ∙ ap (own_at (named names p)) (sym h.samples_are))
 
 -- ---- its listing
@@ -173,22 +173,22 @@ each_path P ps h = by ps (λ p m. h p (paths_in p ps m))
     by [] g = tt
     by (q ∷ qs) g = (g q (inl refl), by qs (λ p m. g p (inr m)))
 
-pub listed_known : (names : List (List ℕ)) (tree : Tree) (xs : List Sample) (visits : List TreeVisit) (l : IsTreeListing names tree visits) → Holds names tree xs → AllByRecursion (IsKnown names) l.paths
-listed_known names tree xs visits l h = each_path (IsKnown names) l.paths (λ p c. holds-known names tree xs h p ((l.members p).0 c))
+pub listed_known : (names : List (List ℕ)) (tree : Tree) (xs : List Sample) (visits : List TreeVisit) (l : IsTreeListing names tree visits) → Holds names tree xs → AllByRecursion (AreIn names) l.paths
+listed_known names tree xs visits l h = each_path (AreIn names) l.paths (λ p c. holds-known names tree xs h p ((l.members p).0 c))
 
 line_paths : (names : List (List ℕ)) (tree : Tree) (xs : List Sample) (visits : List TreeVisit) (l : IsTreeListing names tree visits) → IsListing (map (named_visit names tree) l.paths) xs → paths_of (sorted_by_stack (drawn xs)) ≡ map (named names) l.paths
 line_paths names tree xs visits l h = listing_paths xs (map (named_visit names tree) l.paths) h ∙ paths_of_visits names tree l.paths
 
 -- each path of a listing goes on from the path before it
-pub listing_chained : (names : List (List ℕ)) (tree : Tree) (xs : List Sample) (visits : List TreeVisit) (l : IsTreeListing names tree visits) → IsListing (map (named_visit names tree) l.paths) xs → AllByRecursion (IsKnown names) l.paths → HasDistinctNames names → Chained [] l.paths
+pub listing_chained : (names : List (List ℕ)) (tree : Tree) (xs : List Sample) (visits : List TreeVisit) (l : IsTreeListing names tree visits) → IsListing (map (named_visit names tree) l.paths) xs → AllByRecursion (AreIn names) l.paths → HasDistinctNames names → PathsGoOn [] l.paths
 listing_chained names tree xs visits l h k d =
-    numbers_chained names d l.paths k (subst (λ ps. Chained [] ps) (line_paths names tree xs visits l h) (chained_paths (sorted_by_stack (drawn xs))))
+    numbers_chained names d l.paths k (subst (λ ps. PathsGoOn [] ps) (line_paths names tree xs visits l h) (chained_paths (sorted_by_stack (drawn xs))))
 
 pub visited_paths : (names : List (List ℕ)) (tree : Tree) (xs : List Sample) (visits : List TreeVisit) (l : IsTreeListing names tree visits) → Holds names tree xs → HasDistinctNames names → visit_paths [] visits ≡ l.paths
 visited_paths names tree xs visits l h d =
     ap (visit_paths []) l.are ∙ visit_paths_are tree [] l.paths (listing_chained names tree xs visits l (held_listing names tree xs visits l h d) (listed_known names tree xs visits l h) d)
 
-rows_are : (names : List (List ℕ)) (before after : Tree) (xs ys : List Sample) → Holds names before xs → Holds names after ys → HasDistinctNames names → (ps : List (List ℕ)) → AllByRecursion (IsKnown names) ps →
+rows_are : (names : List (List ℕ)) (before after : Tree) (xs ys : List Sample) → Holds names before xs → Holds names after ys → HasDistinctNames names → (ps : List (List ℕ)) → AllByRecursion (AreIn names) ps →
     map (pair_row names before after) ps ≡ map (row_of xs ys) (map (named names) ps)
 rows_are names before after xs ys h g d [] k = refl
 rows_are names before after xs ys h g d (p ∷ ps) k =
@@ -223,10 +223,10 @@ grows-interned old new name e = by (list_any (bytes_eq name) old) e
 pub holds-grows : (old new : List (List ℕ)) (tree : Tree) (xs : List Sample) → Holds old tree xs → Grows old new → Holds new tree xs
 holds-grows old new tree xs h (more, e) = subst (λ names. Holds names tree xs) (sym e) (holds-more old more tree xs h)
 
-pub known-grows : (old new : List (List ℕ)) (p : List ℕ) → Grows old new → IsKnown old p → IsKnown new p
-known-grows old new p (more, e) h = subst (λ names. IsKnown names p) (sym e) (known_more old more p h)
+pub known-grows : (old new : List (List ℕ)) (p : List ℕ) → Grows old new → AreIn old p → AreIn new p
+known-grows old new p (more, e) h = subst (λ names. AreIn names p) (sym e) (known_more old more p h)
 
-pub named-grows : (old new : List (List ℕ)) (p : List ℕ) → Grows old new → IsKnown old p → named old p ≡ named new p
+pub named-grows : (old new : List (List ℕ)) (p : List ℕ) → Grows old new → AreIn old p → named old p ≡ named new p
 named-grows old new p (more, e) h = named_more old more p h ∙ ap (λ names. named names p) (sym e)
 
 pub got : (xs : List (List ℕ)) (i : ℕ) (x : List ℕ) → slice_get xs i ≡ Some x → get_or xs i [] ≡ x
@@ -240,7 +240,7 @@ within-held xs samples at d l =
 
 -- the next sample of a list, added under the numbers of a table that may have grown
 pub holds-next : (old new : List (List ℕ)) (tree grown : Tree) (xs samples : List Sample) (at : ℕ) (ids : List ℕ) → at < length samples → Holds old tree (xs ++ take at samples) → Grows old new →
-    grown ≡ with_weight tree ids (sample_at samples at).weight → named new ids ≡ (sample_at samples at).stack → IsKnown new ids → Holds new grown (xs ++ take (at + 1) samples)
+    grown ≡ with_weight tree ids (sample_at samples at).weight → named new ids ≡ (sample_at samples at).stack → AreIn new ids → Holds new grown (xs ++ take (at + 1) samples)
 holds-next old new tree grown xs samples at ids l h g e n k =
     let s = sample_at samples at in
     subst (λ (ys : List Sample). Holds new grown ys) (append_assoc xs (take at samples) (s ∷ []) ∙ ap (λ ys. xs ++ ys) (sym (take_more samples at no_sample l)))

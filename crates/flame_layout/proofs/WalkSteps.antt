@@ -9,7 +9,7 @@ use Rattle.std.proofs.lemmas.List.FromFn.{length-enumerate_from, get_or-enumerat
 use Rattle.flame_layout.specs.declared.walks.OpenRun.{OpenRun}
 use Rattle.flame_layout.specs.Timeline.{Stack}
 use Rattle.flame_layout.specs.Chart.{names_shared}
-use Rattle.flame_layout.specs.Walk.{Run, seen, names_of, box_of_run, boxes_of_runs}
+use Rattle.flame_layout.specs.checked.Walk.{Run, seen, names_of, box_of_run, boxes_of_runs}
 use Rattle.flame_layout.specs.declared.boxes.SpanBox.{SpanBox}
 
 pub shared_more : (a b : Stack) (i : ℕ) → i < length a → i < length b → get_or a i [] ≡ get_or b i [] → names_shared (drop i a) (drop i b) ≡ 1 + names_shared (drop (i + 1) a) (drop (i + 1) b)

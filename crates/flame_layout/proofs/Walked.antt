@@ -9,7 +9,7 @@ use Rattle.flame_layout.specs.declared.boxes.SpanBox.{SpanBox}
 use Rattle.flame_layout.specs.declared.walks.OpenRun.{OpenRun}
 use Rattle.flame_layout.specs.Timeline.{Stack, total_weight}
 use Rattle.flame_layout.specs.Chart.{names_shared, box_name, run_at, own_weight, box_at, boxes_from, boxes_after, chart_of}
-use Rattle.flame_layout.specs.Walk.{Run, run_of, runs_at_front, boxes_behind, box_of_run, boxes_of_runs, new_run, seen, names_of, kept_of, IsWalk}
+use Rattle.flame_layout.specs.checked.Walk.{Run, run_of, runs_at_front, boxes_behind, box_of_run, boxes_of_runs, new_run, seen, names_of, shared_runs_of, IsWalk}
 use Rattle.flame_layout.proofs.Shared.{IsAlike, alike_from_shared}
 use Rattle.flame_layout.proofs.Runs.{total_weight-cons, own_of_one, own_weight-cons, run_at-alike, run_at-apart, run_at-same, names_shared-self}
 use Rattle.flame_layout.proofs.WalkSteps.{boxes_of_runs-length, boxes_of_runs-at, names_of-length, names_of-at}
@@ -240,12 +240,12 @@ walk-names start (r ∷ rs) boxes s rest w = same_lists _ _ long each
         (ap (λ run. run.name) (walk-at start (r ∷ rs) boxes s rest (k + 1) r w (omega (arith, within))) ∙
         (rw (add-one k) refl ∙ get_or_default s.stack k [] d within)))
 
-pub walk-goes_on : (start : ℕ) (runs : List OpenRun) (boxes : List SpanBox) (samples : List Sample) (p : Sample) → IsWalk start runs boxes samples → GoOn (kept_of p.stack runs) p.stack start (map seen runs) samples
+pub walk-goes_on : (start : ℕ) (runs : List OpenRun) (boxes : List SpanBox) (samples : List Sample) (p : Sample) → IsWalk start runs boxes samples → GoOn (shared_runs_of p.stack runs) p.stack start (map seen runs) samples
 walk-goes_on start [] boxes [] p w = go_on_none start p
 walk-goes_on start (r ∷ rs) boxes [] p w = absurd (cc (seen-none (r ∷ rs) w.going))
 walk-goes_on start [] boxes (s ∷ rest) p w = absurd (omega (arith, walk-length start [] boxes s rest w))
 walk-goes_on start (r ∷ rs) boxes (s ∷ rest) p w =
-    let keep : kept_of p.stack (r ∷ rs) ≡ names_shared p.stack s.stack + 1 = ap (λ names. names_shared p.stack names + 1) (walk-names start (r ∷ rs) boxes s rest w) in
+    let keep : shared_runs_of p.stack (r ∷ rs) ≡ names_shared p.stack s.stack + 1 = ap (λ names. names_shared p.stack names + 1) (walk-names start (r ∷ rs) boxes s rest w) in
     rw (keep, w.going) (go_on_some start p s rest)
 
 pub walk-begun : (start : ℕ) (runs : List OpenRun) (boxes : List SpanBox) (samples : List Sample) → IsWalk start runs boxes samples → All (λ run. start ≤ run.end) runs
@@ -256,21 +256,21 @@ walk-begun start runs boxes (s ∷ rest) w = λ k d h.
 
 -- the boxes after the entry
 pub walk-closes : (start before : ℕ) (runs : List OpenRun) (boxes : List SpanBox) (samples : List Sample) (p : Sample) → before + p.weight ≡ start → IsWalk start runs boxes samples →
-    boxes ++ reverse (drop (kept_of p.stack runs) (boxes_of_runs start (map seen runs))) ≡ reverse (boxes_behind before (p ∷ samples))
+    boxes ++ reverse (drop (shared_runs_of p.stack runs) (boxes_of_runs start (map seen runs))) ≡ reverse (boxes_behind before (p ∷ samples))
 walk-closes start before [] boxes [] p e w = append-nil boxes ∙ w.closed
 walk-closes start before (r ∷ rs) boxes [] p e w = absurd (cc (seen-none (r ∷ rs) w.going))
 walk-closes start before [] boxes (s ∷ rest) p e w = absurd (omega (arith, walk-length start [] boxes s rest w))
 walk-closes start before (r ∷ rs) boxes (s ∷ rest) p e w =
-    let keep : kept_of p.stack (r ∷ rs) ≡ names_shared p.stack s.stack + 1 = ap (λ names. names_shared p.stack names + 1) (walk-names start (r ∷ rs) boxes s rest w) in
+    let keep : shared_runs_of p.stack (r ∷ rs) ≡ names_shared p.stack s.stack + 1 = ap (λ names. names_shared p.stack names + 1) (walk-names start (r ∷ rs) boxes s rest w) in
     (λ i. w.closed i ++ reverse (drop (keep i) (boxes_of_runs start (w.going i)))) ∙
     (entry_boxes_some start p s rest ∙ ap (λ n. reverse (boxes_after (Some p.stack) n (s ∷ rest))) (sym e))
 
 -- what the walk is after the entry: `two` are the runs that were kept and the new ones, r the deepest
 pub walk-enters : (start before : ℕ) (runs two : List OpenRun) (r : OpenRun) (boxes all : List SpanBox) (samples : List Sample) (p : Sample) →
     length p.stack ≤ 4096 → before + p.weight ≡ start → IsWalk start runs boxes samples →
-    map seen two ≡ map seen (take (kept_of p.stack runs) runs) ++ map (new_run p.stack start) (range_with_len (kept_of p.stack runs) (length p.stack + 1 - kept_of p.stack runs)) →
+    map seen two ≡ map seen (take (shared_runs_of p.stack runs) runs) ++ map (new_run p.stack start) (range_with_len (shared_runs_of p.stack runs) (length p.stack + 1 - shared_runs_of p.stack runs)) →
     ((d : OpenRun) → get_or two (length p.stack) d ≡ r) →
-    all ≡ boxes ++ reverse (drop (kept_of p.stack runs) (boxes_of_runs start (map seen runs))) →
+    all ≡ boxes ++ reverse (drop (shared_runs_of p.stack runs) (boxes_of_runs start (map seen runs))) →
     IsWalk before (set two (length p.stack) (record r { own = r.own + p.weight })) all (p ∷ samples)
 walk-enters start before runs two r boxes all samples p few e w is last closed = record {
   going = map-set seen two (length p.stack) (record r { own = r.own + p.weight }) ∙ (ap (λ xs. set xs (length p.stack) (add_own p.weight (seen r))) entry ∙
@@ -280,49 +280,49 @@ walk-enters start before runs two r boxes all samples p few e w is last closed =
 }
   where
     keep : ℕ
-    keep = kept_of p.stack runs
+    keep = shared_runs_of p.stack runs
 
-    goes : GoOn (kept_of p.stack runs) p.stack start (map seen runs) samples
+    goes : GoOn (shared_runs_of p.stack runs) p.stack start (map seen runs) samples
     goes = walk-goes_on start runs boxes samples p w
 
-    entry : map seen two ≡ after_entry (kept_of p.stack runs) start p (map seen runs)
-    entry = is ∙ ap (λ xs. xs ++ map (new_run p.stack start) (range_with_len (kept_of p.stack runs) (length p.stack + 1 - kept_of p.stack runs))) (sym (take-map seen (kept_of p.stack runs) runs))
+    entry : map seen two ≡ after_entry (shared_runs_of p.stack runs) start p (map seen runs)
+    entry = is ∙ ap (λ xs. xs ++ map (new_run p.stack start) (range_with_len (shared_runs_of p.stack runs) (length p.stack + 1 - shared_runs_of p.stack runs))) (sym (take-map seen (shared_runs_of p.stack runs) runs))
 
     long : length two ≡ length p.stack + 1
-    long = sym (length-map two seen) ∙ (ap length entry ∙ after_entry-length (kept_of p.stack runs) start p samples (map seen runs) goes)
+    long = sym (length-map two seen) ∙ (ap length entry ∙ after_entry-length (shared_runs_of p.stack runs) start p samples (map seen runs) goes)
 
     read : (d : Run) → get_or (map seen two) (length p.stack) d ≡ seen r
     read d = get_or-map seen two (length p.stack) r d (omega (arith, long)) ∙ ap seen (last r)
 
 -- one run for each depth
 pub walk-length-after : (start : ℕ) (runs two : List OpenRun) (boxes : List SpanBox) (samples : List Sample) (p : Sample) → IsWalk start runs boxes samples →
-    map seen two ≡ map seen (take (kept_of p.stack runs) runs) ++ map (new_run p.stack start) (range_with_len (kept_of p.stack runs) (length p.stack + 1 - kept_of p.stack runs)) →
+    map seen two ≡ map seen (take (shared_runs_of p.stack runs) runs) ++ map (new_run p.stack start) (range_with_len (shared_runs_of p.stack runs) (length p.stack + 1 - shared_runs_of p.stack runs)) →
     length two ≡ length p.stack + 1
-walk-length-after start runs two boxes samples p w is = sym (length-map two seen) ∙ (ap length entry ∙ after_entry-length (kept_of p.stack runs) start p samples (map seen runs) goes)
+walk-length-after start runs two boxes samples p w is = sym (length-map two seen) ∙ (ap length entry ∙ after_entry-length (shared_runs_of p.stack runs) start p samples (map seen runs) goes)
   where
-    goes : GoOn (kept_of p.stack runs) p.stack start (map seen runs) samples
+    goes : GoOn (shared_runs_of p.stack runs) p.stack start (map seen runs) samples
     goes = walk-goes_on start runs boxes samples p w
 
-    entry : map seen two ≡ after_entry (kept_of p.stack runs) start p (map seen runs)
-    entry = is ∙ ap (λ xs. xs ++ map (new_run p.stack start) (range_with_len (kept_of p.stack runs) (length p.stack + 1 - kept_of p.stack runs))) (sym (take-map seen (kept_of p.stack runs) runs))
+    entry : map seen two ≡ after_entry (shared_runs_of p.stack runs) start p (map seen runs)
+    entry = is ∙ ap (λ xs. xs ++ map (new_run p.stack start) (range_with_len (shared_runs_of p.stack runs) (length p.stack + 1 - shared_runs_of p.stack runs))) (sym (take-map seen (shared_runs_of p.stack runs) runs))
 
 -- the deepest run, before the sample's weight is added to its own
 pub walk-room : (start : ℕ) (runs two : List OpenRun) (r : OpenRun) (boxes : List SpanBox) (samples : List Sample) (p : Sample) → IsWalk start runs boxes samples →
-    map seen two ≡ map seen (take (kept_of p.stack runs) runs) ++ map (new_run p.stack start) (range_with_len (kept_of p.stack runs) (length p.stack + 1 - kept_of p.stack runs)) →
+    map seen two ≡ map seen (take (shared_runs_of p.stack runs) runs) ++ map (new_run p.stack start) (range_with_len (shared_runs_of p.stack runs) (length p.stack + 1 - shared_runs_of p.stack runs)) →
     get_or two (length p.stack) r ≡ r → r.own + start ≤ r.end
 walk-room start runs two r boxes samples p w is last = room
   where
-    goes : GoOn (kept_of p.stack runs) p.stack start (map seen runs) samples
+    goes : GoOn (shared_runs_of p.stack runs) p.stack start (map seen runs) samples
     goes = walk-goes_on start runs boxes samples p w
 
-    entry : map seen two ≡ after_entry (kept_of p.stack runs) start p (map seen runs)
-    entry = is ∙ ap (λ xs. xs ++ map (new_run p.stack start) (range_with_len (kept_of p.stack runs) (length p.stack + 1 - kept_of p.stack runs))) (sym (take-map seen (kept_of p.stack runs) runs))
+    entry : map seen two ≡ after_entry (shared_runs_of p.stack runs) start p (map seen runs)
+    entry = is ∙ ap (λ xs. xs ++ map (new_run p.stack start) (range_with_len (shared_runs_of p.stack runs) (length p.stack + 1 - shared_runs_of p.stack runs))) (sym (take-map seen (shared_runs_of p.stack runs) runs))
 
     long : length two ≡ length p.stack + 1
     long = walk-length-after start runs two boxes samples p w is
 
     behind : seen r ≡ run_behind (length p.stack) start p samples
-    behind = sym (get_or-map seen two (length p.stack) r (seen r) (omega (arith, long)) ∙ ap seen last) ∙ (ap (λ xs. get_or xs (length p.stack) (seen r)) entry ∙ after_entry-at (kept_of p.stack runs) start p samples (map seen runs) (length p.stack) (seen r) goes (omega arith))
+    behind = sym (get_or-map seen two (length p.stack) r (seen r) (omega (arith, long)) ∙ ap seen last) ∙ (ap (λ xs. get_or xs (length p.stack) (seen r)) entry ∙ after_entry-at (shared_runs_of p.stack runs) start p samples (map seen runs) (length p.stack) (seen r) goes (omega arith))
 
     room : r.own + start ≤ r.end
     room = omega (arith, ap (λ (run : Run). run.end) behind, ap (λ (run : Run). run.own) behind, own_weight-le (length p.stack) (run_at (length p.stack) p.stack samples))

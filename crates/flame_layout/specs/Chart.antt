@@ -1,3 +1,4 @@
+-- The flame chart of a timeline: a box for each longest run of neighbouring samples whose stacks begin with the same names.
 use Rattle.std.specs.Prelude.{ℕ, zero, suc, ◌+◌, ◌-◌, Bool, List, [], ◌∷◌, ◌++◌, Option, None, Some, length, map, sum_by, nat_le, nat_eq, slice_index_or, if◌then◌else◌, codes, take_while}
 use Rattle.std.specs.Str.{bytes_eq}
 use Rattle.std.specs.List.{common_prefix_len, range_with_len}

@@ -1,3 +1,4 @@
+-- The comparison of two profiles: its rows and its boxes.
 use Rattle.std.specs.Prelude.{List, ◌++◌, map}
 use Rattle.std.specs.List.{zip}
 use Rattle.stack_core.specs.declared.samples.Sample.{Sample}

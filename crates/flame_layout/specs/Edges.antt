@@ -1,3 +1,4 @@
+-- Where the boxes begin and end in an image.
 use Rattle.std.specs.Prelude.{ℕ, ◌+◌, ◌*◌, ◌/◌}
 use Rattle.flame_layout.specs.declared.boxes.SpanBox.{SpanBox}
 use Rattle.flame_layout.specs.declared.boxes.PlacedBox.{PlacedBox}

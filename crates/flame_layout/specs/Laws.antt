@@ -1,3 +1,4 @@
+-- What the laws of graphs, comparisons and images say.
 use Rattle.std.specs.Prelude.{◌≡◌, ◌<◌, ◌+◌, ◌↔◌, ℕ, List, ◌∷◌, map, Contains}
 use Rattle.stack_core.specs.declared.samples.Sample.{Sample}
 use Rattle.flame_layout.specs.declared.boxes.SpanBox.{SpanBox}

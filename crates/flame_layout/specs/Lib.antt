@@ -3,9 +3,7 @@ pub mod Comparison
 pub mod Edges
 pub mod Graph
 pub mod Laws
-pub mod Listed
-pub mod Paired
 pub mod Paths
 pub mod Runs
 pub mod Timeline
-pub mod Walk
+pub mod checked

@@ -1,3 +1,4 @@
+-- The paths of a chart's boxes, and the sums of the weights at a path.
 use Rattle.std.specs.Prelude.{◌≡◌, ⊤, ℕ, ◌+◌, ◌-◌, List, [], ◌∷◌, ◌++◌, Option, None, Some, length, map, take}
 use Rattle.std.specs.List.{range_with_len, AllByRecursion}
 use Rattle.std.specs.declared.cmp.Ordering.TheVariants.{Less}

@@ -1,3 +1,4 @@
+-- Longest runs of neighbouring samples, and what the laws of charts say of their boxes.
 use Rattle.std.specs.Prelude.{◌≡◌, ◌<◌, ◌≤◌, ◌+◌, ◌⊎◌, ℕ, List, [], ◌∷◌, ◌++◌, Option, None, Some, length, map, take, ⊤}
 use Rattle.std.specs.List.{last_or, AllByRecursion}
 use Rattle.stack_core.specs.declared.samples.Sample.{Sample}

@@ -1,3 +1,4 @@
+-- The timeline: the samples that weigh, of all lists one after another.
 use Rattle.std.specs.Prelude.{ℕ, Bool, List, [], ◌∷◌, ◌++◌, filter, map, nat_lt, sum_by}
 use Rattle.stack_core.specs.Ledgers.{ListState}
 use Rattle.stack_core.specs.declared.samples.Sample.{Sample}

@@ -5,10 +5,10 @@ ghost use Rattle.stack_core.specs.declared.samples.Sample.{Sample as WalkedSampl
 ghost use Rattle.stack_core.specs.Ledgers.{sample_at};
 ghost use Rattle.flame_layout.specs.Timeline.{drawn, samples_of, timeline, total_weight};
 ghost use Rattle.flame_layout.specs.Chart.{chart_of};
-ghost use Rattle.flame_layout.specs.Walk.{IsFront, IsWalk};
+ghost use Rattle.flame_layout.specs.checked.Walk.{IsFront, IsWalk};
 
 use crate::boxes::SpanBox;
-use crate::walks::{OpenRun, close, kept, open_runs};
+use crate::walks::{Walk, close, open_runs, shared_runs};
 use stack_core::SourceList;
 use std::alloc::{AllocError, Global};
 
@@ -16,8 +16,7 @@ use std::alloc::{AllocError, Global};
 /// with the sample `later` of the list, if it is one of this list.
 fn enter<'a>(
     alloc: Global,
-    runs: &mut Vec<OpenRun<'a>>,
-    boxes: &mut Vec<SpanBox>,
+    walk: &mut Walk<'a>,
     start: u64,
     list: &'a SourceList,
     at: usize,
@@ -26,19 +25,19 @@ fn enter<'a>(
     requires at { at < length list.now.samples }
     requires room { (sample_at list.now.samples at).weight ≤ start }
     requires walked { (samples : List WalkedSample)
-        × IsWalk start runs.old.items boxes.old.items samples }
-    requires later { IfSome later (IsFront list.now.samples runs.old.items) }
-    ensures front { OnOk result (IsFront list.now.samples runs.new.items at) }
+        × IsWalk start walk.old.runs.items walk.old.boxes.items samples }
+    requires later { IfSome later (IsFront list.now.samples walk.old.runs.items) }
+    ensures front { OnOk result (IsFront list.now.samples walk.new.runs.items at) }
     ensures walked { OnOk result ((before : ℕ) (samples : List WalkedSample)
         → before + (sample_at list.now.samples at).weight ≡ start
-        → IsWalk start runs.old.items boxes.old.items samples
-        → IsWalk before runs.new.items boxes.new.items (sample_at list.now.samples at ∷ samples)) }
+        → IsWalk start walk.old.runs.items walk.old.boxes.items samples
+        → IsWalk before walk.new.runs.items walk.new.boxes.items (sample_at list.now.samples at ∷ samples)) }
 {
-    let keep = kept(list, at, later, runs);
-    close(alloc, runs, boxes, start, keep)?;
-    open_runs(runs, list, at, keep, start)?;
+    let keep = shared_runs(list, at, later, &walk.runs);
+    close(alloc, &mut walk.runs, &mut walk.boxes, start, keep)?;
+    open_runs(&mut walk.runs, list, at, keep, start)?;
     let depth = list.depth(at);
-    let last = &mut runs[depth];
+    let last = &mut walk.runs[depth];
     last.own += list.weight(at);
     Ok(())
 }
@@ -46,25 +45,24 @@ fn enter<'a>(
 /// Takes the samples of a list in front of what was walked, the last first. Gives where they begin.
 fn enter_list<'a>(
     alloc: Global,
-    runs: &mut Vec<OpenRun<'a>>,
-    boxes: &mut Vec<SpanBox>,
+    walk: &mut Walk<'a>,
     end: u64,
     list: &'a SourceList,
 ) -> Result<u64, AllocError>
     requires room { total_weight list.now.samples ≤ end }
     requires walked { (samples : List WalkedSample)
-        × IsWalk end runs.old.items boxes.old.items samples }
+        × IsWalk end walk.old.runs.items walk.old.boxes.items samples }
     ensures start { IfOk result (λ start. start + total_weight list.now.samples ≡ end) }
     ensures walked { IfOk result (λ start. (samples : List WalkedSample)
-        → IsWalk end runs.old.items boxes.old.items samples
-        → IsWalk start runs.new.items boxes.new.items (drawn list.now.samples ++ samples)) }
+        → IsWalk end walk.old.runs.items walk.old.boxes.items samples
+        → IsWalk start walk.new.runs.items walk.new.boxes.items (drawn list.now.samples ++ samples)) }
 {
     let mut start = end;
     let mut later = None;
     for at in (0..list.len()).rev() {
         let weight = list.weight(at);
         if weight > 0 {
-            enter(alloc, runs, boxes, start, list, at, later)?;
+            enter(alloc, walk, start, list, at, later)?;
             start -= weight;
             later = Some(at);
         }
@@ -85,12 +83,18 @@ pub fn chart_boxes(alloc: Global, lists: &[SourceList]) -> Result<Vec<SpanBox>, 
     ensures positive { IfOk result (λ boxes. 0 < length boxes.items
         → 0 < total_weight (timeline (samples_of lists.now))) }
 {
-    let mut runs = Vec::new(alloc);
-    let mut boxes = Vec::new(alloc);
+    let mut walk = Walk {
+        runs: Vec::new(alloc),
+        boxes: Vec::new(alloc),
+    };
     let mut start = total(lists);
-    for place in (0..lists.len()).rev() {
-        start = enter_list(alloc, &mut runs, &mut boxes, start, &lists[place])?;
+    for index in (0..lists.len()).rev() {
+        start = enter_list(alloc, &mut walk, start, &lists[index])?;
     }
+    let Walk {
+        mut runs,
+        mut boxes,
+    } = walk;
     close(alloc, &mut runs, &mut boxes, start, 0)?;
     boxes.reverse();
     Ok(boxes)

@@ -6,10 +6,10 @@ ghost use Rattle.stack_core.specs.Ledgers.{sample_at};
 ghost use Rattle.stack_core.specs.declared.samples.Sample.{Sample};
 ghost use Rattle.call_tree.specs.CallTree.{Tree, total_weight as tree_total, own_weight as tree_own};
 ghost use Rattle.call_tree.specs.FrameTable.{HasDistinctNames};
-ghost use Rattle.call_tree.specs.Listing.{named};
+ghost use Rattle.call_tree.specs.Listing.{named, AreIn};
 ghost use Rattle.flame_layout.specs.Timeline.{total_weight};
 ghost use Rattle.flame_layout.specs.Comparison.{comparison_of, compared_boxes_of};
-ghost use Rattle.flame_layout.specs.Paired.{Grows, visit_paths, next_path, pair_row, IsKnown, Holds, row_box};
+ghost use Rattle.flame_layout.specs.checked.Paired.{Grows, visit_paths, next_path, pair_row, Holds, row_box};
 
 use crate::boxes::{ComparedBox, PairRow, SpanBox};
 use call_tree::{CallTree, FrameTable, Visit};
@@ -79,13 +79,13 @@ fn frame_numbers(
     requires distinct { HasDistinctNames table.old }
     ensures names { IfOk result (λ numbers.
         named table.new numbers.items ≡ (sample_at list.now.samples at).stack) }
-    ensures known { IfOk result (λ numbers. IsKnown table.new numbers.items) }
+    ensures known { IfOk result (λ numbers. AreIn table.new numbers.items) }
     ensures grows { OnOk result (Grows table.old table.new) }
     ensures distinct { OnOk result (HasDistinctNames table.new) }
 {
     let mut numbers = Vec::new(alloc);
-    for place in 0..list.depth(at) {
-        numbers.push(table.intern(list.name(at, place))?)?;
+    for frame in 0..list.depth(at) {
+        numbers.push(table.intern(list.name(at, frame))?)?;
     }
     Ok(numbers)
 }
@@ -98,7 +98,7 @@ fn pair_rows(
     before: &CallTree,
     after: &CallTree,
 ) -> Result<Vec<PairRow>, AllocError>
-    requires known { AllByRecursion (IsKnown table.now) (visit_paths [] visits.now) }
+    requires known { AllByRecursion (AreIn table.now) (visit_paths [] visits.now) }
     requires before { (path : List ℕ)
         → (tree_total before.now path < 2 ^ 64) × (tree_own before.now path < 2 ^ 64) }
     requires after { (path : List ℕ)
@@ -109,14 +109,14 @@ fn pair_rows(
     let mut rows = Vec::new(alloc);
     let mut path = Vec::new(alloc);
     for visit in visits {
-        follow(&mut path, *visit)?;
+        step_path(&mut path, *visit)?;
         rows.push(row(alloc, table, &path, before, after)?)?;
     }
     Ok(rows)
 }
 
-/// Goes on to the path of the next visit.
-fn follow(path: &mut Vec<usize>, visit: Visit) -> Result<(), AllocError>
+/// Steps to the path of the next visit.
+fn step_path(path: &mut Vec<usize>, visit: Visit) -> Result<(), AllocError>
     ensures { OnOk result (path.new.items ≡ next_path path.old.items visit) }
 {
     if visit.depth == 0 {
@@ -136,7 +136,7 @@ fn row(
     before: &CallTree,
     after: &CallTree,
 ) -> Result<PairRow, AllocError>
-    requires known { IsKnown table.now path.now }
+    requires known { AreIn table.now path.now }
     requires before { (tree_total before.now path.now < 2 ^ 64)
         × (tree_own before.now path.now < 2 ^ 64) }
     requires after { (tree_total after.now path.now < 2 ^ 64)
@@ -154,7 +154,7 @@ fn row(
 
 /// The names of a path's numbers.
 fn names(alloc: Global, table: &FrameTable, path: &[usize]) -> Result<Names, AllocError>
-    requires { IsKnown table.now path.now }
+    requires { AreIn table.now path.now }
     ensures { IfOk result (λ names. names ≡ named table.now path.now) }
 {
     let mut names = Vec::new(alloc);

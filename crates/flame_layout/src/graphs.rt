@@ -5,7 +5,7 @@ ghost use Rattle.stack_core.specs.declared.samples.Sample.{Sample};
 ghost use Rattle.call_tree.specs.CallTree.{total_weight};
 ghost use Rattle.call_tree.specs.Listing.{HasNumbersOf};
 ghost use Rattle.flame_layout.specs.Graph.{graph_of};
-ghost use Rattle.flame_layout.specs.Listed.{listed_box, listed_boxes};
+ghost use Rattle.flame_layout.specs.checked.Listed.{listed_box, listed_boxes};
 ghost use Rattle.flame_layout.specs.Paths.{SameOwn, tree_samples};
 
 use crate::boxes::SpanBox;

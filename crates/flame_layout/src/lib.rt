@@ -6,8 +6,8 @@ mod boxes;
 mod charts;
 mod comparisons;
 mod graphs;
+mod image;
 pub mod laws;
-mod placing;
 #[cfg(test)]
 mod tests;
 mod walks;
@@ -16,5 +16,5 @@ pub use boxes::{ComparedBox, PairRow, PlacedBox, SpanBox};
 pub use charts::chart_boxes;
 pub use comparisons::{compare, compared_boxes};
 pub use graphs::graph_boxes;
-pub use placing::{edges, place};
+pub use image::{edges, place};
 pub use run_options::{MAX_WIDTH, Width};

@@ -4,7 +4,7 @@ ghost use Rattle.std.specs.Prelude.{◌≡◌, ℕ, ◌+◌, ◌-◌, ◌<◌, �
 ghost use Rattle.std.specs.List.{range_with_len};
 ghost use Rattle.stack_core.specs.Ledgers.{sample_at, name_at as told_name};
 ghost use Rattle.flame_layout.specs.Chart.{box_name, names_shared};
-ghost use Rattle.flame_layout.specs.Walk.{IsFront, kept_of, names_of, seen, box_of_run, boxes_of_runs, new_run};
+ghost use Rattle.flame_layout.specs.checked.Walk.{IsFront, shared_runs_of, names_of, seen, box_of_run, boxes_of_runs, new_run};
 
 use crate::boxes::SpanBox;
 use stack_core::{FRAME_LIMIT, SourceList, Text};
@@ -21,6 +21,14 @@ pub(crate) struct OpenRun<'a> {
     pub(crate) own: u64,
 }
 
+/// The walk from the last sample to the first: the runs that go on at the front of what was walked,
+/// one for each depth, and the boxes of those that have ended, the last box first.
+#[derive(Drop)]
+pub(crate) struct Walk<'a> {
+    pub(crate) runs: Vec<OpenRun<'a>>,
+    pub(crate) boxes: Vec<SpanBox>,
+}
+
 /// With how many names the sample's stack and that of the runs begin alike.
 fn shared(list: &SourceList, at: usize, runs: &[OpenRun<'_>]) -> usize
     requires { at < length list.now.samples }
@@ -29,9 +37,9 @@ fn shared(list: &SourceList, at: usize, runs: &[OpenRun<'_>]) -> usize
     ensures deep { result ≤ length (sample_at list.now.samples at).stack }
 {
     let most = list.depth(at).min(runs.len().saturating_sub(1));
-    for place in 0..most {
-        if list.name(at, place) != runs[place + 1].name {
-            return place;
+    for frame in 0..most {
+        if list.name(at, frame) != runs[frame + 1].name {
+            return frame;
         }
     }
     most
@@ -48,9 +56,9 @@ fn shared_in_list(list: &SourceList, at: usize, later: usize) -> usize
     ensures small { result ≤ FRAME_LIMIT }
 {
     let most = list.depth(at).min(list.depth(later));
-    for place in 0..most {
-        if !is_same_name(list, at, later, place) {
-            return place;
+    for frame in 0..most {
+        if !is_same_name(list, at, later, frame) {
+            return frame;
         }
     }
     most
@@ -58,23 +66,23 @@ fn shared_in_list(list: &SourceList, at: usize, later: usize) -> usize
 
 /// Whether a frame has the same name in two samples of a list. Equal numbers stand for equal names,
 /// so the names are compared only where the numbers differ.
-fn is_same_name(list: &SourceList, at: usize, later: usize, place: usize) -> bool
+fn is_same_name(list: &SourceList, at: usize, later: usize, frame: usize) -> bool
     requires at { at < length list.now.samples }
     requires later { later < length list.now.samples }
-    requires deep { place < length (sample_at list.now.samples at).stack }
-    requires later_deep { place < length (sample_at list.now.samples later).stack }
-    ensures { IsTrue result ↔ (told_name (sample_at list.now.samples at).stack place
-        ≡ told_name (sample_at list.now.samples later).stack place) }
+    requires deep { frame < length (sample_at list.now.samples at).stack }
+    requires later_deep { frame < length (sample_at list.now.samples later).stack }
+    ensures { IsTrue result ↔ (told_name (sample_at list.now.samples at).stack frame
+        ≡ told_name (sample_at list.now.samples later).stack frame) }
 {
-    if list.number(at, place) == list.number(later, place) {
+    if list.number(at, frame) == list.number(later, frame) {
         return true;
     }
-    list.name(at, place) == list.name(later, place)
+    list.name(at, frame) == list.name(later, frame)
 }
 
 /// How many of the runs go on under the sample, from the root on. `later` is the sample of the list
 /// whose runs they are; without one they are of another list.
-pub(crate) fn kept(
+pub(crate) fn shared_runs(
     list: &SourceList,
     at: usize,
     later: Option<usize>,
@@ -83,7 +91,7 @@ pub(crate) fn kept(
     requires at { at < length list.now.samples }
     requires few { length runs.now ≤ 4097 }
     requires later { IfSome later (IsFront list.now.samples runs.now) }
-    ensures is { result ≡ kept_of (sample_at list.now.samples at).stack runs.now }
+    ensures is { result ≡ shared_runs_of (sample_at list.now.samples at).stack runs.now }
     ensures there { result ≤ length runs.now }
     ensures deep { result ≤ length (sample_at list.now.samples at).stack + 1 }
 {
@@ -91,7 +99,7 @@ pub(crate) fn kept(
         return 0;
     }
     match later {
-        Some(place) => shared_in_list(list, at, place) + 1,
+        Some(later) => shared_in_list(list, at, later) + 1,
         None => shared(list, at, runs) + 1,
     }
 }
@@ -150,9 +158,9 @@ pub(crate) fn open_runs<'a>(
         ++ map (new_run (sample_at list.now.samples at).stack end)
         (range_with_len from (length (sample_at list.now.samples at).stack + 1 - from))) }
 {
-    let depth = list.depth(at);
-    for place in from..depth + 1 {
-        let name = frame_name(list, at, place);
+    let last = list.depth(at);
+    for depth in from..last + 1 {
+        let name = frame_name(list, at, depth);
         runs.push(OpenRun { name, end, own: 0 })?;
     }
     Ok(())

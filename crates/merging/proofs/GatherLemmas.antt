@@ -20,12 +20,11 @@ use Rattle.ring_collect.proofs.RunLemmas.{at_place}
 use Rattle.call_tree.specs.CallTree.{Tree}
 use Rattle.call_tree.specs.PathSums.{begins_with, total_of}
 use Rattle.call_tree.proofs.TreeSums.{total_of-cons}
-use Rattle.call_tree.specs.Listing.{named}
+use Rattle.call_tree.specs.Listing.{named, AreIn}
 use Rattle.flame_layout.specs.Timeline.{Stack, samples_of, timeline, drawn, total_weight as weight_sum}
 use Rattle.std.specs.Cmp.Lexicographic.{pointwise}
 use Rattle.flame_layout.specs.Chart.{begins_alike}
 use Rattle.flame_layout.specs.Paths.{total_at, own_at, weighed}
-use Rattle.flame_layout.specs.Paired.{IsKnown}
 use Rattle.flame_layout.proofs.Timelines.{total_weight-drawn}
 use Rattle.flame_layout.proofs.PathWords.{total_at-is, own_at-is}
 use Rattle.flame_layout.proofs.TreeSamples.{entries_named, path_in}
@@ -150,7 +149,7 @@ pub drawable : (names : List (List ℕ)) (tree : Tree) (lists : List (List Sampl
 drawable names tree lists h small = record {
   total = omega (arith, h.total [] tt, total-all (all_samples lists), total_fits lists small);
   depth = λ path w.
-      let known : IsKnown names path = path_in names (entries tree) path (entries_named names tree h.numbers) w in
+      let known : AreIn names path = path_in names (entries tree) path (entries_named names tree h.numbers) w in
       let weighs : 0 < total_at (named names path) (all_samples lists) = omega (arith, w, h.total path known) in
       omega (arith, total-depth (named names path) FRAME_LIMIT (all_samples lists) (depths_small lists small.each) weighs, length-map path (λ n. get_or names n []));
   numbers = h.numbers;

@@ -13,8 +13,8 @@ use Rattle.stack_core.specs.declared.samples.Sample.{Sample}
 use Rattle.stack_core.specs.Interleaving.{sources_of}
 use Rattle.call_tree.specs.CallTree.{Tree, tree_of, with_weight, total_weight}
 use Rattle.call_tree.specs.FrameTable.{HasDistinctNames}
-use Rattle.call_tree.specs.Listing.{named}
-use Rattle.flame_layout.specs.Paired.{Grows, IsKnown, Holds}
+use Rattle.call_tree.specs.Listing.{named, AreIn}
+use Rattle.flame_layout.specs.checked.Paired.{Grows, Holds}
 use Rattle.flame_layout.specs.Timeline.{total_weight as weight_sum}
 use Rattle.flame_layout.proofs.Held.{known-grows, named-grows, each-push, holds-small}
 use Rattle.merging.specs.declared.snapshots.Snapshot.{Snapshot}
@@ -31,7 +31,7 @@ use Rattle.merging.proofs.SnapshotLemmas.{tree_of-push, snapshots_of-push}
 
 -- ---- the tree of rows holds their samples
 
-paths_known : (names : List (List ℕ)) (rows : List TakenRow) → AllByRecursion (IsNumbered names) rows → AllByRecursion (λ path. IsKnown names path.0) (paths_of rows)
+paths_known : (names : List (List ℕ)) (rows : List TakenRow) → AllByRecursion (IsNumbered names) rows → AllByRecursion (λ path. AreIn names path.0) (paths_of rows)
 paths_known names [] h = tt
 paths_known names (row ∷ rows) h = (h.0.known, paths_known names rows h.1)
 

@@ -7,11 +7,11 @@ use Rattle.std.proofs.lemmas.Bool.{cases_lt}
 use Rattle.stack_core.specs.declared.samples.Sample.{Sample}
 use Rattle.call_tree.specs.CallTree.{Tree}
 use Rattle.call_tree.specs.FrameTable.{HasDistinctNames}
-use Rattle.call_tree.specs.Listing.{named}
+use Rattle.call_tree.specs.Listing.{named, AreIn}
 use Rattle.call_tree.specs.PathSums.{begins_with, total_of, own_of}
 use Rattle.call_tree.proofs.TreeSums.{total_of-cons, own_of-cons}
 use Rattle.flame_layout.specs.Timeline.{Stack}
-use Rattle.flame_layout.specs.Paired.{IsKnown, Holds}
+use Rattle.flame_layout.specs.checked.Paired.{Holds}
 use Rattle.flame_layout.specs.Paths.{total_at, own_at, weighed, tree_samples, SameOwn}
 use Rattle.flame_layout.proofs.TreeSamples.{sampled, entries_named, path_in, own_named, own_weight-sum, has_numbers}
 use Rattle.flame_layout.proofs.Held.{holds-total, holds-known, holds-numbers, total-held, own-held}
@@ -48,13 +48,13 @@ own_at-le stack (sample ∷ samples) = by (pointwise bytes_eq stack sample.stack
 -- ---- a tree that holds samples has their sums
 
 -- a stack that has numbers has one own sum among the samples and in the tree
-own_numbered : (names : List (List ℕ)) (tree : Tree) (samples : List Sample) → Holds names tree samples → HasDistinctNames names → (path : List ℕ) → IsKnown names path
+own_numbered : (names : List (List ℕ)) (tree : Tree) (samples : List Sample) → Holds names tree samples → HasDistinctNames names → (path : List ℕ) → AreIn names path
     → own_at (named names path) samples ≡ own_at (named names path) (tree_samples names tree)
 own_numbered names tree samples held distinct path known =
     let entries_known = entries_named names tree (holds-numbers names tree samples held) in
     sym (own-held names tree samples held distinct path known) ∙ (own_weight-sum tree path ∙ own_named names distinct path (entries tree) known entries_known)
 
-own_stack : (names : List (List ℕ)) (tree : Tree) (samples : List Sample) → Holds names tree samples → HasDistinctNames names → (stack : Stack) → (path : List ℕ) → stack ≡ named names path → IsKnown names path
+own_stack : (names : List (List ℕ)) (tree : Tree) (samples : List Sample) → Holds names tree samples → HasDistinctNames names → (stack : Stack) → (path : List ℕ) → stack ≡ named names path → AreIn names path
     → own_at stack samples ≡ own_at stack (tree_samples names tree)
 own_stack names tree samples held distinct stack path is known =
     ap (λ s. own_at s samples) is ∙ (own_numbered names tree samples held distinct path known ∙ ap (λ s. own_at s (tree_samples names tree)) (sym is))

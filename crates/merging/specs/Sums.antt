@@ -4,8 +4,7 @@ use Rattle.stack_core.specs.declared.samples.Sample.{Sample}
 use Rattle.stack_core.specs.declared.samples.TheConstants.{FRAME_LIMIT}
 use Rattle.call_tree.specs.CallTree.{Tree, own_weight, total_weight}
 use Rattle.call_tree.specs.FrameTable.{HasDistinctNames}
-use Rattle.call_tree.specs.Listing.{named, HasNumbersOf}
-use Rattle.flame_layout.specs.Paired.{IsKnown}
+use Rattle.call_tree.specs.Listing.{named, HasNumbersOf, AreIn}
 use Rattle.flame_layout.specs.Paths.{total_at, own_at, tree_samples, SameOwn}
 
 -- the lists one after another
@@ -16,8 +15,8 @@ all_samples (samples ∷ lists) = samples ++ all_samples lists
 -- at numbers of the table the tree has the sums that the samples have at their names. The tree has no other
 -- numbers, no name has two, and by names it has each stack's own sum: so there is nothing beside
 pub record HasSumsOf (names : List (List ℕ)) (tree : Tree) (samples : List Sample) : Type 0 where
-  pub total : (path : List ℕ) → IsKnown names path → total_weight tree path ≡ total_at (named names path) samples
-  pub own : (path : List ℕ) → IsKnown names path → own_weight tree path ≡ own_at (named names path) samples
+  pub total : (path : List ℕ) → AreIn names path → total_weight tree path ≡ total_at (named names path) samples
+  pub own : (path : List ℕ) → AreIn names path → own_weight tree path ≡ own_at (named names path) samples
   pub distinct : HasDistinctNames names
   pub numbers : HasNumbersOf names tree
   pub stacks : SameOwn samples (tree_samples names tree)

@@ -20,14 +20,14 @@ use Rattle.folded_lines.specs.Writing.{line_of}
 use Rattle.flame_layout.specs.Timeline.{Stack}
 use Rattle.flame_layout.specs.Graph.{stack_cmp}
 use Rattle.flame_layout.specs.Paths.{Visit, IsRising, SameOwn, tree_samples}
-use Rattle.flame_layout.specs.Paired.{next_path}
+use Rattle.flame_layout.specs.checked.Paired.{next_path}
 use Rattle.flame_layout.proofs.PathWords.{path_total, path_own, own_at-is, visit_of}
 use Rattle.flame_layout.proofs.Order.{Lt, Lt-irrefl, stack_same, stack_total}
 use Rattle.flame_layout.proofs.Rising.{Among, each-among}
 use Rattle.flame_layout.proofs.Visits.{Decides-stack, own-part, path_own-cons}
 use Rattle.flame_layout.proofs.Sums.{IsListing, visits_weigh}
 use Rattle.flame_layout.proofs.TreeSamples.{equal_is, named_visit, named_listing, own_weight-sum, entries_named, path_in}
-use Rattle.flame_layout.proofs.Chained.{Chained, next_is}
+use Rattle.flame_layout.proofs.Chained.{PathsGoOn, next_is}
 use Rattle.flame_layout.proofs.Held.{own_le, listing_chained, each_path}
 use Rattle.flame_layout.proofs.GraphBoxes.{each_at, tree_weight}
 use Rattle.view_texts.specs.Fold.{Weighed, sum_at, merged, weighed, lines_of, if_positive, fold_text}
@@ -51,7 +51,7 @@ next_named names before v = by (nat_eq v.depth 0)
     by true = refl
     by false = ap (λ front. front ++ name v.frame ∷ []) (take-map name (v.depth - 1) before) ∙ sym (map_push name (take (v.depth - 1) before) v.frame)
 
-lines_of_visits : (names : List (List ℕ)) (tree : Tree) (before : List ℕ) (paths : List (List ℕ)) → Chained before paths →
+lines_of_visits : (names : List (List ℕ)) (tree : Tree) (before : List ℕ) (paths : List (List ℕ)) → PathsGoOn before paths →
     visited_lines names (named names before) (map (tree_visit tree) paths) ≡ lines_of (rows_of_visits (map (named_visit names tree) paths))
 lines_of_visits names tree before [] h = refl
 lines_of_visits names tree before (p ∷ ps) h =

@@ -3,7 +3,7 @@ use Rattle.std.specs.Prelude.{◌≡◌, ℕ, ◌%◌, ◌<◌, ◌≤◌, ◌^�
 use Rattle.std.specs.List.{AllByRecursion}
 use Rattle.call_tree.specs.CallTree.{Tree, tree_of}
 use Rattle.call_tree.specs.FrameTable.{HasDistinctNames}
-use Rattle.flame_layout.specs.Paired.{IsKnown}
+use Rattle.call_tree.specs.Listing.{AreIn}
 use Rattle.merging.specs.declared.snapshots.Snapshot.{Snapshot}
 use Rattle.merging.specs.declared.tally.Tally.{Tally}
 use Rattle.merging.specs.checked.Tallies.{IsTally}
@@ -29,7 +29,7 @@ due_after every rows = if is_due every (length rows) then Some (snapshot_of rows
 
 -- the numbers of rows are the table's, and their weights fit in 64 bits
 pub record IsNumbered (names : List (List ℕ)) (row : TakenRow) : Type 0 where
-  pub known : IsKnown names row.numbers
+  pub known : AreIn names row.numbers
   pub weight : row.weight < 2 ^ 64
 
 -- the rows were merged, one after another

@@ -1,8 +1,7 @@
 -- What the rows of a sink stand for.
 use Rattle.std.specs.Prelude.{◌≡◌, ℕ, List, [], ◌∷◌, ◌++◌, map}
 use Rattle.stack_core.specs.declared.samples.Sample.{Sample}
-use Rattle.call_tree.specs.Listing.{named}
-use Rattle.flame_layout.specs.Paired.{IsKnown}
+use Rattle.call_tree.specs.Listing.{named, AreIn}
 use Rattle.merging.specs.declared.taken_rows.NumberedSample.{NumberedSample}
 use Rattle.merging.specs.declared.taken_rows.TakenRows.{TakenRows, Nothing, More'}
 
@@ -39,4 +38,4 @@ paths_of rows = map (λ row. (row.numbers, row.weight)) rows
 -- the numbers are the table's, and have the names of a stack
 pub record AreNumbersOf (stack names : List (List ℕ)) (numbers : List ℕ) : Type 0 where
   pub named_as : named names numbers ≡ stack
-  pub known : IsKnown names numbers
+  pub known : AreIn names numbers

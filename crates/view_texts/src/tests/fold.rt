@@ -3,7 +3,7 @@ ghost use Rattle.std.specs.Prelude.{◌<◌, ◌^◌, [], List, OnOk, IfOk};
 ghost use Rattle.stack_core.specs.declared.samples.Sample.{Sample};
 ghost use Rattle.call_tree.specs.CallTree.{total_weight};
 ghost use Rattle.call_tree.specs.Listing.{HasNumbersOf};
-ghost use Rattle.flame_layout.specs.Paired.{Holds};
+ghost use Rattle.flame_layout.specs.checked.Paired.{Holds};
 
 use crate::fold_lines::append_fold_text;
 use crate::pair_lines::append_pairs_text;

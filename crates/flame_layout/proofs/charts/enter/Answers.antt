@@ -3,53 +3,53 @@ use Rattle.std.specs.List.{range_with_len}
 use Rattle.flame_layout.specs.declared.walks.OpenRun.{OpenRun}
 use Rattle.stack_core.specs.Ledgers.{sample_at}
 use Rattle.flame_layout.specs.Timeline.{Stack}
-use Rattle.flame_layout.specs.Walk.{seen, new_run, kept_of, boxes_of_runs}
+use Rattle.flame_layout.specs.checked.Walk.{seen, new_run, shared_runs_of, boxes_of_runs}
 use Rattle.std.proofs.lemmas.List.{get_or_default}
 use Rattle.flame_layout.proofs.Walked.{walk-begun, walk-length, walk-length-after, walk-names, walk-room, walk-enters}
 use Rattle.flame_layout.proofs.charts.enter.Goals as goal
 
 -- the runs after both steps, by what was kept
-joined : (stack : Stack) (start keep : ℕ) (runs left two : List OpenRun) → keep ≡ kept_of stack runs → left ≡ take keep runs →
+joined : (stack : Stack) (start keep : ℕ) (runs left two : List OpenRun) → keep ≡ shared_runs_of stack runs → left ≡ take keep runs →
     map seen two ≡ map seen left ++ map (new_run stack start) (range_with_len keep (length stack + 1 - keep)) →
-    map seen two ≡ map seen (take (kept_of stack runs) runs) ++ map (new_run stack start) (range_with_len (kept_of stack runs) (length stack + 1 - kept_of stack runs))
+    map seen two ≡ map seen (take (shared_runs_of stack runs) runs) ++ map (new_run stack start) (range_with_len (shared_runs_of stack runs) (length stack + 1 - shared_runs_of stack runs))
 joined stack start keep runs left two e cut is =
     is ∙ (ap (λ xs. map seen xs ++ map (new_run stack start) (range_with_len keep (length stack + 1 - keep))) cut ∙
     ap (λ k. map seen (take k runs) ++ map (new_run stack start) (range_with_len k (length stack + 1 - k))) e)
 
 pub close-requires-clause-begun : goal.close-requires-clause-begun
-close-requires-clause-begun c = walk-begun c.args.start c.args.runs.now.items c.args.boxes.now.items c.requires.walked.0 c.requires.walked.1
+close-requires-clause-begun c = walk-begun c.args.start c.args.walk.now.runs.items c.args.walk.now.boxes.items c.requires.walked.0 c.requires.walked.1
 
 pub index_mut-last-requires : goal.index_mut-last-requires
 index_mut-last-requires c =
     let p = sample_at c.args.list.now.samples c.args.at in
-    let keep = c.kept-keep.ensures.is ∙ ap (kept_of p.stack) c.deref.ensures.value in
-    let is = joined p.stack c.args.start c.kept-keep.result c.args.runs.now.items c.close.new.runs.items c.open_runs.new.runs.items keep c.in_ok-close.ensures.runs c.in_ok-open_runs.ensures in
-    let long = walk-length-after c.args.start c.args.runs.now.items c.open_runs.new.runs.items c.args.boxes.now.items c.requires.walked.0 p c.requires.walked.1 is in
+    let keep = c.shared_runs-keep.ensures.is ∙ ap (shared_runs_of p.stack) c.deref.ensures.value in
+    let is = joined p.stack c.args.start c.shared_runs-keep.result c.args.walk.now.runs.items c.close.new.runs.items c.open_runs.new.runs.items keep c.in_ok-close.ensures.runs c.in_ok-open_runs.ensures in
+    let long = walk-length-after c.args.start c.args.walk.now.runs.items c.open_runs.new.runs.items c.args.walk.now.boxes.items c.requires.walked.0 p c.requires.walked.1 is in
     omega (arith, long, c.depth-depth.ensures.value, c.open_runs.new.runs.ok.0)
 
 pub overflow_add-last : goal.overflow_add-last
 overflow_add-last c =
     let p = sample_at c.args.list.now.samples c.args.at in
-    let keep = c.kept-keep.ensures.is ∙ ap (kept_of p.stack) c.deref.ensures.value in
-    let is = joined p.stack c.args.start c.kept-keep.result c.args.runs.now.items c.close.new.runs.items c.open_runs.new.runs.items keep c.in_ok-close.ensures.runs c.in_ok-open_runs.ensures in
+    let keep = c.shared_runs-keep.ensures.is ∙ ap (shared_runs_of p.stack) c.deref.ensures.value in
+    let is = joined p.stack c.args.start c.shared_runs-keep.result c.args.walk.now.runs.items c.close.new.runs.items c.open_runs.new.runs.items keep c.in_ok-close.ensures.runs c.in_ok-open_runs.ensures in
     let r = c.index_mut-last.result.now in
     let read : get_or c.open_runs.new.runs.items (length p.stack) r ≡ r = ap (λ n. get_or c.open_runs.new.runs.items n r) (sym c.depth-depth.ensures.value) ∙ sym c.index_mut-last.ensures.value in
-    let room = walk-room c.args.start c.args.runs.now.items c.open_runs.new.runs.items r c.args.boxes.now.items c.requires.walked.0 p c.requires.walked.1 is read in
+    let room = walk-room c.args.start c.args.walk.now.runs.items c.open_runs.new.runs.items r c.args.walk.now.boxes.items c.requires.walked.0 p c.requires.walked.1 is read in
     omega (arith, room, c.requires.room, c.weight.ensures.value)
 
 pub returns-clause-front : goal.returns-clause-front
 returns-clause-front c =
     let p = sample_at c.args.list.now.samples c.args.at in
-    let keep = c.kept-keep.ensures.is ∙ ap (kept_of p.stack) c.deref.ensures.value in
-    let is = joined p.stack c.args.start c.kept-keep.result c.args.runs.now.items c.close.new.runs.items c.open_runs.new.runs.items keep c.in_ok-close.ensures.runs c.in_ok-open_runs.ensures in
+    let keep = c.shared_runs-keep.ensures.is ∙ ap (shared_runs_of p.stack) c.deref.ensures.value in
+    let is = joined p.stack c.args.start c.shared_runs-keep.result c.args.walk.now.runs.items c.close.new.runs.items c.open_runs.new.runs.items keep c.in_ok-close.ensures.runs c.in_ok-open_runs.ensures in
     let w = c.requires.walked.1 in
     let r = c.index_mut-last.result.now in
     let read : get_or c.open_runs.new.runs.items (length p.stack) r ≡ r = ap (λ n. get_or c.open_runs.new.runs.items n r) (sym c.depth-depth.ensures.value) ∙ sym c.index_mut-last.ensures.value in
-    let long = walk-length-after c.args.start c.args.runs.now.items c.open_runs.new.runs.items c.args.boxes.now.items c.requires.walked.0 p w is in
+    let long = walk-length-after c.args.start c.args.walk.now.runs.items c.open_runs.new.runs.items c.args.walk.now.boxes.items c.requires.walked.0 p w is in
     let before : c.args.start - p.weight + p.weight ≡ c.args.start = omega (arith, c.requires.room) in
-    let enters = walk-enters c.args.start (c.args.start - p.weight) c.args.runs.now.items c.open_runs.new.runs.items r c.args.boxes.now.items c.close.new.boxes.items c.requires.walked.0 p (omega (arith, c.depth-depth.ensures.value, c.depth-depth.ensures.limit)) before w is
+    let enters = walk-enters c.args.start (c.args.start - p.weight) c.args.walk.now.runs.items c.open_runs.new.runs.items r c.args.walk.now.boxes.items c.close.new.boxes.items c.requires.walked.0 p (omega (arith, c.depth-depth.ensures.value, c.depth-depth.ensures.limit)) before w is
     (λ d. get_or_default c.open_runs.new.runs.items (length p.stack) d r (omega (arith, long)) ∙ read)
-    (c.in_ok-close.ensures.boxes ∙ ap (λ k. c.args.boxes.now.items ++ reverse (drop k (boxes_of_runs c.args.start (map seen c.args.runs.now.items)))) keep) in
+    (c.in_ok-close.ensures.boxes ∙ ap (λ k. c.args.walk.now.boxes.items ++ reverse (drop k (boxes_of_runs c.args.start (map seen c.args.walk.now.runs.items)))) keep) in
     rw (c.depth-depth.ensures.value, c.weight.ensures.value) (
       c.requires.at,
       walk-names (c.args.start - p.weight) _ c.close.new.boxes.items p c.requires.walked.0 enters,
@@ -59,12 +59,12 @@ returns-clause-front c =
 pub returns-clause-walked : goal.returns-clause-walked
 returns-clause-walked c before samples e w =
     let p = sample_at c.args.list.now.samples c.args.at in
-    let keep = c.kept-keep.ensures.is ∙ ap (kept_of p.stack) c.deref.ensures.value in
-    let is = joined p.stack c.args.start c.kept-keep.result c.args.runs.now.items c.close.new.runs.items c.open_runs.new.runs.items keep c.in_ok-close.ensures.runs c.in_ok-open_runs.ensures in
+    let keep = c.shared_runs-keep.ensures.is ∙ ap (shared_runs_of p.stack) c.deref.ensures.value in
+    let is = joined p.stack c.args.start c.shared_runs-keep.result c.args.walk.now.runs.items c.close.new.runs.items c.open_runs.new.runs.items keep c.in_ok-close.ensures.runs c.in_ok-open_runs.ensures in
     let r = c.index_mut-last.result.now in
     let read : get_or c.open_runs.new.runs.items (length p.stack) r ≡ r = ap (λ n. get_or c.open_runs.new.runs.items n r) (sym c.depth-depth.ensures.value) ∙ sym c.index_mut-last.ensures.value in
-    let long = walk-length-after c.args.start c.args.runs.now.items c.open_runs.new.runs.items c.args.boxes.now.items samples p w is in
-    let enters = walk-enters c.args.start before c.args.runs.now.items c.open_runs.new.runs.items r c.args.boxes.now.items c.close.new.boxes.items samples p (omega (arith, c.depth-depth.ensures.value, c.depth-depth.ensures.limit)) e w is
+    let long = walk-length-after c.args.start c.args.walk.now.runs.items c.open_runs.new.runs.items c.args.walk.now.boxes.items samples p w is in
+    let enters = walk-enters c.args.start before c.args.walk.now.runs.items c.open_runs.new.runs.items r c.args.walk.now.boxes.items c.close.new.boxes.items samples p (omega (arith, c.depth-depth.ensures.value, c.depth-depth.ensures.limit)) e w is
     (λ d. get_or_default c.open_runs.new.runs.items (length p.stack) d r (omega (arith, long)) ∙ read)
-    (c.in_ok-close.ensures.boxes ∙ ap (λ k. c.args.boxes.now.items ++ reverse (drop k (boxes_of_runs c.args.start (map seen c.args.runs.now.items)))) keep) in
+    (c.in_ok-close.ensures.boxes ∙ ap (λ k. c.args.walk.now.boxes.items ++ reverse (drop k (boxes_of_runs c.args.start (map seen c.args.walk.now.runs.items)))) keep) in
     rw (c.depth-depth.ensures.value, c.weight.ensures.value) enters

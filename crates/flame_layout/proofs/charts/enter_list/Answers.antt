@@ -2,7 +2,7 @@ use Rattle.std.proofs.Common.{◌≡◌, ◌+◌, ◌-◌, ◌<◌, ◌≤◌, �
 use Rattle.stack_core.specs.declared.samples.Sample.{Sample}
 use Rattle.stack_core.specs.Ledgers.{sample_at}
 use Rattle.flame_layout.specs.Timeline.{drawn}
-use Rattle.flame_layout.specs.Walk.{IsWalk}
+use Rattle.flame_layout.specs.checked.Walk.{IsWalk}
 use Rattle.flame_layout.proofs.Timelines.{no_sample, total_weight-drop, total_weight-drop_le, drawn-drop_yes}
 use Rattle.flame_layout.proofs.charts.enter_list.Goals as goal
 
@@ -31,6 +31,6 @@ loop-at-preserved-then-weight-gt0 c =
       later = c.in_ok-enter.ensures.front;
       start = omega (arith, more, weight, room, c.loop-at.invariant.start);
       walked = λ rest w.
-          subst (λ (xs : List Sample). IsWalk (c.loop-at.start - c.weight-weight.result) c.enter.new.runs.items c.enter.new.boxes.items (xs ++ rest)) (sym first)
+          subst (λ (xs : List Sample). IsWalk (c.loop-at.start - c.weight-weight.result) c.enter.new.walk.runs.items c.enter.new.walk.boxes.items (xs ++ rest)) (sym first)
           (c.in_ok-enter.ensures.walked (c.loop-at.start - c.weight-weight.result) (drawn (drop c.loop-at.at samples) ++ rest) (omega (arith, weight, room)) (c.loop-at.invariant.walked rest w));
     }

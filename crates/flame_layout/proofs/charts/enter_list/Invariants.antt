@@ -1,12 +1,12 @@
 use Rattle.std.proofs.Common.{◌≡◌, ◌+◌, ◌++◌, drop, List, IfSome}
 use Rattle.stack_core.specs.declared.samples.Sample.{Sample}
 use Rattle.flame_layout.specs.Timeline.{drawn, total_weight}
-use Rattle.flame_layout.specs.Walk.{IsFront, IsWalk}
+use Rattle.flame_layout.specs.checked.Walk.{IsFront, IsWalk}
 use Rattle.flame_layout.proofs.charts.enter_list.Given as goal
 
 abbrev pub invariant-loop-at : goal.invariant-loop-at
 invariant-loop-at l = record {
-  later : IfSome l.later (IsFront l.list.samples l.runs.items);
+  later : IfSome l.later (IsFront l.list.samples l.walk.runs.items);
   start : l.start + total_weight (drop l.at l.list.samples) ≡ l.end;
-  walked : (samples : List Sample) → IsWalk l.end l.fn.runs.items l.fn.boxes.items samples → IsWalk l.start l.runs.items l.boxes.items (drawn (drop l.at l.list.samples) ++ samples);
+  walked : (samples : List Sample) → IsWalk l.end l.fn.walk.runs.items l.fn.walk.boxes.items samples → IsWalk l.start l.walk.runs.items l.walk.boxes.items (drawn (drop l.at l.list.samples) ++ samples);
 }

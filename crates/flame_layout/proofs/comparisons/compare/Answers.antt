@@ -3,7 +3,8 @@ use Rattle.std.specs.List.{AllByRecursion}
 use Rattle.std.proofs.lemmas.Result.{IfOk-weaker}
 use Rattle.flame_layout.specs.declared.boxes.PairRow.{PairRow}
 use Rattle.flame_layout.specs.Comparison.{comparison_of}
-use Rattle.flame_layout.specs.Paired.{IsKnown, visit_paths, pair_row}
+use Rattle.flame_layout.specs.checked.Paired.{visit_paths, pair_row}
+use Rattle.call_tree.specs.Listing.{AreIn}
 use Rattle.flame_layout.proofs.Depths.{compared-depth}
 use Rattle.flame_layout.proofs.Held.{holds-empty, holds-grows, holds-small, holds-numbers, visited_paths, listed_known, compared}
 use Rattle.flame_layout.proofs.comparisons.compare.Goals as goal
@@ -27,7 +28,7 @@ pair_rows-requires-clause-known c =
     let names = c.add_list-2.new.table in
     let l = c.in_ok-visits.ensures in
     let paths = ap (visit_paths []) c.deref.ensures.value ∙ visited_paths names c.add_list-2.new.both (before ++ after) c.in_ok-visits.visits.items l both c.in_ok-add_list-2.ensures.distinct in
-    subst (λ (ps : List (List ℕ)). AllByRecursion (IsKnown names) ps) (sym paths) (listed_known names c.add_list-2.new.both (before ++ after) c.in_ok-visits.visits.items l both)
+    subst (λ (ps : List (List ℕ)). AllByRecursion (AreIn names) ps) (sym paths) (listed_known names c.add_list-2.new.both (before ++ after) c.in_ok-visits.visits.items l both)
 
 pub pair_rows-requires-clause-before : goal.pair_rows-requires-clause-before
 pair_rows-requires-clause-before c path =

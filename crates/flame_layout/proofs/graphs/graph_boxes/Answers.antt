@@ -4,7 +4,7 @@ use Rattle.stack_core.specs.declared.samples.Sample.{Sample}
 use Rattle.call_tree.specs.CallTree.{total_weight}
 use Rattle.call_tree.specs.declared.listing.Visit.{Visit}
 use Rattle.flame_layout.specs.declared.boxes.SpanBox.{SpanBox}
-use Rattle.flame_layout.specs.Listed.{listed_boxes}
+use Rattle.flame_layout.specs.checked.Listed.{listed_boxes}
 use Rattle.flame_layout.specs.Graph.{graph_of}
 use Rattle.flame_layout.specs.Paths.{SameOwn, tree_samples}
 use Rattle.flame_layout.proofs.GraphBoxes.{listed_graph, listed_few, listed_named, listed_sums, sampled_graph, graph-within, graph-positive, tree_weight}

@@ -1,5 +1,5 @@
 use Rattle.std.proofs.Common.{◌≡◌, ◌++◌, drop}
-use Rattle.flame_layout.specs.Listed.{listed_boxes}
+use Rattle.flame_layout.specs.checked.Listed.{listed_boxes}
 use Rattle.flame_layout.proofs.graphs.visit_boxes.Given as goal
 
 abbrev pub invariant-loop-visit : goal.invariant-loop-visit

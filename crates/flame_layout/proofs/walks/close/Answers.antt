@@ -1,7 +1,7 @@
 use Rattle.std.proofs.Common.{◌≡◌, ◌≤◌, ◌+◌, ◌∙◌, sym, ap, length, drop, map, reverse, ◌++◌, ◌∷◌, [], arith, subst}
 use Rattle.std.proofs.lemmas.List.{take_all, drop_all, append-nil, length-map, length_push, append_assoc}
 use Rattle.flame_layout.specs.declared.walks.OpenRun.{OpenRun}
-use Rattle.flame_layout.specs.Walk.{seen, box_of_run, boxes_of_runs}
+use Rattle.flame_layout.specs.checked.Walk.{seen, box_of_run, boxes_of_runs}
 use Rattle.flame_layout.proofs.WalkSteps.{popped_left, popped_run, boxes_more, boxes_of_runs-length}
 use Rattle.flame_layout.proofs.walks.close.Goals as goal
 

@@ -1,5 +1,5 @@
 use Rattle.std.proofs.Common.{◌≡◌, ◌≤◌, length, take, drop, map, reverse, ◌++◌}
-use Rattle.flame_layout.specs.Walk.{seen, boxes_of_runs}
+use Rattle.flame_layout.specs.checked.Walk.{seen, boxes_of_runs}
 use Rattle.flame_layout.proofs.walks.close.Given as goal
 
 abbrev pub invariant-each : goal.invariant-each

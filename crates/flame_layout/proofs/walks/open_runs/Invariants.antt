@@ -1,10 +1,10 @@
 use Rattle.std.proofs.Common.{◌≡◌, ◌-◌, map, ◌++◌}
 use Rattle.std.specs.List.{range_with_len}
 use Rattle.stack_core.specs.Ledgers.{sample_at}
-use Rattle.flame_layout.specs.Walk.{seen, new_run}
+use Rattle.flame_layout.specs.checked.Walk.{seen, new_run}
 use Rattle.flame_layout.proofs.walks.open_runs.Given as goal
 
-abbrev pub invariant-loop-place : goal.invariant-loop-place
-invariant-loop-place l =
+abbrev pub invariant-loop-depth : goal.invariant-loop-depth
+invariant-loop-depth l =
     let stack = (sample_at l.list.samples l.at).stack in
-    map seen l.runs.items ≡ map seen l.fn.runs.items ++ map (new_run stack l.end) (range_with_len l.from (l.place - l.from))
+    map seen l.runs.items ≡ map seen l.fn.runs.items ++ map (new_run stack l.end) (range_with_len l.from (l.depth - l.from))

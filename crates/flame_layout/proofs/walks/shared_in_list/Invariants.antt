@@ -3,8 +3,8 @@ use Rattle.stack_core.specs.Ledgers.{sample_at}
 use Rattle.flame_layout.specs.Chart.{names_shared}
 use Rattle.flame_layout.proofs.walks.shared_in_list.Given as goal
 
-abbrev pub invariant-loop-place : goal.invariant-loop-place
-invariant-loop-place l =
+abbrev pub invariant-loop-frame : goal.invariant-loop-frame
+invariant-loop-frame l =
     let one = (sample_at l.list.samples l.at).stack in
     let other = (sample_at l.list.samples l.later).stack in
-    names_shared one other ≡ l.place + names_shared (drop l.place one) (drop l.place other)
+    names_shared one other ≡ l.frame + names_shared (drop l.frame one) (drop l.frame other)

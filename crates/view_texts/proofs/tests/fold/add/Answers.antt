@@ -2,8 +2,7 @@ use Rattle.std.proofs.Common.{◌<◌, ◌++◌, ◌∷◌, [], ◌∙◌, sym, 
 use Rattle.std.proofs.lemmas.Result.{on_ok_weaker}
 use Rattle.stack_core.specs.declared.samples.Sample.{Sample}
 use Rattle.call_tree.specs.CallTree.{with_weight}
-use Rattle.call_tree.specs.Listing.{named}
-use Rattle.flame_layout.specs.Paired.{IsKnown}
+use Rattle.call_tree.specs.Listing.{named, AreIn}
 use Rattle.flame_layout.proofs.Held.{grows-interned, holds-grows, known-grows, each-push, holds-push}
 use Rattle.view_texts.proofs.tests.fold.add.Goals as goal
 
@@ -15,7 +14,7 @@ loop-name-preserved g c =
     let held = c.loop-name.invariant.held in
     let grows = grows-interned old new _ c.in_ok-intern.ensures.names in
     record {
-      known = subst (IsKnown new) (sym c.in_ok-push.ensures.items) (each-push (λ n. n < length new) ids c.in_ok-intern.field-0 (known-grows old new ids grows c.loop-name.invariant.known) c.in_ok-intern.ensures.below);
+      known = subst (AreIn new) (sym c.in_ok-push.ensures.items) (each-push (λ n. n < length new) ids c.in_ok-intern.field-0 (known-grows old new ids grows c.loop-name.invariant.known) c.in_ok-intern.ensures.below);
       held = (held.0, holds-grows old new c.args.tree.now held.0 held.1 grows);
     }
 

@@ -1,11 +1,12 @@
 -- The numbers are the table's, and the tree holds what it held.
 use Rattle.std.proofs.Common.{List}
 use Rattle.stack_core.specs.declared.samples.Sample.{Sample}
-use Rattle.flame_layout.specs.Paired.{Holds, IsKnown}
+use Rattle.flame_layout.specs.checked.Paired.{Holds}
+use Rattle.call_tree.specs.Listing.{AreIn}
 use Rattle.view_texts.proofs.tests.fold.add.Given as goal
 
 abbrev pub invariant-loop-name : goal.invariant-loop-name
 invariant-loop-name g l = record {
-  known : IsKnown l.table l.numbers.items;
+  known : AreIn l.table l.numbers.items;
   held : (samples : List Sample) × Holds l.table l.tree samples;
 }

@@ -1,8 +1,9 @@
+-- Trees that hold samples, and the rows of two of them, as the code that compares makes them.
 use Rattle.std.specs.Prelude.{◌≡◌, ℕ, ◌-◌, ◌==◌, ◌<◌, List, [], ◌∷◌, ◌++◌, map, take, length, if◌then◌else◌}
 use Rattle.std.specs.List.{AllByRecursion}
 use Rattle.call_tree.specs.declared.listing.Visit.{Visit}
 use Rattle.call_tree.specs.CallTree.{Tree, tree_of, own_weight, total_weight}
-use Rattle.call_tree.specs.Listing.{named}
+use Rattle.call_tree.specs.Listing.{named, AreIn}
 use Rattle.stack_core.specs.declared.samples.Sample.{Sample}
 use Rattle.flame_layout.specs.declared.boxes.PairRow.{PairRow}
 use Rattle.flame_layout.specs.declared.boxes.ComparedBox.{ComparedBox}
@@ -27,16 +28,12 @@ pair_row names before after path = record {
   own_after = own_weight after path;
 }
 
--- each number is one of the table's
-abbrev pub IsKnown : List (List ℕ) → List ℕ → Type 0
-IsKnown names path = AllByRecursion (λ number. number < length names) path
-
 -- the tree holds the samples: rows of the table's numbers, that were added to it
 pub record Holds (names : List (List ℕ)) (tree : Tree) (samples : List Sample) : Type 0 where
   pub rows : List (List ℕ × ℕ)
   pub tree_is : tree ≡ tree_of rows
   pub samples_are : samples ≡ map (λ row. record { stack = named names row.0; weight = row.1 }) rows
-  pub known : AllByRecursion (λ row. IsKnown names row.0) rows
+  pub known : AllByRecursion (λ row. AreIn names row.0) rows
 
 -- the table has gained names at its end, or none
 abbrev pub Grows : List (List ℕ) → List (List ℕ) → Type 0

@@ -1,7 +1,7 @@
 use Rattle.std.proofs.Common.{ap, subst, length, arith, IfSome, Option, ℕ}
-use Rattle.flame_layout.specs.Walk.{IsFront}
+use Rattle.flame_layout.specs.checked.Walk.{IsFront}
 use Rattle.flame_layout.proofs.WalkSteps.{names_of-length}
-use Rattle.flame_layout.proofs.walks.kept.Goals as goal
+use Rattle.flame_layout.proofs.walks.shared_runs.Goals as goal
 
 pub returns-in-Some-clause-there : goal.returns-in-Some-clause-there
 returns-in-Some-clause-there c =

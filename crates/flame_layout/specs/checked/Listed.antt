@@ -1,3 +1,4 @@
+-- The boxes of a listing of the merged tree, as the code makes them.
 use Rattle.std.specs.Prelude.{ℕ, ◌+◌, ◌==◌, List, [], ◌∷◌, codes, slice_index_or, if◌then◌else◌}
 use Rattle.call_tree.specs.declared.listing.Visit.{Visit}
 use Rattle.flame_layout.specs.declared.boxes.SpanBox.{SpanBox}

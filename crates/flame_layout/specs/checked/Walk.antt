@@ -1,3 +1,4 @@
+-- The walk over the samples from the last to the first, as the code that draws a chart makes it.
 use Rattle.std.specs.Prelude.{ℕ, ◌+◌, ◌-◌, ◌≡◌, ◌<◌, ◌≤◌, List, [], ◌∷◌, map, length, reverse, drop, Some}
 use Rattle.std.specs.List.{range_with_len, enumerate_from}
 use Rattle.stack_core.specs.declared.samples.Sample.{Sample}
@@ -63,10 +64,10 @@ pub record IsWalk (start : ℕ) (runs : List OpenRun) (boxes : List SpanBox) (sa
   pub few : length runs ≤ 4097
 
 -- how many of the runs go on under a sample with the stack
-abbrev pub kept_of : Stack → List OpenRun → ℕ
-kept_of stack [] = 0
-kept_of stack (run ∷ runs) = names_shared stack (names_of (run ∷ runs)) + 1
+abbrev pub shared_runs_of : Stack → List OpenRun → ℕ
+shared_runs_of stack [] = 0
+shared_runs_of stack (run ∷ runs) = names_shared stack (names_of (run ∷ runs)) + 1
 
 -- the runs are those of a sample of the list
 abbrev pub IsFront : List Sample → List OpenRun → ℕ → Type 0
-IsFront samples runs place = (place < length samples) × (names_of runs ≡ (sample_at samples place).stack) × (0 < length runs)
+IsFront samples runs at = (at < length samples) × (names_of runs ≡ (sample_at samples at).stack) × (0 < length runs)
