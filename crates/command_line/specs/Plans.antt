@@ -1,6 +1,6 @@
 -- The plan that words stand for, by the entries that `clap` makes of them.
 use Rattle.std.specs.Prelude.{◌≢◌, ℕ, Bool, false, List, [], ◌++◌, Option, Some, None}
-use Rattle.std.specs.Prelude.{codes, if◌then◌else◌, option_and_then, option_map, unwrap_or}
+use Rattle.std.specs.Prelude.{codes, if◌then◌else◌, option_and_then, option_map, string_bytes, unwrap_or}
 use Rattle.std.specs.Option.{option_map_or}
 use Rattle.std.specs.Str.{bytes_eq}
 use Rattle.std.specs.Str.Parse.{digits_value, without_leading_plus}
@@ -100,6 +100,12 @@ IsComparison (Graph width) = ⊥
 IsComparison (Chart width) = ⊥
 
 -- ---- refusals
+
+-- the text that a fault is shown as
+abbrev pub fault_text : PlanFault → List ℕ
+fault_text (fault.Words text) = string_bytes text
+fault_text (fault.Help text) = string_bytes text
+fault_text fault.OutOfMemory = codes "out of memory"
 
 -- the fault is one of the kinds: help where it was asked for, and refused words by another kind
 abbrev pub IsFaultAmong : Kinds → PlanFault → Type 0

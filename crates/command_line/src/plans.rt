@@ -44,6 +44,11 @@ pub enum PlanFault {
 }
 
 impl fmt::Display for PlanFault {
+    ghost use Rattle.std.specs.Prelude.{Some};
+    ghost use Rattle.command_line.specs.Plans.{fault_text};
+
+    ghost output = { λ fault. Some (fault_text fault) };
+
     fn fmt<W: fmt::Write>(&self, f: &mut fmt::Formatter<W>) -> fmt::Result {
         match self {
             PlanFault::Words(text) | PlanFault::Help(text) => f.write_str(text.as_str()),
