@@ -1,5 +1,6 @@
 -- The definitions that the contracts of byte_io cite.
 pub mod Calls
+pub mod Faults
 pub mod Files
 pub mod Inlet
 pub mod Outlet

@@ -6,6 +6,8 @@ ghost use Rattle.byte_io.specs.declared.whole_input.LoadFault.TheVariants.{OutOf
 
 use crate::inlet::Inlet;
 use std::alloc::{AllocError, Global};
+use std::error::Error;
+use std::fmt;
 
 // How many bytes one read asks for.
 const CHUNK: usize = 64 * 1024;
@@ -20,6 +22,23 @@ pub enum LoadFault {
     /// There was no memory for them.
     OutOfMemory,
 }
+
+impl fmt::Display for LoadFault {
+    ghost use Rattle.std.specs.Prelude.{Some};
+    ghost use Rattle.byte_io.specs.Faults.{load_fault_text};
+
+    ghost output = { λ fault. Some (load_fault_text fault) };
+
+    fn fmt<W: fmt::Write>(&self, f: &mut fmt::Formatter<W>) -> fmt::Result {
+        match self {
+            LoadFault::Io => f.write_str("cannot be read"),
+            LoadFault::TooLarge => f.write_str("too large"),
+            LoadFault::OutOfMemory => f.write_str("out of memory"),
+        }
+    }
+}
+
+impl Error for LoadFault {}
 
 impl From<AllocError> for LoadFault {
     ghost from_gives = { λ _ fault. fault ≡ OutOfMemory };

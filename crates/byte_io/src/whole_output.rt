@@ -4,6 +4,8 @@ ghost use Rattle.std.specs.Io.KnownBytes.{Appends};
 ghost use Rattle.byte_io.specs.Calls.{one_more};
 
 use crate::outlet::Outlet;
+use std::error::Error;
+use std::fmt;
 
 /// An outlet failed. `written` is the number of bytes that went out, the whole length where only
 /// the flush failed.
@@ -11,6 +13,19 @@ use crate::outlet::Outlet;
 pub struct SendFault {
     pub written: usize,
 }
+
+impl fmt::Display for SendFault {
+    ghost use Rattle.std.specs.Prelude.{Some};
+    ghost use Rattle.byte_io.specs.Faults.{send_fault_text};
+
+    ghost output = { λ fault. Some (send_fault_text fault) };
+
+    fn fmt<W: fmt::Write>(&self, f: &mut fmt::Formatter<W>) -> fmt::Result {
+        f.write_str("output failed")
+    }
+}
+
+impl Error for SendFault {}
 
 /// Sends all bytes in order, then flushes once. It ends at the first call that fails: that errs, or
 /// a write that takes no byte.

@@ -112,6 +112,23 @@ fn each_read_fails_in_turn(rt: HostRuntime) -> Result<(), Fail> {
     Ok(())
 }
 
+// The texts are those of the program's messages.
+#[test]
+fn faults_are_written(rt: HostRuntime) -> Result<(), Fail> {
+    let alloc = rt.alloc();
+    assert_eq!(rt; LoadFault::Io.to_string(alloc)?.as_str(), "cannot be read");
+    assert_eq!(rt; LoadFault::TooLarge.to_string(alloc)?.as_str(), "too large");
+    assert_eq!(rt;
+        LoadFault::OutOfMemory.to_string(alloc)?.as_str(),
+        "out of memory"
+    );
+    assert_eq!(rt;
+        SendFault { written: 3 }.to_string(alloc)?.as_str(),
+        "output failed"
+    );
+    Ok(())
+}
+
 #[test]
 fn files_in_memory(rt: HostRuntime) -> Result<(), Fail> {
     let alloc = rt.alloc();
