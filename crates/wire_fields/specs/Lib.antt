@@ -4,3 +4,5 @@ pub mod Field
 pub mod Spelling
 pub mod Fault
 pub mod Reading
+pub mod FaultText
+pub mod checked

@@ -1,7 +1,7 @@
 //! One field at the front of some bytes.
 
 ghost use Rattle.std.specs.Prelude.{ℕ, List};
-ghost use Rattle.wire_fields.specs.Steps.{Gives};
+ghost use Rattle.wire_fields.specs.checked.Outcome.{Gives};
 ghost use Rattle.wire_fields.specs.Field.{seen_value, seen_field};
 ghost use Rattle.wire_fields.specs.Reading.{part_at, value_at, field_at};
 

@@ -100,3 +100,35 @@ fn laws_of_the_readings() {
     laws::fields_are_those_spelled();
     laws::numbers_are_those_spelled();
 }
+
+#[test]
+fn faults_are_written(rt: HostRuntime) -> Result<(), Fail> {
+    let text = fault(WireKind::BadVarint, 3).to_string(rt.alloc())?;
+    assert_eq!(rt; text.as_str(), "BadVarint at 3");
+    let text = WireKind::Truncated.to_string(rt.alloc())?;
+    assert_eq!(rt; text.as_str(), "Truncated");
+    Ok(())
+}
+
+/// The lines of README.md.
+#[test]
+fn example_of_the_page(rt: HostRuntime) {
+    let message = [0x08, 0x96, 0x01, 0x12, 0x02, 0x05, 0x09];
+    let mut fields = Fields::over(&message);
+
+    let field = fields.next().expect(&rt, "no fault");
+    let field = field.expect(&rt, "a field");
+    assert_eq!(rt; field.number, 1);
+    assert_eq!(rt; field.value, FieldValue::Varint(150));
+
+    let field = fields.next().expect(&rt, "no fault");
+    let field = field.expect(&rt, "a field");
+    assert_eq!(rt; field.at, 3);
+    if let FieldValue::Bytes(run) = field.value {
+        let mut numbers = Packed::over(run);
+        assert_eq!(rt; numbers.next(), Ok(Some(5)));
+        assert_eq!(rt; numbers.next(), Ok(Some(9)));
+        assert_eq!(rt; numbers.next(), Ok(None));
+    }
+    assert_eq!(rt; fields.next(), Ok(None));
+}

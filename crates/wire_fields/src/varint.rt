@@ -1,7 +1,7 @@
 //! Varints (protobuf encoding guide, "Base 128 Varints").
 
 ghost use Rattle.std.specs.Prelude.{ℕ, List};
-ghost use Rattle.wire_fields.specs.Steps.{Gives};
+ghost use Rattle.wire_fields.specs.checked.Outcome.{Gives};
 ghost use Rattle.wire_fields.specs.Varint.{varint_at};
 
 use crate::fault::WireKind;
