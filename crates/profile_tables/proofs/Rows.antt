@@ -12,3 +12,7 @@ pub mod GreatestLocationId
 pub mod GreatestLengthAndLeastIndex
 pub mod LinesOfInlinedFrames
 pub mod OneFunctionTwoLines
+pub mod NamesAndAddresses
+pub mod DefaultTwice
+pub mod TypesOfOneName
+pub mod MixedIds

@@ -15,6 +15,11 @@ pub compressed_and_cut-gzip : read_pprof (31 ∷ 139 ∷ 8 ∷ []) Preferred Pla
 unfolding fields_of left_at field_at value_at varint_within numbers_of digits computing
 compressed_and_cut-gzip = refl
 
+pub compressed_and_cut-gzip_alone : read_pprof (31 ∷ 139 ∷ []) Preferred Plain ≡
+    record { samples = []; ending = Fault (record { kind = kind.Compressed; at = 0 }) }
+unfolding fields_of left_at field_at value_at varint_within numbers_of digits computing
+compressed_and_cut-gzip_alone = refl
+
 pub compressed_and_cut-0 : read_pprof ([]) Preferred Plain ≡
     record { samples = []; ending = Clean 0 }
 unfolding fields_of left_at field_at value_at varint_within numbers_of digits computing
