@@ -25,10 +25,12 @@ use Rattle.profile_tables.specs.Shapes.{fault_at, field_faults}
 use Rattle.profile_tables.specs.Tables.{function_at, location_at, is_function, id_faults, string_zero_faults, string_faults, location_faults, type_faults, functions_of, locations_of, strings_of, sample_types_of, chosen_value}
 use Rattle.profile_tables.specs.Naming.{function_name, name_of_line, frame_name, frames_of_lines, frames_of_location, frames_of}
 use Rattle.profile_tables.specs.Samples.{SampleTables, is_gzip, early_faults, file_faults, tables_of}
-use Rattle.profile_tables.specs.Contents.{seen_table, texts_of, IsFirstOf}
-use Rattle.profile_tables.specs.Index.{code_location_id, place_in, is_in, entry_at, IsIndexOf}
-use Rattle.profile_tables.specs.Profile.{seen_location, seen_locations, IsProfileOf}
-use Rattle.profile_tables.specs.Frames.{frames_at, named_line, frame_named, or_address, lines_named, location_named, named_in, AreFramesOf}
+use Rattle.profile_tables.specs.Faults.{IsFirstOf}
+use Rattle.profile_tables.specs.checked.Contents.{seen_table, texts_of}
+use Rattle.profile_tables.specs.SeenTables.{place_in}
+use Rattle.profile_tables.specs.checked.Index.{code_location_id, is_in, entry_at, IsIndexOf}
+use Rattle.profile_tables.specs.checked.Profile.{seen_location, seen_locations, IsProfileOf}
+use Rattle.profile_tables.specs.checked.Frames.{frames_at, named_line, frame_named, or_address, lines_named, location_named, named_in, AreFramesOf}
 use Rattle.profile_tables.proofs.FirstLemmas.{first-append_none, first-append_some}
 use Rattle.profile_tables.proofs.ItemLemmas.{referred-or}
 

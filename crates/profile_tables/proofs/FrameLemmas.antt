@@ -11,9 +11,9 @@ use Rattle.std.proofs.lemmas.Grind.{common_steps}
 use Rattle.profile_tables.specs.declared.frames.Frame.{Frame}
 use Rattle.profile_tables.specs.declared.messages.Span.{Span}
 use Rattle.profile_tables.specs.declared.frames.Frames.{Frames}
-use Rattle.profile_tables.specs.Frames.{text_in, texts_in, frames_at, LendsFrames}
-use Rattle.profile_tables.specs.Profile.{items_in}
-use Rattle.profile_tables.specs.Index.{place_in}
+use Rattle.profile_tables.specs.checked.Frames.{text_in, texts_in, frames_at, LendsFrames}
+use Rattle.profile_tables.specs.checked.Profile.{items_in}
+use Rattle.profile_tables.specs.SeenTables.{place_in}
 use Rattle.profile_tables.proofs.ItemLemmas.{map-push}
 
 -- what no location has

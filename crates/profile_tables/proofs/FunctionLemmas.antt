@@ -10,7 +10,7 @@ use Rattle.profile_tables.specs.declared.messages.Function.{Function}
 use Rattle.profile_tables.specs.declared.functions.MadeNames.{MadeNames}
 use Rattle.profile_tables.specs.Tables.{string_at}
 use Rattle.profile_tables.specs.Naming.{function_name}
-use Rattle.profile_tables.specs.Functions.{text_index, name_or_unknown, AreMade}
+use Rattle.profile_tables.specs.checked.Functions.{text_index, name_or_unknown, AreMade}
 use Rattle.profile_tables.proofs.ItemLemmas.{map-push, slice_get-append, slice_get-push, referred-kept}
 
 is_eq-nat_cmp : (a b : ℕ) → is_eq (nat_cmp a b) ≡ (a == b)

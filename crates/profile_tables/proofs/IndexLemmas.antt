@@ -12,7 +12,8 @@ use Rattle.profile_tables.specs.declared.messages.PlacedNumber.{PlacedNumber}
 use Rattle.profile_tables.specs.Message.{first}
 use Rattle.profile_tables.specs.Shapes.{fault_at}
 use Rattle.profile_tables.specs.Tables.{entry_of, faults_of_id, id_faults}
-use Rattle.profile_tables.specs.Index.{place_in, entry_at, IsIndexOf}
+use Rattle.profile_tables.specs.SeenTables.{place_in}
+use Rattle.profile_tables.specs.checked.Index.{entry_at, IsIndexOf}
 use Rattle.profile_tables.proofs.FirstLemmas.{first-append_some, first-append_none}
 use Rattle.profile_tables.proofs.ItemLemmas.{map-push, slice_get-append, slice_get-push}
 

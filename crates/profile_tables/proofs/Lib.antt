@@ -9,7 +9,7 @@ pub mod FrameLemmas
 pub mod IndexLemmas
 pub mod TableLemmas
 pub mod PickLemmas
-pub mod PlaceLemmas
+pub mod OffsetLemmas
 pub mod SampleLemmas
 pub mod RestLemmas
 pub mod ReaderLemmas

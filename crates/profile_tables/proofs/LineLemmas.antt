@@ -13,9 +13,10 @@ use Rattle.profile_tables.specs.declared.messages.Location.{Location as CodeLoca
 use Rattle.profile_tables.specs.declared.frames.Frames.{Frames}
 use Rattle.profile_tables.specs.Records.{Location, location_id}
 use Rattle.profile_tables.specs.Tables.{entry_of, location_at}
-use Rattle.profile_tables.specs.Index.{code_location_id, place_in, entry_at, IsIndexOf}
-use Rattle.profile_tables.specs.Profile.{items_in, seen_location}
-use Rattle.profile_tables.specs.Frames.{text_in, texts_in, location_named, AreFramesOf, IsWhole}
+use Rattle.profile_tables.specs.SeenTables.{place_in}
+use Rattle.profile_tables.specs.checked.Index.{code_location_id, entry_at, IsIndexOf}
+use Rattle.profile_tables.specs.checked.Profile.{items_in, seen_location}
+use Rattle.profile_tables.specs.checked.Frames.{text_in, texts_in, location_named, AreFramesOf, IsWhole}
 use Rattle.profile_tables.proofs.ItemLemmas.{map-push, referred-at, referred-kept}
 use Rattle.profile_tables.proofs.FrameLemmas.{items-at}
 

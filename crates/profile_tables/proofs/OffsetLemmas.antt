@@ -11,7 +11,7 @@ use Rattle.wire_fields.specs.Field.{WireField, WireValue}
 use Rattle.wire_fields.specs.Reading.{Left, value_at, field_at, left_at, fields_of}
 use Rattle.profile_tables.specs.Message.{first, bytes_in, content_from, content_of, Content}
 use Rattle.profile_tables.specs.Tables.{samples_of}
-use Rattle.profile_tables.specs.Places.{place_of, bytes_or_none, content_at, found_at}
+use Rattle.profile_tables.specs.checked.Offsets.{offset_of, bytes_or_none, content_at, found_at}
 
 -- ---- a field read at another place
 
@@ -105,12 +105,12 @@ content_at-there file field there =
 
 -- ---- the samples
 
-found-step : (file : List ℕ) (b : Bool) (at : ℕ) (o : Option (List ℕ)) (others : List Content) → content_at file at ≡ unwrap_or o [] → map (found_at file) (map place_of others) ≡ others → map (found_at file) (map place_of (cons_option (cond b (content_from at o) None) others)) ≡ cons_option (cond b (content_from at o) None) others
+found-step : (file : List ℕ) (b : Bool) (at : ℕ) (o : Option (List ℕ)) (others : List Content) → content_at file at ≡ unwrap_or o [] → map (found_at file) (map offset_of others) ≡ others → map (found_at file) (map offset_of (cons_option (cond b (content_from at o) None) others)) ≡ cons_option (cond b (content_from at o) None) others
 found-step file false at o others is rest = rest
 found-step file true at None others is rest = rest
 found-step file true at (Some bytes) others is rest = λ i. (let one : Content = record { at = at; bytes = is i } in one) ∷ rest i
 
-found-all : (file : List ℕ) (number : ℕ) (fields : List WireField) → AllByRecursion (IsThere file) fields → map (found_at file) (map place_of (filter_map (content_of number) fields)) ≡ filter_map (content_of number) fields
+found-all : (file : List ℕ) (number : ℕ) (fields : List WireField) → AllByRecursion (IsThere file) fields → map (found_at file) (map offset_of (filter_map (content_of number) fields)) ≡ filter_map (content_of number) fields
 found-all file number [] there = refl
 found-all file number (field ∷ fields) there =
     found-step file (field.number == number) field.at (bytes_in field.value) _ (content_at-there file field there.0) (found-all file number fields there.1)
@@ -120,7 +120,7 @@ unfolding fields_of
 all-fields file = all_there file 0 0 file refl
 
 -- what is found at the places of the samples are the samples
-pub found-samples : (file : List ℕ) → map (found_at file) (map place_of (samples_of file)) ≡ samples_of file
+pub found-samples : (file : List ℕ) → map (found_at file) (map offset_of (samples_of file)) ≡ samples_of file
 found-samples file = found-all file 2 (fields_of file).items (all-fields file)
 
 no_first : first (fields_of []).items ≡ None

@@ -6,8 +6,8 @@ use Rattle.std.specs.List.{slice_get}
 use Rattle.std.proofs.lemmas.Option.{slice_get-map}
 use Rattle.profile_tables.specs.declared.messages.Span.{Span}
 use Rattle.profile_tables.specs.declared.frames.Frames.{Frames}
-use Rattle.profile_tables.specs.Frames.{texts_in, frames_at, stacks_of, IsWhole}
-use Rattle.profile_tables.specs.Index.{place_in}
+use Rattle.profile_tables.specs.checked.Frames.{texts_in, frames_at, stacks_of, IsWhole}
+use Rattle.profile_tables.specs.SeenTables.{place_in}
 
 -- a span that has frames
 at-span : (frames : Frames) (span : Option Span) → is_some (option_map reverse (option_and_then (texts_in frames) span)) ≡ is_some {T = ℕ} (Some 0) → option_map (λ s. reverse (unwrap_or (texts_in frames s) [])) span ≡ option_map reverse (option_and_then (texts_in frames) span)

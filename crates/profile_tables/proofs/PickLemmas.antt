@@ -10,19 +10,19 @@ use Rattle.profile_tables.specs.declared.profile.Profile.{Profile}
 use Rattle.profile_tables.specs.declared.messages.PlacedNumber.{PlacedNumber}
 use Rattle.profile_tables.specs.declared.messages.ValueType.{ValueType}
 use Rattle.profile_tables.specs.Message.{Content}
-use Rattle.profile_tables.specs.Tables.{string_at, strings_of, samples_of, sample_types_of, default_of, type_names, place_of, place_picked, chosen_value}
-use Rattle.profile_tables.specs.Contents.{texts_of}
-use Rattle.profile_tables.specs.Profile.{names_of_types, chosen_of, IsProfileOf}
-use Rattle.profile_tables.specs.Places.{place_of as place_of_content}
+use Rattle.profile_tables.specs.Tables.{string_at, strings_of, samples_of, sample_types_of, default_of, type_names, position_of, place_picked, chosen_value}
+use Rattle.profile_tables.specs.checked.Contents.{texts_of}
+use Rattle.profile_tables.specs.checked.Profile.{names_of_types, chosen_of, IsProfileOf}
+use Rattle.profile_tables.specs.checked.Offsets.{offset_of}
 
-pub place-found : (name : List ℕ) (names : List (List ℕ)) (i : ℕ) → i < length names → ((k : ℕ) → k < i → bytes_eq (get_or names k []) name ≡ false) → bytes_eq (get_or names i []) name ≡ true → place_of name names ≡ Some i
+pub place-found : (name : List ℕ) (names : List (List ℕ)) (i : ℕ) → i < length names → ((k : ℕ) → k < i → bytes_eq (get_or names k []) name ≡ false) → bytes_eq (get_or names i []) name ≡ true → position_of name names ≡ Some i
 place-found name names i lt before here =
     let at : position_or_len (λ other. bytes_eq other name) names ≡ i =
     position_or_len_is (λ other. bytes_eq other name) names i [] (omega arith) before (λ _. here) in
     let below : nat_lt i (length names) ≡ true = grind (arith, common_steps) in
     rw (at, below) refl
 
-pub place-none : (name : List ℕ) (names : List (List ℕ)) → ((k : ℕ) → k < length names → bytes_eq (get_or names k []) name ≡ false) → place_of name names ≡ None
+pub place-none : (name : List ℕ) (names : List (List ℕ)) → ((k : ℕ) → k < length names → bytes_eq (get_or names k []) name ≡ false) → position_of name names ≡ None
 place-none name names before =
     let at : position_or_len (λ other. bytes_eq other name) names ≡ length names =
     position_or_len_is (λ other. bytes_eq other name) names (length names) [] (omega arith) before (λ lt. absurd (omega arith)) in
@@ -55,7 +55,7 @@ names-are file profile is =
 -- the place of a file's chosen value
 pub chosen-is : (file : List ℕ) (profile : Profile) (pick : Pick) → IsProfileOf file profile → chosen_of profile pick ≡ chosen_value file pick
 chosen-is file profile pick is =
-    let samples : length profile.samples.items ≡ length (samples_of file) = ap (λ (list : List ℕ). length list) is.samples ∙ length-map (samples_of file) place_of_content in
+    let samples : length profile.samples.items ≡ length (samples_of file) = ap (λ (list : List ℕ). length list) is.samples ∙ length-map (samples_of file) offset_of in
     let types : length profile.sample_types.items ≡ length (sample_types_of file) = ap (λ (list : List ValueType). length list) is.sample_types in
     let default : string_at (texts_of profile.strings.items) profile.default.number ≡ string_at (strings_of file) (default_of file).number =
     ap (λ (texts : List Content). string_at (map (λ (text : Content). text.bytes) texts) profile.default.number) is.strings ∙ ap (λ (n : PlacedNumber). string_at (strings_of file) n.number) is.default in

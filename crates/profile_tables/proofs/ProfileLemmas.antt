@@ -17,10 +17,10 @@ use Rattle.profile_tables.specs.Message.{first, content_of, contents, last_or}
 use Rattle.profile_tables.specs.Shapes.{profile_shape, fault_at, faults_of_field, faults_of_top_field}
 use Rattle.profile_tables.specs.Records.{Location, value_type_of, function_of, location_of, location_in, lines_in}
 use Rattle.profile_tables.specs.Tables.{sample_types_of, samples_of, locations_of, functions_of, default_from, default_of}
-use Rattle.profile_tables.specs.Contents.{seen_table}
-use Rattle.profile_tables.specs.Decoding.{IsLocationOf}
-use Rattle.profile_tables.specs.Places.{place_of}
-use Rattle.profile_tables.specs.Profile.{items_in, with_lines, whole_location, seen_location, seen_locations, GainsField, IsFieldAdded, IsProfileOf}
+use Rattle.profile_tables.specs.checked.Contents.{seen_table}
+use Rattle.profile_tables.specs.checked.Decoding.{IsLocationOf}
+use Rattle.profile_tables.specs.checked.Offsets.{offset_of}
+use Rattle.profile_tables.specs.checked.Profile.{items_in, with_lines, whole_location, seen_location, seen_locations, GainsField, IsFieldAdded, IsProfileOf}
 use Rattle.profile_tables.proofs.FirstLemmas.{first-append_none}
 use Rattle.profile_tables.proofs.ItemLemmas.{map-push, referred-kept}
 use Rattle.profile_tables.proofs.LineLemmas.{items_in-kept, items_in-last}
@@ -34,7 +34,7 @@ pub record AreLocationsBefore (file : List ℕ) (left : List WireField) (profile
 
 pub record IsProfileBefore (file : List ℕ) (left : List WireField) (profile : Profile) : Type 0 where
   pub sample_types : profile.sample_types.items ++ map value_type_of (filter_map (content_of 1) left) ≡ sample_types_of file
-  pub samples : profile.samples.items ++ map place_of (filter_map (content_of 2) left) ≡ map place_of (samples_of file)
+  pub samples : profile.samples.items ++ map offset_of (filter_map (content_of 2) left) ≡ map offset_of (samples_of file)
   pub locations : AreLocationsBefore file left profile
   pub functions : profile.functions.items ++ map function_of (filter_map (content_of 5) left) ≡ functions_of file
   pub strings : seen_table profile.strings.items ++ filter_map (content_of 6) left ≡ contents 6 file
@@ -56,7 +56,7 @@ gained_default (Some x) rest old new all is same = ap (λ (d : PlacedNumber). la
 pub before-step : (file : List ℕ) (field : WireField) (left : List WireField) (old new : Profile) → GainsField field old new → IsProfileBefore file (field ∷ left) old → IsProfileBefore file left new
 before-step file field left old new gains is = record {
   sample_types = gained value_type_of (content_of 1 field) (filter_map (content_of 1) left) _ _ _ gains.sample_types is.sample_types;
-  samples = gained place_of (content_of 2 field) (filter_map (content_of 2) left) _ _ _ gains.samples is.samples;
+  samples = gained offset_of (content_of 2 field) (filter_map (content_of 2) left) _ _ _ gains.samples is.samples;
   locations = record {
     before = is.locations.before ++ map location_of (option_to_list (content_of 4 field));
     whole = gains.locations is.locations.before is.locations.whole;
@@ -152,7 +152,7 @@ location_added at message old new location is more types samples functions strin
 pub before-none : (file : List ℕ) (profile : Profile) (fields : List WireField) → fields ≡ (fields_of file).items → profile.sample_types.items ≡ [] → profile.samples.items ≡ [] → profile.locations.items ≡ [] → profile.functions.items ≡ [] → profile.strings.items ≡ [] → profile.default ≡ (let zero : PlacedNumber = record { at = 0; number = 0 } in zero) → IsProfileBefore file fields profile
 before-none file profile fields are types samples locations functions strings default = record {
   sample_types = ap (λ (list : List ValueType). list ++ map value_type_of (filter_map (content_of 1) fields)) types ∙ ap (λ (list : List WireField). map value_type_of (filter_map (content_of 1) list)) are;
-  samples = ap (λ (list : List ℕ). list ++ map place_of (filter_map (content_of 2) fields)) samples ∙ ap (λ (list : List WireField). map place_of (filter_map (content_of 2) list)) are;
+  samples = ap (λ (list : List ℕ). list ++ map offset_of (filter_map (content_of 2) fields)) samples ∙ ap (λ (list : List WireField). map offset_of (filter_map (content_of 2) list)) are;
   locations = record {
     before = [];
     whole = ap (map (whole_location profile.lines.items)) locations;

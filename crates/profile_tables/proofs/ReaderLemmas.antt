@@ -10,10 +10,10 @@ use Rattle.run_options.specs.declared.choices.Pick.{Pick}
 use Rattle.run_options.specs.declared.choices.Naming.{Naming}
 use Rattle.profile_tables.specs.declared.outline.Outline.{Outline}
 use Rattle.profile_tables.specs.declared.reader.PprofReader.TheInside.{Inside}
-use Rattle.profile_tables.specs.Places.{found_at}
-use Rattle.profile_tables.specs.SeenOutline.{seen_outline}
+use Rattle.profile_tables.specs.checked.Offsets.{found_at}
+use Rattle.profile_tables.specs.checked.SeenOutline.{seen_outline}
 use Rattle.profile_tables.specs.State.{State}
-use Rattle.profile_tables.specs.View.{rest_by, rest_or_ended, state_of}
+use Rattle.profile_tables.specs.checked.View.{rest_by, rest_or_ended, state_of}
 use Rattle.profile_tables.proofs.RestLemmas.{few-read, few-pprof}
 
 few-items : {A : Type 0} (v : Vec A Global) → length v.items < 2 ^ 64

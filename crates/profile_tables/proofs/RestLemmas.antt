@@ -16,12 +16,12 @@ use Rattle.wire_fields.specs.Reading.{fields_of}
 use Rattle.profile_tables.specs.Message.{first, Content, content_of}
 use Rattle.profile_tables.specs.Shapes.{faults_in, sample_shape}
 use Rattle.profile_tables.specs.Tables.{samples_of}
-use Rattle.profile_tables.specs.Places.{place_of, content_at, found_at}
+use Rattle.profile_tables.specs.checked.Offsets.{offset_of, content_at, found_at}
 use Rattle.profile_tables.specs.Samples.{SampleTables, tables_of, weight_of, stack_of, value_faults, id_faults_of, weight_faults, depth_faults, total_faults, sample_faults, sample_of, with_sample, sample_then, read_samples, rest_of, file_faults, read_pprof}
 use Rattle.profile_tables.proofs.FirstLemmas.{first-none-parts}
-use Rattle.profile_tables.proofs.PlaceLemmas.{found-samples, few-fields}
+use Rattle.profile_tables.proofs.OffsetLemmas.{found-samples, few-fields}
 
-pub start_is : (file : List ℕ) (pick : Pick) (naming : Naming) (tables : SampleTables) (places : List ℕ) → first (file_faults file pick) ≡ None → tables ≡ tables_of file pick naming → places ≡ map place_of (samples_of file) → read_samples tables 0 (map (found_at file) (drop 0 places)) ≡ read_pprof file pick naming
+pub start_is : (file : List ℕ) (pick : Pick) (naming : Naming) (tables : SampleTables) (places : List ℕ) → first (file_faults file pick) ≡ None → tables ≡ tables_of file pick naming → places ≡ map offset_of (samples_of file) → read_samples tables 0 (map (found_at file) (drop 0 places)) ≡ read_pprof file pick naming
 start_is file pick naming tables places none tables_are places_are =
     ap (λ list. read_samples tables 0 (map (found_at file) list)) places_are
     ∙ ap (read_samples tables 0) (found-samples file)

@@ -3,7 +3,7 @@ use Rattle.std.proofs.Common.{◌≡◌, [], ℕ, List, ◌∙◌, ap, get_or}
 use Rattle.std.proofs.Math.ListN.{get_or-map}
 use Rattle.profile_tables.specs.declared.message.Content.{Content as CodeContent}
 use Rattle.profile_tables.specs.Message.{Content}
-use Rattle.profile_tables.specs.Contents.{seen_content, seen_table, texts_of}
+use Rattle.profile_tables.specs.checked.Contents.{seen_content, seen_table, texts_of}
 
 -- what a string of no index has
 abbrev pub nowhere : CodeContent

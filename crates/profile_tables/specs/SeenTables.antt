@@ -1,12 +1,20 @@
 -- `Tables` as contracts see it.
-use Rattle.std.specs.Prelude.{◌≡◌, ℕ, List, Option, Some, None, map, string_bytes, String}
+use Rattle.std.specs.Prelude.{◌≡◌, ℕ, List, length, Option, Some, None, map, nat_lt, slice_index_or, string_bytes, String, if◌then◌else◌}
 use Rattle.std.specs.declared.alloc.Global.{Global}
 use Rattle.std.specs.Option.{option_and_then}
 use Rattle.std.specs.List.{slice_get}
+use Rattle.std.specs.Ordering.{nat_cmp}
+use Rattle.std.specs.BTreeMap.{get}
 use Rattle.std.specs.Borrow.{Bor}
+use Rattle.profile_tables.specs.declared.ids.Index.{Index}
 use Rattle.profile_tables.specs.declared.tables.Tables.{Tables}
 use Rattle.profile_tables.specs.Samples.{SampleTables}
-use Rattle.profile_tables.specs.Index.{place_in}
+
+-- the place that an id has
+abbrev pub place_in : Index → ℕ → Option ℕ
+place_in index id =
+    if nat_lt id (length index.near.items) then slice_index_or index.near.items id None
+    else get nat_cmp index.far id
 
 abbrev pub seen_tables : Tables → SampleTables
 seen_tables tables = record {

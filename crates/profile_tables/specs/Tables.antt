@@ -112,14 +112,14 @@ abbrev pub type_names : List ℕ → List (List ℕ)
 type_names file = map (λ value_type. string_at (strings_of file) value_type.type_) (sample_types_of file)
 
 -- the place of the first name that is this one
-abbrev pub place_of : List ℕ → List (List ℕ) → Option ℕ
-place_of name names = position (λ other. bytes_eq other name) names
+abbrev pub position_of : List ℕ → List (List ℕ) → Option ℕ
+position_of name names = position (λ other. bytes_eq other name) names
 
 -- Preferred is the default, where it is not empty and a sample type has it, and else the last type.
 abbrev pub place_picked : Pick → List ℕ → List (List ℕ) → Option ℕ
-place_picked (Named name) default names = place_of name names
+place_picked (Named name) default names = position_of name names
 place_picked Preferred default names = let last = length names - 1 in
-    if length default == 0 then Some last else Some (unwrap_or (place_of default names) last)
+    if length default == 0 then Some last else Some (unwrap_or (position_of default names) last)
 
 -- the place of the value that is a sample's weight
 abbrev pub chosen_value : List ℕ → Pick → Option ℕ

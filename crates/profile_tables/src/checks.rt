@@ -3,8 +3,8 @@
 ghost use Rattle.std.specs.Prelude.{◌≡◌, ℕ, List, flat_map};
 ghost use Rattle.profile_tables.specs.Message.{first};
 ghost use Rattle.profile_tables.specs.Tables.{string_faults, line_faults, location_faults};
-ghost use Rattle.profile_tables.specs.Index.{is_in};
-ghost use Rattle.profile_tables.specs.Profile.{seen_locations, IsProfileOf};
+ghost use Rattle.profile_tables.specs.checked.Index.{is_in};
+ghost use Rattle.profile_tables.specs.checked.Profile.{seen_locations, IsProfileOf};
 
 use crate::ids::Index;
 use crate::messages::Line;

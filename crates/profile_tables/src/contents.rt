@@ -1,7 +1,7 @@
 //! Where the samples of a profile stand.
 
 ghost use Rattle.std.specs.Prelude.{◌≡◌};
-ghost use Rattle.profile_tables.specs.Places.{content_at as content_in};
+ghost use Rattle.profile_tables.specs.checked.Offsets.{content_at as content_in};
 
 use crate::message::next_field;
 use wire_fields::{FieldValue, Fields};

@@ -5,6 +5,8 @@ ghost use Rattle.profile_tables.specs.declared.faults.TableFault.TheVariants.{Ou
 
 use stack_core::ReadFault;
 use std::alloc::{AllocError, AllocFailed};
+use std::error::Error;
+use std::fmt;
 
 /// Why the tables of a file can't be had.
 #[derive(Clone, Copy, Debug, PartialEq, Eq)]
@@ -14,6 +16,23 @@ pub enum TableFault {
     /// Want of memory.
     OutOfMemory,
 }
+
+/// Writes the fault of the file, as `BadString at 12`, or `out of memory`.
+impl fmt::Display for TableFault {
+    ghost use Rattle.std.specs.Prelude.{Some};
+    ghost use Rattle.profile_tables.specs.Faults.{table_fault_text};
+
+    ghost output = { λ fault. Some (table_fault_text fault) };
+
+    fn fmt<W: fmt::Write>(&self, f: &mut fmt::Formatter<W>) -> fmt::Result {
+        match self {
+            TableFault::Read(fault) => write!(f, "{fault}"),
+            TableFault::OutOfMemory => f.write_str("out of memory"),
+        }
+    }
+}
+
+impl Error for TableFault {}
 
 impl From<AllocError> for TableFault {
     ghost from_gives = { λ _ fault. fault ≡ OutOfMemory };

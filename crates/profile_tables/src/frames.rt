@@ -31,7 +31,7 @@ pub(crate) struct Frames {
 }
 
 impl Frames {
-    ghost use Rattle.profile_tables.specs.Frames.{text_in, frames_at, stacks_of, LendsFrames};
+    ghost use Rattle.profile_tables.specs.checked.Frames.{text_in, frames_at, stacks_of, LendsFrames};
 
     /// The frames of a location id, leaf first.
     #[inline]

@@ -4,8 +4,8 @@ ghost use Rattle.std.specs.Prelude.{◌≡◌, ℕ, List, Some, IfOk, map, strin
 ghost use Rattle.std.specs.List.{slice_get};
 ghost use Rattle.profile_tables.specs.Tables.{string_at as string_of};
 ghost use Rattle.profile_tables.specs.Naming.{function_name as name_of_function};
-ghost use Rattle.profile_tables.specs.Contents.{texts_of};
-ghost use Rattle.profile_tables.specs.Functions.{name_or_unknown, text_index as index_of_text, AreMade};
+ghost use Rattle.profile_tables.specs.checked.Contents.{texts_of};
+ghost use Rattle.profile_tables.specs.checked.Functions.{name_or_unknown, text_index as index_of_text, AreMade};
 
 use crate::message::Content;
 use crate::messages::Function;
@@ -42,7 +42,7 @@ fn text_index(strings: &[Content<'_>], function: &Function) -> u64
 }
 
 /// The place of the name that a string makes.
-fn place_of_name(
+fn name_index(
     alloc: Global,
     strings: &[Content<'_>],
     made: &mut MadeNames,
@@ -85,7 +85,7 @@ pub(crate) fn function_names(
     let mut places = Vec::with_capacity(alloc, functions.len())?;
     for function in functions {
         let index = text_index(strings, function);
-        places.push(place_of_name(alloc, strings, &mut made, index)?)?;
+        places.push(name_index(alloc, strings, &mut made, index)?)?;
     }
     let MadeNames { names, places: _ } = made;
     Ok(FunctionNames { names, places })

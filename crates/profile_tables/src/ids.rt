@@ -4,8 +4,9 @@ ghost use Rattle.std.specs.Prelude.{◌≡◌, ◌==◌, ℕ, Some, None, [], ma
 ghost use Rattle.profile_tables.specs.declared.messages.PlacedNumber.{PlacedNumber};
 ghost use Rattle.profile_tables.specs.Message.{first};
 ghost use Rattle.profile_tables.specs.Tables.{id_faults};
-ghost use Rattle.profile_tables.specs.Contents.{IsFirstOf};
-ghost use Rattle.profile_tables.specs.Index.{place_in, IsIndexOf};
+ghost use Rattle.profile_tables.specs.Faults.{IsFirstOf};
+ghost use Rattle.profile_tables.specs.SeenTables.{place_in};
+ghost use Rattle.profile_tables.specs.checked.Index.{IsIndexOf};
 
 use crate::faults::TableFault;
 use crate::messages::{Function, Location, PlacedNumber};
@@ -36,7 +37,7 @@ impl Entry for Function {
 }
 
 impl Entry for Location {
-    ghost use Rattle.profile_tables.specs.Index.{code_location_id};
+    ghost use Rattle.profile_tables.specs.checked.Index.{code_location_id};
 
     ghost id_of = { code_location_id };
 

@@ -2,6 +2,7 @@
 #![tactic(auto)]
 
 mod checks;
+mod contents;
 mod faults;
 mod frames;
 mod functions;
@@ -13,7 +14,6 @@ mod naming;
 mod numbers;
 mod outline;
 mod picking;
-mod places;
 mod profile;
 mod reader;
 mod samples;

@@ -1,9 +1,9 @@
 //! The lines of locations.
 
 ghost use Rattle.std.specs.Prelude.{◌≡◌, ◌++◌, ℕ, List, IfOk, map};
-ghost use Rattle.profile_tables.specs.Index.{code_location_id, IsIndexOf};
-ghost use Rattle.profile_tables.specs.Profile.{seen_locations};
-ghost use Rattle.profile_tables.specs.Frames.{text_of, name_in, named_in, frame_named, lines_named, AreFramesOf, IsWhole};
+ghost use Rattle.profile_tables.specs.checked.Index.{code_location_id, IsIndexOf};
+ghost use Rattle.profile_tables.specs.checked.Profile.{seen_locations};
+ghost use Rattle.profile_tables.specs.checked.Frames.{text_of, name_in, named_in, frame_named, lines_named, AreFramesOf, IsWhole};
 
 use crate::frames::{Frame, Frames};
 use crate::functions::FunctionNames;

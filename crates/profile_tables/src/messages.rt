@@ -5,7 +5,7 @@ ghost use Rattle.std.specs.Prelude.{◌≡◌, IfOk};
 ghost use Rattle.wire_fields.specs.Field.{seen_value};
 ghost use Rattle.profile_tables.specs.Shapes.{kind_of, value_type_shape, line_shape, function_shape};
 ghost use Rattle.profile_tables.specs.Records.{line_in, value_type_in, function_in};
-ghost use Rattle.profile_tables.specs.Decoding.{IsScalarSet, IsDecoded, IsLineAppended, IsLocationDecoded};
+ghost use Rattle.profile_tables.specs.checked.Decoding.{IsScalarSet, IsDecoded, IsLineAppended, IsLocationDecoded};
 
 use stack_core::ReadKind;
 use std::alloc::AllocError;

@@ -2,7 +2,7 @@
 
 ghost use Rattle.std.specs.Prelude.{◌≡◌, ◌++◌, IfOk, string_bytes};
 ghost use Rattle.profile_tables.specs.Naming.{plain_char as plain, plain_text as plain_bytes, address_frame as address_bytes, line_suffix};
-ghost use Rattle.profile_tables.specs.Functions.{name_or_unknown as name_of};
+ghost use Rattle.profile_tables.specs.checked.Functions.{name_or_unknown as name_of};
 
 use bstr::ByteSlice;
 use run_options::Naming;

@@ -2,7 +2,7 @@
 
 ghost use Rattle.std.specs.Prelude.{◌≡◌, ◌++◌, IfOk};
 ghost use Rattle.wire_fields.specs.Field.{seen_value};
-ghost use Rattle.profile_tables.specs.Gathered.{IsGathered, IsRunGathered, AreNumbersOf};
+ghost use Rattle.profile_tables.specs.checked.Gathered.{IsGathered, IsRunGathered, AreNumbersOf};
 
 use crate::messages::read_kind;
 use stack_core::ReadKind;

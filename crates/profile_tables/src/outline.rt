@@ -4,14 +4,14 @@ ghost use Rattle.std.specs.Prelude.{◌≡◌, ℕ, List, None, map, IfOk, IfErr
 ghost use Rattle.profile_tables.specs.Message.{first};
 ghost use Rattle.profile_tables.specs.Records.{function_id};
 ghost use Rattle.profile_tables.specs.Tables.{samples_of};
-ghost use Rattle.profile_tables.specs.Places.{place_of};
+ghost use Rattle.profile_tables.specs.checked.Offsets.{offset_of};
 ghost use Rattle.profile_tables.specs.Samples.{is_gzip, file_faults, tables_of};
-ghost use Rattle.profile_tables.specs.Contents.{IsFirstOf};
-ghost use Rattle.profile_tables.specs.Index.{code_location_id, IsIndexOf};
-ghost use Rattle.profile_tables.specs.Profile.{IsProfileOf};
+ghost use Rattle.profile_tables.specs.Faults.{IsFirstOf};
+ghost use Rattle.profile_tables.specs.checked.Index.{code_location_id, IsIndexOf};
+ghost use Rattle.profile_tables.specs.checked.Profile.{IsProfileOf};
 ghost use Rattle.profile_tables.specs.Naming.{frames_of as frames_of_file};
-ghost use Rattle.profile_tables.specs.Frames.{frames_at, IsWhole};
-ghost use Rattle.profile_tables.specs.SeenOutline.{seen_outline};
+ghost use Rattle.profile_tables.specs.checked.Frames.{frames_at, IsWhole};
+ghost use Rattle.profile_tables.specs.checked.SeenOutline.{seen_outline};
 
 use crate::checks::{function_fault, string_fault};
 use crate::faults::TableFault;
@@ -72,7 +72,7 @@ pub(crate) fn outline_of(
     ensures tables { IfOk result (λ outline. seen_outline outline ≡ tables_of file.now pick.now naming) }
     ensures whole { IfOk result (λ outline. IsWhole outline.frames) }
     ensures samples { IfOk result (λ outline.
-        outline.samples.items ≡ map place_of (samples_of file.now)) }
+        outline.samples.items ≡ map offset_of (samples_of file.now)) }
     ensures fault { IfErr result (IsFirstOf (file_faults file.now pick.now)) }
 {
     if is_gzip(file) {

@@ -2,9 +2,9 @@
 
 ghost use Rattle.std.specs.Prelude.{◌≡◌, List, ℕ, IfOk, map, bytes_eq};
 ghost use Rattle.profile_tables.specs.Message.{first};
-ghost use Rattle.profile_tables.specs.Tables.{string_at as string_of, place_of as place_in, chosen_value as value_chosen, type_faults};
-ghost use Rattle.profile_tables.specs.Contents.{texts_of};
-ghost use Rattle.profile_tables.specs.Profile.{names_of_types, chosen_of, IsProfileOf};
+ghost use Rattle.profile_tables.specs.Tables.{string_at as string_of, position_of as position_in, chosen_value as value_chosen, type_faults};
+ghost use Rattle.profile_tables.specs.checked.Contents.{texts_of};
+ghost use Rattle.profile_tables.specs.checked.Profile.{names_of_types, chosen_of, IsProfileOf};
 
 use crate::message::Content;
 use crate::profile::Profile;
@@ -38,8 +38,12 @@ fn is_match(matches: &[bool], name: &[u8], index: u64) -> bool
 }
 
 /// The place of the first sample type of this name.
-fn place_of(alloc: Global, profile: &Profile<'_>, name: &[u8]) -> Result<Option<usize>, AllocError>
-    ensures { IfOk result (λ place. place ≡ place_in name.now (names_of_types profile.now)) }
+fn type_named(
+    alloc: Global,
+    profile: &Profile<'_>,
+    name: &[u8],
+) -> Result<Option<usize>, AllocError>
+    ensures { IfOk result (λ place. place ≡ position_in name.now (names_of_types profile.now)) }
 {
     let matches = matches_of(alloc, &profile.strings, name)?;
     for (place, sample_type) in profile.sample_types.iter().enumerate() {
@@ -63,13 +67,13 @@ pub(crate) fn chosen_value(
         return Ok(None);
     }
     match pick {
-        Pick::Named(name) => place_of(alloc, profile, name.get().as_bytes()),
+        Pick::Named(name) => type_named(alloc, profile, name.get().as_bytes()),
         Pick::Preferred => {
             let default = string_at(&profile.strings, profile.default.number);
             if default.is_empty() {
                 return Ok(Some(types - 1));
             }
-            match place_of(alloc, profile, default)? {
+            match type_named(alloc, profile, default)? {
                 Some(place) => Ok(Some(place)),
                 None => Ok(Some(types - 1)),
             }

@@ -4,8 +4,8 @@ ghost use Rattle.std.specs.Prelude.{◌≡◌, None, IfOk, IfErr};
 ghost use Rattle.wire_fields.specs.Field.{seen_field};
 ghost use Rattle.profile_tables.specs.Message.{first};
 ghost use Rattle.profile_tables.specs.Shapes.{field_faults};
-ghost use Rattle.profile_tables.specs.Contents.{IsFirstOf};
-ghost use Rattle.profile_tables.specs.Profile.{lines_at, IsFieldAdded, IsProfileOf};
+ghost use Rattle.profile_tables.specs.Faults.{IsFirstOf};
+ghost use Rattle.profile_tables.specs.checked.Profile.{lines_at, IsFieldAdded, IsProfileOf};
 
 use crate::faults::TableFault;
 use crate::message::Content;

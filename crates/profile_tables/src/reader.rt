@@ -36,7 +36,7 @@ impl Model for PprofReader {
 
     ghost Value = { State };
 
-    ghost use Rattle.profile_tables.specs.View.{state_of, IsReader};
+    ghost use Rattle.profile_tables.specs.checked.View.{state_of, IsReader};
 
     ghost view = { state_of };
 

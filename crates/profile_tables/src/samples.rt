@@ -1,8 +1,8 @@
 //! The samples of a profile.
 
 ghost use Rattle.std.specs.Prelude.{◌≡◌, ◌≤◌, IfOk, slice_index, unwrap_or};
-ghost use Rattle.profile_tables.specs.SeenOutline.{seen_outline};
-ghost use Rattle.profile_tables.specs.Outcome.{IsOutcome};
+ghost use Rattle.profile_tables.specs.checked.SeenOutline.{seen_outline};
+ghost use Rattle.profile_tables.specs.checked.Outcome.{IsOutcome};
 
 use crate::numbers::numbers_of;
 use crate::outline::Outline;

@@ -3,7 +3,7 @@
 ghost use Rattle.std.specs.Prelude.{◌≡◌, ◌-◌, ◌^◌, true, false, map, min, string_bytes, length, is_none, IfOk, MatchOption};
 ghost use Rattle.std.specs.List.{list_any};
 ghost use Rattle.profile_tables.specs.Samples.{frames_of_ids, stack_of_ids};
-ghost use Rattle.profile_tables.specs.Frames.{frames_at};
+ghost use Rattle.profile_tables.specs.checked.Frames.{frames_at};
 
 use crate::frames::Frames;
 use std::alloc::{AllocError, Global};

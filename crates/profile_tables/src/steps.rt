@@ -1,11 +1,11 @@
 //! The steps of a reader.
 
 ghost use Rattle.std.specs.Prelude.{◌≤◌, IfOk};
-ghost use Rattle.profile_tables.specs.Rests.{IsStart, IsNext};
+ghost use Rattle.profile_tables.specs.checked.Rests.{IsStart, IsNext};
 
+use crate::contents::content_at;
 use crate::faults::TableFault;
 use crate::outline::{Outline, outline_of};
-use crate::places::content_at;
 use crate::samples::read_sample;
 use run_options::{Naming, Pick};
 use stack_core::{ReadFault, SourceEnd, Step, WEIGHT_LIMIT};

@@ -3,7 +3,7 @@
 ghost use Rattle.std.specs.Prelude.{◌≡◌, ◌++◌, flat_map};
 ghost use Rattle.profile_tables.specs.Message.{first};
 ghost use Rattle.profile_tables.specs.Tables.{string_at as string_of, string_zero_faults, index_faults, faults_of_type, faults_of_function};
-ghost use Rattle.profile_tables.specs.Contents.{seen_table, texts_of};
+ghost use Rattle.profile_tables.specs.checked.Contents.{seen_table, texts_of};
 
 use crate::message::Content;
 use crate::messages::{Function, ValueType};

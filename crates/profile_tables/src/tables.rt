@@ -2,7 +2,7 @@
 
 ghost use Rattle.std.specs.Prelude.{◌≡◌, None, IfOk, IfErr};
 ghost use Rattle.profile_tables.specs.Message.{first};
-ghost use Rattle.profile_tables.specs.Contents.{IsFirstOf};
+ghost use Rattle.profile_tables.specs.Faults.{IsFirstOf};
 ghost use Rattle.profile_tables.specs.Samples.{file_faults, tables_of};
 ghost use Rattle.profile_tables.specs.SeenTables.{seen_tables, LendsNames};
 

@@ -14,8 +14,8 @@ use Rattle.profile_tables.specs.declared.frames.Frames.{Frames}
 use Rattle.profile_tables.specs.Records.{Location}
 use Rattle.profile_tables.specs.Tables.{location_at}
 use Rattle.profile_tables.specs.Naming.{address_frame, line_suffix}
-use Rattle.profile_tables.specs.Index.{place_in}
-use Rattle.profile_tables.specs.Profile.{items_in}
+use Rattle.profile_tables.specs.SeenTables.{place_in}
+use Rattle.profile_tables.specs.checked.Profile.{items_in}
 
 -- ---- what the code keeps
 

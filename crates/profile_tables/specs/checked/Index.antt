@@ -1,22 +1,15 @@
 -- The places of a table's entries by their ids, as the code has them.
-use Rattle.std.specs.Prelude.{◌≡◌, ℕ, List, length, Bool, Option, None, is_some, nat_lt, slice_index_or, if◌then◌else◌}
+use Rattle.std.specs.Prelude.{◌≡◌, ℕ, List, Bool, Option, is_some}
 use Rattle.std.specs.Option.{option_and_then}
 use Rattle.std.specs.List.{slice_get}
-use Rattle.std.specs.Ordering.{nat_cmp}
-use Rattle.std.specs.BTreeMap.{get}
 use Rattle.profile_tables.specs.declared.ids.Index.{Index}
 use Rattle.profile_tables.specs.declared.messages.PlacedNumber.{PlacedNumber}
 use Rattle.profile_tables.specs.declared.messages.Location.{Location as CodeLocation}
 use Rattle.profile_tables.specs.Tables.{entry_of}
+use Rattle.profile_tables.specs.SeenTables.{place_in}
 
 abbrev pub code_location_id : CodeLocation → PlacedNumber
 code_location_id location = record { at = location.at; number = location.id }
-
--- the place that an id has
-abbrev pub place_in : Index → ℕ → Option ℕ
-place_in index id =
-    if nat_lt id (length index.near.items) then slice_index_or index.near.items id None
-    else get nat_cmp index.far id
 
 -- an id has a place
 abbrev pub is_in : Index → ℕ → Bool

@@ -4,8 +4,8 @@ use Rattle.wire_fields.specs.Field.{WireField}
 use Rattle.wire_fields.specs.Reading.{fields_of}
 use Rattle.profile_tables.specs.Message.{first, bytes_in, Content}
 
-abbrev pub place_of : Content → ℕ
-place_of content = content.at
+abbrev pub offset_of : Content → ℕ
+offset_of content = content.at
 
 abbrev pub bytes_or_none : Option WireField → List ℕ
 bytes_or_none None = []

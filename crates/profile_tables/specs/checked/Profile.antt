@@ -11,8 +11,8 @@ use Rattle.profile_tables.specs.Message.{first, content_of, contents}
 use Rattle.profile_tables.specs.Shapes.{faults_of_field, profile_shape}
 use Rattle.profile_tables.specs.Records.{Location, value_type_of, function_of, location_of}
 use Rattle.profile_tables.specs.Tables.{sample_types_of, samples_of, locations_of, functions_of, string_at, place_picked, default_from, default_of}
-use Rattle.profile_tables.specs.Contents.{seen_table, texts_of}
-use Rattle.profile_tables.specs.Places.{place_of}
+use Rattle.profile_tables.specs.checked.Contents.{seen_table, texts_of}
+use Rattle.profile_tables.specs.checked.Offsets.{offset_of}
 
 -- the items of a span, where it is one of the list
 abbrev pub items_in : {A : Type 0} → List A → Span → Option (List A)
@@ -40,7 +40,7 @@ seen_locations profile = map (seen_location profile.lines.items) profile.locatio
 
 pub record IsProfileOf (file : List ℕ) (profile : Profile) : Type 0 where
   pub sample_types : profile.sample_types.items ≡ sample_types_of file
-  pub samples : profile.samples.items ≡ map place_of (samples_of file)
+  pub samples : profile.samples.items ≡ map offset_of (samples_of file)
   pub locations : seen_locations profile ≡ locations_of file
   pub functions : profile.functions.items ≡ functions_of file
   pub strings : seen_table profile.strings.items ≡ contents 6 file
@@ -67,7 +67,7 @@ GainsLocation field old new = (before : List Location) →
 -- the profile has one more field
 pub record GainsField (field : WireField) (old new : Profile) : Type 0 where
   pub sample_types : new.sample_types.items ≡ old.sample_types.items ++ map value_type_of (option_to_list (content_of 1 field))
-  pub samples : new.samples.items ≡ old.samples.items ++ map place_of (option_to_list (content_of 2 field))
+  pub samples : new.samples.items ≡ old.samples.items ++ map offset_of (option_to_list (content_of 2 field))
   pub locations : GainsLocation field old new
   pub functions : new.functions.items ≡ old.functions.items ++ map function_of (option_to_list (content_of 5 field))
   pub strings : seen_table new.strings.items ≡ seen_table old.strings.items ++ option_to_list (content_of 6 field)

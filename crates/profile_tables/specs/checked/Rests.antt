@@ -10,9 +10,9 @@ use Rattle.run_options.specs.declared.choices.Naming.{Naming}
 use Rattle.profile_tables.specs.declared.outline.Outline.{Outline}
 use Rattle.profile_tables.specs.declared.steps.Start.{Start}
 use Rattle.profile_tables.specs.declared.steps.Start.TheVariants as start
-use Rattle.profile_tables.specs.Places.{found_at}
+use Rattle.profile_tables.specs.checked.Offsets.{found_at}
 use Rattle.profile_tables.specs.Samples.{read_samples, read_pprof, with_sample, no_samples}
-use Rattle.profile_tables.specs.SeenOutline.{seen_outline}
+use Rattle.profile_tables.specs.checked.SeenOutline.{seen_outline}
 
 -- the rest behind the first `next` samples of a file, which have this total weight
 abbrev pub rest_from : List ℕ → Outline → ℕ → ℕ → Rest

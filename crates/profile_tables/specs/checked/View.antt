@@ -8,7 +8,7 @@ use Rattle.run_options.specs.declared.choices.Naming.{Naming}
 use Rattle.profile_tables.specs.declared.outline.Outline.{Outline}
 use Rattle.profile_tables.specs.declared.reader.PprofReader.TheInside.{Inside}
 use Rattle.profile_tables.specs.Samples.{read_pprof}
-use Rattle.profile_tables.specs.Rests.{rest_from, ended}
+use Rattle.profile_tables.specs.checked.Rests.{rest_from, ended}
 use Rattle.profile_tables.specs.State.{State}
 
 -- before the tables were read the rest is the whole file's

@@ -2,8 +2,8 @@ use Rattle.std.proofs.Common.{◌≡◌, drop, map}
 use Rattle.std.specs.Prelude.{flat_map}
 use Rattle.profile_tables.specs.Message.{first}
 use Rattle.profile_tables.specs.Tables.{location_faults}
-use Rattle.profile_tables.specs.Index.{is_in}
-use Rattle.profile_tables.specs.Profile.{seen_location, seen_locations}
+use Rattle.profile_tables.specs.checked.Index.{is_in}
+use Rattle.profile_tables.specs.checked.Profile.{seen_location, seen_locations}
 use Rattle.profile_tables.proofs.checks.function_fault.Given as goal
 
 abbrev pub invariant-loop-location : goal.invariant-loop-location

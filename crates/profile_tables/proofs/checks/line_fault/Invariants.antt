@@ -2,7 +2,7 @@ use Rattle.std.proofs.Common.{◌≡◌, drop}
 use Rattle.std.specs.Prelude.{flat_map}
 use Rattle.profile_tables.specs.Message.{first}
 use Rattle.profile_tables.specs.Tables.{line_faults}
-use Rattle.profile_tables.specs.Index.{is_in}
+use Rattle.profile_tables.specs.checked.Index.{is_in}
 use Rattle.profile_tables.proofs.checks.line_fault.Given as goal
 
 abbrev pub invariant-loop-line : goal.invariant-loop-line

@@ -2,8 +2,8 @@ use Rattle.std.proofs.Common.{◌≡◌, Some, take, map}
 use Rattle.std.specs.Prelude.{string_bytes}
 use Rattle.std.specs.List.{slice_get}
 use Rattle.profile_tables.specs.Naming.{function_name}
-use Rattle.profile_tables.specs.Contents.{texts_of}
-use Rattle.profile_tables.specs.Functions.{AreMade}
+use Rattle.profile_tables.specs.checked.Contents.{texts_of}
+use Rattle.profile_tables.specs.checked.Functions.{AreMade}
 use Rattle.profile_tables.proofs.functions.function_names.Given as goal
 
 abbrev pub invariant-loop-function : goal.invariant-loop-function

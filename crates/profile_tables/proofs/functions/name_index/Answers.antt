@@ -3,8 +3,8 @@ use Rattle.std.specs.Prelude.{string_bytes}
 use Rattle.std.proofs.lemmas.List.{length-map}
 use Rattle.profile_tables.proofs.ItemLemmas.{map-push}
 use Rattle.profile_tables.proofs.FunctionLemmas.{AreMade-more, made-kept, made-new}
-use Rattle.profile_tables.specs.Functions.{name_or_unknown}
-use Rattle.profile_tables.proofs.functions.place_of_name.Goals as goal
+use Rattle.profile_tables.specs.checked.Functions.{name_or_unknown}
+use Rattle.profile_tables.proofs.functions.name_index.Goals as goal
 
 pub returns-clause-made : goal.returns-clause-made
 returns-clause-made c = AreMade-more _ c.args.made.now _ c.args.index c.len-place.result (string_bytes c.in_ok-function_name.field-0) c.requires

@@ -1,7 +1,7 @@
 use Rattle.std.proofs.Common.{◌≡◌, [], take, drop, map}
 use Rattle.profile_tables.specs.Message.{first}
 use Rattle.profile_tables.specs.Tables.{id_faults}
-use Rattle.profile_tables.specs.Index.{IsIndexOf}
+use Rattle.profile_tables.specs.checked.Index.{IsIndexOf}
 use Rattle.profile_tables.proofs.IndexLemmas.{ids_of}
 use Rattle.profile_tables.proofs.ids.index_of.Given as goal
 

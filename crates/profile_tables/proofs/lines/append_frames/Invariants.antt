@@ -1,6 +1,6 @@
 use Rattle.std.proofs.Common.{◌≡◌, ◌++◌, ℕ, List, map, take}
 use Rattle.run_options.specs.declared.choices.Naming.{Naming}
-use Rattle.profile_tables.specs.Frames.{text_of, name_in, frame_named}
+use Rattle.profile_tables.specs.checked.Frames.{text_of, name_in, frame_named}
 use Rattle.profile_tables.proofs.lines.append_frames.Given as goal
 
 abbrev pub invariant-loop-line : goal.invariant-loop-line

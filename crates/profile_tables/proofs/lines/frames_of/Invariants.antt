@@ -1,7 +1,7 @@
 use Rattle.std.proofs.Common.{◌≡◌, Some, take, map}
 use Rattle.std.specs.Prelude.{string_bytes}
-use Rattle.profile_tables.specs.Profile.{items_in, seen_location}
-use Rattle.profile_tables.specs.Frames.{text_of, name_in, location_named}
+use Rattle.profile_tables.specs.checked.Profile.{items_in, seen_location}
+use Rattle.profile_tables.specs.checked.Frames.{text_of, name_in, location_named}
 use Rattle.profile_tables.proofs.lines.frames_of.Given as goal
 
 abbrev pub invariant-loop-location : goal.invariant-loop-location

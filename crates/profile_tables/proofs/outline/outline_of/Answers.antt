@@ -4,7 +4,7 @@ use Rattle.profile_tables.specs.declared.faults.TableFault.TheVariants.{Read}
 use Rattle.profile_tables.specs.declared.messages.ValueType.{ValueType}
 use Rattle.profile_tables.specs.declared.messages.PlacedNumber.{PlacedNumber}
 use Rattle.profile_tables.specs.Tables.{id_faults}
-use Rattle.profile_tables.specs.Contents.{IsFirstOf}
+use Rattle.profile_tables.specs.Faults.{IsFirstOf}
 use Rattle.profile_tables.proofs.FileLemmas.{has_ids, location_ids, locations_distinct, locations_first, strings_first, lines_first, types_first, no_first, lines_are, tables_are}
 use Rattle.profile_tables.proofs.PickLemmas.{chosen-is}
 use Rattle.profile_tables.proofs.outline.outline_of.Goals as goal

@@ -1,6 +1,6 @@
 use Rattle.std.proofs.Common.{◌≡◌, take, map}
 use Rattle.std.specs.Prelude.{bytes_eq}
-use Rattle.profile_tables.specs.Contents.{texts_of}
+use Rattle.profile_tables.specs.checked.Contents.{texts_of}
 use Rattle.profile_tables.proofs.picking.matches_of.Given as goal
 
 abbrev pub invariant-loop-string : goal.invariant-loop-string

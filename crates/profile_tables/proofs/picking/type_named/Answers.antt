@@ -1,9 +1,9 @@
 use Rattle.std.proofs.Common.{ℕ, List, length, refl, sym, ◌∙◌, ap, arith, below_more}
 use Rattle.std.specs.Prelude.{bytes_eq}
 use Rattle.profile_tables.specs.declared.messages.ValueType.{ValueType}
-use Rattle.profile_tables.specs.Contents.{texts_of}
+use Rattle.profile_tables.specs.checked.Contents.{texts_of}
 use Rattle.profile_tables.proofs.PickLemmas.{place-found, place-none, name_here, length-names_of_types}
-use Rattle.profile_tables.proofs.picking.place_of.Goals as goal
+use Rattle.profile_tables.proofs.picking.type_named.Goals as goal
 
 pub returns-then-is_match : goal.returns-then-is_match
 returns-then-is_match c = sym (place-found c.args.name.now _ c.loop-place.place

@@ -1,8 +1,8 @@
 use Rattle.std.proofs.Common.{None, Ok, refl, sym, ap, subst}
 use Rattle.wire_fields.specs.Field.{WireField, seen_value, seen_field}
 use Rattle.profile_tables.specs.declared.profile.Profile.{Profile}
-use Rattle.profile_tables.specs.Decoding.{IsLocationDecoded, IsLocationOf}
-use Rattle.profile_tables.specs.Profile.{IsFieldAdded}
+use Rattle.profile_tables.specs.checked.Decoding.{IsLocationDecoded, IsLocationOf}
+use Rattle.profile_tables.specs.checked.Profile.{IsFieldAdded}
 use Rattle.profile_tables.proofs.ProfileLemmas.{location_field, location_added}
 use Rattle.profile_tables.proofs.profile.add_field.Goals as goal
 

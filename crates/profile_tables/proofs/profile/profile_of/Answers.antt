@@ -6,7 +6,7 @@ use Rattle.wire_fields.specs.Reading.{Left, Answers}
 use Rattle.wire_fields.specs.declared.field.Field.{Field}
 use Rattle.profile_tables.specs.Message.{first}
 use Rattle.profile_tables.specs.Shapes.{faults_of_top_field, faults_behind, field_faults}
-use Rattle.profile_tables.specs.Profile.{IsFieldAdded}
+use Rattle.profile_tables.specs.checked.Profile.{IsFieldAdded}
 use Rattle.profile_tables.proofs.ProfileLemmas.{IsProfileBefore, before-none, before-step, faults-step, profile-whole}
 use Rattle.profile_tables.proofs.profile.profile_of.Goals as goal
 

@@ -2,7 +2,7 @@ use Rattle.std.proofs.Common.{◌≡◌, ◌-◌, ◌^◌, false, length, take, 
 use Rattle.std.specs.Prelude.{is_none}
 use Rattle.std.specs.List.{list_any}
 use Rattle.profile_tables.specs.Samples.{frames_of_ids}
-use Rattle.profile_tables.specs.Frames.{frames_at}
+use Rattle.profile_tables.specs.checked.Frames.{frames_at}
 use Rattle.profile_tables.proofs.stacks.frame_count.Given as goal
 
 abbrev pub invariant-loop-id : goal.invariant-loop-id

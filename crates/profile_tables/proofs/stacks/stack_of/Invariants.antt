@@ -1,7 +1,7 @@
 use Rattle.std.proofs.Common.{◌≡◌, ◌++◌, length, map}
 use Rattle.std.specs.Prelude.{string_bytes}
 use Rattle.profile_tables.specs.Samples.{stack_of_ids}
-use Rattle.profile_tables.specs.Frames.{frames_at}
+use Rattle.profile_tables.specs.checked.Frames.{frames_at}
 use Rattle.profile_tables.proofs.stacks.stack_of.Given as goal
 
 abbrev pub invariant-loop-id : goal.invariant-loop-id

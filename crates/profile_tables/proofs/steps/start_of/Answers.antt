@@ -1,4 +1,4 @@
-use Rattle.profile_tables.specs.SeenOutline.{seen_outline}
+use Rattle.profile_tables.specs.checked.SeenOutline.{seen_outline}
 use Rattle.profile_tables.proofs.RestLemmas.{start_is}
 use Rattle.profile_tables.proofs.steps.start_of.Goals as goal
 

@@ -1,6 +1,6 @@
 use Rattle.std.proofs.Common.{◌≡◌, ◌++◌, length, map, reverse}
 use Rattle.std.specs.Prelude.{string_bytes}
-use Rattle.profile_tables.specs.Frames.{text_in}
+use Rattle.profile_tables.specs.checked.Frames.{text_in}
 use Rattle.profile_tables.proofs.frames.Frames.append_names.Given as goal
 
 abbrev pub invariant-loop-frame : goal.invariant-loop-frame

@@ -1,7 +1,7 @@
 use Rattle.std.proofs.Common.{refl, ap, List, map, reverse, ◌++◌, ◌∙◌}
 use Rattle.std.specs.Prelude.{String, string_bytes}
 use Rattle.std.specs.declared.alloc.Global.{Global}
-use Rattle.profile_tables.specs.Frames.{text_in}
+use Rattle.profile_tables.specs.checked.Frames.{text_in}
 use Rattle.profile_tables.proofs.FrameLemmas.{stacks-more}
 use Rattle.profile_tables.proofs.frames.Frames.stacks.Goals as goal
 

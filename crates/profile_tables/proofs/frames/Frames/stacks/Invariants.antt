@@ -1,7 +1,7 @@
 use Rattle.std.proofs.Common.{◌≡◌, take, map, reverse}
 use Rattle.std.specs.Prelude.{unwrap_or}
 use Rattle.std.proofs.Common.{[]}
-use Rattle.profile_tables.specs.Frames.{texts_in}
+use Rattle.profile_tables.specs.checked.Frames.{texts_in}
 use Rattle.profile_tables.proofs.frames.Frames.stacks.Given as goal
 
 abbrev pub invariant-loop-span : goal.invariant-loop-span

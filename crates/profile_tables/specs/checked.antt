@@ -1,0 +1,13 @@
+-- Definitions that no public contract cites: not to be believed, but checked with the code that cites them.
+pub mod Contents
+pub mod Decoding
+pub mod Frames
+pub mod Functions
+pub mod Gathered
+pub mod Index
+pub mod Outcome
+pub mod Offsets
+pub mod Profile
+pub mod Rests
+pub mod SeenOutline
+pub mod View
