@@ -15,7 +15,7 @@ use Rattle.call_tree.specs.Listing.{named, HasNumbersOf, IsListing as IsTreeList
 use Rattle.call_tree.proofs.TreeSums.{total_weight-tree_of, own_weight-tree_of}
 use Rattle.stack_core.specs.declared.samples.Sample.{Sample}
 use Rattle.stack_core.specs.Ledgers.{sample_at}
-use Rattle.flame_layout.specs.Timeline.{weight_of, total_weight, drawn}
+use Rattle.flame_layout.specs.Timeline.{total_weight, drawn}
 use Rattle.flame_layout.specs.Graph.{sorted_by_stack}
 use Rattle.flame_layout.specs.Paths.{total_at, own_at, paths_of, IsRising}
 use Rattle.flame_layout.specs.Comparison.{row_of, comparison_of}
@@ -27,6 +27,7 @@ use Rattle.flame_layout.proofs.ChartLaws.{In}
 use Rattle.flame_layout.proofs.TreeSamples.{IsNamed, sampled, path_in, total_named, own_named, has_numbers, named_visit, rising_named, paths_of_visits, in_paths, paths_in, among_named, each_visit}
 use Rattle.flame_layout.proofs.Timelines.{no_sample}
 use Rattle.flame_layout.proofs.Chained.{PathsGoOn, chained_paths, visit_paths_are, numbers_chained}
+use Rattle.flame_layout.proofs.Runs.{weight_of}
 
 -- ---- a longer table
 

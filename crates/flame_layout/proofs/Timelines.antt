@@ -5,9 +5,9 @@ use Rattle.std.proofs.lemmas.List.{drop_more}
 use Rattle.std.proofs.lemmas.Bool.{lt-ltb, le-ltb, cases_lt}
 use Rattle.stack_core.specs.declared.samples.Sample.{Sample}
 use Rattle.stack_core.specs.Ledgers.{ListState}
-use Rattle.flame_layout.specs.Timeline.{weight_of, total_weight, is_drawn, drawn, timeline, samples_of}
+use Rattle.flame_layout.specs.Timeline.{total_weight, is_drawn, drawn, timeline, samples_of}
 use Rattle.flame_layout.specs.Chart.{chart_of}
-use Rattle.flame_layout.proofs.Runs.{total_weight-cons}
+use Rattle.flame_layout.proofs.Runs.{total_weight-cons, weight_of}
 
 total_by : (s : Sample) (xs : List Sample) (b : Bool) → (b ≡ false → s.weight ≡ 0) → total_weight (drawn xs) ≡ total_weight xs → total_weight (cond b (s ∷ drawn xs) (drawn xs)) ≡ total_weight (s ∷ xs)
 total_by s xs true h e = total_weight-cons s (drawn xs) ∙ (ap (λ n. s.weight + n) e ∙ sym (total_weight-cons s xs))

@@ -1,18 +1,12 @@
 -- The timeline: the samples that weigh, of all lists one after another.
-use Rattle.std.specs.Prelude.{ℕ, Bool, List, [], ◌∷◌, ◌++◌, filter, map, nat_lt, sum_by}
+use Rattle.std.specs.Prelude.{ℕ, Bool, List, [], ◌∷◌, ◌++◌, filter, map, nat_lt}
+pub use Rattle.stack_core.specs.Samples.{total_weight}
 use Rattle.stack_core.specs.Ledgers.{ListState}
 use Rattle.stack_core.specs.declared.samples.Sample.{Sample}
 
 -- the names of a stack, root first, each as its bytes
 abbrev pub Stack : Type 0
 Stack = List (List ℕ)
-
-abbrev pub weight_of : Sample → ℕ
-weight_of sample = sample.weight
-
--- the sum of the weights
-abbrev pub total_weight : List Sample → ℕ
-total_weight samples = sum_by weight_of samples
 
 abbrev pub is_drawn : Sample → Bool
 is_drawn sample = nat_lt 0 sample.weight

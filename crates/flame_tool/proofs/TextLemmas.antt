@@ -5,7 +5,7 @@ use Rattle.std.proofs.lemmas.Result.{on_ok_weaker}
 use Rattle.std.proofs.lemmas.List.{append_assoc, get_or-map, length-map, take_more, flat_map_more}
 use Rattle.stack_core.specs.declared.samples.Sample.{Sample}
 use Rattle.call_tree.specs.CallTree.{Tree, total_weight as tree_total}
-use Rattle.flame_layout.specs.Timeline.{total_weight, timeline, drawn, weight_of}
+use Rattle.flame_layout.specs.Timeline.{total_weight, timeline, drawn}
 use Rattle.flame_layout.specs.Chart.{chart_of}
 use Rattle.flame_layout.specs.Graph.{graph_of}
 use Rattle.flame_layout.specs.Paths.{SameOwn, tree_samples}
@@ -24,6 +24,7 @@ use Rattle.merging.specs.Sums.{all_samples}
 use Rattle.flame_tool.specs.Texts.{all_counts, snapshot_line_at, snapshot_lines, places_of, graph_line, graph_text}
 use Rattle.merging.specs.declared.snapshots.Snapshot.{Snapshot}
 use Rattle.merging.proofs.CountLemmas.{get_or-source_counts}
+use Rattle.flame_layout.proofs.Runs.{weight_of}
 
 -- counts filled up are those of all sources
 pub filled_counts : (sources m : ℕ) (order : List ℕ) → filled sources (snapshot_counts m order) ≡ map (counts_at m order) (range_with_len 0 sources)
