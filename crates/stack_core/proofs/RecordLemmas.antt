@@ -4,10 +4,9 @@ use Rattle.std.proofs.lemmas.List.{append-nil, get_or_append_left}
 use Rattle.std.specs.Prelude.{All}
 use Rattle.std.specs.List.{slice_index_or}
 use Rattle.stack_core.specs.declared.endings.Item.TheVariants as item
-use Rattle.stack_core.specs.declared.endings.Close.{Close as Ending}
 use Rattle.stack_core.specs.declared.records.RingRecord.{RingRecord}
 use Rattle.stack_core.specs.declared.records.RingRecord.TheVariants.{Name, Row, Close}
-use Rattle.stack_core.specs.Records.{names_told, names_at, stands_for_after, stands_for, written, IsWellToldAfter, IsWellTold, sample_item}
+use Rattle.stack_core.specs.Records.{names_told, names_at, stands_for_after, stands_for, written, IsWellToldAfter, IsWellTold}
 
 pub names_told-append : (records more : List RingRecord) → names_told (records ++ more) ≡ names_told records ++ names_told more
 names_told-append [] more = refl
