@@ -32,11 +32,11 @@ fn options_are(
 }
 
 // The options where no word sets one.
-fn options_are_defaults(options: &Options) -> bool {
+pub(crate) fn options_are_defaults(options: &Options) -> bool {
     options_are(options, 1_024, None, Naming::Plain, None)
 }
 
-fn has_files(plan: &Plan, files: &[&str]) -> bool {
+pub(crate) fn has_files(plan: &Plan, files: &[&str]) -> bool {
     let named = plan.files.get();
     named.len() == files.len()
         && named
@@ -45,7 +45,7 @@ fn has_files(plan: &Plan, files: &[&str]) -> bool {
             .all(|(name, file)| name.as_str() == *file)
 }
 
-fn width(rt: &impl Abort, pixels: u32) -> Width {
+pub(crate) fn width(rt: &impl Abort, pixels: u32) -> Width {
     Width::of(pixels).expect(rt, "a width")
 }
 
