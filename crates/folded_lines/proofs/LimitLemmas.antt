@@ -16,8 +16,8 @@ use Rattle.folded_lines.specs.declared.lines.Line.{Line}
 use Rattle.folded_lines.specs.declared.lines.Line.TheVariants.{Ignored, Fault, Sample}
 use Rattle.folded_lines.specs.declared.cursor.Cursor.{Cursor}
 use Rattle.folded_lines.specs.Lines.{text_lines, columns, has_point, ends_in_number, names_of, sample_of, read_columns, read_line}
-use Rattle.folded_lines.specs.Scanning.{within_total, scan, rest_at, IsWithin}
-use Rattle.folded_lines.specs.View.{state_at}
+use Rattle.folded_lines.specs.checked.Scanning.{within_total, scan, rest_at, IsWithin}
+use Rattle.folded_lines.specs.checked.View.{state_at}
 use Rattle.folded_lines.proofs.ScanLemmas.{scan_line}
 
 short_by : (taken ignored total : ℕ) (lines : List (List ℕ)) (read : Line) → ((n i t : ℕ) → length (scan n i t lines).samples ≤ length lines)

@@ -16,8 +16,8 @@ use Rattle.folded_lines.specs.declared.lines.Line.TheVariants.{Ignored, Fault, S
 use Rattle.folded_lines.specs.declared.cursor.Cursor.{Cursor}
 use Rattle.folded_lines.specs.Lines.{text_lines, read_line}
 use Rattle.folded_lines.specs.Reading.{samples_of, is_ignored, total_weight, fault_after, cut_short, read_after, begins_compressed, read_folded}
-use Rattle.folded_lines.specs.Scanning.{within_total, scan}
-use Rattle.folded_lines.specs.View.{state_at}
+use Rattle.folded_lines.specs.checked.Scanning.{within_total, scan}
+use Rattle.folded_lines.specs.checked.View.{state_at}
 use Rattle.folded_lines.proofs.ScanLemmas.{scan_line}
 use Rattle.folded_lines.proofs.LimitLemmas.{IsSourceLimited-scan}
 

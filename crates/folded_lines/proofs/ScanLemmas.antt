@@ -9,7 +9,7 @@ use Rattle.folded_lines.specs.declared.lines.Line.{Line}
 use Rattle.folded_lines.specs.declared.lines.Line.TheVariants.{Ignored, Fault, Sample}
 use Rattle.folded_lines.specs.declared.cursor.Cursor.{Cursor}
 use Rattle.folded_lines.specs.Lines.{text_lines, read_line}
-use Rattle.folded_lines.specs.Scanning.{within_total, ended, followed_by, scan, rest_at, place_after, rest_from, IsPlace, IsWithin}
+use Rattle.folded_lines.specs.checked.Scanning.{within_total, ended, followed_by, scan, rest_at, place_after, rest_from, IsPlace, IsWithin}
 
 -- the line at a place
 abbrev pub line_at : List ℕ → Cursor → List ℕ

@@ -18,7 +18,7 @@ use Rattle.folded_lines.specs.declared.lines.Line.TheVariants.{Sample}
 use Rattle.folded_lines.specs.Lines.{text_lines, read_line}
 use Rattle.folded_lines.specs.Reading.{begins_compressed, read_folded}
 use Rattle.folded_lines.specs.ReadingBack.{text_of, IsPlainName, IsPlain}
-use Rattle.folded_lines.specs.Scanning.{within_total, followed_by, scan}
+use Rattle.folded_lines.specs.checked.Scanning.{within_total, followed_by, scan}
 use Rattle.folded_lines.specs.Writing.{column_of, line_of}
 use Rattle.folded_lines.proofs.BackLemmas.{body, read_line-body, last-append}
 use Rattle.folded_lines.proofs.DecimalLemmas.{IsWritten-decimal}

@@ -57,3 +57,15 @@ lossy_name : read_folded (0x61 ∷ 0xff ∷ 0x3b ∷ 0xe2 ∷ 0x82 ∷ 0x41 ∷ 
     ≡ record { samples = record { stack = (0x61 ∷ 0xef ∷ 0xbf ∷ 0xbd ∷ []) ∷ (0xef ∷ 0xbf ∷ 0xbd ∷ 0x41 ∷ 0xef ∷ 0xbf ∷ 0xbd ∷ []) ∷ []; weight = 1 } ∷ []; ending = ends.Clean 0 }
 unfolding computing
 lossy_name = refl
+
+-- one return belongs to the line's end, and the other to the line, whose last column is then no number
+two_returns : read_folded (codes "a 1\r\r\n") ≡ record { samples = []; ending = ends.Clean 1 }
+unfolding computing
+two_returns = refl
+
+tab_before_two_numbers : read_folded (codes "a\t1 2\n") ≡ record { samples = []; ending = ends.Fault (record { kind = TwoColumns; at = 1 }) }
+unfolding computing
+tab_before_two_numbers = refl
+
+compressed_alone : read_folded (0x1f ∷ 0x8b ∷ []) ≡ record { samples = []; ending = ends.Fault (record { kind = Compressed; at = 1 }) }
+compressed_alone = refl

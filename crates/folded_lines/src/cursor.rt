@@ -3,7 +3,7 @@
 ghost use Rattle.std.specs.Prelude.{◌≡◌, ◌+◌, ◌<◌, ◌≤◌, ◌^◌, length, take, drop, IfOk};
 ghost use Rattle.bstr.specs.Text.{line_len, no_cr, without_terminator};
 ghost use Rattle.stack_core.specs.Reading.{IsWithinLimits};
-ghost use Rattle.folded_lines.specs.Scanning.{rest_at, place_after, rest_from, IsPlace, IsWithin, IsLeftBefore};
+ghost use Rattle.folded_lines.specs.checked.Scanning.{rest_at, place_after, rest_from, IsPlace, IsWithin, IsLeftBefore};
 
 use crate::lines::Line;
 use crate::parse::read_line;

@@ -3,7 +3,7 @@
 ghost use Rattle.std.specs.Prelude.{◌≡◌, ◌<◌, ◌∷◌, [], length, IfOk, IfSome, MatchOption};
 ghost use Rattle.std.specs.List.{slice_split};
 ghost use Rattle.folded_lines.specs.Lines.{is_semicolon, names_of};
-ghost use Rattle.folded_lines.specs.Cutting.{without_trailing_semicolons, if_few};
+ghost use Rattle.folded_lines.specs.checked.Cutting.{without_trailing_semicolons, if_few};
 
 use bstr::ByteSlice;
 use memchr::memchr;

@@ -4,7 +4,7 @@ ghost use Rattle.std.specs.Prelude.{◌≡◌, ◌≤◌, IfOk, IsTrue};
 ghost use Rattle.std.specs.List.{list_all};
 ghost use Rattle.std.specs.Char.{is_ascii_digit};
 ghost use Rattle.folded_lines.specs.Lines.{read_line, sample_of};
-ghost use Rattle.folded_lines.specs.Scanning.{within_total, IsWithin};
+ghost use Rattle.folded_lines.specs.checked.Scanning.{within_total, IsWithin};
 
 use crate::columns::{columns, ends_in_number, has_point, is_number, weight_of};
 use crate::lines::Line;

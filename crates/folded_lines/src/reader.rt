@@ -26,7 +26,7 @@ impl Model for FoldedReader {
 
     ghost Value = { State };
 
-    ghost use Rattle.folded_lines.specs.View.{state_of, IsReader};
+    ghost use Rattle.folded_lines.specs.checked.View.{state_of, IsReader};
 
     ghost view = { state_of };
 

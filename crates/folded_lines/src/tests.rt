@@ -76,6 +76,14 @@ fn refused_counts(rt: HostRuntime) -> Result<(), Fail> {
     Ok(())
 }
 
+#[test]
+fn returns_and_tabs(rt: HostRuntime) -> Result<(), Fail> {
+    reads_as(&rt, b"a 1\r\r\n", b"", clean(1))?;
+    reads_as(&rt, b"a\t1 2\n", b"", fault(ReadKind::TwoColumns, 1))?;
+    reads_as(&rt, b"\x1f\x8b", b"", fault(ReadKind::Compressed, 1))?;
+    Ok(())
+}
+
 /// A line of so many names `a` and the weight 1.
 fn deep_line(alloc: Global, names: usize) -> Result<Vec<u8>, AllocError> {
     let mut line = Vec::new(alloc);
@@ -184,5 +192,23 @@ fn ending_again(rt: HostRuntime) -> Result<(), Fail> {
             Step::End(ending) => assert_eq!(rt; ending, clean(1)),
         }
     }
+    Ok(())
+}
+
+/// The lines of README.md.
+#[test]
+fn example_of_the_page(rt: HostRuntime) -> Result<(), Fail> {
+    let alloc = rt.alloc();
+    let text = b"main;parse 5\nno count\nmain 2\n".to_vec(alloc)?;
+    let mut reader = FoldedReader::over(text);
+    let mut again = Vec::new(alloc);
+    while let Step::Sample(sample) = reader.next(alloc)? {
+        append_line(alloc, &mut again, sample.stack.get(), sample.weight)?;
+    }
+    assert_eq!(rt; again.as_slice(), b"main;parse 5\nmain 2\n".as_slice());
+    assert_eq!(rt;
+        reader.next(alloc)?,
+        Step::End(SourceEnd::Clean { ignored: 1 })
+    );
     Ok(())
 }

@@ -3,7 +3,7 @@ use Rattle.std.specs.Prelude.{true, false, Option, Some, None, List, ℕ}
 use Rattle.stack_core.specs.declared.endings.SourceEnd.{SourceEnd}
 use Rattle.folded_lines.specs.declared.cursor.Cursor.{Cursor}
 use Rattle.folded_lines.specs.State.{State}
-use Rattle.folded_lines.specs.Scanning.{ended, rest_at, IsPlace}
+use Rattle.folded_lines.specs.checked.Scanning.{ended, rest_at, IsPlace}
 use Rattle.folded_lines.specs.declared.reader.FoldedReader.TheInside.{Inside}
 
 abbrev pub state_at : List ℕ → Cursor → Option SourceEnd → State

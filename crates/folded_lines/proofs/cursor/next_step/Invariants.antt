@@ -1,6 +1,6 @@
 -- what is left stays what it was
 use Rattle.std.proofs.Common.{◌≡◌, ◌-◌, length}
-use Rattle.folded_lines.specs.Scanning.{rest_at, IsPlace}
+use Rattle.folded_lines.specs.checked.Scanning.{rest_at, IsPlace}
 use Rattle.folded_lines.proofs.cursor.next_step.Given as goal
 
 abbrev pub invariant-loop-cursor : goal.invariant-loop-cursor

@@ -2,7 +2,7 @@ use Rattle.std.proofs.Common.{◌≡◌, ℕ, ◌-◌, List, length, take, drop,
 use Rattle.bstr.specs.Text.{line_len, without_terminator}
 use Rattle.folded_lines.specs.declared.cursor.Cursor.{Cursor}
 use Rattle.folded_lines.specs.Lines.{read_line}
-use Rattle.folded_lines.specs.Scanning.{within_total, rest_at, place_after, rest_from, IsPlace}
+use Rattle.folded_lines.specs.checked.Scanning.{within_total, rest_at, place_after, rest_from, IsPlace}
 use Rattle.folded_lines.proofs.ScanLemmas.{rest_at-step, line_len-fits, position_after, IsPlace-after}
 use Rattle.folded_lines.proofs.cursor.take_line.Goals as goal
 

@@ -1,6 +1,6 @@
 use Rattle.std.proofs.Common.{◌≡◌, length, ap, sym, ◌∙◌, arith, map, string_bytes, Some, ℕ, ◌<◌, ◌≢◌, subst, IfOk, eqb, false}
 use Rattle.std.proofs.lemmas.Bool.{eqb-true, eqb-false}
-use Rattle.folded_lines.specs.Cutting.{if_few}
+use Rattle.folded_lines.specs.checked.Cutting.{if_few}
 use Rattle.std.specs.List.{slice_split}
 use Rattle.folded_lines.specs.Lines.{is_semicolon}
 use Rattle.folded_lines.proofs.OnePassLemmas.{slice_split-lossy_text}

@@ -1,6 +1,6 @@
 -- what is cut off so far does not count
 use Rattle.std.proofs.Common.{◌≡◌, ◌≤◌, length, take}
-use Rattle.folded_lines.specs.Cutting.{without_trailing_semicolons}
+use Rattle.folded_lines.specs.checked.Cutting.{without_trailing_semicolons}
 use Rattle.folded_lines.proofs.names.without_trailing_semicolons.Given as goal
 
 abbrev pub invariant-loop-end : goal.invariant-loop-end
