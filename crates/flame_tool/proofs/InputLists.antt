@@ -10,7 +10,7 @@ use Rattle.stack_core.specs.Ledgers.{ListState}
 use Rattle.stack_core.specs.declared.endings.SourceEnd.{SourceEnd}
 use Rattle.stack_core.specs.declared.endings.SourceEnd.TheVariants as ends
 use Rattle.folded_lines.specs.Reading.{read_folded}
-use Rattle.ring_collect.specs.Collecting.{AreWhole, seen_as_rest}
+use Rattle.ring_collect.specs.Collection.{AreWhole, seen_as_rest}
 use Rattle.flame_layout.specs.Timeline.{samples_of}
 use Rattle.flame_tool.specs.Opening.{IsInput}
 use Rattle.merging.specs.Sources.{rests_of, read_bytes}

@@ -6,8 +6,8 @@ use Rattle.stack_core.specs.Ledgers.{ListState}
 use Rattle.stack_core.specs.declared.endings.SourceEnd.{SourceEnd}
 use Rattle.stack_core.specs.declared.endings.SourceEnd.TheVariants as ends
 use Rattle.folded_lines.specs.Reading.{read_folded}
-use Rattle.ring_collect.specs.declared.collecting.CollectFault.{CollectFault}
-use Rattle.ring_collect.specs.declared.collecting.CollectFault.TheVariants as collect
+use Rattle.ring_collect.specs.declared.faults.CollectFault.{CollectFault}
+use Rattle.ring_collect.specs.declared.faults.CollectFault.TheVariants as collect
 use Rattle.view_texts.specs.Fold.{fold_text}
 use Rattle.flame_tool.specs.declared.failures.Failure.{Failure}
 use Rattle.flame_tool.specs.declared.failures.Failure.TheVariants.{TooManyFiles, Unreadable, TooLarge, OutOfMemory, NoThread, Unfinished, Faults, Output}

@@ -15,8 +15,8 @@ use Rattle.stack_core.specs.Ledgers.{ListState}
 use Rattle.stack_core.specs.Told.{IsCollected}
 use Rattle.stack_core.specs.Interleaving.{IsInterleaving, interleaved, sources_of, list_of, counts_at}
 use Rattle.stack_core.proofs.InterleavingLemmas.{sources_of-interleaved, IsInterleaving-AreOf}
-use Rattle.ring_collect.specs.Collecting.{Collects, seen_as_rest}
-use Rattle.ring_collect.proofs.RunLemmas.{at_place}
+use Rattle.ring_collect.specs.Collection.{Collects, seen_as_rest}
+use Rattle.ring_collect.proofs.RunLemmas.{at_index}
 use Rattle.call_tree.specs.CallTree.{Tree}
 use Rattle.call_tree.specs.PathSums.{begins_with, total_of}
 use Rattle.call_tree.proofs.TreeSums.{total_of-cons}
@@ -64,8 +64,8 @@ limited-collected may_stop may_go source rest list (IsCollected.StoppedAt i with
 pub collected-limited : (may_stop may_go : ℕ → ℕ → Type 0) (rests : List Rest) (lists : List ListState) → Collects may_stop may_go rests lists → All (λ rest. IsSourceLimited rest.samples) rests → All (λ list. IsSourceLimited list.samples) lists
 collected-limited may_stop may_go rests lists h limits k d l =
     let many = h.count in
-    let list = at_place lists k l in
-    let rest = at_place rests k (omega arith) in
+    let list = at_index lists k l in
+    let rest = at_index rests k (omega arith) in
     let is = get_or_from_slice_get lists k list.0 d list.1 in
     let limited = subst (λ (r : Rest). IsSourceLimited r.samples) (get_or_from_slice_get rests k rest.0 rest.0 rest.1) (limits k rest.0 (omega arith)) in
     subst (λ (s : ListState). IsSourceLimited s.samples) (sym is) (limited-collected may_stop may_go k rest.0 (seen_as_rest list.0) (h.each k rest.0 list.0 rest.1 list.1) limited)

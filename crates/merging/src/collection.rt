@@ -5,7 +5,7 @@ ghost use Rattle.std.specs.Arc.{arc_value};
 ghost use Rattle.stack_core.specs.Interleaving.{IsInterleaving, interleaved};
 ghost use Rattle.stack_core.specs.Reading.{IsSourceLimited};
 ghost use Rattle.call_tree.specs.FrameTable.{HasDistinctNames};
-ghost use Rattle.ring_collect.specs.Collecting.{Collects, AreWhole};
+ghost use Rattle.ring_collect.specs.Collection.{Collects, AreWhole};
 ghost use Rattle.flame_layout.specs.Timeline.{samples_of};
 ghost use Rattle.merging.specs.Sources.{rests_of};
 ghost use Rattle.merging.specs.checked.Readers.{reader_rest};

@@ -1,10 +1,10 @@
-pub mod CollectLemmas
-pub mod GatheringLemmas
-pub mod KeptLemmas
+pub mod CollectionLemmas
+pub mod IntakeLemmas
 pub mod NameOrder
 pub mod Progress
 pub mod Records
+pub mod RoundLemmas
+pub mod RowSampleLemmas
 pub mod RunLemmas
-pub mod SettlingLemmas
-pub mod StartedLemmas
-pub mod TrackingLemmas
+pub mod RunningSourceLemmas
+pub mod SettlementLemmas

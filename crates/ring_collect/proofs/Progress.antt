@@ -13,8 +13,8 @@ use Rattle.stack_core.specs.declared.records.RingRecord.{RingRecord}
 use Rattle.stack_core.specs.declared.endings.SourceEnd.TheVariants as ending
 use Rattle.stack_core.specs.declared.endings.Close.{Close}
 use Rattle.stack_core.proofs.ToldLemmas.{same_told}
-use Rattle.ring_collect.specs.NamesInOrder.{AreNamesOf, names_in_order, with_stack}
-use Rattle.ring_collect.specs.Telling.{Tells, TellsOne, Closes, Ended, Stopped, ShortOfMemory as Short}
+use Rattle.ring_collect.specs.NamesInOrder.{names_in_order, with_stack}
+use Rattle.ring_collect.specs.checked.Tellers.{AreNamesOf, Tells, TellsOne, Closes, Ended, Stopped, ShortOfMemory as Short}
 use Rattle.ring_collect.proofs.NameOrder.{names_in_order_push}
 
 short≢read : (ending : SourceEnd) → close.NoMemory ≢ close.Read ending

@@ -1,5 +1,5 @@
 -- Records that are told one after another.
-use Rattle.std.proofs.Common.{◌≡◌, ◌≢◌, ℕ, ◌+◌, ◌<◌, Bool, true, false, List, [], ◌∷◌, ◌++◌, length, refl, sym, ap, subst, ◌∙◌, arith, All, append-nil, append_assoc, length-append, Some, slice_get, get_or, if◌then◌else◌}
+use Rattle.std.proofs.Common.{◌≡◌, ◌≢◌, ℕ, ◌+◌, ◌<◌, Bool, true, false, List, [], ◌∷◌, ◌++◌, length, refl, sym, ap, ◌∙◌, arith, All, append-nil, append_assoc, length-append, Some, slice_get, get_or, if◌then◌else◌}
 use Rattle.std.specs.List.{slice_index_or, AllByRecursion}
 use Rattle.std.proofs.lemmas.List.{get_or_append_left, map-append}
 use Rattle.std.proofs.lemmas.List.Elements.{All-weaker, All-append, All-cons, All-nil, recursion_from_All}
@@ -14,7 +14,7 @@ use Rattle.stack_core.specs.declared.records.RingRecord.{RingRecord}
 use Rattle.stack_core.specs.declared.records.RingRecord.TheVariants.{Name, Row}
 use Rattle.stack_core.proofs.RecordLemmas.{stands_for-append, IsWellTold-append}
 use Rattle.call_tree.specs.FrameTable.{with_name}
-use Rattle.ring_collect.specs.Telling.{Tells, GrowsTo}
+use Rattle.ring_collect.specs.checked.Tellers.{Tells, GrowsTo}
 
 pub tells_nothing : (old : List RingRecord) → Tells [] old old
 tells_nothing old = record { stands = sym (append-nil (stands_for old)); well_told = λ w. w }

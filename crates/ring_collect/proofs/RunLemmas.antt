@@ -1,5 +1,5 @@
 -- A run, from its start to what was settled.
-use Rattle.std.proofs.Common.{◌≡◌, ◌≢◌, ℕ, zero, suc, ◌<◌, ◌≤◌, ◌⊎◌, inl, inr, Bool, false, List, [], ◌∷◌, ◌++◌, length, map, get_or, refl, sym, ap, subst, ◌∙◌, arith, append-nil, Option, Some, None, IfNone, slice_get}
+use Rattle.std.proofs.Common.{◌≡◌, ◌≢◌, ℕ, zero, suc, ◌<◌, ◌≤◌, ◌⊎◌, inl, inr, Bool, false, List, [], ◌∷◌, ◌++◌, length, map, get_or, refl, sym, ap, subst, ◌∙◌, arith, append-nil, Some, None, slice_get, Result, Ok, Err, IsOk, OnOk, true≢false}
 use Rattle.std.specs.List.{AllByRecursion}
 use Rattle.std.proofs.lemmas.List.{length-map}
 use Rattle.std.proofs.lemmas.List.Elements.{All-from_recursion}
@@ -11,44 +11,43 @@ use Rattle.stack_core.specs.Interleaving.{list_of, of_source}
 use Rattle.stack_core.specs.Prefixes.{IsPrefixOf}
 use Rattle.stack_core.proofs.InterleavingLemmas.{of_source_at, of_source_past}
 use Rattle.stack_core.specs.declared.samples.Sample.{Sample}
-use Rattle.ring_collect.specs.Tracking.{Tracked}
-use Rattle.ring_collect.specs.Gathering.{Gathered}
-use Rattle.ring_collect.specs.Started.{ArePromised, IsFresh, AreFresh}
-use Rattle.ring_collect.specs.Settling.{IsSettledAs, IsAllTold, AreSettled}
-use Rattle.ring_collect.specs.Collecting.{GainsAllowed, GainsFirst, GainsOf, RunsWhole}
-use Rattle.ring_collect.proofs.GatheringLemmas.{slice_get_map}
+use Rattle.ring_collect.specs.checked.Intakes.{Tracked}
+use Rattle.ring_collect.specs.checked.Rounds.{HasGained}
+use Rattle.ring_collect.specs.checked.RunningSources.{ArePromised, IsFresh, AreFresh}
+use Rattle.ring_collect.specs.checked.Settlement.{IsSettledAs, IsAllTold, AreSettled}
+use Rattle.ring_collect.specs.Collection.{GainsAllowed, GainsFirst, GainsOf, Unfinishes}
+use Rattle.ring_collect.specs.checked.WholeRuns.{RunsWhole}
+use Rattle.ring_collect.proofs.RoundLemmas.{slice_get_map}
 use Rattle.ring_collect.specs.declared.intakes.Intake.{Intake}
 use Rattle.ring_collect.specs.declared.intakes.Stage.{Stage}
-use Rattle.ring_collect.specs.declared.intakes.Stage.TheVariants.{Following, Dropping, Untold}
-use Rattle.ring_collect.specs.declared.starting.StartFault.{StartFault}
-use Rattle.ring_collect.specs.declared.starting.StartFault.TheVariants.{OutOfMemory, NoThread}
-use Rattle.ring_collect.specs.declared.started.Started.{Started}
+use Rattle.ring_collect.specs.declared.intakes.Stage.TheVariants.{Taking, Dropping, Unnamed}
+use Rattle.ring_collect.specs.declared.running_sources.RunningSource.{RunningSource}
 use Rattle.rtrb.specs.Ring.{received}
 
-following≢dropping : Following ≢ Dropping
-following≢dropping e = cc
+taking≢dropping : Taking ≢ Dropping
+taking≢dropping e = cc
 
-following≢untold : Following ≢ Untold
-following≢untold e = cc
+taking≢unnamed : Taking ≢ Unnamed
+taking≢unnamed e = cc
 
--- what is neither dropped nor untold is taken
-is_following : (stage : Stage) → stage ≢ Dropping → stage ≢ Untold → stage ≡ Following
-is_following Following a b = refl
-is_following Dropping a b = absurd (a refl)
-is_following Untold a b = absurd (b refl)
+-- what is neither dropped nor unnamed is taken
+is_taking : (stage : Stage) → stage ≢ Dropping → stage ≢ Unnamed → stage ≡ Taking
+is_taking Taking a b = refl
+is_taking Dropping a b = absurd (a refl)
+is_taking Unnamed a b = absurd (b refl)
 
 no_lists : {A B : Type 0} (xs : List A) (i : ℕ) → get_or (map (λ _. let none : List B = [] in none) xs) i [] ≡ []
 no_lists [] i = refl
 no_lists (x ∷ xs) zero = refl
 no_lists (x ∷ xs) (suc i) = no_lists xs i
 
-nothing_tracked : Tracked [] None (record { samples = []; close = None; told = []; rows = [] }) Following []
+nothing_tracked : Tracked [] None (record { samples = []; close = None; told = []; rows = [] }) Taking []
 nothing_tracked = record {
   samples = [];
   stands = refl;
   first = ([], refl);
-  follows = λ _. record { is_open = refl; told = refl; ledger_samples = refl; all_taken = refl; well_told = tt };
-  untold = λ e. absurd (following≢untold e);
+  holds = λ _. record { is_open = refl; told = refl; ledger_samples = refl; all_taken = refl; well_told = tt };
+  unnamed = λ e. absurd (taking≢unnamed e);
 }
 
 fresh_tracked : {source : ℕ} (intake : Intake) → IsFresh source intake → Tracked (received intake.consumer) intake.close intake.ledger intake.stage []
@@ -58,9 +57,9 @@ fresh_tracked intake fresh =
     (subst (λ ledger. Tracked [] None ledger intake.stage []) (sym fresh.ledger)
     (subst (λ stage. Tracked [] None (record { samples = []; close = None; told = []; rows = [] }) stage []) (sym fresh.stage) nothing_tracked)))
 
--- before the first record nothing is gathered
-pub fresh_gathered : (start : List (ℕ × Sample)) (intakes : List Intake) (refused : Bool) → AreFresh intakes → Gathered start intakes start [] refused
-fresh_gathered start intakes refused fresh = record {
+-- before the first record nothing is gained
+fresh_gained : (start : List (ℕ × Sample)) (intakes : List Intake) (refused : Bool) → AreFresh intakes → HasGained start intakes start [] refused
+fresh_gained start intakes refused fresh = record {
   lists = map (λ _. []) intakes;
   pairs = [];
   all_listed = length-map intakes (λ _. []);
@@ -70,24 +69,35 @@ fresh_gathered start intakes refused fresh = record {
   each = λ source intake is.
       let one = fresh.each source intake is in
       record { number = one.number; tracks = subst (Tracked (received intake.consumer) intake.close intake.ledger intake.stage) (sym (no_lists intakes source)) (fresh_tracked intake one) };
-  going = λ e source intake is dropping. following≢dropping (sym (fresh.each source intake is).stage ∙ dropping);
+  going = λ e source intake is dropping. taking≢dropping (sym (fresh.each source intake is).stage ∙ dropping);
 }
+
+-- so with an order that has nothing yet
+pub nothing_gained : (start : List (ℕ × Sample)) (intakes : List Intake) (order : List ℕ) (refused : Bool) → order ≡ [] → AreFresh intakes → HasGained start intakes start order refused
+nothing_gained start intakes order refused none fresh = subst (λ order. HasGained start intakes start order refused) (sym none) (fresh_gained start intakes refused fresh)
 
 map_twice : {A B C : Type 0} (f : A → B) (g : B → C) (xs : List A) → map g (map f xs) ≡ map (λ x. g (f x)) xs
 map_twice f g [] = refl
 map_twice f g (x ∷ xs) = ap (λ ys. g (f x) ∷ ys) (map_twice f g xs)
 
 -- the same handles have the same promises
-pub same_promises : {A B C : Type 0} (f : A → B) (g : B → C) (xs ys : List A) → map f xs ≡ map f ys → map (λ x. g (f x)) xs ≡ map (λ x. g (f x)) ys
+same_promises : {A B C : Type 0} (f : A → B) (g : B → C) (xs ys : List A) → map f xs ≡ map f ys → map (λ x. g (f x)) xs ≡ map (λ x. g (f x)) ys
 same_promises f g xs ys same = sym (map_twice f g xs) ∙ ap (map g) same ∙ map_twice f g ys
 
-pub at_place : {A : Type 0} (xs : List A) (i : ℕ) → i < length xs → (x : A) × (slice_get xs i ≡ Some x)
-at_place xs i below = elim (slice_get_cases xs i).1 [ inl here ↦ (here.0, here.2) | inr past ↦ let h = past.0 in absurd (omega arith) ]
+pub still_promised : {R G : Type 0} {gate : G} {readers : List R} (old new : List (RunningSource R G)) → map (λ running. running.handle) new ≡ map (λ running. running.handle) old
+    → ArePromised gate readers (map (λ running. running.handle.promise) old) → ArePromised gate readers (map (λ running. running.handle.promise) new)
+still_promised {gate = gate} {readers} old new same = subst (ArePromised gate readers) (sym (same_promises (λ s. s.handle) (λ h. h.promise) new old same))
+
+pub as_many : {R G : Type 0} (old new : List (RunningSource R G)) → map (λ running. running.handle) new ≡ map (λ running. running.handle) old → length new ≡ length old
+as_many old new same = sym (length-map new (λ s. s.handle)) ∙ ap length same ∙ length-map old (λ s. s.handle)
+
+pub at_index : {A : Type 0} (xs : List A) (i : ℕ) → i < length xs → (x : A) × (slice_get xs i ≡ Some x)
+at_index xs i below = elim (slice_get_cases xs i).1 [ inl here ↦ (here.0, here.2) | inr past ↦ let h = past.0 in absurd (omega arith) ]
 
 mapped : {A B : Type 0} (f : A → B) (xs : List A) (i : ℕ) (y : B) → slice_get (map f xs) i ≡ Some y → (x : A) × (slice_get xs i ≡ Some x) × (f x ≡ y)
 mapped f xs i y is =
     let below : i < length xs = subst (λ n. i < n) (length-map xs f) (slice_get_within (map f xs) i y is) in
-    let place = at_place xs i below in
+    let place = at_index xs i below in
     (place.0, place.1, same_Some (f place.0) y (sym (slice_get_map f xs i place.0 place.1) ∙ is))
 
 pub past_the_end : {A : Type 0} (xs : List (List A)) (i : ℕ) → length xs ≤ i → get_or xs i [] ≡ []
@@ -112,115 +122,120 @@ sources_below n ((s, x) ∷ pairs) none = (is_below, sources_below n pairs (λ s
     apart : (source : ℕ) → n ≤ source → s ≢ source
     apart source past e = let b = is_below in omega arith
 
-pub gains_of : {start taken : List (ℕ × Sample)} {intakes : List Intake} {order : List ℕ} {refused : Bool} (n : ℕ) → length intakes ≤ n → Gathered start intakes taken order refused → GainsOf n start taken
-gains_of n few gathered = record {
-  pairs = gathered.pairs;
-  gained = gathered.gained;
-  sources = All-from_recursion (λ pair. pair.0 < n) gathered.pairs (sources_below n gathered.pairs (λ source past.
-      gathered.of_lists.by_source source ∙ past_the_end gathered.lists source (let e = gathered.all_listed in omega arith)));
+gains_of : {start taken : List (ℕ × Sample)} {intakes : List Intake} {order : List ℕ} {refused : Bool} (n : ℕ) → length intakes ≤ n → HasGained start intakes taken order refused → GainsOf n start taken
+gains_of n few has_gained = record {
+  pairs = has_gained.pairs;
+  gained = has_gained.gained;
+  sources = All-from_recursion (λ pair. pair.0 < n) has_gained.pairs (sources_below n has_gained.pairs (λ source past.
+      has_gained.of_lists.by_source source ∙ past_the_end has_gained.lists source (let e = has_gained.all_listed in omega arith)));
 }
 
-module _ {R G : Type 0} {may_stop may_go : G → ℕ → ℕ → Type 0} {rest : R → Rest} {gate : G} {readers : List R} {all : List (Started R G)} {ledgers : List LedgerState}
+pub unfinishes : {R G : Type 0} {gate : G} {readers : List R} (all : List (RunningSource R G)) {start taken : List (ℕ × Sample)} {order : List ℕ} {refused : Bool} (source : ℕ)
+    → ArePromised gate readers (map (λ running. running.handle.promise) all) → HasGained start (map (λ running. running.intake) all) taken order refused
+    → source < length all → Unfinishes (length readers) source start taken
+unfinishes {readers = readers} all source promised gained below = record {
+  below = let n = no_more in omega arith;
+  gains = gains_of (length readers) (let n = no_more in let e = length-map all (λ s. s.intake) in omega arith) gained;
+}
+  where
+    no_more : length all ≤ length readers
+    no_more = let n = promised.no_more in let e = length-map all (λ s. s.handle.promise) in omega arith
+
+module _ {R G : Type 0} {may_stop may_go : G → ℕ → ℕ → Type 0} {rest : R → Rest} {gate : G} {readers : List R} {all : List (RunningSource R G)} {ledgers : List LedgerState}
     {start taken : List (ℕ × Sample)} {order : List ℕ} {refused : Bool}
     (promised : ArePromised gate readers (map (λ started. started.handle.promise) all)) (settled : AreSettled may_stop may_go rest all ledgers)
-    (gathered : Gathered start (map (λ started. started.intake) all) taken order refused) where
-  source_settled : (source : ℕ) (started : Started R G) (ledger : LedgerState) (reader : R) → slice_get all source ≡ Some started → slice_get ledgers source ≡ Some ledger → slice_get readers source ≡ Some reader
-      → IsSettledAs (may_stop gate) (may_go gate) source (rest reader) started.intake.stage (list_of gathered.lists source) ledger
+    (has_gained : HasGained start (map (λ started. started.intake) all) taken order refused) where
+  source_settled : (source : ℕ) (started : RunningSource R G) (ledger : LedgerState) (reader : R) → slice_get all source ≡ Some started → slice_get ledgers source ≡ Some ledger → slice_get readers source ≡ Some reader
+      → IsSettledAs (may_stop gate) (may_go gate) source (rest reader) started.intake.stage (list_of has_gained.lists source) ledger
   source_settled source started ledger reader is_started is_ledger is_reader =
       let promise = promised.each source started.handle.promise reader (slice_get_map (λ s. s.handle.promise) all source started is_started) is_reader in
-      let at = gathered.each source started.intake (slice_get_map (λ s. s.intake) all source started is_started) in
-      let list = list_of gathered.lists source in
+      let at = has_gained.each source started.intake (slice_get_map (λ s. s.intake) all source started is_started) in
+      let list = list_of has_gained.lists source in
       let stage = started.intake.stage in
       let as_promised = settled.each source started ledger is_started is_ledger list at.tracks in
       subst (λ r. IsSettledAs (may_stop gate) (may_go gate) source (rest r) stage list ledger) promise.reader_is
       (subst (λ s. IsSettledAs (may_stop gate) (may_go gate) s (rest started.handle.promise.reader.value) stage list ledger) promise.source_is
       (subst (λ w. IsSettledAs (may_stop w) (may_go w) started.handle.promise.source (rest started.handle.promise.reader.value) stage list ledger) promise.gate_is as_promised))
 
-  all_listed : length gathered.lists ≡ length all
-  all_listed = gathered.all_listed ∙ length-map all (λ s. s.intake)
+  all_listed : length has_gained.lists ≡ length all
+  all_listed = has_gained.all_listed ∙ length-map all (λ s. s.intake)
 
   pub gains_first : GainsFirst (map rest readers) start taken
   gains_first = record {
-    pairs = gathered.pairs;
-    lists = gathered.lists;
-    gained = gathered.gained;
-    of_lists = gathered.of_lists;
+    pairs = has_gained.pairs;
+    lists = has_gained.lists;
+    gained = has_gained.gained;
+    of_lists = has_gained.of_lists;
     no_more = let n = promised.no_more in let e = all_listed in let f = length-map all (λ s. s.handle.promise) in let h = length-map readers rest in omega arith;
     first = first;
   }
     where
-      first : (source : ℕ) (r : Rest) → slice_get (map rest readers) source ≡ Some r → IsPrefixOf (list_of gathered.lists source) r.samples
+      first : (source : ℕ) (r : Rest) → slice_get (map rest readers) source ≡ Some r → IsPrefixOf (list_of has_gained.lists source) r.samples
       first source r is =
           let reader = mapped rest readers source r is in
           elim (slice_get_cases all source).1 [
             | inl here ↦
                 let count = settled.count in
                 let below = here.1 in
-                let ledger = at_place ledgers source (omega arith) in
-                subst (λ (q : Rest). IsPrefixOf (list_of gathered.lists source) q.samples) reader.2 (source_settled source here.0 ledger.0 reader.0 here.2 ledger.1 reader.1).first
+                let ledger = at_index ledgers source (omega arith) in
+                subst (λ (q : Rest). IsPrefixOf (list_of has_gained.lists source) q.samples) reader.2 (source_settled source here.0 ledger.0 reader.0 here.2 ledger.1 reader.1).first
             | inr past ↦
                 let beyond = past.0 in
                 let e = all_listed in
-                let none = past_the_end gathered.lists source (omega arith) in
+                let none = past_the_end has_gained.lists source (omega arith) in
                 (r.samples, ap (λ front. front ++ r.samples) none)
           ]
 
   pub gains_allowed : GainsAllowed (may_go gate) start taken
   gains_allowed = record {
-    pairs = gathered.pairs;
-    gained = gathered.gained;
-    goes = λ source. subst (λ (samples : List Sample). GoesBelow (may_go gate) source (length samples)) (sym (gathered.of_lists.by_source source)) (goes source);
+    pairs = has_gained.pairs;
+    gained = has_gained.gained;
+    goes = λ source. subst (λ (samples : List Sample). GoesBelow (may_go gate) source (length samples)) (sym (has_gained.of_lists.by_source source)) (goes source);
   }
     where
-      goes : (source : ℕ) → GoesBelow (may_go gate) source (length (list_of gathered.lists source))
+      goes : (source : ℕ) → GoesBelow (may_go gate) source (length (list_of has_gained.lists source))
       goes source = elim (slice_get_cases all source).1 [
         | inl here ↦
             let count = settled.count in
             let below = here.1 in
             let no_more = promised.no_more in
             let as_many = length-map all (λ s. s.handle.promise) in
-            let ledger = at_place ledgers source (omega arith) in
-            let reader = at_place readers source (omega arith) in
+            let ledger = at_index ledgers source (omega arith) in
+            let reader = at_index readers source (omega arith) in
             (source_settled source here.0 ledger.0 reader.0 here.2 ledger.1 reader.1).goes
         | inr past ↦
             let beyond = past.0 in
             let e = all_listed in
-            let none : length (list_of gathered.lists source) ≡ 0 = ap length (past_the_end gathered.lists source (omega arith)) in
+            let none : length (list_of has_gained.lists source) ≡ 0 = ap length (past_the_end has_gained.lists source (omega arith)) in
             λ i below. absurd (omega arith)
       ]
 
   pub runs_whole : refused ≡ false → length all ≡ length readers → RunsWhole (may_stop gate) (may_go gate) (map rest readers) ledgers order start taken
   runs_whole not_refused every = record {
-    pairs = gathered.pairs;
-    lists = gathered.lists;
-    gained = gathered.gained;
-    of_lists = gathered.of_lists;
-    ordered = gathered.ordered not_refused;
+    pairs = has_gained.pairs;
+    lists = has_gained.lists;
+    gained = has_gained.gained;
+    of_lists = has_gained.of_lists;
+    ordered = has_gained.ordered not_refused;
     all_listed = all_listed ∙ sym settled.count;
     count = settled.count ∙ every ∙ sym (length-map readers rest);
     each = each;
   }
     where
       each : (source : ℕ) (r : Rest) (ledger : LedgerState) → slice_get (map rest readers) source ≡ Some r → slice_get ledgers source ≡ Some ledger
-          → IsAllTold (may_stop gate) (may_go gate) source r (list_of gathered.lists source) ledger
+          → IsAllTold (may_stop gate) (may_go gate) source r (list_of has_gained.lists source) ledger
       each source r ledger is is_ledger =
           let reader = mapped rest readers source r is in
           let count = settled.count in
           let below = slice_get_within ledgers source ledger is_ledger in
-          let started = at_place all source (omega arith) in
+          let started = at_index all source (omega arith) in
           let one = source_settled source started.0 ledger reader.0 started.1 is_ledger reader.1 in
-          let going = gathered.going not_refused source started.0.intake (slice_get_map (λ s. s.intake) all source started.0 started.1) in
-          subst (λ q. IsAllTold (may_stop gate) (may_go gate) source q (list_of gathered.lists source) ledger) reader.2 (one.whole (is_following started.0.intake.stage going one.taken_or_dropped))
+          let going = has_gained.going not_refused source started.0.intake (slice_get_map (λ s. s.intake) all source started.0 started.1) in
+          subst (λ q. IsAllTold (may_stop gate) (may_go gate) source q (list_of has_gained.lists source) ledger) reader.2 (one.whole (is_taking started.0.intake.stage going one.taken_or_dropped))
 
--- where nothing was refused in starting, every source was started
-pub all_started : (fault : Option StartFault) (all : Type 0) → (fault ≡ Some OutOfMemory → ⊥) → (fault ≡ Some NoThread → ⊥) → IfNone fault all → all
-all_started None all a b h = h
-all_started (Some OutOfMemory) all a b h = absurd (a refl)
-all_started (Some NoThread) all a b h = absurd (b refl)
-
-pub none_then : {A P Q : Type 0} (o : Option A) → IfNone o P → (P → Q) → IfNone o Q
-none_then None h f = f h
-none_then (Some x) h f = tt
+pub where_ok : {A E P : Type 0} (result : Result A E) → IsOk result → OnOk result P → P
+where_ok (Ok x) ok h = h
+where_ok (Err e) ok h = absurd (true≢false (sym ok))
 
 -- the sink gained nothing
 pub gains_nothing : (rests : List Rest) (taken : List (ℕ × Sample)) → GainsFirst rests taken taken
@@ -239,6 +254,3 @@ gains_none_allowed may_go taken = record {
   gained = sym (append-nil taken);
   goes = λ source i below. absurd (omega arith);
 }
-
-pub where_none : {A P : Type 0} (o : Option A) → o ≡ None → IfNone o P → P
-where_none {P = P} o none h = subst (λ o. IfNone o P) none h

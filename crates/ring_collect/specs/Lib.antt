@@ -1,10 +1,3 @@
-pub mod Collecting
-pub mod Gathering
-pub mod Kept
-pub mod Limits
+pub mod Collection
 pub mod NamesInOrder
-pub mod Settling
-pub mod Started
-pub mod Taking
-pub mod Telling
-pub mod Tracking
+pub mod checked

@@ -1,11 +1,7 @@
 -- The names of samples, in the order in which they first appear.
-use Rattle.std.specs.Prelude.{◌≡◌, ℕ, List, [], ◌∷◌}
+use Rattle.std.specs.Prelude.{ℕ, List, [], ◌∷◌}
 use Rattle.call_tree.specs.FrameTable.{with_name}
-use Rattle.stack_core.specs.Told.{told}
 use Rattle.stack_core.specs.declared.samples.Sample.{Sample}
-use Rattle.stack_core.specs.declared.endings.SourceEnd.{SourceEnd}
-use Rattle.stack_core.specs.declared.endings.Close.TheVariants.{Read}
-use Rattle.stack_core.specs.declared.endings.Item.{Item}
 
 -- these names, and behind them those of a stack, root first: a known name changes nothing, a new one goes last
 abbrev pub with_stack : List (List ℕ) → List (List ℕ) → List (List ℕ)
@@ -20,8 +16,3 @@ with_stacks names (sample ∷ samples) = with_stacks (with_stack names sample.st
 -- the names of samples, each once, in the order in which they first appear
 abbrev pub names_in_order : List Sample → List (List ℕ)
 names_in_order samples = with_stacks [] samples
-
--- where the items are samples that were read to an ending, these are their names in that order
-abbrev pub AreNamesOf : List Item → List (List ℕ) → Type 0
-AreNamesOf items names =
-    (samples : List Sample) (ending : SourceEnd) → items ≡ told samples (Read ending) → names ≡ names_in_order samples

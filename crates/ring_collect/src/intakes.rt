@@ -1,60 +1,96 @@
 //! One source, as the collecting thread sees it: the consumer of its ring, its ledger, and how it was closed.
 
-ghost use Rattle.std.specs.Prelude.{◌≡◌, ◌≢◌, ◌↔◌, IsTrue, None};
-ghost use Rattle.ring_collect.specs.Kept.{IsKept};
+ghost use Rattle.std.specs.Prelude.{◌≡◌, ◌≢◌, ◌<◌, ◌↔◌, All, IsTrue, None, length};
+ghost use Rattle.ring_collect.specs.checked.Records.{close_after};
+ghost use Rattle.ring_collect.specs.checked.RowSamples.{IsNamedBy};
 
-use crate::kept::KeptSample;
-use crate::limits::RecordConsumer;
-use crate::taking::{Taken, note_close, take_item};
-use stack_core::{Close, Ledger, Sink};
+use crate::rings::RecordConsumer;
+use crate::row_samples::RowSample;
+use stack_core::{Close, Ledger, Listed, RingRecord, Sink};
 use std::alloc::Global;
 
 /// What is done with the records that come.
 #[derive(Clone, Copy, Debug, PartialEq, Eq)]
 pub enum Stage {
     /// They are taken.
-    Following,
+    Taking,
     /// They are dropped, since there was want of memory.
     Dropping,
-    /// They are dropped, since a row had a number without a name: what came is not well told.
-    Untold,
+    /// They are dropped, since a row had a number without a name. No reader tells such a row.
+    Unnamed,
 }
 
 impl Stage {
-    /// Whether a row had a number without a name.
-    pub fn is_untold(self) -> bool
-        ensures { IsTrue result ↔ (self ≡ Stage.Untold) }
+    /// Whether there was want of memory.
+    pub fn is_dropping(self) -> bool
+        ensures { IsTrue result ↔ (self ≡ Stage.Dropping) }
     {
-        matches!(self, Stage::Untold)
+        matches!(self, Stage::Dropping)
     }
 
-    fn is_following(self) -> bool
-        ensures { IsTrue result ↔ (self ≡ Stage.Following) }
+    /// Whether a row had a number without a name.
+    pub fn is_unnamed(self) -> bool
+        ensures { IsTrue result ↔ (self ≡ Stage.Unnamed) }
     {
-        matches!(self, Stage::Following)
+        matches!(self, Stage::Unnamed)
+    }
+
+    fn is_taking(self) -> bool
+        ensures { IsTrue result ↔ (self ≡ Stage.Taking) }
+    {
+        matches!(self, Stage::Taking)
     }
 
     /// The stage of a source once there was want of memory.
     fn dropping(self) -> Self
-        ensures dropped { result ≢ Stage.Following }
-        ensures untold { (result ≡ Stage.Untold) ↔ (self ≡ Stage.Untold) }
+        ensures dropped { result ≢ Stage.Taking }
+        ensures unnamed { (result ≡ Stage.Unnamed) ↔ (self ≡ Stage.Unnamed) }
     {
         match self {
-            Stage::Following | Stage::Dropping => Stage::Dropping,
-            Stage::Untold => Stage::Untold,
+            Stage::Taking | Stage::Dropping => Stage::Dropping,
+            Stage::Unnamed => Stage::Unnamed,
         }
     }
 }
 
-/// What a look into the ring came to.
+/// What a look into the rings came to.
 #[derive(Clone, Copy, Debug, PartialEq, Eq)]
-pub enum Turned {
+pub enum Look {
+    /// Every ring is closed.
+    Closed,
     /// Nothing was there.
     Idle,
     /// A record came.
     Moved,
-    /// A record came, and there was want of memory.
-    Refused,
+}
+
+impl Look {
+    /// What this look and another came to.
+    pub fn and(self, other: Look) -> Look
+        ensures closed { result ≡ Look.Closed → (self ≡ Look.Closed) × (other ≡ Look.Closed) }
+    {
+        match (self, other) {
+            (Look::Closed, Look::Closed) => Look::Closed,
+            (Look::Moved, _) | (_, Look::Moved) => Look::Moved,
+            _ => Look::Idle,
+        }
+    }
+}
+
+/// Whether each number has a name.
+fn are_named(frames: &[usize], names: usize) -> bool
+    ensures { IsTrue result ↔ All (λ number. number < names) frames.now }
+{
+    frames.iter().all(|number| *number < names)
+}
+
+/// Notes what closes the ring, and drops every other record.
+fn note_close(close: &mut Option<Close>, popped: RingRecord)
+    ensures { close.new ≡ close_after close.old popped }
+{
+    if let RingRecord::Close(last) = popped {
+        *close = Some(last);
+    }
 }
 
 /// The collecting thread's part of one source.
@@ -63,83 +99,128 @@ pub struct Intake {
     pub number: u32,
     pub consumer: RecordConsumer,
     pub ledger: Ledger,
-    pub kept: KeptSample,
+    pub row_sample: RowSample,
     pub stage: Stage,
     /// What closed the ring. From then on it isn't looked into again.
     pub close: Option<Close>,
     ghost still_open: { ledger.close ≡ None },
-    ghost kept_told: { IsKept ledger.told kept },
+    ghost named: { IsNamedBy ledger.told row_sample },
 }
 
 impl Intake {
-    ghost use Rattle.std.specs.Prelude.{◌≡◌, ◌≢◌, ◌⊎◌, List, None, true, false};
+    ghost use Rattle.std.specs.Prelude.{◌≡◌, ◌≢◌, ◌≤◌, List, None, length};
     ghost use Rattle.rtrb.specs.Ring.{SameConsumer};
-    ghost use Rattle.ring_collect.specs.Tracking.{PopsOne, FindsNothing, Tracks, TurnsTo};
+    ghost use Rattle.ring_collect.specs.checked.Rings.{IsLimitedRecord};
+    ghost use Rattle.ring_collect.specs.checked.Records.{TakesRecord, TakesRow};
+    ghost use Rattle.ring_collect.specs.checked.Intakes.{PopsOne, FindsNothing, Tracks, GainsMore};
     ghost use Rattle.stack_core.specs.declared.samples.Sample.{Sample as TakenSample};
+    ghost use Rattle.stack_core.specs.declared.samples.TheConstants.{FRAME_LIMIT, WEIGHT_LIMIT};
 
-    /// Takes the next record, if one is there.
-    pub fn take_next<S: Sink>(
+    /// Takes a row: its sample is handed to the sink first, then to the ledger and the order. Answers the stage after it.
+    fn take_row<S: Sink>(
         &mut self,
         alloc: Global,
+        frames: Listed<usize>,
+        weight: u64,
         sink: &mut S,
         order: &mut Vec<u32>,
-    ) -> Turned
-        requires { self.old.close ≡ None }
+    ) -> Stage
+        requires depth { length frames ≤ FRAME_LIMIT }
+        requires limit { weight ≤ WEIGHT_LIMIT }
+        ensures row { TakesRow self.old.number (record { frames = frames; weight = weight })
+            self.old.ledger self.new.ledger (S.taken sink.old) (S.taken sink.new)
+            order.old.items order.new.items result }
         ensures number { self.new.number ≡ self.old.number }
-        ensures ring { SameConsumer self.old.consumer self.new.consumer }
-        ensures nothing { result ≡ Turned.Idle → FindsNothing self.old.consumer self.new.consumer }
-        ensures one { result ≢ Turned.Idle → PopsOne self.old.consumer self.new.consumer }
-        ensures turned { (list : List TakenSample) → Tracks self.old list
-            → TurnsTo self.new.number (Tracks self.new) list (S.taken sink.old)
-            (S.taken sink.new) order.old.items order.new.items (result ≢ Turned.Refused) }
-        ensures stage { self.new.stage ≡ Stage.Dropping → (self.old.stage ≡ Stage.Dropping)
-            ⊎ (result ≡ Turned.Refused) }
+        ensures consumer { self.new.consumer ≡ self.old.consumer }
+        ensures close { self.new.close ≡ self.old.close }
         ensures setting { S.setting sink.new ≡ S.setting sink.old }
     {
-        let Ok(item) = self.consumer.pop() else {
-            return Turned::Idle;
-        };
-        if !self.stage.is_following() {
-            note_close(&mut self.close, item);
-            return Turned::Moved;
+        if !are_named(frames.get(), self.ledger.told()) {
+            return Stage::Unnamed;
         }
-        let source = self.number;
-        match take_item(
-            alloc,
-            source,
-            &mut self.ledger,
-            &mut self.close,
-            item,
-            &mut self.kept,
-            sink,
-            order,
-        ) {
-            Taken::Kept => Turned::Moved,
-            Taken::Refused => {
-                self.stage = Stage::Dropping;
-                Turned::Refused
-            }
-            Taken::Untold => {
-                self.stage = Stage::Untold;
-                Turned::Moved
+        let row_sample = &mut self.row_sample;
+        let set = row_sample.set_row(alloc, &self.ledger, frames.get(), weight);
+        if set.is_err() {
+            return Stage::Dropping;
+        }
+        let sample = &self.row_sample.sample;
+        if sink.take(alloc, self.number, sample).is_err() {
+            return Stage::Dropping;
+        }
+        if self.ledger.take_row(frames, weight).is_err() || order.push(self.number).is_err() {
+            return Stage::Dropping;
+        }
+        Stage::Taking
+    }
+
+    /// Takes a record that came out of the ring. Answers the stage after it.
+    fn take_record<S: Sink>(
+        &mut self,
+        alloc: Global,
+        popped: RingRecord,
+        sink: &mut S,
+        order: &mut Vec<u32>,
+    ) -> Stage
+        requires { IsLimitedRecord popped }
+        ensures taken { TakesRecord self.old.number popped self.old.ledger self.new.ledger
+            self.old.close self.new.close (S.taken sink.old) (S.taken sink.new)
+            order.old.items order.new.items result }
+        ensures number { self.new.number ≡ self.old.number }
+        ensures consumer { self.new.consumer ≡ self.old.consumer }
+        ensures setting { S.setting sink.new ≡ S.setting sink.old }
+    {
+        match popped {
+            RingRecord::Name(name) => match self.ledger.tell(name) {
+                Ok(()) => Stage::Taking,
+                Err(_) => Stage::Dropping,
+            },
+            RingRecord::Row { frames, weight } => self.take_row(alloc, frames, weight, sink, order),
+            RingRecord::Close(last) => {
+                self.close = Some(last);
+                Stage::Taking
             }
         }
     }
 
-    /// Drops the next record, if one is there, but keeps what closes the ring.
-    pub fn drop_next(&mut self) -> bool
+    /// Takes the next record, if one is there.
+    pub fn take_next<S: Sink>(&mut self, alloc: Global, sink: &mut S, order: &mut Vec<u32>) -> Look
         requires { self.old.close ≡ None }
+        ensures open { result ≢ Look.Closed }
         ensures number { self.new.number ≡ self.old.number }
         ensures ring { SameConsumer self.old.consumer self.new.consumer }
-        ensures nothing { result ≡ false → FindsNothing self.old.consumer self.new.consumer }
-        ensures one { result ≡ true → PopsOne self.old.consumer self.new.consumer }
+        ensures nothing { result ≡ Look.Idle → FindsNothing self.old.consumer self.new.consumer }
+        ensures one { result ≡ Look.Moved → PopsOne self.old.consumer self.new.consumer }
+        ensures more { (list : List TakenSample) → Tracks self.old list
+            → GainsMore self.new.number (Tracks self.new) list (S.taken sink.old)
+            (S.taken sink.new) order.old.items order.new.items (self.new.stage ≢ Stage.Dropping) }
+        ensures setting { S.setting sink.new ≡ S.setting sink.old }
+    {
+        let Ok(popped) = self.consumer.pop() else {
+            return Look::Idle;
+        };
+        if !self.stage.is_taking() {
+            note_close(&mut self.close, popped);
+            return Look::Moved;
+        }
+        self.stage = self.take_record(alloc, popped, sink, order);
+        Look::Moved
+    }
+
+    /// Drops the next record, if one is there, but notes what closes the ring.
+    pub fn drop_next(&mut self) -> Look
+        requires { self.old.close ≡ None }
+        ensures open { result ≢ Look.Closed }
+        ensures number { self.new.number ≡ self.old.number }
+        ensures ring { SameConsumer self.old.consumer self.new.consumer }
+        ensures nothing { result ≡ Look.Idle → FindsNothing self.old.consumer self.new.consumer }
+        ensures one { result ≡ Look.Moved → PopsOne self.old.consumer self.new.consumer }
         ensures tracks { (list : List TakenSample) → Tracks self.old list → Tracks self.new list }
     {
-        let Ok(item) = self.consumer.pop() else {
-            return false;
+        let Ok(popped) = self.consumer.pop() else {
+            return Look::Idle;
         };
         self.stage = self.stage.dropping();
-        note_close(&mut self.close, item);
-        true
+        note_close(&mut self.close, popped);
+        Look::Moved
     }
 }

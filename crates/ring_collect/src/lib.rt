@@ -2,17 +2,19 @@
 //! the threads' steps fall.
 #![tactic(auto)]
 
-mod collecting;
-mod gathering;
+mod faults;
 mod intakes;
-mod kept;
-mod limits;
-mod settling;
-mod started;
-mod starting;
-mod taking;
-mod telling;
+mod reader_threads;
+mod rings;
+mod room;
+mod rounds;
+mod row_samples;
+mod running_sources;
+mod runs;
+mod settlement;
+mod tellers;
 
-pub use collecting::{CollectFault, Collected, collect};
+pub use faults::CollectFault;
 pub use run_options::{LARGEST_RING, RingSize};
+pub use runs::{Collected, collect};
 pub use stack_core::RingRecord;

@@ -1,0 +1,36 @@
+use Rattle.std.proofs.Common.{◌≡◌, ◌+◌, ◌∙◌, ◌++◌, ◌∷◌, [], sym, ap, subst, rules, map, length, arith, length-append}
+use Rattle.std.proofs.lemmas.List.{map-append, length-map}
+use Rattle.std.specs.Arc.{arc_value}
+use Rattle.std.specs.Vec.Iter.{into_iter_items}
+use Rattle.ring_collect.specs.checked.RunningSources.{ArePromised, AreFresh, IsFresh, IsPromised}
+use Rattle.ring_collect.proofs.RunningSourceLemmas.{promised_of_more, promised_push, fresh_push, taken_front}
+use Rattle.ring_collect.proofs.reader_threads.start_all.Goals as goal
+
+pub returns-in_err-running-clause-promised : goal.returns-in_err-running-clause-promised
+returns-in_err-running-clause-promised g c =
+    let so_far = c.loop-reader.invariant in
+    let before = taken_front c.into_iter-reader-iterator.result c.loop-reader.yielded c.loop-reader.reader-iterator c.loop-reader.yielded_by in
+    let gives : into_iter_items c.into_iter-reader-iterator.result ≡ c.args.readers.items = c.into_iter-reader-iterator.ensures.into_iter_gives.0 in
+    let whole = sym gives ∙ before in
+    subst (λ readers. ArePromised (arc_value c.args.gate.now) readers (map (λ s. s.handle.promise) c.loop-reader.sources.items)) (sym whole)
+    (promised_of_more so_far.promised (into_iter_items c.loop-reader.reader-iterator))
+
+pub loop-reader-preserved : goal.loop-reader-preserved
+loop-reader-preserved g c =
+    let so_far = c.loop-reader.invariant in
+    let all = c.loop-reader.sources.items in
+    let started = c.in_ok-running.running in
+    let pushed = c.in-Ok.ensures.items in
+    let one_more = length-append c.loop-reader.yielded (c.in-Some.reader ∷ []) in
+    record {
+      ends = (tt, tt);
+      started = ap length pushed ∙ length-append all (started ∷ []) ∙ ap (λ n. n + 1) so_far.started ∙ sym one_more;
+      source = ap (λ n. n + 1) so_far.source ∙ sym one_more;
+      rings = let popped = ap length c.in-Some-pop.ensures.items ∙ length-append c.pop.new.self.items (c.in-Some-pop.ends ∷ []) in let before = so_far.rings in omega arith;
+      few = so_far.few;
+      room = search rules;
+      promised = subst (ArePromised (arc_value c.args.gate.now) (c.loop-reader.yielded ++ c.in-Some.reader ∷ [])) (sym (ap (map (λ s. s.handle.promise)) pushed ∙ map-append (λ s. s.handle.promise) all (started ∷ [])))
+          (promised_push so_far.promised c.in-Some.reader started.handle.promise (length-map all (λ s. s.handle.promise) ∙ so_far.started) (subst (λ n. IsPromised (arc_value c.args.gate.now) n c.in-Some.reader started.handle.promise) so_far.source c.in_ok-running.ensures.promised));
+      fresh = subst AreFresh (sym (ap (map (λ s. s.intake)) pushed ∙ map-append (λ s. s.intake) all (started ∷ [])))
+          (fresh_push started.intake so_far.fresh (subst (λ n. IsFresh n started.intake) (so_far.source ∙ sym (length-map all (λ s. s.intake) ∙ so_far.started)) c.in_ok-running.ensures.fresh));
+    }

@@ -1,0 +1,17 @@
+use Rattle.std.proofs.Common.{false, ◌≡◌, ℕ, List, map}
+use Rattle.stack_core.specs.declared.samples.Sample.{Sample}
+use Rattle.ring_collect.specs.checked.Rounds.{HasGained}
+use Rattle.ring_collect.proofs.rounds.Collector.drain.Given as goal
+
+abbrev pub invariant-loop : goal.invariant-loop
+invariant-loop g l =
+    let taken = g.S.Sink.taken in
+    let was = l.fn.self in
+    record {
+      ends : (goal.iterator-loop g).can_next l.iterator' × (goal.iterator-loop g).is_finite l.iterator';
+      handles : map (λ running. running.handle) l.self.sources.items ≡ map (λ running. running.handle) was.sources.items;
+      gained : (start : List (ℕ × Sample)) → HasGained start (map (λ running. running.intake) was.sources.items) (taken l.fn.sink) was.order.items was.refused
+          → HasGained start (map (λ running. running.intake) l.self.sources.items) (taken l.sink) l.self.order.items l.self.refused;
+      refused : l.self.refused ≡ false → was.refused ≡ false;
+      setting : g.S.Sink.setting l.sink ≡ g.S.Sink.setting l.fn.sink;
+    }

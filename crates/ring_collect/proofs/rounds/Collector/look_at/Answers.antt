@@ -1,0 +1,48 @@
+use Rattle.std.proofs.Common.{◌∙◌, ◌≡◌, sym, ap, subst, refl, true≢false, false, IfSome, IsSome, slice_set, map}
+use Rattle.std.proofs.lemmas.List.{set-get_or, map-set}
+use Rattle.std.proofs.Math.Seq.{map-set_same}
+use Rattle.std.proofs.lemmas.Option.{slice_get_read}
+use Rattle.ring_collect.proofs.IntakeLemmas.{nothing_more, more_weaker}
+use Rattle.ring_collect.proofs.RoundLemmas.{one_look, slice_get_map}
+use Rattle.ring_collect.specs.checked.Rounds.{HasGained}
+use Rattle.ring_collect.specs.declared.intakes.Stage.TheVariants.{Dropping}
+use Rattle.ring_collect.proofs.rounds.Collector.look_at.Goals as goal
+
+pub returns-then-is_some-clause-closed : goal.returns-then-is_some-clause-closed
+returns-then-is_some-clause-closed g c = λ _.
+    let all = c.args.self.now.sources.items in
+    let running = c.index_mut-running.result.now in (
+      ap (slice_set all c.args.source) c.index_mut-running.ensures.value ∙ set-get_or all c.args.source running,
+      subst (λ o. IfSome o (λ s. IsSome s.intake.close)) (sym (slice_get_read all _ c.args.source running refl c.requires c.index_mut-running.ensures.value)) (sym c.if-is_some.ensures),
+    )
+
+pub returns-then-self-clause-handles : goal.returns-then-self-clause-handles
+returns-then-self-clause-handles g c =
+    map-set_same (λ s. s.handle) c.args.self.now.sources.items c.args.source _ c.index_mut-running.result.now (ap (λ s. s.handle) c.index_mut-running.ensures.value)
+
+pub returns-then-self-clause-gained : goal.returns-then-self-clause-gained
+returns-then-self-clause-gained g c = λ start gained.
+    let was = c.args.self.now in
+    let all = was.sources.items in
+    let running = c.index_mut-running.result.now in
+    let is = slice_get_read all _ c.args.source running refl c.requires c.index_mut-running.ensures.value in
+    let dropped = c.drop_next.ensures in
+    subst (λ intakes. HasGained start intakes (g.S.Sink.taken c.args.sink.now) was.order.items was.refused) (sym (map-set (λ s. s.intake) all c.args.source _))
+    (one_look (map (λ s. s.intake) all) c.args.source running.intake c.drop_next.new.self (slice_get_map (λ s. s.intake) all c.args.source running is)
+    dropped.number (λ list tracked. nothing_more (dropped.tracks list tracked)) (λ e. e) (λ e. absurd (true≢false (sym c.if-self.true ∙ e))) gained)
+
+pub returns-clause-handles : goal.returns-clause-handles
+returns-clause-handles g c =
+    map-set_same (λ s. s.handle) c.args.self.now.sources.items c.args.source _ c.index_mut-running.result.now (ap (λ s. s.handle) c.index_mut-running.ensures.value)
+
+pub returns-clause-gained : goal.returns-clause-gained
+returns-clause-gained g c = λ start gained.
+    let was = c.args.self.now in
+    let all = was.sources.items in
+    let running = c.index_mut-running.result.now in
+    let is = slice_get_read all _ c.args.source running refl c.requires c.index_mut-running.ensures.value in
+    let looked = c.take_next-look.ensures in
+    let not_dropping = λ (e : c.is_dropping-self.result ≡ false) (dropping : c.take_next-look.new.self.stage ≡ Dropping). true≢false (sym (c.is_dropping-self.ensures.1 dropping) ∙ e) in
+    subst (λ intakes. HasGained start intakes (g.S.Sink.taken c.take_next-look.new.sink) c.take_next-look.new.order.items c.is_dropping-self.result) (sym (map-set (λ s. s.intake) all c.args.source _))
+    (one_look (map (λ s. s.intake) all) c.args.source running.intake c.take_next-look.new.self (slice_get_map (λ s. s.intake) all c.args.source running is)
+    looked.number (λ list tracked. more_weaker not_dropping (looked.more list tracked)) (λ _. c.if-self.false) not_dropping gained)

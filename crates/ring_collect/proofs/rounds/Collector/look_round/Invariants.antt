@@ -1,0 +1,20 @@
+use Rattle.std.proofs.Common.{false, ◌≡◌, ◌<◌, ℕ, List, length, map, slice_get, IfSome, IsSome}
+use Rattle.stack_core.specs.declared.samples.Sample.{Sample}
+use Rattle.ring_collect.specs.checked.Rounds.{HasGained}
+use Rattle.ring_collect.specs.declared.intakes.Look.TheVariants.{Closed}
+use Rattle.ring_collect.proofs.rounds.Collector.look_round.Given as goal
+
+-- while all are closed nothing has changed
+abbrev pub invariant-loop-source : goal.invariant-loop-source
+invariant-loop-source g l =
+    let taken = g.S.Sink.taken in
+    let was = l.fn.self in
+    record {
+      count : length l.self.sources.items ≡ length was.sources.items;
+      handles : map (λ running. running.handle) l.self.sources.items ≡ map (λ running. running.handle) was.sources.items;
+      gained : (start : List (ℕ × Sample)) → HasGained start (map (λ running. running.intake) was.sources.items) (taken l.fn.sink) was.order.items was.refused
+          → HasGained start (map (λ running. running.intake) l.self.sources.items) (taken l.sink) l.self.order.items l.self.refused;
+      closed : l.round ≡ Closed → (source : ℕ) → source < l.source → IfSome (slice_get l.self.sources.items source) (λ running. IsSome running.intake.close);
+      refused : l.self.refused ≡ false → was.refused ≡ false;
+      setting : g.S.Sink.setting l.sink ≡ g.S.Sink.setting l.fn.sink;
+    }

@@ -1,8 +1,0 @@
-use Rattle.std.proofs.lemmas.Option.{IfSome_then}
-use Rattle.ring_collect.proofs.SettlingLemmas.{left_settled}
-use Rattle.ring_collect.proofs.settling.settle.Goals as goal
-
-pub returns : goal.returns
-returns g c =
-    left_settled (λ gate. g.G.Gate.may_stop gate) (λ gate. g.G.Gate.may_go gate) (λ reader. g.R.SampleReader.rest reader) c.args.started c.join.result c.settle_by.result c.requires
-    (IfSome_then c.join.result c.join.ensures (λ left sent. sent.all)) c.settle_by.ensures.received c.settle_by.ensures.unshown

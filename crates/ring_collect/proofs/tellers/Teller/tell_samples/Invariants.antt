@@ -1,0 +1,11 @@
+use Rattle.rtrb.specs.Ring.{sent, SameProducer}
+use Rattle.ring_collect.proofs.Progress.{ToldSoFar}
+use Rattle.ring_collect.proofs.tellers.Teller.tell_samples.Given as goal
+
+-- the samples before this one are told
+abbrev pub invariant-loop : goal.invariant-loop
+invariant-loop g l = record {
+  ends : (goal.iterator-loop g).can_next l.iterator' × (goal.iterator-loop g).is_finite l.iterator';
+  ring : SameProducer l.fn.self.producer l.self.producer;
+  told : ToldSoFar (g.G.Gate.may_go l.gate) l.source (g.R.SampleReader.rest l.fn.reader) (g.R.SampleReader.rest l.reader) l.index l.self.names (sent l.self.producer);
+}

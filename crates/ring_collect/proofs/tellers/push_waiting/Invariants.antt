@@ -1,0 +1,12 @@
+use Rattle.std.proofs.Common.{◌≡◌}
+use Rattle.rtrb.specs.Ring.{sent, SameProducer}
+use Rattle.ring_collect.proofs.tellers.push_waiting.Given as goal
+
+-- the record is not in the ring yet
+abbrev pub invariant-loop : goal.invariant-loop
+invariant-loop g l = record {
+  ends : (goal.iterator-loop g).can_next l.iterator' × (goal.iterator-loop g).is_finite l.iterator';
+  ring : SameProducer l.fn.producer l.producer;
+  sent : sent l.producer ≡ sent l.fn.producer;
+  waiting : l.item ≡ l.fn.item;
+}

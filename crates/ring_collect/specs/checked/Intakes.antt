@@ -1,0 +1,57 @@
+-- What the collecting thread has of a source: checked, not to be believed.
+use Rattle.std.specs.Prelude.{◌≡◌, ◌++◌, ℕ, List, [], ◌∷◌, Option, Some, None, map}
+use Rattle.rtrb.specs.Ring.{received, known_items}
+use Rattle.rtrb.specs.declared.consumer.Consumer.{Consumer}
+use Rattle.stack_core.specs.Ledgers.{LedgerState}
+use Rattle.stack_core.specs.Records.{stands_for, names_told, IsWellTold}
+use Rattle.stack_core.specs.Interleaving.{sources_of}
+use Rattle.stack_core.specs.Prefixes.{IsPrefixOf}
+use Rattle.stack_core.specs.declared.samples.Sample.{Sample}
+use Rattle.stack_core.specs.declared.endings.Close.{Close}
+use Rattle.stack_core.specs.declared.endings.Item.{Item}
+use Rattle.stack_core.specs.declared.endings.Item.TheVariants as item
+use Rattle.stack_core.specs.declared.records.RingRecord.{RingRecord}
+use Rattle.ring_collect.specs.checked.Records.{of_one}
+use Rattle.ring_collect.specs.declared.intakes.Intake.{Intake}
+use Rattle.ring_collect.specs.declared.intakes.Stage.{Stage}
+use Rattle.ring_collect.specs.declared.intakes.Stage.TheVariants.{Taking, Unnamed}
+
+-- a record came out of the ring
+abbrev pub PopsOne : {A P : Type 0} → Consumer RingRecord A P → Consumer RingRecord A P → Type 0
+PopsOne old new = (one : RingRecord) × (received new ≡ received old ++ one ∷ [])
+
+-- no record was known to be in the ring
+abbrev pub FindsNothing : {A P : Type 0} → Consumer RingRecord A P → Consumer RingRecord A P → Type 0
+FindsNothing old new = (received new ≡ received old) × (known_items new ≡ [])
+
+-- the item that a close is, if there is one
+abbrev pub close_items : Option Close → List Item
+close_items None = []
+close_items (Some close) = item.Close close ∷ []
+
+-- the ledger has what the records told: their names, and the samples that their rows stand for
+pub record HoldsAll (records : List RingRecord) (ledger : LedgerState) (samples list : List Sample) : Type 0 where
+  pub is_open : ledger.close ≡ None
+  pub told : ledger.told ≡ names_told records
+  pub ledger_samples : ledger.samples ≡ samples
+  pub all_taken : list ≡ samples
+  pub well_told : IsWellTold records
+
+-- the records of a ring stand for samples, and then the close if it came; of these samples the sink has the first ones, and all
+-- of them as long as the records are taken. Where a number without a name came they are not well told
+pub record Tracked (records : List RingRecord) (close : Option Close) (ledger : LedgerState) (stage : Stage) (list : List Sample) : Type 0 where
+  pub samples : List Sample
+  pub stands : stands_for records ≡ map item.Sample samples ++ close_items close
+  pub first : IsPrefixOf list samples
+  pub holds : stage ≡ Taking → HoldsAll records ledger samples list
+  pub unnamed : stage ≡ Unnamed → IsWellTold records → ⊥
+
+abbrev pub Tracks : Intake → List Sample → Type 0
+Tracks intake list = Tracked (received intake.consumer) intake.close intake.ledger intake.stage list
+
+-- the sink has some samples more of the source, and what is tracked says so; where it went well the order has their source too
+pub record GainsMore (source : ℕ) (tracks : List Sample → Type 0) (list : List Sample) (taken taken' : List (ℕ × Sample)) (order order' : List ℕ) (went_well : Type 0) : Type 0 where
+  pub more : List Sample
+  pub tracked : tracks (list ++ more)
+  pub gains : taken' ≡ taken ++ of_one source more
+  pub ordered : went_well → order' ≡ order ++ sources_of (of_one source more)

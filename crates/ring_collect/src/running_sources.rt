@@ -1,0 +1,49 @@
+//! A source whose reader thread runs.
+
+ghost use Rattle.rtrb.specs.Ends.{SameRing};
+
+use crate::intakes::Intake;
+use crate::rings::{LeftOfRing, RecordConsumer, RecordProducer};
+use stack_core::{Gate, SampleReader};
+use std::snapshot::Snapshot;
+use std::sync::Arc;
+use std::thread::{Promise, PromisedHandle};
+
+/// What the thread of a source promises of what it hands back: all that it sent is what its reader tells under the gate.
+pub struct ReaderPromise<R, G> {
+    pub reader: Snapshot<R>,
+    pub gate: Snapshot<Arc<G>>,
+    pub producer: Snapshot<RecordProducer>,
+    pub source: u32,
+}
+
+impl<R, G> Drop for ReaderPromise<R, G> {
+    fn drop(self) {
+        let ReaderPromise {
+            reader: _,
+            gate: _,
+            producer: _,
+            source: _,
+        } = self;
+    }
+}
+
+impl<R: SampleReader, G: Gate> Promise<Option<LeftOfRing>> for ReaderPromise<R, G> {
+    ghost use Rattle.std.specs.Prelude.{IfSome};
+    ghost use Rattle.std.specs.Arc.{arc_value};
+    ghost use Rattle.ring_collect.specs.checked.Tellers.{SentAll};
+
+    ghost kept_by = { λ p r.
+        IfSome r (SentAll (G.may_stop (arc_value p.gate.value)) (G.may_go (arc_value p.gate.value))
+        p.source (R.rest p.reader.value) p.producer.value) };
+}
+
+pub type ReaderHandle<R, G> = PromisedHandle<Option<LeftOfRing>, ReaderPromise<R, G>>;
+
+/// A source that was started: its thread, with what that promises, and what the collecting thread has of it.
+#[derive(Drop)]
+pub struct RunningSource<R: SampleReader, G: Gate> {
+    pub handle: ReaderHandle<R, G>,
+    pub intake: Intake,
+    ghost tied: { SameRing handle.promise.producer.value.end intake.consumer.end },
+}

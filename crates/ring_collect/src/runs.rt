@@ -1,0 +1,206 @@
+//! A whole run: a reader thread and a bounded ring for each source, and the collecting thread that feeds the sink.
+
+ghost use Rattle.std.specs.Prelude.{All, None, Some, false, ◌≡◌, ◌≤◌, ◌++◌, ◌⊎◌, ℕ, [], IfOk, IsErrOf, IfErr, IsOk, length, map, vec_capacity};
+ghost use Rattle.std.specs.Arc.{arc_value};
+ghost use Rattle.call_tree.specs.FrameTable.{HasDistinctNames};
+ghost use Rattle.ring_collect.specs.Collection.{Collects, AreWhole, GainsAllowed, GainsFirst, Unfinishes};
+ghost use Rattle.ring_collect.specs.NamesInOrder.{names_in_order};
+ghost use Rattle.ring_collect.specs.checked.WholeRuns.{IsUnfinished, RunsWhole};
+ghost use Rattle.ring_collect.specs.checked.Settlement.{AreListsOf};
+ghost use Rattle.stack_core.specs.Ledgers.{IsRead};
+ghost use Rattle.stack_core.specs.Interleaving.{IsInterleaving, AreOf, interleaved};
+
+use crate::faults::CollectFault;
+use crate::reader_threads::start_all;
+use crate::room::Room;
+use crate::rounds::Collector;
+use crate::settlement::settle_all;
+use run_options::RingSize;
+use stack_core::{Close, Gate, Ledger, SampleReader, Sink, SourceList};
+use std::alloc::{AllocError, Global};
+use std::sync::{Arc, Wait};
+use std::thread::Threads;
+
+#[cfg(test)]
+mod tests;
+
+/// What a run collected.
+#[derive(Drop)]
+pub struct Collected {
+    /// One list for each reader, in their order.
+    pub lists: Vec<SourceList>,
+    /// The source of each sample, in the order in which the samples came out of the rings.
+    pub order: Vec<u32>,
+}
+
+/// The list that a ledger hands out. An error where it was closed for want of memory.
+fn list_of_ledger(ledger: Ledger) -> Result<SourceList, AllocError>
+    ensures list { IfOk result (λ list. (list.samples ≡ ledger.samples)
+        × (ledger.close ≡ Some (Close.Read list.ending))) }
+    ensures names { IfOk result (λ list. list.told ≡ ledger.told) }
+    ensures read { IsRead ledger.close → IsOk result }
+{
+    match ledger.closed() {
+        Some(Close::Read(_)) => Ok(ledger.into_list()),
+        _ => Err(AllocError),
+    }
+}
+
+/// The lists that ledgers hand out. An error where a reader met want of memory, or there is want of memory.
+fn lists_of(alloc: Global, ledgers: Vec<Ledger>) -> Result<Vec<SourceList>, AllocError>
+    ensures { IfOk result (λ lists. AreListsOf ledgers.items lists.items) }
+{
+    let mut lists = Vec::with_capacity(alloc, ledgers.len())?;
+    for ledger in ledgers {
+        lists.push(list_of_ledger(ledger)?)?;
+    }
+    Ok(lists)
+}
+
+/// What a run left whose sources are all settled.
+#[derive(Drop)]
+struct Settled {
+    ledgers: Vec<Ledger>,
+    order: Vec<u32>,
+    /// What was refused in starting or collecting, if something was.
+    fault: Option<CollectFault>,
+}
+
+/// What was refused in starting or collecting, want of memory before a thread.
+fn refusal(started: Result<(), CollectFault>, refused: bool) -> Option<CollectFault>
+    requires { (source : ℕ) → IsErrOf started (CollectFault.Unfinished source) → ⊥ }
+    ensures none { result ≡ None → (refused ≡ false) × IsOk started }
+    ensures finished { (source : ℕ) → result ≡ Some (CollectFault.Unfinished source) → ⊥ }
+{
+    if refused {
+        return Some(CollectFault::OutOfMemory);
+    }
+    started.err()
+}
+
+/// Starts the sources, drains their rings and joins their threads.
+fn run_sources<
+    T: Threads + Wait + Copy + Send + 'static,
+    R: SampleReader + Send + Drop + 'static,
+    G: Gate + Send + Sync + Drop + 'static,
+    S: Sink,
+>(
+    rt: &T,
+    alloc: Global,
+    readers: Vec<R>,
+    room: Room<R, G>,
+    gate: &Arc<G>,
+    sink: &mut S,
+) -> Result<Settled, CollectFault>
+    requires few { length readers.items ≤ 64 }
+    requires rings { length room.rings.items ≡ length readers.items }
+    requires sources { (room.sources.items ≡ [])
+        × (length readers.items ≤ vec_capacity room.sources) }
+    requires ledgers { (room.ledgers.items ≡ [])
+        × (length readers.items ≤ vec_capacity room.ledgers) }
+    ensures gains { IfOk result (λ _.
+        GainsFirst (map R.rest readers.items) (S.taken sink.old) (S.taken sink.new)) }
+    ensures popped { IfOk result (λ _.
+        GainsAllowed (G.may_go (arc_value gate.now)) (S.taken sink.old) (S.taken sink.new)) }
+    ensures whole { IfOk result (λ run. run.fault ≡ None
+        → RunsWhole (G.may_stop (arc_value gate.now)) (G.may_go (arc_value gate.now))
+        (map R.rest readers.items) run.ledgers.items run.order.items (S.taken sink.old)
+        (S.taken sink.new)) }
+    ensures refused { IfOk result (λ run. (source : ℕ)
+        → run.fault ≡ Some (CollectFault.Unfinished source) → ⊥) }
+    ensures unfinished { IfErr result (λ fault.
+        IsUnfinished (length readers.items) (S.taken sink.old) (S.taken sink.new) fault) }
+    ensures setting { S.setting sink.new ≡ S.setting sink.old }
+{
+    let Room {
+        rings,
+        mut sources,
+        mut ledgers,
+    } = room;
+    let started = start_all(*rt, alloc, readers, rings, gate, &mut sources);
+    let refused = matches!(started, Err(CollectFault::OutOfMemory));
+    let order = Vec::new(alloc);
+    let mut collector = Collector {
+        sources,
+        order,
+        refused,
+    };
+    collector.drain(rt, alloc, sink);
+    let Collector {
+        sources,
+        order,
+        refused,
+    } = collector;
+    if let Some(source) = settle_all(rt, sources, &mut ledgers) {
+        return Err(CollectFault::Unfinished { source });
+    }
+    Ok(Settled {
+        ledgers,
+        order,
+        fault: refusal(started, refused),
+    })
+}
+
+/// Reads every source in a thread of its own and collects what the threads send through rings of this size. The sink is fed as
+/// the samples come out of the rings, in `order`. At most 64 readers.
+///
+/// A reader asks the gate before each of its samples; where the gate says Stop, its list has the samples before, and the ending
+/// `Stopped`. Whatever the answer, every started thread is joined before, and the readers are used up.
+pub fn collect<
+    T: Threads + Wait + Copy + Send + 'static,
+    R: SampleReader + Send + Drop + 'static,
+    G: Gate + Send + Sync + Drop + 'static,
+    S: Sink,
+>(
+    rt: &T,
+    alloc: Global,
+    readers: Vec<R>,
+    ring: RingSize,
+    gate: Arc<G>,
+    sink: &mut S,
+) -> Result<Collected, CollectFault>
+    requires { length readers.items ≤ 64 }
+
+    // One list for each reader: its whole rest, or its first samples where the gate stopped it.
+    ensures lists { IfOk result (λ run.
+        Collects (G.may_stop (arc_value gate)) (G.may_go (arc_value gate))
+        (map R.rest readers.items) run.lists.items) }
+    ensures whole { ((source index : ℕ) → G.may_stop (arc_value gate) source index → ⊥)
+        → IfOk result (λ run. AreWhole (map R.rest readers.items) run.lists.items) }
+
+    // Each list was told exactly the names of its samples, in the order in which they first appear: none twice.
+    ensures told { IfOk result (λ run.
+        All (λ list. list.told ≡ names_in_order list.samples) run.lists.items) }
+    ensures distinct { IfOk result (λ run.
+        All (λ list. HasDistinctNames list.told) run.lists.items) }
+
+    // The sink gained exactly the lists' samples, in the order of arrival.
+    ensures order { IfOk result (λ run.
+        IsInterleaving run.order.items (map (λ list. list.samples) run.lists.items)) }
+    ensures sink { IfOk result (λ run.
+        S.taken sink.new ≡ S.taken sink.old ++ interleaved run.order.items
+        (map (λ list. list.samples) run.lists.items)) }
+    ensures by_source { IfOk result (λ run.
+        AreOf (interleaved run.order.items (map (λ list. list.samples) run.lists.items))
+        (map (λ list. list.samples) run.lists.items)) }
+
+    // What a refusal leaves in the sink: of each source a beginning, at each sample of which the gate may go.
+    ensures refused { IsErrOf result CollectFault.OutOfMemory ⊎ IsErrOf result CollectFault.NoThread
+        → GainsFirst (map R.rest readers.items) (S.taken sink.old) (S.taken sink.new) }
+    ensures popped { IsErrOf result CollectFault.OutOfMemory ⊎ IsErrOf result CollectFault.NoThread
+        → GainsAllowed (G.may_go (arc_value gate)) (S.taken sink.old) (S.taken sink.new) }
+    ensures unfinished { (source : ℕ) → IsErrOf result (CollectFault.Unfinished source)
+        → Unfinishes (length readers.items) source (S.taken sink.old) (S.taken sink.new) }
+    ensures setting { S.setting sink.new ≡ S.setting sink.old }
+{
+    let room = Room::new(alloc, readers.len(), ring)?;
+    let run = run_sources(rt, alloc, readers, room, &gate, sink)?;
+    let lists = lists_of(alloc, run.ledgers)?;
+    match run.fault {
+        Some(fault) => Err(fault),
+        None => Ok(Collected {
+            lists,
+            order: run.order,
+        }),
+    }
+}

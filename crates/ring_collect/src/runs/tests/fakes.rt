@@ -1,0 +1,288 @@
+//! Readers, gates and sinks of which a test knows what they do.
+
+ghost use Rattle.std.specs.Prelude.{◌≡◌};
+
+use stack_core::{Gate, Names, Sample, SampleReader, Sink, SourceEnd, Step, Turn};
+use std::alloc::{AllocError, Global};
+use std::sync::Arc;
+use std::sync::atomic::{AtomicU64, Ordering};
+use std::thread;
+
+/// How often one looks for what another thread is to do.
+pub const TURNS: u32 = 50_000_000;
+
+pub const CLEAN: SourceEnd = SourceEnd::Clean { ignored: 0 };
+
+/// What the threads of a run count.
+#[derive(Drop)]
+pub struct Counts {
+    /// The readers that were dropped.
+    pub drops: AtomicU64,
+    /// The samples that readers gave.
+    pub given: AtomicU64,
+    /// The samples that the sink took.
+    pub takes: AtomicU64,
+}
+
+impl Counts {
+    pub fn new(alloc: Global) -> Result<Arc<Counts>, AllocError> {
+        let counts = Counts {
+            drops: AtomicU64::new(0),
+            given: AtomicU64::new(0),
+            takes: AtomicU64::new(0),
+        };
+        Ok(Arc::new(alloc, counts)?)
+    }
+}
+
+/// A reader of samples of one frame and these weights.
+pub struct Tape {
+    pub name: &'static str,
+    pub weights: &'static [u8],
+    pub ending: SourceEnd,
+    /// How many calls come before the one that is refused, if one is.
+    pub refuses_after: Option<u32>,
+    pub counts: Arc<Counts>,
+}
+
+impl Drop for Tape {
+    fn drop(self) {
+        let Tape {
+            name: _,
+            weights: _,
+            ending: _,
+            refuses_after: _,
+            counts,
+        } = self;
+        counts.drops.fetch_add(1, Ordering::SeqCst);
+    }
+}
+
+impl Tape {
+    /// Whether this call is refused.
+    fn refuses(&mut self) -> bool
+        ensures name { self.new.name ≡ self.old.name }
+        ensures weights { self.new.weights ≡ self.old.weights }
+        ensures ending { self.new.ending ≡ self.old.ending }
+    {
+        match self.refuses_after {
+            None => false,
+            Some(0) => true,
+            Some(calls) => {
+                self.refuses_after = Some(calls - 1);
+                false
+            }
+        }
+    }
+}
+
+impl SampleReader for Tape {
+    ghost use Rattle.std.specs.Prelude.{◌≡◌, [], ◌∷◌, map};
+
+    ghost rest = { λ tape. record {
+      samples = map (λ weight.
+          record { stack = tape.name.now ∷ []; weight = weight }) tape.weights.now;
+      ending = tape.ending;
+    } };
+
+    ghost has_ended = { λ tape. tape.weights.now ≡ [] };
+
+    fn next(&mut self, alloc: Global) -> Result<Step, AllocError> {
+        let Some((weight, later)) = self.weights.split_first() else {
+            return Ok(Step::End(self.ending));
+        };
+        if self.refuses() {
+            return Err(AllocError);
+        }
+        let stack = Names::from_strs(alloc, &[self.name])?;
+        self.weights = later;
+        self.counts.given.fetch_add(1, Ordering::SeqCst);
+        Ok(Step::Sample(Sample {
+            stack,
+            weight: u64::from(*weight),
+        }))
+    }
+}
+
+/// Waits a bounded time until the count is this one. Stop where it isn't.
+pub fn waited(count: &AtomicU64, wanted: u64) -> Turn {
+    for turn in 0..TURNS {
+        if count.load(Ordering::SeqCst) >= wanted {
+            return Turn::Go;
+        }
+        if turn % 64 == 0 {
+            thread::yield_now();
+        }
+    }
+    Turn::Stop
+}
+
+/// Stops this source before the sample of this number, and nothing else: there it never goes, elsewhere it never stops.
+#[derive(Drop)]
+pub struct StopsAt {
+    pub source: u32,
+    pub index: u64,
+}
+
+impl Gate for StopsAt {
+    ghost use Rattle.std.specs.Prelude.{◌≡◌};
+
+    ghost may_stop = { λ gate source index. (source ≡ gate.source) × (index ≡ gate.index) };
+
+    ghost may_go = { λ gate source index. (source ≡ gate.source) × (index ≡ gate.index) → ⊥ };
+
+    fn before(&self, source: u32, index: u64) -> Turn {
+        if source == self.source && index == self.index {
+            Turn::Stop
+        } else {
+            Turn::Go
+        }
+    }
+}
+
+/// Stops where one of two gates does.
+#[derive(Drop)]
+pub struct StopsAtTwo {
+    pub first: StopsAt,
+    pub second: StopsAt,
+}
+
+impl Gate for StopsAtTwo {
+    ghost use Rattle.std.specs.Prelude.{◌≡◌, ◌⊎◌};
+
+    ghost may_stop = { λ gate source index.
+        ((source ≡ gate.first.source) × (index ≡ gate.first.index))
+        ⊎ ((source ≡ gate.second.source) × (index ≡ gate.second.index)) };
+
+    ghost may_go = { λ gate source index.
+        ((source ≡ gate.first.source) × (index ≡ gate.first.index) → ⊥)
+        × ((source ≡ gate.second.source) × (index ≡ gate.second.index) → ⊥) };
+
+    fn before(&self, source: u32, index: u64) -> Turn {
+        match self.first.before(source, index) {
+            Turn::Stop => Turn::Stop,
+            Turn::Go => self.second.before(source, index),
+        }
+    }
+}
+
+/// Lets two sources go once both asked.
+#[derive(Drop)]
+pub struct BothAsked {
+    pub first: AtomicU64,
+    pub second: AtomicU64,
+}
+
+impl Gate for BothAsked {
+    ghost may_stop = { λ _ _ _. Unit {0} };
+
+    ghost may_go = { λ _ _ _. Unit {0} };
+
+    fn before(&self, source: u32, index: u64) -> Turn {
+        if index > 0 {
+            return Turn::Go;
+        }
+        let (own, other) = if source == 0 {
+            (&self.first, &self.second)
+        } else {
+            (&self.second, &self.first)
+        };
+        own.store(1, Ordering::SeqCst);
+        waited(other, 1)
+    }
+}
+
+/// Lets so many sources go once all asked.
+#[derive(Drop)]
+pub struct AllAsked {
+    pub asked: AtomicU64,
+    pub wanted: u64,
+}
+
+impl Gate for AllAsked {
+    ghost may_stop = { λ _ _ _. Unit {0} };
+
+    ghost may_go = { λ _ _ _. Unit {0} };
+
+    fn before(&self, _source: u32, index: u64) -> Turn {
+        if index > 0 {
+            return Turn::Go;
+        }
+        self.asked.fetch_add(1, Ordering::SeqCst);
+        waited(&self.asked, self.wanted)
+    }
+}
+
+/// Lets sample 6 of source 0 go once the sink took a sample.
+#[derive(Drop)]
+pub struct AfterATake {
+    pub counts: Arc<Counts>,
+}
+
+impl Gate for AfterATake {
+    ghost may_stop = { λ _ _ _. Unit {0} };
+
+    ghost may_go = { λ _ _ _. Unit {0} };
+
+    fn before(&self, source: u32, index: u64) -> Turn {
+        if source != 0 || index != 6 {
+            return Turn::Go;
+        }
+        waited(&self.counts.takes, 1)
+    }
+}
+
+/// Records what it took.
+#[derive(Drop)]
+pub struct Recorder {
+    pub pairs: Vec<(u32, Sample)>,
+    /// How often it was called.
+    pub calls: u64,
+    /// How many calls come before the one that is refused, if one is.
+    pub refuses_after: Option<u64>,
+    /// Where it is to look at its first call for readers that gave more samples than this, and whether it saw that.
+    pub looks_above: Option<u64>,
+    pub saw_more: bool,
+    pub counts: Arc<Counts>,
+}
+
+impl Recorder {
+    pub fn new(alloc: Global, counts: &Arc<Counts>) -> Result<Recorder, AllocError> {
+        Ok(Recorder {
+            pairs: Vec::new(alloc),
+            calls: 0,
+            refuses_after: None,
+            looks_above: None,
+            saw_more: false,
+            counts: Arc::try_clone(counts)?,
+        })
+    }
+
+    /// Looks a bounded time for readers that gave more samples than that.
+    fn look(&mut self)
+        ensures { self.new.pairs ≡ self.old.pairs }
+    {
+        let Some(limit) = self.looks_above else {
+            return
+        };
+        if self.calls == 0 {
+            self.saw_more = waited(&self.counts.given, limit.saturating_add(1)) == Turn::Go;
+        }
+    }
+}
+
+impl Sink for Recorder {
+    ghost taken = { λ sink. sink.pairs.items };
+
+    fn take(&mut self, _alloc: Global, source: u32, sample: &Sample) -> Result<(), AllocError> {
+        self.look();
+        let call = self.calls;
+        self.calls = call.saturating_add(1);
+        if self.refuses_after == Some(call) {
+            return Err(AllocError);
+        }
+        self.pairs.push((source, sample.clone()?))?;
+        self.counts.takes.fetch_add(1, Ordering::SeqCst);
+        Ok(())
+    }
+}
