@@ -1,3 +1,4 @@
-//! Readers and writers that fail, and files of the machine.
+//! Readers and writers that fail, files of the machine, and the page's example.
 mod edge;
 mod fakes;
+mod page;

@@ -2,6 +2,7 @@
 mod answers;
 mod folded;
 mod outputs;
+mod page;
 mod pictures;
 mod profiles;
 mod views;

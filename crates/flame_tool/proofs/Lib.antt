@@ -1,5 +1,6 @@
-pub mod FoldedEndings
-mod InputLists
+mod KnownSources
+mod RunEndings
 pub mod TextLemmas
+mod WorkedRequests
 mod WorkedRows
 mod WorkedSnapshots

@@ -17,7 +17,7 @@ use Rattle.flame_layout.proofs.GraphBoxes.{tree_weight, graph-within, graph-posi
 use Rattle.std.specs.List.{range_with_len}
 use Rattle.std.proofs.lemmas.List.FromFn.{map-range_with_len_more}
 use Rattle.stack_core.specs.Interleaving.{counts_at}
-use Rattle.flame_tool.specs.Filling.{filled}
+use Rattle.flame_tool.specs.checked.Filling.{filled}
 use Rattle.view_texts.specs.Json.{snapshot_line, boxes_line}
 use Rattle.merging.specs.Snapshots.{snapshot_counts, snapshot_samples, snapshot_places, IsSnapshot, AreSnapshots}
 use Rattle.merging.specs.Sums.{all_samples}

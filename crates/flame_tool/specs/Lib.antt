@@ -1,10 +1,9 @@
 -- The definitions that the contracts of flame_tool cite. Those of the crates below it are passed on.
-pub mod Filling
-pub mod Names
-pub mod Opening
+pub mod Requests
 pub mod Runs
 pub mod Texts
 pub mod Views
+pub mod checked
 pub use Rattle.byte_io.specs.Calls
 pub use Rattle.byte_io.specs.Files
 pub use Rattle.byte_io.specs.Inlet

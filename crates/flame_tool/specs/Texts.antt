@@ -1,5 +1,5 @@
 -- The text of each view, of the collected lists and the order of arrival.
-use Rattle.std.specs.Prelude.{ℕ, List, ◌++◌, Option, codes, length, map}
+use Rattle.std.specs.Prelude.{◌≡◌, ℕ, List, ◌++◌, Option, None, codes, length, map}
 use Rattle.std.specs.List.{flat_map, range_with_len}
 use Rattle.stack_core.specs.declared.samples.Sample.{Sample}
 use Rattle.stack_core.specs.Interleaving.{counts_at, list_of}
@@ -57,3 +57,11 @@ view_text (Graph width) lists order every = graph_text width lists order every
 view_text (Chart width) lists order every = chart_text width lists
 view_text Pairs lists order every = pairs_text (list_of lists 0) (list_of lists 1)
 view_text (PairBoxes width) lists order every = pair_boxes_text width (list_of lists 0) (list_of lists 1)
+
+-- the text is the same in whatever order the samples come, since it has no snapshots
+abbrev pub IsOrderless : View → Option ℕ → Type 0
+IsOrderless Fold every = Unit {0}
+IsOrderless (Graph width) every = every ≡ None
+IsOrderless (Chart width) every = Unit {0}
+IsOrderless Pairs every = Unit {0}
+IsOrderless (PairBoxes width) every = Unit {0}

@@ -1,6 +1,6 @@
 //! How the sources of a run ended.
 ghost use Rattle.std.specs.Prelude.{◌≡◌};
-ghost use Rattle.flame_tool.specs.Runs.{ends_in_fault, has_fault};
+ghost use Rattle.flame_tool.specs.checked.Failures.{ends_in_fault, has_fault};
 
 use crate::messages::report_ending;
 use byte_io::Outlet;

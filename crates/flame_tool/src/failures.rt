@@ -1,6 +1,6 @@
 //! Why a run fails.
 ghost use Rattle.std.specs.Prelude.{◌≡◌};
-ghost use Rattle.flame_tool.specs.Runs.{status_of, failure_of_load, failure_of_collect};
+ghost use Rattle.flame_tool.specs.checked.Failures.{status_of, failure_of_load, failure_of_collect};
 ghost use Rattle.flame_tool.specs.declared.failures.Failure.TheVariants.{OutOfMemory, Output};
 
 use byte_io::{LoadFault, SendFault};

@@ -11,14 +11,14 @@ ghost use Rattle.view_texts.specs.Json.{snapshot_line};
 ghost use Rattle.merging.specs.Sums.{all_samples, IsDrawable};
 ghost use Rattle.merging.specs.Snapshots.{snapshot_places};
 ghost use Rattle.flame_tool.specs.Texts.{chart_text, graph_text, snapshot_lines, snapshot_line_at, places_of};
-ghost use Rattle.flame_tool.specs.Filling.{filled};
+ghost use Rattle.flame_tool.specs.checked.Filling.{filled};
 
 use crate::drawings::total_of;
 use call_tree::FrameTable;
 use flame_layout::{SpanBox, Width, graph_boxes};
 use merging::{Gathered, Snapshot};
 use std::alloc::{AllocError, Global};
-use view_texts::{Scale, append_boxes_line, append_snapshot_line};
+use view_texts::{Scale, append_boxes_line, append_snapshot_line, truncate_on_error};
 
 // Appends the line of the chart. An `Err` changes nothing.
 pub(crate) fn append_chart(
@@ -55,10 +55,7 @@ pub(crate) fn append_graph(
 {
     let before = out.len();
     let answer = append_graph_lines(alloc, out, gathered, boxes, width);
-    if answer.is_err() {
-        out.truncate(before);
-    }
-    answer
+    truncate_on_error(out, before, answer)
 }
 
 // The same, but an `Err` may leave lines at the front.

@@ -1,12 +1,10 @@
 //! What a run says on standard error, each on a line of its own. It takes no memory, and a failure to
 //! write changes nothing.
-ghost use Rattle.std.specs.Prelude.{◌≡◌};
-ghost use Rattle.flame_tool.specs.Names.{kind_text};
 
 use crate::failures::Failure;
 use byte_io::{Outlet, send};
 use itoa::Buffer;
-use stack_core::{ReadKind, SourceEnd};
+use stack_core::{ReadFault, SourceEnd};
 
 // What messages call the standard input.
 const INPUT: &str = "-";
@@ -48,7 +46,7 @@ pub(crate) fn report_ending<E: Outlet>(
     let path = path_of(files, source);
     match ending {
         SourceEnd::Clean { ignored } => report_ignored(err, path, *ignored),
-        SourceEnd::Fault(fault) => report_fault(err, path, kind_name(fault.kind), fault.at),
+        SourceEnd::Fault(fault) => report_fault(err, path, fault),
         SourceEnd::Stopped { after: _ } => {}
     }
 }
@@ -62,9 +60,10 @@ fn report_ignored<E: Outlet>(err: &mut E, path: &str, ignored: u64) {
 }
 
 // Says what is wrong with the source, and where.
-fn report_fault<E: Outlet>(err: &mut E, path: &str, kind: &str, at: u64) {
+fn report_fault<E: Outlet>(err: &mut E, path: &str, fault: &ReadFault) {
     let mut digits = Buffer::new();
-    write_line(err, &[path, ": ", kind, " at ", digits.format(at)]);
+    let place = digits.format(fault.at);
+    write_line(err, &[path, ": ", fault.kind.name(), " at ", place]);
 }
 
 // Writes a line of these parts.
@@ -78,32 +77,4 @@ fn write_line<E: Outlet>(err: &mut E, parts: &[&str]) {
         }
     }
     let _ = send(b"\n", err);
-}
-
-// The name of what is wrong with a source.
-fn kind_name(kind: ReadKind) -> &'static str
-    ensures { result.now ≡ kind_text kind }
-{
-    match kind {
-        ReadKind::Compressed => "Compressed",
-        ReadKind::Truncated => "Truncated",
-        ReadKind::BadVarint => "BadVarint",
-        ReadKind::BadFieldNumber => "BadFieldNumber",
-        ReadKind::BadWireType => "BadWireType",
-        ReadKind::WrongKind => "WrongKind",
-        ReadKind::BadStringZero => "BadStringZero",
-        ReadKind::BadString => "BadString",
-        ReadKind::ZeroId => "ZeroId",
-        ReadKind::DuplicateId => "DuplicateId",
-        ReadKind::UnknownFunction => "UnknownFunction",
-        ReadKind::UnknownSampleType => "UnknownSampleType",
-        ReadKind::NoSampleType => "NoSampleType",
-        ReadKind::ValueCount => "ValueCount",
-        ReadKind::UnknownLocation => "UnknownLocation",
-        ReadKind::NegativeWeight => "NegativeWeight",
-        ReadKind::TooDeep => "TooDeep",
-        ReadKind::TotalTooLarge => "TotalTooLarge",
-        ReadKind::DecimalWeight => "DecimalWeight",
-        ReadKind::TwoColumns => "TwoColumns",
-    }
 }

@@ -1,11 +1,13 @@
 //! A run of the program.
-ghost use Rattle.std.specs.Prelude.{◌≡◌, ◌≢◌, ◌≤◌, ◌<◌, [], false, IfSome, IfErr, OnOk, vec_len, length};
+ghost use Rattle.std.specs.Prelude.{◌≡◌, ◌≢◌, ◌≤◌, ◌<◌, ◌⊎◌, [], None, false, IfSome, IfErr, IsErrOf, IsSomeAnd, OnOk, vec_len, length, map, string_bytes};
 ghost use Rattle.std.specs.Io.KnownBytes.{Appends, Keeps};
 ghost use Rattle.folded_lines.specs.Reading.{read_folded};
 ghost use Rattle.flame_layout.specs.Timeline.{samples_of};
 ghost use Rattle.command_line.specs.Plans.{IsComparison};
-ghost use Rattle.flame_tool.specs.Texts.{view_text};
-ghost use Rattle.flame_tool.specs.Runs.{IsClean, IsFault, IsFoldOfInput, text_of, has_fault, Succeeds, GainsFront, Fails, FailsToShow, KeepsOutput};
+ghost use Rattle.flame_tool.specs.Requests.{AreRefused, AsksForHelp, asked_plan, known_rests};
+ghost use Rattle.flame_tool.specs.Texts.{IsOrderless, view_text};
+ghost use Rattle.flame_tool.specs.Runs.{IsClean, IsFault, text_of, lists_of, GainsFront, Shows, ShowsFront, HasFault};
+ghost use Rattle.flame_tool.specs.checked.Failures.{has_fault, Fails, FailsToShow, KeepsOutput, IsHelp, IsWords};
 
 use crate::endings::{any_fault, report_endings};
 use crate::failures::Failure;
@@ -52,6 +54,32 @@ pub fn run<T: Threads + Wait + Copy + Send + 'static, F: Files, W: Outlet, E: Ou
     // 3 is want of memory or a thread, an input that was not loaded, or an output that failed on the way.
     ensures front { vec_len words ≡ 0 → result ≡ 3 → IfSome (F.known_input files.old) (λ input.
         GainsFront input (W.contents out.old) (W.contents out.new)) }
+
+    // Whatever the words, 0 is success: they ask for help, or they have a plan, its sources have no fault,
+    // and the text that the plan asks for went out.
+    ensures shown { result ≡ 0 → AsksForHelp (map string_bytes words.items)
+        ⊎ IsSomeAnd (asked_plan (map string_bytes words.items)) (λ plan.
+        IfSome (known_rests plan (F.known_input files.old) (F.known_file files.old))
+        (Shows plan (W.contents out.old) (W.contents out.new))) }
+    ensures shown_exactly { result ≡ 0 → AsksForHelp (map string_bytes words.items)
+        ⊎ IsSomeAnd (asked_plan (map string_bytes words.items)) (λ plan.
+        IsOrderless plan.view plan.options.every
+        → IfSome (known_rests plan (F.known_input files.old) (F.known_file files.old)) (λ rests.
+        Appends (W.contents out.old) (W.contents out.new)
+        (view_text plan.view (lists_of rests) [] None))) }
+
+    // 1 is a fault of a source, 2 are words that are refused or more than 64 files, and 3 leaves nothing
+    // or a part of the text from its front.
+    ensures faulty { result ≡ 1 → IsSomeAnd (asked_plan (map string_bytes words.items)) (λ plan.
+        IfSome (known_rests plan (F.known_input files.old) (F.known_file files.old)) HasFault) }
+    ensures blamed { result ≡ 2 → AreRefused (map string_bytes words.items)
+        ⊎ IsSomeAnd (asked_plan (map string_bytes words.items)) (λ plan.
+        64 < length plan.files) }
+    ensures partly { result ≡ 3 → Keeps (W.contents out.old) (W.contents out.new)
+        ⊎ (AsksForHelp (map string_bytes words.items)
+        ⊎ IsSomeAnd (asked_plan (map string_bytes words.items)) (λ plan.
+        IfSome (known_rests plan (F.known_input files.old) (F.known_file files.old))
+        (ShowsFront plan (W.contents out.old) (W.contents out.new)))) }
 {
     if words.is_empty() {
         return run_plan(rt, alloc, plan_without_words(alloc), files, out, err);
@@ -65,8 +93,11 @@ pub fn run<T: Threads + Wait + Copy + Send + 'static, F: Files, W: Outlet, E: Ou
 // Says what is wrong with the words, or the help that they ask for.
 fn refuse<W: Outlet, E: Outlet>(fault: PlanFault, out: &mut W, err: &mut E) -> u8
     ensures status { result ≤ 3 }
+    ensures help { result ≡ 0 → IsHelp fault }
     ensures no_fault { result ≢ 1 }
+    ensures words { result ≡ 2 → IsWords fault }
     ensures refused { result ≡ 2 → Keeps (W.contents out.old) (W.contents out.new) }
+    ensures front { result ≡ 3 → Keeps (W.contents out.old) (W.contents out.new) ⊎ IsHelp fault }
 {
     match fault {
         PlanFault::Words(text) => {
@@ -99,17 +130,17 @@ fn run_plan<T: Threads + Wait + Copy + Send + 'static, F: Files, W: Outlet, E: O
     requires pairs { IsComparison plan.view → length plan.files ≡ 2 }
     requires every { IfSome plan.options.every (λ every. 1 ≤ every) }
     ensures status { result ≤ 3 }
-    ensures few { plan.files ≡ [] → result ≢ 2 }
-    ensures clean { IsFoldOfInput plan → result ≡ 0 → IfSome (F.known_input files.old) (λ input.
-        IsClean (read_folded input).ending) }
-    ensures text { IsFoldOfInput plan → result ≡ 0 → IfSome (F.known_input files.old) (λ input.
-        Appends (W.contents out.old) (W.contents out.new) (text_of input)) }
-    ensures fault { IsFoldOfInput plan → result ≡ 1 → IfSome (F.known_input files.old) (λ input.
-        IsFault (read_folded input).ending) }
+    ensures shown { result ≡ 0
+        → IfSome (known_rests plan (F.known_input files.old) (F.known_file files.old))
+        (Shows plan (W.contents out.old) (W.contents out.new)) }
+    ensures faulty { result ≡ 1
+        → IfSome (known_rests plan (F.known_input files.old) (F.known_file files.old)) HasFault }
+    ensures many { result ≡ 2 → 64 < length plan.files }
+    ensures front { result ≡ 3 → Keeps (W.contents out.old) (W.contents out.new)
+        ⊎ IfSome (known_rests plan (F.known_input files.old) (F.known_file files.old))
+        (ShowsFront plan (W.contents out.old) (W.contents out.new)) }
     ensures unwritten { result ≡ 1 → Keeps (W.contents out.old) (W.contents out.new) }
     ensures refused { result ≡ 2 → Keeps (W.contents out.old) (W.contents out.new) }
-    ensures front { IsFoldOfInput plan → result ≡ 3 → IfSome (F.known_input files.old) (λ input.
-        GainsFront input (W.contents out.old) (W.contents out.new)) }
 {
     match show(rt, alloc, &plan, files, out, err) {
         Ok(()) => 0,
@@ -135,14 +166,15 @@ fn show<T: Threads + Wait + Copy + Send + 'static, F: Files, W: Outlet, E: Outle
 ) -> Result<(), Failure>
     requires pairs { IsComparison plan.now.view → length plan.now.files ≡ 2 }
     requires every { IfSome plan.now.options.every (λ every. 1 ≤ every) }
-    ensures ok { OnOk result (IsFoldOfInput plan.now → IfSome (F.known_input files.old) (λ input.
-        Succeeds input (W.contents out.old) (W.contents out.new))) }
-    ensures err { IfErr result (λ failure. IsFoldOfInput plan.now
-        → IfSome (F.known_input files.old) (λ input.
-        Fails input (W.contents out.old) (W.contents out.new) failure)) }
+    ensures ok { OnOk result
+        (IfSome (known_rests plan.now (F.known_input files.old) (F.known_file files.old))
+        (Shows plan.now (W.contents out.old) (W.contents out.new))) }
+    ensures err { IfErr result (λ failure.
+        IfSome (known_rests plan.now (F.known_input files.old) (F.known_file files.old))
+        (Fails plan.now (W.contents out.old) (W.contents out.new) failure)) }
     ensures kept { IfErr result (λ failure.
         KeepsOutput (W.contents out.old) (W.contents out.new) failure) }
-    ensures few { plan.now.files ≡ [] → result ≢ Err Failure.TooManyFiles }
+    ensures many { IsErrOf result Failure.TooManyFiles → 64 < length plan.now.files }
 {
     let paths = plan.files.get();
     let sources = open_sources(alloc, files, paths)?;

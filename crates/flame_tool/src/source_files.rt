@@ -1,7 +1,7 @@
 //! The sources of a run, loaded.
-ghost use Rattle.std.specs.Prelude.{◌≡◌, ◌≤◌, [], ◌∷◌, ◌++◌, IfOk, IfErr, IfSome, OnOk, length};
-ghost use Rattle.flame_tool.specs.Opening.{IsInput};
-ghost use Rattle.flame_tool.specs.Runs.{IsOpening};
+ghost use Rattle.std.specs.Prelude.{◌≡◌, ◌≤◌, [], ◌∷◌, ◌++◌, IfOk, IfErr, IfSome, OnOk, length, map, string_bytes};
+ghost use Rattle.flame_tool.specs.checked.Opening.{AreOpened, IsInput, IsOpened};
+ghost use Rattle.flame_tool.specs.checked.Failures.{IsOpening};
 
 use crate::failures::Failure;
 use byte_io::Files;
@@ -22,8 +22,8 @@ pub(crate) fn open_sources<F: Files>(
     ensures few { IfOk result (λ sources. length sources.items ≤ 64) }
     ensures count { IfOk result (λ sources.
         length paths.now ≡ 2 → length sources.items ≡ 2) }
-    ensures input { paths.now ≡ [] → IfOk result (λ sources.
-        IfSome (F.known_input files.old) (IsInput sources.items)) }
+    ensures opened { IfOk result (λ sources. AreOpened (F.known_input files.old)
+        (F.known_file files.old) (map string_bytes paths.now) sources.items) }
     ensures err { IfErr result (IsOpening (length paths.now)) }
 {
     if paths.len() > SOURCE_COUNT {
@@ -64,6 +64,8 @@ fn input<F: Files>(alloc: Global, files: &mut F) -> Result<Source, Failure>
 
 // The source of a path.
 fn named<F: Files>(alloc: Global, files: &mut F, at: usize, path: &str) -> Result<Source, Failure>
+    ensures opened { IfOk result (IsOpened (F.known_file files.old) path.now) }
+    ensures files { F.known_file files.new ≡ F.known_file files.old }
     ensures err { IfErr result (IsOpening 0) }
 {
     match files.named(alloc, path) {

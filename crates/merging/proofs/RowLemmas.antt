@@ -2,7 +2,7 @@
 use Rattle.std.proofs.Common.{◌≡◌, ◌<◌, ℕ, List, [], ◌∷◌, ◌++◌, length, get_or, sym, ◌∙◌, subst}
 use Rattle.std.proofs.lemmas.List.{map_push}
 use Rattle.call_tree.specs.Listing.{named}
-use Rattle.ring_collect.specs.checked.Tellers.{GrowsTo}
+use Rattle.ring_collect.specs.NamesInOrder.{GrowsTo}
 use Rattle.flame_layout.proofs.Held.{known-grows, named-grows, each-push}
 use Rattle.merging.specs.checked.TakenRows.{AreNumbersOf}
 

@@ -20,7 +20,7 @@ use Rattle.flame_layout.proofs.Held.{known-grows, named-grows, each-push, holds-
 use Rattle.merging.specs.declared.snapshots.Snapshot.{Snapshot}
 use Rattle.merging.specs.Sums.{HasSumsOf}
 use Rattle.merging.specs.Snapshots.{snapshot_places, snapshot_counts, samples_of_pairs, first_samples, IsSnapshot, AreSnapshots}
-use Rattle.ring_collect.specs.checked.Tellers.{GrowsTo}
+use Rattle.ring_collect.specs.NamesInOrder.{GrowsTo}
 use Rattle.merging.specs.declared.taken_rows.TakenRows.{TakenRows}
 use Rattle.merging.specs.declared.tally.Tally.{Tally}
 use Rattle.merging.specs.checked.TakenRows.{TakenRow, rows_of, pair_of, pairs_of, order_of, paths_of}

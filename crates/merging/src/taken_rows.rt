@@ -3,8 +3,7 @@
 
 ghost use Rattle.std.specs.Prelude.{◌≡◌, ◌++◌, ◌∷◌, [], OnOk, map, string_bytes};
 ghost use Rattle.call_tree.specs.FrameTable.{HasDistinctNames};
-ghost use Rattle.ring_collect.specs.NamesInOrder.{with_stack};
-ghost use Rattle.ring_collect.specs.checked.Tellers.{GrowsTo};
+ghost use Rattle.ring_collect.specs.NamesInOrder.{with_stack, GrowsTo};
 ghost use Rattle.merging.specs.checked.Merging.{IsRowFor};
 ghost use Rattle.merging.specs.checked.TakenRows.{AreNumbersOf, row_of, rows_of};
 

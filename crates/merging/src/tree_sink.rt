@@ -5,8 +5,7 @@ ghost use Rattle.std.specs.Prelude.{◌≡◌, ◌≤◌, ◌<◌, ◌++◌, ◌
 ghost use Rattle.std.specs.Option.{option_to_list};
 ghost use Rattle.stack_core.specs.Interleaving.{sources_of};
 ghost use Rattle.call_tree.specs.FrameTable.{HasDistinctNames};
-ghost use Rattle.ring_collect.specs.NamesInOrder.{with_stack};
-ghost use Rattle.ring_collect.specs.checked.Tellers.{GrowsTo};
+ghost use Rattle.ring_collect.specs.NamesInOrder.{with_stack, GrowsTo};
 ghost use Rattle.merging.specs.Snapshots.{samples_of_pairs, first_samples, AreSnapshots};
 ghost use Rattle.merging.specs.Sums.{HasSumsOf};
 

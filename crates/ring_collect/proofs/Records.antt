@@ -14,7 +14,8 @@ use Rattle.stack_core.specs.declared.records.RingRecord.{RingRecord}
 use Rattle.stack_core.specs.declared.records.RingRecord.TheVariants.{Name, Row}
 use Rattle.stack_core.proofs.RecordLemmas.{stands_for-append, IsWellTold-append}
 use Rattle.call_tree.specs.FrameTable.{with_name}
-use Rattle.ring_collect.specs.checked.Tellers.{Tells, GrowsTo}
+use Rattle.ring_collect.specs.checked.Tellers.{Tells}
+use Rattle.ring_collect.specs.NamesInOrder.{GrowsTo}
 
 pub tells_nothing : (old : List RingRecord) → Tells [] old old
 tells_nothing old = record { stands = sym (append-nil (stands_for old)); well_told = λ w. w }

@@ -2,7 +2,7 @@
 use Rattle.std.proofs.Common.{ℕ, List, [], ◌∷◌, ◌++◌, ◌≡◌, sym, ap, subst, ◌∙◌, None, Result, Ok, Err, OnOk, OnErr}
 use Rattle.stack_core.specs.Ledgers.{LedgerState}
 use Rattle.ring_collect.specs.checked.RowSamples.{IsNamedBy}
-use Rattle.ring_collect.specs.checked.Tellers.{GrowsTo}
+use Rattle.ring_collect.specs.NamesInOrder.{GrowsTo}
 use Rattle.ring_collect.specs.declared.row_samples.RowSample.{RowSample}
 use Rattle.ring_collect.proofs.Records.{known_grown, names_at_grown}
 

@@ -1,7 +1,11 @@
 -- The names of samples, in the order in which they first appear.
-use Rattle.std.specs.Prelude.{ℕ, List, [], ◌∷◌}
+use Rattle.std.specs.Prelude.{◌≡◌, ℕ, List, [], ◌∷◌, ◌++◌}
 use Rattle.call_tree.specs.FrameTable.{with_name}
 use Rattle.stack_core.specs.declared.samples.Sample.{Sample}
+
+-- more may stand behind what stood there
+abbrev pub GrowsTo : {A : Type 0} → List A → List A → Type 0
+GrowsTo {A} old new = (more : List A) × (new ≡ old ++ more)
 
 -- these names, and behind them those of a stack, root first: a known name changes nothing, a new one goes last
 abbrev pub with_stack : List (List ℕ) → List (List ℕ) → List (List ℕ)

@@ -59,8 +59,8 @@ impl Teller {
     ghost use Rattle.std.specs.Prelude.{◌≡◌, ◌<◌, ◌++◌, ◌∷◌, ◌^◌, [], All, IfNone, IfOk, IfSome, OnErr, OnOk, Some, length, map, slice_get, string_bytes};
     ghost use Rattle.call_tree.specs.FrameTable.{with_name};
     ghost use Rattle.rtrb.specs.Ring.{sent, SameProducer};
-    ghost use Rattle.ring_collect.specs.NamesInOrder.{with_stack};
-    ghost use Rattle.ring_collect.specs.checked.Tellers.{AreNamesOf, Tells, GrowsTo, TellsOne, TellsAll, Closes};
+    ghost use Rattle.ring_collect.specs.NamesInOrder.{with_stack, GrowsTo};
+    ghost use Rattle.ring_collect.specs.checked.Tellers.{AreNamesOf, Tells, TellsOne, TellsAll, Closes};
     ghost use Rattle.stack_core.specs.Reading.{IsLimited};
     ghost use Rattle.stack_core.specs.Records.{names_told, names_at, stands_for, IsWellTold};
     ghost use Rattle.stack_core.specs.Told.{IsToldUnder};

@@ -23,10 +23,6 @@ pub record Tells (items : List Item) (old new : List RingRecord) : Type 0 where
   pub stands : stands_for new ≡ stands_for old ++ items
   pub well_told : IsWellTold old → IsWellTold new
 
--- more may stand behind what stood there
-abbrev pub GrowsTo : {A : Type 0} → List A → List A → Type 0
-GrowsTo {A} old new = (more : List A) × (new ≡ old ++ more)
-
 -- the gate let the first sample of the rest go, and it is told: the names that its stack has and that were not told, and its row
 pub record TellsOne (may_go : ℕ → ℕ → Type 0) (source index : ℕ) (old_rest new_rest : Rest) (known : List (List ℕ)) (old new : List RingRecord) : Type 0 where
   pub sample : Sample

@@ -1,7 +1,11 @@
 use Rattle.std.proofs.Common.{rules, sym, ◌∙◌}
-use Rattle.flame_tool.proofs.InputLists.{fronts}
+use Rattle.flame_tool.proofs.RunEndings.{failed_faulty, failed_front}
 use Rattle.flame_tool.proofs.program.run_plan.Goals as goal
+
+pub returns-clause-faulty : goal.returns-clause-faulty
+returns-clause-faulty g c =
+    λ one. failed_faulty c.args.plan _ _ _ c.in-Err.failure (sym c.status.ensures ∙ one) c.in-Err.ensures.err
 
 pub returns-clause-front : goal.returns-clause-front
 returns-clause-front g c =
-    λ of_input three. fronts _ _ _ c.in-Err.failure (sym c.status.ensures ∙ three) (search rules) (c.in-Err.ensures.err of_input)
+    λ three. failed_front c.args.plan _ _ _ c.in-Err.failure (sym c.status.ensures ∙ three) (search rules) c.in-Err.ensures.err

@@ -1,5 +1,12 @@
-use Rattle.std.proofs.Common.{◌≡◌, length}
+-- The sources so far are those of the first paths, and the files tell what they told.
+use Rattle.std.proofs.Common.{◌≡◌, length, map, take, string_bytes}
+use Rattle.std.specs.List.{AllZip}
+use Rattle.flame_tool.specs.checked.Opening.{IsOpened}
 use Rattle.flame_tool.proofs.source_files.open_sources.Given as goal
 
 abbrev pub invariant-loop-at : goal.invariant-loop-at
-invariant-loop-at g l = length l.sources.items ≡ l.at
+invariant-loop-at g l = record {
+  count : length l.sources.items ≡ l.at;
+  files : g.F.Files.known_file l.files ≡ g.F.Files.known_file l.initial.files;
+  opened : AllZip (IsOpened (g.F.Files.known_file l.initial.files)) (map string_bytes (take l.at l.paths)) l.sources.items;
+}

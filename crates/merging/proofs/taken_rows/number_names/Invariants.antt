@@ -1,7 +1,6 @@
 use Rattle.std.proofs.Common.{◌≡◌, map, take, string_bytes}
 use Rattle.call_tree.specs.FrameTable.{HasDistinctNames}
-use Rattle.ring_collect.specs.NamesInOrder.{with_stack}
-use Rattle.ring_collect.specs.checked.Tellers.{GrowsTo}
+use Rattle.ring_collect.specs.NamesInOrder.{with_stack, GrowsTo}
 use Rattle.merging.specs.checked.TakenRows.{AreNumbersOf}
 use Rattle.merging.proofs.taken_rows.number_names.Given as goal
 

@@ -1,0 +1,84 @@
+-- How a run ends, by its words and by its plan.
+use Rattle.std.proofs.Common.{◌≡◌, ◌≢◌, ◌≤◌, ◌<◌, ◌⊎◌, inl, inr, ℕ, List, [], ◌∷◌, ◌++◌, map, length, Option, Some, None, IfSome, All, take, ap, sym, ◌∙◌, subst, refl, arith, zero, suc}
+use Rattle.std.proofs.lemmas.List.{append-nil}
+use Rattle.std.proofs.lemmas.List.Elements.{All-head}
+use Rattle.std.specs.Prelude.{IsSomeAnd}
+use Rattle.std.specs.Io.KnownBytes.{Appends, Keeps}
+use Rattle.clap.specs.Kinds.{IsAmong}
+use Rattle.clap.specs.Walk.{Text}
+use Rattle.clap.specs.Words.{fault_of}
+use Rattle.clap.specs.declared.error.kind.ErrorKind.{ErrorKind}
+use Rattle.clap.specs.declared.error.kind.ErrorKind.TheVariants as kind
+use Rattle.stack_core.specs.Reading.{Rest}
+use Rattle.stack_core.specs.declared.samples.Sample.{Sample}
+use Rattle.folded_lines.specs.Reading.{read_folded}
+use Rattle.command_line.specs.CommandLine.{command_line}
+use Rattle.command_line.specs.Plans.{IsFaultAmong, default_plan, plan_of}
+use Rattle.command_line.specs.declared.plans.Plan.{Plan}
+use Rattle.command_line.specs.declared.plans.PlanFault.{PlanFault}
+use Rattle.command_line.specs.declared.plans.PlanFault.TheVariants as fault
+use Rattle.command_line.specs.declared.plans.View.{View}
+use Rattle.command_line.specs.declared.plans.View.TheVariants.{Fold, Graph, Chart, Pairs, PairBoxes}
+use Rattle.view_texts.specs.Fold.{fold_text}
+use Rattle.flame_tool.specs.Requests.{AreRefused, AsksForHelp, asked_faults, asked_plan, known_rests}
+use Rattle.flame_tool.specs.Texts.{IsOrderless, view_text}
+use Rattle.flame_tool.specs.Runs.{IsClean, IsFault, text_of, lists_of, GainsFront, Shows, ShowsFront, HasFault}
+use Rattle.flame_tool.specs.checked.Failures.{Fails, KeepsOutput, status_of, IsHelp, IsWords}
+use Rattle.flame_tool.specs.declared.failures.Failure.{Failure}
+use Rattle.flame_tool.specs.declared.failures.Failure.TheVariants.{TooManyFiles, Unreadable, TooLarge, OutOfMemory, NoThread, Unfinished, Faults, Output}
+
+-- ---- a failed run of a plan
+
+module _ (plan : Plan) (known : Option (List Rest)) (old new : Option (List ℕ)) where
+  pub failed_faulty : (failure : Failure) → status_of failure ≡ 1 → IfSome known (Fails plan old new failure) → IfSome known HasFault
+  failed_faulty TooManyFiles one fails = absurd (omega arith)
+  failed_faulty (Unreadable source) one fails = absurd (omega arith)
+  failed_faulty (TooLarge source) one fails = absurd (omega arith)
+  failed_faulty OutOfMemory one fails = absurd (omega arith)
+  failed_faulty NoThread one fails = absurd (omega arith)
+  failed_faulty (Unfinished source) one fails = absurd (omega arith)
+  failed_faulty Faults one fails = fails
+  failed_faulty Output one fails = absurd (omega arith)
+
+  pub failed_front : (failure : Failure) → status_of failure ≡ 3 → KeepsOutput old new failure → IfSome known (Fails plan old new failure)
+      → Keeps old new ⊎ IfSome known (ShowsFront plan old new)
+  failed_front TooManyFiles three kept fails = inl kept
+  failed_front (Unreadable source) three kept fails = inl kept
+  failed_front (TooLarge source) three kept fails = inl kept
+  failed_front OutOfMemory three kept fails = inl kept
+  failed_front NoThread three kept fails = inl kept
+  failed_front (Unfinished source) three kept fails = inl kept
+  failed_front Faults three kept fails = inl kept
+  failed_front Output three kept fails = inr fails
+
+-- ---- a text without snapshots
+
+orderless_text : (view : View) (lists : List (List Sample)) (order : List ℕ) (every : Option ℕ) → IsOrderless view every → view_text view lists order every ≡ view_text view lists [] None
+orderless_text Fold lists order every orderless = refl
+orderless_text (Graph width) lists order every orderless = ap (view_text (Graph width) lists order) orderless
+orderless_text (Chart width) lists order every orderless = refl
+orderless_text Pairs lists order every orderless = refl
+orderless_text (PairBoxes width) lists order every orderless = refl
+
+pub exactly : (plan : Plan) (known : Option (List Rest)) (old new : Option (List ℕ)) → IfSome known (Shows plan old new) → IsOrderless plan.view plan.options.every
+    → IfSome known (λ rests. Appends old new (view_text plan.view (lists_of rests) [] None))
+exactly plan None old new shows orderless = tt
+exactly plan (Some rests) old new (text, is_text, appends) orderless =
+    subst (Appends old new) (is_text.text_is ∙ orderless_text plan.view (lists_of rests) is_text.order plan.options.every orderless) appends
+
+-- ---- words
+
+pub words_have : (words : List Text) (plan : Plan) (P : Plan → Type 0) → asked_plan words ≡ Some plan → P plan → IsSomeAnd (asked_plan words) P
+words_have words plan P asked holds = subst (λ asked. IsSomeAnd asked P) (sym asked) holds
+
+pub asked_exactly : (words : List Text) (plan : Plan) (input : Option (List ℕ)) (files : List ℕ → Option (List ℕ)) (old new : Option (List ℕ)) → asked_plan words ≡ Some plan
+    → IfSome (known_rests plan input files) (Shows plan old new)
+    → IsSomeAnd (asked_plan words) (λ plan. IsOrderless plan.view plan.options.every
+    → IfSome (known_rests plan input files) (λ rests. Appends old new (view_text plan.view (lists_of rests) [] None)))
+asked_exactly words plan input files old new asked shows =
+    words_have words plan (λ plan. IsOrderless plan.view plan.options.every → IfSome (known_rests plan input files) (λ rests. Appends old new (view_text plan.view (lists_of rests) [] None)))
+    asked (exactly plan (known_rests plan input files) old new shows)
+
+pub some_asked : {A : Type 0} (bytes : A → List ℕ) (words : List A) (plan : Plan) → (length words ≡ 0 → ⊥) → plan_of (map bytes words) ≡ Some plan → asked_plan (map bytes words) ≡ Some plan
+some_asked bytes [] plan some planned = absurd (some refl)
+some_asked bytes (word ∷ words) plan some planned = planned

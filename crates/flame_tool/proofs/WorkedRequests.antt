@@ -1,0 +1,64 @@
+-- Worked examples of runs over known files, computed on the definitions.
+use Rattle.std.proofs.Common.{◌≡◌, ℕ, List, [], ◌∷◌, codes, refl, true, Option, Some, None, option_map}
+use Rattle.std.specs.Prelude.{if◌then◌else◌, option_and_then}
+use Rattle.std.specs.Fmt.{digits}
+use Rattle.std.specs.List.{list_any}
+use Rattle.std.specs.Str.{bytes_eq}
+use Rattle.clap.proofs.OnLiterals.{clap_on_literals}
+use Rattle.call_tree.specs.PathSums.{total_of, own_of}
+use Rattle.clap.specs.Walk.{Text}
+use Rattle.stack_core.specs.Reading.{Rest}
+use Rattle.folded_lines.proofs.Computing.{computing}
+use Rattle.view_texts.specs.Fold.{merged, stacks_of, sum_at}
+use Rattle.flame_tool.specs.Requests.{asked_plan, known_rests}
+use Rattle.flame_tool.specs.Runs.{lists_of}
+use Rattle.flame_tool.specs.checked.Failures.{ends_in_fault}
+use Rattle.flame_tool.specs.Texts.{view_text}
+
+-- two files
+abbrev two_files : List ℕ → Option (List ℕ)
+two_files path =
+    if bytes_eq path (codes "x") then Some (codes "a 1\n")
+    else (if bytes_eq path (codes "y") then Some (codes "b 4\na 2\n") else None)
+
+abbrev rests_asked : List Text → Option (List ℕ) → Option (List Rest)
+rests_asked words input = option_and_then (λ plan. known_rests plan input two_files) (asked_plan words)
+
+-- the text that words ask for, where no order is left in it
+abbrev text_asked : List Text → Option (List ℕ) → Option (List ℕ)
+text_asked words input =
+    option_and_then (λ plan. option_map (λ rests. view_text plan.view (lists_of rests) [] None) (known_rests plan input two_files)) (asked_plan words)
+
+fold_of_two : text_asked (codes "fold" ∷ codes "y" ∷ codes "x" ∷ []) None ≡ Some (codes "a 3\nb 4\n")
+unfolding clap_on_literals merged stacks_of sum_at computing digits
+fold_of_two = refl
+
+-- a file twice is read twice
+fold_of_one_twice : text_asked (codes "fold" ∷ codes "x" ∷ codes "x" ∷ []) None ≡ Some (codes "a 2\n")
+unfolding clap_on_literals merged stacks_of sum_at computing digits
+fold_of_one_twice = refl
+
+compared : text_asked (codes "compare" ∷ codes "x" ∷ codes "y" ∷ []) None ≡ Some (codes "a 1 2\nb 0 4\n")
+unfolding clap_on_literals computing digits total_of own_of
+compared = refl
+
+compared_in_reverse : text_asked (codes "compare" ∷ codes "y" ∷ codes "x" ∷ []) None ≡ Some (codes "a 2 1\nb 4 0\n")
+unfolding clap_on_literals computing digits total_of own_of
+compared_in_reverse = refl
+
+-- without words, and without files, the input
+folded_input : text_asked [] (Some (codes "a;b 2\na 1\na;b 3\n")) ≡ Some (codes "a 1\na;b 5\n")
+unfolding clap_on_literals merged stacks_of sum_at computing digits
+folded_input = refl
+
+fold_of_the_input : text_asked (codes "fold" ∷ []) (Some (codes "a 1\n")) ≡ Some (codes "a 1\n")
+unfolding clap_on_literals merged stacks_of sum_at computing digits
+fold_of_the_input = refl
+
+-- nothing is known of a run where a file or the input is not known
+unknown_file : rests_asked (codes "fold" ∷ codes "x" ∷ codes "z" ∷ []) (Some (codes "a 1\n")) ≡ None
+unfolding clap_on_literals computing
+unknown_file = refl
+
+unknown_input : rests_asked [] None ≡ None
+unknown_input = refl

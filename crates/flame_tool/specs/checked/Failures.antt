@@ -1,0 +1,105 @@
+-- Why a run fails, and what each failure says of its sources and of its output.
+use Rattle.std.specs.Prelude.{◌≡◌, ℕ, ◌<◌, List, Bool, true, false, Option}
+use Rattle.std.specs.List.{list_any}
+use Rattle.std.specs.Io.KnownBytes.{Keeps}
+use Rattle.stack_core.specs.Ledgers.{ListState}
+use Rattle.stack_core.specs.Reading.{Rest}
+use Rattle.stack_core.specs.declared.endings.SourceEnd.{SourceEnd}
+use Rattle.stack_core.specs.declared.endings.SourceEnd.TheVariants as ends
+use Rattle.ring_collect.specs.declared.faults.CollectFault.{CollectFault}
+use Rattle.ring_collect.specs.declared.faults.CollectFault.TheVariants as collect
+use Rattle.byte_io.specs.declared.whole_input.LoadFault.{LoadFault}
+use Rattle.byte_io.specs.declared.whole_input.LoadFault.TheVariants as load
+use Rattle.command_line.specs.declared.plans.Plan.{Plan}
+use Rattle.command_line.specs.declared.plans.PlanFault.{PlanFault}
+use Rattle.command_line.specs.declared.plans.PlanFault.TheVariants as fault
+use Rattle.flame_tool.specs.Runs.{AppendsFront, HasFault, ShowsFront}
+use Rattle.flame_tool.specs.declared.failures.Failure.{Failure}
+use Rattle.flame_tool.specs.declared.failures.Failure.TheVariants.{TooManyFiles, Unreadable, TooLarge, OutOfMemory, NoThread, Unfinished, Faults, Output}
+
+abbrev pub ends_in_fault : SourceEnd → Bool
+ends_in_fault (ends.Clean ignored) = false
+ends_in_fault (ends.Fault fault) = true
+ends_in_fault (ends.Stopped after) = false
+
+-- a list ends in a fault
+abbrev pub has_fault : List ListState → Bool
+has_fault lists = list_any (λ list. ends_in_fault list.ending) lists
+
+-- the output is as it was, unless it failed
+abbrev pub KeepsOutput : Option (List ℕ) → Option (List ℕ) → Failure → Type 0
+KeepsOutput old new TooManyFiles = Keeps old new
+KeepsOutput old new (Unreadable source) = Keeps old new
+KeepsOutput old new (TooLarge source) = Keeps old new
+KeepsOutput old new OutOfMemory = Keeps old new
+KeepsOutput old new NoThread = Keeps old new
+KeepsOutput old new (Unfinished source) = Keeps old new
+KeepsOutput old new Faults = Keeps old new
+KeepsOutput old new Output = Unit {0}
+
+-- what a failed run of the plan says of the sources and of the output
+abbrev pub Fails : Plan → Option (List ℕ) → Option (List ℕ) → Failure → List Rest → Type 0
+Fails plan old new TooManyFiles rests = Unit {0}
+Fails plan old new (Unreadable source) rests = Unit {0}
+Fails plan old new (TooLarge source) rests = Unit {0}
+Fails plan old new OutOfMemory rests = Unit {0}
+Fails plan old new NoThread rests = Unit {0}
+Fails plan old new (Unfinished source) rests = Unit {0}
+Fails plan old new Faults rests = HasFault rests
+Fails plan old new Output rests = ShowsFront plan old new rests
+
+-- a text of lists was not sent: for want of memory, for a fault in a list, or since the output failed
+abbrev pub FailsToShow : List ListState → List ℕ → Option (List ℕ) → Option (List ℕ) → Failure → Type 0
+FailsToShow lists text old new TooManyFiles = ⊥
+FailsToShow lists text old new (Unreadable source) = ⊥
+FailsToShow lists text old new (TooLarge source) = ⊥
+FailsToShow lists text old new OutOfMemory = Keeps old new
+FailsToShow lists text old new NoThread = ⊥
+FailsToShow lists text old new (Unfinished source) = ⊥
+FailsToShow lists text old new Faults = (has_fault lists ≡ true) × Keeps old new
+FailsToShow lists text old new Output = (has_fault lists ≡ false) × AppendsFront text old new
+
+-- the failure came before anything was collected, and so many files are too many only above 64
+abbrev pub IsOpening : ℕ → Failure → Type 0
+IsOpening count TooManyFiles = 64 < count
+IsOpening count (Unreadable source) = Unit {0}
+IsOpening count (TooLarge source) = Unit {0}
+IsOpening count OutOfMemory = Unit {0}
+IsOpening count NoThread = ⊥
+IsOpening count (Unfinished source) = ⊥
+IsOpening count Faults = ⊥
+IsOpening count Output = ⊥
+
+-- the exit status of a failed run: 1 where a source has a fault, 2 where there are too many
+abbrev pub status_of : Failure → ℕ
+status_of TooManyFiles = 2
+status_of (Unreadable source) = 3
+status_of (TooLarge source) = 3
+status_of OutOfMemory = 3
+status_of NoThread = 3
+status_of (Unfinished source) = 3
+status_of Faults = 1
+status_of Output = 3
+
+-- the failure of a run for which the source could not be loaded
+abbrev pub failure_of_load : ℕ → LoadFault → Failure
+failure_of_load source load.Io = Unreadable source
+failure_of_load source load.TooLarge = TooLarge source
+failure_of_load source load.OutOfMemory = OutOfMemory
+
+-- the failure of a run whose sources could not be collected
+abbrev pub failure_of_collect : CollectFault → Failure
+failure_of_collect collect.OutOfMemory = OutOfMemory
+failure_of_collect collect.NoThread = NoThread
+failure_of_collect (collect.Unfinished source) = Unfinished source
+
+-- the fault is a request for help, or refused words
+abbrev pub IsHelp : PlanFault → Type 0
+IsHelp (fault.Words text) = ⊥
+IsHelp (fault.Help text) = Unit {0}
+IsHelp fault.OutOfMemory = ⊥
+
+abbrev pub IsWords : PlanFault → Type 0
+IsWords (fault.Words text) = Unit {0}
+IsWords (fault.Help text) = ⊥
+IsWords fault.OutOfMemory = ⊥
