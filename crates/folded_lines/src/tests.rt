@@ -202,8 +202,10 @@ fn example_of_the_page(rt: HostRuntime) -> Result<(), Fail> {
     let text = b"main;parse 5\nno count\nmain 2\n".to_vec(alloc)?;
     let mut reader = FoldedReader::over(text);
     let mut again = Vec::new(alloc);
-    while let Step::Sample(sample) = reader.next(alloc)? {
-        append_line(alloc, &mut again, sample.stack.get(), sample.weight)?;
+    for _ in 0..2 {
+        if let Step::Sample(sample) = reader.next(alloc)? {
+            append_line(alloc, &mut again, sample.stack.get(), sample.weight)?;
+        }
     }
     assert_eq!(rt; again.as_slice(), b"main;parse 5\nmain 2\n".as_slice());
     assert_eq!(rt;

@@ -71,7 +71,7 @@ fn example_of_the_page(rt: HostRuntime) -> Result<(), Fail> {
     let alloc = rt.alloc();
     let bytes = SMALLEST.to_vec(alloc)?;
     let mut reader = PprofReader::over(bytes, Pick::Preferred, Naming::Plain);
-    while let Step::Sample(sample) = reader.next(alloc)? {
+    if let Step::Sample(sample) = reader.next(alloc)? {
         assert_eq!(rt; sample.weight, 7);
         assert_eq!(rt; sample.stack.get().len(), 1);
     }
