@@ -4,7 +4,7 @@
 use crate::failures::Failure;
 use byte_io::{Outlet, send};
 use itoa::Buffer;
-use stack_core::{ReadFault, SourceEnd};
+use stack_core::SourceEnd;
 
 // What messages call the standard input.
 const INPUT: &str = "-";
@@ -46,7 +46,7 @@ pub(crate) fn report_ending<E: Outlet>(
     let path = path_of(files, source);
     match ending {
         SourceEnd::Clean { ignored } => report_ignored(err, path, *ignored),
-        SourceEnd::Fault(fault) => report_fault(err, path, fault),
+        SourceEnd::Fault(fault) => report_fault(err, path, fault.kind.name(), fault.at),
         SourceEnd::Stopped { after: _ } => {}
     }
 }
@@ -60,10 +60,9 @@ fn report_ignored<E: Outlet>(err: &mut E, path: &str, ignored: u64) {
 }
 
 // Says what is wrong with the source, and where.
-fn report_fault<E: Outlet>(err: &mut E, path: &str, fault: &ReadFault) {
+fn report_fault<E: Outlet>(err: &mut E, path: &str, kind: &str, at: u64) {
     let mut digits = Buffer::new();
-    let place = digits.format(fault.at);
-    write_line(err, &[path, ": ", fault.kind.name(), " at ", place]);
+    write_line(err, &[path, ": ", kind, " at ", digits.format(at)]);
 }
 
 // Writes a line of these parts.
