@@ -1,140 +1,142 @@
-//! What `flamecollect fold`, `graph` and `chart` do to well-formed sources, as one would write it in plain Rust on one thread with std's
-//! collections. The benchmark measures the program beside this one.
+//! What `flamecollect fold`, `graph`, `chart` and `compare` do to well-formed sources, in plain Rust on one thread with std's collections.
+//! The benchmark measures the program beside this one.
 //!
-//!     draw fold|graph|chart [FILE]...     (without a file: folded text on standard input)
+//!     draw [fold|graph|chart] [FILE]...     (without a file: folded text on standard input)
+//!     draw graph --every N FILE...
+//!     draw compare [--boxes] BEFORE AFTER
 
+mod boxes;
 mod folded;
+mod hashing;
+mod names;
+mod page;
 mod profiles;
+mod stacks;
 
-use std::collections::BTreeMap;
-use std::io::{BufWriter, Read, Write};
+use std::io::{Read, Result};
 
-const WIDTH: u128 = 1200;
+use boxes::Boxes;
+use page::{quoted, Page};
+use stacks::{Sorted, Source, Stacks};
 
-type Merged = BTreeMap<Vec<String>, u64>;
-
-/// Hands on each sample of the sources, one source after another.
-fn each_sample(files: &[String], mut take: impl FnMut(Vec<String>, u64)) -> std::io::Result<()> {
+/// The sources of these files, or of standard input where there is no file.
+fn load(files: &[&str]) -> Result<Vec<Source>> {
     if files.is_empty() {
-        let mut text = Vec::new();
-        std::io::stdin().lock().read_to_end(&mut text)?;
-        folded::each_sample(&text, &mut take);
+        let mut bytes = Vec::new();
+        std::io::stdin().lock().read_to_end(&mut bytes)?;
+        return Ok(vec![Source::text(bytes)]);
     }
-    for file in files {
+    let load = |file: &&str| {
         let bytes = std::fs::read(file)?;
-        if [".pb", ".pprof", ".prof"].iter().any(|ending| file.ends_with(ending)) {
-            profiles::each_sample(&bytes, |sample| take(sample.stack, sample.weight));
-        } else {
-            folded::each_sample(&bytes, &mut take);
+        let is_profile = [".pb", ".pprof", ".prof"].iter().any(|ending| file.ends_with(ending));
+        Ok(if is_profile { Source::Profile(bytes) } else { Source::text(bytes) })
+    };
+    files.iter().map(load).collect()
+}
+
+/// Each sorted stack on a line, with a number for each column.
+fn write_lines<const COLUMNS: usize>(sorted: &Sorted<COLUMNS>) -> Result<()> {
+    let mut page = Page::new();
+    for (row, sums) in sorted.merged() {
+        for (at, name) in row.iter().enumerate() {
+            page.put(if at > 0 { b";" } else { b"" });
+            page.put(sorted.names[*name as usize].as_bytes());
         }
-    }
-    Ok(())
-}
-
-fn merged(files: &[String]) -> std::io::Result<Merged> {
-    let mut sums = Merged::new();
-    each_sample(files, |stack, weight| *sums.entry(stack).or_insert(0) += weight)?;
-    sums.retain(|_, sum| *sum > 0);
-    Ok(sums)
-}
-
-struct SpanBox<'a> {
-    depth: usize,
-    name: &'a str,
-    start: u64,
-    weight: u64,
-    own: u64,
-}
-
-/// The boxes of the longest runs of samples with the same first names, by start and depth, and the sum of the weights.
-fn boxes<'a>(samples: impl Iterator<Item = (&'a [String], u64)>) -> (Vec<SpanBox<'a>>, u64) {
-    let mut boxes: Vec<SpanBox> = Vec::new();
-    let mut runs: Vec<usize> = Vec::new();
-    let mut before: &[String] = &[];
-    let mut start = 0;
-    for (stack, weight) in samples {
-        let shared = before.iter().zip(stack).take_while(|(one, other)| one == other).count();
-        runs.truncate(shared + 1);
-        for depth in runs.len()..=stack.len() {
-            let name = if depth == 0 { "all" } else { &stack[depth - 1] };
-            runs.push(boxes.len());
-            boxes.push(SpanBox { depth, name, start, weight: 0, own: 0 });
+        for sum in sums {
+            page.number(b" ", sum);
         }
-        for run in &runs {
-            boxes[*run].weight += weight;
-        }
-        boxes[runs[stack.len()]].own += weight;
-        start += weight;
-        before = stack;
+        page.put(b"\n");
+        page.pass_on()?;
     }
-    (boxes, start)
+    page.flush()
 }
 
-/// A text of JSON.
-fn quoted(out: &mut impl Write, text: &str) -> std::io::Result<()> {
-    out.write_all(b"\"")?;
-    for symbol in text.chars() {
-        match symbol {
-            '"' => out.write_all(b"\\\"")?,
-            '\\' => out.write_all(b"\\\\")?,
-            '\u{8}' => out.write_all(b"\\b")?,
-            '\u{c}' => out.write_all(b"\\f")?,
-            '\n' => out.write_all(b"\\n")?,
-            '\r' => out.write_all(b"\\r")?,
-            '\t' => out.write_all(b"\\t")?,
-            symbol if symbol < ' ' => write!(out, "\\u{:04x}", symbol as u32)?,
-            symbol => write!(out, "{symbol}")?,
-        }
+fn all_quoted(names: &[&str]) -> Vec<Vec<u8>> {
+    names.iter().map(|name| quoted(name)).collect()
+}
+
+fn fold(sources: &[Source]) -> Result<()> {
+    let mut stacks = Stacks::<1>::new();
+    sources.iter().for_each(|source| stacks.gather(source, 0));
+    write_lines(&stacks.sorted())
+}
+
+/// What was gathered when a snapshot was due.
+struct Snapshot {
+    at: u64,
+    counts: Vec<u64>,
+    sums: Vec<[u64; 1]>,
+}
+
+/// Gathers the sources one after another, with a snapshot after every so many samples.
+fn gather_with_snapshots<'a>(sources: &'a [Source], stacks: &mut Stacks<'a, 1>, every: u64) -> Vec<Snapshot> {
+    let (mut at, mut counts, mut snapshots) = (0, vec![0; sources.len()], Vec::new());
+    for (place, source) in sources.iter().enumerate() {
+        stacks.each_sample(source, |stacks, stack, weight| {
+            stacks.sums[stack as usize][0] += weight;
+            counts[place] += 1;
+            at += 1;
+            if at % every == 0 {
+                snapshots.push(Snapshot { at, counts: counts.clone(), sums: stacks.sums.clone() });
+            }
+        });
     }
-    out.write_all(b"\"")
+    snapshots
 }
 
-/// The line of a view.
-fn draw<'a>(view: &str, samples: impl Iterator<Item = (&'a [String], u64)>) -> std::io::Result<()> {
-    let (boxes, total) = boxes(samples);
-    let edge = |at: u64| u128::from(at) * WIDTH / u128::from(total);
-    let mut out = BufWriter::new(std::io::stdout().lock());
-    out.write_all(b"{\"boxes\":[")?;
-    for (at, span) in boxes.iter().enumerate() {
-        let comma = if at > 0 { "," } else { "" };
-        write!(out, "{comma}{{\"depth\":{},\"left\":{},\"name\":", span.depth, edge(span.start))?;
-        quoted(&mut out, span.name)?;
-        let right = edge(span.start + span.weight);
-        write!(out, ",\"own\":{},\"right\":{right},\"start\":{},\"weight\":{}}}", span.own, span.start, span.weight)?;
+fn graph(sources: &[Source], every: Option<u64>) -> Result<()> {
+    let mut stacks = Stacks::new();
+    let snapshots = gather_with_snapshots(sources, &mut stacks, every.unwrap_or(u64::MAX));
+    let sorted = stacks.sorted();
+    let (names, mut page) = (all_quoted(&sorted.names), Page::new());
+    for Snapshot { at, counts, sums } in snapshots {
+        let boxes = Boxes::of(sorted.all, sorted.weighed(&sums));
+        let counts: Vec<String> = counts.iter().map(u64::to_string).collect();
+        let middle = format!("\"counts\":[{}],", counts.join(","));
+        boxes.write(&mut page, &names, "snapshot", &format!("\"at\":{at},"), &middle)?;
     }
-    writeln!(out, "],\"total\":{total},\"view\":\"{view}\",\"width\":{WIDTH}}}")?;
-    out.flush()
+    let boxes = Boxes::of(sorted.all, sorted.weighed(sorted.sums));
+    boxes.write(&mut page, &names, "graph", "", "")?;
+    page.flush()
 }
 
-fn fold(files: &[String]) -> std::io::Result<()> {
-    let mut out = BufWriter::new(std::io::stdout().lock());
-    for (stack, sum) in &merged(files)? {
-        writeln!(out, "{} {sum}", stack.join(";"))?;
+fn chart(sources: &[Source]) -> Result<()> {
+    let mut stacks = Stacks::<1>::new();
+    let mut boxes = Boxes::new(names::ALL);
+    for source in sources {
+        stacks.each_sample(source, |stacks, stack, weight| boxes.push(stacks.rows.row(stack as usize), [weight]));
     }
-    out.flush()
+    let mut page = Page::new();
+    boxes.write(&mut page, &all_quoted(&stacks.names.texts()), "chart", "", "")?;
+    page.flush()
 }
 
-fn graph(files: &[String]) -> std::io::Result<()> {
-    let sums = merged(files)?;
-    draw("graph", sums.iter().map(|(stack, sum)| (stack.as_slice(), *sum)))
+fn compare(sources: &[Source], as_boxes: bool) -> Result<()> {
+    let mut stacks = Stacks::<2>::new();
+    stacks.gather(&sources[0], 0);
+    stacks.gather(&sources[1], 1);
+    let sorted = stacks.sorted();
+    if !as_boxes {
+        return write_lines(&sorted);
+    }
+    let boxes = Boxes::of(sorted.all, sorted.weighed(sorted.sums));
+    let first = format!("\"before\":{},", boxes.total(0));
+    let mut page = Page::new();
+    boxes.write(&mut page, &all_quoted(&sorted.names), "compare", &first, "")?;
+    page.flush()
 }
 
-fn chart(files: &[String]) -> std::io::Result<()> {
-    let mut samples = Vec::new();
-    each_sample(files, |stack, weight| {
-        if weight > 0 {
-            samples.push((stack, weight));
-        }
-    })?;
-    draw("chart", samples.iter().map(|(stack, weight)| (stack.as_slice(), *weight)))
-}
-
-fn main() -> std::io::Result<()> {
+fn main() -> Result<()> {
     let words: Vec<String> = std::env::args().skip(1).collect();
-    match words.first().map(String::as_str) {
-        None | Some("fold") => fold(words.get(1..).unwrap_or(&[])),
-        Some("graph") => graph(&words[1..]),
-        Some("chart") => chart(&words[1..]),
-        Some(_) => panic!("usage: draw fold|graph|chart [FILE]..."),
+    let words: Vec<&str> = words.iter().map(String::as_str).collect();
+    match &words[..] {
+        [] => fold(&load(&[])?),
+        ["fold", files @ ..] => fold(&load(files)?),
+        ["graph", "--every", every, files @ ..] => graph(&load(files)?, every.parse().ok()),
+        ["graph", files @ ..] => graph(&load(files)?, None),
+        ["chart", files @ ..] => chart(&load(files)?),
+        ["compare", "--boxes", files @ ..] => compare(&load(files)?, true),
+        ["compare", files @ ..] => compare(&load(files)?, false),
+        _ => panic!("usage: draw fold|graph|chart|compare [--every N] [--boxes] [FILE]..."),
     }
 }

@@ -1,24 +1,29 @@
-//! Well-formed folded text, read as one would in plain Rust.
+//! Well-formed folded text, borrowed line by line.
 
-/// Hands on the stack and the weight of each line, in order. Other lines are passed over.
-pub fn each_sample(text: &[u8], mut take: impl FnMut(Vec<String>, u64)) {
-    for line in text.split(|byte| *byte == b'\n') {
-        let Some(space) = line.iter().rposition(|byte| matches!(byte, b' ' | b'\t')) else {
-            continue;
+/// The number that these digits spell, where they are a number.
+fn number(digits: &[u8]) -> Option<u64> {
+    if digits.is_empty() {
+        return None;
+    }
+    digits.iter().try_fold(0u64, |sum, digit| digit.is_ascii_digit().then(|| sum * 10 + u64::from(digit - b'0')))
+}
+
+/// The head of a line, without the `;` at its end, and its weight.
+fn sample(line: &str) -> Option<(&str, u64)> {
+    let space = line.bytes().rposition(|byte| matches!(byte, b' ' | b'\t'))?;
+    let weight = number(&line.as_bytes()[space + 1..])?;
+    Some((line[..space].trim_end_matches(';'), weight))
+}
+
+/// Hands on the stack, its names joined by `;`, and the weight of each line, in order. Other lines are passed over.
+pub fn each_sample<'a>(text: &'a str, mut take: impl FnMut(&'a str, u64)) {
+    for line in text.split_inclusive('\n') {
+        let line = match line.strip_suffix('\n') {
+            Some(line) => line.strip_suffix('\r').unwrap_or(line),
+            None => line,
         };
-        let Some(weight) = std::str::from_utf8(&line[space + 1..])
-            .ok()
-            .and_then(|digits| digits.parse::<u64>().ok())
-        else {
-            continue;
-        };
-        let mut stack: Vec<String> = line[..space]
-            .split(|byte| *byte == b';')
-            .map(|name| String::from_utf8_lossy(name).into_owned())
-            .collect();
-        while stack.last().is_some_and(|name| name.is_empty()) {
-            stack.pop();
+        if let Some((head, weight)) = sample(line) {
+            take(head, weight);
         }
-        take(stack, weight);
     }
 }

@@ -1,185 +1,128 @@
-//! What the program `bench_tree` does to well-formed folded text on standard input, as one would write it in plain Rust with std's
-//! collections: frame names by number, a list of the samples, a tree of call paths with the weight of each path and of all below it,
+//! What the program `bench_tree` does to well-formed folded text on standard input, in plain Rust: a list of the samples, whose rows of
+//! frame numbers are kept once, a tree of call paths with the weight of each path and of all below it, into which each sample is added,
 //! the boxes of the tree's flame graph in the order of its names, and those of the list's flame chart.
 //!
 //!     grow_tree [MORE]
 //!
 //! With MORE it makes the same tree so many times more.
 
+mod boxes;
 mod folded;
+mod hashing;
+mod names;
+mod page;
+mod profiles;
+mod stacks;
 
-use std::collections::HashMap;
+use std::cmp::Reverse;
 use std::io::Read;
 
-use folded::each_sample;
+use boxes::Boxes;
+use hashing::QuickMap;
+use stacks::{Rows, Source, Stacks};
 
-/// Frame names, numbered in the order in which they were first asked for.
-#[derive(Default)]
-struct FrameTable {
-    numbers: HashMap<String, usize>,
-    names: Vec<String>,
-}
-
-impl FrameTable {
-    fn intern(&mut self, name: &str) -> usize {
-        if let Some(number) = self.numbers.get(name) {
-            return *number;
-        }
-        let number = self.names.len();
-        self.numbers.insert(name.to_owned(), number);
-        self.names.push(name.to_owned());
-        number
-    }
-}
-
-/// A sample by the numbers of its names.
-struct Row {
-    frames: Vec<usize>,
-    weight: u64,
-}
+/// The row of each sample, and its weight.
+type List = Vec<(u32, u64)>;
 
 /// Call paths: node 0 is the root, and a node is found by its parent and its frame.
 struct CallTree {
-    places: HashMap<(usize, usize), usize>,
-    path_ends: Vec<(usize, usize)>,
-    totals: Vec<u128>,
-    owns: Vec<u128>,
+    places: QuickMap<(u32, u32), u32>,
+    path_ends: Vec<(u32, u32)>,
+    totals: Vec<u64>,
+    owns: Vec<u64>,
 }
 
 impl CallTree {
-    fn new() -> Self {
-        CallTree {
-            places: HashMap::new(),
-            path_ends: vec![(0, 0)],
-            totals: vec![0],
-            owns: vec![0],
-        }
-    }
-
-    fn of(rows: &[Row]) -> Self {
-        let mut tree = CallTree::new();
-        for row in rows {
-            tree.add(&row.frames, row.weight);
+    fn of(rows: &Rows, list: &List) -> Self {
+        let mut tree = CallTree { places: QuickMap::default(), path_ends: vec![(0, 0)], totals: vec![0], owns: vec![0] };
+        for (row, weight) in list {
+            tree.add(rows.row(*row as usize), *weight);
         }
         tree
     }
 
-    fn add(&mut self, path: &[usize], weight: u64) {
+    fn add(&mut self, path: &[u32], weight: u64) {
         if weight == 0 {
             return;
         }
-        let weight = u128::from(weight);
         let mut node = 0;
         self.totals[0] += weight;
         for frame in path {
-            let next = *self.places.entry((node, *frame)).or_insert(self.totals.len());
-            if next == self.totals.len() {
+            let new = self.totals.len() as u32;
+            let next = *self.places.entry((node, *frame)).or_insert(new);
+            if next == new {
                 self.path_ends.push((node, *frame));
                 self.totals.push(0);
                 self.owns.push(0);
             }
-            self.totals[next] += weight;
+            self.totals[next as usize] += weight;
             node = next;
         }
-        self.owns[node] += weight;
+        self.owns[node as usize] += weight;
     }
 }
 
-/// A box before it is placed in an image.
+/// A box before it is placed in an image, with the number of its name.
+#[allow(dead_code)]
 struct SpanBox {
     depth: u32,
-    name: String,
+    name: u32,
     start: u64,
     weight: u64,
     own: u64,
 }
 
-/// The name of a box whose path ends in this frame.
-fn box_name(table: &FrameTable, depth: usize, frame: usize) -> String {
-    if depth == 0 { "all".to_owned() } else { table.names[frame].clone() }
+/// The nodes by their parents, the children of one from the last name to the first, and where those of each begin.
+fn children(tree: &CallTree, ranks: &[u32]) -> (Vec<u32>, Vec<u32>) {
+    let mut nodes: Vec<u32> = (1..tree.totals.len() as u32).collect();
+    nodes.sort_unstable_by_key(|node| {
+        let (parent, frame) = tree.path_ends[*node as usize];
+        (parent, Reverse(ranks[frame as usize]))
+    });
+    let mut begins = vec![0; tree.totals.len() + 1];
+    for (parent, _) in &tree.path_ends[1..] {
+        begins[*parent as usize + 1] += 1;
+    }
+    for parent in 1..begins.len() {
+        begins[parent] += begins[parent - 1];
+    }
+    (nodes, begins)
 }
 
 /// The boxes of a tree's flame graph.
-fn graph_boxes(tree: &CallTree, table: &FrameTable) -> Vec<SpanBox> {
+fn graph_boxes(tree: &CallTree, texts: &[&str]) -> Vec<SpanBox> {
     if tree.totals[0] == 0 {
         return Vec::new();
     }
-    let mut paths: Vec<(Vec<&str>, usize)> = vec![(Vec::new(), 0)];
-    for (node, (parent, frame)) in tree.path_ends.iter().enumerate().skip(1) {
-        let mut names = Vec::with_capacity(paths[*parent].0.len() + 1);
-        names.extend_from_slice(&paths[*parent].0);
-        names.push(table.names[*frame].as_str());
-        paths.push((names, node));
-    }
-    paths.sort();
-    let mut start = 0;
-    paths
-        .iter()
-        .map(|(names, node)| {
-            let own = tree.owns[*node] as u64;
-            let made = SpanBox {
-                depth: names.len() as u32,
-                name: box_name(table, names.len(), tree.path_ends[*node].1),
-                start,
-                weight: tree.totals[*node] as u64,
-                own,
-            };
-            start += own;
-            made
-        })
-        .collect()
-}
-
-/// The boxes of the flame chart of samples in order of time: a box is opened where its path begins, and weighed where it ends.
-fn chart_boxes(rows: &[Row], table: &FrameTable) -> Vec<SpanBox> {
-    let mut boxes: Vec<SpanBox> = Vec::new();
-    let mut open: Vec<usize> = Vec::new();
-    let mut before: &[usize] = &[];
-    let mut start = 0;
-    for row in rows.iter().filter(|row| row.weight > 0) {
-        let alike = row.frames.iter().zip(before).take_while(|(one, other)| one == other).count();
-        let keep = open.len().min(alike + 1);
-        for place in open.drain(keep..) {
-            boxes[place].weight = start - boxes[place].start;
-        }
-        for depth in keep..=row.frames.len() {
-            let frame = if depth == 0 { 0 } else { row.frames[depth - 1] };
-            open.push(boxes.len());
-            boxes.push(SpanBox { depth: depth as u32, name: box_name(table, depth, frame), start, weight: 0, own: 0 });
-        }
-        boxes[open[row.frames.len()]].own += row.weight;
-        start += row.weight;
-        before = &row.frames;
-    }
-    for place in open {
-        boxes[place].weight = start - boxes[place].start;
+    let (nodes, begins) = children(tree, &names::ranks(texts));
+    let mut boxes = Vec::with_capacity(tree.totals.len());
+    let (mut start, mut waiting) = (0, vec![(0, 0)]);
+    while let Some((node, depth)) = waiting.pop() {
+        let place = node as usize;
+        let name = if depth == 0 { names::ALL } else { tree.path_ends[place].1 };
+        boxes.push(SpanBox { depth, name, start, weight: tree.totals[place], own: tree.owns[place] });
+        start += tree.owns[place];
+        let below = begins[place] as usize..begins[place + 1] as usize;
+        waiting.extend(nodes[below].iter().map(|child| (*child, depth + 1)));
     }
     boxes
-}
-
-/// How many boxes there are, of which all was made.
-fn counted(boxes: &[SpanBox]) -> usize {
-    std::hint::black_box(boxes.iter().map(|b| (b.depth, b.name.as_str(), b.start, b.weight, b.own)).max());
-    boxes.len()
 }
 
 fn main() -> std::io::Result<()> {
     let more = std::env::args().nth(1).and_then(|word| word.parse::<u32>().ok()).unwrap_or(0);
     let mut bytes = Vec::new();
     std::io::stdin().lock().read_to_end(&mut bytes)?;
-    let mut table = FrameTable::default();
-    let mut rows = Vec::new();
-    each_sample(&bytes, |stack, weight| {
-        let frames = stack.iter().map(|name| table.intern(name)).collect();
-        rows.push(Row { frames, weight });
-    });
-    drop(bytes);
-    let tree = CallTree::of(&rows);
+    let source = Source::text(bytes);
+    let mut stacks = Stacks::<1>::new();
+    let mut list = List::new();
+    stacks.each_sample(&source, |_, row, weight| list.push((row, weight)));
+    let tree = CallTree::of(&stacks.rows, &list);
     for _ in 0..more {
-        std::hint::black_box(CallTree::of(&rows));
+        std::hint::black_box(CallTree::of(&stacks.rows, &list));
     }
-    let graph = counted(&graph_boxes(&tree, &table));
-    let chart = counted(&chart_boxes(&rows, &table));
+    let graph = std::hint::black_box(graph_boxes(&tree, &stacks.names.texts())).len();
+    let samples = list.iter().map(|(row, weight)| (stacks.rows.row(*row as usize), [*weight]));
+    let chart = Boxes::of(names::ALL, samples).count();
     let (nodes, weight) = (tree.totals.len(), tree.totals[0]);
     println!("{nodes} nodes, weight {weight}, {graph} boxes in the graph, {chart} in the chart");
     Ok(())

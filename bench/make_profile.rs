@@ -1,12 +1,15 @@
-//! Writes an uncompressed pprof profile of the asked number of samples, made from a fixed seed: a location for each ten samples, a
-//! function for each ten locations, stacks of 10 to 30 locations, and one sample type.
+//! Writes an uncompressed pprof profile of the asked number of samples, made from a fixed seed, with one sample type. Where a KIND is
+//! asked for, its stacks are those of `calls.rs`, with a location for each frame and a function for each two locations. Without one the
+//! profile has a location for each ten samples, a function for each ten locations, and stacks of 10 to 30 random locations.
 //!
-//!     make_profile SAMPLES > FILE
+//!     make_profile SAMPLES [KIND] [seedN] > FILE
 
+mod calls;
 mod numbers;
 
 use std::io::{BufWriter, Write};
 
+use calls::{Calls, Kind, FRAMES};
 use numbers::Numbers;
 
 /// A message of the wire format, or several top-level fields.
@@ -62,15 +65,8 @@ fn location(id: u64, functions: u64) -> Message {
     location
 }
 
-fn main() -> std::io::Result<()> {
-    let samples: u64 = std::env::args()
-        .nth(1)
-        .and_then(|word| word.parse().ok())
-        .expect("usage: make_profile SAMPLES");
-    let locations = (samples / 10).max(1);
-    let functions = (locations / 10).max(1);
-    let mut numbers = Numbers(0x5eed_0f1a_3e5c_0113);
-    let mut out = BufWriter::new(std::io::stdout().lock());
+/// The sample type, the strings, the functions and the locations.
+fn tables(locations: u64, functions: u64) -> Message {
     let mut tables = Message::default();
     let mut sample_type = Message::default();
     sample_type.number(1, 1);
@@ -90,15 +86,40 @@ fn main() -> std::io::Result<()> {
     for id in 1..=locations {
         tables.bytes(LOCATION, &location(id, functions).0);
     }
-    out.write_all(&tables.0)?;
+    tables
+}
+
+/// A sample of these locations, innermost first.
+fn sample(locations: impl Iterator<Item = u64>, weight: u64) -> Message {
+    let mut sample = Message::default();
+    sample.packed(1, locations);
+    sample.packed(2, std::iter::once(weight));
+    let mut field = Message::default();
+    field.bytes(SAMPLE, &sample.0);
+    field
+}
+
+fn main() -> std::io::Result<()> {
+    let words: Vec<String> = std::env::args().skip(1).collect();
+    let samples: u64 = words.first().and_then(|word| word.parse().ok()).expect("usage: make_profile SAMPLES [KIND] [seedN]");
+    let seed = words.iter().find_map(|word| word.strip_prefix("seed")?.parse::<u64>().ok()).unwrap_or(0);
+    let mut out = BufWriter::new(std::io::stdout().lock());
+    if let Some(kind) = words.iter().find_map(|word| Kind::of(word)) {
+        out.write_all(&tables(FRAMES, FRAMES / 2).0)?;
+        let mut calls = Calls::new(kind, samples, None, seed);
+        for _ in 0..samples {
+            let (stack, weight) = calls.next();
+            out.write_all(&sample(stack.iter().rev().map(|frame| 1 + frame), weight).0)?;
+        }
+        return out.flush();
+    }
+    let locations = (samples / 10).max(1);
+    out.write_all(&tables(locations, (locations / 10).max(1)).0)?;
+    let mut numbers = Numbers(0x5eed_0f1a_3e5c_0113);
     for _ in 0..samples {
         let depth = 10 + numbers.below(21);
-        let mut sample = Message::default();
-        sample.packed(1, (0..depth).map(|_| 1 + numbers.below(locations)));
-        sample.packed(2, std::iter::once(1 + numbers.below(100)));
-        let mut field = Message::default();
-        field.bytes(SAMPLE, &sample.0);
-        out.write_all(&field.0)?;
+        let ids: Vec<u64> = (0..depth).map(|_| 1 + numbers.below(locations)).collect();
+        out.write_all(&sample(ids.into_iter(), 1 + numbers.below(100)).0)?;
     }
     out.flush()
 }

@@ -1,0 +1,118 @@
+"""Builds programs and inputs, and runs commands turn about."""
+import filecmp
+import functools
+import os
+import pathlib
+import subprocess
+from dataclasses import dataclass
+
+BENCH = pathlib.Path(__file__).resolve().parent
+TOP = BENCH.parent
+OUT = BENCH / "out"
+
+
+def program(name):
+    """The built program of a crate, or None where there is none."""
+    path = TOP / "crates" / name / "out" / name
+    if not path.exists():
+        print(f"  {path.relative_to(TOP)} is missing: build it first (bench/README.md)")
+        return None
+    return path
+
+
+@functools.cache
+def plain(name):
+    """A plain Rust program of this folder, built where it is not up to date."""
+    source, target = BENCH / f"{name}.rs", OUT / name
+    changed = max(path.stat().st_mtime for path in BENCH.glob("*.rs"))
+    if not target.exists() or target.stat().st_mtime < changed:
+        OUT.mkdir(exist_ok=True)
+        # a module that several programs share has parts that one of them leaves out
+        options = ["--edition", "2021", "-C", "opt-level=3", "-A", "dead_code"]
+        subprocess.run(["rustc", *options, "-o", target, source], check=True)
+    return target
+
+
+@dataclass(frozen=True)
+class Input:
+    """The file that a generator writes for these words, made when it is first wanted."""
+
+    maker: str
+    words: tuple
+    ending: str = "folded"
+
+    def path(self):
+        maker = plain(self.maker)
+        path = OUT / ".".join([self.maker, *self.words, self.ending])
+        if not path.exists() or path.stat().st_mtime < maker.stat().st_mtime:
+            begun = path.with_suffix(".part")
+            with open(begun, "wb") as out:
+                subprocess.run([maker, *self.words], stdout=out, check=True)
+            begun.rename(path)
+        return path
+
+
+class Failed(Exception):
+    """A command failed, or two outputs differ."""
+
+
+def resolved(command):
+    """The words of a command, whose inputs are made."""
+    return [word.path() if isinstance(word, Input) else word for word in command]
+
+
+def measured(command, answer, given=os.devnull):
+    """Seconds and peak KiB of one run, whose output goes to the end of the file `answer`."""
+    with open(given, "rb") as source, open(answer, "ab") as out:
+        ran = subprocess.run([plain("launch"), *command], stdin=source, stdout=out, stderr=subprocess.PIPE)
+    if ran.returncode != 0:
+        told = ran.stderr.decode(errors="replace").splitlines()[:1]
+        raise Failed(f"{' '.join(map(str, command))} ended with status {ran.returncode}: {' '.join(told)}")
+    seconds, peak = ran.stderr.split(b"\n")[-2].split()
+    return float(seconds), int(peak)
+
+
+def measure_all(commands, answer, given=os.devnull):
+    """The seconds of these commands one after another, and the greatest of their peaks."""
+    answer.unlink(missing_ok=True)
+    runs = [measured(command, answer, given) for command in commands]
+    return sum(seconds for seconds, _ in runs), max(peak for _, peak in runs)
+
+
+def turn_about(sides, turns, given=os.devnull):
+    """Runs the sides, each some commands, in turn: the least seconds and the greatest MiB of each. Their answers stay."""
+    sides = [[resolved(command) for command in commands] for commands in sides]
+    runs = [[] for _ in sides]
+    for _ in range(turns):
+        for at, commands in enumerate(sides):
+            runs[at].append(measure_all(commands, answer(at), given))
+    return [(min(s for s, _ in of), max(k for _, k in of) / 1024) for of in runs]
+
+
+def answer(at):
+    """Where the output of a side goes."""
+    return OUT / f"answer.{at}"
+
+
+def same(one, other):
+    """Refuses two sides that wrote something else."""
+    if not filecmp.cmp(answer(one), answer(other), shallow=False):
+        raise Failed(f"the outputs differ: {answer(one)} and {answer(other)}")
+
+
+def heading(ours, theirs):
+    seconds, peaks = [[f"{side} {unit}" for side in [ours, theirs]] for unit in ["s", "MiB"]]
+    print(f"{'':26} {seconds[0]:>11} {seconds[1]:>11}  ratio   bar {peaks[0]:>12} {peaks[1]:>12}  ratio   bar")
+
+
+def show(name, ours, theirs, bars=(None, None)):
+    """A line of a table. Answers whether a bar was missed."""
+    ratios = [one / other for one, other in zip(ours, theirs)]
+    missed = any(bar is not None and ratio > bar for ratio, bar in zip(ratios, bars))
+    of = ["" if bar is None else f"{bar:.2f}" for bar in bars]
+    print(
+        f"{name:26} {ours[0]:11.3f} {theirs[0]:11.3f} {ratios[0]:6.2f} {of[0]:>5}"
+        f" {ours[1]:12.1f} {theirs[1]:12.1f} {ratios[1]:6.2f} {of[1]:>5}{'  MISSED' if missed else ''}",
+        flush=True,
+    )
+    return missed

@@ -1,0 +1,114 @@
+"""The rows of the program's benchmark, and how it is meant to stand beside what."""
+from dataclasses import dataclass
+
+from measuring import Input
+
+VIEWS = ["fold", "graph", "chart"]
+SIZES = {"1e4": 10_000, "1e5": 100_000, "1e6": 1_000_000}
+# the greatest ratios of time for fold, graph and chart
+TIMES = {"repeated": [0.85, 0.7, 0.5], "new": [1.0, 0.6, 0.5], "pb": [0.7, 0.6, 0.5]}
+FOUR = {"repeated": 0.4, "new": 0.55, "pb": 0.55}
+GROWTH = (12, 11)
+
+
+@dataclass
+class Row:
+    """The commands of our side beside those of another, each side's run one after another. A command begins with "program" or "plain"."""
+
+    name: str
+    part: str
+    ours: list
+    beside: list
+    # the greatest ratios of time and memory
+    bars: tuple = (None, None)
+    # the plain program's command for the same output, where it is not the other side, and whether the bar of the memory is beside it
+    plain: list = None
+    plain_memory: bool = False
+
+
+def folded(scale, size, *words):
+    return Input("make_folded", (str(max(1, size // scale)), *words))
+
+
+def profile(scale, size, *words):
+    return Input("make_profile", (str(max(1, size // scale)), *words), "pb")
+
+
+def beside_plain(name, part, words, bars=(None, None)):
+    return Row(name, part, [["program", *words]], [["plain", *words]], bars)
+
+
+def views(scale):
+    """fold, graph and chart of one source. 10^4 lines show what a start costs."""
+    rows = []
+    kinds = [(kind, folded, "folded") for kind in ["repeated", "timed", "new"]]
+    kinds += [(kind, profile, "pb") for kind in ["repeated", "timed", "new"]]
+    for kind, make, ending in kinds:
+        times = TIMES["pb"] if ending == "pb" else TIMES["new" if kind == "new" else "repeated"]
+        for size, lines in SIZES.items():
+            for view, time in zip(VIEWS, times):
+                bars = (1.0, 1.3) if size == "1e4" else (time, 1.2)
+                rows.append(beside_plain(f"{view}-{kind}-{ending}-{size}", ending, [view, make(scale, lines, kind)], bars))
+    for view in VIEWS:
+        rows.append(beside_plain(f"{view}-deep-2e4", "deep", [view, folded(scale, 20_000, "deep")]))
+    return rows
+
+
+def comparisons(scale):
+    pairs = {
+        "1e5": [folded(scale, 100_000), folded(scale, 100_000, "seed1")],
+        "deep": [folded(scale, 21_000, "deep"), folded(scale, 22_000, "deep", "seed1")],
+    }
+    rows = []
+    for label, pair in pairs.items():
+        for name, words in [("lines", []), ("boxes", ["--boxes"])]:
+            rows.append(beside_plain(f"compare-{name}-{label}", "compare", ["compare", *words, *pair], (1.0, 1.2)))
+    return rows
+
+
+def together(name, view, files, bars):
+    """Sources at once, beside the same in turn; their memory beside that of the plain program over all."""
+    in_turn = [["program", view, file] for file in files]
+    return Row(name, "sources", [["program", view, *files]], in_turn, bars, ["plain", view, *files], True)
+
+
+def sources(scale):
+    rows = []
+    for kind, time in FOUR.items():
+        make = profile if kind == "pb" else folded
+        words = ["repeated"] if kind == "pb" else [kind]
+        files = [make(scale, 250_000, *words, f"seed{at}") for at in range(4)]
+        rows += [together(f"{view}-4-sources-{kind}", view, files, (time, None)) for view in VIEWS]
+    files = [folded(scale, 20_000, f"seed{at}") for at in range(64)]
+    rows += [together(f"{view}-64-sources", view, files, (0.4, 1.5)) for view in VIEWS]
+    files = [folded(1, 100, "timed", f"seed{at}") for at in range(max(1, 1_000 // scale))]
+    both = [[[name, "fold", file] for file in files] for name in ["program", "plain"]]
+    rows.append(Row("fold-1000-short-files", "sources", *both))
+    return rows
+
+
+def snapshots(scale):
+    rows = []
+    for kind in ["repeated", "timed"]:
+        file, every = folded(scale, 100_000, kind), ["graph", "--every", str(max(1, 1_000 // scale))]
+        ours, graph = ["program", *every, file], ["program", "graph", file]
+        rows.append(Row(f"graph-every-{kind}", "every", [ours], [graph], (3, 3), ["plain", *every, file]))
+    return rows
+
+
+def colliding(scale):
+    names = str(40_000 // scale)
+    ours, others = [["fold", Input("make_colliding", words)] for words in [(names,), (names, "others")]]
+    return [Row("fold-colliding-names", "colliding", [["program", *ours]], [["program", *others]], (3, None), ["plain", *ours])]
+
+
+def all_rows(scale):
+    return views(scale) + comparisons(scale) + sources(scale) + snapshots(scale) + colliding(scale)
+
+
+def growths(measured):
+    """What was measured of each row of 10^6 samples, and of the same row of 10^5."""
+    for name, large in measured.items():
+        stem = name.removesuffix("-1e6")
+        if stem != name and f"{stem}-1e5" in measured:
+            yield f"growth-{stem}", large, measured[f"{stem}-1e5"]
