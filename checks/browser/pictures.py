@@ -1,0 +1,234 @@
+"""Tests of what is drawn: the first paint, widths, zoom, keys, snapshots, lanes and differences."""
+from looking import ROW, Picture, contains, data_in, fragment, near, same, table
+
+# The boxes of examples/parse.folded, by hand: depth, name, start, weight.
+PARSE = [(0, 'all', 0, 57), (1, 'main', 0, 57), (2, 'layout', 0, 7), (3, 'measure', 3, 4), (2, 'parse', 7, 50), (3, 'read', 7, 19),
+         (3, 'tokenize', 26, 31)]
+
+
+def first_paint(check):
+    check.show('graph', 'parse.folded')
+    browser = check.browser
+    same(browser.text('#title'), 'parse.folded', 'title')
+    same(browser.value('document.title'), 'parse.folded', 'title of the window')
+    same(browser.text('#summary'), 'Flame graph of 1 source: 57, 7 boxes', 'summary')
+    same(browser.text('#notices'), '', 'notices')
+    browser.wait_for("performance.getEntriesByName('first-contentful-paint').length > 0")
+    same(browser.happened('Runtime.exceptionThrown') + browser.happened('Log.entryAdded'), [], 'faults')
+    same([len(Picture(browser).runs(depth)) for depth in range(5)], [1, 1, 2, 3, 0], 'boxes in each row of pixels')
+    check.screenshot('graph')
+
+
+def widths(check):
+    check.show('graph', 'parse.folded')
+    picture = Picture(check.browser)
+    for depth in range(4):
+        wanted = [box for box in PARSE if box[0] == depth]
+        runs = picture.runs(depth)
+        same(len(runs), len(wanted), f'boxes in row {depth}')
+        for (left, right, _), (_, name, start, weight) in zip(runs, wanted):
+            near(left, start * picture.width / 57, f'left edge of {name}', 1.5)
+            near(right, (start + weight) * picture.width / 57, f'right edge of {name}', 1.5)
+    for depth, name, start, weight in PARSE:
+        inside = 1 / picture.width
+        same(picture.name(depth, start / 57 + inside), name, f'just inside the left edge of {name}')
+        same(picture.name(depth, (start + weight) / 57 - inside), name, f'just inside the right edge of {name}')
+    same(picture.name(3, 2.9 / 57), None, 'under the own weight of layout')
+    same(picture.told(2, 0.5), ['parse', '50, 87.7% of the whole', 'own 0'], 'tip of parse')
+    same(picture.told(2, 0.05), ['layout', '7, 12.3% of the whole', 'own 3'], 'tip of layout')
+    check.browser.resize(700, 900)
+    check.browser.settle()
+    narrow = Picture(check.browser)
+    assert narrow.width != picture.width, 'the window is narrower'
+    near(narrow.runs(3)[1][1], 26 * narrow.width / 57, 'right edge of read in a narrower window', 1.5)
+    check.browser.resize(*check.browser.size)
+
+
+def broken(check):
+    browser = check.browser
+    document = check.show('graph', 'parse.folded')
+    half = check.place(document[:document.index(b'"own":[')])
+    browser.go(half)
+    browser.wait_for("document.readyState === 'complete'")
+    contains(browser.text('#summary'), 'the document is cut off', 'half of a document')
+    same(browser.value("document.querySelector('main').hidden"), True, 'the picture is hidden')
+    browser.go(check.place(document.replace(b'"own":[', b'own:[')))
+    browser.wait_for("document.readyState === 'complete'")
+    contains(browser.text('#summary'), 'The data of this page cannot be read', 'data that is no JSON')
+
+
+def root_below(check):
+    check.show('graph', 'parse.folded')
+    check.browser.click_on('#below')
+    picture = Picture(check.browser)
+    same([picture.name(depth, 0.9, rows=4) for depth in range(4)], ['all', 'main', 'parse', 'tokenize'], 'from the lowest row up')
+    same([len(picture.runs(row)) for row in range(4)], [3, 2, 1, 1], 'boxes in each row of pixels, from the top')
+    same(fragment(check.browser), '#root=below', 'fragment')
+    check.browser.click_on('#below')
+    same(picture.name(0, 0.9), 'all', 'the top row')
+
+
+def zoom(check):
+    browser = check.browser
+    check.show('graph', 'parse.folded')
+    picture = Picture(browser)
+    picture.click(2, 0.5)
+    same(fragment(browser), '#zoom=main/parse', 'fragment after a click')
+    same([len(picture.runs(depth)) for depth in range(4)], [1, 1, 1, 2], 'boxes in each row while zoomed')
+    near(picture.runs(3)[0][1], 19 * picture.width / 50, 'right edge of read while zoomed', 1.5)
+    same(picture.told(3, 0.1)[1], '19, 33.3% of the whole, 38% of what is zoomed', 'tip of read')
+    picture.click(3, 0.9)
+    same(fragment(browser), '#zoom=main/parse/tokenize', 'fragment after the second click')
+    browser.press('Escape')
+    browser.wait_for("location.hash === '#zoom=main/parse'")
+    browser.settle()
+    same(len(picture.runs(3)), 2, 'boxes in the last row after Escape')
+    browser.click_on('#back')
+    browser.wait_for("location.hash === '#' || location.hash === ''")
+    browser.settle()
+    same(len(picture.runs(3)), 3, 'boxes in the last row after Back')
+    same(browser.value("document.getElementById('back').disabled"), True, 'Back is off')
+    browser.value('history.forward()')
+    browser.wait_for("location.hash === '#zoom=main/parse'")
+    browser.settle()
+    same(len(picture.runs(3)), 2, 'boxes in the last row after the browser went forward')
+    picture.click(0, 0.5)
+    same(len(picture.runs(3)), 3, 'boxes in the last row after a click on the root')
+
+
+def keys(check):
+    browser = check.browser
+    check.show('graph', 'parse.folded')
+    for _ in range(30):
+        browser.press('Tab')
+        if browser.value('document.activeElement.id') == 'picture':
+            break
+    same(browser.value('document.activeElement.id'), 'picture', 'the picture is reached by Tab')
+    picture = Picture(browser)
+    edges = {name: (start, weight, depth) for depth, name, start, weight in PARSE}
+    for key, wanted in [('ArrowDown', 'main'), ('ArrowDown', 'parse'), ('ArrowLeft', 'layout'), ('ArrowLeft', 'layout'),
+                        ('ArrowDown', 'measure'), ('ArrowRight', 'read'), ('End', 'tokenize'), ('Home', 'measure'),
+                        ('ArrowUp', 'layout'), ('ArrowRight', 'parse')]:
+        browser.press(key)
+        same(picture.focused(), wanted, f'focus after {key}')
+        start, weight, depth = edges[wanted]
+        left, width, row = picture.ring()
+        near(left, start * picture.width / 57, f'left edge of the ring around {wanted}')
+        near(width, weight * picture.width / 57, f'width of the ring around {wanted}')
+        near(row, depth, f'row of the ring around {wanted}', 0.2)
+    style = browser.value("(({ outlineStyle, outlineWidth }) => [outlineStyle, outlineWidth])"
+                          "(getComputedStyle(document.querySelector('.ring:not([hidden])')))")
+    same(style, ['solid', '3px'], 'the ring is seen')
+    nodes = browser.send('Accessibility.getFullAXTree')['nodes']
+    items = [node for node in nodes if node['role']['value'] == 'treeitem' and not node['ignored']]
+    same([node['name']['value'] for node in items], ['parse · 50, 87.7% of the whole · own 0'], 'what a screen reader is told')
+    roles = {'button', 'checkbox', 'combobox', 'searchbox', 'slider', 'tree', 'treeitem', 'table', 'columnheader'}
+    shown = [(node['role']['value'], node.get('name', {}).get('value')) for node in nodes if not node['ignored']]
+    unnamed = [role for role, name in shown if role in roles and not name]
+    assert {'button', 'checkbox', 'combobox', 'searchbox', 'tree'} <= {role for role, _ in shown}, 'the tools are seen by a screen reader'
+    same(unnamed, [], 'what a screen reader has no name for')
+    level = [each['value']['value'] for node in items for each in node['properties'] if each['name'] == 'level']
+    same(level, [3], 'level of the focused box')
+    browser.press('Enter')
+    same(fragment(browser), '#zoom=main/parse', 'fragment after Enter')
+    browser.press('ArrowDown')
+    same(picture.focused(), 'tokenize', 'focus after a step down while zoomed')
+    browser.press('Escape')
+    browser.wait_for("!location.hash.includes('zoom')")
+
+
+def snapshots(check):
+    browser = check.browser
+    document = check.show('graph', '--every', '2', 'parse.folded')
+    drawings = data_in(document)['drawings']
+    same([each.get('at') for each in drawings], [2, 4, None], 'drawings in the data')
+    picture = Picture(browser)
+    same(browser.text('#drawing-name'), 'all samples', 'what is looked at first')
+    picture.click(2, 0.5)
+    browser.value("document.getElementById('snapshot').focus()")
+    browser.press('ArrowLeft')
+    same(browser.text('#drawing-name'), 'the first 4 samples', 'after a step to the left')
+    contains(browser.text('#summary'), ': 53, ', 'summary')
+    same(fragment(browser), '#zoom=main/parse&drawing=1', 'the zoom stays')
+    near(picture.runs(3)[0][1], 19 * picture.width / 50, 'right edge of read', 1.5)
+    browser.press('ArrowLeft')
+    same(browser.text('#drawing-name'), 'the first 2 samples', 'after two steps')
+    near(picture.runs(3)[0][1], 12 * picture.width / 43, 'right edge of read in the first two samples', 1.5)
+    check.screenshot('snapshot')
+
+
+def lanes(check):
+    browser = check.browser
+    check.show('chart', 'parse.folded', 'faster.folded')
+    picture = Picture(browser)
+    strips = browser.value("[...document.querySelectorAll('#lanes button')].map((each) =>"
+                           " [each.textContent, each.getBoundingClientRect().left, each.getBoundingClientRect().width])")
+    same([strip[0] for strip in strips], ['parse.folded', 'faster.folded'], 'names of the lanes')
+    boundary = 57 * picture.width / 95
+    near(strips[0][2], boundary, 'width of the first lane')
+    near(strips[1][1] - picture.left, boundary, 'left edge of the second lane')
+    line = picture.pixels(6)
+    dark = [place for place, colour in enumerate(line) if colour == (128, 134, 143)]
+    same(dark, [round(boundary)], 'the line between the sources')
+    contains(picture.told(1, 0.5)[3], 'in parse.folded, faster.folded', 'the sources of main')
+    check.screenshot('chart')
+    browser.click_on('#lanes button:nth-child(2)')
+    same(fragment(browser), '#source=1', 'fragment')
+    hidden = browser.value("[...document.querySelectorAll('#lanes button')].map((each) => each.hidden)")
+    same(hidden, [True, False], 'the lanes that are not seen')
+    # The second source alone: read 11, tokenize 12, layout 3, read 8, layout 4 with measure on it.
+    wanted = [(0, 11), (11, 23), (26, 34), (34, 38)]
+    found = [(round(left * 38 / picture.width), round(right * 38 / picture.width)) for left, right, _ in picture.runs(3)]
+    same(found, wanted, 'boxes of the second source')
+    browser.press('Escape')
+    browser.wait_for("!location.hash.includes('source')")
+
+
+def differences(check):
+    browser = check.browser
+    before = check.write('before.folded', 'main;same 10\nmain;less 20\nmain;more 5\nmain;old;part 6\nmain;old 2\nmain;also 1\n')
+    after = check.write('after.folded', 'main;same 10\nmain;less 5\nmain;more 20\nmain;new 4\n')
+    check.show('compare', before, after)
+    picture = Picture(browser)
+    contains(browser.text('#summary'), 'before 44, after 39, −11.4%', 'summary')
+    # In the profile after: less 0 to 5, more 5 to 25, new 25 to 29, same 29 to 39.
+    less, more, new, still = [picture.colour(2, weight / 39) for weight in (2.5, 15, 27, 34)]
+    assert less[2] > less[0] + 15, f'less is not blue: {less}'
+    assert more[0] > more[2] + 15 and new[0] > new[2] + 15, f'more is not red: {more}, {new}'
+    assert max(still) - min(still) < 4, f'what is the same is not grey: {still}'
+    assert new[0] - new[2] >= more[0] - more[2], 'what is new is at least as red as what is more'
+    same([picture.told(2, weight / 39)[3] for weight in (2.5, 15, 27, 34)],
+         ['before 20, after 5: −75%', 'before 5, after 20: +300%', 'before 0, after 4: new', 'before 10, after 10: ±0%'], 'tips')
+    same(browser.text('#gone-summary'), '3 paths, together 9, 20.5% of the profile before.', 'what is gone')
+    same(browser.value("[...document.querySelectorAll('#gone-list button')].map((each) => each.textContent)"),
+         ['8  main › old', '6  main › old › part', '1  main › also'], 'the paths that are gone')
+    rows = table(browser)
+    contains(rows, ['more', '20', '20', '+300%'], 'functions')
+    contains(rows, ['old', '0', '0', 'gone'], 'functions')
+    check.screenshot('comparison')
+    browser.click_on('#gone-list li:nth-child(2) button')
+    same(browser.text('#drawing-name'), f'before: {before}', 'a path that is gone is shown in the profile before')
+    same(fragment(browser), '#zoom=main/old/part&drawing=0', 'fragment')
+    same(picture.told(3, 0.5)[3], 'before 6, after 0: gone', 'tip of what is gone')
+    browser.click_on('#before')
+    same(browser.text('#drawing-name'), f'after: {after}', 'back to the profile after')
+
+
+def deep(check):
+    browser = check.browser
+    names = ';'.join(f'f{number}' for number in range(4096))
+    check.show('graph', check.write('deep.folded', f'{names} 1\n'))
+    picture = Picture(browser)
+    same(browser.value("document.getElementById('canvas').height"), round(picture.height), 'the canvas is as high as what is seen')
+    browser.value("document.getElementById('picture').focus()")
+    for _ in range(60):
+        browser.press('ArrowDown')
+    same(picture.focused(), 'f59', 'focus after 60 steps down')
+    row = picture.ring()[2]
+    assert 0 <= row <= picture.height / ROW - 0.9, f'the ring is out of sight, in row {row}'
+    browser.value("document.getElementById('picture').scrollTop = 1e9")
+    browser.settle()
+    same(picture.name(4096, 0.5), 'f4095', 'the last row')
+
+
+TESTS = [first_paint, widths, broken, root_below, zoom, keys, snapshots, lanes, differences, deep]

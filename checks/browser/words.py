@@ -1,0 +1,144 @@
+"""Tests of what is said: search, the table of functions, units, notices, and links."""
+import json
+import pathlib
+import re
+
+import documents
+import profiles
+from looking import Picture, contains, data_in, fragment, raw_data_in, same, search, table
+
+NESTED = 'main;walk;walk;leaf 5\nmain;walk;other 3\nmain;leaf 2\n'
+
+
+def data(check):
+    page = (pathlib.Path(documents.TOP) / 'docs' / 'PAGE-DATA.md').read_text(encoding='utf-8')
+    example = re.sub(r'\n *', '', page.partition('## An example')[2].partition('\n    {')[2])
+    path = check.write('small.folded', 'main;read<int> 2\nmain 1\n')
+    same('{' + example, raw_data_in(check.show('graph', path)).decode(), 'the example of docs/PAGE-DATA.md')
+    check.write('odd.folded', '<&>\u2028\u2029"\\\x01\t\r;é😀 3\n;; 2\n')
+    for words in (('graph', 'odd.folded', 'parse.folded'), ('graph', '--every', '2', 'parse.folded'),
+                  ('graph', '--least', '5', 'parse.folded'), ('chart', 'faster.folded', 'parse.folded'),
+                  ('compare', 'parse.folded', 'faster.folded')):
+        document = check.show(*words)
+        same(raw_data_in(document), documents.text_of(data_in(document)), f'the text of the data of {words}')
+        wanted = documents.data_of(check.program, words)
+        same(data_in(document), wanted, f'the data of {words}, and the lines of JSON')
+        shown = check.browser.value("JSON.stringify(JSON.parse(document.getElementById('data').textContent))")
+        same(json.loads(shown), wanted, f'the data of {words} in the browser')
+
+
+def searching(check):
+    browser = check.browser
+    check.show('graph', check.write('nested.folded', NESTED))
+    picture = Picture(browser)
+    plain = picture.colour(1, 0.5)
+    same(search(browser, 'walk'), '2 matched, 80%', 'nested matches count once')
+    same(fragment(browser), '#find=walk', 'fragment')
+    match, other = picture.colour(2, 0.5), picture.colour(1, 0.5)
+    assert match not in (plain, other), f'what matches has a colour of its own, not {match}'
+    assert other != plain, 'what does not match steps back'
+    same(search(browser, 'Walk'), '0 matched, 0%', 'capital letters count')
+    same(search(browser, 'l'), '4 matched, 100%', 'a part of a name')
+    same(search(browser, 'leaf', 'name'), '2 matched, 70%', 'whole names')
+    same(search(browser, 'eaf', 'name'), '0 matched, 0%', 'a part is no whole name')
+    same(search(browser, '^(leaf|other)$', 'regexp'), '3 matched, 100%', 'a regular expression')
+    same(fragment(browser), '#find=%5E(leaf%7Cother)%24&by=regexp', 'fragment of a regular expression')
+    same(search(browser, '(', 'regexp'), 'not a regular expression', 'no regular expression')
+    same(browser.value("document.getElementById('find').getAttribute('aria-invalid')"), 'true', 'the field is marked')
+    same(search(browser, '(', 'text'), '0 matched, 0%', 'the same as text')
+    same(search(browser, 'leaf'), '2 matched, 70%', 'text')
+    browser.value("document.getElementById('find').focus()")
+    found = []
+    for modifiers in (0, 0, 0, 8, 8):
+        browser.press('Enter', modifiers)
+        found.append(picture.heard().split(' of the whole')[0])
+    first, second = 'leaf · 2, 20%', 'leaf · 5, 50%'
+    same(found, [first, second, first, second, first], 'next and previous go in a circle')
+    browser.click_on('#next')
+    same(picture.heard().split(' of the whole')[0], second, 'the button for the next')
+    check.screenshot('search')
+
+
+def functions(check):
+    browser = check.browser
+    check.show('graph', check.write('nested.folded', NESTED))
+    main, walk, leaf, other = ['main', '0', '10'], ['walk', '0', '8'], ['leaf', '7', '7'], ['other', '3', '3']
+    same(table(browser)[:2], [leaf, other], 'by own weight')
+    browser.click_on('th[data-key="total"] button')
+    same(table(browser), [main, walk, leaf, other], 'by total weight, recursion counted once')
+    same(browser.value("[...document.querySelectorAll('#functions th')].map((head) => head.getAttribute('aria-sort'))"),
+         [None, None, 'descending', None], 'aria-sort')
+    browser.click_on('th[data-key="total"] button')
+    same(table(browser), [other, leaf, walk, main], 'rising')
+    browser.click_on('th[data-key="name"] button')
+    same(table(browser), [leaf, main, other, walk], 'by name')
+    browser.click_on('#functions tbody tr:nth-child(4) button')
+    same(browser.text('#matched'), '2 matched, 80%', 'a click searches')
+    same(fragment(browser), '#find=walk&by=name', 'fragment')
+
+
+def units(check):
+    browser = check.browser
+    stack = ['main', 'work']
+    time = check.write('time.pb', profiles.profile([('samples', 'count'), ('cpu', 'nanoseconds')],
+                                                   [(stack, [3, 1_234_567_890]), (['main'], [1, 2_500_000])]))
+    space = check.write('space.pb', profiles.profile([('inuse_space', 'bytes')], [(stack, [5 * 2 ** 20]), (['main'], [1536])]))
+    check.show('graph', time)
+    contains(browser.text('#summary'), ': 1.24 s (1,237,067,890 nanoseconds) of cpu, ', 'nanoseconds')
+    same(Picture(browser).told(1, 0.5)[2], 'own 2.5 ms (2,500,000 nanoseconds)', 'a shorter time')
+    check.show('graph', '--type', 'samples', time)
+    contains(browser.text('#summary'), ': 4 of samples, ', 'counts')
+    check.show('graph', space)
+    contains(browser.text('#summary'), ': 5 MiB (5,244,416 bytes) of inuse_space, ', 'bytes')
+    same(Picture(browser).told(1, 0.5)[2], 'own 1.5 KiB (1,536 bytes)', 'fewer bytes')
+    check.show('graph', check.write('numbers.folded', 'main 1234567\n'))
+    contains(browser.text('#summary'), ': 1,234,567, ', 'plain numbers')
+    check.show('graph', time, space, 'parse.folded')
+    same(browser.text('#notices'), f'The sources have different units, so their sum means little: {time} in nanoseconds, {space} in bytes,'
+         ' parse.folded in plain numbers.', 'different units')
+    contains(browser.text('#summary'), ': 1,242,312,363, ', 'their sum')
+    same(browser.value("[...document.querySelectorAll('#sources li')].map((item) => item.textContent)"),
+         ['time.pb: 1.24 s (1,237,067,890 nanoseconds) of cpu', 'space.pb: 5 MiB (5,244,416 bytes) of inuse_space', 'parse.folded: 57'],
+         'sources')
+
+
+def notices(check):
+    browser = check.browser
+    most = 2 ** 56 - 1
+    document = check.show('graph', '--least', '0', check.write('most.folded', f'main;huge {most - 3}\nmain;tiny 3\n'))
+    contains(browser.text('#notices'), 'JavaScript has no more digits', 'rounding')
+    contains(browser.text('#summary'), 'about 72,057,594,037,927,9', 'a rounded sum')
+    same(data_in(document)['drawings'][0]['weight'], [most, most, most - 3, 3], 'the data is exact')
+    check.show('graph', '--least', '5', 'parse.folded')
+    same(browser.text('#notices'), 'Left out: 1 box of together 4, each lighter than 5.', 'what is left out')
+    same(Picture(browser).name(3, 5 / 57), None, 'where measure was')
+    check.show('graph', check.write('empty.folded', ''))
+    contains(browser.text('#notices'), 'nothing to draw', 'no samples')
+    same(browser.happened('Runtime.exceptionThrown'), [], 'faults without samples')
+    check.show('graph', '--title', 'A run on Monday', 'parse.folded')
+    same([browser.text('#title'), browser.value('document.title')], ['A run on Monday'] * 2, 'title')
+
+
+def links(check):
+    browser = check.browser
+    document = check.show('graph', 'parse.folded', fragment='#zoom=main/parse&find=read&root=below')
+    picture = Picture(browser)
+    same(browser.text('#matched'), '1 matched, 33.3%', 'search of a link')
+    same(browser.value("document.getElementById('find').value"), 'read', 'the field of a link')
+    same([picture.name(depth, 0.1, rows=4) for depth in range(4)], ['all', 'main', 'parse', 'read'], 'zoom of a link')
+    check.show('chart', 'parse.folded', fragment='#zoom=main/parse/read&start=46')
+    contains(picture.told(3, 0.5)[3], 'from 46 to 53', 'a box of a chart by its start')
+    for odd in ('#zoom=%', '#zoom=main/nothing/there', '#box=99999', '#source=7', '#drawing=-1', '#find=%E0%A4%A', '#start=x&zoom=',
+                '#&&=&a'):
+        browser.open(check.place(document), odd)
+        same(browser.happened('Runtime.exceptionThrown'), [], f'faults of {odd}')
+        same(Picture(browser).name(0, 0.5), 'all', f'the root with {odd}')
+    long = 'a' * 5000
+    check.show('graph', check.write('long.folded', f'{long};b 1\nc 1\n'))
+    picture = Picture(browser)
+    picture.click(2, 0.2)
+    same(fragment(browser), '#box=2', 'a very long path')
+    same(picture.name(2, 0.9), 'b', 'what is zoomed')
+
+
+TESTS = [data, searching, functions, units, notices, links]

@@ -1,0 +1,51 @@
+// What is shown of a name. A name never becomes markup: it is only ever the text of an element, of a canvas, or of an escaped SVG.
+
+// Characters that are not seen, or that turn the text around them, but for the joiners inside emoji and scripts.
+const UNSEEN = /[\u0000-\u001f\u007f-\u009f\u00ad\u061c\u180e\u200b\u200e\u200f\u2028-\u202e\u2060-\u206f\ufeff\ufff9-\ufffb\ufffe\uffff]/g;
+
+function hexadecimal(character) {
+    return `[U+${character.charCodeAt(0).toString(16).toUpperCase().padStart(4, '0')}]`;
+}
+
+// The text with its number in the place of each character that is not seen.
+function visible(text) {
+    return text.replace(UNSEEN, hexadecimal);
+}
+
+// The first characters of the text, at most so many, and no half of a surrogate pair.
+function beginning(text, most) {
+    if (text.length <= most) return text;
+    const last = text.charCodeAt(most - 1);
+    return text.slice(0, last >= 0xd800 && last < 0xdc00 ? most - 1 : most);
+}
+
+// What is shown of a name where there is room for so many characters.
+function shortened(text, most) {
+    const first = beginning(text, most);
+    return visible(first) + (first.length < text.length ? '…' : '');
+}
+
+// What is shown of a name where there is room for lines of it.
+function described(text) {
+    const most = 1500;
+    if (text === '') return '(empty name)';
+    if (text.length <= most) return visible(text);
+    return `${shortened(text, most)} (${text.length.toLocaleString('en')} characters)`;
+}
+
+// What is shown of a path: its names, root first.
+function joined(path) {
+    return path.map((name) => shortened(name, 200)).join(' › ');
+}
+
+// A number from the name, the same on each page: FNV-1a over its UTF-16 units.
+function hashOf(text) {
+    let hash = 0x811c9dc5;
+    for (let place = 0; place < text.length; place++) {
+        hash = Math.imul(hash ^ text.charCodeAt(place), 0x01000193);
+    }
+    // The low bits of the product alone depend on few of the letters' bits.
+    hash ^= hash >>> 15;
+    hash = Math.imul(hash, 0x2c1b3c6d);
+    return (hash ^ (hash >>> 12)) >>> 0;
+}

@@ -1,0 +1,59 @@
+// Search in names: which boxes match, and with how much weight.
+
+// A test of a name, or null where the words are no regular expression.
+function nameTest(find, by) {
+    if (by === 'name') return (name) => name === find;
+    // Text without capital letters matches either case.
+    const text = by === 'text' ? find.replace(/[\\^$.*+?()[\]{}|/]/g, '\\$&') : find;
+    const flags = by === 'text' && find === find.toLowerCase() ? 'iu' : 'u';
+    try {
+        const expression = new RegExp(text, flags);
+        return (name) => expression.test(name);
+    } catch {
+        return null;
+    }
+}
+
+// For each name whether it matches, kept for the search that it was asked for last.
+function nameMatcher(names) {
+    let asked = '';
+    let matching = null;
+    return (find, by) => {
+        const key = `${by} ${find}`;
+        if (key !== asked) {
+            const test = nameTest(find, by);
+            asked = key;
+            matching = test && Uint8Array.from(names, test);
+        }
+        return matching;
+    };
+}
+
+// The boxes whose names match, the root aside, and the weight of their samples, each counted once: what stands on a match adds nothing.
+function matchesOf(drawing, matching) {
+    const boxes = [];
+    let weight = 0;
+    let covered = 0;
+    for (let box = 0; box < drawing.count; box++) {
+        if (!matching[drawing.name[box]] || drawing.depth[box] === 0) continue;
+        boxes.push(box);
+        if (box < covered) continue;
+        covered = drawing.end[box];
+        weight += drawing.weight[box];
+    }
+    return {
+        boxes,
+        weight,
+        rows: rowsOf(drawing.depth, drawing.rowCount, boxes),
+        isMatch: (box) => drawing.depth[box] > 0 && matching[drawing.name[box]] === 1,
+    };
+}
+
+// The match after or before a box, in a circle.
+function neighbourMatch(matches, box, isForward) {
+    const { boxes } = matches;
+    if (boxes.length === 0) return -1;
+    if (isForward) return boxes[firstPlace(0, boxes.length, (place) => boxes[place] > box) % boxes.length];
+    const place = firstPlace(0, boxes.length, (each) => boxes[each] >= box);
+    return boxes[(place + boxes.length - 1) % boxes.length];
+}
