@@ -11,9 +11,8 @@ mod growing;
 mod numbering;
 
 use drawing::count_boxes;
-use folded_lines::FoldedReader;
 use growing::{grow, number_of_word};
-use numbering::list_samples;
+use numbering::list_text;
 use std::env;
 use std::io::{self, Read};
 
@@ -24,8 +23,7 @@ fn main(rt: HostRuntime) -> io::Result<()> {
     let more = number_of_word(words.next());
     let mut bytes = Vec::new(alloc);
     let _count = rt.reader().read_to_end(&mut bytes)?;
-    let mut reader = FoldedReader::over(bytes);
-    let (table, list) = list_samples(alloc, &mut reader)?;
+    let (table, list) = list_text(alloc, bytes)?;
     let tree = grow(alloc, &list)?;
     for _ in 0..more {
         let _again = grow(alloc, &list)?;

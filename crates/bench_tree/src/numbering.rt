@@ -4,6 +4,7 @@ ghost use Rattle.std.specs.Prelude.{◌≡◌, ◌<◌, ◌≤◌, All, None, le
 ghost use Rattle.stack_core.specs.Reading.{IsLimited};
 
 use call_tree::FrameTable;
+use folded_lines::FoldedReader;
 use stack_core::{Close, Ledger, Listed, Sample, SampleReader, SourceList, Step, Text};
 use std::alloc::{AllocError, Global};
 
@@ -68,8 +69,16 @@ fn take_sample(
     ledger.take_row(Listed::of(numbers), sample.weight)
 }
 
+/// The names and the list of folded text.
+pub fn list_text(alloc: Global, bytes: Vec<u8>) -> Result<(FrameTable, SourceList), AllocError>
+    ensures { IfOk result (λ made. length made.1.told ≡ length made.0) }
+{
+    let mut reader = FoldedReader::over(bytes);
+    list_samples(alloc, &mut reader)
+}
+
 /// The names of a source's frames, and the list of its samples, whose numbers are those of the names.
-pub fn list_samples<R: SampleReader>(
+fn list_samples<R: SampleReader>(
     alloc: Global,
     reader: &mut R,
 ) -> Result<(FrameTable, SourceList), AllocError>

@@ -5,6 +5,7 @@ pub mod Found
 pub mod Frames
 pub mod Listed
 pub mod NameOrder
+pub mod NameNumbers
 pub mod Names
 pub mod Numbers
 pub mod Paths
@@ -13,6 +14,7 @@ pub mod RowOrder
 mod Rows
 pub mod Shape
 pub mod Siblings
+pub mod KnownSpellings
 pub mod Steps
 pub mod Threaded
 pub mod Threads

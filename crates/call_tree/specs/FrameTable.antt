@@ -1,11 +1,8 @@
 -- A table of frame names: a list of distinct names, each the list of its bytes. A name's number is its place.
-use Rattle.std.specs.Prelude.{◌≡◌, ℕ, ◌<◌, List, [], ◌∷◌, ◌++◌, length, if◌then◌else◌}
-use Rattle.std.specs.List.{list_any, slice_index_or}
-use Rattle.std.specs.Str.{bytes_eq}
-
--- the table after `name` is asked for: a known name changes nothing, a new one goes last
-abbrev pub with_name : List (List ℕ) → List ℕ → List (List ℕ)
-with_name names name = if list_any (bytes_eq name) names then names else names ++ name ∷ []
+use Rattle.std.specs.Prelude.{◌≡◌, ℕ, ◌<◌, List, [], length}
+use Rattle.std.specs.List.{slice_index_or}
+-- the table after a name is asked for: a known name changes nothing, a new one goes last
+pub use Rattle.stack_core.specs.NamesInOrder.{with_name}
 
 -- two places of one name are one place
 abbrev pub HasDistinctNames : List (List ℕ) → Type 0

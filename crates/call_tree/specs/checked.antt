@@ -1,3 +1,5 @@
 -- Definitions that no contract of a public function cites. The proofs use them; a reader need not believe them.
+pub mod Histories
 pub mod NodeOrder
 pub mod Nodes
+pub mod Spellings

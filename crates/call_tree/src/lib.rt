@@ -2,14 +2,21 @@
 #![tactic(auto)]
 
 mod frame_table;
+mod histories;
 pub mod laws;
 mod listing;
 mod nodes;
+mod spelling_hash;
+mod spellings;
 mod tree;
 
 pub use frame_table::FrameTable;
+pub use histories::StackHistory;
 pub use listing::Visit;
+pub use spellings::SpellingCache;
 pub use tree::CallTree;
 
+#[cfg(test)]
+mod spelling_tests;
 #[cfg(test)]
 mod tests;

@@ -218,11 +218,11 @@ abbrev built_compare : Shape
 built_compare = slice_index_or built_line.subs 3 no_shape
 
 fold_known : KnowsArguments built_fold.rules
-fold_known = record { firsts = (refl, (refl, (refl, (refl, (refl, tt))))); width = tt; ring = refl; every = tt; lines = refl; boxes = tt }
+fold_known = record { firsts = (refl, (refl, (refl, (refl, (refl, (refl, tt)))))); width = tt; ring = refl; every = tt; lines = refl; boxes = tt }
 
 graph_known : KnowsArguments built_graph.rules
 graph_known = record {
-  firsts = (refl, (refl, (refl, (refl, (refl, (refl, (refl, tt)))))));
+  firsts = (refl, (refl, (refl, (refl, (refl, (refl, (refl, (refl, tt))))))));
   width = refl;
   ring = refl;
   every = refl;
@@ -232,7 +232,7 @@ graph_known = record {
 
 chart_known : KnowsArguments built_chart.rules
 chart_known = record {
-  firsts = (refl, (refl, (refl, (refl, (refl, (refl, tt))))));
+  firsts = (refl, (refl, (refl, (refl, (refl, (refl, (refl, tt)))))));
   width = refl;
   ring = refl;
   every = tt;
@@ -242,7 +242,7 @@ chart_known = record {
 
 compare_known : KnowsArguments built_compare.rules
 compare_known = record {
-  firsts = (refl, (refl, (refl, (refl, (refl, (refl, (refl, (refl, tt))))))));
+  firsts = (refl, (refl, (refl, (refl, (refl, (refl, (refl, (refl, (refl, tt)))))))));
   width = refl;
   ring = refl;
   every = tt;
@@ -299,7 +299,7 @@ module _ (words : List Text) (fault : fault_of command_line words ≡ []) where
   level : (walk_fault built_line.top (names_of built_line) (walk_from nothing_held) words ≡ []) × (entered_fault built_line stop ≡ [])
       × Each (IsRow built_line.top.rules) (rows_after built_line.top.rules (names_of built_line) words)
       × (check_fault built_line.top (rows_after built_line.top.rules (names_of built_line) words) (is_some (entered built_line stop)) ≡ [])
-  level = level_holds built_line.top (names_of built_line) (refl, tt) refl words (is_some (entered built_line stop)) (entered_fault built_line stop) fault
+  level = level_holds built_line.top (names_of built_line) (refl, (refl, tt)) refl words (is_some (entered built_line stop)) (entered_fault built_line stop) fault
 
   -- a command is entered
   pub enters : is_some (subcommand_of command_line words) ≡ true

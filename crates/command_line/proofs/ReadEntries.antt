@@ -1,6 +1,6 @@
 -- What the getters of matches read of the entries.
-use Rattle.std.proofs.Common.{◌≡◌, ◌∙◌, ◌<◌, ◌≤◌, ◌^◌, ◌⊎◌, inl, inr, ℕ, Bool, true, false, refl, sym, ap, arith, List, [], Option, Some, None, Result, option_map, codes}
-use Rattle.std.specs.Prelude.{unwrap_or, IfSome, SomeIff}
+use Rattle.std.proofs.Common.{◌≡◌, ◌∙◌, ◌<◌, ◌≤◌, ◌^◌, ◌⊎◌, inl, inr, ℕ, Bool, true, false, refl, sym, ap, arith, List, [], Option, Some, None, Result, option_map, codes, is_some}
+use Rattle.std.specs.Prelude.{option_and_then, unwrap_or, IfSome, SomeIff}
 use Rattle.std.specs.Option.{option_map_or}
 use Rattle.std.specs.Str.{bytes_eq}
 use Rattle.std.specs.Str.Parse.{ExplainsUnsignedError, HasUnsignedDigitsIfOk, IsNumeral, ParsesUnsigned, digits_value, without_leading_plus}
@@ -11,7 +11,8 @@ use Rattle.clap.specs.declared.parser.matches.ArgMatches.{ArgMatches}
 use Rattle.clap.proofs.WalkLemmas.{first_value-rows, one_text-rows, raw_values-rows}
 use Rattle.run_options.specs.declared.choices.Pick.TheVariants.{Preferred, Named}
 use Rattle.command_line.specs.checked.Entries.{IsFlagAt, IsNumberAt, entries_of}
-use Rattle.command_line.specs.Plans.{is_set, number_at, pick_of, values_at}
+use Rattle.run_options.specs.Formats.{named_format}
+use Rattle.command_line.specs.Plans.{asked_format, is_set, knows_format, number_at, pick_of, values_at}
 
 -- how `u32` reads a text
 abbrev pub ReadsU32 : Text → Result ℕ ParseIntError → Type 0
@@ -70,3 +71,12 @@ values_given m id vs is = ap (λ (o : Option (List Text)). unwrap_or o []) (sym 
 -- `get_str`
 pub pick_given : (m : ArgMatches) (name : Option Text) → name ≡ first_value (found_of m) (codes "type") → pick_of (entries_of m) ≡ option_map_or Named name Preferred
 pick_given m name is = ap (λ o. option_map_or Named o Preferred) (sym (first_value-rows (found_of m) (codes "type")) ∙ sym is)
+
+pub format_given : (m : ArgMatches) (name : Option Text) → name ≡ first_value (found_of m) (codes "format")
+    → (asked_format (entries_of m) ≡ option_and_then named_format name)
+    × (knows_format (entries_of m) ≡ option_map_or (λ n. is_some (named_format n)) name true)
+format_given m name is =
+    let read = sym (first_value-rows (found_of m) (codes "format")) ∙ sym is in (
+      ap (option_and_then named_format) read,
+      ap (λ o. option_map_or (λ n. is_some (named_format n)) o true) read,
+    )

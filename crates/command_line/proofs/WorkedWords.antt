@@ -1,15 +1,14 @@
 -- Worked command lines, computed on the definitions.
 use Rattle.std.proofs.Common.{◌≡◌, true, refl, List, [], ◌∷◌, Some, None, codes}
 use Rattle.clap.proofs.OnLiterals.{clap_on_literals}
-use Rattle.clap.specs.Faults.{fault_of, is_simple_and_free}
-use Rattle.clap.specs.Takes.{takes}
+use Rattle.clap.specs.Faults.{is_simple_and_free}
 use Rattle.clap.specs.Walk.{Text}
 use Rattle.clap.specs.declared.error.kind.ErrorKind.TheVariants as kind
 use Rattle.run_options.specs.declared.choices.Naming.TheVariants.{Plain, Lines}
 use Rattle.run_options.specs.declared.choices.Pick.TheVariants.{Preferred, Named}
 use Rattle.command_line.specs.CommandLine.{command_line}
 use Rattle.run_options.specs.Formats.{format_at}
-use Rattle.command_line.specs.Plans.{plan_of}
+use Rattle.command_line.specs.Plans.{fault_of, plan_of, takes}
 use Rattle.run_options.specs.declared.formats.Format.TheVariants.{Folded, Pprof}
 use Rattle.run_options.specs.declared.options.Options.{Options}
 use Rattle.command_line.specs.declared.plans.Plan.{Plan}
@@ -24,7 +23,7 @@ abbrev defaults : Options
 defaults = record { ring = 1024; pick = Preferred; naming = Plain; every = None }
 
 abbrev plan_with : View → Options → List Text → Plan
-plan_with view options files = record { view = view; options = options; files = files }
+plan_with view options files = record { view = view; options = options; format = None; files = files }
 
 graph_with_a_width : plan_of (codes "graph" ∷ codes "--width" ∷ codes "10" ∷ codes "x.folded" ∷ [])
     ≡ Some (plan_with (Graph 10) defaults (codes "x.folded" ∷ []))
@@ -57,6 +56,29 @@ files_of_odd_names : plan_of (codes "fold" ∷ codes "-" ∷ codes "help" ∷ co
     ≡ Some (plan_with Fold defaults (codes "-" ∷ codes "help" ∷ codes "--ring" ∷ []))
 unfolding clap_on_literals
 files_of_odd_names = refl
+
+-- a format is that of all sources, whatever their names
+profile_of_the_input : plan_of (codes "graph" ∷ codes "--format" ∷ codes "pprof" ∷ [])
+    ≡ Some (record (plan_with (Graph 1200) defaults []) { format = Some Pprof })
+unfolding clap_on_literals
+profile_of_the_input = refl
+
+folded_profiles : plan_of (codes "compare" ∷ codes "a.pb" ∷ codes "--format=folded" ∷ codes "b.pb" ∷ [])
+    ≡ Some (record (plan_with Pairs defaults (codes "a.pb" ∷ codes "b.pb" ∷ [])) { format = Some Folded })
+unfolding clap_on_literals
+folded_profiles = refl
+
+no_such_format : fault_of command_line (codes "fold" ∷ codes "--format" ∷ codes "svg" ∷ []) ≡ kind.InvalidValue ∷ []
+unfolding clap_on_literals
+no_such_format = refl
+
+no_plan_of_such_a_format : plan_of (codes "fold" ∷ codes "--format" ∷ codes "svg" ∷ []) ≡ None
+unfolding clap_on_literals
+no_plan_of_such_a_format = refl
+
+two_formats : fault_of command_line (codes "fold" ∷ codes "--format=folded" ∷ codes "--format=pprof" ∷ []) ≡ kind.ArgumentConflict ∷ []
+unfolding clap_on_literals
+two_formats = refl
 
 taken : takes command_line (codes "graph" ∷ codes "--width" ∷ codes "65536" ∷ codes "--every" ∷ codes "1000000000" ∷ []) ≡ true
 unfolding clap_on_literals
@@ -97,6 +119,14 @@ fold_help = refl
 help_alone : fault_of command_line (codes "--help" ∷ []) ≡ kind.DisplayHelp ∷ []
 unfolding clap_on_literals
 help_alone = refl
+
+version_alone : fault_of command_line (codes "--version" ∷ []) ≡ kind.DisplayVersion ∷ []
+unfolding clap_on_literals
+version_alone = refl
+
+no_version_of_fold : fault_of command_line (codes "fold" ∷ codes "--version" ∷ []) ≡ kind.UnknownArgument ∷ []
+unfolding clap_on_literals
+no_version_of_fold = refl
 
 cpu_prof : format_at (codes "cpu.prof") ≡ Pprof
 cpu_prof = refl

@@ -32,6 +32,9 @@ width_option = number_option (codes "width") MAX_WIDTH
 abbrev pub type_option : Rule
 type_option = text_option (codes "type")
 
+abbrev pub format_option : Rule
+format_option = text_option (codes "format")
+
 abbrev pub ring_option : Rule
 ring_option = number_option (codes "ring") LARGEST_RING
 
@@ -50,26 +53,27 @@ command name arguments = record (new_shape name) { rules = arguments }
 
 abbrev pub fold_command : Shape
 fold_command = command (codes "fold")
-    (type_option ∷ ring_option ∷ lines_flag ∷ any_files (codes "file") ∷ [])
+    (type_option ∷ format_option ∷ ring_option ∷ lines_flag ∷ any_files (codes "file") ∷ [])
 
 abbrev pub graph_command : Shape
-graph_command = command (codes "graph") (width_option ∷ type_option ∷ ring_option ∷ every_option
-    ∷ lines_flag ∷ any_files (codes "file") ∷ [])
+graph_command = command (codes "graph") (width_option ∷ type_option ∷ format_option ∷ ring_option
+    ∷ every_option ∷ lines_flag ∷ any_files (codes "file") ∷ [])
 
 abbrev pub chart_command : Shape
-chart_command = command (codes "chart")
-    (width_option ∷ type_option ∷ ring_option ∷ lines_flag ∷ any_files (codes "file") ∷ [])
+chart_command = command (codes "chart") (width_option ∷ type_option ∷ format_option ∷ ring_option
+    ∷ lines_flag ∷ any_files (codes "file") ∷ [])
 
 abbrev pub compare_command : Shape
-compare_command = command (codes "compare") (width_option ∷ type_option ∷ ring_option ∷ boxes_flag
-    ∷ lines_flag ∷ one_file (codes "before") ∷ one_file (codes "after") ∷ [])
+compare_command = command (codes "compare") (width_option ∷ type_option ∷ format_option ∷ ring_option
+    ∷ boxes_flag ∷ lines_flag ∷ one_file (codes "before") ∷ one_file (codes "after") ∷ [])
 
--- the words begin after the program's name, and one of the commands is required
+-- the words begin after the program's name, one of the commands is required, and the version can be asked for before it
 abbrev pub command_line : App
 command_line = record {
   top = record (new_shape (codes "flamecollect")) {
     is_leaf = false;
     no_binary_name = true;
+    has_version = true;
     subcommand_required = true;
   };
   subs = fold_command ∷ graph_command ∷ chart_command ∷ compare_command ∷ [];

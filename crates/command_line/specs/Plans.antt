@@ -1,18 +1,22 @@
 -- The plan that words stand for, by the entries that `clap` makes of them.
-use Rattle.std.specs.Prelude.{◌≢◌, ℕ, Bool, false, List, [], ◌++◌, Option, Some, None}
+use Rattle.std.specs.Prelude.{◌≡◌, ◌⊎◌, ◌&&◌, ℕ, Bool, true, false, List, [], ◌∷◌, ◌++◌, Option, Some, None, is_some}
 use Rattle.std.specs.Prelude.{codes, if◌then◌else◌, option_and_then, option_map, string_bytes, unwrap_or}
 use Rattle.std.specs.Option.{option_map_or}
 use Rattle.std.specs.Str.{bytes_eq}
 use Rattle.std.specs.Str.Parse.{digits_value, without_leading_plus}
-use Rattle.clap.specs.Kinds.{IsAmong, Kinds}
-use Rattle.clap.specs.Simple.{subcommand_of}
+use Rattle.clap.specs.Faults.{fault_of as parsing_fault}
+use Rattle.clap.specs.Kinds.{IsAmong, Kinds, or_else}
+use Rattle.clap.specs.Simple.{App, subcommand_of}
+use Rattle.clap.specs.Takes.{takes as parses}
 use Rattle.clap.specs.Walk.{Row, Text, all_of, first_of, one_of}
 use Rattle.clap.specs.declared.error.kind.ErrorKind.{ErrorKind}
 use Rattle.clap.specs.declared.error.kind.ErrorKind.TheVariants as kind
+use Rattle.run_options.specs.Formats.{named_format}
 use Rattle.run_options.specs.declared.choices.Naming.{Naming}
 use Rattle.run_options.specs.declared.choices.Naming.TheVariants.{Plain, Lines}
 use Rattle.run_options.specs.declared.choices.Pick.{Pick}
 use Rattle.run_options.specs.declared.choices.Pick.TheVariants.{Preferred, Named}
+use Rattle.run_options.specs.declared.formats.Format.{Format}
 use Rattle.command_line.specs.CommandLine.{command_line}
 use Rattle.run_options.specs.declared.options.Options.{Options}
 use Rattle.command_line.specs.declared.plans.Plan.{Plan}
@@ -44,6 +48,14 @@ pick_of entries = option_map_or Named (first_of (codes "type") entries) Preferre
 abbrev pub naming_of : List Row → Naming
 naming_of entries = if is_set (codes "lines") entries then Lines else Plain
 
+-- the format of all sources, if the words set one; and what they set is a format
+abbrev pub asked_format : List Row → Option Format
+asked_format entries = option_and_then named_format (first_of (codes "format") entries)
+
+abbrev pub knows_format : List Row → Bool
+knows_format entries =
+    option_map_or (λ name. is_some (named_format name)) (first_of (codes "format") entries) true
+
 abbrev pub options_of : List Row → Options
 options_of entries = record {
   ring = unwrap_or (number_at (codes "ring") entries) 1024;
@@ -71,13 +83,19 @@ abbrev pub files_of : List Row → List Text
 files_of entries = values_at (codes "file") entries
     ++ (values_at (codes "before") entries ++ values_at (codes "after") entries)
 
--- the plan of a command with its entries
-abbrev pub command_plan : Text → List Row → Option Plan
-command_plan name entries = option_map (λ view. record {
+-- the plan of a view
+abbrev pub plan_with : List Row → View → Plan
+plan_with entries view = record {
   view = view;
   options = options_of entries;
+  format = asked_format entries;
   files = files_of entries;
-}) (view_of name entries)
+}
+
+-- the plan of a command with its entries, if they set no format that there is not
+abbrev pub command_plan : Text → List Row → Option Plan
+command_plan name entries =
+    if knows_format entries then option_map (plan_with entries) (view_of name entries) else None
 
 -- the plan of the command that was entered
 abbrev pub entered_plan : Option (Text × List Row) → Option Plan
@@ -89,7 +107,7 @@ plan_of words = entered_plan (subcommand_of command_line words)
 
 -- the plan without words: the input is folded, and each option has its default
 abbrev pub default_plan : Plan
-default_plan = record { view = Fold; options = options_of []; files = [] }
+default_plan = plan_with [] Fold
 
 -- two files are compared
 abbrev pub IsComparison : View → Type 0
@@ -101,14 +119,33 @@ IsComparison (Chart width) = ⊥
 
 -- ---- refusals
 
+-- the fault of a command with its entries: a format that there is not
+abbrev pub format_fault : Option (Text × List Row) → Kinds
+format_fault entered = option_map_or (λ entered. if knows_format entered.1 then []
+    else kind.InvalidValue ∷ []) entered []
+
+-- the words are taken: `clap` takes them, and a format that they set is one
+abbrev pub takes : App → List Text → Bool
+takes line words = parses line words
+    && option_map_or (λ entered. knows_format entered.1) (subcommand_of line words) true
+
+-- the faults of words: those that `clap` finds, else that of their format
+abbrev pub fault_of : App → List Text → Kinds
+fault_of line words = or_else (parsing_fault line words) (format_fault (subcommand_of line words))
+
 -- the text that a fault is shown as
 abbrev pub fault_text : PlanFault → List ℕ
 fault_text (fault.Words text) = string_bytes text
 fault_text (fault.Help text) = string_bytes text
 fault_text fault.OutOfMemory = codes "out of memory"
 
--- the fault is one of the kinds: help where it was asked for, and refused words by another kind
+-- help or the version is asked for
+abbrev pub IsRequest : ErrorKind → Type 0
+IsRequest k = (k ≡ kind.DisplayHelp) ⊎ (k ≡ kind.DisplayVersion)
+
+-- the fault is one of the kinds: the text that was asked for, and refused words by another kind
 abbrev pub IsFaultAmong : Kinds → PlanFault → Type 0
-IsFaultAmong kinds (fault.Words text) = (k : ErrorKind) × IsAmong k kinds × (k ≢ kind.DisplayHelp)
-IsFaultAmong kinds (fault.Help text) = IsAmong kind.DisplayHelp kinds
+IsFaultAmong kinds (fault.Words text) =
+    (k : ErrorKind) × IsAmong k kinds × (IsRequest k → ⊥)
+IsFaultAmong kinds (fault.Help text) = (k : ErrorKind) × IsAmong k kinds × IsRequest k
 IsFaultAmong kinds fault.OutOfMemory = Unit {0}

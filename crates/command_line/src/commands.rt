@@ -2,7 +2,7 @@
 ghost use Rattle.std.specs.Prelude.{◌≡◌, IfOk, codes};
 ghost use Rattle.clap.specs.Words.{app_of, rule_of};
 ghost use Rattle.command_line.specs.CommandLine.{chart_command, command_line, compare_command, fold_command, graph_command};
-ghost use Rattle.command_line.specs.CommandLine.{any_files, boxes_flag, every_option, lines_flag, one_file, ring_option, type_option, width_option};
+ghost use Rattle.command_line.specs.CommandLine.{any_files, boxes_flag, every_option, format_option, lines_flag, one_file, ring_option, type_option, width_option};
 ghost use Rattle.command_line.specs.checked.Apps.{as_app};
 
 use clap::{Arg, ArgAction, Command, value_parser};
@@ -12,13 +12,35 @@ use std::alloc::{AllocError, Global};
 // The most samples from one snapshot to the next.
 const MOST_BETWEEN_SNAPSHOTS: u32 = 1_000_000_000;
 
+// The day of the newest entry in CHANGELOG.md.
+const VERSION: &str = "2026-11-23";
+
+const NOTES: &str = "\
+Formats:
+  A FILE named .pb, .pprof or .prof is a pprof profile, every other FILE is folded lines such as
+  `main;parse 12`, and so is standard input. --format sets the format of all of them.
+  Profiles are read uncompressed: gzip -dc cpu.pb.gz | flamecollect fold --format pprof
+
+Without a command, folds the standard input.";
+
+const FOLD_EXAMPLE: &str = "Example: flamecollect fold --type samples cpu.pprof > cpu.folded";
+
+const GRAPH_EXAMPLE: &str =
+    "Example: flamecollect graph --width 1600 worker1.pb worker2.pb > graph.json";
+
+const CHART_EXAMPLE: &str = "Example: flamecollect chart trace.folded > chart.json";
+
+const COMPARE_EXAMPLE: &str =
+    "Example: flamecollect compare --boxes before.pb after.pb > difference.json";
+
 // The whole command line. Its words begin after the program's name.
 pub(crate) fn command_line<'a>(alloc: Global) -> Result<Command<'a>, AllocError>
     ensures { IfOk result (λ line. app_of line ≡ command_line) }
 {
     Command::new(alloc, "flamecollect")
         .about("Flame graphs and flame charts of recorded stack samples")
-        .after_help("Without a command, folds the standard input.")
+        .version(VERSION)
+        .after_help(NOTES)
         .bin_name("flamecollect")?
         .no_binary_name(true)
         .subcommand_required(true)
@@ -33,7 +55,9 @@ fn fold_command<'a>(alloc: Global) -> Result<Command<'a>, AllocError>
 {
     Command::new(alloc, "fold")
         .about("Write each stack once with the sum of its weights, as folded lines")
+        .after_help(FOLD_EXAMPLE)
         .arg(type_option(alloc))?
+        .arg(format_option(alloc))?
         .arg(ring_option(alloc))?
         .arg(lines_flag(alloc))?
         .arg(files(alloc))
@@ -44,8 +68,10 @@ fn graph_command<'a>(alloc: Global) -> Result<Command<'a>, AllocError>
 {
     Command::new(alloc, "graph")
         .about("Write the flame graph as a line of JSON")
+        .after_help(GRAPH_EXAMPLE)
         .arg(width_option(alloc))?
         .arg(type_option(alloc))?
+        .arg(format_option(alloc))?
         .arg(ring_option(alloc))?
         .arg(every_option(alloc))?
         .arg(lines_flag(alloc))?
@@ -57,8 +83,10 @@ fn chart_command<'a>(alloc: Global) -> Result<Command<'a>, AllocError>
 {
     Command::new(alloc, "chart")
         .about("Write the flame chart as a line of JSON")
+        .after_help(CHART_EXAMPLE)
         .arg(width_option(alloc))?
         .arg(type_option(alloc))?
+        .arg(format_option(alloc))?
         .arg(ring_option(alloc))?
         .arg(lines_flag(alloc))?
         .arg(files(alloc))
@@ -69,8 +97,10 @@ fn compare_command<'a>(alloc: Global) -> Result<Command<'a>, AllocError>
 {
     Command::new(alloc, "compare")
         .about("Write each stack of two profiles with its weight in both")
+        .after_help(COMPARE_EXAMPLE)
         .arg(width_option(alloc))?
         .arg(type_option(alloc))?
+        .arg(format_option(alloc))?
         .arg(ring_option(alloc))?
         .arg(boxes_flag(alloc))?
         .arg(lines_flag(alloc))?
@@ -96,6 +126,15 @@ fn type_option<'a>(alloc: Global) -> Arg<'a>
     )
 }
 
+fn format_option<'a>(alloc: Global) -> Arg<'a>
+    ensures { rule_of result ≡ format_option }
+{
+    Arg::new(alloc, "format")
+        .long("format")
+        .value_name("FORMAT")
+        .help("Format of every source, folded or pprof [default: by the name]")
+}
+
 fn ring_option<'a>(alloc: Global) -> Arg<'a>
     ensures { rule_of result ≡ ring_option }
 {
@@ -103,6 +142,7 @@ fn ring_option<'a>(alloc: Global) -> Arg<'a>
         .long("ring")
         .value_name("N")
         .value_parser(value_parser!(u32).range(1..=i64::from(LARGEST_RING)))
+        .help_heading("Rarely needed")
         .help("Size of the ring of each source, 1 to 65536 [default: 1024]")
 }
 

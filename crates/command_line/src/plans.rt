@@ -2,7 +2,7 @@
 ghost use Rattle.std.specs.Prelude.{◌≡◌};
 ghost use Rattle.command_line.specs.declared.plans.PlanFault.TheVariants.{OutOfMemory};
 
-use run_options::{Options, Width};
+use run_options::{Format, Options, Width};
 use stack_core::Names;
 use std::alloc::AllocError;
 use std::error::Error;
@@ -28,6 +28,8 @@ pub enum View {
 pub struct Plan {
     pub view: View,
     pub options: Options,
+    /// The format of every source. None leaves it to the name of each.
+    pub format: Option<Format>,
     /// The paths of the sources, in order. None is the standard input.
     pub files: Names,
 }
@@ -39,7 +41,7 @@ pub enum PlanFault {
     Words(String),
     /// There was no memory.
     OutOfMemory,
-    /// Help was asked for: the text for standard output.
+    /// Help or the version was asked for: the text for standard output.
     Help(String),
 }
 

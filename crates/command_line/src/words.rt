@@ -1,9 +1,10 @@
 //! From words to a plan.
-ghost use Rattle.std.specs.Prelude.{◌≡◌, ◌≤◌, ◌++◌, [], None, IfErr, IfOk, IfSome, IsSomeAnd, OnOk, codes, length, map, string_bytes, true};
+ghost use Rattle.std.specs.Prelude.{◌≡◌, ◌≤◌, ◌⊎◌, ◌++◌, [], None, IfErr, IfOk, IfSome, IsSomeAnd, OnOk, codes, false, length, map, string_bytes, true};
 ghost use Rattle.clap.specs.Walk.{texts};
-ghost use Rattle.clap.specs.Words.{fault_of, kind_of, subcommand_rows_of, takes};
+ghost use Rattle.clap.specs.Words.{kind_of, subcommand_rows_of};
+ghost use Rattle.clap.specs.declared.error.kind.ErrorKind.TheVariants.{InvalidValue};
 ghost use Rattle.command_line.specs.CommandLine.{command_line};
-ghost use Rattle.command_line.specs.Plans.{IsComparison, IsFaultAmong, compared_view, default_plan, entered_plan, files_of, naming_of, number_at, options_of, pick_of, plan_of, values_at, view_of, width_of};
+ghost use Rattle.command_line.specs.Plans.{IsComparison, IsFaultAmong, asked_format, compared_view, default_plan, entered_plan, fault_of, files_of, format_fault, knows_format, naming_of, number_at, options_of, pick_of, plan_of, takes, values_at, view_of, width_of};
 ghost use Rattle.command_line.specs.checked.Entries.{IsFaultOf, IsFlagAt, IsNumberAt, IsRead, entries_of};
 ghost use Rattle.command_line.specs.declared.commands.TheConstants.{MOST_BETWEEN_SNAPSHOTS};
 ghost use Rattle.command_line.specs.declared.plans.PlanFault.TheVariants.{OutOfMemory};
@@ -14,7 +15,7 @@ use crate::commands::command_line;
 use crate::plans::{Plan, PlanFault, View};
 use clap::error::ErrorKind;
 use clap::{ArgMatches, Error};
-use run_options::{Naming, Options, Pick, RingSize, Width};
+use run_options::{Format, Naming, Options, Pick, RingSize, Width};
 use stack_core::{Names, Text};
 use std::alloc::{AllocError, Global};
 
@@ -23,6 +24,10 @@ const DEFAULT_WIDTH: u32 = 1_200;
 
 // The size of a ring unless the words set it.
 const DEFAULT_RING: u32 = 1_024;
+
+// What is said of a format that there is not.
+const UNKNOWN_FORMAT: &str =
+    "invalid value for '--format <FORMAT>'\n  [possible values: folded, pprof]";
 
 /// The plan of the words after the program's name. A refusal has the text that `clap` writes; no
 /// words at all are refused too.
@@ -44,7 +49,7 @@ pub fn plan(alloc: Global, words: &[String]) -> Result<Plan, PlanFault>
 {
     let line = command_line(alloc)?;
     match line.try_get_matches_from(words) {
-        Ok(matches) => Ok(planned(alloc, &matches)?),
+        Ok(matches) => planned(alloc, &matches),
         Err(error) => Err(refusal(alloc, &error)),
     }
 }
@@ -64,6 +69,7 @@ pub fn plan_without_words(alloc: Global) -> Plan
             naming: Naming::Plain,
             every: None,
         },
+        format: None,
         files: Names::of(Vec::new(alloc)),
     }
 }
@@ -76,18 +82,22 @@ fn refusal(alloc: Global, error: &Error) -> PlanFault
     if kind == ErrorKind::OutOfMemory {
         return PlanFault::OutOfMemory;
     }
+    let is_asked_for = kind == ErrorKind::DisplayHelp || kind == ErrorKind::DisplayVersion;
     match error.to_string(alloc) {
-        Ok(text) if kind == ErrorKind::DisplayHelp => PlanFault::Help(text),
+        Ok(text) if is_asked_for => PlanFault::Help(text),
         Ok(text) => PlanFault::Words(text),
         Err(_) => PlanFault::OutOfMemory,
     }
 }
 
 // The plan of the command that was entered.
-fn planned(alloc: Global, matches: &ArgMatches<'_>) -> Result<Plan, AllocError>
+fn planned(alloc: Global, matches: &ArgMatches<'_>) -> Result<Plan, PlanFault>
     requires { IsSomeAnd (subcommand_rows_of matches.now) (λ entered.
         IsRead entered.0 entered.1) }
-    ensures { IfOk result (λ plan. entered_plan (subcommand_rows_of matches.now) ≡ Some plan) }
+    ensures plan { IfOk result (λ plan. entered_plan (subcommand_rows_of matches.now) ≡ Some plan) }
+    ensures refused { IfErr result (IsFaultAmong (format_fault (subcommand_rows_of matches.now))) }
+    ensures passes { format_fault (subcommand_rows_of matches.now) ≡ []
+        → IfErr result (λ fault. fault ≡ OutOfMemory) }
 {
     let Some((name, entries)) = matches.subcommand() else {
         unreachable!()
@@ -95,6 +105,7 @@ fn planned(alloc: Global, matches: &ArgMatches<'_>) -> Result<Plan, AllocError>
     Ok(Plan {
         view: view(name, entries),
         options: options(alloc, entries)?,
+        format: format(alloc, entries)?,
         files: files(alloc, entries)?,
     })
 }
@@ -179,6 +190,38 @@ fn every(entries: &ArgMatches<'_>) -> Option<u64>
     ensures { result ≡ number_at (codes "every") (entries_of entries.now) }
 {
     entries.get_one::<u32>("every").map(u64::from)
+}
+
+// The format that the words set, which has to be one that there is.
+fn format(alloc: Global, entries: &ArgMatches<'_>) -> Result<Option<Format>, PlanFault>
+    ensures format { IfOk result (λ format. format ≡ asked_format (entries_of entries.now)) }
+    ensures known { OnOk result (knows_format (entries_of entries.now) ≡ true) }
+    ensures unknown { IfErr result (λ fault. fault ≡ OutOfMemory
+        ⊎ ((knows_format (entries_of entries.now) ≡ false) × IsFaultOf InvalidValue fault)) }
+{
+    match entries.get_str("format") {
+        Some(name) => match Format::named(name) {
+            Some(format) => Ok(Some(format)),
+            None => Err(unknown_format(alloc)),
+        },
+        None => Ok(None),
+    }
+}
+
+fn unknown_format(alloc: Global) -> PlanFault
+    ensures { IsFaultOf InvalidValue result }
+{
+    match format_error(alloc) {
+        Ok(error) => refusal(alloc, &error),
+        Err(_) => PlanFault::OutOfMemory,
+    }
+}
+
+fn format_error(alloc: Global) -> Result<Error, AllocError>
+    ensures { IfOk result (λ error. kind_of error ≡ InvalidValue) }
+{
+    let mut line = command_line(alloc)?;
+    line.error(ErrorKind::InvalidValue, UNKNOWN_FORMAT)
 }
 
 // A command has either FILEs or BEFORE and AFTER.

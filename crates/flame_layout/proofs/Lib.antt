@@ -7,9 +7,15 @@ pub mod Geometry
 pub mod GraphBoxes
 pub mod Held
 pub mod InStep
+pub mod JoinedRows
+pub mod JoinedStacks
+pub mod KeptStacks
 pub mod LawProofs
+pub mod MergedRows
+pub mod MergedSums
 pub mod Order
 pub mod PathWords
+pub mod RankedNames
 pub mod Rising
 pub mod Rows
 pub mod Runs

@@ -3,6 +3,7 @@ pub mod Comparison
 pub mod Edges
 pub mod Graph
 pub mod Laws
+pub mod Merged
 pub mod Paths
 pub mod Runs
 pub mod Timeline

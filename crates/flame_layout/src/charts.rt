@@ -8,30 +8,31 @@ ghost use Rattle.flame_layout.specs.Chart.{chart_of};
 ghost use Rattle.flame_layout.specs.checked.Walk.{IsFront, IsWalk};
 
 use crate::boxes::SpanBox;
+use crate::stack_rows::StackRows;
 use crate::walks::{Walk, close, open_runs, shared_runs};
 use stack_core::SourceList;
 use std::alloc::{AllocError, Global};
 
 /// Takes a sample with a weight in front of what was walked, which begins at `start`, and there
 /// with the sample `later` of the list, if it is one of this list.
-fn enter<'a>(
+fn enter<'a, S: StackRows>(
     alloc: Global,
     walk: &mut Walk<'a>,
     start: u64,
-    list: &'a SourceList,
+    list: &'a S,
     at: usize,
     later: Option<usize>,
 ) -> Result<(), AllocError>
-    requires at { at < length list.now.samples }
-    requires room { (sample_at list.now.samples at).weight ≤ start }
+    requires at { at < length (S.samples list.now) }
+    requires room { (sample_at (S.samples list.now) at).weight ≤ start }
     requires walked { (samples : List WalkedSample)
         × IsWalk start walk.old.runs.items walk.old.boxes.items samples }
-    requires later { IfSome later (IsFront list.now.samples walk.old.runs.items) }
-    ensures front { OnOk result (IsFront list.now.samples walk.new.runs.items at) }
+    requires later { IfSome later (IsFront (S.samples list.now) walk.old.runs.items) }
+    ensures front { OnOk result (IsFront (S.samples list.now) walk.new.runs.items at) }
     ensures walked { OnOk result ((before : ℕ) (samples : List WalkedSample)
-        → before + (sample_at list.now.samples at).weight ≡ start
+        → before + (sample_at (S.samples list.now) at).weight ≡ start
         → IsWalk start walk.old.runs.items walk.old.boxes.items samples
-        → IsWalk before walk.new.runs.items walk.new.boxes.items (sample_at list.now.samples at ∷ samples)) }
+        → IsWalk before walk.new.runs.items walk.new.boxes.items (sample_at (S.samples list.now) at ∷ samples)) }
 {
     let keep = shared_runs(list, at, later, &walk.runs);
     close(alloc, &mut walk.runs, &mut walk.boxes, start, keep)?;
@@ -43,19 +44,19 @@ fn enter<'a>(
 }
 
 /// Takes the samples of a list in front of what was walked, the last first. Gives where they begin.
-fn enter_list<'a>(
+pub(crate) fn enter_list<'a, S: StackRows>(
     alloc: Global,
     walk: &mut Walk<'a>,
     end: u64,
-    list: &'a SourceList,
+    list: &'a S,
 ) -> Result<u64, AllocError>
-    requires room { total_weight list.now.samples ≤ end }
+    requires room { total_weight (S.samples list.now) ≤ end }
     requires walked { (samples : List WalkedSample)
         × IsWalk end walk.old.runs.items walk.old.boxes.items samples }
-    ensures start { IfOk result (λ start. start + total_weight list.now.samples ≡ end) }
+    ensures start { IfOk result (λ start. start + total_weight (S.samples list.now) ≡ end) }
     ensures walked { IfOk result (λ start. (samples : List WalkedSample)
         → IsWalk end walk.old.runs.items walk.old.boxes.items samples
-        → IsWalk start walk.new.runs.items walk.new.boxes.items (drawn list.now.samples ++ samples)) }
+        → IsWalk start walk.new.runs.items walk.new.boxes.items (drawn (S.samples list.now) ++ samples)) }
 {
     let mut start = end;
     let mut later = None;
@@ -87,21 +88,30 @@ pub fn chart_boxes(alloc: Global, lists: &[SourceList]) -> Result<Vec<SpanBox>, 
         runs: Vec::new(alloc),
         boxes: Vec::new(alloc),
     };
-    let mut start = total(lists);
+    let mut start = total_weight(lists);
     for index in (0..lists.len()).rev() {
         start = enter_list(alloc, &mut walk, start, &lists[index])?;
     }
+    end(alloc, walk)
+}
+
+/// The boxes of what was walked, once it begins at 0.
+pub(crate) fn end(alloc: Global, walk: Walk<'_>) -> Result<Vec<SpanBox>, AllocError>
+    requires { (samples : List WalkedSample) × IsWalk 0 walk.runs.items walk.boxes.items samples }
+    ensures { IfOk result (λ boxes. (samples : List WalkedSample)
+        → IsWalk 0 walk.entry.runs.items walk.entry.boxes.items samples → boxes.items ≡ chart_of samples) }
+{
     let Walk {
         mut runs,
         mut boxes,
     } = walk;
-    close(alloc, &mut runs, &mut boxes, start, 0)?;
+    close(alloc, &mut runs, &mut boxes, 0, 0)?;
     boxes.reverse();
     Ok(boxes)
 }
 
-/// The sum of all weights.
-fn total(lists: &[SourceList]) -> u64
+/// The sum of all weights of the lists.
+pub fn total_weight(lists: &[SourceList]) -> u64
     requires { total_weight (timeline (samples_of lists.now)) < 2 ^ 64 }
     ensures { result ≡ total_weight (timeline (samples_of lists.now)) }
 {

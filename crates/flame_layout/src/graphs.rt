@@ -4,11 +4,15 @@ ghost use Rattle.std.specs.Prelude.{◌≡◌, ◌<◌, ◌≤◌, ◌+◌, ◌^
 ghost use Rattle.stack_core.specs.declared.samples.Sample.{Sample};
 ghost use Rattle.call_tree.specs.CallTree.{total_weight};
 ghost use Rattle.call_tree.specs.Listing.{HasNumbersOf};
+ghost use Rattle.flame_layout.specs.Timeline.{total_weight as total_of_samples};
 ghost use Rattle.flame_layout.specs.Graph.{graph_of};
 ghost use Rattle.flame_layout.specs.checked.Listed.{listed_box, listed_boxes};
 ghost use Rattle.flame_layout.specs.Paths.{SameOwn, tree_samples};
 
 use crate::boxes::SpanBox;
+use crate::charts::{end, enter_list};
+use crate::merged::MergedStacks;
+use crate::walks::Walk;
 use call_tree::{CallTree, FrameTable, Visit};
 use stack_core::Text;
 use std::alloc::{AllocError, Global};
@@ -32,6 +36,26 @@ pub fn graph_boxes(
 {
     let visits = tree.listing(table)?;
     visit_boxes(alloc, table, &visits)
+}
+
+/// The boxes of the flame graph of merged stacks, listed by start, then depth. They are those of every list of
+/// samples whose weights, summed up by stack, are the merged ones.
+pub fn merged_boxes(alloc: Global, merged: &MergedStacks) -> Result<Vec<SpanBox>, AllocError>
+    ensures graph { IfOk result (λ boxes. (samples : List Sample)
+        → SameOwn samples merged.now → boxes.items ≡ graph_of samples) }
+    ensures within { IfOk result (λ boxes.
+        All (λ span. span.start + span.weight ≤ total_of_samples merged.now) boxes.items) }
+    ensures positive { IfOk result (λ boxes. 0 < length boxes.items
+        → 0 < total_of_samples merged.now) }
+{
+    // The stacks are in order and weigh: the count tells it.
+    let _count = merged.len();
+    let mut walk = Walk {
+        runs: Vec::new(alloc),
+        boxes: Vec::new(alloc),
+    };
+    enter_list(alloc, &mut walk, merged.total(), merged)?;
+    end(alloc, walk)
 }
 
 /// The boxes of the visits of a listing.

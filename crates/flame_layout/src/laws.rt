@@ -8,6 +8,7 @@ ghost use Rattle.flame_layout.specs.declared.boxes.SpanBox.{SpanBox};
 ghost use Rattle.flame_layout.specs.Timeline.{drawn, total_weight};
 ghost use Rattle.flame_layout.specs.Chart.{chart_of};
 ghost use Rattle.flame_layout.specs.Graph.{graph_of, sorted_by_stack};
+ghost use Rattle.flame_layout.specs.Merged.{merged_samples};
 ghost use Rattle.flame_layout.specs.Edges.{left_edge, right_edge};
 ghost use Rattle.flame_layout.specs.Paths.{SameOwn, paths_of, total_at};
 ghost use Rattle.flame_layout.specs.Comparison.{comparison_of, row_of, compared_boxes_of};
@@ -43,6 +44,11 @@ pub fn boxes_are_listed()
 /// A graph is given by the own sums of its samples' stacks.
 pub fn graphs_are_their_sums()
     ensures { (one other : List Sample) → SameOwn one other → graph_of one ≡ graph_of other }
+{}
+
+/// Merging keeps the own sum of each stack.
+pub fn merging_keeps_sums()
+    ensures { (samples : List Sample) → SameOwn samples (merged_samples samples) }
 {}
 
 /// The same samples in another order give the same graph.

@@ -1,5 +1,7 @@
 //! Worked examples.
 
+mod merged;
+
 use crate::comparisons::add_list;
 use crate::{
     ComparedBox, PairRow, PlacedBox, SpanBox, Width, chart_boxes, compare, compared_boxes, edges,
@@ -294,6 +296,7 @@ fn laws_take_nothing() {
     crate::laws::boxes_have_paths();
     crate::laws::boxes_are_listed();
     crate::laws::graphs_are_their_sums();
+    crate::laws::merging_keeps_sums();
     crate::laws::graphs_see_no_order();
     crate::laws::graphs_have_one_box_a_path();
     crate::laws::boxes_lie_inside();

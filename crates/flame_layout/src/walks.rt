@@ -1,13 +1,14 @@
 //! The walk over the samples from the last to the first, with the runs that go on at the front.
 
-ghost use Rattle.std.specs.Prelude.{◌≡◌, ℕ, ◌+◌, ◌-◌, ◌<◌, ◌≤◌, ◌++◌, ◌^◌, ◌∷◌, [], OnOk, IfOk, IfSome, IsTrue, ◌↔◌, All, map, length, reverse, take, drop};
+ghost use Rattle.std.specs.Prelude.{◌≡◌, ℕ, ◌+◌, ◌-◌, ◌<◌, ◌≤◌, ◌++◌, ◌^◌, ◌∷◌, [], OnOk, IfOk, IfSome, All, map, length, reverse, take, drop};
 ghost use Rattle.std.specs.List.{range_with_len};
-ghost use Rattle.stack_core.specs.Ledgers.{sample_at, name_at as told_name};
+ghost use Rattle.stack_core.specs.Ledgers.{sample_at};
 ghost use Rattle.flame_layout.specs.Chart.{box_name, names_shared};
 ghost use Rattle.flame_layout.specs.checked.Walk.{IsFront, shared_runs_of, names_of, seen, box_of_run, boxes_of_runs, new_run};
 
 use crate::boxes::SpanBox;
-use stack_core::{FRAME_LIMIT, SourceList, Text};
+use crate::stack_rows::StackRows;
+use stack_core::{FRAME_LIMIT, Text};
 use std::alloc::{AllocError, Global};
 
 /// A run that goes on at the front of what was walked.
@@ -30,11 +31,11 @@ pub(crate) struct Walk<'a> {
 }
 
 /// With how many names the sample's stack and that of the runs begin alike.
-fn shared(list: &SourceList, at: usize, runs: &[OpenRun<'_>]) -> usize
-    requires { at < length list.now.samples }
-    ensures is { result ≡ names_shared (sample_at list.now.samples at).stack (names_of runs.now) }
+fn shared<S: StackRows>(list: &S, at: usize, runs: &[OpenRun<'_>]) -> usize
+    requires { at < length (S.samples list.now) }
+    ensures is { result ≡ names_shared (sample_at (S.samples list.now) at).stack (names_of runs.now) }
     ensures there { result ≤ length runs.now - 1 }
-    ensures deep { result ≤ length (sample_at list.now.samples at).stack }
+    ensures deep { result ≤ length (sample_at (S.samples list.now) at).stack }
 {
     let most = list.depth(at).min(runs.len().saturating_sub(1));
     for frame in 0..most {
@@ -46,54 +47,38 @@ fn shared(list: &SourceList, at: usize, runs: &[OpenRun<'_>]) -> usize
 }
 
 /// With how many names the stacks of two samples of a list begin alike.
-fn shared_in_list(list: &SourceList, at: usize, later: usize) -> usize
-    requires at { at < length list.now.samples }
-    requires later { later < length list.now.samples }
-    ensures is { result ≡ names_shared (sample_at list.now.samples at).stack
-        (sample_at list.now.samples later).stack }
-    ensures deep { result ≤ length (sample_at list.now.samples at).stack }
-    ensures wide { result ≤ length (sample_at list.now.samples later).stack }
+fn shared_in_list<S: StackRows>(list: &S, at: usize, later: usize) -> usize
+    requires at { at < length (S.samples list.now) }
+    requires later { later < length (S.samples list.now) }
+    ensures is { result ≡ names_shared (sample_at (S.samples list.now) at).stack
+        (sample_at (S.samples list.now) later).stack }
+    ensures deep { result ≤ length (sample_at (S.samples list.now) at).stack }
+    ensures wide { result ≤ length (sample_at (S.samples list.now) later).stack }
     ensures small { result ≤ FRAME_LIMIT }
 {
     let most = list.depth(at).min(list.depth(later));
     for frame in 0..most {
-        if !is_same_name(list, at, later, frame) {
+        if !list.is_same_name(at, later, frame) {
             return frame;
         }
     }
     most
 }
 
-/// Whether a frame has the same name in two samples of a list. Equal numbers stand for equal names,
-/// so the names are compared only where the numbers differ.
-fn is_same_name(list: &SourceList, at: usize, later: usize, frame: usize) -> bool
-    requires at { at < length list.now.samples }
-    requires later { later < length list.now.samples }
-    requires deep { frame < length (sample_at list.now.samples at).stack }
-    requires later_deep { frame < length (sample_at list.now.samples later).stack }
-    ensures { IsTrue result ↔ (told_name (sample_at list.now.samples at).stack frame
-        ≡ told_name (sample_at list.now.samples later).stack frame) }
-{
-    if list.number(at, frame) == list.number(later, frame) {
-        return true;
-    }
-    list.name(at, frame) == list.name(later, frame)
-}
-
 /// How many of the runs go on under the sample, from the root on. `later` is the sample of the list
 /// whose runs they are; without one they are of another list.
-pub(crate) fn shared_runs(
-    list: &SourceList,
+pub(crate) fn shared_runs<S: StackRows>(
+    list: &S,
     at: usize,
     later: Option<usize>,
     runs: &[OpenRun<'_>],
 ) -> usize
-    requires at { at < length list.now.samples }
+    requires at { at < length (S.samples list.now) }
     requires few { length runs.now ≤ 4097 }
-    requires later { IfSome later (IsFront list.now.samples runs.now) }
-    ensures is { result ≡ shared_runs_of (sample_at list.now.samples at).stack runs.now }
+    requires later { IfSome later (IsFront (S.samples list.now) runs.now) }
+    ensures is { result ≡ shared_runs_of (sample_at (S.samples list.now) at).stack runs.now }
     ensures there { result ≤ length runs.now }
-    ensures deep { result ≤ length (sample_at list.now.samples at).stack + 1 }
+    ensures deep { result ≤ length (sample_at (S.samples list.now) at).stack + 1 }
 {
     if runs.is_empty() {
         return 0;
@@ -144,19 +129,19 @@ fn span(alloc: Global, depth: usize, start: u64, run: OpenRun<'_>) -> Result<Spa
 }
 
 /// Appends the runs that begin with the sample, from a depth on.
-pub(crate) fn open_runs<'a>(
+pub(crate) fn open_runs<'a, S: StackRows>(
     runs: &mut Vec<OpenRun<'a>>,
-    list: &'a SourceList,
+    list: &'a S,
     at: usize,
     from: usize,
     end: u64,
 ) -> Result<(), AllocError>
-    requires at { at < length list.now.samples }
-    requires deep { from ≤ length (sample_at list.now.samples at).stack + 1 }
+    requires at { at < length (S.samples list.now) }
+    requires deep { from ≤ length (sample_at (S.samples list.now) at).stack + 1 }
     ensures { OnOk result (map seen runs.new.items
         ≡ map seen runs.old.items
-        ++ map (new_run (sample_at list.now.samples at).stack end)
-        (range_with_len from (length (sample_at list.now.samples at).stack + 1 - from))) }
+        ++ map (new_run (sample_at (S.samples list.now) at).stack end)
+        (range_with_len from (length (sample_at (S.samples list.now) at).stack + 1 - from))) }
 {
     let last = list.depth(at);
     for depth in from..last + 1 {
@@ -166,10 +151,10 @@ pub(crate) fn open_runs<'a>(
     Ok(())
 }
 
-fn frame_name(list: &SourceList, at: usize, depth: usize) -> &str
-    requires at { at < length list.now.samples }
-    requires deep { depth ≤ length (sample_at list.now.samples at).stack }
-    ensures { result.now ≡ box_name depth (sample_at list.now.samples at).stack }
+fn frame_name<S: StackRows>(list: &S, at: usize, depth: usize) -> &str
+    requires at { at < length (S.samples list.now) }
+    requires deep { depth ≤ length (sample_at (S.samples list.now) at).stack }
+    ensures { result.now ≡ box_name depth (sample_at (S.samples list.now) at).stack }
 {
     if depth == 0 {
         "all"

@@ -1,13 +1,13 @@
 -- What is collected of sources whose bytes are known, where no gate stops them, is what their bytes stand for.
-use Rattle.std.proofs.Common.{◌≡◌, ◌≢◌, ℕ, List, [], ◌∷◌, map, Option, Some, None, Result, Ok, Err, IfSome, IfErr, OnOk, ap, sym, ◌∙◌, subst, refl, true, false, ◌||◌, All, Any, ◌<◌, ◌≤◌, ◌+◌, ◌++◌, length, take, get_or, arith}
+use Rattle.std.proofs.Common.{◌≡◌, ◌≢◌, ℕ, List, [], ◌∷◌, map, Option, Some, None, Result, Ok, Err, IfSome, IfErr, OnOk, ap, sym, ◌∙◌, subst, refl, true, false, ◌||◌, All, ◌<◌, ◌≤◌, ◌+◌, ◌++◌, length, take, get_or, arith}
 use Rattle.std.proofs.lemmas.Bool.{true≢false, false≢true}
 use Rattle.std.proofs.lemmas.List.Elements.{All-nil, All-cons}
 use Rattle.std.proofs.lemmas.List.Folds.{Any-from_list_any}
 use Rattle.std.proofs.lemmas.List.{map-append, take_more, take_all}
 use Rattle.std.proofs.lemmas.Slice.Zip.{all_zipped_more}
-use Rattle.std.specs.Prelude.{Bool, option_and_then, option_map}
+use Rattle.std.specs.Prelude.{Bool, option_and_then, option_map, unwrap_or}
 use Rattle.std.specs.List.{list_any, AllZip}
-use Rattle.std.specs.Io.KnownBytes.{Appends, Keeps}
+use Rattle.std.specs.Io.KnownBytes.{Appends}
 use Rattle.stack_core.specs.Interleaving.{IsInterleaving}
 use Rattle.stack_core.specs.Ledgers.{ListState}
 use Rattle.stack_core.specs.Reading.{Rest}
@@ -28,9 +28,9 @@ use Rattle.command_line.specs.declared.plans.Plan.{Plan}
 use Rattle.merging.specs.Sources.{rests_of, read_bytes, source_rest}
 use Rattle.merging.specs.declared.sources.Source.{Source}
 use Rattle.flame_tool.specs.checked.Opening.{IsInput, IsOpened, AreOpened}
-use Rattle.flame_tool.specs.Requests.{all_found, rest_of, rest_at, rests_at, known_rests}
+use Rattle.flame_tool.specs.Requests.{all_found, rest_of, rest_at, rest_in, rests_at, known_rests}
 use Rattle.flame_tool.specs.Texts.{view_text}
-use Rattle.flame_tool.specs.Runs.{IsClean, IsFault, lists_of, IsTextOf, Shows, ShowsFront, HasFault}
+use Rattle.flame_tool.specs.Runs.{IsClean, IsFault, lists_of, IsTextOf, Shows, HasFault}
 use Rattle.flame_tool.specs.checked.Failures.{has_fault, ends_in_fault, Fails, FailsToShow}
 use Rattle.flame_tool.specs.declared.failures.Failure.{Failure}
 use Rattle.flame_tool.specs.declared.failures.Failure.TheVariants.{TooManyFiles, Unreadable, TooLarge, OutOfMemory, NoThread, Unfinished, Faults, Output}
@@ -38,20 +38,20 @@ use Rattle.flame_tool.specs.declared.failures.Failure.TheVariants.{TooManyFiles,
 -- ---- opening sources
 
 -- the source of one path more
-pub opened_more : {A : Type 0} (bytes : A → List ℕ) (files : List ℕ → Option (List ℕ)) (paths : List A) (at : ℕ) (path : A) (sources : List Source) (source : Source)
-    → at < length paths → path ≡ get_or paths at path → AllZip (IsOpened files) (map bytes (take at paths)) sources → IsOpened files (bytes path) source
-    → AllZip (IsOpened files) (map bytes (take (at + 1) paths)) (sources ++ source ∷ [])
-opened_more bytes files paths at path sources source below is opened here =
-    subst (λ ps. AllZip (IsOpened files) ps (sources ++ source ∷ []))
+pub opened_more : {A : Type 0} (asked : Option Format) (bytes : A → List ℕ) (files : List ℕ → Option (List ℕ)) (paths : List A) (at : ℕ) (path : A) (sources : List Source) (source : Source)
+    → at < length paths → path ≡ get_or paths at path → AllZip (IsOpened asked files) (map bytes (take at paths)) sources → IsOpened asked files (bytes path) source
+    → AllZip (IsOpened asked files) (map bytes (take (at + 1) paths)) (sources ++ source ∷ [])
+opened_more asked bytes files paths at path sources source below is opened here =
+    subst (λ ps. AllZip (IsOpened asked files) ps (sources ++ source ∷ []))
     (sym (ap (map bytes) (take_more paths at path below ∙ ap (λ p. take at paths ++ p ∷ []) (sym is)) ∙ map-append bytes (take at paths) (path ∷ [])))
-    (all_zipped_more (IsOpened files) (map bytes (take at paths)) sources (bytes path) source opened here)
+    (all_zipped_more (IsOpened asked files) (map bytes (take at paths)) sources (bytes path) source opened here)
 
 -- the sources of all paths, of which there is one
-pub opened_whole : {A : Type 0} (bytes : A → List ℕ) (input : Option (List ℕ)) (files : List ℕ → Option (List ℕ)) (paths : List A) (at : ℕ) (sources : List Source)
-    → 0 < length paths → length paths ≤ at → AllZip (IsOpened files) (map bytes (take at paths)) sources → AreOpened input files (map bytes paths) sources
-opened_whole bytes input files [] at sources some all opened = absurd (omega arith)
-opened_whole bytes input files (path ∷ paths) at sources some all opened =
-    subst (λ ps. AllZip (IsOpened files) (map bytes ps) sources) (take_all at (path ∷ paths) all) opened
+pub opened_whole : {A : Type 0} (asked : Option Format) (bytes : A → List ℕ) (input : Option (List ℕ)) (files : List ℕ → Option (List ℕ)) (paths : List A) (at : ℕ) (sources : List Source)
+    → 0 < length paths → length paths ≤ at → AllZip (IsOpened asked files) (map bytes (take at paths)) sources → AreOpened asked input files (map bytes paths) sources
+opened_whole asked bytes input files [] at sources some all opened = absurd (omega arith)
+opened_whole asked bytes input files (path ∷ paths) at sources some all opened =
+    subst (λ ps. AllZip (IsOpened asked files) (map bytes ps) sources) (take_all at (path ∷ paths) all) opened
 
 -- ---- what is known of opened sources
 
@@ -63,25 +63,25 @@ opened_first options format (Some bytes) None source sources formed same more = 
 opened_first options format (Some bytes) (Some rests) source sources formed same more =
     λ i. read_bytes (formed i) (same i) options.pick options.naming ∷ more i
 
-opened_files : (options : Options) (files : List ℕ → Option (List ℕ)) (paths : List (List ℕ)) (sources : List Source) → AllZip (IsOpened files) paths sources
-    → IfSome (all_found (rest_at options files) paths) (λ rests. rests_of options sources ≡ rests)
-opened_files options files [] [] opened = refl
-opened_files options files [] (source ∷ sources) opened = absurd opened
-opened_files options files (path ∷ paths) [] opened = absurd opened
-opened_files options files (path ∷ paths) (source ∷ sources) ((formed, same), more) =
-    opened_first options (format_at path) (files path) (all_found (rest_at options files) paths) source sources formed same (opened_files options files paths sources more)
+opened_files : (options : Options) (asked : Option Format) (files : List ℕ → Option (List ℕ)) (paths : List (List ℕ)) (sources : List Source) → AllZip (IsOpened asked files) paths sources
+    → IfSome (all_found (rest_at options asked files) paths) (λ rests. rests_of options sources ≡ rests)
+opened_files options asked files [] [] opened = refl
+opened_files options asked files [] (source ∷ sources) opened = absurd opened
+opened_files options asked files (path ∷ paths) [] opened = absurd opened
+opened_files options asked files (path ∷ paths) (source ∷ sources) ((formed, same), more) =
+    opened_first options (unwrap_or asked (format_at path)) (files path) (all_found (rest_at options asked files) paths) source sources formed same (opened_files options asked files paths sources more)
 
-opened_input : (options : Options) (input : Option (List ℕ)) (sources : List Source) → IfSome input (IsInput sources)
-    → IfSome (option_map (λ rest. rest ∷ []) (rest_of options Folded input)) (λ rests. rests_of options sources ≡ rests)
-opened_input options None sources opened = tt
-opened_input options (Some bytes) [] opened = absurd opened
-opened_input options (Some bytes) (source ∷ []) (folded, same) = λ i. read_bytes (folded i) (same i) options.pick options.naming ∷ []
-opened_input options (Some bytes) (source ∷ other ∷ more) opened = absurd opened
+opened_input : (options : Options) (asked : Option Format) (input : Option (List ℕ)) (sources : List Source) → IfSome input (IsInput asked sources)
+    → IfSome (option_map (λ rest. rest ∷ []) (rest_in options asked input)) (λ rests. rests_of options sources ≡ rests)
+opened_input options asked None sources opened = tt
+opened_input options asked (Some bytes) [] opened = absurd opened
+opened_input options asked (Some bytes) (source ∷ []) (folded, same) = λ i. read_bytes (folded i) (same i) options.pick options.naming ∷ []
+opened_input options asked (Some bytes) (source ∷ other ∷ more) opened = absurd opened
 
-opened_rests : (options : Options) (input : Option (List ℕ)) (files : List ℕ → Option (List ℕ)) (paths : List (List ℕ)) (sources : List Source) → AreOpened input files paths sources
-    → IfSome (rests_at options paths input files) (λ rests. rests_of options sources ≡ rests)
-opened_rests options input files [] sources opened = opened_input options input sources opened
-opened_rests options input files (path ∷ paths) sources opened = opened_files options files (path ∷ paths) sources opened
+opened_rests : (options : Options) (asked : Option Format) (input : Option (List ℕ)) (files : List ℕ → Option (List ℕ)) (paths : List (List ℕ)) (sources : List Source) → AreOpened asked input files paths sources
+    → IfSome (rests_at options asked paths input files) (λ rests. rests_of options sources ≡ rests)
+opened_rests options asked input files [] sources opened = opened_input options asked input sources opened
+opened_rests options asked input files (path ∷ paths) sources opened = opened_files options asked files (path ∷ paths) sources opened
 
 -- ---- what no gate stopped is clean or has a fault
 
@@ -130,16 +130,16 @@ faults_of_rests (list ∷ lists) = ap (λ more. ends_in_fault list.ending || mor
 
 -- a plan's sources were opened and collected whole
 pub record AreCollected (plan : Plan) (input : Option (List ℕ)) (files : List ℕ → Option (List ℕ)) (sources : List Source) (lists : List ListState) (order : List ℕ) (every : Option ℕ) : Type 0 where
-  pub opened : AreOpened input files plan.files sources
+  pub opened : AreOpened plan.format input files plan.files sources
   pub whole : AreWhole (rests_of plan.options sources) lists
   pub ordered : IsInterleaving order (samples_of lists)
   pub every_is : every ≡ plan.options.every
 
 pub collected_of : (plan : Plan) (input : Option (List ℕ)) (files : List ℕ → Option (List ℕ)) (paths : List (List ℕ)) (sources : List Source) (lists : List ListState) (order : List ℕ) (every : Option ℕ)
-    → paths ≡ plan.files → AreOpened input files paths sources → AreWhole (rests_of plan.options sources) lists → IsInterleaving order (samples_of lists) → every ≡ plan.options.every
+    → paths ≡ plan.files → AreOpened plan.format input files paths sources → AreWhole (rests_of plan.options sources) lists → IsInterleaving order (samples_of lists) → every ≡ plan.options.every
     → AreCollected plan input files sources lists order every
 collected_of plan input files paths sources lists order every same opened whole ordered every_is =
-    record { opened = subst (λ paths. AreOpened input files paths sources) same opened; whole = whole; ordered = ordered; every_is = every_is }
+    record { opened = subst (λ paths. AreOpened plan.format input files paths sources) same opened; whole = whole; ordered = ordered; every_is = every_is }
 
 module _ (plan : Plan) (input : Option (List ℕ)) (files : List ℕ → Option (List ℕ)) (sources : List Source) (lists : List ListState) (order : List ℕ) (every : Option ℕ) (collected : AreCollected plan input files sources lists order every) where
   abbrev text : List ℕ
@@ -165,12 +165,17 @@ module _ (plan : Plan) (input : Option (List ℕ)) (files : List ℕ → Option 
       elim (known_rests plan input files) as (λ known. IfSome known (λ rests. rests_of plan.options sources ≡ rests) → IfSome known P) [
         | None ↦ λ _. tt
         | Some rests ↦ λ same. subst P same holds
-      ] (opened_rests plan.options input files plan.files sources collected.opened)
+      ] (opened_rests plan.options plan.format input files plan.files sources collected.opened)
 
   pub ok_shown : {T E : Type 0} (result : Result T E) (old new : Option (List ℕ)) → OnOk result (has_fault lists ≡ false) → OnOk result (Appends old new text)
       → OnOk result (IfSome (known_rests plan input files) (Shows plan old new))
   ok_shown (Ok done) old new faultless appends = if_known (Shows plan old new) (text, is_text faultless, appends)
   ok_shown (Err error) old new faultless appends = tt
+
+  -- the same of a text that is said in other words
+  pub ok_shown_as : {T E : Type 0} (result : Result T E) (old new : Option (List ℕ)) (other : List ℕ) → other ≡ text → OnOk result (has_fault lists ≡ false) → OnOk result (Appends old new other)
+      → OnOk result (IfSome (known_rests plan input files) (Shows plan old new))
+  ok_shown_as result old new other same faultless appends = ok_shown result old new faultless (subst (λ said. OnOk result (Appends old new said)) same appends)
 
   not_shown : (old new : Option (List ℕ)) (failure : Failure) → FailsToShow lists text old new failure → Fails plan old new failure (rests_of plan.options sources)
   not_shown old new TooManyFiles fails = tt
@@ -186,3 +191,7 @@ module _ (plan : Plan) (input : Option (List ℕ)) (files : List ℕ → Option 
       → IfErr result (λ failure. IfSome (known_rests plan input files) (Fails plan old new failure))
   err_shown (Ok done) old new fails = tt
   err_shown (Err failure) old new fails = if_known (Fails plan old new failure) (not_shown old new failure fails)
+
+  pub err_shown_as : {T : Type 0} (result : Result T Failure) (old new : Option (List ℕ)) (other : List ℕ) → other ≡ text → IfErr result (FailsToShow lists other old new)
+      → IfErr result (λ failure. IfSome (known_rests plan input files) (Fails plan old new failure))
+  err_shown_as result old new other same fails = err_shown result old new (subst (λ said. IfErr result (FailsToShow lists said old new)) same fails)

@@ -1,3 +1,4 @@
+pub mod FoldedSources
 mod KnownSources
 mod RunEndings
 pub mod TextLemmas

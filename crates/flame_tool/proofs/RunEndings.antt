@@ -1,29 +1,21 @@
 -- How a run ends, by its words and by its plan.
-use Rattle.std.proofs.Common.{◌≡◌, ◌≢◌, ◌≤◌, ◌<◌, ◌⊎◌, inl, inr, ℕ, List, [], ◌∷◌, ◌++◌, map, length, Option, Some, None, IfSome, All, take, ap, sym, ◌∙◌, subst, refl, arith, zero, suc}
-use Rattle.std.proofs.lemmas.List.{append-nil}
-use Rattle.std.proofs.lemmas.List.Elements.{All-head}
+use Rattle.std.proofs.Common.{◌≡◌, ◌⊎◌, inl, inr, ℕ, List, [], ◌∷◌, map, length, Option, Some, None, IfSome, ap, sym, ◌∙◌, subst, refl, arith}
 use Rattle.std.specs.Prelude.{IsSomeAnd}
 use Rattle.std.specs.Io.KnownBytes.{Appends, Keeps}
-use Rattle.clap.specs.Kinds.{IsAmong}
 use Rattle.clap.specs.Walk.{Text}
-use Rattle.clap.specs.Words.{fault_of}
-use Rattle.clap.specs.declared.error.kind.ErrorKind.{ErrorKind}
-use Rattle.clap.specs.declared.error.kind.ErrorKind.TheVariants as kind
 use Rattle.stack_core.specs.Reading.{Rest}
 use Rattle.stack_core.specs.declared.samples.Sample.{Sample}
-use Rattle.folded_lines.specs.Reading.{read_folded}
 use Rattle.command_line.specs.CommandLine.{command_line}
-use Rattle.command_line.specs.Plans.{IsFaultAmong, default_plan, plan_of}
-use Rattle.command_line.specs.declared.plans.Plan.{Plan}
+use Rattle.command_line.specs.Plans.{IsFaultAmong, fault_of, plan_of}
 use Rattle.command_line.specs.declared.plans.PlanFault.{PlanFault}
 use Rattle.command_line.specs.declared.plans.PlanFault.TheVariants as fault
+use Rattle.command_line.specs.declared.plans.Plan.{Plan}
 use Rattle.command_line.specs.declared.plans.View.{View}
 use Rattle.command_line.specs.declared.plans.View.TheVariants.{Fold, Graph, Chart, Pairs, PairBoxes}
-use Rattle.view_texts.specs.Fold.{fold_text}
-use Rattle.flame_tool.specs.Requests.{AreRefused, AsksForHelp, asked_faults, asked_plan, known_rests}
+use Rattle.flame_tool.specs.Requests.{AsksForHelp, asked_plan, known_rests}
 use Rattle.flame_tool.specs.Texts.{IsOrderless, view_text}
-use Rattle.flame_tool.specs.Runs.{IsClean, IsFault, text_of, lists_of, GainsFront, Shows, ShowsFront, HasFault}
-use Rattle.flame_tool.specs.checked.Failures.{Fails, KeepsOutput, status_of, IsHelp, IsWords}
+use Rattle.flame_tool.specs.Runs.{lists_of, Shows, ShowsFront, HasFault}
+use Rattle.flame_tool.specs.checked.Failures.{Fails, IsHelp, KeepsOutput, status_of}
 use Rattle.flame_tool.specs.declared.failures.Failure.{Failure}
 use Rattle.flame_tool.specs.declared.failures.Failure.TheVariants.{TooManyFiles, Unreadable, TooLarge, OutOfMemory, NoThread, Unfinished, Faults, Output}
 
@@ -53,7 +45,7 @@ module _ (plan : Plan) (known : Option (List Rest)) (old new : Option (List ℕ)
 
 -- ---- a text without snapshots
 
-orderless_text : (view : View) (lists : List (List Sample)) (order : List ℕ) (every : Option ℕ) → IsOrderless view every → view_text view lists order every ≡ view_text view lists [] None
+pub orderless_text : (view : View) (lists : List (List Sample)) (order : List ℕ) (every : Option ℕ) → IsOrderless view every → view_text view lists order every ≡ view_text view lists [] None
 orderless_text Fold lists order every orderless = refl
 orderless_text (Graph width) lists order every orderless = ap (view_text (Graph width) lists order) orderless
 orderless_text (Chart width) lists order every orderless = refl
@@ -82,3 +74,16 @@ asked_exactly words plan input files old new asked shows =
 pub some_asked : {A : Type 0} (bytes : A → List ℕ) (words : List A) (plan : Plan) → (length words ≡ 0 → ⊥) → plan_of (map bytes words) ≡ Some plan → asked_plan (map bytes words) ≡ Some plan
 some_asked bytes [] plan some planned = absurd (some refl)
 some_asked bytes (word ∷ words) plan some planned = planned
+
+-- a fault that is a request for help, of words that have it
+pub asks_if_help : {A : Type 0} (bytes : A → List ℕ) (words : List A) (f : PlanFault) → (length words ≡ 0 → ⊥) → IsFaultAmong (fault_of command_line (map bytes words)) f → IsHelp f
+    → AsksForHelp (map bytes words)
+asks_if_help bytes [] f some among help = absurd (some refl)
+asks_if_help bytes (word ∷ words) (fault.Words text) some among help = absurd help
+asks_if_help bytes (word ∷ words) (fault.Help text) some among help = among
+asks_if_help bytes (word ∷ words) fault.OutOfMemory some among help = absurd help
+
+pub partly_help : {A : Type 0} {Q : Type 0} (bytes : A → List ℕ) (words : List A) (f : PlanFault) (old new : Option (List ℕ)) → (length words ≡ 0 → ⊥)
+    → IsFaultAmong (fault_of command_line (map bytes words)) f → Keeps old new ⊎ IsHelp f → Keeps old new ⊎ (AsksForHelp (map bytes words) ⊎ Q)
+partly_help bytes words f old new some among (inl kept) = inl kept
+partly_help bytes words f old new some among (inr help) = inr (inl (asks_if_help bytes words f some among help))

@@ -20,6 +20,7 @@ use Rattle.stack_core.specs.Interleaving.{counts_at}
 use Rattle.flame_tool.specs.checked.Filling.{filled}
 use Rattle.view_texts.specs.Json.{snapshot_line, boxes_line}
 use Rattle.merging.specs.Snapshots.{snapshot_counts, snapshot_samples, snapshot_places, IsSnapshot, AreSnapshots}
+use Rattle.merging.proofs.GatherLemmas.{timeline_weight}
 use Rattle.merging.specs.Sums.{all_samples}
 use Rattle.flame_tool.specs.Texts.{all_counts, snapshot_line_at, snapshot_lines, places_of, graph_line, graph_text}
 use Rattle.merging.specs.declared.snapshots.Snapshot.{Snapshot}
@@ -101,32 +102,24 @@ graph_positive samples boxes total drawn weighed some =
     subst (λ n. 0 < n) (sym weighed) (graph-positive samples (subst (λ (bs : List SpanBox). 0 < length bs) drawn some))
 
 -- the line of the graph after those of the snapshots
-pub graph_appended : {T E : Type 0} (result : Result T E) (old out new : List ℕ) (width total : ℕ) (order : List ℕ) (every : Option ℕ) (lists : List (List Sample)) (boxes : List SpanBox)
-    → boxes ≡ graph_of (all_samples lists) → total ≡ total_weight (all_samples lists)
+pub graph_appended : {T E : Type 0} (result : Result T E) (old out new : List ℕ) (width : ℕ) (order : List ℕ) (every : Option ℕ) (lists : List (List Sample))
     → out ≡ old ++ snapshot_lines width lists order (snapshot_places every (length order))
-    → OnOk result (new ≡ out ++ boxes_line (codes "graph") total width boxes)
+    → OnOk result (new ≡ out ++ graph_line width (all_samples lists))
     → OnOk result (new ≡ old ++ graph_text width lists order every)
-graph_appended result old out new width total order every lists boxes drawn weighed so_far appended =
-    on_ok_weaker result (λ more. more ∙ ((λ i. so_far i ++ boxes_line (codes "graph") (weighed i) width (drawn i))
+graph_appended result old out new width order every lists so_far appended =
+    on_ok_weaker result (λ more. more ∙ ((λ i. so_far i ++ graph_line width (all_samples lists))
     ∙ append_assoc old (snapshot_lines width lists order (snapshot_places every (length order))) (graph_line width (all_samples lists)))) appended
-
--- the timeline has the weight of all samples
-pub timeline_total : (lists : List (List Sample)) → total_weight (timeline lists) ≡ total_weight (all_samples lists)
-timeline_total [] = refl
-timeline_total (samples ∷ lists) =
-    sum_by-append weight_of (drawn samples) (timeline lists)
-    ∙ ((λ i. total_weight-drawn samples i + timeline_total lists i) ∙ sym (sum_by-append weight_of samples (all_samples lists)))
 
 pub chart_within : (lists : List (List Sample)) (boxes : List SpanBox) (total : ℕ) → boxes ≡ chart_of (timeline lists) → total ≡ total_weight (all_samples lists)
     → All (λ span. span.start + span.weight ≤ total) boxes
 chart_within lists boxes total is weighed =
     subst (λ (bs : List SpanBox). All (λ span. span.start + span.weight ≤ total) bs) (sym is)
-    (subst (λ n. All (λ span. span.start + span.weight ≤ n) (chart_of (timeline lists))) (timeline_total lists ∙ sym weighed) (chart-within (timeline lists)))
+    (subst (λ n. All (λ span. span.start + span.weight ≤ n) (chart_of (timeline lists))) (timeline_weight lists ∙ sym weighed) (chart-within (timeline lists)))
 
 pub chart_positive : (lists : List (List Sample)) (boxes : List SpanBox) (total : ℕ) → boxes ≡ chart_of (timeline lists) → total ≡ total_weight (all_samples lists)
     → 0 < length boxes → 0 < total
 chart_positive lists boxes total is weighed some =
-    subst (λ n. 0 < n) (timeline_total lists ∙ sym weighed) (timeline-chart_positive lists (subst (λ (bs : List SpanBox). 0 < length bs) is some))
+    subst (λ n. 0 < n) (timeline_weight lists ∙ sym weighed) (timeline-chart_positive lists (subst (λ (bs : List SpanBox). 0 < length bs) is some))
 
 -- the own sums of a tree and a table that are lent
 pub lent_stacks : (names table : List (List ℕ)) (tree lent : Tree) (samples : List Sample) → table ≡ names → lent ≡ tree

@@ -1,25 +1,24 @@
 -- Worked examples of runs over known files, computed on the definitions.
-use Rattle.std.proofs.Common.{◌≡◌, ℕ, List, [], ◌∷◌, codes, refl, true, Option, Some, None, option_map}
+use Rattle.std.proofs.Common.{◌≡◌, ℕ, List, [], ◌∷◌, codes, refl, Option, Some, None, option_map}
 use Rattle.std.specs.Prelude.{if◌then◌else◌, option_and_then}
 use Rattle.std.specs.Fmt.{digits}
-use Rattle.std.specs.List.{list_any}
 use Rattle.std.specs.Str.{bytes_eq}
 use Rattle.clap.proofs.OnLiterals.{clap_on_literals}
 use Rattle.call_tree.specs.PathSums.{total_of, own_of}
 use Rattle.clap.specs.Walk.{Text}
 use Rattle.stack_core.specs.Reading.{Rest}
 use Rattle.folded_lines.proofs.Computing.{computing}
-use Rattle.view_texts.specs.Fold.{merged, stacks_of, sum_at}
+use Rattle.flame_layout.specs.Merged.{merged, stacks_of, sum_at}
 use Rattle.flame_tool.specs.Requests.{asked_plan, known_rests}
 use Rattle.flame_tool.specs.Runs.{lists_of}
-use Rattle.flame_tool.specs.checked.Failures.{ends_in_fault}
 use Rattle.flame_tool.specs.Texts.{view_text}
 
--- two files
+-- three files, of which one is named as a profile and is none
 abbrev two_files : List ℕ → Option (List ℕ)
 two_files path =
     if bytes_eq path (codes "x") then Some (codes "a 1\n")
-    else (if bytes_eq path (codes "y") then Some (codes "b 4\na 2\n") else None)
+    else (if bytes_eq path (codes "y") then Some (codes "b 4\na 2\n")
+    else (if bytes_eq path (codes "z.pb") then Some (codes "a 1\n") else None))
 
 abbrev rests_asked : List Text → Option (List ℕ) → Option (List Rest)
 rests_asked words input = option_and_then (λ plan. known_rests plan input two_files) (asked_plan words)
@@ -54,6 +53,11 @@ folded_input = refl
 fold_of_the_input : text_asked (codes "fold" ∷ []) (Some (codes "a 1\n")) ≡ Some (codes "a 1\n")
 unfolding clap_on_literals merged stacks_of sum_at computing digits
 fold_of_the_input = refl
+
+-- a format that is asked for is that of each file
+folded_whatever_the_name : text_asked (codes "fold" ∷ codes "--format" ∷ codes "folded" ∷ codes "z.pb" ∷ []) None ≡ Some (codes "a 1\n")
+unfolding clap_on_literals merged stacks_of sum_at computing digits
+folded_whatever_the_name = refl
 
 -- nothing is known of a run where a file or the input is not known
 unknown_file : rests_asked (codes "fold" ∷ codes "x" ∷ codes "z" ∷ []) (Some (codes "a 1\n")) ≡ None

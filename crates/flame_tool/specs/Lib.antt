@@ -1,6 +1,7 @@
 -- The definitions that the contracts of flame_tool cite. Those of the crates below it are passed on.
 pub mod Requests
 pub mod Runs
+pub mod SumViews
 pub mod Texts
 pub mod Views
 pub mod checked
@@ -20,3 +21,4 @@ pub use Rattle.view_texts.specs.Fold
 pub use Rattle.view_texts.specs.Json
 pub use Rattle.view_texts.specs.JsonLaws
 pub use Rattle.view_texts.specs.Pairs
+pub use Rattle.view_texts.specs.Parts

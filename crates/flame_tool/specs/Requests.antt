@@ -1,17 +1,15 @@
 -- What the words of a run ask for, and what is known of the sources that they name.
-use Rattle.std.specs.Prelude.{◌≢◌, ℕ, List, [], ◌∷◌, Option, Some, option_and_then, option_map}
+use Rattle.std.specs.Prelude.{ℕ, List, [], ◌∷◌, Option, Some, option_and_then, option_map, unwrap_or}
 use Rattle.clap.specs.Kinds.{IsAmong, Kinds}
 use Rattle.clap.specs.Walk.{Text}
-use Rattle.clap.specs.Words.{fault_of}
 use Rattle.clap.specs.declared.error.kind.ErrorKind.{ErrorKind}
-use Rattle.clap.specs.declared.error.kind.ErrorKind.TheVariants as kind
 use Rattle.stack_core.specs.Reading.{Rest}
 use Rattle.run_options.specs.Formats.{format_at}
 use Rattle.run_options.specs.declared.formats.Format.{Format}
 use Rattle.run_options.specs.declared.formats.Format.TheVariants.{Folded}
 use Rattle.run_options.specs.declared.options.Options.{Options}
 use Rattle.command_line.specs.CommandLine.{command_line}
-use Rattle.command_line.specs.Plans.{default_plan, plan_of}
+use Rattle.command_line.specs.Plans.{IsRequest, default_plan, fault_of, plan_of}
 use Rattle.command_line.specs.declared.plans.Plan.{Plan}
 use Rattle.merging.specs.Sources.{read_bytes}
 
@@ -27,12 +25,13 @@ abbrev pub asked_faults : List Text → Kinds
 asked_faults [] = []
 asked_faults (word ∷ words) = fault_of command_line (word ∷ words)
 
+-- the words ask for help, or for the version
 abbrev pub AsksForHelp : List Text → Type 0
-AsksForHelp words = IsAmong kind.DisplayHelp (asked_faults words)
+AsksForHelp words = (k : ErrorKind) × IsAmong k (asked_faults words) × IsRequest k
 
 -- the words have a fault, and not just the wish for help
 abbrev pub AreRefused : List Text → Type 0
-AreRefused words = (k : ErrorKind) × IsAmong k (asked_faults words) × (k ≢ kind.DisplayHelp)
+AreRefused words = (k : ErrorKind) × IsAmong k (asked_faults words) × (IsRequest k → ⊥)
 
 -- ---- the sources
 
@@ -47,14 +46,20 @@ abbrev pub rest_of : Options → Format → Option (List ℕ) → Option Rest
 rest_of options format bytes =
     option_map (λ bytes. read_bytes format bytes options.pick options.naming) bytes
 
--- the same of the file of a path, whose name says its format
-abbrev pub rest_at : Options → (List ℕ → Option (List ℕ)) → List ℕ → Option Rest
-rest_at options files path = rest_of options (format_at path) (files path)
+-- the same of the file of a path, whose name says its format unless one was asked for
+abbrev pub rest_at : Options → Option Format → (List ℕ → Option (List ℕ)) → List ℕ → Option Rest
+rest_at options asked files path =
+    rest_of options (unwrap_or asked (format_at path)) (files path)
+
+-- the same of the input, which is folded unless another format was asked for
+abbrev pub rest_in : Options → Option Format → Option (List ℕ) → Option Rest
+rest_in options asked input = rest_of options (unwrap_or asked Folded) input
 
 -- the samples and the endings of the files of paths, in order, or of the input where there is no path
-abbrev pub rests_at : Options → List (List ℕ) → Option (List ℕ) → (List ℕ → Option (List ℕ)) → Option (List Rest)
-rests_at options [] input files = option_map (λ rest. rest ∷ []) (rest_of options Folded input)
-rests_at options (path ∷ paths) input files = all_found (rest_at options files) (path ∷ paths)
+abbrev pub rests_at : Options → Option Format → List (List ℕ) → Option (List ℕ) → (List ℕ → Option (List ℕ)) → Option (List Rest)
+rests_at options asked [] input files = option_map (λ rest. rest ∷ []) (rest_in options asked input)
+rests_at options asked (path ∷ paths) input files =
+    all_found (rest_at options asked files) (path ∷ paths)
 
 abbrev pub known_rests : Plan → Option (List ℕ) → (List ℕ → Option (List ℕ)) → Option (List Rest)
-known_rests plan input files = rests_at plan.options plan.files input files
+known_rests plan input files = rests_at plan.options plan.format plan.files input files

@@ -10,13 +10,12 @@ ghost use Rattle.flame_layout.specs.Graph.{graph_of};
 ghost use Rattle.view_texts.specs.Json.{snapshot_line};
 ghost use Rattle.merging.specs.Sums.{all_samples, IsDrawable};
 ghost use Rattle.merging.specs.Snapshots.{snapshot_places};
-ghost use Rattle.flame_tool.specs.Texts.{chart_text, graph_text, snapshot_lines, snapshot_line_at, places_of};
+ghost use Rattle.flame_tool.specs.Texts.{chart_text, graph_line, graph_text, snapshot_lines, snapshot_line_at, places_of};
 ghost use Rattle.flame_tool.specs.checked.Filling.{filled};
 
-use crate::drawings::total_of;
 use call_tree::FrameTable;
 use flame_layout::{SpanBox, Width, graph_boxes};
-use merging::{Gathered, Snapshot};
+use merging::{Gathered, Snapshot, SourceLists};
 use std::alloc::{AllocError, Global};
 use view_texts::{Scale, append_boxes_line, append_snapshot_line, truncate_on_error};
 
@@ -24,20 +23,40 @@ use view_texts::{Scale, append_boxes_line, append_snapshot_line, truncate_on_err
 pub(crate) fn append_chart(
     alloc: Global,
     out: &mut Vec<u8>,
-    gathered: &Gathered,
+    sources: &SourceLists,
     boxes: &[SpanBox],
     width: Width,
 ) -> Result<(), AllocError>
-    requires boxes { boxes.now ≡ chart_of (timeline (samples_of gathered.now.lists)) }
+    requires boxes { boxes.now ≡ chart_of (timeline (samples_of sources.now.lists)) }
     ensures ok { OnOk result (out.new.items ≡ out.old.items
-        ++ chart_text width (samples_of gathered.now.lists)) }
+        ++ chart_text width (samples_of sources.now.lists)) }
     ensures err { OnErr result (out.new.items ≡ out.old.items) }
 {
     let scale = Scale {
-        total: total_of(gathered),
+        total: sources.total(),
         width,
     };
     append_boxes_line(alloc, out, "chart", boxes, &scale)
+}
+
+// Appends the line of the graph alone. An `Err` changes nothing.
+pub(crate) fn append_graph_line(
+    alloc: Global,
+    out: &mut Vec<u8>,
+    sources: &SourceLists,
+    boxes: &[SpanBox],
+    width: Width,
+) -> Result<(), AllocError>
+    requires boxes { boxes.now ≡ graph_of (all_samples (samples_of sources.now.lists)) }
+    ensures ok { OnOk result (out.new.items ≡ out.old.items
+        ++ graph_line width (all_samples (samples_of sources.now.lists))) }
+    ensures err { OnErr result (out.new.items ≡ out.old.items) }
+{
+    let scale = Scale {
+        total: sources.total(),
+        width,
+    };
+    append_boxes_line(alloc, out, "graph", boxes, &scale)
 }
 
 // Appends the line of each snapshot, and then that of the graph. An `Err` changes nothing.
@@ -72,11 +91,7 @@ fn append_graph_lines(
     ensures front { StartsWith out.new.items out.old.items }
 {
     append_snapshots(alloc, out, gathered, width)?;
-    let scale = Scale {
-        total: total_of(gathered),
-        width,
-    };
-    append_boxes_line(alloc, out, "graph", boxes, &scale)
+    append_graph_line(alloc, out, gathered.sources(), boxes, width)
 }
 
 // Appends the lines of the snapshots, or of those at the front.

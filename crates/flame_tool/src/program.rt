@@ -1,5 +1,5 @@
 //! A run of the program.
-ghost use Rattle.std.specs.Prelude.{◌≡◌, ◌≢◌, ◌≤◌, ◌<◌, ◌⊎◌, [], None, false, IfSome, IfErr, IsErrOf, IsSomeAnd, OnOk, vec_len, length, map, string_bytes};
+ghost use Rattle.std.specs.Prelude.{◌≡◌, ◌≢◌, ◌≤◌, ◌<◌, ◌⊎◌, ℕ, [], List, None, Option, false, true, IfSome, IfErr, IsErrOf, IsSomeAnd, OnOk, vec_len, length, map, string_bytes};
 ghost use Rattle.std.specs.Io.KnownBytes.{Appends, Keeps};
 ghost use Rattle.folded_lines.specs.Reading.{read_folded};
 ghost use Rattle.flame_layout.specs.Timeline.{samples_of};
@@ -7,16 +7,17 @@ ghost use Rattle.command_line.specs.Plans.{IsComparison};
 ghost use Rattle.flame_tool.specs.Requests.{AreRefused, AsksForHelp, asked_plan, known_rests};
 ghost use Rattle.flame_tool.specs.Texts.{IsOrderless, view_text};
 ghost use Rattle.flame_tool.specs.Runs.{IsClean, IsFault, text_of, lists_of, GainsFront, Shows, ShowsFront, HasFault};
+ghost use Rattle.flame_tool.specs.checked.Opening.{AreOpened};
 ghost use Rattle.flame_tool.specs.checked.Failures.{has_fault, Fails, FailsToShow, KeepsOutput, IsHelp, IsWords};
 
 use crate::endings::{any_fault, report_endings};
 use crate::failures::Failure;
 use crate::messages::report_failure;
 use crate::source_files::open_sources;
-use crate::view_text::append_view;
+use crate::view_text::{append_plain_view, append_view};
 use byte_io::{Files, Outlet, send};
 use command_line::{Plan, PlanFault, View, plan, plan_without_words};
-use merging::{Gathered, gather};
+use merging::{Gathered, Source, SourceLists, gather, read_sources};
 use stack_core::OpenGate;
 use std::alloc::{AllocError, Global};
 use std::sync::{Arc, Wait};
@@ -176,10 +177,79 @@ fn show<T: Threads + Wait + Copy + Send + 'static, F: Files, W: Outlet, E: Outle
         KeepsOutput (W.contents out.old) (W.contents out.new) failure) }
     ensures many { IsErrOf result Failure.TooManyFiles → 64 < length plan.now.files }
 {
-    let paths = plan.files.get();
-    let sources = open_sources(alloc, files, paths)?;
+    let sources = open_sources(alloc, files, plan.files.get(), plan.format)?;
+    if is_orderless(plan.view, plan.options.every) {
+        show_lists(rt, alloc, plan, sources, out, err)
+    } else {
+        show_snapshots(rt, alloc, plan, sources, out, err)
+    }
+}
+
+// Whether the text of a view is the same in whatever order the samples came.
+fn is_orderless(view: View, every: Option<u64>) -> bool
+    ensures { result ≡ true → IsOrderless view every }
+{
+    match view {
+        View::Graph(_) => every.is_none(),
+        View::Fold | View::Chart(_) | View::Pairs | View::PairBoxes(_) => true,
+    }
+}
+
+// Collects the samples of sources, and writes the view of them.
+fn show_lists<T: Threads + Wait + Copy + Send + 'static, W: Outlet, E: Outlet>(
+    rt: &T,
+    alloc: Global,
+    plan: &Plan,
+    sources: Vec<Source>,
+    out: &mut W,
+    err: &mut E,
+) -> Result<(), Failure>
+    requires few { length sources.items ≤ 64 }
+    requires pairs { IsComparison plan.now.view → length sources.items ≡ 2 }
+    requires orderless { IsOrderless plan.now.view plan.now.options.every }
+    ensures ok { (input : Option (List ℕ)) (files : List ℕ → Option (List ℕ))
+        → AreOpened plan.now.format input files plan.now.files sources.items
+        → OnOk result (IfSome (known_rests plan.now input files)
+        (Shows plan.now (W.contents out.old) (W.contents out.new))) }
+    ensures err { (input : Option (List ℕ)) (files : List ℕ → Option (List ℕ))
+        → AreOpened plan.now.format input files plan.now.files sources.items
+        → IfErr result (λ failure. IfSome (known_rests plan.now input files)
+        (Fails plan.now (W.contents out.old) (W.contents out.new) failure)) }
+    ensures kept { IfErr result (λ failure.
+        KeepsOutput (W.contents out.old) (W.contents out.new) failure) }
+    ensures few_files { IsErrOf result Failure.TooManyFiles → ⊥ }
+{
+    let run = read_sources(rt, alloc, sources, &plan.options, open_gate(alloc)?)?;
+    report_endings(err, plan.files.get(), run.lists());
+    send_lists(alloc, &run, plan.view, out)
+}
+
+// The same with snapshots: the samples are merged as they arrive.
+fn show_snapshots<T: Threads + Wait + Copy + Send + 'static, W: Outlet, E: Outlet>(
+    rt: &T,
+    alloc: Global,
+    plan: &Plan,
+    sources: Vec<Source>,
+    out: &mut W,
+    err: &mut E,
+) -> Result<(), Failure>
+    requires few { length sources.items ≤ 64 }
+    requires pairs { IsComparison plan.now.view → length sources.items ≡ 2 }
+    requires every { IfSome plan.now.options.every (λ every. 1 ≤ every) }
+    ensures ok { (input : Option (List ℕ)) (files : List ℕ → Option (List ℕ))
+        → AreOpened plan.now.format input files plan.now.files sources.items
+        → OnOk result (IfSome (known_rests plan.now input files)
+        (Shows plan.now (W.contents out.old) (W.contents out.new))) }
+    ensures err { (input : Option (List ℕ)) (files : List ℕ → Option (List ℕ))
+        → AreOpened plan.now.format input files plan.now.files sources.items
+        → IfErr result (λ failure. IfSome (known_rests plan.now input files)
+        (Fails plan.now (W.contents out.old) (W.contents out.new) failure)) }
+    ensures kept { IfErr result (λ failure.
+        KeepsOutput (W.contents out.old) (W.contents out.new) failure) }
+    ensures few_files { IsErrOf result Failure.TooManyFiles → ⊥ }
+{
     let gathered = gather(rt, alloc, sources, &plan.options, open_gate(alloc)?)?;
-    report_endings(err, paths, gathered.lists());
+    report_endings(err, plan.files.get(), gathered.lists());
     send_view(alloc, &gathered, plan.view, out)
 }
 
@@ -206,4 +276,27 @@ fn send_view<W: Outlet>(
     append_view(alloc, gathered, view, &mut text)?;
     send(text.as_slice(), out)?;
     Ok(())
+}
+
+// The same for the lists of a run, without snapshots.
+fn send_lists<W: Outlet>(
+    alloc: Global,
+    run: &SourceLists,
+    view: View,
+    out: &mut W,
+) -> Result<(), Failure>
+    requires pairs { IsComparison view → length run.now.lists ≡ 2 }
+    ensures faultless { OnOk result (has_fault run.now.lists ≡ false) }
+    ensures ok { OnOk result (Appends (W.contents out.old) (W.contents out.new)
+        (view_text view (samples_of run.now.lists) [] None)) }
+    ensures err { IfErr result (FailsToShow run.now.lists
+        (view_text view (samples_of run.now.lists) [] None)
+        (W.contents out.old) (W.contents out.new)) }
+{
+    if any_fault(run.lists()) {
+        return Err(Failure::Faults);
+    }
+    let mut text = Vec::new(alloc);
+    append_plain_view(alloc, run, view, &mut text)?;
+    Ok(send(text.as_slice(), out)?)
 }

@@ -13,16 +13,17 @@ use std::alloc::{AllocError, Global};
 pub const SOURCE_COUNT: usize = 64;
 
 // The sources of these paths, in order, or the input where there is none. The first that fails ends
-// it.
+// it. All have the format that was asked for, or each that of its name.
 pub(crate) fn open_sources<F: Files>(
     alloc: Global,
     files: &mut F,
     paths: &[String],
+    asked: Option<Format>,
 ) -> Result<Vec<Source>, Failure>
     ensures few { IfOk result (λ sources. length sources.items ≤ 64) }
     ensures count { IfOk result (λ sources.
         length paths.now ≡ 2 → length sources.items ≡ 2) }
-    ensures opened { IfOk result (λ sources. AreOpened (F.known_input files.old)
+    ensures opened { IfOk result (λ sources. AreOpened asked (F.known_input files.old)
         (F.known_file files.old) (map string_bytes paths.now) sources.items) }
     ensures err { IfErr result (IsOpening (length paths.now)) }
 {
@@ -31,11 +32,11 @@ pub(crate) fn open_sources<F: Files>(
     }
     let mut sources = Vec::new(alloc);
     if paths.is_empty() {
-        add_source(&mut sources, input(alloc, files)?)?;
+        add_source(&mut sources, input(alloc, files, asked)?)?;
         return Ok(sources);
     }
     for (at, path) in paths.iter().enumerate() {
-        add_source(&mut sources, named(alloc, files, at, path)?)?;
+        add_source(&mut sources, named(alloc, files, at, path, asked)?)?;
     }
     Ok(sources)
 }
@@ -47,15 +48,15 @@ fn add_source(sources: &mut Vec<Source>, source: Source) -> Result<(), AllocErro
     Ok(())
 }
 
-// The input, which is folded text.
-fn input<F: Files>(alloc: Global, files: &mut F) -> Result<Source, Failure>
+// The input, which is folded text unless another format was asked for.
+fn input<F: Files>(alloc: Global, files: &mut F, asked: Option<Format>) -> Result<Source, Failure>
     ensures input { IfOk result (λ source.
-        IfSome (F.known_input files.old) (IsInput (source ∷ []))) }
+        IfSome (F.known_input files.old) (IsInput asked (source ∷ []))) }
     ensures err { IfErr result (IsOpening 0) }
 {
     match files.input(alloc) {
         Ok(bytes) => Ok(Source {
-            format: Format::Folded,
+            format: asked.unwrap_or(Format::Folded),
             bytes,
         }),
         Err(fault) => Err(Failure::of_load(0, fault)),
@@ -63,14 +64,20 @@ fn input<F: Files>(alloc: Global, files: &mut F) -> Result<Source, Failure>
 }
 
 // The source of a path.
-fn named<F: Files>(alloc: Global, files: &mut F, at: usize, path: &str) -> Result<Source, Failure>
-    ensures opened { IfOk result (IsOpened (F.known_file files.old) path.now) }
+fn named<F: Files>(
+    alloc: Global,
+    files: &mut F,
+    at: usize,
+    path: &str,
+    asked: Option<Format>,
+) -> Result<Source, Failure>
+    ensures opened { IfOk result (IsOpened asked (F.known_file files.old) path.now) }
     ensures files { F.known_file files.new ≡ F.known_file files.old }
     ensures err { IfErr result (IsOpening 0) }
 {
     match files.named(alloc, path) {
         Ok(bytes) => Ok(Source {
-            format: format_of(path),
+            format: asked.unwrap_or(format_of(path)),
             bytes,
         }),
         Err(fault) => Err(Failure::of_load(at, fault)),

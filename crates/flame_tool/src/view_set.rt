@@ -64,8 +64,8 @@ impl Views {
           chart = chart_of (timeline (samples_of gathered.lists));
         }) }
     {
-        let graph = draw_graph(alloc, &gathered)?;
-        let chart = draw_chart(alloc, &gathered)?;
+        let graph = draw_graph(alloc, gathered.sources())?;
+        let chart = draw_chart(alloc, gathered.sources())?;
         Ok(Views {
             gathered,
             graph,

@@ -1,5 +1,5 @@
 //! The text of a view of what was collected.
-ghost use Rattle.std.specs.Prelude.{◌≡◌, ◌++◌, ◌<◌, ◌^◌, OnOk, OnErr, length};
+ghost use Rattle.std.specs.Prelude.{◌≡◌, ◌++◌, ◌<◌, ◌^◌, [], None, OnOk, OnErr, length};
 ghost use Rattle.flame_layout.specs.Timeline.{samples_of, total_weight};
 ghost use Rattle.view_texts.specs.Fold.{fold_text};
 ghost use Rattle.view_texts.specs.Pairs.{pairs_text};
@@ -9,14 +9,14 @@ ghost use Rattle.flame_tool.specs.Texts.{view_text, pair_boxes_text};
 ghost use Rattle.stack_core.specs.Interleaving.{list_of};
 
 use crate::drawings::{draw_chart, draw_graph};
-use crate::graph_texts::{append_chart, append_graph};
+use crate::graph_texts::{append_chart, append_graph, append_graph_line};
 use crate::view_set::Views;
 use command_line::View;
-use flame_layout::{Width, compare, compared_boxes};
-use merging::Gathered;
+use flame_layout::{MergedStacks, Width, compare, compared_boxes};
+use merging::{Gathered, SourceLists};
 use stack_core::SourceList;
 use std::alloc::{AllocError, Global};
-use view_texts::{Scale, append_fold_text, append_pair_boxes_line, append_pairs_text};
+use view_texts::{Scale, append_merged_text, append_pair_boxes_line, append_pairs_text};
 
 /// Appends the whole text of a view: folded lines, two-column lines, or lines of JSON. An `Err` changes
 /// nothing. The two views of a comparison are of exactly two sources.
@@ -28,9 +28,11 @@ pub fn render(alloc: Global, views: &Views, view: View, out: &mut Vec<u8>) -> Re
 {
     match view {
         View::Graph(width) => append_graph(alloc, out, views.gathered(), views.graph(), width),
-        View::Chart(width) => append_chart(alloc, out, views.gathered(), views.chart(), width),
+        View::Chart(width) => {
+            append_chart(alloc, out, views.gathered().sources(), views.chart(), width)
+        }
         View::Fold | View::Pairs | View::PairBoxes(_) => {
-            append_view(alloc, views.gathered(), view, out)
+            append_plain_view(alloc, views.gathered().sources(), view, out)
         }
     }
 }
@@ -47,39 +49,65 @@ pub(crate) fn append_view(
         ++ view_text view (samples_of gathered.now.lists) gathered.now.order gathered.now.every) }
     ensures err { OnErr result (out.new.items ≡ out.old.items) }
 {
+    let sources = gathered.sources();
     match view {
-        View::Fold => append_fold(alloc, out, gathered),
         View::Graph(width) => {
-            let boxes = draw_graph(alloc, gathered)?;
+            let boxes = draw_graph(alloc, sources)?;
             append_graph(alloc, out, gathered, &boxes, width)
         }
-        View::Chart(width) => {
-            let boxes = draw_chart(alloc, gathered)?;
-            append_chart(alloc, out, gathered, &boxes, width)
+        View::Fold | View::Chart(_) | View::Pairs | View::PairBoxes(_) => {
+            append_plain_view(alloc, sources, view, out)
         }
-        View::Pairs => append_pairs(alloc, out, gathered),
-        View::PairBoxes(width) => append_pair_boxes(alloc, out, gathered, width),
+    }
+}
+
+// Appends the text of a view without snapshots, and draws no more than that view needs. An `Err` changes
+// nothing.
+pub(crate) fn append_plain_view(
+    alloc: Global,
+    sources: &SourceLists,
+    view: View,
+    out: &mut Vec<u8>,
+) -> Result<(), AllocError>
+    requires pairs { IsComparison view → length sources.now.lists ≡ 2 }
+    ensures ok { OnOk result (out.new.items ≡ out.old.items
+        ++ view_text view (samples_of sources.now.lists) [] None) }
+    ensures err { OnErr result (out.new.items ≡ out.old.items) }
+{
+    match view {
+        View::Fold => append_fold(alloc, out, sources),
+        View::Graph(width) => {
+            let boxes = draw_graph(alloc, sources)?;
+            append_graph_line(alloc, out, sources, &boxes, width)
+        }
+        View::Chart(width) => {
+            let boxes = draw_chart(alloc, sources)?;
+            append_chart(alloc, out, sources, &boxes, width)
+        }
+        View::Pairs => append_pairs(alloc, out, sources),
+        View::PairBoxes(width) => append_pair_boxes(alloc, out, sources, width),
     }
 }
 
 // Appends the fold text of all samples.
-fn append_fold(alloc: Global, out: &mut Vec<u8>, gathered: &Gathered) -> Result<(), AllocError>
+fn append_fold(alloc: Global, out: &mut Vec<u8>, sources: &SourceLists) -> Result<(), AllocError>
     ensures ok { OnOk result (out.new.items ≡ out.old.items
-        ++ fold_text (all_samples (samples_of gathered.now.lists))) }
+        ++ fold_text (all_samples (samples_of sources.now.lists))) }
     ensures err { OnErr result (out.new.items ≡ out.old.items) }
 {
-    append_fold_text(alloc, out, gathered.tree(), gathered.table())
+    let merged = MergedStacks::of(alloc, sources.lists())?;
+    append_merged_text(out, &merged)
 }
 
 // Appends the two-column text of the first two sources.
-fn append_pairs(alloc: Global, out: &mut Vec<u8>, gathered: &Gathered) -> Result<(), AllocError>
-    requires { length gathered.now.lists ≡ 2 }
+fn append_pairs(alloc: Global, out: &mut Vec<u8>, sources: &SourceLists) -> Result<(), AllocError>
+    requires { length sources.now.lists ≡ 2 }
     ensures ok { OnOk result (out.new.items ≡ out.old.items
-        ++ pairs_text (list_of (samples_of gathered.now.lists) 0)
-        (list_of (samples_of gathered.now.lists) 1)) }
+        ++ pairs_text (list_of (samples_of sources.now.lists) 0)
+        (list_of (samples_of sources.now.lists) 1)) }
     ensures err { OnErr result (out.new.items ≡ out.old.items) }
 {
-    let lists = gathered.lists();
+    let lists = sources.lists();
     let rows = compare(alloc, &lists[0], &lists[1])?;
     append_pairs_text(alloc, out, &rows)
 }
@@ -88,16 +116,16 @@ fn append_pairs(alloc: Global, out: &mut Vec<u8>, gathered: &Gathered) -> Result
 fn append_pair_boxes(
     alloc: Global,
     out: &mut Vec<u8>,
-    gathered: &Gathered,
+    sources: &SourceLists,
     width: Width,
 ) -> Result<(), AllocError>
-    requires { length gathered.now.lists ≡ 2 }
+    requires { length sources.now.lists ≡ 2 }
     ensures ok { OnOk result (out.new.items ≡ out.old.items
-        ++ pair_boxes_text width (list_of (samples_of gathered.now.lists) 0)
-        (list_of (samples_of gathered.now.lists) 1)) }
+        ++ pair_boxes_text width (list_of (samples_of sources.now.lists) 0)
+        (list_of (samples_of sources.now.lists) 1)) }
     ensures err { OnErr result (out.new.items ≡ out.old.items) }
 {
-    let lists = gathered.lists();
+    let lists = sources.lists();
     append_compared(alloc, out, &lists[0], &lists[1], width)
 }
 

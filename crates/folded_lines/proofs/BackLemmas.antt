@@ -32,7 +32,7 @@ inner_kept : (x y : List ℕ) (ys : List (List ℕ)) → onto_kept x (y ∷ ys) 
 inner_kept [] y ys = refl
 inner_kept (b ∷ bs) y ys = refl
 
-all_kept : (x : List ℕ) (xs : List (List ℕ)) → EndsPlainly (x ∷ xs) → without_trailing_empty (x ∷ xs) ≡ x ∷ xs
+pub all_kept : (x : List ℕ) (xs : List (List ℕ)) → EndsPlainly (x ∷ xs) → without_trailing_empty (x ∷ xs) ≡ x ∷ xs
 all_kept x [] plain = last_kept x plain.0
 all_kept x (y ∷ ys) plain = ap (onto_kept x) (all_kept y ys plain) ∙ inner_kept x y ys
 

@@ -101,27 +101,35 @@ columns-none (b ∷ line) all =
     let both = and_parts _ _ all in
     columns-cons b line ∙ ap (columns_behind (is_blank b) b line) (columns-none line both.1) ∙ ap (λ t. columns_behind t b line None) (not-true _ both.0)
 
--- what is no number with a ';' in it
-is_number-semicolon : (front rest : List ℕ) → is_number (front ++ 59 ∷ rest) ≡ false
-is_number-semicolon front rest = and_right _ _ (and_left _ _ (holds front))
+-- a byte that neither stands between columns nor in a number
+abbrev pub IsApart : ℕ → Type 0
+IsApart s = (is_blank s ≡ false) × ((is_ascii_digit s || is_point s) ≡ false)
+
+-- what is no number with such a byte in it
+is_number-apart : (s : ℕ) → IsApart s → (front rest : List ℕ) → is_number (front ++ s ∷ rest) ≡ false
+is_number-apart s apart front rest = and_right _ _ (and_left _ _ (holds front))
   where
-    holds : (xs : List ℕ) → list_all (λ b. is_ascii_digit b || is_point b) (xs ++ 59 ∷ rest) ≡ false
-    holds [] = refl
+    holds : (xs : List ℕ) → list_all (λ b. is_ascii_digit b || is_point b) (xs ++ s ∷ rest) ≡ false
+    holds [] = and_left _ _ apart.1
     holds (x ∷ xs) = and_right _ _ (holds xs)
 
--- a line ends in a number where the part after its first ';' does
-pub ends_in_number-after : (front rest : List ℕ) → ends_in_number (columns (front ++ 59 ∷ rest)) ≡ ends_in_number (columns rest)
-ends_in_number-after [] rest = ap ends_in_number (columns-cons 59 rest) ∙ by_case (columns rest)
+-- a line ends in a number where the part after its first such byte does
+pub ends_in_number-apart : (s : ℕ) → IsApart s → (front rest : List ℕ) → ends_in_number (columns (front ++ s ∷ rest)) ≡ ends_in_number (columns rest)
+ends_in_number-apart s apart [] rest =
+    ap ends_in_number (columns-cons s rest) ∙ ap (λ t. ends_in_number (columns_behind t s rest (columns rest))) apart.0 ∙ by_case (columns rest)
   where
-    by_case : (o : Option (List ℕ × List ℕ)) → ends_in_number (columns_behind false 59 rest o) ≡ ends_in_number o
+    by_case : (o : Option (List ℕ × List ℕ)) → ends_in_number (columns_behind false s rest o) ≡ ends_in_number o
     by_case None = refl
     by_case (Some parts) = refl
-ends_in_number-after (b ∷ front) rest =
-    let line = front ++ 59 ∷ rest in
-    ap ends_in_number (columns-cons b line) ∙ by_case (is_blank b) (columns line) ∙ ends_in_number-after front rest
+ends_in_number-apart s apart (b ∷ front) rest =
+    let line = front ++ s ∷ rest in
+    ap ends_in_number (columns-cons b line) ∙ by_case (is_blank b) (columns line) ∙ ends_in_number-apart s apart front rest
   where
-    by_case : (t : Bool) (o : Option (List ℕ × List ℕ)) → ends_in_number (columns_behind t b (front ++ 59 ∷ rest) o) ≡ ends_in_number o
-    by_case true None = is_number-semicolon front rest
+    by_case : (t : Bool) (o : Option (List ℕ × List ℕ)) → ends_in_number (columns_behind t b (front ++ s ∷ rest) o) ≡ ends_in_number o
+    by_case true None = is_number-apart s apart front rest
     by_case false None = refl
     by_case true (Some parts) = refl
     by_case false (Some parts) = refl
+
+pub ends_in_number-after : (front rest : List ℕ) → ends_in_number (columns (front ++ 59 ∷ rest)) ≡ ends_in_number (columns rest)
+ends_in_number-after = ends_in_number-apart 59 (refl, refl)

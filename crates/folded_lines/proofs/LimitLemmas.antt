@@ -17,6 +17,7 @@ use Rattle.folded_lines.specs.declared.lines.Line.TheVariants.{Ignored, Fault, S
 use Rattle.folded_lines.specs.declared.cursor.Cursor.{Cursor}
 use Rattle.folded_lines.specs.Lines.{text_lines, columns, has_point, ends_in_number, names_of, sample_of, read_columns, read_line}
 use Rattle.folded_lines.specs.checked.Scanning.{within_total, scan, rest_at, IsWithin}
+use Rattle.stack_core.specs.RowReading.{ToldRows}
 use Rattle.folded_lines.specs.checked.View.{state_at}
 use Rattle.folded_lines.proofs.ScanLemmas.{scan_line}
 
@@ -52,11 +53,11 @@ rest_at-short bytes cursor =
       length-drop cursor.position bytes,
     )
 
-pub state_at-short : (bytes : List ℕ) (cursor : Cursor) (ended : Option SourceEnd) → length (state_at bytes cursor ended).rest.samples ≤ length bytes
-state_at-short bytes cursor None = rest_at-short bytes cursor
-state_at-short bytes cursor (Some ending) = omega arith
+pub state_at-short : (bytes : List ℕ) (cursor : Cursor) (ended : Option SourceEnd) (told : ToldRows) → length (state_at bytes cursor ended told).rest.samples ≤ length bytes
+state_at-short bytes cursor None told = rest_at-short bytes cursor
+state_at-short bytes cursor (Some ending) told = omega arith
 
-by_test : (P : Line → Type 0) (b : Bool) (x y : Line) → (b ≡ true → P x) → (b ≡ false → P y) → P (cond b x y)
+pub by_test : (P : Line → Type 0) (b : Bool) (x y : Line) → (b ≡ true → P x) → (b ≡ false → P y) → P (cond b x y)
 by_test P true x y when other = when refl
 by_test P false x y when other = other refl
 

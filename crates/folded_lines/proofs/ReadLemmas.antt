@@ -5,6 +5,7 @@ use Rattle.std.proofs.lemmas.List.{append-nil}
 use Rattle.std.proofs.lemmas.List.Elements.{All-nil}
 use Rattle.std.proofs.lemmas.List.Sums.{sum_by_push}
 use Rattle.stack_core.specs.Reading.{Rest, IsLimited, IsSourceLimited}
+use Rattle.stack_core.specs.RowReading.{ToldRows}
 use Rattle.stack_core.specs.declared.samples.TheConstants.{WEIGHT_LIMIT}
 use Rattle.stack_core.specs.declared.samples.Sample.{Sample as StackSample}
 use Rattle.stack_core.specs.declared.endings.ReadKind.{ReadKind}
@@ -29,13 +30,13 @@ behind samples rest = record { samples = samples ++ rest.samples; ending = rest.
 abbrev scan_after : List Line → List (List ℕ) → Rest
 scan_after before lines = scan (length before) (count_by is_ignored before) (total_weight (samples_of before)) lines
 
-samples_of-append : (xs ys : List Line) → samples_of (xs ++ ys) ≡ samples_of xs ++ samples_of ys
+pub samples_of-append : (xs ys : List Line) → samples_of (xs ++ ys) ≡ samples_of xs ++ samples_of ys
 samples_of-append [] ys = refl
 samples_of-append (Ignored ∷ xs) ys = samples_of-append xs ys
 samples_of-append (Fault kind ∷ xs) ys = samples_of-append xs ys
 samples_of-append (Sample sample ∷ xs) ys = ap (λ t. sample ∷ t) (samples_of-append xs ys)
 
-samples_of-ignored : (xs : List Line) → samples_of (xs ++ Ignored ∷ []) ≡ samples_of xs
+pub samples_of-ignored : (xs : List Line) → samples_of (xs ++ Ignored ∷ []) ≡ samples_of xs
 samples_of-ignored xs = samples_of-append xs (Ignored ∷ []) ∙ append-nil (samples_of xs)
 
 nothing_behind : (samples : List StackSample) (ending : SourceEnd) → behind samples (record { samples = []; ending = ending }) ≡ record { samples = samples; ending = ending }
@@ -50,7 +51,7 @@ counts n i t n' i' t' front front' lines f a b c =
 one_more : (before : List Line) (line : Line) → length (before ++ line ∷ []) ≡ length before + 1
 one_more before line = length-append before (line ∷ [])
 
-abbrev after_fault : List Line → Line → List Line → Option ReadKind → Rest
+abbrev pub after_fault : List Line → Line → List Line → Option ReadKind → Rest
 after_fault before line lines fault =
     elim fault [ None ↦ read_after (before ++ line ∷ []) lines | Some kind ↦ cut_short before kind ]
 
@@ -103,15 +104,15 @@ read_after-all lines = read_after-scan lines []
 abbrev pub start : Cursor
 start = record { position = 0; taken = 0; ignored = 0; total = 0 }
 
-at_start : (bytes : List ℕ) (compressed : Bool)
-    → (state_at bytes start (then_some compressed (ends.Fault (record { kind = Compressed; at = 1 })))).rest
+at_start : (bytes : List ℕ) (told : ToldRows) (compressed : Bool)
+    → (state_at bytes start (then_some compressed (ends.Fault (record { kind = Compressed; at = 1 }))) told).rest
     ≡ cond compressed (cut_short [] Compressed) (read_after [] (map read_line (text_lines bytes)))
-at_start bytes true = refl
-at_start bytes false = sym (read_after-all (text_lines bytes))
+at_start bytes told true = refl
+at_start bytes told false = sym (read_after-all (text_lines bytes))
 
-pub read_folded-start : (bytes : List ℕ) (ended : Option SourceEnd) → ended ≡ then_some (begins_compressed bytes) (ends.Fault (record { kind = Compressed; at = 1 }))
-    → (state_at bytes start ended).rest ≡ read_folded bytes
-read_folded-start bytes ended is = ap (λ e. (state_at bytes start e).rest) is ∙ at_start bytes (begins_compressed bytes)
+pub read_folded-start : (bytes : List ℕ) (told : ToldRows) (ended : Option SourceEnd) → ended ≡ then_some (begins_compressed bytes) (ends.Fault (record { kind = Compressed; at = 1 }))
+    → (state_at bytes start ended told).rest ≡ read_folded bytes
+read_folded-start bytes told ended is = ap (λ e. (state_at bytes start e told).rest) is ∙ at_start bytes told (begins_compressed bytes)
 
 limited_at : (bytes : List ℕ) (compressed : Bool)
     → IsSourceLimited (cond compressed (cut_short [] Compressed) (read_after [] (map read_line (text_lines bytes)))).samples

@@ -1,5 +1,5 @@
 -- What is left of a text at some line, step by step.
-use Rattle.std.proofs.Common.{◌≡◌, ℕ, ◌+◌, ◌<◌, ◌≤◌, List, ◌∷◌, length, map, take, drop, drop-drop, length-drop, refl, sym, ap, ◌∙◌, arith}
+use Rattle.std.proofs.Common.{◌≡◌, ℕ, ◌+◌, ◌-◌, ◌<◌, ◌≤◌, List, ◌∷◌, length, map, take, drop, take_all, drop-drop, length-drop, refl, sym, ap, ◌∙◌, arith}
 use Rattle.std.proofs.lemmas.List.{drop_all}
 use Rattle.bstr.specs.Text.{line_len, without_terminator}
 use Rattle.bstr.proofs.lemmas.LineLemmas.{line_len-bounds, lines-step, lines-nil}
@@ -14,6 +14,10 @@ use Rattle.folded_lines.specs.checked.Scanning.{within_total, ended, followed_by
 -- the line at a place
 abbrev pub line_at : List ℕ → Cursor → List ℕ
 line_at bytes cursor = without_terminator (take (line_len (drop cursor.position bytes)) (drop cursor.position bytes))
+
+-- what stands from the place on
+pub left-whole : (bytes : List ℕ) (cursor : Cursor) → take (length bytes - cursor.position) (drop cursor.position bytes) ≡ drop cursor.position bytes
+left-whole bytes cursor = take_all _ _ (omega (arith, length-drop cursor.position bytes))
 
 -- what is left at a line that reads so
 abbrev pub scan_line : ℕ → ℕ → ℕ → List (List ℕ) → Line → Rest
@@ -34,13 +38,18 @@ scan_by cursor len line lines Ignored is = ap (scan_at cursor lines) is
 scan_by cursor len line lines (Fault kind) is = ap (scan_at cursor lines) is
 scan_by cursor len line lines (Sample sample) is = ap (scan_at cursor lines) is
 
-text_lines-step : (bytes : List ℕ) → 0 < length bytes → text_lines bytes ≡ without_terminator (take (line_len bytes) bytes) ∷ text_lines (drop (line_len bytes) bytes)
+pub text_lines-step : (bytes : List ℕ) → 0 < length bytes → text_lines bytes ≡ without_terminator (take (line_len bytes) bytes) ∷ text_lines (drop (line_len bytes) bytes)
 text_lines-step bytes some = ap (map without_terminator) (lines-step bytes some)
 
 pub position_after : (cursor : Cursor) (len : ℕ) (read : Line) → (place_after cursor len read).position ≡ cursor.position + len
 position_after cursor len Ignored = refl
 position_after cursor len (Fault kind) = refl
 position_after cursor len (Sample sample) = refl
+
+pub taken_after : (cursor : Cursor) (len : ℕ) (read : Line) → (place_after cursor len read).taken ≡ cursor.taken + 1
+taken_after cursor len Ignored = refl
+taken_after cursor len (Fault kind) = refl
+taken_after cursor len (Sample sample) = refl
 
 -- a line is read, and what follows it is left
 pub rest_at-step : (bytes : List ℕ) (cursor : Cursor) (read : Line) → cursor.position < length bytes → read ≡ within_total cursor.total (read_line (line_at bytes cursor))

@@ -38,7 +38,7 @@ one_ascii b low = IsUtf8-from_ascii (b ∷ []) ascii
     ascii (suc i) = omega arith
 
 -- bytes that are no LF
-abbrev HasNoFeed : List ℕ → Type 0
+abbrev pub HasNoFeed : List ℕ → Type 0
 HasNoFeed bytes = All (λ b. b ≢ 10) bytes
 
 digits_have_no_feed : (ds : List ℕ) → list_all is_ascii_digit ds ≡ true → HasNoFeed ds

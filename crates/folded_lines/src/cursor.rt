@@ -67,7 +67,9 @@ impl Cursor {
 
 /// The line without a CR at its end.
 fn without_cr(line: &[u8]) -> &[u8]
-    ensures { result.now ≡ no_cr line.now }
+    ensures text { result.now ≡ no_cr line.now }
+    ensures front { result.now ≡ take (length result.now) line.now }
+    ensures short { length result.now ≤ length line.now }
 {
     match line.last() {
         Some(b'\r') => &line[..line.len() - 1],
@@ -76,10 +78,12 @@ fn without_cr(line: &[u8]) -> &[u8]
 }
 
 /// The first line without its end, and how many bytes it takes with its end.
-fn first_line(bytes: &[u8]) -> (&[u8], usize)
+pub(crate) fn first_line(bytes: &[u8]) -> (&[u8], usize)
     requires { 0 < length bytes.now }
     ensures text { result.0.now ≡ without_terminator (take (line_len bytes.now) bytes.now) }
     ensures len { result.1 ≡ line_len bytes.now }
+    ensures front { result.0.now ≡ take (length result.0.now) bytes.now }
+    ensures short { length result.0.now ≤ length bytes.now }
 {
     match memchr(b'\n', bytes) {
         None => (bytes, bytes.len()),
@@ -95,6 +99,7 @@ fn take_line(alloc: Global, bytes: &[u8], cursor: Cursor) -> Result<(Line, Curso
         rest_at bytes.now cursor ≡ rest_from cursor taken.0 (rest_at bytes.now taken.1)) }
     ensures place { IfOk result (λ taken. IsPlace bytes.now taken.1) }
     ensures nearer { IfOk result (λ taken. cursor.position < taken.1.position) }
+    ensures later { IfOk result (λ taken. cursor.taken ≤ taken.1.taken) }
     ensures within { IfOk result (λ taken. IsWithin cursor.total taken.0) }
 {
     let (text, len) = first_line(&bytes[cursor.position..]);
@@ -114,6 +119,7 @@ pub(crate) fn next_step(
         IsLeftBefore (rest_at bytes.now cursor) next.0 (rest_at bytes.now next.1)) }
     ensures place { IfOk result (λ next. IsPlace bytes.now next.1) }
     ensures limits { IfOk result (λ next. IsWithinLimits next.0) }
+    ensures later { IfOk result (λ next. cursor.taken ≤ next.1.taken) }
 {
     let mut cursor = cursor;
     while cursor.position < bytes.len() {

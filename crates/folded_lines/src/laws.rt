@@ -1,11 +1,16 @@
 //! What holds of the definitions.
 
-ghost use Rattle.std.specs.Prelude.{◌≡◌, ◌≤◌, List, All, sum_by};
+ghost use Rattle.std.specs.Prelude.{◌≡◌, ◌≤◌, ◌++◌, ◌∷◌, [], ℕ, false, List, All, sum_by};
+ghost use Rattle.std.specs.List.{concat};
+ghost use Rattle.stack_core.specs.Samples.{total_weight};
 ghost use Rattle.stack_core.specs.declared.samples.TheConstants.{WEIGHT_LIMIT};
 ghost use Rattle.stack_core.specs.declared.samples.Sample.{Sample};
 ghost use Rattle.stack_core.specs.declared.endings.SourceEnd.TheVariants as ends;
-ghost use Rattle.folded_lines.specs.Reading.{read_folded};
+ghost use Rattle.folded_lines.specs.LastNames.{last_ends_in_number, is_open};
+ghost use Rattle.folded_lines.specs.Lines.{text_lines};
+ghost use Rattle.folded_lines.specs.Reading.{begins_compressed, read_folded};
 ghost use Rattle.folded_lines.specs.ReadingBack.{IsPlain, text_of};
+ghost use Rattle.folded_lines.specs.TextParts.{IsWholeLines, AreCutAtLines, IsFaultless, samples_of_parts, ReadsAsParts};
 
 /// Text of written lines reads back as the same samples, with none ignored, where no name holds `;` or
 /// a line feed, no stack ends in an empty name or in a name that ends in a space or tab and a number, no
@@ -14,4 +19,27 @@ pub fn lines_read_back()
     ensures { (samples : List Sample) → All IsPlain samples
         → sum_by (λ sample. sample.weight) samples ≤ WEIGHT_LIMIT
         → read_folded (text_of samples) ≡ record { samples = samples; ending = ends.Clean 0 } }
+{}
+
+/// A sample that is read can be written and read back, but where its last name ends in a space or tab
+/// and a number. Only a line whose names end in `;` gives such a sample.
+pub fn names_read_back()
+    ensures plain { (bytes : List ℕ) → All (λ sample.
+        last_ends_in_number sample.stack ≡ false → IsPlain sample) (read_folded bytes).samples }
+    ensures closed { (bytes : List ℕ) → All (λ line. is_open line ≡ false) (text_lines bytes)
+        → All IsPlain (read_folded bytes).samples }
+{}
+
+/// Text that is cut at line ends reads as its parts do, one after another. It holds where all of the
+/// whole is read and no part begins as gzip does, and where all of each part is read and the weights of
+/// all add up to at most 2^56-1.
+pub fn text_reads_as_its_parts()
+    ensures two { (one other : List ℕ) → IsWholeLines one → begins_compressed other ≡ false
+        → IsFaultless (one ++ other) → ReadsAsParts (one ++ other) (one ∷ other ∷ []) }
+    ensures whole { (parts : List (List ℕ)) → AreCutAtLines parts
+        → All (λ part. begins_compressed part ≡ false) parts
+        → IsFaultless (concat parts) → ReadsAsParts (concat parts) parts }
+    ensures parts { (parts : List (List ℕ)) → AreCutAtLines parts → All IsFaultless parts
+        → total_weight (samples_of_parts parts) ≤ WEIGHT_LIMIT
+        → ReadsAsParts (concat parts) parts }
 {}

@@ -7,8 +7,12 @@ mod cursor;
 pub mod laws;
 mod lines;
 mod names;
+mod numbering;
 mod parse;
 mod reader;
+mod row_lines;
+mod row_steps;
+mod telling;
 #[cfg(test)]
 mod tests;
 mod writing;

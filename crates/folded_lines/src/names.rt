@@ -10,7 +10,7 @@ use memchr::memchr;
 use stack_core::{FRAME_LIMIT, Names};
 use std::alloc::{AllocError, Global};
 
-fn without_trailing_semicolons(head: &[u8]) -> &[u8]
+pub(crate) fn without_trailing_semicolons(head: &[u8]) -> &[u8]
     ensures { result.now ≡ without_trailing_semicolons head.now }
 {
     let mut end = head.len();
@@ -21,7 +21,7 @@ fn without_trailing_semicolons(head: &[u8]) -> &[u8]
 }
 
 /// The first name, and what follows the `;` after it.
-fn first_name(text: &str) -> (&str, Option<&str>)
+pub(crate) fn first_name(text: &str) -> (&str, Option<&str>)
     ensures split { MatchOption result.1
         (slice_split is_semicolon text.now ≡ result.0.now ∷ [])
         (λ rest. slice_split is_semicolon text.now

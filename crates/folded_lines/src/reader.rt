@@ -1,12 +1,14 @@
 //! Folded text, read line by line.
 
-ghost use Rattle.std.specs.Prelude.{◌≡◌, ◌≢◌, ℕ, IsTrue};
+ghost use Rattle.std.specs.Prelude.{◌≡◌, ◌≢◌, ℕ, [], IsTrue};
 ghost use Rattle.stack_core.specs.Reading.{IsSourceLimited};
 ghost use Rattle.stack_core.specs.declared.endings.SourceEnd.TheVariants.{Stopped};
 ghost use Rattle.folded_lines.specs.Reading.{read_folded, begins_compressed};
 
 use crate::cursor::{Cursor, next_step};
-use stack_core::{ReadFault, ReadKind, SampleReader, SourceEnd, Step};
+use crate::row_steps::next_row_step;
+use crate::telling::Telling;
+use stack_core::{ReadFault, ReadKind, RowReader, RowStep, SampleReader, SourceEnd, Step};
 use std::alloc::{AllocError, Global};
 use std::marker::Model;
 
@@ -19,6 +21,7 @@ pub struct FoldedReader {
     bytes: Vec<u8>,
     cursor: Cursor,
     ended: Option<SourceEnd>,
+    telling: Telling,
 }
 
 impl Model for FoldedReader {
@@ -45,8 +48,10 @@ impl FoldedReader {
     pub fn over(bytes: Vec<u8>) -> Self
         ensures rest { result.rest ≡ read_folded bytes.items }
         ensures limits { IsSourceLimited (read_folded bytes.items).samples }
+        ensures told { result.told ≡ record { names = []; stacks = [] } }
         ensures unstopped { (after : ℕ) → (read_folded bytes.items).ending ≢ Stopped after }
     {
+        let telling = Telling::new(*bytes.allocator());
         let ended = begins_compressed(&bytes).then_some(SourceEnd::Fault(ReadFault {
             kind: ReadKind::Compressed,
             at: 1,
@@ -55,6 +60,7 @@ impl FoldedReader {
             bytes,
             cursor: Cursor::START,
             ended,
+            telling,
         }
     }
 }
@@ -71,6 +77,27 @@ impl SampleReader for FoldedReader {
         let (step, cursor) = next_step(alloc, self.bytes.as_slice(), self.cursor)?;
         self.cursor = cursor;
         if let Step::End(ending) = &step {
+            self.ended = Some(*ending);
+        }
+        Ok(step)
+    }
+}
+
+impl RowReader for FoldedReader {
+    ghost rest = { λ reader. reader.rest };
+
+    ghost told = { λ reader. reader.told };
+
+    ghost has_ended = { λ reader. IsTrue reader.has_ended };
+
+    fn next_row(&mut self, alloc: Global) -> Result<RowStep, AllocError> {
+        if let Some(ending) = self.ended {
+            return Ok(RowStep::End(ending));
+        }
+        let bytes = self.bytes.as_slice();
+        let (step, next) = next_row_step(alloc, bytes, self.cursor, &mut self.telling)?;
+        self.cursor = next;
+        if let RowStep::End(ending) = &step {
             self.ended = Some(*ending);
         }
         Ok(step)

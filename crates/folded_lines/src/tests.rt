@@ -1,7 +1,7 @@
 //! Worked examples of folded text, read and written.
 
 use super::*;
-use stack_core::{ReadKind, SampleReader, SourceEnd, Step};
+use stack_core::{Listed, ReadKind, RowReader, RowStep, SampleReader, SourceEnd, Step, Text};
 use std::alloc::{AllocError, Global};
 use std::process::Abort;
 use std::test::Fail;
@@ -21,6 +21,63 @@ fn read(alloc: Global, text: &[u8]) -> Result<(Vec<u8>, Option<SourceEnd>), Allo
     Ok((lines, None))
 }
 
+/// The names and rows that a reader told.
+#[derive(Drop)]
+struct Told {
+    names: Vec<Text>,
+    rows: Vec<Listed<usize>>,
+}
+
+impl Told {
+    /// Appends the line of a row. A row or a number that was not told leaves its names out.
+    fn append(
+        &self,
+        alloc: Global,
+        lines: &mut Vec<u8>,
+        row: usize,
+        weight: u64,
+    ) -> Result<(), AllocError> {
+        let mut stack = Vec::new(alloc);
+        if let Some(frames) = self.rows.get(row) {
+            for number in frames.get() {
+                if let Some(name) = self.names.get(*number) {
+                    stack.push(String::from_str(alloc, name.get())?)?;
+                }
+            }
+        }
+        append_line(alloc, lines, stack.as_slice(), weight)
+    }
+}
+
+/// The same as `read`, by rows: each line is written of what was told so far.
+fn read_rows(alloc: Global, text: &[u8]) -> Result<(Vec<u8>, Option<SourceEnd>), AllocError> {
+    let mut reader = FoldedReader::over(text.to_vec(alloc)?);
+    let mut lines = Vec::new(alloc);
+    let mut told = Told {
+        names: Vec::new(alloc),
+        rows: Vec::new(alloc),
+    };
+    for _ in 0..100 {
+        match reader.next_row(alloc)? {
+            RowStep::New {
+                names,
+                frames,
+                weight,
+            } => {
+                for name in names.into_plain() {
+                    told.names.push(name)?;
+                }
+                let row = told.rows.len();
+                told.rows.push(frames)?;
+                told.append(alloc, &mut lines, row, weight)?;
+            }
+            RowStep::Again { row, weight } => told.append(alloc, &mut lines, row, weight)?,
+            RowStep::End(ending) => return Ok((lines, Some(ending))),
+        }
+    }
+    Ok((lines, None))
+}
+
 fn reads_as(
     rt: &(impl Abort + AllocGlobal),
     text: &[u8],
@@ -28,6 +85,9 @@ fn reads_as(
     ending: SourceEnd,
 ) -> Result<(), AllocError> {
     let (read, end) = read(rt.alloc(), text)?;
+    assert_eq!(rt; read.as_slice(), lines);
+    assert_eq!(rt; end, Some(ending));
+    let (read, end) = read_rows(rt.alloc(), text)?;
     assert_eq!(rt; read.as_slice(), lines);
     assert_eq!(rt; end, Some(ending));
     Ok(())
@@ -192,6 +252,94 @@ fn ending_again(rt: HostRuntime) -> Result<(), Fail> {
             Step::End(ending) => assert_eq!(rt; ending, clean(1)),
         }
     }
+    Ok(())
+}
+
+/// Whether a stack is told with these new names and numbers.
+fn is_new(step: &RowStep, new: &[&str], numbers: &[usize], sum: u64) -> bool {
+    let RowStep::New {
+        names,
+        frames,
+        weight,
+    } = step
+    else {
+        return false;
+    };
+    let names = names.get();
+    names.len() == new.len()
+        && names.iter().zip(new).all(|(name, new)| name.get() == *new)
+        && frames.get() == numbers
+        && *weight == sum
+}
+
+/// A name is told once, and a head that was met is known by its bytes. Its weight is that of its own line.
+#[test]
+fn rows_are_told_once(rt: HostRuntime) -> Result<(), Fail> {
+    let alloc = rt.alloc();
+    let text = b"a;b 1\na;b 2\nno count\nb;c;b 3\na;b; 4\r\nb;c;b\t5\n 6\na;b; 7\n 8\n";
+    let mut reader = FoldedReader::over(text.to_vec(alloc)?);
+    assert!(rt; is_new(&reader.next_row(alloc)?, &["a", "b"], &[0, 1], 1));
+    assert!(rt;
+        matches!(
+            reader.next_row(alloc)?,
+            RowStep::Again { row: 0, weight: 2 }
+        )
+    );
+    assert!(rt; is_new(&reader.next_row(alloc)?, &["c"], &[1, 2, 1], 3));
+    assert!(rt; is_new(&reader.next_row(alloc)?, &[], &[0, 1], 4));
+    assert!(rt;
+        matches!(
+            reader.next_row(alloc)?,
+            RowStep::Again { row: 1, weight: 5 }
+        )
+    );
+    assert!(rt; is_new(&reader.next_row(alloc)?, &[], &[], 6));
+    assert!(rt;
+        matches!(
+            reader.next_row(alloc)?,
+            RowStep::Again { row: 2, weight: 7 }
+        )
+    );
+    assert!(rt;
+        matches!(
+            reader.next_row(alloc)?,
+            RowStep::Again { row: 3, weight: 8 }
+        )
+    );
+    for _ in 0..2 {
+        assert!(rt;
+            matches!(
+                reader.next_row(alloc)?,
+                RowStep::End(SourceEnd::Clean { ignored: 1 })
+            )
+        );
+    }
+    Ok(())
+}
+
+/// A line whose head is known has the faults that its count has.
+#[test]
+fn known_heads_have_faults(rt: HostRuntime) -> Result<(), Fail> {
+    let most = b"a 72057594037927935\n";
+    reads_as(
+        &rt,
+        b"a 72057594037927935\na 1\n",
+        most,
+        fault(ReadKind::TotalTooLarge, 2),
+    )?;
+    reads_as(
+        &rt,
+        b"a 1\na 1.5\n",
+        b"a 1\n",
+        fault(ReadKind::DecimalWeight, 2),
+    )?;
+    reads_as(
+        &rt,
+        b"a 1\na 1 2\n",
+        b"a 1\n",
+        fault(ReadKind::TwoColumns, 2),
+    )?;
+    reads_as(&rt, b"a 1\na\na x\na 2\n", b"a 1\na 2\n", clean(2))?;
     Ok(())
 }
 

@@ -1,7 +1,9 @@
+pub mod BackLemmas
 pub mod CountLemmas
 pub mod GatherLemmas
 pub mod PairSums
-pub mod RowLemmas
+pub mod ReaderThreads
+mod RowLemmas
 pub mod SinkLemmas
 pub mod SnapshotLemmas
 pub mod SumLemmas

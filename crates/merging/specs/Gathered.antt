@@ -9,6 +9,11 @@ use Rattle.merging.specs.declared.snapshots.Snapshot.{Snapshot}
 use Rattle.merging.specs.Snapshots.{snapshot_samples, AreSnapshots}
 use Rattle.merging.specs.Sums.{all_samples, HasSumsOf}
 
+-- the lists of a run, and the order in which their samples came
+pub record ListsState : Type 0 where
+  pub lists : List ListState
+  pub order : List ℕ
+
 -- the lists, the order in which their samples came, and what was merged of them meanwhile
 pub record GatheredState : Type 0 where
   pub lists : List ListState
@@ -22,6 +27,11 @@ pub record GatheredState : Type 0 where
 pub record AreLimited (lists : List ListState) : Type 0 where
   pub few : length lists ≤ 64
   pub each : All (λ list. IsSourceLimited list.samples) lists
+
+-- the order is one of the lists, and they are within the limits
+pub record AreOrdered (lists : List ListState) (order : List ℕ) : Type 0 where
+  pub limits : AreLimited lists
+  pub ordered : IsInterleaving order (samples_of lists)
 
 -- the order is one of the lists, the tree has their sums, and the snapshots are those of the order
 pub record IsGathered (lists : List ListState) (order : List ℕ) (every : Option ℕ) (names : List (List ℕ)) (tree : Tree) (snapshots : List Snapshot) : Type 0 where

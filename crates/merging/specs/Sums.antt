@@ -1,16 +1,12 @@
 -- A merged tree that has the sums of samples.
-use Rattle.std.specs.Prelude.{◌≡◌, ◌<◌, ◌≤◌, ◌^◌, ℕ, List, [], ◌∷◌, ◌++◌, length}
+use Rattle.std.specs.Prelude.{◌≡◌, ◌<◌, ◌≤◌, ◌^◌, ℕ, List, [], length}
 use Rattle.stack_core.specs.declared.samples.Sample.{Sample}
 use Rattle.stack_core.specs.declared.samples.TheConstants.{FRAME_LIMIT}
 use Rattle.call_tree.specs.CallTree.{Tree, own_weight, total_weight}
 use Rattle.call_tree.specs.FrameTable.{HasDistinctNames}
 use Rattle.call_tree.specs.Listing.{named, HasNumbersOf, AreIn}
+pub use Rattle.flame_layout.specs.Merged.{all_samples}
 use Rattle.flame_layout.specs.Paths.{total_at, own_at, tree_samples, SameOwn}
-
--- the lists one after another
-abbrev pub all_samples : List (List Sample) → List Sample
-all_samples [] = []
-all_samples (samples ∷ lists) = samples ++ all_samples lists
 
 -- at numbers of the table the tree has the sums that the samples have at their names. The tree has no other
 -- numbers, no name has two, and by names it has each stack's own sum: so there is nothing beside

@@ -1,25 +1,27 @@
 //! A run whose samples are merged as they arrive.
 
-ghost use Rattle.std.specs.Prelude.{◌≡◌, ◌≤◌, ◌<◌, ℕ, [], All, IfOk, IfSome, IsErrOf, length, map};
+ghost use Rattle.std.specs.Prelude.{◌≡◌, ◌≤◌, ◌<◌, ◌++◌, ℕ, [], All, IfOk, IfSome, IsErrOf, length, map};
 ghost use Rattle.std.specs.Arc.{arc_value};
+ghost use Rattle.std.specs.Option.{option_to_list};
 ghost use Rattle.stack_core.specs.Interleaving.{IsInterleaving, interleaved};
 ghost use Rattle.stack_core.specs.Reading.{IsSourceLimited};
 ghost use Rattle.call_tree.specs.FrameTable.{HasDistinctNames};
 ghost use Rattle.ring_collect.specs.Collection.{Collects, AreWhole};
 ghost use Rattle.flame_layout.specs.Timeline.{samples_of};
 ghost use Rattle.merging.specs.Sources.{rests_of};
-ghost use Rattle.merging.specs.checked.Readers.{reader_rest};
+ghost use Rattle.merging.specs.checked.Readers.{reader_rest, reader_told};
 ghost use Rattle.merging.specs.Snapshots.{snapshot_samples, AreSnapshots};
 ghost use Rattle.merging.specs.Sums.{all_samples, HasSumsOf, IsDrawable};
 ghost use Rattle.merging.specs.Gathered.{AreLimited, IsGathered};
 
 use crate::snapshots::Snapshot;
+use crate::source_lists::SourceLists;
 use crate::source_reader::SourceReader;
 use crate::sources::Source;
 use crate::tree_sink::TreeSink;
 use call_tree::{CallTree, FrameTable};
 use ring_collect::{CollectFault, Collected, collect};
-use run_options::Options;
+use run_options::{Options, RingSize};
 use stack_core::{Gate, SourceList};
 use std::alloc::{AllocError, Global};
 use std::marker::Model;
@@ -30,8 +32,7 @@ use std::thread::Threads;
 /// call takes memory.
 #[derive(Drop)]
 pub struct Gathered {
-    lists: Vec<SourceList>,
-    order: Vec<u32>,
+    sources: SourceLists,
     sink: TreeSink,
 }
 
@@ -46,8 +47,8 @@ impl Model for Gathered {
     ghost coded = { Prim.hlevel (codes, snapshot.the_row.coded, call_tree.the_row.coded) };
 
     ghost view = { λ g. record {
-      lists = g.lists.items;
-      order = g.order.items;
+      lists = g.sources.lists;
+      order = g.sources.order;
       every = g.sink.every;
       names = g.sink.names;
       tree = g.sink.tree;
@@ -55,7 +56,7 @@ impl Model for Gathered {
     } };
 
     ghost invariant = { λ g.
-        IsGathered g.lists.items g.order.items g.sink.every g.sink.names g.sink.tree
+        IsGathered g.sources.lists g.sources.order g.sink.every g.sink.names g.sink.tree
         g.sink.snapshots };
 }
 
@@ -78,10 +79,16 @@ impl Gathered {
     {
         sink.recall_merged();
         Gathered {
-            lists: run.lists,
-            order: run.order,
+            sources: SourceLists::of(run),
             sink,
         }
+    }
+
+    /// What was collected, without what was merged.
+    pub fn sources(&self) -> &SourceLists
+        ensures { result.now ≡ record { lists = self.now.lists; order = self.now.order } }
+    {
+        &self.sources
     }
 
     /// One list for each source, in their order.
@@ -89,7 +96,7 @@ impl Gathered {
         ensures lists { result.now ≡ self.now.lists }
         ensures limits { AreLimited self.now.lists }
     {
-        &self.lists
+        self.sources.lists()
     }
 
     /// The source of each sample, in the order in which the samples came out of the rings.
@@ -97,7 +104,7 @@ impl Gathered {
         ensures order { result.now ≡ self.now.order }
         ensures ordered { IsInterleaving self.now.order (samples_of self.now.lists) }
     {
-        &self.order
+        self.sources.order()
     }
 
     /// The names of all frames.
@@ -131,8 +138,8 @@ impl Gathered {
     }
 }
 
-/// A reader for each source.
-fn readers_of(
+/// A reader for each source, which has told nothing.
+pub(crate) fn readers_of(
     alloc: Global,
     sources: Vec<Source>,
     options: &Options,
@@ -141,6 +148,8 @@ fn readers_of(
         map reader_rest readers.items ≡ rests_of options.now sources.items) }
     ensures limits { IfOk result (λ readers.
         All (λ rest. IsSourceLimited rest.samples) (rests_of options.now sources.items)) }
+    ensures told { IfOk result (λ readers.
+        All (λ reader. reader_told reader ≡ record { names = []; stacks = [] }) readers.items) }
 {
     let mut readers = Vec::with_capacity(alloc, sources.len())?;
     for source in sources {
@@ -167,6 +176,33 @@ fn prepare(
     let readers = readers_of(alloc, sources, options)?;
     let sink = TreeSink::new(alloc, options.every)?;
     Ok((readers, sink))
+}
+
+/// Collects the samples of the readers, and feeds the sink. It stands alone, since that a reader may go to
+/// another thread is found where there is little else to look through.
+fn run_readers<T: Threads + Wait + Copy + Send + 'static, G: Gate + Send + Sync + Drop + 'static>(
+    rt: &T,
+    alloc: Global,
+    readers: Vec<SourceReader>,
+    ring: RingSize,
+    gate: Arc<G>,
+    sink: &mut TreeSink,
+) -> Result<Collected, CollectFault>
+    requires { length readers.items ≤ 64 }
+    ensures lists { IfOk result (λ run.
+        Collects (G.may_stop (arc_value gate)) (G.may_go (arc_value gate))
+        (map reader_rest readers.items) run.lists.items) }
+    ensures whole { ((source index : ℕ) → G.may_stop (arc_value gate) source index → ⊥)
+        → IfOk result (λ run. AreWhole (map reader_rest readers.items) run.lists.items) }
+    ensures order { IfOk result (λ run.
+        IsInterleaving run.order.items (samples_of run.lists.items)) }
+    ensures sink { IfOk result (λ run. sink.new.taken
+        ≡ sink.old.taken ++ interleaved run.order.items (samples_of run.lists.items)) }
+    ensures unfinished { (source : ℕ) → IsErrOf result (CollectFault.Unfinished source)
+        → source < length readers.items }
+    ensures setting { option_to_list sink.new.every ≡ option_to_list sink.old.every }
+{
+    collect(rt, alloc, readers, ring, gate, sink)
 }
 
 /// Reads and collects all sources at the same time, each in a thread of its own and through a ring of
@@ -210,6 +246,6 @@ pub fn gather<T: Threads + Wait + Copy + Send + 'static, G: Gate + Send + Sync +
         return Err(CollectFault::OutOfMemory);
     };
     let mut sink = sink;
-    let run = collect(rt, alloc, readers, options.ring, gate, &mut sink)?;
+    let run = run_readers(rt, alloc, readers, options.ring, gate, &mut sink)?;
     Ok(Gathered::of(run, sink))
 }

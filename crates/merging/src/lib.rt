@@ -4,7 +4,9 @@
 
 mod collection;
 pub mod laws;
+mod reading;
 mod snapshots;
+mod source_lists;
 mod source_reader;
 mod sources;
 mod taken_rows;
@@ -12,7 +14,9 @@ mod tally;
 mod tree_sink;
 
 pub use collection::{Gathered, gather};
+pub use reading::read_sources;
 pub use snapshots::Snapshot;
+pub use source_lists::SourceLists;
 pub use sources::Source;
 pub use tree_sink::TreeSink;
 

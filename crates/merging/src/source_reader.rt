@@ -1,6 +1,6 @@
 //! The readers of all formats as one type.
 
-ghost use Rattle.std.specs.Prelude.{◌≡◌, IfOk, OnOk};
+ghost use Rattle.std.specs.Prelude.{◌≡◌, [], IfOk, OnOk};
 ghost use Rattle.stack_core.specs.Reading.{IsSourceLimited};
 ghost use Rattle.merging.specs.Sources.{source_rest};
 
@@ -8,7 +8,7 @@ use crate::sources::Source;
 use folded_lines::FoldedReader;
 use profile_tables::PprofReader;
 use run_options::{Format, Options};
-use stack_core::{SampleReader, Step};
+use stack_core::{RowReader, RowStep, SampleReader, Step};
 use std::alloc::{AllocError, Global};
 
 /// The reader of a source.
@@ -19,9 +19,9 @@ pub enum SourceReader {
 }
 
 impl SourceReader {
-    ghost use Rattle.merging.specs.checked.Readers.{reader_rest};
+    ghost use Rattle.merging.specs.checked.Readers.{reader_rest, reader_told};
 
-    /// A reader of the source from its beginning.
+    /// A reader of the source from its beginning, which has told nothing.
     pub fn over(
         alloc: Global,
         source: Source,
@@ -29,6 +29,7 @@ impl SourceReader {
     ) -> Result<SourceReader, AllocError>
         ensures rest { IfOk result (λ reader.
             reader_rest reader ≡ source_rest options.now.pick options.now.naming source) }
+        ensures told { IfOk result (λ reader. reader_told reader ≡ record { names = []; stacks = [] }) }
         ensures limits { OnOk result
             (IsSourceLimited (source_rest options.now.pick options.now.naming source).samples) }
     {
@@ -54,6 +55,23 @@ impl SampleReader for SourceReader {
         match self {
             SourceReader::Folded(reader) => reader.next(alloc),
             SourceReader::Pprof(reader) => reader.next(alloc),
+        }
+    }
+}
+
+impl RowReader for SourceReader {
+    ghost use Rattle.merging.specs.checked.Readers.{reader_rest, reader_told, HasEnded};
+
+    ghost rest = { reader_rest };
+
+    ghost told = { reader_told };
+
+    ghost has_ended = { HasEnded };
+
+    fn next_row(&mut self, alloc: Global) -> Result<RowStep, AllocError> {
+        match self {
+            SourceReader::Folded(reader) => reader.next_row(alloc),
+            SourceReader::Pprof(reader) => reader.next_row(alloc),
         }
     }
 }

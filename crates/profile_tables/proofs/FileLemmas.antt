@@ -1,6 +1,6 @@
 -- The first fault of a file, stage by stage, and the tables of one without.
 use Rattle.std.proofs.Common.{◌≡◌, [], ◌∷◌, ◌++◌, ℕ, List, length, Option, Some, None, Bool, true, false, cond, refl, sym, ◌∙◌, ap, subst, map, reverse}
-use Rattle.std.specs.Prelude.{option_map, is_some, unwrap_or, flat_map, string_bytes, ◌==◌, ◌||◌, if◌then◌else◌}
+use Rattle.std.specs.Prelude.{option_map, is_some, unwrap_or, flat_map, string_bytes, ◌==◌}
 use Rattle.std.specs.Option.{option_and_then}
 use Rattle.std.specs.List.{slice_get}
 use Rattle.std.proofs.lemmas.Option.{slice_get-map}
@@ -30,7 +30,7 @@ use Rattle.profile_tables.specs.checked.Contents.{seen_table, texts_of}
 use Rattle.profile_tables.specs.SeenTables.{place_in}
 use Rattle.profile_tables.specs.checked.Index.{code_location_id, is_in, entry_at, IsIndexOf}
 use Rattle.profile_tables.specs.checked.Profile.{seen_location, seen_locations, IsProfileOf}
-use Rattle.profile_tables.specs.checked.Frames.{frames_at, named_line, frame_named, or_address, lines_named, location_named, named_in, AreFramesOf}
+use Rattle.profile_tables.specs.checked.Frames.{frames_at, named_line, frame_named, or_address, location_named, named_in, AreFramesOf}
 use Rattle.profile_tables.proofs.FirstLemmas.{first-append_none, first-append_some}
 use Rattle.profile_tables.proofs.ItemLemmas.{referred-or}
 

@@ -1,19 +1,16 @@
 -- The frames of a location, as they are lent and named.
 use Rattle.std.proofs.Common.{◌≡◌, [], ◌∷◌, ◌++◌, ℕ, ◌-◌, ◌+◌, ◌<◌, ◌≤◌, List, length, Option, Some, None, Bool, true, false, cond, refl, sym, ◌∙◌, ap, subst, take, drop, get_or, map, reverse, arith}
 use Rattle.std.specs.Prelude.{◌⊎◌, ◌&&◌, nat_le, option_map, unwrap_or, slice_range}
-use Rattle.std.specs.Option.{option_and_then}
-use Rattle.std.specs.List.{slice_get}
 use Rattle.std.specs.Slice.{IsGetRangeResult}
 use Rattle.std.specs.Borrow.{Bor}
 use Rattle.std.proofs.lemmas.List.{take-map, drop-map, take_more, length-map}
-use Rattle.std.proofs.lemmas.Option.{slice_get-get_or}
 use Rattle.std.proofs.lemmas.Grind.{common_steps}
 use Rattle.profile_tables.specs.declared.frames.Frame.{Frame}
 use Rattle.profile_tables.specs.declared.messages.Span.{Span}
 use Rattle.profile_tables.specs.declared.frames.Frames.{Frames}
 use Rattle.profile_tables.specs.checked.Frames.{text_in, texts_in, frames_at, LendsFrames}
+use Rattle.profile_tables.specs.checked.FrameNumbers.{all_texts, IsPlaceOf}
 use Rattle.profile_tables.specs.checked.Profile.{items_in}
-use Rattle.profile_tables.specs.SeenTables.{place_in}
 use Rattle.profile_tables.proofs.ItemLemmas.{map-push}
 
 -- what no location has
@@ -55,12 +52,11 @@ lends : (frames : Frames) (id : ℕ) (lent : Option (Bor (List Frame))) → fram
 lends frames id None is = is
 lends frames id (Some part) is = is
 
--- the frames of a location whose span is this one
-pub lends-at : (frames : Frames) (id place : ℕ) (spans : List Span) (all : List Frame) (span : Span) (lent : Option (Bor (List Frame))) → Some place ≡ place_in frames.locations id → spans ≡ frames.spans.items → all ≡ frames.all.items → place < length spans → span ≡ get_or spans place nowhere → IsGetRangeResult all span.start span.end lent → LendsFrames frames id lent
-lends-at frames id place spans all span lent placed spans_are all_is lt at is = lends frames id lent
-    (ap (λ o. option_map reverse (option_and_then (texts_in frames) (option_and_then (slice_get frames.spans.items) o))) (sym placed)
-    ∙ ap (λ list. option_map reverse (option_and_then (texts_in frames) (slice_get list place))) (sym spans_are)
-    ∙ ap (λ o. option_map reverse (option_and_then (texts_in frames) o)) (slice_get-get_or spans place nowhere lt ∙ ap Some (sym at))
+-- the frames at the span of a location
+pub lends-span : (frames : Frames) (id : ℕ) (all : List Frame) (span : Span) (lent : Option (Bor (List Frame))) → IsPlaceOf frames id (Some span) → all ≡ frames.all.items → IsGetRangeResult all span.start span.end lent → LendsFrames frames id lent
+lends-span frames id all span lent place all_is is = lends frames id lent
+    (place.2
+    ∙ ap (option_map reverse) (sym (items-at (all_texts frames) span place.0 place.1))
     ∙ ap (λ list. option_map reverse (items_in (map (text_in frames) list) span)) (sym all_is)
     ∙ ap (option_map reverse) (lent-texts (text_in frames) all span lent is))
 

@@ -11,7 +11,7 @@ use Rattle.profile_tables.specs.declared.messages.Span.{Span}
 use Rattle.profile_tables.specs.declared.messages.Line.{Line}
 use Rattle.profile_tables.specs.declared.messages.Location.{Location as CodeLocation}
 use Rattle.profile_tables.specs.declared.frames.Frames.{Frames}
-use Rattle.profile_tables.specs.Records.{Location, location_id}
+use Rattle.profile_tables.specs.Records.{Location}
 use Rattle.profile_tables.specs.Tables.{entry_of, location_at}
 use Rattle.profile_tables.specs.SeenTables.{place_in}
 use Rattle.profile_tables.specs.checked.Index.{code_location_id, entry_at, IsIndexOf}

@@ -20,7 +20,7 @@ use Rattle.profile_tables.specs.Tables.{sample_types_of, samples_of, locations_o
 use Rattle.profile_tables.specs.checked.Contents.{seen_table}
 use Rattle.profile_tables.specs.checked.Decoding.{IsLocationOf}
 use Rattle.profile_tables.specs.checked.Offsets.{offset_of}
-use Rattle.profile_tables.specs.checked.Profile.{items_in, with_lines, whole_location, seen_location, seen_locations, GainsField, IsFieldAdded, IsProfileOf}
+use Rattle.profile_tables.specs.checked.Profile.{items_in, with_lines, whole_location, seen_location, GainsField, IsFieldAdded, IsProfileOf}
 use Rattle.profile_tables.proofs.FirstLemmas.{first-append_none}
 use Rattle.profile_tables.proofs.ItemLemmas.{map-push, referred-kept}
 use Rattle.profile_tables.proofs.LineLemmas.{items_in-kept, items_in-last}

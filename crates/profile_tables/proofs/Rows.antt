@@ -16,3 +16,4 @@ pub mod NamesAndAddresses
 pub mod DefaultTwice
 pub mod TypesOfOneName
 pub mod MixedIds
+pub mod NamesWithNumbers

@@ -3,6 +3,7 @@ pub mod Records
 pub mod Shapes
 pub mod Tables
 pub mod Naming
+pub mod FrameNames
 pub mod Samples
 pub mod Faults
 pub mod SeenTables

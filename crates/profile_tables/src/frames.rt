@@ -1,6 +1,6 @@
 //! The frames of locations.
 
-ghost use Rattle.std.specs.Prelude.{◌≡◌, ◌++◌, IfOk, map, reverse, string_bytes};
+ghost use Rattle.std.specs.Prelude.{◌≡◌, ◌++◌, IfOk, IfSome, map, reverse, string_bytes};
 
 use crate::ids::Index;
 use crate::messages::Span;
@@ -32,18 +32,41 @@ pub(crate) struct Frames {
 
 impl Frames {
     ghost use Rattle.profile_tables.specs.checked.Frames.{text_in, frames_at, stacks_of, LendsFrames};
+    ghost use Rattle.profile_tables.specs.checked.FrameNumbers.{IsPlaceOf};
+
+    /// Where the frames of a location id stand among all.
+    #[inline]
+    pub(crate) fn span(&self, id: u64) -> Option<Span>
+        ensures { IsPlaceOf self.now id result }
+    {
+        let span = self.spans.get(self.locations.get(id)?)?;
+        self.all.get(span.start..span.end)?;
+        Some(*span)
+    }
 
     /// The frames of a location id, leaf first.
     #[inline]
     pub(crate) fn of(&self, id: u64) -> Option<&[Frame]>
         ensures { LendsFrames self.now id result }
     {
-        let span = self.spans.get(self.locations.get(id)?)?;
+        let span = self.span(id)?;
         self.all.get(span.start..span.end)
     }
 
+    /// The name of a frame, where that is kept as it is.
+    pub(crate) fn plain_name(&self, frame: Frame) -> Option<&str>
+        ensures { IfSome result (λ name. name.now ≡ text_in self.now frame) }
+    {
+        match (self.naming, frame) {
+            (Naming::Plain, Frame::Function(place, _)) => {
+                Some(self.names.get(place).map_or("", |name| name.as_str()))
+            }
+            _ => None,
+        }
+    }
+
     /// The name of a frame.
-    fn name(&self, alloc: Global, frame: Frame) -> Result<String, AllocError>
+    pub(crate) fn name(&self, alloc: Global, frame: Frame) -> Result<String, AllocError>
         ensures { IfOk result (λ name. string_bytes name ≡ text_in self.now frame) }
     {
         match frame {

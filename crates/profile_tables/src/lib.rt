@@ -4,9 +4,12 @@
 mod checks;
 mod contents;
 mod faults;
+mod frame_numbers;
 mod frames;
+mod fronts;
 mod functions;
 mod ids;
+pub mod laws;
 mod lines;
 mod message;
 mod messages;
@@ -16,11 +19,13 @@ mod outline;
 mod picking;
 mod profile;
 mod reader;
+mod row_steps;
 mod samples;
 mod stacks;
 mod steps;
 mod strings;
 mod tables;
+mod tellers;
 #[cfg(test)]
 mod tests;
 

@@ -1,12 +1,16 @@
-//! A pprof profile, read sample by sample.
+//! A pprof profile, read sample by sample, or by rows of numbers.
 
 ghost use Rattle.std.specs.Prelude.{◌≡◌, ◌≢◌, ℕ, IsTrue};
 ghost use Rattle.stack_core.specs.Reading.{IsSourceLimited};
 ghost use Rattle.stack_core.specs.declared.endings.SourceEnd.TheVariants.{Stopped};
 ghost use Rattle.profile_tables.specs.Samples.{read_pprof};
+ghost use Rattle.profile_tables.specs.State.{nothing_told};
+
+mod rows;
 
 use crate::outline::Outline;
-use crate::steps::{Start, next_step, start_of};
+use crate::steps::{next_step, open};
+use crate::tellers::Teller;
 use run_options::{Naming, Pick};
 use stack_core::{SampleReader, SourceEnd, Step};
 use std::alloc::{AllocError, Global};
@@ -29,6 +33,8 @@ pub struct PprofReader {
     /// Their weights together.
     total: u64,
     ended: Option<SourceEnd>,
+    /// None before the first row was asked for.
+    teller: Option<Teller>,
 }
 
 impl Model for PprofReader {
@@ -44,9 +50,10 @@ impl Model for PprofReader {
 }
 
 impl PprofReader {
-    /// A reader of a file's bytes. It takes no memory: the first `next` reads the tables.
+    /// A reader of a file's bytes. It takes no memory: the first `next` or `next_row` reads the tables.
     pub fn over(bytes: Vec<u8>, pick: Pick, naming: Naming) -> Self
         ensures rest { result.rest ≡ read_pprof bytes.items pick naming }
+        ensures told { result.told ≡ nothing_told }
         ensures limits { IsSourceLimited (read_pprof bytes.items pick naming).samples }
         ensures unstopped { (after : ℕ)
             → (read_pprof bytes.items pick naming).ending ≢ Stopped after }
@@ -59,6 +66,7 @@ impl PprofReader {
             given: 0,
             total: 0,
             ended: None,
+            teller: None,
         }
     }
 }
@@ -72,15 +80,16 @@ impl SampleReader for PprofReader {
         if let Some(ending) = self.ended {
             return Ok(Step::End(ending));
         }
-        if self.outline.is_none() {
-            match start_of(alloc, &self.bytes, &self.pick, self.naming)? {
-                Start::Outline(outline) => self.outline = Some(outline),
-                Start::Fault(fault) => {
-                    let ending = SourceEnd::Fault(fault);
-                    self.ended = Some(ending);
-                    return Ok(Step::End(ending));
-                }
-            }
+        if let Some(fault) = open(
+            alloc,
+            &mut self.outline,
+            &self.bytes,
+            &self.pick,
+            self.naming,
+        )? {
+            let ending = SourceEnd::Fault(fault);
+            self.ended = Some(ending);
+            return Ok(Step::End(ending));
         }
         let Some(outline) = &self.outline else {
             unreachable!();

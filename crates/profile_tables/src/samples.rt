@@ -2,7 +2,7 @@
 
 ghost use Rattle.std.specs.Prelude.{◌≡◌, ◌≤◌, IfOk, slice_index, unwrap_or};
 ghost use Rattle.profile_tables.specs.checked.SeenOutline.{seen_outline};
-ghost use Rattle.profile_tables.specs.checked.Outcome.{IsOutcome};
+ghost use Rattle.profile_tables.specs.checked.Outcome.{IsChecked, IsOutcome};
 
 use crate::numbers::numbers_of;
 use crate::outline::Outline;
@@ -20,15 +20,25 @@ fn weight_among(chosen: Option<usize>, values: &[u64]) -> u64
     }
 }
 
-/// The sample of a message (profile.proto, message Sample), behind samples of this total weight, or what is wrong with it.
-pub(crate) fn read_sample(
+/// A sample without a fault.
+#[derive(Drop)]
+pub(crate) struct CheckedSample {
+    /// Its location ids, leaf first.
+    pub(crate) ids: Vec<u64>,
+    /// How many frames they have.
+    pub(crate) depth: usize,
+    pub(crate) weight: u64,
+}
+
+/// What is wrong with the sample of a message (profile.proto, message Sample), behind samples of this total weight.
+pub(crate) fn checked_sample(
     alloc: Global,
     outline: &Outline,
     total: u64,
     sample: &[u8],
-) -> Result<Result<Sample, ReadKind>, AllocError>
+) -> Result<Result<CheckedSample, ReadKind>, AllocError>
     requires { total ≤ WEIGHT_LIMIT }
-    ensures { IfOk result (IsOutcome (seen_outline outline.now) total sample.now) }
+    ensures { IfOk result (IsChecked (seen_outline outline.now) total sample.now) }
 {
     let numbers = match numbers_of(alloc, sample)? {
         Ok(numbers) => numbers,
@@ -50,6 +60,31 @@ pub(crate) fn read_sample(
     if total + weight > WEIGHT_LIMIT {
         return Ok(Err(ReadKind::TotalTooLarge));
     }
-    let stack = Names::of(stack_of(alloc, &outline.frames, &numbers.ids, depth)?);
-    Ok(Ok(Sample { stack, weight }))
+    Ok(Ok(CheckedSample {
+        ids: numbers.ids,
+        depth,
+        weight,
+    }))
+}
+
+/// The sample of a message, behind samples of this total weight, or what is wrong with it.
+pub(crate) fn read_sample(
+    alloc: Global,
+    outline: &Outline,
+    total: u64,
+    sample: &[u8],
+) -> Result<Result<Sample, ReadKind>, AllocError>
+    requires { total ≤ WEIGHT_LIMIT }
+    ensures { IfOk result (IsOutcome (seen_outline outline.now) total sample.now) }
+{
+    match checked_sample(alloc, outline, total, sample)? {
+        Ok(checked) => {
+            let stack = stack_of(alloc, &outline.frames, &checked.ids, checked.depth)?;
+            Ok(Ok(Sample {
+                stack: Names::of(stack),
+                weight: checked.weight,
+            }))
+        }
+        Err(kind) => Ok(Err(kind)),
+    }
 }

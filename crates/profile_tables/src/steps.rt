@@ -1,7 +1,8 @@
 //! The steps of a reader.
 
-ghost use Rattle.std.specs.Prelude.{◌≤◌, IfOk};
+ghost use Rattle.std.specs.Prelude.{◌≡◌, ◌≤◌, IfOk, OnErr};
 ghost use Rattle.profile_tables.specs.checked.Rests.{IsStart, IsNext};
+ghost use Rattle.profile_tables.specs.checked.View.{IsOpened};
 
 use crate::contents::content_at;
 use crate::faults::TableFault;
@@ -13,24 +14,42 @@ use std::alloc::{AllocError, Global};
 
 /// What reading the tables of a file gives.
 #[derive(Drop)]
-pub(crate) enum Start {
+enum Start {
     Outline(Outline),
     Fault(ReadFault),
 }
 
 /// Reads the tables of a file.
-pub(crate) fn start_of(
-    alloc: Global,
-    file: &[u8],
-    pick: &Pick,
-    naming: Naming,
-) -> Result<Start, AllocError>
+fn start_of(alloc: Global, file: &[u8], pick: &Pick, naming: Naming) -> Result<Start, AllocError>
     ensures { IfOk result (IsStart file.now pick.now naming) }
 {
     match outline_of(alloc, file, pick, naming) {
         Ok(outline) => Ok(Start::Outline(outline)),
         Err(TableFault::Read(fault)) => Ok(Start::Fault(fault)),
         Err(TableFault::OutOfMemory) => Err(AllocError),
+    }
+}
+
+/// Reads the tables of a file, where that was not done before, and answers the fault that they have.
+pub(crate) fn open(
+    alloc: Global,
+    outline: &mut Option<Outline>,
+    file: &[u8],
+    pick: &Pick,
+    naming: Naming,
+) -> Result<Option<ReadFault>, AllocError>
+    ensures ok { IfOk result (IsOpened file.now pick.now naming outline.old outline.new) }
+    ensures refused { OnErr result (outline.new ≡ outline.old) }
+{
+    if outline.is_some() {
+        return Ok(None);
+    }
+    match start_of(alloc, file, pick, naming)? {
+        Start::Outline(found) => {
+            *outline = Some(found);
+            Ok(None)
+        }
+        Start::Fault(fault) => Ok(Some(fault)),
     }
 }
 

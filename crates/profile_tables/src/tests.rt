@@ -6,6 +6,7 @@ mod depth;
 mod files;
 mod hostile;
 mod lending;
+mod rows;
 mod weights;
 
 use super::*;
@@ -13,6 +14,7 @@ use files::{
     ADDRESS, BASE, GREATEST_ID, GREATEST_LENGTH, INLINED, INLINED_LINES, LEAST_INDEX, MINUS_ONE,
     NEGATIVE, NO_FRAMES, SAMPLE_FAULTS, SMALLEST, TABLE_FAULTS, TWO_LINES, UNPACKED,
 };
+use rows::read_by_rows;
 use stack_core::{ReadFault, ReadKind, SampleReader, SourceEnd, Step, Text};
 use std::alloc::{AllocError, Global};
 use std::process::Abort;
@@ -52,6 +54,7 @@ fn read(
     Ok((lines, None))
 }
 
+/// A file reads so sample by sample, and by rows.
 fn reads_as(
     rt: &(impl Abort + AllocGlobal),
     file: &[u8],
@@ -61,6 +64,9 @@ fn reads_as(
     ending: SourceEnd,
 ) -> Result<(), AllocError> {
     let (read, end) = read(rt.alloc(), file, pick, naming)?;
+    assert_eq!(rt; read.as_str(), lines);
+    assert_eq!(rt; end, Some(ending));
+    let (read, end) = read_by_rows(rt.alloc(), file, pick, naming)?;
     assert_eq!(rt; read.as_str(), lines);
     assert_eq!(rt; end, Some(ending));
     Ok(())

@@ -1,10 +1,10 @@
 pub mod CollectionLemmas
 pub mod IntakeLemmas
+pub mod LedgerLemmas
 pub mod NameOrder
 pub mod Progress
 pub mod Records
 pub mod RoundLemmas
-pub mod RowSampleLemmas
 pub mod RunLemmas
 pub mod RunningSourceLemmas
 pub mod SettlementLemmas

@@ -3,6 +3,7 @@ use Rattle.std.proofs.Common.{zero, suc, ◌≡◌, ◌≢◌, ℕ, ◌+◌, ◌
 use Rattle.std.proofs.lemmas.List.{map-append}
 use Rattle.std.proofs.Math.Seq.{take-append_seam}
 use Rattle.stack_core.specs.Reading.{Rest}
+use Rattle.stack_core.specs.RowReading.{ToldRows}
 use Rattle.stack_core.specs.Records.{names_told, stands_for, IsWellTold}
 use Rattle.stack_core.specs.Told.{IsToldUnder, Whole, StoppedAt, ShortOfMemory, told}
 use Rattle.stack_core.specs.declared.samples.Sample.{Sample}
@@ -14,14 +15,14 @@ use Rattle.stack_core.specs.declared.endings.SourceEnd.TheVariants as ending
 use Rattle.stack_core.specs.declared.endings.Close.{Close}
 use Rattle.stack_core.proofs.ToldLemmas.{same_told}
 use Rattle.ring_collect.specs.NamesInOrder.{names_in_order, with_stack}
-use Rattle.ring_collect.specs.checked.Tellers.{AreNamesOf, Tells, TellsOne, Closes, Ended, Stopped, ShortOfMemory as Short}
+use Rattle.ring_collect.specs.checked.Tellers.{AreNamesOf, Tells, TellsOne, Closes, told_by, Ended, Stopped, ShortOfMemory as Short}
 use Rattle.ring_collect.proofs.NameOrder.{names_in_order_push}
 
 short≢read : (ending : SourceEnd) → close.NoMemory ≢ close.Read ending
 short≢read ending e = cc
 
 -- of the whole rest, the samples before those of the rest now are told, and the gate let each of them go
-pub record ToldSoFar (may_go : ℕ → ℕ → Type 0) (source : ℕ) (whole now : Rest) (index : ℕ) (names : List (List ℕ)) (records : List RingRecord) : Type 0 where
+pub record ToldSoFar (may_go : ℕ → ℕ → Type 0) (source : ℕ) (whole now : Rest) (index : ℕ) (by_reader : ToldRows) (records : List RingRecord) : Type 0 where
   pub front : List Sample
   pub samples : whole.samples ≡ front ++ now.samples
   pub ending : now.ending ≡ whole.ending
@@ -30,11 +31,11 @@ pub record ToldSoFar (may_go : ℕ → ℕ → Type 0) (source : ℕ) (whole now
   pub went : (k : ℕ) → k < index → may_go source k
   pub stands : stands_for records ≡ map item.Sample front
   pub well_told : IsWellTold records
-  pub known : names ≡ names_told records
+  pub rows : by_reader ≡ told_by records
   pub in_order : names_told records ≡ names_in_order front
 
 module _ {may_go : ℕ → ℕ → Type 0} {source : ℕ} {whole : Rest} where
-  pub nothing_told : ToldSoFar may_go source whole whole 0 [] []
+  pub nothing_told : ToldSoFar may_go source whole whole 0 (record { names = []; stacks = [] }) []
   nothing_told = record {
     front = [];
     samples = refl;
@@ -44,11 +45,11 @@ module _ {may_go : ℕ → ℕ → Type 0} {source : ℕ} {whole : Rest} where
     went = λ k h. absurd (omega arith);
     stands = refl;
     well_told = tt;
-    known = refl;
+    rows = refl;
     in_order = refl;
   }
 
-  module _ {now : Rest} {index : ℕ} {names : List (List ℕ)} {records : List RingRecord} (so_far : ToldSoFar may_go source whole now index names records) where
+  module _ {now : Rest} {index : ℕ} {by_reader : ToldRows} {records : List RingRecord} (so_far : ToldSoFar may_go source whole now index by_reader records) where
     nil_of_length : {A : Type 0} (xs : List A) → length xs ≡ 0 → xs ≡ []
     nil_of_length [] e = refl
     nil_of_length (x ∷ xs) e = absurd (omega (arith, e))
@@ -70,8 +71,8 @@ module _ {may_go : ℕ → ℕ → Type 0} {source : ℕ} {whole : Rest} where
         omega arith
 
     -- the next sample goes, and is told
-    pub one_more : {later : Rest} {known' : List (List ℕ)} {records' : List RingRecord} → length now.samples < 2 ^ 64 → TellsOne may_go source index now later known' records records'
-        → ToldSoFar may_go source whole later (index + 1) known' records'
+    pub one_more : {later : Rest} {by_reader' : ToldRows} {records' : List RingRecord} → length now.samples < 2 ^ 64 → TellsOne may_go source index now later by_reader' records records'
+        → ToldSoFar may_go source whole later (index + 1) by_reader' records'
     one_more {later} few one = record {
       front = so_far.front ++ one.sample ∷ [];
       samples = so_far.samples ∙ ap (λ rest. so_far.front ++ rest) one.first ∙ sym (append_assoc so_far.front (one.sample ∷ []) later.samples);
@@ -81,14 +82,14 @@ module _ {may_go : ℕ → ℕ → Type 0} {source : ℕ} {whole : Rest} where
       went = λ k below_next. elim (last_or_before k index below_next) [ inl e ↦ subst (may_go source) (sym e) one.goes | inr before ↦ so_far.went k before ];
       stands = one.tells.stands ∙ ap (λ items. items ++ item.Sample one.sample ∷ []) so_far.stands ∙ sym (map-append item.Sample so_far.front (one.sample ∷ []));
       well_told = one.tells.well_told so_far.well_told;
-      known = one.names;
+      rows = one.rows;
       in_order = one.told ∙ ap (λ names. with_stack names one.sample.stack) so_far.in_order ∙ sym (names_in_order_push so_far.front one.sample);
     }
       where
         last_or_before : (k n : ℕ) → k < n + 1 → (k ≡ n) ⊎ (k < n)
         last_or_before k n lt = grind arith
 
-    pub next_index : {later : Rest} {known' : List (List ℕ)} {records' : List RingRecord} → length now.samples < 2 ^ 64 → TellsOne may_go source index now later known' records records' → index + 1 < 2 ^ 64
+    pub next_index : {later : Rest} {by_reader' : ToldRows} {records' : List RingRecord} → length now.samples < 2 ^ 64 → TellsOne may_go source index now later by_reader' records records' → index + 1 < 2 ^ 64
     next_index {later} few one = below one.sample later.samples one.first few
 
     front_is : take index whole.samples ≡ so_far.front

@@ -41,12 +41,12 @@ no_lists [] i = refl
 no_lists (x ∷ xs) zero = refl
 no_lists (x ∷ xs) (suc i) = no_lists xs i
 
-nothing_tracked : Tracked [] None (record { samples = []; close = None; told = []; rows = [] }) Taking []
+nothing_tracked : Tracked [] None (record { samples = []; close = None; told = []; rows = []; stacks = []; entries = [] }) Taking []
 nothing_tracked = record {
   samples = [];
   stands = refl;
   first = ([], refl);
-  holds = λ _. record { is_open = refl; told = refl; ledger_samples = refl; all_taken = refl; well_told = tt };
+  holds = λ _. record { is_open = refl; told = refl; kept = refl; ledger_samples = refl; all_taken = refl; well_told = tt };
   unnamed = λ e. absurd (taking≢unnamed e);
 }
 
@@ -55,7 +55,7 @@ fresh_tracked intake fresh =
     subst (λ records. Tracked records intake.close intake.ledger intake.stage []) (sym fresh.received_nothing)
     (subst (λ close. Tracked [] close intake.ledger intake.stage []) (sym fresh.close)
     (subst (λ ledger. Tracked [] None ledger intake.stage []) (sym fresh.ledger)
-    (subst (λ stage. Tracked [] None (record { samples = []; close = None; told = []; rows = [] }) stage []) (sym fresh.stage) nothing_tracked)))
+    (subst (λ stage. Tracked [] None (record { samples = []; close = None; told = []; rows = []; stacks = []; entries = [] }) stage []) (sym fresh.stage) nothing_tracked)))
 
 -- before the first record nothing is gained
 fresh_gained : (start : List (ℕ × Sample)) (intakes : List Intake) (refused : Bool) → AreFresh intakes → HasGained start intakes start [] refused

@@ -7,7 +7,7 @@ use Rattle.rtrb.specs.Ring.{received, all_sent}
 use Rattle.rtrb.specs.declared.finished.Finished.{Finished}
 use Rattle.stack_core.specs.Reading.{Rest}
 use Rattle.stack_core.specs.Ledgers.{LedgerState}
-use Rattle.stack_core.specs.Records.{stands_for, stands_for_after, names_told, IsWellTold}
+use Rattle.stack_core.specs.Records.{stands_for, stands_for_after, names_told, stacks_told, IsWellTold}
 use Rattle.stack_core.specs.Prefixes.{IsPrefixOf}
 use Rattle.stack_core.specs.Told.{GoesBelow, IsToldUnder, Whole, StoppedAt, ShortOfMemory, told}
 use Rattle.stack_core.proofs.RecordLemmas.{stands_for-append, stands_for_after-append, IsWellTold-front}
@@ -41,18 +41,18 @@ front_well_told : (records sent : List RingRecord) → IsPrefixOf records sent �
 front_well_told records sent begins well = IsWellTold-front records begins.0 (subst IsWellTold (sym begins.1) well)
 
 -- records that begin what is closed, and behind which nothing stands for an item, are all of it
-all_of_closed : (names : List (List ℕ)) (records more front : List RingRecord) (last : Close) → records ++ more ≡ front ++ CloseRecord last ∷ [] → stands_for_after names more ≡ [] → more ≡ []
-all_of_closed names [] more front last is none =
-    let closes : stands_for_after names front ++ item.Close last ∷ [] ≡ [] = sym (stands_for_after-append names front (CloseRecord last ∷ [])) ∙ ap (stands_for_after names) (sym is) ∙ none in
-    let long = length-append (stands_for_after names front) (item.Close last ∷ []) in
+all_of_closed : (names stacks : List (List ℕ)) (records more front : List RingRecord) (last : Close) → records ++ more ≡ front ++ CloseRecord last ∷ [] → stands_for_after names stacks more ≡ [] → more ≡ []
+all_of_closed names stacks [] more front last is none =
+    let closes : stands_for_after names stacks front ++ item.Close last ∷ [] ≡ [] = sym (stands_for_after-append names stacks front (CloseRecord last ∷ [])) ∙ ap (stands_for_after names stacks) (sym is) ∙ none in
+    let long = length-append (stands_for_after names stacks front) (item.Close last ∷ []) in
     let nothing = ap length closes in
     absurd (omega arith)
-all_of_closed names (record' ∷ records) more [] last is none =
+all_of_closed names stacks (record' ∷ records) more [] last is none =
     let long = length-append records more in
     let one = ap length is in
     nil_from_length more (omega arith)
-all_of_closed names (record' ∷ records) more (first ∷ front) last is none =
-    all_of_closed names records more front last (ap (drop 1) is) none
+all_of_closed names stacks (record' ∷ records) more (first ∷ front) last is none =
+    all_of_closed names stacks records more front last (ap (drop 1) is) none
 
 module _ {may_stop may_go : ℕ → ℕ → Type 0} {source : ℕ} {rest : Rest} where
   -- what is told is a beginning of the rest
@@ -75,14 +75,14 @@ module _ {may_stop may_go : ℕ → ℕ → Type 0} {source : ℕ} {rest : Rest}
       → ledger' ≡ record ledger { close = Some last } → IsSettledAs may_stop may_go source rest stage list ledger'
   settled {records} {sent} {ledger} {ledger'} {stage} {list} last tracked begins tells ledger_is =
       let samples = tracked.samples in
-      let back = stands_for_after (names_told records) begins.0 in
+      let back = stands_for_after (names_told records) (stacks_told records) begins.0 in
       let well_told : IsWellTold records = front_well_told _ _ begins tells.well_told in
       let split : told samples last ++ back ≡ stands_for sent = ap (λ front. front ++ back) (sym tracked.stands) ∙ sym (stands_for-append records begins.0) ∙ ap stands_for begins.1 in
       let whole = told_list_whole rest (stands_for sent) (told samples last) back last (told_under_is_told may_stop may_go source rest (stands_for sent) tells.is_told) split
       (Contains-append_right (map item.Sample samples) (item.Close last ∷ []) (item.Close last) (0, omega arith, refl)) in
       let is_told = subst (IsToldUnder may_stop may_go source rest) (sym whole.0) tells.is_told in
       let closed = tells.is_closed in
-      let no_more = all_of_closed (names_told records) records begins.0 closed.0 closed.1 (begins.1 ∙ closed.2) whole.1 in
+      let no_more = all_of_closed (names_told records) (stacks_told records) records begins.0 closed.0 closed.1 (begins.1 ∙ closed.2) whole.1 in
       let all : records ≡ sent = sym (append-nil records) ∙ ap (λ more. records ++ more) (sym no_more) ∙ begins.1 in
       record {
         taken_or_dropped = λ unnamed. tracked.unnamed unnamed well_told;

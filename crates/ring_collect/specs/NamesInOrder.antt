@@ -1,22 +1,7 @@
 -- The names of samples, in the order in which they first appear.
-use Rattle.std.specs.Prelude.{◌≡◌, ℕ, List, [], ◌∷◌, ◌++◌}
-use Rattle.call_tree.specs.FrameTable.{with_name}
-use Rattle.stack_core.specs.declared.samples.Sample.{Sample}
+use Rattle.std.specs.Prelude.{◌≡◌, List, ◌++◌}
+pub use Rattle.stack_core.specs.NamesInOrder.{with_stack, with_stacks, names_in_order}
 
 -- more may stand behind what stood there
 abbrev pub GrowsTo : {A : Type 0} → List A → List A → Type 0
 GrowsTo {A} old new = (more : List A) × (new ≡ old ++ more)
-
--- these names, and behind them those of a stack, root first: a known name changes nothing, a new one goes last
-abbrev pub with_stack : List (List ℕ) → List (List ℕ) → List (List ℕ)
-with_stack names [] = names
-with_stack names (name ∷ stack) = with_stack (with_name names name) stack
-
--- these names, and behind them those of the samples' stacks
-abbrev pub with_stacks : List (List ℕ) → List Sample → List (List ℕ)
-with_stacks names [] = names
-with_stacks names (sample ∷ samples) = with_stacks (with_stack names sample.stack) samples
-
--- the names of samples, each once, in the order in which they first appear
-abbrev pub names_in_order : List Sample → List (List ℕ)
-names_in_order samples = with_stacks [] samples

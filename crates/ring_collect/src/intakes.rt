@@ -2,11 +2,10 @@
 
 ghost use Rattle.std.specs.Prelude.{◌≡◌, ◌≢◌, ◌<◌, ◌↔◌, All, IsTrue, None, length};
 ghost use Rattle.ring_collect.specs.checked.Records.{close_after};
-ghost use Rattle.ring_collect.specs.checked.RowSamples.{IsNamedBy};
 
+use crate::feeds::Feed;
 use crate::rings::RecordConsumer;
-use crate::row_samples::RowSample;
-use stack_core::{Close, Ledger, Listed, RingRecord, Sink};
+use stack_core::{Close, Ledger, RingRecord};
 use std::alloc::Global;
 
 /// What is done with the records that come.
@@ -16,7 +15,7 @@ pub enum Stage {
     Taking,
     /// They are dropped, since there was want of memory.
     Dropping,
-    /// They are dropped, since a row had a number without a name. No reader tells such a row.
+    /// They are dropped, since a number had no name, or no stack. No reader tells such a record.
     Unnamed,
 }
 
@@ -28,7 +27,7 @@ impl Stage {
         matches!(self, Stage::Dropping)
     }
 
-    /// Whether a row had a number without a name.
+    /// Whether a number had no name, or no stack.
     pub fn is_unnamed(self) -> bool
         ensures { IsTrue result ↔ (self ≡ Stage.Unnamed) }
     {
@@ -99,82 +98,108 @@ pub struct Intake {
     pub number: u32,
     pub consumer: RecordConsumer,
     pub ledger: Ledger,
-    pub row_sample: RowSample,
     pub stage: Stage,
     /// What closed the ring. From then on it isn't looked into again.
     pub close: Option<Close>,
     ghost still_open: { ledger.close ≡ None },
-    ghost named: { IsNamedBy ledger.told row_sample },
 }
 
 impl Intake {
     ghost use Rattle.std.specs.Prelude.{◌≡◌, ◌≢◌, ◌≤◌, List, None, length};
     ghost use Rattle.rtrb.specs.Ring.{SameConsumer};
     ghost use Rattle.ring_collect.specs.checked.Rings.{IsLimitedRecord};
-    ghost use Rattle.ring_collect.specs.checked.Records.{TakesRecord, TakesRow};
+    ghost use Rattle.ring_collect.specs.checked.Records.{TakesRecord};
     ghost use Rattle.ring_collect.specs.checked.Intakes.{PopsOne, FindsNothing, Tracks, GainsMore};
     ghost use Rattle.stack_core.specs.declared.samples.Sample.{Sample as TakenSample};
     ghost use Rattle.stack_core.specs.declared.samples.TheConstants.{FRAME_LIMIT, WEIGHT_LIMIT};
 
-    /// Takes a row: its sample is handed to the sink first, then to the ledger and the order. Answers the stage after it.
-    fn take_row<S: Sink>(
+    /// Takes a sample of a stack that is kept: it is handed to the sink first, then to the ledger and the order. Answers the stage
+    /// after it.
+    fn take_again<S, F: Feed<S>>(
         &mut self,
         alloc: Global,
-        frames: Listed<usize>,
+        row: usize,
         weight: u64,
+        feed: &mut F,
         sink: &mut S,
         order: &mut Vec<u32>,
     ) -> Stage
-        requires depth { length frames ≤ FRAME_LIMIT }
         requires limit { weight ≤ WEIGHT_LIMIT }
-        ensures row { TakesRow self.old.number (record { frames = frames; weight = weight })
-            self.old.ledger self.new.ledger (S.taken sink.old) (S.taken sink.new)
+        ensures taken { TakesRecord self.old.number (RingRecord.Again row weight) self.old.ledger
+            self.new.ledger self.old.close self.new.close (F.taken sink.old) (F.taken sink.new)
             order.old.items order.new.items result }
         ensures number { self.new.number ≡ self.old.number }
         ensures consumer { self.new.consumer ≡ self.old.consumer }
-        ensures close { self.new.close ≡ self.old.close }
-        ensures setting { S.setting sink.new ≡ S.setting sink.old }
+        ensures setting { F.setting sink.new ≡ F.setting sink.old }
     {
-        if !are_named(frames.get(), self.ledger.told()) {
+        if row >= self.ledger.stack_count() {
             return Stage::Unnamed;
         }
-        let row_sample = &mut self.row_sample;
-        let set = row_sample.set_row(alloc, &self.ledger, frames.get(), weight);
-        if set.is_err() {
+        let ledger = &self.ledger;
+        if feed.feed(alloc, sink, self.number, ledger, row, weight).is_err() {
             return Stage::Dropping;
         }
-        let sample = &self.row_sample.sample;
-        if sink.take(alloc, self.number, sample).is_err() {
-            return Stage::Dropping;
-        }
-        if self.ledger.take_row(frames, weight).is_err() || order.push(self.number).is_err() {
+        if self.ledger.take_again(row, weight).is_err() || order.push(self.number).is_err() {
             return Stage::Dropping;
         }
         Stage::Taking
     }
 
+    /// Takes a row: its stack is kept, and then a sample of it is taken. Answers the stage after it.
+    fn take_row<S, F: Feed<S>>(
+        &mut self,
+        alloc: Global,
+        frames: &[usize],
+        weight: u64,
+        feed: &mut F,
+        sink: &mut S,
+        order: &mut Vec<u32>,
+    ) -> Stage
+        requires depth { length frames.now ≤ FRAME_LIMIT }
+        requires limit { weight ≤ WEIGHT_LIMIT }
+        ensures taken { TakesRecord self.old.number (RingRecord.Row frames.now weight)
+            self.old.ledger self.new.ledger self.old.close self.new.close (F.taken sink.old)
+            (F.taken sink.new) order.old.items order.new.items result }
+        ensures number { self.new.number ≡ self.old.number }
+        ensures consumer { self.new.consumer ≡ self.old.consumer }
+        ensures setting { F.setting sink.new ≡ F.setting sink.old }
+    {
+        if !are_named(frames, self.ledger.told()) {
+            return Stage::Unnamed;
+        }
+        let row = self.ledger.stack_count();
+        if self.ledger.keep(frames).is_err() {
+            return Stage::Dropping;
+        }
+        self.take_again(alloc, row, weight, feed, sink, order)
+    }
+
     /// Takes a record that came out of the ring. Answers the stage after it.
-    fn take_record<S: Sink>(
+    fn take_record<S, F: Feed<S>>(
         &mut self,
         alloc: Global,
         popped: RingRecord,
+        feed: &mut F,
         sink: &mut S,
         order: &mut Vec<u32>,
     ) -> Stage
         requires { IsLimitedRecord popped }
         ensures taken { TakesRecord self.old.number popped self.old.ledger self.new.ledger
-            self.old.close self.new.close (S.taken sink.old) (S.taken sink.new)
+            self.old.close self.new.close (F.taken sink.old) (F.taken sink.new)
             order.old.items order.new.items result }
         ensures number { self.new.number ≡ self.old.number }
         ensures consumer { self.new.consumer ≡ self.old.consumer }
-        ensures setting { S.setting sink.new ≡ S.setting sink.old }
+        ensures setting { F.setting sink.new ≡ F.setting sink.old }
     {
         match popped {
             RingRecord::Name(name) => match self.ledger.tell(name) {
                 Ok(()) => Stage::Taking,
                 Err(_) => Stage::Dropping,
             },
-            RingRecord::Row { frames, weight } => self.take_row(alloc, frames, weight, sink, order),
+            RingRecord::Row { frames, weight } => {
+                self.take_row(alloc, frames.get(), weight, feed, sink, order)
+            }
+            RingRecord::Again { row, weight } => self.take_again(alloc, row, weight, feed, sink, order),
             RingRecord::Close(last) => {
                 self.close = Some(last);
                 Stage::Taking
@@ -183,7 +208,13 @@ impl Intake {
     }
 
     /// Takes the next record, if one is there.
-    pub fn take_next<S: Sink>(&mut self, alloc: Global, sink: &mut S, order: &mut Vec<u32>) -> Look
+    pub fn take_next<S, F: Feed<S>>(
+        &mut self,
+        alloc: Global,
+        feed: &mut F,
+        sink: &mut S,
+        order: &mut Vec<u32>,
+    ) -> Look
         requires { self.old.close ≡ None }
         ensures open { result ≢ Look.Closed }
         ensures number { self.new.number ≡ self.old.number }
@@ -191,9 +222,9 @@ impl Intake {
         ensures nothing { result ≡ Look.Idle → FindsNothing self.old.consumer self.new.consumer }
         ensures one { result ≡ Look.Moved → PopsOne self.old.consumer self.new.consumer }
         ensures more { (list : List TakenSample) → Tracks self.old list
-            → GainsMore self.new.number (Tracks self.new) list (S.taken sink.old)
-            (S.taken sink.new) order.old.items order.new.items (self.new.stage ≢ Stage.Dropping) }
-        ensures setting { S.setting sink.new ≡ S.setting sink.old }
+            → GainsMore self.new.number (Tracks self.new) list (F.taken sink.old)
+            (F.taken sink.new) order.old.items order.new.items (self.new.stage ≢ Stage.Dropping) }
+        ensures setting { F.setting sink.new ≡ F.setting sink.old }
     {
         let Ok(popped) = self.consumer.pop() else {
             return Look::Idle;
@@ -202,7 +233,7 @@ impl Intake {
             note_close(&mut self.close, popped);
             return Look::Moved;
         }
-        self.stage = self.take_record(alloc, popped, sink, order);
+        self.stage = self.take_record(alloc, popped, feed, sink, order);
         Look::Moved
     }
 

@@ -3,18 +3,24 @@
 #![tactic(auto)]
 
 mod faults;
+mod feeds;
 mod intakes;
+mod numbering;
 mod reader_threads;
 mod rings;
 mod room;
 mod rounds;
+mod row_runs;
 mod row_samples;
 mod running_sources;
 mod runs;
+mod sample_runs;
 mod settlement;
 mod tellers;
 
 pub use faults::CollectFault;
 pub use run_options::{LARGEST_RING, RingSize};
-pub use runs::{Collected, collect};
+pub use row_runs::collect_rows;
+pub use runs::Collected;
+pub use sample_runs::collect;
 pub use stack_core::RingRecord;

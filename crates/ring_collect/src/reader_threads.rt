@@ -1,6 +1,6 @@
 //! Starting the reader threads.
 
-ghost use Rattle.std.specs.Prelude.{◌≡◌, ◌≤◌, ℕ, [], IfOk, IsErrOf, OnOk, length, map, vec_capacity};
+ghost use Rattle.std.specs.Prelude.{All, ◌≡◌, ◌≤◌, ℕ, [], IfOk, IsErrOf, OnOk, length, map, vec_capacity};
 ghost use Rattle.ring_collect.specs.checked.RunningSources.{IsPromised, ArePromised, IsFresh, AreFresh};
 ghost use Rattle.rtrb.specs.Ring.{sent};
 ghost use Rattle.std.specs.Arc.{arc_value};
@@ -8,10 +8,9 @@ ghost use Rattle.std.specs.Arc.{arc_value};
 use crate::faults::CollectFault;
 use crate::intakes::{Intake, Stage};
 use crate::rings::{RecordProducer, RingEnds};
-use crate::row_samples::RowSample;
 use crate::running_sources::{ReaderHandle, ReaderPromise, RunningSource};
 use crate::tellers::tell_all;
-use stack_core::{Gate, Ledger, SampleReader};
+use stack_core::{Gate, Ledger, RowReader};
 use std::alloc::{AllocError, Global};
 use std::snapshot::Snapshot;
 use std::sync::{Arc, Wait};
@@ -21,7 +20,7 @@ use std::thread::Threads;
 /// Starts the thread of one reader.
 pub fn start<
     T: Threads + Wait + Copy + Send + 'static,
-    R: SampleReader + Send + Drop + 'static,
+    R: RowReader + Send + Drop + 'static,
     G: Gate + Send + Sync + Drop + 'static,
 >(
     rt: T,
@@ -31,7 +30,8 @@ pub fn start<
     source: u32,
     producer: RecordProducer,
 ) -> Result<ReaderHandle<R, G>, AllocError>
-    requires { sent producer ≡ [] }
+    requires nothing_sent { sent producer ≡ [] }
+    requires nothing_told { R.told reader ≡ record { names = []; stacks = [] } }
     ensures reader { IfOk result (λ handle. handle.promise.reader.value ≡ reader) }
     ensures gate { IfOk result (λ handle. arc_value handle.promise.gate.value ≡ arc_value gate) }
     ensures producer { IfOk result (λ handle. handle.promise.producer.value ≡ producer) }
@@ -52,7 +52,7 @@ pub fn start<
 /// Starts one source, with a ring that nothing went through.
 fn start_source<
     T: Threads + Wait + Copy + Send + 'static,
-    R: SampleReader + Send + Drop + 'static,
+    R: RowReader + Send + Drop + 'static,
     G: Gate + Send + Sync + Drop + 'static,
 >(
     rt: T,
@@ -62,6 +62,7 @@ fn start_source<
     source: u32,
     ends: RingEnds,
 ) -> Result<RunningSource<R, G>, CollectFault>
+    requires { R.told reader ≡ record { names = []; stacks = [] } }
     ensures finished { (number : ℕ) → IsErrOf result (CollectFault.Unfinished number) → ⊥ }
     ensures promised { IfOk result (λ running.
         IsPromised (arc_value gate.now) source reader running.handle.promise) }
@@ -76,7 +77,6 @@ fn start_source<
         number: source,
         consumer,
         ledger: Ledger::new(alloc),
-        row_sample: RowSample::new(alloc),
         stage: Stage::Taking,
         close: None,
     };
@@ -86,7 +86,7 @@ fn start_source<
 /// Starts the sources in order, up to the first that can't be started. There is a ring for each and room for all.
 pub fn start_all<
     T: Threads + Wait + Copy + Send + 'static,
-    R: SampleReader + Send + Drop + 'static,
+    R: RowReader + Send + Drop + 'static,
     G: Gate + Send + Sync + Drop + 'static,
 >(
     rt: T,
@@ -100,6 +100,8 @@ pub fn start_all<
     requires rings { length rings.items ≡ length readers.items }
     requires room { length readers.items ≤ vec_capacity sources.old }
     requires nothing { sources.old.items ≡ [] }
+    requires nothing_told { All (λ reader. R.told reader ≡ record { names = []; stacks = [] })
+        readers.items }
     ensures promised { ArePromised (arc_value gate.now) readers.items
         (map (λ running. running.handle.promise) sources.new.items) }
     ensures all { OnOk result (length sources.new.items ≡ length readers.items) }

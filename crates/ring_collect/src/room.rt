@@ -7,7 +7,7 @@ use crate::rings::{Limits, RingEnds};
 use crate::running_sources::RunningSource;
 use rtrb::RingBuffer;
 use run_options::RingSize;
-use stack_core::{Gate, Ledger, SampleReader};
+use stack_core::{Gate, Ledger, RowReader};
 use std::alloc::{AllocError, Global};
 
 /// A ring of this size.
@@ -32,13 +32,13 @@ fn make_rings(alloc: Global, count: usize, ring: RingSize) -> Result<Vec<RingEnd
 
 /// What is made before any thread is started: room for each source, and its ring.
 #[derive(Drop)]
-pub struct Room<R: SampleReader, G: Gate> {
+pub struct Room<R: RowReader, G: Gate> {
     pub rings: Vec<RingEnds>,
     pub sources: Vec<RunningSource<R, G>>,
     pub ledgers: Vec<Ledger>,
 }
 
-impl<R: SampleReader, G: Gate> Room<R, G> {
+impl<R: RowReader, G: Gate> Room<R, G> {
     ghost use Rattle.std.specs.Prelude.{◌≡◌, ◌≤◌, [], All, IfOk, length, vec_capacity};
     ghost use Rattle.ring_collect.specs.checked.RunningSources.{IsOfSize};
 

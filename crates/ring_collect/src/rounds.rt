@@ -4,16 +4,17 @@ ghost use Rattle.std.specs.Prelude.{◌≡◌, ◌<◌, ℕ, List, IsSome, IfSom
 ghost use Rattle.ring_collect.specs.checked.Rounds.{HasGained};
 ghost use Rattle.stack_core.specs.declared.samples.Sample.{Sample as TakenSample};
 
+use crate::feeds::Feed;
 use crate::intakes::Look;
 use crate::running_sources::RunningSource;
-use stack_core::{Gate, SampleReader, Sink};
+use stack_core::{Gate, RowReader};
 use std::alloc::Global;
 use std::sync::Wait;
 use std::thread;
 
 /// What the collecting thread has of a run.
 #[derive(Drop)]
-pub struct Collector<R: SampleReader, G: Gate> {
+pub struct Collector<R: RowReader, G: Gate> {
     /// The sources that were started, in order.
     pub sources: Vec<RunningSource<R, G>>,
     /// The source of each sample, in the order in which the samples came out of the rings.
@@ -22,22 +23,22 @@ pub struct Collector<R: SampleReader, G: Gate> {
     pub refused: bool,
 }
 
-impl<R: SampleReader, G: Gate> Collector<R, G> {
+impl<R: RowReader, G: Gate> Collector<R, G> {
     /// Looks into the ring of the source with this number, if it is not closed.
-    fn look_at<S: Sink>(&mut self, alloc: Global, source: usize, sink: &mut S) -> Look
+    fn look_at<S, F: Feed<S>>(&mut self, alloc: Global, source: usize, feed: &mut F, sink: &mut S) -> Look
         requires { source < length self.old.sources.items }
         ensures handles { map (λ running. running.handle) self.new.sources.items
             ≡ map (λ running. running.handle) self.old.sources.items }
         ensures gained { (start : List (ℕ × TakenSample))
             → HasGained start (map (λ running. running.intake) self.old.sources.items)
-            (S.taken sink.old) self.old.order.items self.old.refused
+            (F.taken sink.old) self.old.order.items self.old.refused
             → HasGained start (map (λ running. running.intake) self.new.sources.items)
-            (S.taken sink.new) self.new.order.items self.new.refused }
+            (F.taken sink.new) self.new.order.items self.new.refused }
         ensures refused { self.new.refused ≡ false → self.old.refused ≡ false }
         ensures closed { result ≡ Look.Closed → (self.new.sources.items ≡ self.old.sources.items)
             × IfSome (slice_get self.old.sources.items source)
             (λ running. IsSome running.intake.close) }
-        ensures setting { S.setting sink.new ≡ S.setting sink.old }
+        ensures setting { F.setting sink.new ≡ F.setting sink.old }
     {
         let running = &mut self.sources[source];
         if running.intake.close.is_some() {
@@ -46,52 +47,52 @@ impl<R: SampleReader, G: Gate> Collector<R, G> {
         if self.refused {
             return running.intake.drop_next();
         }
-        let look = running.intake.take_next(alloc, sink, &mut self.order);
+        let look = running.intake.take_next(alloc, feed, sink, &mut self.order);
         self.refused = running.intake.stage.is_dropping();
         look
     }
 
     /// Looks once into every ring that is not closed.
-    fn look_round<S: Sink>(&mut self, alloc: Global, sink: &mut S) -> Look
+    fn look_round<S, F: Feed<S>>(&mut self, alloc: Global, feed: &mut F, sink: &mut S) -> Look
         ensures handles { map (λ running. running.handle) self.new.sources.items
             ≡ map (λ running. running.handle) self.old.sources.items }
         ensures gained { (start : List (ℕ × TakenSample))
             → HasGained start (map (λ running. running.intake) self.old.sources.items)
-            (S.taken sink.old) self.old.order.items self.old.refused
+            (F.taken sink.old) self.old.order.items self.old.refused
             → HasGained start (map (λ running. running.intake) self.new.sources.items)
-            (S.taken sink.new) self.new.order.items self.new.refused }
+            (F.taken sink.new) self.new.order.items self.new.refused }
         ensures refused { self.new.refused ≡ false → self.old.refused ≡ false }
         ensures closed { result ≡ Look.Closed
             → (source : ℕ) → source < length self.new.sources.items
             → IfSome (slice_get self.new.sources.items source)
             (λ running. IsSome running.intake.close) }
-        ensures setting { S.setting sink.new ≡ S.setting sink.old }
+        ensures setting { F.setting sink.new ≡ F.setting sink.old }
     {
         let mut round = Look::Closed;
         for source in 0..self.sources.len() {
-            let look = self.look_at(alloc, source, sink);
+            let look = self.look_at(alloc, source, feed, sink);
             round = round.and(look);
         }
         round
     }
 
     /// Looks into the rings until all are closed. A round in which nothing came gives the processor away.
-    pub fn drain<W: Wait, S: Sink>(&mut self, rt: &W, alloc: Global, sink: &mut S)
+    pub fn drain<W: Wait, S, F: Feed<S>>(&mut self, rt: &W, alloc: Global, feed: &mut F, sink: &mut S)
         ensures handles { map (λ running. running.handle) self.new.sources.items
             ≡ map (λ running. running.handle) self.old.sources.items }
         ensures gained { (start : List (ℕ × TakenSample))
             → HasGained start (map (λ running. running.intake) self.old.sources.items)
-            (S.taken sink.old) self.old.order.items self.old.refused
+            (F.taken sink.old) self.old.order.items self.old.refused
             → HasGained start (map (λ running. running.intake) self.new.sources.items)
-            (S.taken sink.new) self.new.order.items self.new.refused }
+            (F.taken sink.new) self.new.order.items self.new.refused }
         ensures refused { self.new.refused ≡ false → self.old.refused ≡ false }
         ensures closed { (source : ℕ) → source < length self.new.sources.items
             → IfSome (slice_get self.new.sources.items source)
             (λ running. IsSome running.intake.close) }
-        ensures setting { S.setting sink.new ≡ S.setting sink.old }
+        ensures setting { F.setting sink.new ≡ F.setting sink.old }
     {
         for _ in rt.forever() {
-            match self.look_round(alloc, sink) {
+            match self.look_round(alloc, feed, sink) {
                 Look::Closed => return,
                 Look::Idle => thread::yield_now(),
                 Look::Moved => (),

@@ -4,7 +4,7 @@ ghost use Rattle.rtrb.specs.Ends.{SameRing};
 
 use crate::intakes::Intake;
 use crate::rings::{LeftOfRing, RecordConsumer, RecordProducer};
-use stack_core::{Gate, SampleReader};
+use stack_core::{Gate, RowReader};
 use std::snapshot::Snapshot;
 use std::sync::Arc;
 use std::thread::{Promise, PromisedHandle};
@@ -28,7 +28,7 @@ impl<R, G> Drop for ReaderPromise<R, G> {
     }
 }
 
-impl<R: SampleReader, G: Gate> Promise<Option<LeftOfRing>> for ReaderPromise<R, G> {
+impl<R: RowReader, G: Gate> Promise<Option<LeftOfRing>> for ReaderPromise<R, G> {
     ghost use Rattle.std.specs.Prelude.{IfSome};
     ghost use Rattle.std.specs.Arc.{arc_value};
     ghost use Rattle.ring_collect.specs.checked.Tellers.{SentAll};
@@ -42,7 +42,7 @@ pub type ReaderHandle<R, G> = PromisedHandle<Option<LeftOfRing>, ReaderPromise<R
 
 /// A source that was started: its thread, with what that promises, and what the collecting thread has of it.
 #[derive(Drop)]
-pub struct RunningSource<R: SampleReader, G: Gate> {
+pub struct RunningSource<R: RowReader, G: Gate> {
     pub handle: ReaderHandle<R, G>,
     pub intake: Intake,
     ghost tied: { SameRing handle.promise.producer.value.end intake.consumer.end },

@@ -11,12 +11,13 @@ ghost use Rattle.stack_core.specs.Ledgers.{IsRead};
 ghost use Rattle.stack_core.specs.Interleaving.{IsInterleaving, AreOf, interleaved};
 
 use crate::faults::CollectFault;
+use crate::feeds::Feed;
 use crate::reader_threads::start_all;
 use crate::room::Room;
 use crate::rounds::Collector;
 use crate::settlement::settle_all;
 use run_options::RingSize;
-use stack_core::{Close, Gate, Ledger, SampleReader, Sink, SourceList};
+use stack_core::{Close, Gate, Ledger, RowReader, SourceList};
 use std::alloc::{AllocError, Global};
 use std::sync::{Arc, Wait};
 use std::thread::Threads;
@@ -81,36 +82,40 @@ fn refusal(started: Result<(), CollectFault>, refused: bool) -> Option<CollectFa
 /// Starts the sources, drains their rings and joins their threads.
 fn run_sources<
     T: Threads + Wait + Copy + Send + 'static,
-    R: SampleReader + Send + Drop + 'static,
+    R: RowReader + Send + Drop + 'static,
     G: Gate + Send + Sync + Drop + 'static,
-    S: Sink,
+    S,
+    F: Feed<S>,
 >(
     rt: &T,
     alloc: Global,
     readers: Vec<R>,
     room: Room<R, G>,
     gate: &Arc<G>,
+    feed: &mut F,
     sink: &mut S,
 ) -> Result<Settled, CollectFault>
     requires few { length readers.items ≤ 64 }
+    requires nothing_told { All (λ reader. R.told reader ≡ record { names = []; stacks = [] })
+        readers.items }
     requires rings { length room.rings.items ≡ length readers.items }
     requires sources { (room.sources.items ≡ [])
         × (length readers.items ≤ vec_capacity room.sources) }
     requires ledgers { (room.ledgers.items ≡ [])
         × (length readers.items ≤ vec_capacity room.ledgers) }
     ensures gains { IfOk result (λ _.
-        GainsFirst (map R.rest readers.items) (S.taken sink.old) (S.taken sink.new)) }
+        GainsFirst (map R.rest readers.items) (F.taken sink.old) (F.taken sink.new)) }
     ensures popped { IfOk result (λ _.
-        GainsAllowed (G.may_go (arc_value gate.now)) (S.taken sink.old) (S.taken sink.new)) }
+        GainsAllowed (G.may_go (arc_value gate.now)) (F.taken sink.old) (F.taken sink.new)) }
     ensures whole { IfOk result (λ run. run.fault ≡ None
         → RunsWhole (G.may_stop (arc_value gate.now)) (G.may_go (arc_value gate.now))
-        (map R.rest readers.items) run.ledgers.items run.order.items (S.taken sink.old)
-        (S.taken sink.new)) }
+        (map R.rest readers.items) run.ledgers.items run.order.items (F.taken sink.old)
+        (F.taken sink.new)) }
     ensures refused { IfOk result (λ run. (source : ℕ)
         → run.fault ≡ Some (CollectFault.Unfinished source) → ⊥) }
     ensures unfinished { IfErr result (λ fault.
-        IsUnfinished (length readers.items) (S.taken sink.old) (S.taken sink.new) fault) }
-    ensures setting { S.setting sink.new ≡ S.setting sink.old }
+        IsUnfinished (length readers.items) (F.taken sink.old) (F.taken sink.new) fault) }
+    ensures setting { F.setting sink.new ≡ F.setting sink.old }
 {
     let Room {
         rings,
@@ -125,7 +130,7 @@ fn run_sources<
         order,
         refused,
     };
-    collector.drain(rt, alloc, sink);
+    collector.drain(rt, alloc, feed, sink);
     let Collector {
         sources,
         order,
@@ -141,25 +146,25 @@ fn run_sources<
     })
 }
 
-/// Reads every source in a thread of its own and collects what the threads send through rings of this size. The sink is fed as
-/// the samples come out of the rings, in `order`. At most 64 readers.
-///
-/// A reader asks the gate before each of its samples; where the gate says Stop, its list has the samples before, and the ending
-/// `Stopped`. Whatever the answer, every started thread is joined before, and the readers are used up.
-pub fn collect<
+/// Collects the rows of readers, and feeds a sink with them.
+pub fn collect_by<
     T: Threads + Wait + Copy + Send + 'static,
-    R: SampleReader + Send + Drop + 'static,
+    R: RowReader + Send + Drop + 'static,
     G: Gate + Send + Sync + Drop + 'static,
-    S: Sink,
+    S,
+    F: Feed<S>,
 >(
     rt: &T,
     alloc: Global,
     readers: Vec<R>,
     ring: RingSize,
     gate: Arc<G>,
+    feed: &mut F,
     sink: &mut S,
 ) -> Result<Collected, CollectFault>
-    requires { length readers.items ≤ 64 }
+    requires few { length readers.items ≤ 64 }
+    requires nothing_told { All (λ reader. R.told reader ≡ record { names = []; stacks = [] })
+        readers.items }
 
     // One list for each reader: its whole rest, or its first samples where the gate stopped it.
     ensures lists { IfOk result (λ run.
@@ -178,7 +183,7 @@ pub fn collect<
     ensures order { IfOk result (λ run.
         IsInterleaving run.order.items (map (λ list. list.samples) run.lists.items)) }
     ensures sink { IfOk result (λ run.
-        S.taken sink.new ≡ S.taken sink.old ++ interleaved run.order.items
+        F.taken sink.new ≡ F.taken sink.old ++ interleaved run.order.items
         (map (λ list. list.samples) run.lists.items)) }
     ensures by_source { IfOk result (λ run.
         AreOf (interleaved run.order.items (map (λ list. list.samples) run.lists.items))
@@ -186,15 +191,15 @@ pub fn collect<
 
     // What a refusal leaves in the sink: of each source a beginning, at each sample of which the gate may go.
     ensures refused { IsErrOf result CollectFault.OutOfMemory ⊎ IsErrOf result CollectFault.NoThread
-        → GainsFirst (map R.rest readers.items) (S.taken sink.old) (S.taken sink.new) }
+        → GainsFirst (map R.rest readers.items) (F.taken sink.old) (F.taken sink.new) }
     ensures popped { IsErrOf result CollectFault.OutOfMemory ⊎ IsErrOf result CollectFault.NoThread
-        → GainsAllowed (G.may_go (arc_value gate)) (S.taken sink.old) (S.taken sink.new) }
+        → GainsAllowed (G.may_go (arc_value gate)) (F.taken sink.old) (F.taken sink.new) }
     ensures unfinished { (source : ℕ) → IsErrOf result (CollectFault.Unfinished source)
-        → Unfinishes (length readers.items) source (S.taken sink.old) (S.taken sink.new) }
-    ensures setting { S.setting sink.new ≡ S.setting sink.old }
+        → Unfinishes (length readers.items) source (F.taken sink.old) (F.taken sink.new) }
+    ensures setting { F.setting sink.new ≡ F.setting sink.old }
 {
     let room = Room::new(alloc, readers.len(), ring)?;
-    let run = run_sources(rt, alloc, readers, room, &gate, sink)?;
+    let run = run_sources(rt, alloc, readers, room, &gate, feed, sink)?;
     let lists = lists_of(alloc, run.ledgers)?;
     match run.fault {
         Some(fault) => Err(fault),

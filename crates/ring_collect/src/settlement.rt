@@ -11,7 +11,7 @@ ghost use Rattle.ring_collect.specs.checked.Settlement.{IsReceived, IsSettled, A
 use crate::intakes::{Intake, Stage};
 use crate::rings::LeftOfRing;
 use crate::running_sources::RunningSource;
-use stack_core::{Gate, Ledger, SampleReader};
+use stack_core::{Gate, Ledger, RowReader};
 use std::thread::Threads;
 
 /// Hands the ledger of a source out, where its reader's end of the ring left what shows that all was received. A source of which a
@@ -30,7 +30,6 @@ fn settle_by(left: Option<LeftOfRing>, intake: Intake) -> Option<Ledger>
         number: _,
         consumer,
         ledger,
-        row_sample: _,
         stage,
         close,
     } = intake;
@@ -47,7 +46,7 @@ fn settle_by(left: Option<LeftOfRing>, intake: Intake) -> Option<Ledger>
 }
 
 /// Joins the thread of a source whose ring is closed, and hands its ledger out.
-fn settle<T: Threads, R: SampleReader, G: Gate>(
+fn settle<T: Threads, R: RowReader, G: Gate>(
     rt: &T,
     running: RunningSource<R, G>,
 ) -> Option<Ledger>
@@ -91,7 +90,7 @@ fn add_ledger(
 
 /// Joins the threads of all sources, whose rings are closed, and hands their ledgers out in order. Answers the first source of
 /// which nothing shows that all was received, if there is one.
-pub fn settle_all<T: Threads, R: SampleReader, G: Gate>(
+pub fn settle_all<T: Threads, R: RowReader, G: Gate>(
     rt: &T,
     sources: Vec<RunningSource<R, G>>,
     ledgers: &mut Vec<Ledger>,

@@ -1,18 +1,16 @@
 //! The reader thread of a source: it tells the samples in order, each new name once, and then the close.
 
-ghost use Rattle.std.specs.Prelude.{◌≡◌, ◌++◌, ◌∷◌, [], IfSome};
+ghost use Rattle.std.specs.Prelude.{◌≡◌, ◌++◌, ◌∷◌, [], IfSome, map};
 ghost use Rattle.rtrb.specs.Ring.{sent, SameProducer};
 ghost use Rattle.ring_collect.specs.checked.Rings.{IsLimitedRecord};
-ghost use Rattle.ring_collect.specs.checked.Tellers.{SentAll};
+ghost use Rattle.ring_collect.specs.checked.Tellers.{SentAll, ending_of, records_of};
+ghost use Rattle.stack_core.specs.RowReading.{IsLimitedStep};
 ghost use Rattle.std.specs.Arc.{arc_value};
 
 use crate::rings::{LeftOfRing, RecordProducer};
-use call_tree::FrameTable;
 use rtrb::PushError;
-use stack_core::{
-    Close, Gate, Listed, RingRecord, Sample, SampleReader, SourceEnd, Step, Text, Turn,
-};
-use std::alloc::{AllocError, Global};
+use stack_core::{Close, Gate, Listed, RingRecord, RowReader, RowStep, SourceEnd, Text, Turn};
+use std::alloc::Global;
 use std::sync::{Arc, Wait};
 use std::thread;
 
@@ -41,10 +39,51 @@ fn push_waiting<W: Wait>(rt: &W, producer: &mut RecordProducer, item: RingRecord
     unreachable!()
 }
 
-/// What tells the samples of a source: the names that were told, and the end of the ring where they were.
-#[derive(Drop)]
-struct Teller {
-    names: FrameTable,
+/// Tells names, in their order.
+fn tell_names<W: Wait>(rt: &W, producer: &mut RecordProducer, names: Listed<Text>)
+    ensures ring { SameProducer producer.old producer.new }
+    ensures sent { sent producer.new ≡ sent producer.old ++ map RingRecord.Name names }
+{
+    for name in names.into_plain() {
+        push_waiting(rt, producer, RingRecord::Name(name));
+    }
+}
+
+/// Tells what a reader gave: the names that are new and then the row, or the row again. An ending tells nothing.
+fn tell_step<W: Wait>(rt: &W, producer: &mut RecordProducer, step: RowStep)
+    requires { IsLimitedStep step }
+    ensures ring { SameProducer producer.old producer.new }
+    ensures sent { sent producer.new ≡ sent producer.old ++ records_of step }
+{
+    match step {
+        RowStep::New {
+            names,
+            frames,
+            weight,
+        } => {
+            tell_names(rt, producer, names);
+            push_waiting(rt, producer, RingRecord::Row { frames, weight });
+        }
+        RowStep::Again { row, weight } => {
+            push_waiting(rt, producer, RingRecord::Again { row, weight });
+        }
+        RowStep::End(_) => (),
+    }
+}
+
+/// The ending, if that is what a reader gave.
+fn ending_in(step: &RowStep) -> Option<SourceEnd>
+    ensures { result ≡ ending_of step.now }
+{
+    match step {
+        RowStep::New { .. } | RowStep::Again { .. } => None,
+        RowStep::End(ending) => Some(*ending),
+    }
+}
+
+/// What tells the samples of a source: its reader, and the end of the ring where they go.
+struct Teller<R: RowReader> {
+    reader: R,
     producer: RecordProducer,
 }
 
@@ -55,134 +94,63 @@ struct SampleNumber {
     index: u64,
 }
 
-impl Teller {
-    ghost use Rattle.std.specs.Prelude.{◌≡◌, ◌<◌, ◌++◌, ◌∷◌, ◌^◌, [], All, IfNone, IfOk, IfSome, OnErr, OnOk, Some, length, map, slice_get, string_bytes};
-    ghost use Rattle.call_tree.specs.FrameTable.{with_name};
+impl<R: RowReader> Teller<R> {
+    ghost use Rattle.std.specs.Prelude.{◌≡◌, ◌<◌, ◌++◌, ◌∷◌, ◌^◌, [], IfNone, IfSome, length};
     ghost use Rattle.rtrb.specs.Ring.{sent, SameProducer};
-    ghost use Rattle.ring_collect.specs.NamesInOrder.{with_stack, GrowsTo};
-    ghost use Rattle.ring_collect.specs.checked.Tellers.{AreNamesOf, Tells, TellsOne, TellsAll, Closes};
-    ghost use Rattle.stack_core.specs.Reading.{IsLimited};
-    ghost use Rattle.stack_core.specs.Records.{names_told, names_at, stands_for, IsWellTold};
+    ghost use Rattle.ring_collect.specs.checked.Tellers.{AreNamesOf, TellsOne, TellsAll, Closes, told_by};
+    ghost use Rattle.stack_core.specs.Records.{names_told, stands_for, IsWellTold};
     ghost use Rattle.stack_core.specs.Told.{IsToldUnder};
     ghost use Rattle.stack_core.specs.declared.endings.Item.TheVariants as item;
 
-    /// The number of a name, which is told where it is new.
-    fn tell_name<W: Wait>(&mut self, rt: &W, name: String) -> Result<usize, AllocError>
-        requires { self.old.names ≡ names_told (sent self.old.producer) }
-        ensures ring { SameProducer self.old.producer self.new.producer }
-        ensures told { Tells [] (sent self.old.producer) (sent self.new.producer) }
-        ensures names { OnOk result (self.new.names ≡ names_told (sent self.new.producer)) }
-        ensures asked { OnOk result (self.new.names ≡ with_name self.old.names (string_bytes name)) }
-        ensures grown { OnOk result (GrowsTo self.old.names self.new.names) }
-        ensures number { IfOk result (λ n. slice_get self.new.names n ≡ Some (string_bytes name)) }
-    {
-        let known = self.names.len();
-        let number = self.names.intern(name.as_str())?;
-        if number == known {
-            push_waiting(rt, &mut self.producer, RingRecord::Name(Text::of(name)));
-        }
-        Ok(number)
-    }
-
-    /// The numbers of the names of a stack, of which the new ones are told, in their order.
-    fn tell_names<W: Wait>(
-        &mut self,
-        rt: &W,
-        alloc: Global,
-        stack: Vec<String>,
-    ) -> Result<Vec<usize>, AllocError>
-        requires { self.old.names ≡ names_told (sent self.old.producer) }
-        ensures ring { SameProducer self.old.producer self.new.producer }
-        ensures told { Tells [] (sent self.old.producer) (sent self.new.producer) }
-        ensures names { OnOk result (self.new.names ≡ names_told (sent self.new.producer)) }
-        ensures asked { OnOk result (self.new.names
-            ≡ with_stack self.old.names (map string_bytes stack.items)) }
-        ensures numbers { IfOk result (λ numbers.
-            names_at self.new.names numbers.items ≡ map string_bytes stack.items) }
-        ensures known { IfOk result (λ numbers.
-            All (λ number. number < length self.new.names) numbers.items) }
-    {
-        let mut numbers = Vec::with_capacity(alloc, stack.len())?;
-        for name in stack {
-            numbers.push(self.tell_name(rt, name)?)?;
-        }
-        Ok(numbers)
-    }
-
-    /// Tells a sample: its new names, and then its row.
-    fn tell_sample<W: Wait>(
-        &mut self,
-        rt: &W,
-        alloc: Global,
-        sample: Sample,
-    ) -> Result<(), AllocError>
-        requires known { self.old.names ≡ names_told (sent self.old.producer) }
-        requires limits { IsLimited sample }
-        ensures ring { SameProducer self.old.producer self.new.producer }
-        ensures ok { OnOk result (Tells (item.Sample sample ∷ []) (sent self.old.producer)
-            (sent self.new.producer)) }
-        ensures names { OnOk result (self.new.names ≡ names_told (sent self.new.producer)) }
-        ensures asked { OnOk result (self.new.names ≡ with_stack self.old.names sample.stack) }
-        ensures refused { OnErr result (Tells [] (sent self.old.producer)
-            (sent self.new.producer)) }
-    {
-        let Sample { stack, weight } = sample;
-        let numbers = self.tell_names(rt, alloc, stack.into_plain())?;
-        let frames = Listed::of(numbers);
-        push_waiting(rt, &mut self.producer, RingRecord::Row { frames, weight });
-        Ok(())
-    }
-
-    /// Tells the next sample of a reader, where the gate lets it go. `None` where that was done, and else the close that comes
+    /// Tells the next sample of the reader, where the gate lets it go. `None` where that was done, and else the close that comes
     /// next.
-    fn tell_next<W: Wait, R: SampleReader, G: Gate>(
+    fn tell_next<W: Wait, G: Gate>(
         &mut self,
         rt: &W,
         alloc: Global,
-        reader: &mut R,
         gate: &G,
         number: SampleNumber,
     ) -> Option<Close>
-        requires { self.old.names ≡ names_told (sent self.old.producer) }
+        requires told { R.told self.old.reader ≡ told_by (sent self.old.producer) }
+        requires well_told { IsWellTold (sent self.old.producer) }
         ensures ring { SameProducer self.old.producer self.new.producer }
-        ensures few { length (R.rest reader.old).samples < 2 ^ 64 }
+        ensures few { length (R.rest self.old.reader).samples < 2 ^ 64 }
         ensures told { IfNone result
-            (TellsOne (G.may_go gate.now) number.source number.index (R.rest reader.old)
-            (R.rest reader.new) self.new.names (sent self.old.producer) (sent self.new.producer)) }
+            (TellsOne (G.may_go gate.now) number.source number.index (R.rest self.old.reader)
+            (R.rest self.new.reader) (R.told self.new.reader) (sent self.old.producer)
+            (sent self.new.producer)) }
         ensures closes { IfSome result
-            (Closes (G.may_stop gate.now) number.source number.index (R.rest reader.old)
+            (Closes (G.may_stop gate.now) number.source number.index (R.rest self.old.reader)
             (sent self.old.producer) (sent self.new.producer)) }
     {
         let SampleNumber { source, index } = number;
-        let sample = match reader.next(alloc) {
-            Ok(Step::Sample(sample)) => sample,
-            Ok(Step::End(ending)) => return Some(Close::Read(ending)),
-            Err(_) => return Some(Close::NoMemory),
+        let Ok(step) = self.reader.next_row(alloc) else {
+            return Some(Close::NoMemory);
         };
+        if let Some(ending) = ending_in(&step) {
+            return Some(Close::Read(ending));
+        }
         match gate.before(source, index) {
             Turn::Stop => return Some(Close::Read(SourceEnd::Stopped { after: index })),
             Turn::Go => (),
         }
-        match self.tell_sample(rt, alloc, sample) {
-            Ok(()) => None,
-            Err(_) => Some(Close::NoMemory),
-        }
+        tell_step(rt, &mut self.producer, step);
+        None
     }
 
-    /// Tells the samples of a reader, asking the gate before each, and answers the close that comes next.
-    fn tell_samples<W: Wait, R: SampleReader, G: Gate>(
+    /// Tells the samples of the reader, asking the gate before each, and answers the close that comes next.
+    fn tell_samples<W: Wait, G: Gate>(
         &mut self,
         rt: &W,
         alloc: Global,
-        reader: &mut R,
         gate: &G,
         source: u32,
     ) -> Close
-        requires nothing_told { sent self.old.producer ≡ [] }
-        requires no_names { self.old.names ≡ [] }
+        requires nothing_sent { sent self.old.producer ≡ [] }
+        requires nothing_told { R.told self.old.reader ≡ record { names = []; stacks = [] } }
         ensures ring { SameProducer self.old.producer self.new.producer }
         ensures told { IsToldUnder (G.may_stop gate.now) (G.may_go gate.now) source
-            (R.rest reader.old)
+            (R.rest self.old.reader)
             (stands_for (sent self.new.producer) ++ item.Close result ∷ []) }
         ensures well_told { IsWellTold (sent self.new.producer) }
         ensures in_order { AreNamesOf (stands_for (sent self.new.producer) ++ item.Close result ∷ [])
@@ -191,7 +159,7 @@ impl Teller {
         let mut index = 0u64;
         for _ in rt.forever() {
             let number = SampleNumber { source, index };
-            if let Some(close) = self.tell_next(rt, alloc, reader, gate, number) {
+            if let Some(close) = self.tell_next(rt, alloc, gate, number) {
                 return close;
             }
             index += 1;
@@ -199,30 +167,22 @@ impl Teller {
         unreachable!()
     }
 
-    /// Tells all that a reader gives, and then the close.
-    fn tell_source<W: Wait, R: SampleReader + Drop, G: Gate>(
-        &mut self,
-        rt: &W,
-        alloc: Global,
-        reader: R,
-        gate: &G,
-        source: u32,
-    )
-        requires nothing_told { sent self.old.producer ≡ [] }
-        requires no_names { self.old.names ≡ [] }
+    /// Tells all that the reader gives, and then the close.
+    fn tell_source<W: Wait, G: Gate>(&mut self, rt: &W, alloc: Global, gate: &G, source: u32)
+        requires nothing_sent { sent self.old.producer ≡ [] }
+        requires nothing_told { R.told self.old.reader ≡ record { names = []; stacks = [] } }
         ensures ring { SameProducer self.old.producer self.new.producer }
-        ensures told { TellsAll (G.may_stop gate.now) (G.may_go gate.now) source (R.rest reader)
-            (sent self.new.producer) }
+        ensures told { TellsAll (G.may_stop gate.now) (G.may_go gate.now) source
+            (R.rest self.old.reader) (sent self.new.producer) }
     {
-        let mut reader = reader;
-        let close = self.tell_samples(rt, alloc, &mut reader, gate, source);
+        let close = self.tell_samples(rt, alloc, gate, source);
         push_waiting(rt, &mut self.producer, RingRecord::Close(close));
     }
 }
 
 /// What runs in the thread of a source: it tells all that its reader gives, then the close, and hands back what
 /// shows that it sent no more. `None` where the ring's end left nothing, which no clause of the ring rules out.
-pub fn tell_all<W: Wait, R: SampleReader + Drop, G: Gate + Drop>(
+pub fn tell_all<W: Wait, R: RowReader + Drop, G: Gate + Drop>(
     rt: &W,
     alloc: Global,
     reader: R,
@@ -230,16 +190,17 @@ pub fn tell_all<W: Wait, R: SampleReader + Drop, G: Gate + Drop>(
     source: u32,
     producer: RecordProducer,
 ) -> Option<LeftOfRing>
-    requires { sent producer ≡ [] }
+    requires nothing_sent { sent producer ≡ [] }
+    requires nothing_told { R.told reader ≡ record { names = []; stacks = [] } }
     ensures { IfSome result
         (SentAll (G.may_stop (arc_value gate)) (G.may_go (arc_value gate)) source
         (R.rest reader) producer) }
 {
-    let mut teller = Teller {
-        names: FrameTable::new(alloc),
+    let mut teller = Teller { reader, producer };
+    teller.tell_source(rt, alloc, &*gate, source);
+    let Teller {
+        reader: _,
         producer,
-    };
-    teller.tell_source(rt, alloc, reader, &*gate, source);
-    let Teller { names: _, producer } = teller;
+    } = teller;
     producer.finish()
 }

@@ -1,6 +1,7 @@
--- The format of a file, by the end of its name.
-use Rattle.std.specs.Prelude.{ℕ, ◌||◌, Bool, List, codes, if◌then◌else◌, nat_eq}
+-- The format of a file, by the end of its name, and the names of the formats.
+use Rattle.std.specs.Prelude.{ℕ, ◌||◌, Bool, List, Option, Some, None, codes, if◌then◌else◌, nat_eq}
 use Rattle.std.specs.List.{ends_with}
+use Rattle.std.specs.Str.{bytes_eq}
 use Rattle.run_options.specs.declared.formats.Format.{Format}
 use Rattle.run_options.specs.declared.formats.Format.TheVariants.{Folded, Pprof}
 
@@ -10,3 +11,7 @@ is_pprof_path path = ends_with nat_eq path (codes ".pb")
 
 abbrev pub format_at : List ℕ → Format
 format_at path = if is_pprof_path path then Pprof else Folded
+
+abbrev pub named_format : List ℕ → Option Format
+named_format name = if bytes_eq name (codes "folded") then Some Folded
+    else (if bytes_eq name (codes "pprof") then Some Pprof else None)

@@ -26,6 +26,15 @@ fn copy_of_a_named_choice(rt: HostRuntime) -> Result<(), Fail> {
 }
 
 #[test]
+fn names_of_formats(rt: HostRuntime) {
+    assert_eq!(rt; Format::named("folded"), Some(Format::Folded));
+    assert_eq!(rt; Format::named("pprof"), Some(Format::Pprof));
+    for name in ["", "Folded", "PPROF", "pprof ", "pb", "folded,pprof"] {
+        assert!(rt; Format::named(name).is_none(), "{name}");
+    }
+}
+
+#[test]
 fn formats_by_name(rt: HostRuntime) {
     for path in ["cpu.prof", "x.pprof", "x.pb", "a/b.c/d.pb", ".prof"] {
         assert_eq!(rt; format_of(path), Format::Pprof, "{path}");

@@ -1,5 +1,5 @@
 use Rattle.std.proofs.Common.{◌≡◌, [], ◌∷◌, length, None, refl}
-use Rattle.stack_core.specs.Ledgers.{LedgerState, with_row, with_sample, name_at, row_at, sample_at}
+use Rattle.stack_core.specs.Ledgers.{LedgerState, with_again, with_row, with_sample, name_at, row_at, sample_at, stack_at, entry_at}
 use Rattle.stack_core.specs.Samples.{total_weight}
 
 -- `a` and `b` are told, and then the rows of both and of `a` are taken
@@ -7,19 +7,26 @@ abbrev rows_taken : LedgerState
 rows_taken =
     with_row
     (with_row
-    (record { samples = []; close = None; told = (97 ∷ []) ∷ (98 ∷ []) ∷ []; rows = [] })
+    (record { samples = []; close = None; told = (97 ∷ []) ∷ (98 ∷ []) ∷ []; rows = []; stacks = []; entries = [] })
     (record { frames = 0 ∷ 1 ∷ []; weight = 2 }))
     (record { frames = 0 ∷ []; weight = 1 })
 
 pub names_told_once : (length rows_taken.samples ≡ 2) × (total_weight rows_taken.samples ≡ 3) × (name_at (sample_at rows_taken.samples 0).stack 1 ≡ 98 ∷ []) × (length (sample_at rows_taken.samples 1).stack ≡ 1) × ((row_at rows_taken.rows 1).frames ≡ 0 ∷ [])
 names_told_once = (refl, refl, refl, refl, refl)
 
+-- and then one of both again, with another weight
+abbrev row_taken_again : LedgerState
+row_taken_again = with_again rows_taken 0 7
+
+pub row_told_again : (length row_taken_again.samples ≡ 3) × (length row_taken_again.stacks ≡ 2) × (total_weight row_taken_again.samples ≡ 10) × ((row_at row_taken_again.rows 2).frames ≡ 0 ∷ 1 ∷ []) × (name_at (sample_at row_taken_again.samples 2).stack 1 ≡ 98 ∷ []) × ((entry_at row_taken_again.entries 1).stack ≡ 1)
+row_told_again = (refl, refl, refl, refl, refl, refl)
+
 -- one sample of `x` is taken twice: its name is told anew
 abbrev samples_taken : LedgerState
 samples_taken =
     with_sample
     (with_sample
-    (record { samples = []; close = None; told = []; rows = [] })
+    (record { samples = []; close = None; told = []; rows = []; stacks = []; entries = [] })
     (record { stack = (120 ∷ []) ∷ []; weight = 2 }))
     (record { stack = (120 ∷ []) ∷ []; weight = 2 })
 

@@ -25,6 +25,26 @@ pub record IsRow (names : List (List ℕ)) (row : Row) : Type 0 where
   pub numbers : All (λ k. k < length names) row.frames
   pub weight : row.weight ≤ WEIGHT_LIMIT
 
+-- the stack of number k, as the numbers of its names: the k-th that was kept, from 0
+abbrev pub stack_at : List (List ℕ) → ℕ → List ℕ
+stack_at stacks k = slice_index_or stacks k []
+
+-- a sample by the number of its stack, and its weight
+pub record Entry : Type 0 where
+  pub stack : ℕ
+  pub weight : ℕ
+
+-- entry i; an empty one past the end
+abbrev pub entry_at : List Entry → ℕ → Entry
+entry_at entries i = slice_index_or entries i (record { stack = 0; weight = 0 })
+
+-- the row of an entry, and those of entries
+abbrev pub row_by : List (List ℕ) → Entry → Row
+row_by stacks entry = record { frames = stack_at stacks entry.stack; weight = entry.weight }
+
+abbrev pub rows_by : List (List ℕ) → List Entry → List Row
+rows_by stacks entries = map (row_by stacks) entries
+
 -- row i, and sample i; an empty one past the end
 abbrev pub row_at : List Row → ℕ → Row
 row_at rows i = slice_index_or rows i (record { frames = []; weight = 0 })
@@ -32,46 +52,75 @@ row_at rows i = slice_index_or rows i (record { frames = []; weight = 0 })
 abbrev pub sample_at : List Sample → ℕ → Sample
 sample_at samples i = slice_index_or samples i (record { stack = []; weight = 0 })
 
--- what a ledger holds: the samples that it took, how it was closed, the names that it was told, and
--- the rows that stand for the samples
+-- what a ledger holds: the samples that it took, how it was closed, the names that it was told, the rows that stand
+-- for the samples, the stacks that it keeps, and the samples by their stacks' numbers
 pub record LedgerState : Type 0 where
   pub samples : List Sample
   pub close : Option Close
   pub told : List (List ℕ)
   pub rows : List Row
+  pub stacks : List (List ℕ)
+  pub entries : List Entry
 
--- what is collected of a source: its samples, its ending, and the names and rows that tell them
+-- what is collected of a source: its samples, its ending, and the names, rows, stacks and entries that tell them
 pub record ListState : Type 0 where
   pub samples : List Sample
   pub ending : SourceEnd
   pub told : List (List ℕ)
   pub rows : List Row
+  pub stacks : List (List ℕ)
+  pub entries : List Entry
 
 -- the samples are the rows' with their names, and each row is within the limits
 pub record AreNamed (names : List (List ℕ)) (rows : List Row) (samples : List Sample) : Type 0 where
   pub each : All (IsRow names) rows
   pub samples_named : samples ≡ map (named names) rows
 
+-- the entries stand for the rows, and each has a stack that is kept
+pub record AreEntries (stacks : List (List ℕ)) (entries : List Entry) (rows : List Row) : Type 0 where
+  pub kept : All (λ entry. entry.stack < length stacks) entries
+  pub stand_for : rows ≡ rows_by stacks entries
+
 -- the row of a sample whose names come anew, after the names that were there
 abbrev pub fresh_row : List (List ℕ) → Sample → Row
 fresh_row names sample =
     record { frames = range_with_len (length names) (length sample.stack); weight = sample.weight }
 
--- a row is taken: the sample that it stands for comes last
+-- a stack is kept: it gets the next number
+abbrev pub keeping : LedgerState → List ℕ → LedgerState
+keeping state frames = record state { stacks = state.stacks ++ frames ∷ [] }
+
+-- a sample of a stack that is kept comes last
+abbrev pub with_again : LedgerState → ℕ → ℕ → LedgerState
+with_again state stack weight =
+    let entry : Entry = record { stack = stack; weight = weight } in
+    let row = row_by state.stacks entry in
+    record state {
+      samples = state.samples ++ named state.told row ∷ [];
+      rows = state.rows ++ row ∷ [];
+      entries = state.entries ++ entry ∷ [];
+    }
+
+-- a row is taken: its stack is kept, and the sample that it stands for comes last
 abbrev pub with_row : LedgerState → Row → LedgerState
 with_row state row =
     record state {
       samples = state.samples ++ named state.told row ∷ [];
       rows = state.rows ++ row ∷ [];
+      stacks = state.stacks ++ row.frames ∷ [];
+      entries = state.entries ++ record { stack = length state.stacks; weight = row.weight } ∷ [];
     }
 
 -- a sample is taken: its names are told, and its row comes last
 abbrev pub with_sample : LedgerState → Sample → LedgerState
 with_sample state sample =
+    let row = fresh_row state.told sample in
     record state {
       samples = state.samples ++ sample ∷ [];
       told = state.told ++ sample.stack;
-      rows = state.rows ++ fresh_row state.told sample ∷ [];
+      rows = state.rows ++ row ∷ [];
+      stacks = state.stacks ++ row.frames ∷ [];
+      entries = state.entries ++ record { stack = length state.stacks; weight = row.weight } ∷ [];
     }
 
 -- closed at an ending to which the source was read

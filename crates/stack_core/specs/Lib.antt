@@ -1,9 +1,11 @@
 pub mod Faults
 pub mod Interleaving
 pub mod Ledgers
+pub mod NamesInOrder
 pub mod Prefixes
 pub mod Reading
 pub mod Records
+pub mod RowReading
 pub mod Samples
 pub mod Schedule
 pub mod Told

@@ -7,7 +7,7 @@ ghost use Rattle.stack_core.specs.Interleaving.{IsInterleaving, AreOf, AreInterl
 ghost use Rattle.stack_core.specs.Interleaving.{interleaved, sources_of, of_source, list_of, counts_at};
 ghost use Rattle.stack_core.specs.Prefixes.{IsPrefixOf};
 ghost use Rattle.stack_core.specs.Reading.{Rest};
-ghost use Rattle.stack_core.specs.Records.{IsWellTold, names_told, stands_for, written};
+ghost use Rattle.stack_core.specs.Records.{IsWellTold, names_told, stacks_told, stands_for, written};
 ghost use Rattle.stack_core.specs.Schedule.{start, after_schedule, lane_after};
 ghost use Rattle.stack_core.specs.Schedule.{all_handed_out, only, received_lists};
 ghost use Rattle.stack_core.specs.Told.{IsToldList, IsToldUnder, IsCollected, told, told_whole, sample_of};
@@ -102,14 +102,14 @@ pub fn two_forms_of_an_interleaving<T>()
 {}
 
 /// The beginning of well told records is well told, and stands for the beginning of the items; and in well told
-/// records each number is its name among all that the ring tells.
+/// records each number is its name, and each row told again its row, among all that the ring tells.
 pub fn well_told_records()
     ensures prefix { (records more : List RingRecord) → IsWellTold (records ++ more)
         → IsWellTold records }
     ensures items { (records more : List RingRecord)
         → IsPrefixOf (stands_for records) (stands_for (records ++ more)) }
     ensures names { (records : List RingRecord) → IsWellTold records
-        → stands_for records ≡ written (names_told records) records }
+        → stands_for records ≡ written (names_told records) (stacks_told records) records }
 {}
 
 /// A told list has one list of samples and one close.

@@ -3,7 +3,7 @@
 ghost use Rattle.std.specs.Prelude.{◌≡◌, ◌<◌, ◌≤◌, ◌++◌, ◌∷◌, [], List, All, length, map, None, Some, is_some, option_copied, OnOk, OnErr};
 ghost use Rattle.stack_core.specs.declared.samples.TheConstants.{FRAME_LIMIT, WEIGHT_LIMIT};
 ghost use Rattle.stack_core.specs.Reading.{IsLimited};
-ghost use Rattle.stack_core.specs.Ledgers.{AreNamed, IsRead, IsRow, name_at, named, with_row, with_sample};
+ghost use Rattle.stack_core.specs.Ledgers.{AreEntries, AreNamed, IsRead, keeping, name_at, stack_at, with_again, with_row, with_sample};
 ghost use Rattle.stack_core.specs.Samples.{total_weight};
 
 use crate::endings::Close;
@@ -17,8 +17,8 @@ use std::marker::Model;
 #[cfg(test)]
 mod tests;
 
-/// The samples of one source, as they are told, and then how the telling closed. Names are told once,
-/// and samples as rows of their numbers.
+/// The samples of one source, as they are told, and then how the telling closed. Names are told once, stacks are kept as
+/// the numbers of their names, and a sample is the number of its stack and a weight.
 #[derive(Debug, Drop)]
 pub struct Ledger {
     table: RowTable,
@@ -27,22 +27,25 @@ pub struct Ledger {
 
 impl Model for Ledger {
     ghost use Rattle.std.specs.Prelude.{map};
-    ghost use Rattle.stack_core.specs.Ledgers.{LedgerState, named};
+    ghost use Rattle.stack_core.specs.Ledgers.{LedgerState, named, rows_by};
 
     ghost Value = { LedgerState };
 
     ghost view = { λ ledger. record {
-      samples = map (named ledger.table.names) ledger.table.rows;
+      samples = map (named ledger.table.names) (rows_by ledger.table.stacks ledger.table.entries);
       close = ledger.close;
       told = ledger.table.names;
-      rows = ledger.table.rows;
+      rows = rows_by ledger.table.stacks ledger.table.entries;
+      stacks = ledger.table.stacks;
+      entries = ledger.table.entries;
     } };
 }
 
 impl Ledger {
     /// A ledger of nothing, not closed. It takes no memory.
     pub fn new(alloc: Global) -> Self
-        ensures { result ≡ record { samples = []; close = None; told = []; rows = [] } }
+        ensures { result ≡ record
+            { samples = []; close = None; told = []; rows = []; stacks = []; entries = [] } }
     {
         Ledger {
             table: RowTable::new(alloc),
@@ -57,6 +60,7 @@ impl Ledger {
             ≡ record self.old { told = self.old.told ++ name ∷ [] }) }
         ensures refused { OnErr result (self.new ≡ self.old) }
     {
+        self.table.recall_rows();
         self.table.add_name(name)
     }
 
@@ -70,7 +74,32 @@ impl Ledger {
             ≡ with_row self.old (record { frames = frames; weight = weight })) }
         ensures refused { OnErr result (self.new ≡ self.old) }
     {
-        self.table.take_row(frames, weight)
+        self.table.recall_rows();
+        self.table.take_row(frames.get(), weight)
+    }
+
+    /// Keeps the stack whose names have these numbers, root first, for samples to come. It gets the least number that no stack has.
+    /// Want of memory changes nothing.
+    pub fn keep(&mut self, frames: &[usize]) -> Result<(), AllocError>
+        requires open { self.old.close ≡ None }
+        requires depth { length frames.now ≤ FRAME_LIMIT }
+        requires numbers { All (λ k. k < length self.old.told) frames.now }
+        ensures ok { OnOk result (self.new ≡ keeping self.old frames.now) }
+        ensures refused { OnErr result (self.new ≡ self.old) }
+    {
+        self.table.recall_rows();
+        self.table.keep(frames)
+    }
+
+    /// Takes a sample of the stack of this number. Want of memory, and a stack past the 2^32nd, changes nothing.
+    pub fn take_again(&mut self, stack: usize, weight: u64) -> Result<(), AllocError>
+        requires open { self.old.close ≡ None }
+        requires kept { stack < length self.old.stacks }
+        requires limit { weight ≤ WEIGHT_LIMIT }
+        ensures ok { OnOk result (self.new ≡ with_again self.old stack weight) }
+        ensures refused { OnErr result (self.new ≡ self.old) }
+    {
+        self.table.take_again(stack, weight)
     }
 
     /// Takes a sample, whose names are told anew. Want of memory changes nothing.
@@ -80,6 +109,7 @@ impl Ledger {
         ensures ok { OnOk result (self.new ≡ with_sample self.old sample) }
         ensures refused { OnErr result (self.new ≡ self.old) }
     {
+        self.table.recall_rows();
         let Sample { stack, weight } = sample;
         self.table.take(stack, weight)
     }
@@ -97,7 +127,9 @@ impl Ledger {
         ensures count { result ≡ length self.now.samples }
         ensures named { AreNamed self.now.told self.now.rows self.now.samples }
         ensures limits { All IsLimited self.now.samples }
+        ensures entries { AreEntries self.now.stacks self.now.entries self.now.rows }
     {
+        self.table.recall_rows();
         self.table.len() as u64
     }
 
@@ -137,6 +169,23 @@ impl Ledger {
         self.table.name(k)
     }
 
+    /// How many stacks are kept.
+    pub fn stack_count(&self) -> usize
+        ensures { result ≡ length self.now.stacks }
+    {
+        self.table.stack_count()
+    }
+
+    /// The numbers of the names of stack `k`, root first.
+    pub fn stack(&self, k: usize) -> &[usize]
+        requires { k < length self.now.stacks }
+        ensures value { result.now ≡ stack_at self.now.stacks k }
+        ensures limit { length result.now ≤ FRAME_LIMIT }
+        ensures told { All (λ k. k < length self.now.told) result.now }
+    {
+        self.table.stack(k)
+    }
+
     /// The list of a source that was read to an ending. It takes no memory.
     pub fn into_list(self) -> SourceList
         requires { IsRead self.close }
@@ -144,6 +193,8 @@ impl Ledger {
         ensures close { self.close ≡ Some (Close.Read result.ending) }
         ensures told { result.told ≡ self.told }
         ensures rows { result.rows ≡ self.rows }
+        ensures stacks { result.stacks ≡ self.stacks }
+        ensures entries { result.entries ≡ self.entries }
     {
         let Ledger { table, close } = self;
         match close {

@@ -3,6 +3,7 @@
 #![tactic(auto)]
 
 mod endings;
+mod entries;
 mod gates;
 mod lanes;
 pub mod laws;
@@ -12,6 +13,7 @@ mod readers;
 mod records;
 mod samples;
 mod sinks;
+mod stacks;
 mod tables;
 mod values;
 mod worlds;
@@ -20,9 +22,9 @@ pub use endings::{Close, Item, ReadFault, ReadKind, SourceEnd};
 pub use gates::{Gate, OpenGate, Turn};
 pub use ledgers::Ledger;
 pub use lists::SourceList;
-pub use readers::{SampleReader, Step};
+pub use readers::{RowReader, RowStep, SampleReader, Step};
 pub use records::RingRecord;
 pub use samples::{FRAME_LIMIT, Sample, WEIGHT_LIMIT};
-pub use sinks::Sink;
+pub use sinks::{NoSink, RowSink, Sink};
 pub use values::{Listed, Names, Text};
 pub use worlds::{Event, World};

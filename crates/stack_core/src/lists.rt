@@ -3,7 +3,7 @@
 ghost use Rattle.std.specs.Prelude.{◌≡◌, ◌<◌, ◌≤◌, ℕ, List, All, length, map, slice_index};
 ghost use Rattle.stack_core.specs.declared.samples.TheConstants.{FRAME_LIMIT, WEIGHT_LIMIT};
 ghost use Rattle.stack_core.specs.Reading.{IsLimited};
-ghost use Rattle.stack_core.specs.Ledgers.{AreNamed, IsRow, name_at, row_at, sample_at, named};
+ghost use Rattle.stack_core.specs.Ledgers.{AreEntries, AreNamed, entry_at, name_at, named, row_at, rows_by, sample_at, stack_at};
 ghost use Rattle.stack_core.specs.Samples.{total_weight};
 
 use crate::endings::SourceEnd;
@@ -11,7 +11,8 @@ use crate::tables::RowTable;
 use std::marker::Model;
 
 /// The samples of a source in the order in which they were taken, and the source's ending. Names are told once
-/// in a list, and frames are numbers of told names, so equal numbers in one list mean equal names.
+/// in a list, and frames are numbers of told names, so equal numbers in one list mean equal names. A stack is kept once for
+/// all samples that were taken of it.
 /// No call takes memory.
 #[derive(Debug, Drop)]
 pub struct SourceList {
@@ -21,24 +22,28 @@ pub struct SourceList {
 
 impl Model for SourceList {
     ghost use Rattle.std.specs.Prelude.{map};
-    ghost use Rattle.stack_core.specs.Ledgers.{ListState, named};
+    ghost use Rattle.stack_core.specs.Ledgers.{ListState, named, rows_by};
 
     ghost Value = { ListState };
 
     ghost view = { λ list. record {
-      samples = map (named list.table.names) list.table.rows;
+      samples = map (named list.table.names) (rows_by list.table.stacks list.table.entries);
       ending = list.ending;
       told = list.table.names;
-      rows = list.table.rows;
+      rows = rows_by list.table.stacks list.table.entries;
+      stacks = list.table.stacks;
+      entries = list.table.entries;
     } };
 }
 
 impl SourceList {
     pub(crate) fn of(table: RowTable, ending: SourceEnd) -> Self
-        ensures samples { result.samples ≡ map (named table.names) table.rows }
+        ensures samples { result.samples ≡ map (named table.names) (rows_by table.stacks table.entries) }
         ensures ending { result.ending ≡ ending }
         ensures told { result.told ≡ table.names }
-        ensures rows { result.rows ≡ table.rows }
+        ensures rows { result.rows ≡ rows_by table.stacks table.entries }
+        ensures stacks { result.stacks ≡ table.stacks }
+        ensures entries { result.entries ≡ table.entries }
     {
         SourceList { table, ending }
     }
@@ -49,8 +54,37 @@ impl SourceList {
         ensures rows { length self.now.rows ≡ length self.now.samples }
         ensures named { AreNamed self.now.told self.now.rows self.now.samples }
         ensures limits { All IsLimited self.now.samples }
+        ensures entries { AreEntries self.now.stacks self.now.entries self.now.rows }
     {
+        self.table.recall_rows();
         self.table.len()
+    }
+
+    /// How many stacks are kept. Two of them may be equal.
+    pub fn stack_count(&self) -> usize
+        ensures { result ≡ length self.now.stacks }
+    {
+        self.table.stack_count()
+    }
+
+    /// The numbers of the names of stack `k`, root first.
+    pub fn stack(&self, k: usize) -> &[usize]
+        requires { k < length self.now.stacks }
+        ensures value { result.now ≡ stack_at self.now.stacks k }
+        ensures limit { length result.now ≤ FRAME_LIMIT }
+        ensures told { All (λ k. k < length self.now.told) result.now }
+    {
+        self.table.stack(k)
+    }
+
+    /// The number of the stack of sample `i`.
+    pub fn stack_number(&self, i: usize) -> usize
+        requires { i < length self.now.samples }
+        ensures value { result ≡ (entry_at self.now.entries i).stack }
+        ensures kept { result < length self.now.stacks }
+        ensures frames { stack_at self.now.stacks result ≡ (row_at self.now.rows i).frames }
+    {
+        self.table.stack_number(i)
     }
 
     /// The weight of sample `i`.

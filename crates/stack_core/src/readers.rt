@@ -1,10 +1,13 @@
 //! What gives the samples of a source, one after another.
 
 ghost use Rattle.std.specs.Prelude.{◌≡◌, ◌<◌, ◌^◌, length, IfOk, OnOk, OnErr, IsOk};
+ghost use Rattle.stack_core.specs.Prefixes.{IsPrefixOf};
 ghost use Rattle.stack_core.specs.Reading.{Steps, IsEnd, IsWithinLimits, Rest};
+ghost use Rattle.stack_core.specs.RowReading.{StepsByRows, IsLastStep, IsLimitedStep, ToldRows};
 
 use crate::endings::SourceEnd;
 use crate::samples::Sample;
+use crate::values::{Listed, Text};
 use std::alloc::{AllocError, Global};
 
 /// What a call of a reader gives.
@@ -33,5 +36,50 @@ pub trait SampleReader {
         ensures refused { OnErr result (rest self.new ≡ rest self.old) }
         ensures few { length (rest self.old).samples < 2 ^ 64 }
         ensures ended { IfOk result (λ step. IsEnd step → has_ended self.new) }
+        ensures repeats { has_ended self.old → IsOk result };
+}
+
+/// What a call of a reader of rows gives.
+#[derive(Debug, Drop)]
+pub enum RowStep {
+    /// The next sample, whose stack is told: those of its names that no stack before it had, in the order in which they stand in
+    /// it, and the numbers of all of its names, root first. Number k stands for the k-th name that was told, from 0.
+    New {
+        names: Listed<Text>,
+        frames: Listed<usize>,
+        weight: u64,
+    },
+    /// The next sample, which has the stack of this number: the row-th that was told, from 0.
+    Again {
+        row: usize,
+        weight: u64,
+    },
+    /// The ending. Every later call gives it again.
+    End(SourceEnd),
+}
+
+/// A source of samples that tells each name once, and each stack as a row of numbers. A stack that it told before it may tell by its
+/// number, or once more. Contracts see what it still has to give, as that of a `SampleReader`, and what it told.
+pub trait RowReader {
+    /// The samples still to come, and the ending.
+    ghost rest: { Self → Rest };
+
+    /// The names and stacks that were told. After want of memory there may be more names, which nothing has told.
+    ghost told: { Self → ToldRows };
+
+    /// Holds where a call has answered the ending.
+    ghost has_ended: { Self → Type 0 };
+
+    /// The next sample, or the ending. Want of memory leaves the rest and the stacks as they were, and does not come after the
+    /// ending was answered.
+    fn next_row(&mut self, alloc: Global) -> Result<RowStep, AllocError>
+        ensures step { IfOk result (λ step.
+            StepsByRows (told self.old) (rest self.old) step (told self.new) (rest self.new)) }
+        ensures limits { IfOk result IsLimitedStep }
+        ensures refused { OnErr result (rest self.new ≡ rest self.old) }
+        ensures stacks { OnErr result ((told self.new).stacks ≡ (told self.old).stacks) }
+        ensures names { OnErr result (IsPrefixOf (told self.old).names (told self.new).names) }
+        ensures few { length (rest self.old).samples < 2 ^ 64 }
+        ensures ended { IfOk result (λ step. IsLastStep step → has_ended self.new) }
         ensures repeats { has_ended self.old → IsOk result };
 }

@@ -1,4 +1,4 @@
-//! What a ring carries: names told once, and rows of their numbers.
+//! What a ring carries: names told once, rows of their numbers, and rows told again.
 
 use crate::endings::Close;
 use crate::values::{Listed, Text};
@@ -10,6 +10,8 @@ pub enum RingRecord {
     Name(Text),
     /// A sample, whose frames are the numbers of names told before it, root first.
     Row { frames: Listed<usize>, weight: u64 },
+    /// A sample with the frames of the row of this number: the row-th that was told in that ring, from 0.
+    Again { row: usize, weight: u64 },
     /// The end of what is told.
     Close(Close),
 }

@@ -1,57 +1,45 @@
-//! Names, and rows of their numbers, kept in a few flat vectors: a sample costs no allocation
-//! of its own.
+//! Names, stacks of their numbers, and samples by the numbers of their stacks.
 
-ghost use Rattle.std.specs.Prelude.{◌≡◌, ◌<◌, ◌≤◌, ◌++◌, ◌-◌, ◌∷◌, [], ℕ, List, All, length, map, sum_by, slice_index, OnOk, OnErr};
-ghost use Rattle.std.specs.List.{range_with_len};
+ghost use Rattle.std.specs.Prelude.{◌≡◌, ◌<◌, ◌≤◌, ◌++◌, ◌∷◌, [], ℕ, List, All, length, map, OnOk, OnErr};
 ghost use Rattle.stack_core.specs.declared.samples.TheConstants.{FRAME_LIMIT, WEIGHT_LIMIT};
-ghost use Rattle.stack_core.specs.Ledgers.{Row, IsRow, name_at, row_at};
-ghost use Rattle.stack_core.specs.checked.Tables.{table_with_sample};
+ghost use Rattle.stack_core.specs.Ledgers.{AreEntries, IsRow, entry_at, name_at, named, row_at, row_by, rows_by, sample_at, stack_at};
+ghost use Rattle.stack_core.specs.Reading.{IsLimited};
+ghost use Rattle.stack_core.specs.Samples.{total_weight};
+ghost use Rattle.stack_core.specs.checked.Stacks.{IsStack};
+ghost use Rattle.stack_core.specs.checked.Tables.{samples_in, table_with_row, table_with_sample};
 
-use crate::values::{Listed, Names, Text};
+use crate::entries::Entries;
+use crate::stacks::Stacks;
+use crate::values::{Names, Text};
 use std::alloc::{AllocError, Global};
 use std::marker::Model;
 
-/// Where the numbers of a row lie, and its weight.
-#[derive(Clone, Copy, Debug)]
-struct Span {
-    start: usize,
-    end: usize,
-    weight: u64,
-}
-
-/// The names, and the rows. Numbers that no span covers stand for nothing.
+/// The names, the stacks and the samples. Each sample's stack is kept.
 #[derive(Debug, Drop)]
 pub struct RowTable {
-    names: Vec<String>,
-    frames: Vec<usize>,
-    spans: Vec<Span>,
-    total: u128,
+    stacks: Stacks,
+    entries: Entries,
 }
 
 impl Model for RowTable {
-    ghost use Rattle.std.specs.Prelude.{map, string_bytes};
+    ghost use Rattle.std.specs.Prelude.{All, length};
+    ghost use Rattle.stack_core.specs.checked.Entries.{IsEntry};
     ghost use Rattle.stack_core.specs.checked.Tables.{Table};
-    ghost use Rattle.stack_core.specs.checked.Spans.{rows_of, AreSpans};
 
     ghost Value = { Table };
 
-    ghost view = { λ t. record
-        { names = map string_bytes t.names.items; rows = rows_of t.frames.items t.spans.items } };
+    ghost view = { λ t. record { names = t.stacks.names; stacks = t.stacks.stacks; entries = t.entries } };
 
-    ghost invariant = { λ t.
-        AreSpans (map string_bytes t.names.items) t.frames.items t.spans.items t.total };
+    ghost invariant = { λ t. All (IsEntry (length t.stacks.stacks)) t.entries };
 }
 
 impl RowTable {
     pub fn new(alloc: Global) -> Self
-        ensures names { result.names ≡ [] }
-        ensures rows { result.rows ≡ [] }
+        ensures { result ≡ record { names = []; stacks = []; entries = [] } }
     {
         RowTable {
-            names: Vec::new(alloc),
-            frames: Vec::new(alloc),
-            spans: Vec::new(alloc),
-            total: 0,
+            stacks: Stacks::new(alloc),
+            entries: Entries::new(alloc),
         }
     }
 
@@ -59,105 +47,141 @@ impl RowTable {
         ensures ok { OnOk result (self.new
             ≡ record self.old { names = self.old.names ++ name ∷ [] }) }
         ensures refused { OnErr result (self.new ≡ self.old) }
-        ensures rows { All (IsRow self.old.names) self.old.rows }
     {
-        self.names.push(name.into_plain())?;
-        Ok(())
+        self.stacks.add_name(name)
     }
 
     pub fn name_count(&self) -> usize
         ensures { result ≡ length self.now.names }
     {
-        self.names.len()
+        self.stacks.name_count()
     }
 
     pub fn name(&self, k: usize) -> &str
         requires { k < length self.now.names }
         ensures { result.now ≡ name_at self.now.names k }
     {
-        self.names[k].as_str()
+        self.stacks.name(k)
+    }
+
+    pub fn stack_count(&self) -> usize
+        ensures { result ≡ length self.now.stacks }
+    {
+        self.stacks.len()
+    }
+
+    pub fn stack(&self, k: usize) -> &[usize]
+        requires { k < length self.now.stacks }
+        ensures value { result.now ≡ stack_at self.now.stacks k }
+        ensures stack { IsStack self.now.names (stack_at self.now.stacks k) }
+    {
+        self.stacks.stack(k)
     }
 
     pub fn len(&self) -> usize
-        ensures count { result ≡ length self.now.rows }
-        ensures rows { All (IsRow self.now.names) self.now.rows }
+        ensures { result ≡ length self.now.entries }
     {
-        self.spans.len()
+        self.entries.len()
+    }
+
+    /// For contracts alone: what is known of the rows.
+    pub fn recall_rows(&self)
+        ensures rows { All (IsRow self.now.names) (rows_by self.now.stacks self.now.entries) }
+        ensures limits { All IsLimited (samples_in self.now) }
+        ensures kept { AreEntries self.now.stacks self.now.entries
+            (rows_by self.now.stacks self.now.entries) }
+        ensures same { (more : List (List ℕ)) → rows_by (self.now.stacks ++ more) self.now.entries
+            ≡ rows_by self.now.stacks self.now.entries }
+    {
+        let _stacks = self.stacks.len();
+        let _weights = self.entries.total();
     }
 
     pub fn total(&self) -> u128
-        ensures { result ≡ sum_by (λ row. row.weight) self.now.rows }
+        ensures { result ≡ total_weight (samples_in self.now) }
     {
-        self.total
+        self.entries.total()
     }
 
     pub fn weight(&self, i: usize) -> u64
-        requires { i < length self.now.rows }
-        ensures value { result ≡ (row_at self.now.rows i).weight }
+        requires { i < length self.now.entries }
+        ensures value { result ≡ (entry_at self.now.entries i).weight }
+        ensures sample { result ≡ (sample_at (samples_in self.now) i).weight }
         ensures limit { result ≤ WEIGHT_LIMIT }
     {
-        self.spans[i].weight
+        self.entries.weight(i)
     }
 
-    pub fn frames(&self, i: usize) -> &[usize]
-        requires { i < length self.now.rows }
-        ensures value { result.now ≡ (row_at self.now.rows i).frames }
-        ensures row { IsRow self.now.names (row_at self.now.rows i) }
+    /// The number of the stack of sample `i`.
+    pub fn stack_number(&self, i: usize) -> usize
+        requires { i < length self.now.entries }
+        ensures value { result ≡ (entry_at self.now.entries i).stack }
+        ensures kept { result < length self.now.stacks }
+        ensures frames { stack_at self.now.stacks result
+            ≡ (row_at (rows_by self.now.stacks self.now.entries) i).frames }
     {
-        let span = self.spans[i];
-        &self.frames[span.start..span.end]
+        self.entries.stack(i)
     }
 
-    pub fn take_row(&mut self, frames: Listed<usize>, weight: u64) -> Result<(), AllocError>
-        requires { IsRow self.old.names (record { frames = frames; weight = weight }) }
+    /// The numbers of the names of sample `i`.
+    pub fn frames(&self, i: usize) -> &[usize]
+        requires { i < length self.now.entries }
+        ensures value { result.now ≡ (row_at (rows_by self.now.stacks self.now.entries) i).frames }
+        ensures row { IsRow self.now.names (row_at (rows_by self.now.stacks self.now.entries) i) }
+        ensures names { map (name_at self.now.names) result.now
+            ≡ (sample_at (samples_in self.now) i).stack }
+    {
+        self.stacks.stack(self.stack_number(i))
+    }
+
+    /// Keeps a stack, which gets the next number.
+    pub fn keep(&mut self, frames: &[usize]) -> Result<(), AllocError>
+        requires { IsStack self.old.names frames.now }
         ensures ok { OnOk result
-            (self.new ≡ record self.old
-            { rows = self.old.rows ++ record { frames = frames; weight = weight } ∷ [] }) }
+            (self.new ≡ record self.old { stacks = self.old.stacks ++ frames.now ∷ [] }) }
         ensures refused { OnErr result (self.new ≡ self.old) }
     {
-        self.spans.reserve(1)?;
-        let start = self.frames.len();
-        self.frames.extend_from_slice(frames.get())?;
-        self.spans.push(Span {
-            start,
-            end: self.frames.len(),
-            weight,
-        })?;
-        self.total += u128::from(weight);
-        Ok(())
+        self.stacks.add(frames)
     }
 
+    /// Takes a sample of a stack that is kept. A stack past the 2^32nd is refused as memory is.
+    pub fn take_again(&mut self, stack: usize, weight: u64) -> Result<(), AllocError>
+        requires kept { stack < length self.old.stacks }
+        requires limit { weight ≤ WEIGHT_LIMIT }
+        ensures ok { OnOk result (self.new ≡ record self.old
+            { entries = self.old.entries ++ record { stack = stack; weight = weight } ∷ [] }) }
+        ensures refused { OnErr result (self.new ≡ self.old) }
+    {
+        self.entries.push(stack, weight)
+    }
+
+    /// Keeps a stack, and takes a sample of it: both or neither.
+    pub fn take_row(&mut self, frames: &[usize], weight: u64) -> Result<(), AllocError>
+        requires stack { IsStack self.old.names frames.now }
+        requires limit { weight ≤ WEIGHT_LIMIT }
+        ensures ok { OnOk result (self.new ≡ table_with_row self.old frames.now weight) }
+        ensures refused { OnErr result (self.new ≡ self.old) }
+    {
+        self.entries.push(self.stacks.len(), weight)?;
+        let kept = self.stacks.add(frames);
+        if kept.is_err() {
+            self.entries.pop();
+        }
+        kept
+    }
+
+    /// Takes a sample, whose names are told anew: all or nothing.
     pub fn take(&mut self, stack: Names, weight: u64) -> Result<(), AllocError>
         requires depth { length stack ≤ FRAME_LIMIT }
         requires limit { weight ≤ WEIGHT_LIMIT }
         ensures ok { OnOk result (self.new ≡ table_with_sample self.old stack weight) }
         ensures refused { OnErr result (self.new ≡ self.old) }
-        ensures rows { All (IsRow self.old.names) self.old.rows }
     {
-        let mut names = stack.into_plain();
-        let depth = names.len();
-        self.names.reserve(depth)?;
-        self.frames.reserve(depth)?;
-        self.spans.reserve(1)?;
-        let first = self.names.len();
-        let start = self.frames.len();
-        number(&mut self.frames, first, first + depth)?;
-        self.names.append(&mut names)?;
-        self.spans.push(Span {
-            start,
-            end: self.frames.len(),
-            weight,
-        })?;
-        self.total += u128::from(weight);
-        Ok(())
+        self.entries.push(self.stacks.len(), weight)?;
+        let kept = self.stacks.add_fresh(stack);
+        if kept.is_err() {
+            self.entries.pop();
+        }
+        kept
     }
-}
-
-/// Appends the numbers from `from` up to `to`. Want of memory may leave some of them behind.
-fn number(frames: &mut Vec<usize>, from: usize, to: usize) -> Result<(), AllocError>
-    ensures ok { OnOk result (frames.new.items
-        ≡ frames.old.items ++ range_with_len from (to - from)) }
-    ensures begins { (more : List ℕ) × (frames.new.items ≡ frames.old.items ++ more) }
-{
-    frames.extend(from..to)
 }

@@ -1,16 +1,11 @@
 -- the lines of a tree's listing are the fold text of its samples
-use Rattle.std.proofs.Common.{◌≡◌, ℕ, ◌+◌, ◌-◌, ◌^◌, ◌<◌, List, [], ◌∷◌, ◌++◌, Bool, true, false, cond, ◌&&◌, length, map, filter, take, get_or, ltb, nat_eq, Some, None, T, Decides, sym, ◌∙◌, ap, subst, refl, arith, inl, inr, ⊎_elim, All}
+use Rattle.std.proofs.Common.{◌≡◌, ℕ, ◌-◌, ◌^◌, ◌<◌, List, [], ◌∷◌, ◌++◌, Bool, true, false, cond, ◌&&◌, length, map, filter, take, get_or, ltb, nat_eq, Some, None, T, sym, ◌∙◌, ap, subst, refl, arith, inl, inr, ⊎_elim, All}
 use Rattle.std.specs.List.{AllByRecursion}
-use Rattle.std.specs.declared.cmp.Ordering.TheVariants.{Equal}
 use Rattle.std.specs.Ordering.{is_eq, is_lt}
-use Rattle.std.specs.Str.{bytes_eq}
-use Rattle.std.specs.Cmp.Lexicographic.{pointwise}
 use Rattle.std.specs.FinMap.{entries}
 use Rattle.std.specs.FinMap.Entries.{find, is_sorted, below_all}
-use Rattle.std.proofs.lemmas.Cmp.{tied_itself}
 use Rattle.std.proofs.lemmas.List.{take-map, map_push}
 use Rattle.std.proofs.lemmas.Bool.{cases_lt}
-use Rattle.std.proofs.lemmas.Bool.Decides.{same_from_decides}
 use Rattle.call_tree.specs.CallTree.{Tree, own_weight, total_weight}
 use Rattle.call_tree.specs.FrameTable.{HasDistinctNames}
 use Rattle.call_tree.specs.declared.listing.Visit.{Visit as TreeVisit}
@@ -21,17 +16,18 @@ use Rattle.flame_layout.specs.Timeline.{Stack}
 use Rattle.flame_layout.specs.Graph.{stack_cmp}
 use Rattle.flame_layout.specs.Paths.{Visit, IsRising, SameOwn, tree_samples}
 use Rattle.flame_layout.specs.checked.Paired.{next_path}
-use Rattle.flame_layout.proofs.PathWords.{path_total, path_own, own_at-is, visit_of}
-use Rattle.flame_layout.proofs.Order.{Lt, Lt-irrefl, stack_same, stack_total}
+use Rattle.flame_layout.proofs.PathWords.{path_total, path_own, visit_of}
+use Rattle.flame_layout.proofs.Order.{Lt, Lt-irrefl, stack_same}
 use Rattle.flame_layout.proofs.Rising.{Among, each-among}
-use Rattle.flame_layout.proofs.Visits.{Decides-stack, own-part, path_own-cons}
+use Rattle.flame_layout.proofs.Visits.{own-part}
 use Rattle.flame_layout.proofs.Sums.{IsListing, visits_weigh}
 use Rattle.flame_layout.proofs.TreeSamples.{equal_is, named_visit, named_listing, own_weight-sum, entries_named, path_in}
 use Rattle.flame_layout.proofs.Chained.{PathsGoOn, next_is}
 use Rattle.flame_layout.proofs.Held.{own_le, listing_chained, each_path}
 use Rattle.flame_layout.proofs.GraphBoxes.{each_at, tree_weight}
-use Rattle.view_texts.specs.Fold.{Weighed, sum_at, merged, weighed, lines_of, if_positive, fold_text}
-use Rattle.view_texts.proofs.MergedRows.{is_true, as_true, sum_at-cons, sum_at-nil, merged-only, merged-same}
+use Rattle.view_texts.specs.Fold.{Weighed, merged, weighed, lines_of, if_positive, fold_text}
+use Rattle.flame_layout.proofs.MergedSums.{Decides-order, sum_at-own, same_rows}
+use Rattle.view_texts.proofs.MergedRows.{is_true, as_true, merged-only}
 use Rattle.view_texts.specs.checked.Visited.{next_names, visited_lines}
 
 -- ---- the lines of the visits
@@ -66,16 +62,6 @@ lines_of_visits names tree before (p ∷ ps) h =
     by false = refl
 
 -- ---- the rows are merged
-
-Decides-order : (a b : Stack) → Decides (is_eq (stack_cmp a b)) (a ≡ b)
-Decides-order a b = ((λ e. stack_same a b (equal_is (stack_cmp a b) e)), (λ e. ap is_eq (subst (λ c. stack_cmp a c ≡ Equal) e (tied_itself stack_total a))))
-
--- the sum of a stack's samples is its own weight
-sum_at-own : (q : Stack) (samples : List Sample) → sum_at (map weighed samples) q ≡ path_own q samples
-sum_at-own q [] = sum_at-nil q
-sum_at-own q (s ∷ samples) =
-    let same : is_eq (stack_cmp q s.stack) ≡ pointwise bytes_eq q s.stack = same_from_decides _ _ (Decides-order q s.stack) (Decides-stack q s.stack) in
-    sum_at-cons (weighed s) (map weighed samples) q ∙ ((λ i. cond (same i) s.weight 0 + sum_at-own q samples i) ∙ sym (path_own-cons q s samples))
 
 below_rows : (p : Stack) (visits : List Visit) → AllByRecursion (Lt p) (map (λ visit. visit.path) visits) → T (below_all stack_cmp p (rows_of_visits visits))
 below_rows p [] h = tt
@@ -142,10 +128,6 @@ rows_merged samples visits l =
     merged-only (map weighed samples) (rows_of_visits visits) (sorted_rows visits l.rises) (λ q. row_at samples visits l q ∙ ap if_positive (sym (sum_at-own q samples)))
 
 -- ---- a tree's listing
-
-same_rows : (xs ys : List Sample) → SameOwn xs ys → merged (map weighed xs) ≡ merged (map weighed ys)
-same_rows xs ys h =
-    merged-same (map weighed xs) (map weighed ys) (λ q. sum_at-own q xs ∙ (sym (own_at-is q xs) ∙ (h q ∙ (own_at-is q ys ∙ sym (sum_at-own q ys)))))
 
 pub listing_text : (names : List (List ℕ)) (tree : Tree) (visits : List TreeVisit) → IsTreeListing names tree visits → HasDistinctNames names → HasNumbersOf names tree →
     (samples : List Sample) → SameOwn samples (tree_samples names tree) → visited_lines names [] visits ≡ fold_text samples

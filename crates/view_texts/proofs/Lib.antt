@@ -5,8 +5,12 @@ pub mod JsonLists
 pub mod JsonMembers
 pub mod JsonReading
 pub mod JsonValues
+pub mod MergedLines
 pub mod MergedRows
 pub mod PairRows
+pub mod PartFolds
+pub mod SumViews
 pub mod VisitedLines
 mod WorkedFold
 mod WorkedLines
+mod WorkedParts

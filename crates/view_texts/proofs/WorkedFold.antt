@@ -6,7 +6,7 @@ use Rattle.stack_core.specs.declared.samples.Sample.{Sample}
 use Rattle.flame_layout.specs.Timeline.{Stack}
 use Rattle.view_texts.specs.Pairs.{pairs_text}
 
-abbrev taken : Stack → ℕ → Sample
+abbrev pub taken : Stack → ℕ → Sample
 taken stack weight = record { stack = stack; weight = weight }
 
 abbrev old : List Sample

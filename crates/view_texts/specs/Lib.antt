@@ -3,4 +3,5 @@ pub mod Fold
 pub mod Json
 pub mod JsonLaws
 pub mod Pairs
+pub mod Parts
 pub mod checked

@@ -1,14 +1,24 @@
 //! Laws over the definitions, for all lists. Each function does nothing, and takes no memory.
-ghost use Rattle.std.specs.Prelude.{◌≡◌, ◌<◌, ◌^◌, ◌++◌, ℕ, List, All, IsTrue};
+ghost use Rattle.std.specs.Prelude.{◌≡◌, ◌<◌, ◌≤◌, ◌^◌, ◌++◌, ℕ, false, List, All, IsTrue, IsPermutation, map};
+ghost use Rattle.std.specs.List.{concat};
+ghost use Rattle.stack_core.specs.Samples.{total_weight};
+ghost use Rattle.stack_core.specs.declared.samples.TheConstants.{WEIGHT_LIMIT};
 ghost use Rattle.stack_core.specs.declared.samples.Sample.{Sample};
+ghost use Rattle.stack_core.specs.declared.endings.SourceEnd.TheVariants as ends;
+ghost use Rattle.folded_lines.specs.LastNames.{last_ends_in_number};
+ghost use Rattle.folded_lines.specs.Reading.{read_folded};
+ghost use Rattle.folded_lines.specs.TextParts.{ReadsAsParts};
 ghost use Rattle.flame_layout.specs.Comparison.{comparison_of};
-ghost use Rattle.flame_layout.specs.Timeline.{Stack};
+ghost use Rattle.flame_layout.specs.Graph.{graph_of};
+ghost use Rattle.flame_layout.specs.Merged.{all_samples, merged_samples};
+ghost use Rattle.flame_layout.specs.Timeline.{Stack, drawn};
 ghost use Rattle.flame_layout.specs.declared.boxes.ComparedBox.{ComparedBox};
 ghost use Rattle.flame_layout.specs.declared.boxes.SpanBox.{SpanBox};
-ghost use Rattle.view_texts.specs.Fold.{Weighed, merged, are_in_order, weight_at, if_positive, sum_at};
+ghost use Rattle.view_texts.specs.Fold.{Weighed, merged, are_in_order, weight_at, if_positive, sum_at, fold_text};
 ghost use Rattle.view_texts.specs.Json.{boxes_data, boxes_line, snapshot_data, snapshot_line, pair_boxes_data, pair_boxes_line};
 ghost use Rattle.view_texts.specs.JsonLaws.{IsJsonLine, IsWithin};
 ghost use Rattle.view_texts.specs.Pairs.{pairs_of, AreAllPairs};
+ghost use Rattle.view_texts.specs.Parts.{IsFoldable, refolded, fold_of};
 
 /// The merged rows of some samples are in order of their stacks, each stack once. They have each
 /// stack with the sum of its samples, unless that is 0. No other rows do.
@@ -28,6 +38,41 @@ pub fn merging_goes_on()
         merged (merged samples ++ more) ≡ merged (samples ++ more) }
     ensures sums { (samples : List Weighed) (stack : Stack) →
         sum_at (merged samples) stack ≡ sum_at samples stack }
+{}
+
+/// The fold of the folds of parts is the fold of the whole, and their graph is the graph of the whole,
+/// where the fold text of each part reads back. The parts together may weigh more than one source.
+/// Where they don't, their fold texts one after another are one source, which reads as all of them.
+pub fn folds_are_of_the_whole()
+    ensures merged { (part : List Sample) → IsFoldable part → refolded part ≡ merged_samples part }
+    ensures clean { (part : List Sample) → IsFoldable part
+        → (read_folded (fold_text part)).ending ≡ ends.Clean 0 }
+    ensures two { (one other : List Sample) → IsFoldable one → IsFoldable other
+        → fold_text (one ++ other) ≡ fold_text (refolded one ++ refolded other) }
+    ensures parts { (parts : List (List Sample)) → All IsFoldable parts
+        → fold_text (all_samples parts) ≡ fold_text (all_samples (map refolded parts)) }
+    ensures graph { (parts : List (List Sample)) → All IsFoldable parts
+        → graph_of (all_samples parts) ≡ graph_of (all_samples (map refolded parts)) }
+    ensures one_source { (parts : List (List Sample)) → All IsFoldable parts
+        → total_weight (all_samples parts) ≤ WEIGHT_LIMIT
+        → read_folded (concat (map fold_text parts))
+        ≡ record { samples = all_samples (map refolded parts); ending = ends.Clean 0 } }
+{}
+
+/// The same samples in another order have the same fold text.
+pub fn folds_see_no_order()
+    ensures { (one other : List Sample) → IsPermutation one other → fold_text one ≡ fold_text other }
+{}
+
+/// Folded text is folded in parts: where it reads as its parts do, the fold of the parts' fold texts,
+/// one after another, is the fold of the text. The fold of a part reads back where no stack with weight
+/// has a last name that ends in a space or tab and a number.
+pub fn text_folds_in_parts()
+    ensures foldable { (text : List ℕ) → All (λ sample. last_ends_in_number sample.stack ≡ false)
+        (drawn (read_folded text).samples) → IsFoldable (read_folded text).samples }
+    ensures fold { (parts : List (List ℕ)) → ReadsAsParts (concat parts) parts
+        → All (λ part. IsFoldable (read_folded part).samples) parts
+        → fold_of (concat parts) ≡ fold_of (concat (map fold_of parts)) }
 {}
 
 /// The pairs of a comparison are the stacks with an own weight in either profile, sorted, each once,

@@ -8,7 +8,7 @@ use Rattle.clap.specs.declared.error.kind.ErrorKind.TheVariants as kind
 use Rattle.clap.specs.declared.parser.matches.ArgMatches.{ArgMatches}
 use Rattle.run_options.specs.declared.ring_sizes.TheConstants.{LARGEST_RING}
 use Rattle.run_options.specs.declared.widths.TheConstants.{MAX_WIDTH}
-use Rattle.command_line.specs.Plans.{files_of, view_of}
+use Rattle.command_line.specs.Plans.{IsRequest, files_of, view_of}
 use Rattle.command_line.specs.declared.commands.TheConstants.{MOST_BETWEEN_SNAPSHOTS}
 use Rattle.command_line.specs.declared.plans.PlanFault.{PlanFault}
 use Rattle.command_line.specs.declared.plans.PlanFault.TheVariants as fault
@@ -39,6 +39,6 @@ pub record IsRead (name : Text) (entries : List Row) : Type 0 where
 
 -- what an error of that kind is for the caller
 abbrev pub IsFaultOf : ErrorKind → PlanFault → Type 0
-IsFaultOf k (fault.Words text) = (k ≢ kind.DisplayHelp) × (k ≢ kind.OutOfMemory)
-IsFaultOf k (fault.Help text) = k ≡ kind.DisplayHelp
+IsFaultOf k (fault.Words text) = (IsRequest k → ⊥) × (k ≢ kind.OutOfMemory)
+IsFaultOf k (fault.Help text) = IsRequest k
 IsFaultOf k fault.OutOfMemory = Unit {0}

@@ -1,7 +1,7 @@
 //! Worked command lines.
 
 use crate::{Plan, PlanFault, View, plan};
-use run_options::{Naming, Options, Pick, Width};
+use run_options::{Format, Naming, Options, Pick, Width};
 use std::alloc::Global;
 use std::process::Abort;
 use std::test::Fail;
@@ -106,6 +106,24 @@ fn options_of_each_command(rt: HostRuntime) -> Result<(), Fail> {
 }
 
 #[test]
+fn format_of_each_command(rt: HostRuntime) -> Result<(), Fail> {
+    for command in ["fold", "graph", "chart x.pb", "compare a b"] {
+        let line = format!(in rt.alloc(); "{command} --format pprof")?;
+        let plan = planned(rt.alloc(), line.as_str())?;
+        assert_eq!(rt; plan.format, Some(Format::Pprof), "{command}");
+        let line = format!(in rt.alloc(); "{command} --format=folded")?;
+        let plan = planned(rt.alloc(), line.as_str())?;
+        assert_eq!(rt; plan.format, Some(Format::Folded), "{command}");
+        let plan = planned(rt.alloc(), command)?;
+        assert!(rt; plan.format.is_none(), "{command}");
+        assert!(rt; options_are_defaults(&plan.options), "{command}");
+    }
+    let plan = planned(rt.alloc(), "fold x --format pprof y")?;
+    assert!(rt; has_files(&plan, &["x", "y"]));
+    Ok(())
+}
+
+#[test]
 fn options_before_between_and_after_files(rt: HostRuntime) -> Result<(), Fail> {
     let lines = [
         "graph --ring 7 --every 2 a b c",
@@ -180,6 +198,11 @@ fn refused_words(rt: HostRuntime) -> Result<(), Fail> {
         "graph --every 0",
         "graph --every 1000000001",
         "graph --every 18446744073709551616",
+        "fold --format svg",
+        "graph --format=",
+        "chart --format PPROF",
+        "compare a b --format",
+        "fold --format pprof --format pprof",
         "graph --width",
         "graph --width 1 --width 1",
         "fold --every 5",
@@ -191,7 +214,8 @@ fn refused_words(rt: HostRuntime) -> Result<(), Fail> {
         "compare a b c",
         "draw a",
         "--ring 5 fold",
-        "--version",
+        "fold --version",
+        "version",
         "--",
         "-- fold",
     ];
@@ -219,6 +243,10 @@ fn usage_of_refused_words(rt: HostRuntime) -> Result<(), Fail> {
             "\nUsage: flamecollect compare <BEFORE> <AFTER>\n",
         ),
         ("draw a", "\nUsage: flamecollect <COMMAND>\n"),
+        (
+            "fold --format svg",
+            "error: invalid value for '--format <FORMAT>'\n  [possible values: folded, pprof]\n",
+        ),
     ];
     for (line, usage) in usages {
         match planned(rt.alloc(), line) {
@@ -274,6 +302,43 @@ fn help_lists_the_commands(rt: HostRuntime) -> Result<(), Fail> {
             }
         }
         answer => assert!(rt; false, "{answer:?}"),
+    }
+    Ok(())
+}
+
+#[test]
+fn version(rt: HostRuntime) -> Result<(), Fail> {
+    for line in ["--version", "-V"] {
+        match planned(rt.alloc(), line) {
+            Err(PlanFault::Help(text)) => {
+                assert!(rt; text.as_str().starts_with("flamecollect 2"), "{line}");
+                assert_eq!(rt; text.as_str().lines().count(), 1, "{line}");
+            }
+            answer => assert!(rt; false, "{line} gives {answer:?}"),
+        }
+    }
+    Ok(())
+}
+
+// The program's help tells the formats, and each command's has an example and the ring last.
+#[test]
+fn help_tells_formats_and_examples(rt: HostRuntime) -> Result<(), Fail> {
+    let parts = [
+        ("--help", "\nFormats:\n"),
+        ("--help", "gzip -dc"),
+        ("--help", "\nWithout a command, "),
+        ("fold --help", "\nExample: flamecollect fold "),
+        ("graph --help", "\nExample: flamecollect graph "),
+        ("chart --help", "\nExample: flamecollect chart "),
+        ("compare --help", "\nExample: flamecollect compare "),
+        ("fold --help", "\nRarely needed:\n      --ring <N> "),
+        ("compare --help", "\nRarely needed:\n      --ring <N> "),
+    ];
+    for (line, part) in parts {
+        match planned(rt.alloc(), line) {
+            Err(PlanFault::Help(text)) => assert!(rt; text.as_str().contains(part), "{line}"),
+            answer => assert!(rt; false, "{line} gives {answer:?}"),
+        }
     }
     Ok(())
 }

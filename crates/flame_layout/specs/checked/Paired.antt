@@ -1,5 +1,5 @@
 -- Trees that hold samples, and the rows of two of them, as the code that compares makes them.
-use Rattle.std.specs.Prelude.{◌≡◌, ℕ, ◌-◌, ◌==◌, ◌<◌, List, [], ◌∷◌, ◌++◌, map, take, length, if◌then◌else◌}
+use Rattle.std.specs.Prelude.{◌≡◌, ℕ, ◌-◌, ◌==◌, List, [], ◌∷◌, ◌++◌, map, take, length, if◌then◌else◌}
 use Rattle.std.specs.List.{AllByRecursion}
 use Rattle.call_tree.specs.declared.listing.Visit.{Visit}
 use Rattle.call_tree.specs.CallTree.{Tree, tree_of, own_weight, total_weight}

@@ -1,12 +1,18 @@
 -- What a reader of either format still has to give.
 use Rattle.std.specs.Prelude.{IsTrue}
 use Rattle.stack_core.specs.Reading.{Rest}
+use Rattle.stack_core.specs.RowReading.{ToldRows}
 use Rattle.merging.specs.declared.source_reader.SourceReader.{SourceReader}
 use Rattle.merging.specs.declared.source_reader.SourceReader.TheVariants.{Folded, Pprof}
 
 abbrev pub reader_rest : SourceReader → Rest
 reader_rest (Folded reader) = reader.rest
 reader_rest (Pprof reader) = reader.rest
+
+-- the names and stacks that it told
+abbrev pub reader_told : SourceReader → ToldRows
+reader_told (Folded reader) = reader.told
+reader_told (Pprof reader) = reader.told
 
 -- it has answered the ending
 abbrev pub HasEnded : SourceReader → Type 0

@@ -1,15 +1,19 @@
 -- What a reader's fields stand for.
-use Rattle.std.specs.Prelude.{◌≡◌, ◌≤◌, ℕ, List, length, Option, Some, None, is_some}
+use Rattle.std.specs.Prelude.{◌≡◌, ◌≤◌, ℕ, List, length, Option, Some, None, is_some, IsSome}
 use Rattle.stack_core.specs.declared.samples.TheConstants.{WEIGHT_LIMIT}
+use Rattle.stack_core.specs.declared.endings.ReadFault.{ReadFault}
 use Rattle.stack_core.specs.declared.endings.SourceEnd.{SourceEnd}
 use Rattle.stack_core.specs.Reading.{Rest}
 use Rattle.run_options.specs.declared.choices.Pick.{Pick}
 use Rattle.run_options.specs.declared.choices.Naming.{Naming}
 use Rattle.profile_tables.specs.declared.outline.Outline.{Outline}
 use Rattle.profile_tables.specs.declared.reader.PprofReader.TheInside.{Inside}
-use Rattle.profile_tables.specs.Samples.{read_pprof}
+use Rattle.profile_tables.specs.Samples.{no_samples, read_pprof}
 use Rattle.profile_tables.specs.checked.Rests.{rest_from, ended}
-use Rattle.profile_tables.specs.State.{State}
+use Rattle.profile_tables.specs.checked.Tellers.{told_of, IsTeller}
+use Rattle.profile_tables.specs.declared.tellers.Teller.{Teller}
+use Rattle.stack_core.specs.RowReading.{ToldRows}
+use Rattle.profile_tables.specs.State.{State, nothing_told}
 
 -- before the tables were read the rest is the whole file's
 abbrev pub rest_by : List ℕ → Pick → Naming → Option Outline → ℕ → ℕ → Rest
@@ -20,9 +24,14 @@ abbrev pub rest_or_ended : Option SourceEnd → Rest → Rest
 rest_or_ended None rest = rest
 rest_or_ended (Some ending) rest = ended ending
 
+abbrev pub told_by : Option Teller → ToldRows
+told_by None = nothing_told
+told_by (Some teller) = told_of teller
+
 abbrev pub state_of : Inside → State
 state_of a = record {
   rest = rest_or_ended a.ended (rest_by a.bytes.items a.pick a.naming a.outline a.given a.total);
+  told = told_by a.teller;
   has_ended = is_some a.ended;
 }
 
@@ -30,7 +39,27 @@ abbrev pub GivenBefore : Option Outline → ℕ → ℕ → Type 0
 GivenBefore None given total = (given ≡ 0) × (total ≡ 0)
 GivenBefore (Some outline) given total = given ≤ length outline.samples.items
 
+-- no more stacks were told than samples were given
+abbrev pub IsTellerOf : List ℕ → Option Outline → ℕ → Option Teller → Type 0
+IsTellerOf file None given None = Unit {0}
+IsTellerOf file None given (Some teller) = ⊥
+IsTellerOf file (Some outline) given None = Unit {0}
+IsTellerOf file (Some outline) given (Some teller) = IsTeller file outline.frames teller × (teller.count ≤ given)
+
+-- the outline is there, and nothing else is new
+pub record IsOpen (file : List ℕ) (pick : Pick) (naming : Naming) (old new : Option Outline) : Type 0 where
+  pub opened : IsSome new
+  pub rest : (given total : ℕ) → GivenBefore old given total → rest_by file pick naming new given total ≡ rest_by file pick naming old given total
+  pub given : (given total : ℕ) → GivenBefore old given total → GivenBefore new given total
+  pub teller : (given : ℕ) (teller : Option Teller) → IsTellerOf file old given teller → IsTellerOf file new given teller
+
+-- the same, or the file's fault is answered
+abbrev pub IsOpened : List ℕ → Pick → Naming → Option Outline → Option Outline → Option ReadFault → Type 0
+IsOpened file pick naming old new None = IsOpen file pick naming old new
+IsOpened file pick naming old new (Some fault) = (old ≡ None) × (new ≡ None) × (no_samples fault ≡ read_pprof file pick naming)
+
 -- the samples that were given are some of the file's, and weigh no more than a source may
 pub record IsReader (a : Inside) : Type 0 where
   pub given : GivenBefore a.outline a.given a.total
   pub total : a.total ≤ WEIGHT_LIMIT
+  pub teller : IsTellerOf a.bytes.items a.outline a.given a.teller

@@ -3,7 +3,7 @@ use Rattle.std.specs.Prelude.{◌≡◌, ◌++◌, ℕ, List, [], ◌∷◌, Opt
 use Rattle.rtrb.specs.Ring.{received, known_items}
 use Rattle.rtrb.specs.declared.consumer.Consumer.{Consumer}
 use Rattle.stack_core.specs.Ledgers.{LedgerState}
-use Rattle.stack_core.specs.Records.{stands_for, names_told, IsWellTold}
+use Rattle.stack_core.specs.Records.{stands_for, names_told, stacks_told, IsWellTold}
 use Rattle.stack_core.specs.Interleaving.{sources_of}
 use Rattle.stack_core.specs.Prefixes.{IsPrefixOf}
 use Rattle.stack_core.specs.declared.samples.Sample.{Sample}
@@ -29,10 +29,11 @@ abbrev pub close_items : Option Close → List Item
 close_items None = []
 close_items (Some close) = item.Close close ∷ []
 
--- the ledger has what the records told: their names, and the samples that their rows stand for
+-- the ledger has what the records told: their names, their stacks, and the samples that they stand for
 pub record HoldsAll (records : List RingRecord) (ledger : LedgerState) (samples list : List Sample) : Type 0 where
   pub is_open : ledger.close ≡ None
   pub told : ledger.told ≡ names_told records
+  pub kept : ledger.stacks ≡ stacks_told records
   pub ledger_samples : ledger.samples ≡ samples
   pub all_taken : list ≡ samples
   pub well_told : IsWellTold records

@@ -5,11 +5,12 @@ use Rattle.rtrb.specs.declared.producer.Producer.{Producer}
 use Rattle.rtrb.specs.declared.finished.Finished.{Finished}
 use Rattle.stack_core.specs.declared.samples.TheConstants.{FRAME_LIMIT, WEIGHT_LIMIT}
 use Rattle.stack_core.specs.declared.records.RingRecord.{RingRecord}
-use Rattle.stack_core.specs.declared.records.RingRecord.TheVariants.{Name, Row, Close}
+use Rattle.stack_core.specs.declared.records.RingRecord.TheVariants.{Name, Row, Again, Close}
 
 abbrev pub IsLimitedRecord : RingRecord → Type 0
 IsLimitedRecord (Name name) = Unit {0}
 IsLimitedRecord (Row frames weight) = (length frames ≤ FRAME_LIMIT) × (weight ≤ WEIGHT_LIMIT)
+IsLimitedRecord (Again row weight) = weight ≤ WEIGHT_LIMIT
 IsLimitedRecord (Close close) = Unit {0}
 
 -- what is left of the producer's ring

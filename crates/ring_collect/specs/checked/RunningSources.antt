@@ -28,7 +28,7 @@ pub record IsOfSize (size : ℕ) (ends : RingEnds) : Type 0 where
 pub record IsFresh (source : ℕ) (intake : Intake) : Type 0 where
   pub number : intake.number ≡ source
   pub received_nothing : received intake.consumer ≡ []
-  pub ledger : intake.ledger ≡ record { samples = []; close = None; told = []; rows = [] }
+  pub ledger : intake.ledger ≡ record { samples = []; close = None; told = []; rows = []; stacks = []; entries = [] }
   pub stage : intake.stage ≡ Taking
   pub close : intake.close ≡ None
 

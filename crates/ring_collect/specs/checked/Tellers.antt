@@ -1,7 +1,10 @@
 -- What the reader thread of a source tells: checked, not to be believed.
-use Rattle.std.specs.Prelude.{◌≡◌, ◌++◌, ℕ, List, [], ◌∷◌}
+use Rattle.std.specs.Prelude.{◌≡◌, ◌++◌, ℕ, List, [], ◌∷◌, map, Option, None, Some}
 use Rattle.stack_core.specs.Reading.{Rest}
-use Rattle.stack_core.specs.Records.{stands_for, names_told, IsWellTold}
+use Rattle.stack_core.specs.Records.{stands_for, names_told, stacks_told, IsWellTold}
+use Rattle.stack_core.specs.RowReading.{ToldRows}
+use Rattle.stack_core.specs.declared.readers.RowStep.{RowStep}
+use Rattle.stack_core.specs.declared.readers.RowStep.TheVariants as step
 use Rattle.stack_core.specs.Told.{IsToldUnder, told}
 use Rattle.stack_core.specs.declared.endings.SourceEnd.{SourceEnd}
 use Rattle.stack_core.specs.declared.endings.SourceEnd.TheVariants as ending
@@ -23,14 +26,31 @@ pub record Tells (items : List Item) (old new : List RingRecord) : Type 0 where
   pub stands : stands_for new ≡ stands_for old ++ items
   pub well_told : IsWellTold old → IsWellTold new
 
--- the gate let the first sample of the rest go, and it is told: the names that its stack has and that were not told, and its row
-pub record TellsOne (may_go : ℕ → ℕ → Type 0) (source index : ℕ) (old_rest new_rest : Rest) (known : List (List ℕ)) (old new : List RingRecord) : Type 0 where
+-- the names and stacks that records told
+abbrev pub told_by : List RingRecord → ToldRows
+told_by records = record { names = names_told records; stacks = stacks_told records }
+
+-- the records that tell what a reader gave
+abbrev pub records_of : RowStep → List RingRecord
+records_of (step.New names frames weight) = map one.Name names ++ one.Row frames weight ∷ []
+records_of (step.Again row weight) = one.Again row weight ∷ []
+records_of (step.End ending) = []
+
+-- the ending, if that is what a reader gave
+abbrev pub ending_of : RowStep → Option SourceEnd
+ending_of (step.New names frames weight) = None
+ending_of (step.Again row weight) = None
+ending_of (step.End ending) = Some ending
+
+-- the gate let the first sample of the rest go, and it is told: its row, or the number of its row, and before a row the names that its
+-- stack has and that were not told. The reader has told what the records did
+pub record TellsOne (may_go : ℕ → ℕ → Type 0) (source index : ℕ) (old_rest new_rest : Rest) (by_reader : ToldRows) (old new : List RingRecord) : Type 0 where
   pub sample : Sample
   pub first : old_rest.samples ≡ sample ∷ new_rest.samples
   pub ending : new_rest.ending ≡ old_rest.ending
   pub goes : may_go source index
   pub tells : Tells (item.Sample sample ∷ []) old new
-  pub names : known ≡ names_told new
+  pub rows : by_reader ≡ told_by new
   pub told : names_told new ≡ with_stack (names_told old) sample.stack
 
 -- what close comes next: that of the ending where the rest has no sample, that of a stop where the gate stopped the first, with

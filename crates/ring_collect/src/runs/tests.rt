@@ -2,11 +2,13 @@
 
 mod fakes;
 mod refusals;
+mod rows;
 
 use self::fakes::{
     AfterATake, AllAsked, BothAsked, CLEAN, Counts, Recorder, StopsAt, StopsAtTwo, Tape,
 };
 use super::*;
+use crate::sample_runs::collect;
 use stack_core::{OpenGate, ReadFault, ReadKind, Sample, SourceEnd};
 use std::process::Abort;
 use std::sync::atomic::{AtomicU64, Ordering};

@@ -1,16 +1,28 @@
-use Rattle.std.specs.Prelude.{ℕ, List, [], ◌∷◌, ◌++◌, length}
+use Rattle.std.specs.Prelude.{ℕ, List, [], ◌∷◌, ◌++◌, length, map}
 use Rattle.std.specs.List.{range_with_len}
-use Rattle.stack_core.specs.Ledgers.{Row}
+use Rattle.stack_core.specs.Ledgers.{Entry, named, rows_by}
+use Rattle.stack_core.specs.declared.samples.Sample.{Sample}
 
--- names, and rows of their numbers
+-- names, stacks of their numbers, and samples by their stacks' numbers
 pub record Table : Type 0 where
   pub names : List (List ℕ)
-  pub rows : List Row
+  pub stacks : List (List ℕ)
+  pub entries : List Entry
+
+-- the samples that the entries stand for
+abbrev pub samples_in : Table → List Sample
+samples_in table = map (named table.names) (rows_by table.stacks table.entries)
+
+-- a stack comes last, and so does a sample of it
+abbrev pub table_with_row : Table → List ℕ → ℕ → Table
+table_with_row table frames weight =
+    record {
+      names = table.names;
+      stacks = table.stacks ++ frames ∷ [];
+      entries = table.entries ++ record { stack = length table.stacks; weight = weight } ∷ [];
+    }
 
 -- a sample's names come last, each under the next number, and so does its row
 abbrev pub table_with_sample : Table → List (List ℕ) → ℕ → Table
 table_with_sample table stack weight =
-    record {
-      names = table.names ++ stack;
-      rows = table.rows ++ record { frames = range_with_len (length table.names) (length stack); weight = weight } ∷ [];
-    }
+    table_with_row (record table { names = table.names ++ stack }) (range_with_len (length table.names) (length stack)) weight

@@ -11,6 +11,37 @@ fn copied(sample: &Sample) -> Result<Sample, AllocError>
     sample.clone()
 }
 
+// A stack is kept once, and samples are taken of it again, with weights of their own.
+#[test]
+fn stack_taken_again(rt: HostRuntime) -> Result<(), Fail> {
+    let alloc = rt.alloc();
+    let mut ledger = Ledger::new(alloc);
+    ledger.tell(Text::from_str(alloc, "a")?)?;
+    ledger.tell(Text::from_str(alloc, "b")?)?;
+    ledger.take_row(Listed::of(vec![in alloc; 0, 1]?), 2)?;
+    ledger.keep([1].as_slice())?;
+    ledger.take_again(1, 5)?;
+    ledger.take_again(0, 7)?;
+    assert_eq!(rt; ledger.stack_count(), 2);
+    assert_eq!(rt; ledger.stack(1), [1].as_slice());
+    assert_eq!(rt; ledger.count(), 3);
+    assert_eq!(rt; ledger.weight(), 14);
+    ledger.close(Close::Read(SourceEnd::Clean { ignored: 0 }));
+
+    let list = ledger.into_list();
+    assert_eq!(rt; list.len(), 3);
+    assert_eq!(rt; list.stack_count(), 2);
+    assert_eq!(rt; list.stack(0), [0, 1].as_slice());
+    assert_eq!(rt; list.stack_number(0), 0);
+    assert_eq!(rt; list.stack_number(1), 1);
+    assert_eq!(rt; list.stack_number(2), 0);
+    assert_eq!(rt; list.weight(2), 7);
+    assert_eq!(rt; list.name(1, 0), "b");
+    assert_eq!(rt; list.frames(2), [0, 1].as_slice());
+    assert_eq!(rt; list.total(), 14);
+    Ok(())
+}
+
 // The example of README.md.
 #[test]
 fn example_of_the_page(rt: HostRuntime) -> Result<(), Fail> {

@@ -6,9 +6,10 @@ ghost use Rattle.call_tree.specs.Listing.{HasNumbersOf};
 ghost use Rattle.flame_layout.specs.checked.Paired.{Holds};
 
 use crate::fold_lines::append_fold_text;
+use crate::merged_lines::append_merged_text;
 use crate::pair_lines::append_pairs_text;
 use call_tree::{CallTree, FrameTable};
-use flame_layout::compare;
+use flame_layout::{MergedStacks, compare};
 use stack_core::{Close, Ledger, Names, Sample, SourceEnd, SourceList};
 use std::alloc::{AllocError, Global};
 use std::process::Abort;
@@ -69,6 +70,21 @@ fn list(
     Ok(ledger.into_list())
 }
 
+// The fold text of the merged stacks of two sources.
+fn merged_text(
+    rt: &impl Abort,
+    alloc: Global,
+    one: SourceList,
+    other: SourceList,
+) -> Result<Vec<u8>, AllocError> {
+    assert!(rt; one.total() < 1_000);
+    assert!(rt; other.total() < 1_000);
+    let merged = MergedStacks::of(alloc, &[one, other])?;
+    let mut out = Vec::from_slice(alloc, b"# ")?;
+    append_merged_text(&mut out, &merged)?;
+    Ok(out)
+}
+
 // The two-column text of two profiles.
 fn pairs(
     rt: &impl Abort,
@@ -123,6 +139,43 @@ fn shared_fronts(rt: HostRuntime) -> Result<(), Fail> {
         out.as_slice(),
         b"# a;b;b;b 3\na;c 4\na;c;d 2\nb;a 1\n".as_slice()
     );
+    Ok(())
+}
+
+#[test]
+fn stored_run_merged(rt: HostRuntime) -> Result<(), Fail> {
+    let alloc = rt.alloc();
+    let samples: [(&[&str], u64); 3] = [(&["a", "b"], 2), (&["a"], 1), (&["a", "b"], 3)];
+    let out = merged_text(
+        &rt,
+        alloc,
+        list(&rt, alloc, &samples)?,
+        list(&rt, alloc, &[])?,
+    )?;
+    assert_eq!(rt; out.as_slice(), b"# a 1\na;b 5\n".as_slice());
+    Ok(())
+}
+
+#[test]
+fn odd_lines_merged(rt: HostRuntime) -> Result<(), Fail> {
+    let alloc = rt.alloc();
+    let one: [(&[&str], u64); 2] = [(&["a", "", "b"], 1), (&[], 5)];
+    let other: [(&[&str], u64); 2] = [(&["b"], 0), (&["a"], 1)];
+    let out = merged_text(
+        &rt,
+        alloc,
+        list(&rt, alloc, &one)?,
+        list(&rt, alloc, &other)?,
+    )?;
+    assert_eq!(rt; out.as_slice(), b"#  5\na 1\na;;b 1\n".as_slice());
+    Ok(())
+}
+
+#[test]
+fn nothing_merged(rt: HostRuntime) -> Result<(), Fail> {
+    let alloc = rt.alloc();
+    let out = merged_text(&rt, alloc, list(&rt, alloc, &[])?, list(&rt, alloc, &[])?)?;
+    assert_eq!(rt; out.as_slice(), b"# ".as_slice());
     Ok(())
 }
 

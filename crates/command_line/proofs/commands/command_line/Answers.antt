@@ -7,7 +7,9 @@ use Rattle.command_line.proofs.commands.command_line.Goals as goal
 pub returns : goal.returns
 returns c =
     let named = ap app_of_fields c.about.ensures ∙ c.new.ensures.app in
-    let helped = ap app_of_fields c.after_help.ensures ∙ named in
+    let versioned = ap app_of_fields c.version.ensures
+    ∙ ap (on_top (λ (s : Shape). record s { has_version = true })) named in
+    let helped = ap app_of_fields c.after_help.ensures ∙ versioned in
     let called = ap app_of_fields c.in_ok-bin_name.ensures.0 ∙ helped in
     let nameless = ap app_of_fields c.no_binary_name.ensures
     ∙ ap (on_top (λ (s : Shape). record s { no_binary_name = true })) called in

@@ -6,9 +6,10 @@ use Rattle.command_line.proofs.commands.fold_command.Goals as goal
 
 pub returns : goal.returns
 returns c =
-    let named = ap app_of_fields c.about.ensures ∙ c.new.ensures.app in
+    let named = ap app_of_fields c.after_help.ensures ∙ ap app_of_fields c.about.ensures ∙ c.new.ensures.app in
     let types = with_argument _ _ _ _ _ c.in_ok-arg.ensures named c.type_option.ensures refl in
-    let rings = with_argument _ _ _ _ _ c.in_ok-arg-2.ensures types c.ring_option.ensures refl in
-    let lines = with_argument _ _ _ _ _ c.in_ok-arg-3.ensures rings c.lines_flag.ensures refl in
+    let formats = with_argument _ _ _ _ _ c.in_ok-arg-2.ensures types c.format_option.ensures refl in
+    let rings = with_argument _ _ _ _ _ c.in_ok-arg-3.ensures formats c.ring_option.ensures refl in
+    let lines = with_argument _ _ _ _ _ c.in_ok-arg-4.ensures rings c.lines_flag.ensures refl in
     IfOk-weaker _ _ _ (λ _ added. with_argument _ _ _ _ _ added lines c.files.ensures refl)
-    c.arg-4.ensures
+    c.arg-5.ensures

@@ -1,6 +1,11 @@
-use Rattle.std.proofs.Common.{◌∙◌, ap, map, string_bytes, sym}
-use Rattle.command_line.specs.Plans.{entered_plan}
-use Rattle.command_line.proofs.PlannedWords.{entered_reads, entered_rows, error_kind, fault_among, fault_of_memory, no_fault, only_memory, plan_asks}
+use Rattle.std.proofs.Common.{◌≡◌, ◌∙◌, map, string_bytes, subst, sym, true, Some}
+use Rattle.std.proofs.lemmas.Result.{IfOk-weaker}
+use Rattle.std.specs.Prelude.{IfOk, IfErr}
+use Rattle.std.specs.Option.{option_map_or}
+use Rattle.clap.proofs.WalkLemmas.{both}
+use Rattle.clap.specs.Simple.{subcommand_rows_of}
+use Rattle.command_line.specs.Plans.{IsFaultAmong, entered_plan, knows_format}
+use Rattle.command_line.proofs.PlannedWords.{entered_reads, entered_rows, error_kind, fault_among, fault_of_memory, format_alone, more_kinds, no_fault, only_memory, plan_asks, planned_format, taken_format}
 use Rattle.command_line.proofs.words.plan.Goals as goal
 
 pub planned-requires : goal.planned-requires
@@ -8,32 +13,46 @@ planned-requires c =
     let none = no_fault _ (map string_bytes c.args.words.now) c.in_ok-line.ensures c.in-Ok.ensures.kinds in
     entered_reads (map string_bytes c.args.words.now) none _ (entered_rows _ _ c.in-Ok.matches c.in_ok-line.ensures c.in-Ok.ensures.matches)
 
-pub returns-in_ok-planned-in-Ok-clause-plan : goal.returns-in_ok-planned-in-Ok-clause-plan
-returns-in_ok-planned-in-Ok-clause-plan c =
-    ap entered_plan (sym (entered_rows _ _ c.in-Ok.matches c.in_ok-line.ensures c.in-Ok.ensures.matches)) ∙ c.in_ok-planned-in-Ok.ensures
+pub returns-in-Ok-clause-plan : goal.returns-in-Ok-clause-plan
+returns-in-Ok-clause-plan c =
+    let rows = entered_rows _ _ c.in-Ok.matches c.in_ok-line.ensures c.in-Ok.ensures.matches in
+    subst (λ entered. IfOk c.planned.result (λ plan. entered_plan entered ≡ Some plan)) rows c.planned.ensures.plan
 
-pub returns-in_ok-planned-in-Ok-clause-taken : goal.returns-in_ok-planned-in-Ok-clause-taken
-returns-in_ok-planned-in-Ok-clause-taken c =
-    no_fault _ (map string_bytes c.args.words.now) c.in_ok-line.ensures c.in-Ok.ensures.kinds
+pub returns-in-Ok-clause-taken : goal.returns-in-Ok-clause-taken
+returns-in-Ok-clause-taken c =
+    let none = no_fault _ (map string_bytes c.args.words.now) c.in_ok-line.ensures c.in-Ok.ensures.kinds in
+    let rows = entered_rows _ _ c.in-Ok.matches c.in_ok-line.ensures c.in-Ok.ensures.matches in
+    IfOk-weaker _ _ _ (λ plan is. sym (format_alone (map string_bytes c.args.words.now) _ none rows) ∙ planned_format (subcommand_rows_of c.in-Ok.matches) plan is) c.planned.ensures.plan
 
-pub returns-in_ok-planned-in-Ok-clause-pair : goal.returns-in_ok-planned-in-Ok-clause-pair
-returns-in_ok-planned-in-Ok-clause-pair c =
+pub returns-in-Ok-clause-refused : goal.returns-in-Ok-clause-refused
+returns-in-Ok-clause-refused c =
+    let none = no_fault _ (map string_bytes c.args.words.now) c.in_ok-line.ensures c.in-Ok.ensures.kinds in
+    let rows = entered_rows _ _ c.in-Ok.matches c.in_ok-line.ensures c.in-Ok.ensures.matches in
+    subst (λ kinds. IfErr c.planned.result (IsFaultAmong kinds)) (format_alone (map string_bytes c.args.words.now) _ none rows) c.planned.ensures.refused
+
+pub returns-in-Ok-clause-passes : goal.returns-in-Ok-clause-passes
+returns-in-Ok-clause-passes c = λ taken.
+    let rows = entered_rows _ _ c.in-Ok.matches c.in_ok-line.ensures c.in-Ok.ensures.matches in
+    c.planned.ensures.passes (taken_format (subcommand_rows_of c.in-Ok.matches) (subst (λ entered. option_map_or (λ p. knows_format p.1) entered true ≡ true) (sym rows) (both _ _ taken).1))
+
+pub returns-in-Ok-clause-pair : goal.returns-in-Ok-clause-pair
+returns-in-Ok-clause-pair c =
     let none = no_fault _ (map string_bytes c.args.words.now) c.in_ok-line.ensures c.in-Ok.ensures.kinds in
     let read = entered_reads (map string_bytes c.args.words.now) none _ (entered_rows _ _ c.in-Ok.matches c.in_ok-line.ensures c.in-Ok.ensures.matches) in
-    (plan_asks _ c.in_ok-planned-in-Ok.field-0 read c.in_ok-planned-in-Ok.ensures).0
+    IfOk-weaker _ _ _ (λ plan is. (plan_asks _ plan read is).0) c.planned.ensures.plan
 
-pub returns-in_ok-planned-in-Ok-clause-every : goal.returns-in_ok-planned-in-Ok-clause-every
-returns-in_ok-planned-in-Ok-clause-every c =
+pub returns-in-Ok-clause-every : goal.returns-in-Ok-clause-every
+returns-in-Ok-clause-every c =
     let none = no_fault _ (map string_bytes c.args.words.now) c.in_ok-line.ensures c.in-Ok.ensures.kinds in
     let read = entered_reads (map string_bytes c.args.words.now) none _ (entered_rows _ _ c.in-Ok.matches c.in_ok-line.ensures c.in-Ok.ensures.matches) in
-    (plan_asks _ c.in_ok-planned-in-Ok.field-0 read c.in_ok-planned-in-Ok.ensures).1
+    IfOk-weaker _ _ _ (λ plan is. (plan_asks _ plan read is).1) c.planned.ensures.plan
 
 pub returns-in-Err-clause-refused : goal.returns-in-Err-clause-refused
 returns-in-Err-clause-refused c =
     let has = error_kind _ (map string_bytes c.args.words.now) c.in-Err.error c.in_ok-line.ensures c.in-Err.ensures.kinds in
-    fault_among _ c.in-Err.error c.refusal.result has c.refusal.ensures
+    fault_among _ c.in-Err.error c.refusal.result (more_kinds _ _ c.in-Err.error has) c.refusal.ensures
 
 pub returns-in-Err-clause-passes : goal.returns-in-Err-clause-passes
 returns-in-Err-clause-passes c = λ taken.
-    let memory = only_memory _ (map string_bytes c.args.words.now) c.in-Err.error c.in_ok-line.ensures c.in-Err.ensures.passes taken in
+    let memory = only_memory _ (map string_bytes c.args.words.now) c.in-Err.error c.in_ok-line.ensures c.in-Err.ensures.passes (both _ _ taken).0 in
     fault_of_memory c.in-Err.error c.refusal.result memory c.refusal.ensures

@@ -1,11 +1,12 @@
-use Rattle.std.proofs.Common.{◌≡◌, ◌+◌, ◌-◌, ◌<◌, ◌≤◌, ◌++◌, ◌∙◌, sym, ap, arith, drop, length, subst, reverse, map, All, List}
+use Rattle.std.proofs.Common.{◌≡◌, ℕ, ◌+◌, ◌-◌, ◌<◌, ◌≤◌, sym, ap, arith, drop, length, subst, All, List}
 use Rattle.stack_core.specs.declared.samples.Sample.{Sample}
+use Rattle.stack_core.specs.Ledgers.{ListState}
+use Rattle.flame_layout.specs.declared.walks.OpenRun.{OpenRun}
 use Rattle.flame_layout.specs.Timeline.{timeline, samples_of, total_weight}
-use Rattle.flame_layout.specs.checked.Walk.{IsWalk, boxes_of_runs, seen}
+use Rattle.flame_layout.specs.checked.Walk.{IsWalk}
 use Rattle.flame_layout.proofs.Timelines.{timeline-drop, timeline_weight-drop, timeline_weight-drop_le}
 use Rattle.flame_layout.specs.declared.boxes.SpanBox.{SpanBox}
-use Rattle.flame_layout.specs.Chart.{chart_of}
-use Rattle.flame_layout.proofs.Walked.{walk-ends}
+use Rattle.std.proofs.lemmas.Result.{IfOk-weaker}
 use Rattle.flame_layout.proofs.Geometry.{chart-within}
 use Rattle.flame_layout.proofs.Timelines.{timeline-chart_positive}
 use Rattle.flame_layout.proofs.charts.chart_boxes.Goals as goal
@@ -31,26 +32,29 @@ loop-index-preserved c =
           (c.in_ok-start.ensures.walked (timeline (samples_of (drop c.loop-index.index c.args.lists.now))) c.loop-index.invariant.walked);
     }
 
-chart_of_walk : (c : goal.After-drop-runs-2) → c.reverse.new.self.items ≡ chart_of (timeline (samples_of c.args.lists.now))
-chart_of_walk c =
-    let lists = c.args.lists.now in
-    let none : c.loop-index.index ≡ 0 = omega arith in
-    let at_start : c.loop-index.start ≡ 0 = omega (arith, c.loop-index.invariant.start, ap (λ n. total_weight (timeline (samples_of (drop n lists)))) none) in
-    let here : IsWalk c.loop-index.start c.loop-index.walk.runs.items c.loop-index.walk.boxes.items (timeline (samples_of lists)) =
-    subst (λ n. IsWalk c.loop-index.start c.loop-index.walk.runs.items c.loop-index.walk.boxes.items (timeline (samples_of (drop n lists)))) none c.loop-index.invariant.walked in
-    let walked = subst (λ n. IsWalk n c.loop-index.walk.runs.items c.loop-index.walk.boxes.items (timeline (samples_of lists))) at_start here in
-    c.reverse.ensures.items ∙ walk-ends c.loop-index.walk.runs.items c.loop-index.walk.boxes.items c.close.new.boxes.items (timeline (samples_of lists)) walked
-    (c.in_ok-close.ensures.boxes ∙ ap (λ n. c.loop-index.walk.boxes.items ++ reverse (drop 0 (boxes_of_runs n (map seen c.loop-index.walk.runs.items)))) at_start)
+-- at the end all is walked, from 0 on
+walked_all : (lists : List ListState) (i start : ℕ) (runs : List OpenRun) (boxes : List SpanBox) → i ≤ 0 → start + total_weight (timeline (samples_of (drop i lists))) ≡ total_weight (timeline (samples_of lists))
+    → IsWalk start runs boxes (timeline (samples_of (drop i lists))) → IsWalk 0 runs boxes (timeline (samples_of lists))
+walked_all lists i start runs boxes low sum walked =
+    let none : i ≡ 0 = omega arith in
+    let at_start : start ≡ 0 = omega (arith, sum, ap (λ n. total_weight (timeline (samples_of (drop n lists)))) none) in
+    subst (λ n. IsWalk n runs boxes (timeline (samples_of lists))) at_start (subst (λ n. IsWalk start runs boxes (timeline (samples_of (drop n lists)))) none walked)
+
+pub end-requires : goal.end-requires
+end-requires c =
+    (timeline (samples_of c.args.lists.now), walked_all c.args.lists.now c.loop-index.index c.loop-index.start c.loop-index.walk.runs.items c.loop-index.walk.boxes.items (omega arith) c.loop-index.invariant.start c.loop-index.invariant.walked)
 
 pub returns-clause-chart : goal.returns-clause-chart
-returns-clause-chart c = chart_of_walk c
+returns-clause-chart c = IfOk-weaker c.end.result _ _ (λ boxes h. h (timeline (samples_of c.args.lists.now)) (walked_all c.args.lists.now c.loop-index.index c.loop-index.start c.loop-index.walk.runs.items c.loop-index.walk.boxes.items (omega arith) c.loop-index.invariant.start c.loop-index.invariant.walked)) c.end.ensures
 
 pub returns-clause-within : goal.returns-clause-within
 returns-clause-within c =
     let samples = timeline (samples_of c.args.lists.now) in
-    subst (λ (boxes : List SpanBox). All (λ span. span.start + span.weight ≤ total_weight samples) boxes) (sym (chart_of_walk c)) (chart-within samples)
+    IfOk-weaker c.end.result _ _ (λ boxes h.
+    subst (λ (all : List SpanBox). All (λ span. span.start + span.weight ≤ total_weight samples) all) (sym (h samples (walked_all c.args.lists.now c.loop-index.index c.loop-index.start c.loop-index.walk.runs.items c.loop-index.walk.boxes.items (omega arith) c.loop-index.invariant.start c.loop-index.invariant.walked))) (chart-within samples)) c.end.ensures
 
 pub returns-clause-positive : goal.returns-clause-positive
 returns-clause-positive c =
     let samples = timeline (samples_of c.args.lists.now) in
-    subst (λ (boxes : List SpanBox). 0 < length boxes → 0 < total_weight samples) (sym (chart_of_walk c)) (timeline-chart_positive (samples_of c.args.lists.now))
+    IfOk-weaker c.end.result _ _ (λ boxes h.
+    subst (λ (all : List SpanBox). 0 < length all → 0 < total_weight samples) (sym (h samples (walked_all c.args.lists.now c.loop-index.index c.loop-index.start c.loop-index.walk.runs.items c.loop-index.walk.boxes.items (omega arith) c.loop-index.invariant.start c.loop-index.invariant.walked))) (timeline-chart_positive (samples_of c.args.lists.now))) c.end.ensures

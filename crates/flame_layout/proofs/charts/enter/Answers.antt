@@ -17,19 +17,19 @@ joined stack start keep runs left two e cut is =
     ap (λ k. map seen (take k runs) ++ map (new_run stack start) (range_with_len k (length stack + 1 - k))) e)
 
 pub close-requires-clause-begun : goal.close-requires-clause-begun
-close-requires-clause-begun c = walk-begun c.args.start c.args.walk.now.runs.items c.args.walk.now.boxes.items c.requires.walked.0 c.requires.walked.1
+close-requires-clause-begun g c = walk-begun c.args.start c.args.walk.now.runs.items c.args.walk.now.boxes.items c.requires.walked.0 c.requires.walked.1
 
 pub index_mut-last-requires : goal.index_mut-last-requires
-index_mut-last-requires c =
-    let p = sample_at c.args.list.now.samples c.args.at in
+index_mut-last-requires g c =
+    let p = sample_at (g.S.StackRows.samples c.args.list.now) c.args.at in
     let keep = c.shared_runs-keep.ensures.is ∙ ap (shared_runs_of p.stack) c.deref.ensures.value in
     let is = joined p.stack c.args.start c.shared_runs-keep.result c.args.walk.now.runs.items c.close.new.runs.items c.open_runs.new.runs.items keep c.in_ok-close.ensures.runs c.in_ok-open_runs.ensures in
     let long = walk-length-after c.args.start c.args.walk.now.runs.items c.open_runs.new.runs.items c.args.walk.now.boxes.items c.requires.walked.0 p c.requires.walked.1 is in
     omega (arith, long, c.depth-depth.ensures.value, c.open_runs.new.runs.ok.0)
 
 pub overflow_add-last : goal.overflow_add-last
-overflow_add-last c =
-    let p = sample_at c.args.list.now.samples c.args.at in
+overflow_add-last g c =
+    let p = sample_at (g.S.StackRows.samples c.args.list.now) c.args.at in
     let keep = c.shared_runs-keep.ensures.is ∙ ap (shared_runs_of p.stack) c.deref.ensures.value in
     let is = joined p.stack c.args.start c.shared_runs-keep.result c.args.walk.now.runs.items c.close.new.runs.items c.open_runs.new.runs.items keep c.in_ok-close.ensures.runs c.in_ok-open_runs.ensures in
     let r = c.index_mut-last.result.now in
@@ -38,8 +38,8 @@ overflow_add-last c =
     omega (arith, room, c.requires.room, c.weight.ensures.value)
 
 pub returns-clause-front : goal.returns-clause-front
-returns-clause-front c =
-    let p = sample_at c.args.list.now.samples c.args.at in
+returns-clause-front g c =
+    let p = sample_at (g.S.StackRows.samples c.args.list.now) c.args.at in
     let keep = c.shared_runs-keep.ensures.is ∙ ap (shared_runs_of p.stack) c.deref.ensures.value in
     let is = joined p.stack c.args.start c.shared_runs-keep.result c.args.walk.now.runs.items c.close.new.runs.items c.open_runs.new.runs.items keep c.in_ok-close.ensures.runs c.in_ok-open_runs.ensures in
     let w = c.requires.walked.1 in
@@ -57,8 +57,8 @@ returns-clause-front c =
     )
 
 pub returns-clause-walked : goal.returns-clause-walked
-returns-clause-walked c before samples e w =
-    let p = sample_at c.args.list.now.samples c.args.at in
+returns-clause-walked g c before samples e w =
+    let p = sample_at (g.S.StackRows.samples c.args.list.now) c.args.at in
     let keep = c.shared_runs-keep.ensures.is ∙ ap (shared_runs_of p.stack) c.deref.ensures.value in
     let is = joined p.stack c.args.start c.shared_runs-keep.result c.args.walk.now.runs.items c.close.new.runs.items c.open_runs.new.runs.items keep c.in_ok-close.ensures.runs c.in_ok-open_runs.ensures in
     let r = c.index_mut-last.result.now in

@@ -7,25 +7,25 @@ use Rattle.flame_layout.proofs.Timelines.{no_sample, total_weight-drop, total_we
 use Rattle.flame_layout.proofs.charts.enter_list.Goals as goal
 
 pub enter-requires-clause-room : goal.enter-requires-clause-room
-enter-requires-clause-room c =
-    let more = total_weight-drop c.args.list.now.samples (c.loop-at.at - 1) c.loop-at.at no_sample (omega arith) (omega (arith, c.len-at.ensures.count)) in
-    omega (arith, more, c.loop-at.invariant.start, c.requires.room, total_weight-drop_le c.args.list.now.samples (c.loop-at.at - 1))
+enter-requires-clause-room g c =
+    let more = total_weight-drop (g.S.StackRows.samples c.args.list.now) (c.loop-at.at - 1) c.loop-at.at no_sample (omega arith) (omega (arith, c.len-at.ensures.count)) in
+    omega (arith, more, c.loop-at.invariant.start, c.requires.room, total_weight-drop_le (g.S.StackRows.samples c.args.list.now) (c.loop-at.at - 1))
 
 pub overflow_sub-start : goal.overflow_sub-start
-overflow_sub-start c =
-    let more = total_weight-drop c.args.list.now.samples (c.loop-at.at - 1) c.loop-at.at no_sample (omega arith) (omega (arith, c.len-at.ensures.count)) in
-    omega (arith, more, c.loop-at.invariant.start, c.requires.room, total_weight-drop_le c.args.list.now.samples (c.loop-at.at - 1), c.weight-weight.ensures.value)
+overflow_sub-start g c =
+    let more = total_weight-drop (g.S.StackRows.samples c.args.list.now) (c.loop-at.at - 1) c.loop-at.at no_sample (omega arith) (omega (arith, c.len-at.ensures.count)) in
+    omega (arith, more, c.loop-at.invariant.start, c.requires.room, total_weight-drop_le (g.S.StackRows.samples c.args.list.now) (c.loop-at.at - 1), c.weight-weight.ensures.value)
 
 pub loop-at-preserved-then-weight-gt0 : goal.loop-at-preserved-then-weight-gt0
-loop-at-preserved-then-weight-gt0 c =
-    let samples = c.args.list.now.samples in
+loop-at-preserved-then-weight-gt0 g c =
+    let samples = (g.S.StackRows.samples c.args.list.now) in
     let i = c.loop-at.at - 1 in
     let s = sample_at samples i in
     let within : i < length samples = omega (arith, c.len-at.ensures.count) in
     let next : c.loop-at.at ≡ i + 1 = omega arith in
     let more = total_weight-drop samples i c.loop-at.at no_sample next within in
     let weight : c.weight-weight.result ≡ s.weight = c.weight-weight.ensures.value in
-    let room : s.weight ≤ c.loop-at.start = omega (arith, more, c.loop-at.invariant.start, c.requires.room, total_weight-drop_le c.args.list.now.samples (c.loop-at.at - 1)) in
+    let room : s.weight ≤ c.loop-at.start = omega (arith, more, c.loop-at.invariant.start, c.requires.room, total_weight-drop_le (g.S.StackRows.samples c.args.list.now) (c.loop-at.at - 1)) in
     let first : drawn (drop i samples) ≡ s ∷ drawn (drop c.loop-at.at samples) = drawn-drop_yes samples i c.loop-at.at no_sample next within (omega (arith, weight)) in
     record {
       later = c.in_ok-enter.ensures.front;

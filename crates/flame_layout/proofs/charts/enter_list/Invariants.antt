@@ -5,8 +5,8 @@ use Rattle.flame_layout.specs.checked.Walk.{IsFront, IsWalk}
 use Rattle.flame_layout.proofs.charts.enter_list.Given as goal
 
 abbrev pub invariant-loop-at : goal.invariant-loop-at
-invariant-loop-at l = record {
-  later : IfSome l.later (IsFront l.list.samples l.walk.runs.items);
-  start : l.start + total_weight (drop l.at l.list.samples) ≡ l.end;
-  walked : (samples : List Sample) → IsWalk l.end l.fn.walk.runs.items l.fn.walk.boxes.items samples → IsWalk l.start l.walk.runs.items l.walk.boxes.items (drawn (drop l.at l.list.samples) ++ samples);
+invariant-loop-at g l = record {
+  later : IfSome l.later (IsFront (g.S.StackRows.samples l.list) l.walk.runs.items);
+  start : l.start + total_weight (drop l.at (g.S.StackRows.samples l.list)) ≡ l.end;
+  walked : (samples : List Sample) → IsWalk l.end l.fn.walk.runs.items l.fn.walk.boxes.items samples → IsWalk l.start l.walk.runs.items l.walk.boxes.items (drawn (drop l.at (g.S.StackRows.samples l.list)) ++ samples);
 }

@@ -7,8 +7,8 @@ use Rattle.flame_layout.specs.checked.Walk.{seen, new_run, Run}
 use Rattle.flame_layout.proofs.walks.open_runs.Goals as goal
 
 pub loop-depth-preserved : goal.loop-depth-preserved
-loop-depth-preserved c =
-    let stack = (sample_at c.args.list.now.samples c.args.at).stack in
+loop-depth-preserved g c =
+    let stack = (sample_at (g.S.StackRows.samples c.args.list.now) c.args.at).stack in
     let from = c.args.from in
     let depth = c.loop-depth.depth in
     let old = map seen c.args.runs.now.items in
@@ -21,7 +21,7 @@ loop-depth-preserved c =
     ap (map seen) c.in_ok-push.ensures.items ∙ (map_push seen _ _ ∙ ((λ i. c.loop-depth.invariant i ++ named i ∷ []) ∙ (append_assoc old (map fresh (range_with_len from (depth - from))) (fresh depth ∷ []) ∙ ap (λ xs. old ++ xs) (sym more))))
 
 pub returns : goal.returns
-returns c =
-    let stack = (sample_at c.args.list.now.samples c.args.at).stack in
+returns g c =
+    let stack = (sample_at (g.S.StackRows.samples c.args.list.now) c.args.at).stack in
     let end = c.loop-depth.auto.depth-end (omega (arith, c.requires.deep, c.depth-last.ensures.value)) in
     c.loop-depth.invariant ∙ ap (λ n. map seen c.args.runs.now.items ++ map (new_run stack c.args.end) (range_with_len c.args.from n)) (omega (arith, end, c.loop-depth-test.false, c.depth-last.ensures.value))

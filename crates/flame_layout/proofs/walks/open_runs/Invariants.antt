@@ -5,6 +5,6 @@ use Rattle.flame_layout.specs.checked.Walk.{seen, new_run}
 use Rattle.flame_layout.proofs.walks.open_runs.Given as goal
 
 abbrev pub invariant-loop-depth : goal.invariant-loop-depth
-invariant-loop-depth l =
-    let stack = (sample_at l.list.samples l.at).stack in
+invariant-loop-depth g l =
+    let stack = (sample_at (g.S.StackRows.samples l.list) l.at).stack in
     map seen l.runs.items ≡ map seen l.fn.runs.items ++ map (new_run stack l.end) (range_with_len l.from (l.depth - l.from))

@@ -9,9 +9,9 @@ use Rattle.flame_layout.proofs.WalkSteps.{shared_more, shared_stops, shared_ends
 use Rattle.flame_layout.proofs.walks.shared.Goals as goal
 
 pub returns-then-ne-clause-is : goal.returns-then-ne-clause-is
-returns-then-ne-clause-is c =
+returns-then-ne-clause-is g c =
     let i = c.loop-frame.frame in
-    let stack = (sample_at c.args.list.now.samples c.args.at).stack in
+    let stack = (sample_at (g.S.StackRows.samples c.args.list.now) c.args.at).stack in
     let names = names_of c.args.runs.now in
     let many : length (names_of c.args.runs.now) ≡ length c.args.runs.now - 1 = names_of-length c.args.runs.now in
     let apart : bytes_eq c.name.result.now _ ≡ false = not-true _ (sym c.ne.ensures ∙ c.if-ne.true) in
@@ -21,9 +21,9 @@ returns-then-ne-clause-is c =
     omega (arith, c.loop-frame.invariant, stops)
 
 pub loop-frame-preserved : goal.loop-frame-preserved
-loop-frame-preserved c =
+loop-frame-preserved g c =
     let i = c.loop-frame.frame in
-    let stack = (sample_at c.args.list.now.samples c.args.at).stack in
+    let stack = (sample_at (g.S.StackRows.samples c.args.list.now) c.args.at).stack in
     let names = names_of c.args.runs.now in
     let many : length (names_of c.args.runs.now) ≡ length c.args.runs.now - 1 = names_of-length c.args.runs.now in
     let alike : c.name.result.now ≡ _ = (bytes_eq-Decides _ _).0 (not-false _ (sym c.ne.ensures ∙ c.if-ne.false)) in
@@ -33,9 +33,9 @@ loop-frame-preserved c =
     omega (arith, c.loop-frame.invariant, more)
 
 pub returns-clause-is : goal.returns-clause-is
-returns-clause-is c =
+returns-clause-is g c =
     let i = c.loop-frame.frame in
-    let stack = (sample_at c.args.list.now.samples c.args.at).stack in
+    let stack = (sample_at (g.S.StackRows.samples c.args.list.now) c.args.at).stack in
     let names = names_of c.args.runs.now in
     let many : length (names_of c.args.runs.now) ≡ length c.args.runs.now - 1 = names_of-length c.args.runs.now in
     let ends : names_shared (drop i stack) (drop i names) ≡ 0 =

@@ -4,7 +4,7 @@ use Rattle.flame_layout.specs.Chart.{names_shared}
 use Rattle.flame_layout.proofs.walks.shared_in_list.Given as goal
 
 abbrev pub invariant-loop-frame : goal.invariant-loop-frame
-invariant-loop-frame l =
-    let one = (sample_at l.list.samples l.at).stack in
-    let other = (sample_at l.list.samples l.later).stack in
+invariant-loop-frame g l =
+    let one = (sample_at (g.S.StackRows.samples l.list) l.at).stack in
+    let other = (sample_at (g.S.StackRows.samples l.list) l.later).stack in
     names_shared one other ≡ l.frame + names_shared (drop l.frame one) (drop l.frame other)

@@ -1,18 +1,15 @@
+use Rattle.std.proofs.Common.{◌≡◌, ◌++◌, OnOk, subst}
 use Rattle.flame_layout.specs.Timeline.{samples_of}
+use Rattle.merging.specs.Gathered.{ListsState}
 use Rattle.merging.specs.Sums.{all_samples}
-use Rattle.flame_tool.proofs.TextLemmas.{graph_within, graph_positive, graph_appended}
+use Rattle.flame_tool.specs.Texts.{graph_line}
+use Rattle.flame_tool.proofs.TextLemmas.{graph_appended}
 use Rattle.flame_tool.proofs.graph_texts.append_graph_lines.Goals as goal
-
-pub append_boxes_line-requires-clause-within : goal.append_boxes_line-requires-clause-within
-append_boxes_line-requires-clause-within c =
-    graph_within (all_samples (samples_of c.args.gathered.now.lists)) c.args.boxes.now c.total_of.result c.requires.boxes c.total_of.ensures.total
-
-pub append_boxes_line-requires-clause-positive : goal.append_boxes_line-requires-clause-positive
-append_boxes_line-requires-clause-positive c =
-    graph_positive (all_samples (samples_of c.args.gathered.now.lists)) c.args.boxes.now c.total_of.result c.requires.boxes c.total_of.ensures.total
 
 pub returns-clause-ok : goal.returns-clause-ok
 returns-clause-ok c =
     let gathered = c.args.gathered.now in
-    graph_appended c.append_boxes_line.result c.args.out.now.items _ _ c.args.width c.total_of.result gathered.order gathered.every (samples_of gathered.lists) c.args.boxes.now
-    c.requires.boxes c.total_of.ensures.total c.in_ok-append_snapshots.ensures.ok c.append_boxes_line.ensures.ok
+    let line =
+        subst (λ (s : ListsState). OnOk c.append_graph_line.result (c.append_graph_line.new.out.items ≡ c.append_snapshots.new.out.items ++ graph_line c.args.width (all_samples (samples_of s.lists)))) c.sources.ensures c.append_graph_line.ensures.ok in
+    graph_appended c.append_graph_line.result c.args.out.now.items _ _ c.args.width gathered.order gathered.every (samples_of gathered.lists)
+    c.in_ok-append_snapshots.ensures.ok line

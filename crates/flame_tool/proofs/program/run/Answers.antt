@@ -1,6 +1,7 @@
 use Rattle.std.proofs.Common.{rules, ◌≡◌, inr, length, map, string_bytes, Some}
-use Rattle.command_line.specs.Plans.{plan_of}
-use Rattle.flame_tool.proofs.RunEndings.{asked_exactly, some_asked}
+use Rattle.command_line.specs.CommandLine.{command_line}
+use Rattle.command_line.specs.Plans.{IsFaultAmong, fault_of, plan_of}
+use Rattle.flame_tool.proofs.RunEndings.{asked_exactly, partly_help, some_asked}
 use Rattle.flame_tool.proofs.program.run.Goals as goal
 
 pub returns-in-Ok-clause-shown_exactly : goal.returns-in-Ok-clause-shown_exactly
@@ -8,3 +9,9 @@ returns-in-Ok-clause-shown_exactly g c =
     let some : length c.args.words.items ≡ 0 → ⊥ = search rules in
     let planned : plan_of (map string_bytes c.args.words.items) ≡ Some c.in-Ok.plan = search rules in
     λ zero. inr (asked_exactly (map string_bytes c.args.words.items) c.in-Ok.plan (g.F.Files.known_input c.args.files.now) (g.F.Files.known_file c.args.files.now) _ _ (some_asked string_bytes c.args.words.items c.in-Ok.plan some planned) (c.run_plan-in-Ok.ensures.shown zero))
+
+pub returns-clause-partly : goal.returns-clause-partly
+returns-clause-partly g c =
+    let some : length c.args.words.items ≡ 0 → ⊥ = search rules in
+    let among : IsFaultAmong (fault_of command_line (map string_bytes c.args.words.items)) c.in-Err.fault = search rules in
+    λ three. partly_help string_bytes c.args.words.items c.in-Err.fault _ _ some among (c.refuse.ensures.front three)

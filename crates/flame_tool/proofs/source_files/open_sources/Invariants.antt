@@ -8,5 +8,5 @@ abbrev pub invariant-loop-at : goal.invariant-loop-at
 invariant-loop-at g l = record {
   count : length l.sources.items ≡ l.at;
   files : g.F.Files.known_file l.files ≡ g.F.Files.known_file l.initial.files;
-  opened : AllZip (IsOpened (g.F.Files.known_file l.initial.files)) (map string_bytes (take l.at l.paths)) l.sources.items;
+  opened : AllZip (IsOpened l.asked (g.F.Files.known_file l.initial.files)) (map string_bytes (take l.at l.paths)) l.sources.items;
 }

@@ -11,7 +11,7 @@ returns-in-None-clause-len c = line_len-all c.args.bytes.now c.in-None.ensures
 pub returns-in-Some-clause-text : goal.returns-in-Some-clause-text
 returns-in-Some-clause-text c =
     let found = c.in-Some.ensures in
-    c.without_cr.ensures ∙ without_terminator-found c.args.bytes.now c.in-Some.at found.0.high found.0.before found.1
+    c.without_cr.ensures.text ∙ without_terminator-found c.args.bytes.now c.in-Some.at found.0.high found.0.before found.1
 
 pub returns-in-Some-clause-len : goal.returns-in-Some-clause-len
 returns-in-Some-clause-len c =

@@ -2,7 +2,8 @@ use Rattle.std.proofs.Common.{◌≡◌, ◌++◌, ◌∷◌, [], ◌∙◌, sym
 use Rattle.std.proofs.lemmas.List.{map_push}
 use Rattle.std.proofs.lemmas.List.Elements.{All-push}
 use Rattle.stack_core.specs.Reading.{Rest, IsSourceLimited}
-use Rattle.merging.specs.checked.Readers.{reader_rest}
+use Rattle.merging.specs.checked.Readers.{reader_rest, reader_told}
+use Rattle.merging.specs.declared.source_reader.SourceReader.{SourceReader}
 use Rattle.merging.specs.Sources.{source_rest, rests_of}
 use Rattle.merging.proofs.collection.readers_of.Goals as goal
 
@@ -22,4 +23,7 @@ loop-source-preserved c =
       limits =
           subst (λ (rests : List Rest). All (λ rest. IsSourceLimited rest.samples) rests) (sym more)
           (All-push (λ rest. IsSourceLimited rest.samples) (rests_of options old) (rest_of source) h.limits c.in_ok-over.ensures.limits);
+      told =
+          subst (λ (readers : List SourceReader). All (λ reader. reader_told reader ≡ record { names = []; stacks = [] }) readers) (sym c.in_ok-push.ensures.items)
+          (All-push (λ (reader : SourceReader). reader_told reader ≡ record { names = []; stacks = [] }) c.loop-source.readers.items c.in_ok-over.field-0 h.told c.in_ok-over.ensures.told);
     }

@@ -1,9 +1,9 @@
-use Rattle.std.proofs.Common.{None, Ok, refl, sym, ap, subst}
-use Rattle.wire_fields.specs.Field.{WireField, seen_value, seen_field}
+use Rattle.std.proofs.Common.{None, refl, sym, ap, subst}
+use Rattle.wire_fields.specs.Field.{WireField, seen_value}
 use Rattle.profile_tables.specs.declared.profile.Profile.{Profile}
 use Rattle.profile_tables.specs.checked.Decoding.{IsLocationDecoded, IsLocationOf}
 use Rattle.profile_tables.specs.checked.Profile.{IsFieldAdded}
-use Rattle.profile_tables.proofs.ProfileLemmas.{location_field, location_added}
+use Rattle.profile_tables.proofs.ProfileLemmas.{location_added}
 use Rattle.profile_tables.proofs.profile.add_field.Goals as goal
 
 pub returns-in_ok-push-in-Ok-2 : goal.returns-in_ok-push-in-Ok-2

@@ -5,8 +5,8 @@ use Rattle.ring_collect.specs.checked.Rounds.{HasGained}
 use Rattle.ring_collect.proofs.RunLemmas.{nothing_gained, still_promised, as_many, unfinishes, gains_allowed, gains_first, runs_whole, where_ok}
 use Rattle.ring_collect.proofs.runs.run_sources.Goals as goal
 
-gained : (g : _) (c : goal.After-refusal g) → HasGained (g.S.Sink.taken c.args.sink.now) (map (λ running. running.intake) c.drain.new.self.sources.items) (g.S.Sink.taken c.drain.new.sink) c.drain.new.self.order.items c.drain.new.self.refused
-gained g c = c.drain.ensures.gained (g.S.Sink.taken c.args.sink.now) (nothing_gained _ _ _ _ c.new-order.ensures.items c.start_all-started.ensures.fresh)
+gained : (g : _) (c : goal.After-refusal g) → HasGained (g.F.Feed.taken c.args.sink.now) (map (λ running. running.intake) c.drain.new.self.sources.items) (g.F.Feed.taken c.drain.new.sink) c.drain.new.self.order.items c.drain.new.self.refused
+gained g c = c.drain.ensures.gained (g.F.Feed.taken c.args.sink.now) (nothing_gained _ _ _ _ c.new-order.ensures.items c.start_all-started.ensures.fresh)
 
 promised : (g : _) (c : goal.After-refusal g) → ArePromised (arc_value c.args.gate.now) c.args.readers.items (map (λ running. running.handle.promise) c.drain.new.self.sources.items)
 promised g c = still_promised c.start_all-started.new.sources.items c.drain.new.self.sources.items c.drain.ensures.handles c.start_all-started.ensures.promised
@@ -26,5 +26,5 @@ returns-clause-whole g c = λ is.
 pub returns-in-Some-clause-unfinished : goal.returns-in-Some-clause-unfinished
 returns-in-Some-clause-unfinished g c =
     unfinishes _ c.in-Some.source (still_promised c.start_all-started.new.sources.items c.drain.new.self.sources.items c.drain.ensures.handles c.start_all-started.ensures.promised)
-    (c.drain.ensures.gained (g.S.Sink.taken c.args.sink.now) (nothing_gained _ _ _ _ c.new-order.ensures.items c.start_all-started.ensures.fresh))
+    (c.drain.ensures.gained (g.F.Feed.taken c.args.sink.now) (nothing_gained _ _ _ _ c.new-order.ensures.items c.start_all-started.ensures.fresh))
     c.in-Some.ensures.unfinished

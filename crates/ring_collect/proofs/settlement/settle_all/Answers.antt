@@ -15,7 +15,7 @@ loop-running-preserved g c =
       source = ap (λ n. n + 1) so_far.source ∙ sym one_more;
       room = let room = so_far.room in let more = added.room in omega arith;
       ledgers = let before = so_far.ledgers in let one = added.one in omega arith;
-      settled = more_settled (λ gate. g.G.Gate.may_stop gate) (λ gate. g.G.Gate.may_go gate) (λ reader. g.R.SampleReader.rest reader) c.loop-running.yielded c.loop-running.ledgers.items c.add_ledger-unfinished.new.ledgers.items c.loop-running.unfinished c.add_ledger-unfinished.result c.settle.result c.in-Some.running added.added so_far.settled c.settle.ensures;
+      settled = more_settled (λ gate. g.G.Gate.may_stop gate) (λ gate. g.G.Gate.may_go gate) (λ reader. g.R.RowReader.rest reader) c.loop-running.yielded c.loop-running.ledgers.items c.add_ledger-unfinished.new.ledgers.items c.loop-running.unfinished c.add_ledger-unfinished.result c.settle.result c.in-Some.running added.added so_far.settled c.settle.ensures;
       unfinished = subst (λ n. IfSome c.add_ledger-unfinished.result (λ first. first < n)) (sym one_more) (first_below c.loop-running.unfinished c.add_ledger-unfinished.result added.first so_far.unfinished so_far.source);
     }
 
@@ -25,4 +25,4 @@ returns-clause-settled g c =
     let before = taken_front c.into_iter-running-iterator.result c.loop-running.yielded c.loop-running.running-iterator c.loop-running.yielded_by in
     let none : into_iter_items c.loop-running.running-iterator ≡ [] = no_items (into_iter_items c.loop-running.running-iterator) (let ok = c.loop-running.running-iterator.rest.ok.0 in let none = c.in-None.ensures.steps.0 in omega arith) in
     let whole = sym gives ∙ before ∙ ap (λ rest. c.loop-running.yielded ++ rest) none ∙ append-nil c.loop-running.yielded in
-    subst (λ all. IfNone c.loop-running.unfinished (AreSettled (λ gate. g.G.Gate.may_stop gate) (λ gate. g.G.Gate.may_go gate) (λ reader. g.R.SampleReader.rest reader) all c.loop-running.ledgers.items)) (sym whole) c.loop-running.invariant.settled
+    subst (λ all. IfNone c.loop-running.unfinished (AreSettled (λ gate. g.G.Gate.may_stop gate) (λ gate. g.G.Gate.may_go gate) (λ reader. g.R.RowReader.rest reader) all c.loop-running.ledgers.items)) (sym whole) c.loop-running.invariant.settled

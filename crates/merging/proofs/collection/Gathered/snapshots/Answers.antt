@@ -8,4 +8,4 @@ pub returns-clause-drawable : goal.returns-clause-drawable
 returns-clause-drawable c =
     let g = c.self.inside in
     subst (λ (state : GatheredState). All (λ snapshot. IsDrawable state.names snapshot.tree) state.snapshots) c.self.view_is
-    (snapshots_drawable g.lists.items g.order.items g.sink.every g.sink.names g.sink.tree g.sink.snapshots c.self.invariant)
+    (snapshots_drawable g.sources.lists g.sources.order g.sink.every g.sink.names g.sink.tree g.sink.snapshots c.self.invariant)

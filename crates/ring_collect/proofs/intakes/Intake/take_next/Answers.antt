@@ -21,8 +21,8 @@ returns-clause-more g c = λ list tracked.
     let result = c.take_record-self.result in
     let taking = c.if-not-is_taking.ensures.0 refl in
     let tracked_open = subst (λ s. Tracked records None old.ledger s list) taking (subst (λ close. Tracked records close old.ledger old.stage list) c.requires tracked) in
-    let takes = subst (λ close. TakesRecord old.number c.in-Ok.popped old.ledger new.ledger close new.close (g.S.Sink.taken c.args.sink.now) (g.S.Sink.taken c.take_record-self.new.sink) c.args.order.now.items c.take_record-self.new.order.items result) c.requires c.take_record-self.ensures.taken in
-    let gains = λ (n : ℕ) (rs : List RingRecord). GainsMore n (Tracked rs new.close new.ledger result) list (g.S.Sink.taken c.args.sink.now) (g.S.Sink.taken c.take_record-self.new.sink) c.args.order.now.items c.take_record-self.new.order.items (result ≢ stage.Dropping) in
+    let takes = subst (λ close. TakesRecord old.number c.in-Ok.popped old.ledger new.ledger close new.close (g.F.Feed.taken c.args.sink.now) (g.F.Feed.taken c.take_record-self.new.sink) c.args.order.now.items c.take_record-self.new.order.items result) c.requires c.take_record-self.ensures.taken in
+    let gains = λ (n : ℕ) (rs : List RingRecord). GainsMore n (Tracked rs new.close new.ledger result) list (g.F.Feed.taken c.args.sink.now) (g.F.Feed.taken c.take_record-self.new.sink) c.args.order.now.items c.take_record-self.new.order.items (result ≢ stage.Dropping) in
     subst (λ n. gains n (received new.consumer)) (sym c.take_record-self.ensures.number)
     (subst (gains old.number) (sym (ap (λ consumer. received consumer) c.take_record-self.ensures.consumer ∙ c.in-Ok.ensures.ok.0))
     (takes_more tracked_open takes))

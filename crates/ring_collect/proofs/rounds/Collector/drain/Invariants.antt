@@ -5,7 +5,7 @@ use Rattle.ring_collect.proofs.rounds.Collector.drain.Given as goal
 
 abbrev pub invariant-loop : goal.invariant-loop
 invariant-loop g l =
-    let taken = g.S.Sink.taken in
+    let taken = g.F.Feed.taken in
     let was = l.fn.self in
     record {
       ends : (goal.iterator-loop g).can_next l.iterator' × (goal.iterator-loop g).is_finite l.iterator';
@@ -13,5 +13,5 @@ invariant-loop g l =
       gained : (start : List (ℕ × Sample)) → HasGained start (map (λ running. running.intake) was.sources.items) (taken l.fn.sink) was.order.items was.refused
           → HasGained start (map (λ running. running.intake) l.self.sources.items) (taken l.sink) l.self.order.items l.self.refused;
       refused : l.self.refused ≡ false → was.refused ≡ false;
-      setting : g.S.Sink.setting l.sink ≡ g.S.Sink.setting l.fn.sink;
+      setting : g.F.Feed.setting l.sink ≡ g.F.Feed.setting l.fn.sink;
     }

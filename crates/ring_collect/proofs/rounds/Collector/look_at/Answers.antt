@@ -27,7 +27,7 @@ returns-then-self-clause-gained g c = λ start gained.
     let running = c.index_mut-running.result.now in
     let is = slice_get_read all _ c.args.source running refl c.requires c.index_mut-running.ensures.value in
     let dropped = c.drop_next.ensures in
-    subst (λ intakes. HasGained start intakes (g.S.Sink.taken c.args.sink.now) was.order.items was.refused) (sym (map-set (λ s. s.intake) all c.args.source _))
+    subst (λ intakes. HasGained start intakes (g.F.Feed.taken c.args.sink.now) was.order.items was.refused) (sym (map-set (λ s. s.intake) all c.args.source _))
     (one_look (map (λ s. s.intake) all) c.args.source running.intake c.drop_next.new.self (slice_get_map (λ s. s.intake) all c.args.source running is)
     dropped.number (λ list tracked. nothing_more (dropped.tracks list tracked)) (λ e. e) (λ e. absurd (true≢false (sym c.if-self.true ∙ e))) gained)
 
@@ -43,6 +43,6 @@ returns-clause-gained g c = λ start gained.
     let is = slice_get_read all _ c.args.source running refl c.requires c.index_mut-running.ensures.value in
     let looked = c.take_next-look.ensures in
     let not_dropping = λ (e : c.is_dropping-self.result ≡ false) (dropping : c.take_next-look.new.self.stage ≡ Dropping). true≢false (sym (c.is_dropping-self.ensures.1 dropping) ∙ e) in
-    subst (λ intakes. HasGained start intakes (g.S.Sink.taken c.take_next-look.new.sink) c.take_next-look.new.order.items c.is_dropping-self.result) (sym (map-set (λ s. s.intake) all c.args.source _))
+    subst (λ intakes. HasGained start intakes (g.F.Feed.taken c.take_next-look.new.sink) c.take_next-look.new.order.items c.is_dropping-self.result) (sym (map-set (λ s. s.intake) all c.args.source _))
     (one_look (map (λ s. s.intake) all) c.args.source running.intake c.take_next-look.new.self (slice_get_map (λ s. s.intake) all c.args.source running is)
     looked.number (λ list tracked. more_weaker not_dropping (looked.more list tracked)) (λ _. c.if-self.false) not_dropping gained)

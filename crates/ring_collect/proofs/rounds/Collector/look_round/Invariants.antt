@@ -7,7 +7,7 @@ use Rattle.ring_collect.proofs.rounds.Collector.look_round.Given as goal
 -- while all are closed nothing has changed
 abbrev pub invariant-loop-source : goal.invariant-loop-source
 invariant-loop-source g l =
-    let taken = g.S.Sink.taken in
+    let taken = g.F.Feed.taken in
     let was = l.fn.self in
     record {
       count : length l.self.sources.items ≡ length was.sources.items;
@@ -16,5 +16,5 @@ invariant-loop-source g l =
           → HasGained start (map (λ running. running.intake) l.self.sources.items) (taken l.sink) l.self.order.items l.self.refused;
       closed : l.round ≡ Closed → (source : ℕ) → source < l.source → IfSome (slice_get l.self.sources.items source) (λ running. IsSome running.intake.close);
       refused : l.self.refused ≡ false → was.refused ≡ false;
-      setting : g.S.Sink.setting l.sink ≡ g.S.Sink.setting l.fn.sink;
+      setting : g.F.Feed.setting l.sink ≡ g.F.Feed.setting l.fn.sink;
     }

@@ -1,11 +1,17 @@
-use Rattle.std.proofs.Common.{refl, subst}
-use Rattle.stack_core.specs.Reading.{Steps}
-use Rattle.ring_collect.specs.checked.Tellers.{Stopped}
+use Rattle.std.proofs.Common.{refl, subst, sym, ◌∙◌}
+use Rattle.rtrb.specs.Ring.{sent}
+use Rattle.ring_collect.specs.checked.Tellers.{Stopped, TellsOne}
+use Rattle.ring_collect.proofs.Records.{steps_sample, tells_step}
 use Rattle.ring_collect.proofs.tellers.Teller.tell_next.Goals as goal
 
 pub returns-in-Stop-clause-closes : goal.returns-in-Stop-clause-closes
 returns-in-Stop-clause-closes g c =
-    let old = g.R.SampleReader.rest c.args.reader.now in
-    let new = g.R.SampleReader.rest c.next.new.self in
-    let step = subst (λ step. Steps old step new) c.in-Ok-Sample.field-0-is c.in-Ok-Sample.ensures.step in
-    Stopped c.in-Ok-Sample.sample new.samples step.0 (c.in-Stop.ensures.stop refl) refl refl
+    let next = steps_sample _ _ _ _ c.in-Ok.step c.in-Ok.ensures.step (sym c.ending_in.ensures ∙ c.in_default-ending_in.is) in
+    Stopped next.0 (g.R.RowReader.rest c.next_row.new.self).samples next.1 (c.in-Stop.ensures.stop refl) refl refl
+
+pub returns-clause-told : goal.returns-clause-told
+returns-clause-told g c =
+    let reader = c.args.self.now.reader in
+    let later = c.next_row.new.self in
+    subst (TellsOne (g.G.Gate.may_go c.args.gate.now) c.args.number.source c.args.number.index (g.R.RowReader.rest reader) (g.R.RowReader.rest later) (g.R.RowReader.told later) (sent c.args.self.now.producer)) (sym c.tell_step.ensures.sent)
+    (tells_step c.in-Ok.step (sent c.args.self.now.producer) c.in-Ok.ensures.step (sym c.ending_in.ensures ∙ c.in_default-ending_in.is) (c.in-Go.ensures.go refl) c.requires.told c.requires.well_told)

@@ -7,9 +7,9 @@ loop-init g c = record {
   ends = (tt, tt);
   ring = ((refl, refl, refl, refl), refl);
   told =
-      let rest = g.R.SampleReader.rest c.args.reader.now in
-      subst (ToldSoFar (g.G.Gate.may_go c.args.gate.now) c.args.source rest rest 0 c.args.self.now.names) (sym c.requires.nothing_told)
-      (subst (λ names. ToldSoFar (g.G.Gate.may_go c.args.gate.now) c.args.source rest rest 0 names []) (sym c.requires.no_names) nothing_told);
+      let rest = g.R.RowReader.rest c.args.self.now.reader in
+      subst (ToldSoFar (g.G.Gate.may_go c.args.gate.now) c.args.source rest rest 0 (g.R.RowReader.told c.args.self.now.reader)) (sym c.requires.nothing_sent)
+      (subst (λ rows. ToldSoFar (g.G.Gate.may_go c.args.gate.now) c.args.source rest rest 0 rows []) (sym c.requires.nothing_told) nothing_told);
 }
 
 pub returns-in-Some-tell_next-clause-told : goal.returns-in-Some-tell_next-clause-told

@@ -7,5 +7,5 @@ abbrev pub invariant-loop : goal.invariant-loop
 invariant-loop g l = record {
   ends : (goal.iterator-loop g).can_next l.iterator' × (goal.iterator-loop g).is_finite l.iterator';
   ring : SameProducer l.fn.self.producer l.self.producer;
-  told : ToldSoFar (g.G.Gate.may_go l.gate) l.source (g.R.SampleReader.rest l.fn.reader) (g.R.SampleReader.rest l.reader) l.index l.self.names (sent l.self.producer);
+  told : ToldSoFar (g.G.Gate.may_go l.gate) l.source (g.R.RowReader.rest l.fn.self.reader) (g.R.RowReader.rest l.self.reader) l.index (g.R.RowReader.told l.self.reader) (sent l.self.producer);
 }

@@ -14,7 +14,7 @@ returns-clause-told g c =
     let samples = c.tell_samples-close.ensures in
     record {
       well_told = subst IsWellTold (sym all) (IsWellTold-append told (Close close ∷ []) samples.well_told tt);
-      is_told = subst (IsToldUnder (g.G.Gate.may_stop c.args.gate.now) (g.G.Gate.may_go c.args.gate.now) c.args.source (g.R.SampleReader.rest c.args.reader))
+      is_told = subst (IsToldUnder (g.G.Gate.may_stop c.args.gate.now) (g.G.Gate.may_go c.args.gate.now) c.args.source (g.R.RowReader.rest c.args.self.now.reader))
           (sym (ap stands_for all ∙ stands_for-append told (Close close ∷ []))) samples.told;
       is_closed = (told, close, all);
       in_order = λ read ending is.

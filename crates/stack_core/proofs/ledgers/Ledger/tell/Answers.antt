@@ -4,5 +4,5 @@ use Rattle.stack_core.proofs.ledgers.Ledger.tell.Goals as goal
 
 pub returns-clause-ok : goal.returns-clause-ok
 returns-clause-ok c =
-    let h = samples-append _ (c.args.name ∷ []) _ c.add_name.ensures.rows in
+    let h = samples-append _ (c.args.name ∷ []) _ c.recall_rows.ensures.rows in
     search (rules, h)

@@ -1,17 +1,12 @@
-use Rattle.std.proofs.Common.{◌<◌, [], length, ap, arith}
-use Rattle.std.proofs.lemmas.List.{get_or-map, length-map}
-use Rattle.stack_core.specs.Ledgers.{Row}
-use Rattle.stack_core.specs.checked.Tables.{Table}
-use Rattle.stack_core.specs.checked.Spans.{row_of}
-use Rattle.stack_core.specs.declared.tables.Span.{Span}
+use Rattle.std.proofs.Common.{◌<◌, List, length, ap, sym, ◌∙◌, arith}
+use Rattle.stack_core.specs.declared.samples.Sample.{Sample}
+use Rattle.stack_core.specs.Ledgers.{sample_at}
+use Rattle.stack_core.specs.checked.Tables.{Table, samples_in}
+use Rattle.stack_core.proofs.EntryLemmas.{sample_at-entry_at}
 use Rattle.stack_core.proofs.tables.RowTable.weight.Goals as goal
 
-pub returns-clause-limit : goal.returns-clause-limit
-returns-clause-limit c =
-    let at = row_of c.self.inside.frames.items in
-    let spans = c.self.inside.spans.items in
-    let empty : Row = record { frames = []; weight = 0 } in
-    let n = length-map spans at in
-    let l : c.args.i < length spans = omega (arith, n, ap (λ (t : Table). length t.rows) c.self.view_is) in
-    let row = c.self.invariant.rows c.args.i empty (omega arith) in
-    omega (arith, row.weight, ap (λ (r : Row). r.weight) (get_or-map at spans c.args.i c.index.result.now empty l), ap (λ (s : Span). s.weight) c.index.ensures)
+pub returns-clause-sample : goal.returns-clause-sample
+returns-clause-sample c =
+    let l : c.args.i < length c.self.inside.entries = omega (arith, c.requires, ap (λ (t : Table). length t.entries) c.self.view_is) in
+    let e = sample_at-entry_at c.self.inside.stacks.names c.self.inside.stacks.stacks c.self.inside.entries c.args.i l in
+    c.weight.ensures.value ∙ ap (λ (s : Sample). s.weight) (sym e) ∙ ap (λ (t : Table). (sample_at (samples_in t) c.args.i).weight) c.self.view_is

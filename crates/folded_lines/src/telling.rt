@@ -1,0 +1,97 @@
+//! What a reader of rows told, and which heads it knows again.
+
+ghost use Rattle.std.specs.Prelude.{◌≡◌, ◌≤◌, ◌<◌, ◌^◌, ◌++◌, [], None, length, slice_range, drop, IfOk, OnErr};
+ghost use Rattle.std.specs.List.{slice_index_or};
+ghost use Rattle.stack_core.specs.Prefixes.{IsPrefixOf};
+ghost use Rattle.folded_lines.specs.Lines.{names_of};
+ghost use Rattle.folded_lines.specs.checked.Telling.{head_fault, told_of, IsTelling, TellsStack};
+
+use crate::numbering::number_names;
+use call_tree::{FrameTable, SpellingCache, StackHistory};
+use stack_core::{Listed, Text};
+use std::alloc::{AllocError, Global};
+use std::fmt::{self, Debug, Formatter, Write};
+
+/// The names and stacks that were told, and the rows of heads that were met.
+#[derive(Drop)]
+pub(crate) struct Telling {
+    pub(crate) names: FrameTable,
+    pub(crate) heads: SpellingCache,
+    /// The numbers of the stack that was told last.
+    pub(crate) frames: Vec<usize>,
+    /// How many stacks were told.
+    pub(crate) stacks: usize,
+    pub(crate) history: StackHistory,
+}
+
+impl Debug for Telling {
+    fn fmt<W: Write>(&self, f: &mut Formatter<W>) -> Result<(), fmt::Error> {
+        f.write_str("Telling")
+    }
+}
+
+/// A stack that is told: those of its names that are new, and the numbers of all.
+#[derive(Drop)]
+pub(crate) struct NewStack {
+    pub(crate) names: Listed<Text>,
+    pub(crate) frames: Listed<usize>,
+}
+
+/// Copies of the names from a number on.
+fn names_from(alloc: Global, table: &FrameTable, first: usize) -> Result<Listed<Text>, AllocError>
+    requires { first ≤ length table.now }
+    ensures { IfOk result (λ names. names ≡ drop first table.now) }
+{
+    let mut names = Vec::with_capacity(alloc, table.len() - first)?;
+    for number in first..table.len() {
+        names.push(Text::from_str(alloc, table.name(number))?)?;
+    }
+    Ok(Listed::of(names))
+}
+
+impl Telling {
+    /// Nothing was told. It takes no memory.
+    pub(crate) fn new(alloc: Global) -> Telling
+        ensures names { result.names ≡ [] }
+        ensures heads { result.heads ≡ [] }
+        ensures stacks { result.stacks ≡ 0 }
+        ensures history { result.history ≡ [] }
+    {
+        Telling {
+            names: FrameTable::new(alloc),
+            heads: SpellingCache::new(alloc),
+            frames: Vec::new(alloc),
+            stacks: 0,
+            history: StackHistory::new(),
+        }
+    }
+
+    /// Tells the stack of the head that stands from `start` up to `end`, and remembers it.
+    pub(crate) fn tell(
+        &mut self,
+        alloc: Global,
+        bytes: &[u8],
+        start: usize,
+        end: usize,
+    ) -> Result<NewStack, AllocError>
+        requires telling { IsTelling bytes.now self.old }
+        requires order { start ≤ end }
+        requires within { end ≤ length bytes.now }
+        requires faultless { head_fault (slice_range bytes.now start end) ≡ None }
+        requires room { length self.old.history < 2 ^ 63 }
+        ensures tells { IfOk result (λ stack. TellsStack (names_of (slice_range bytes.now start end))
+            (told_of self.old) stack.names stack.frames (told_of self.new)) }
+        ensures telling { IsTelling bytes.now self.new }
+        ensures stacks { OnErr result (self.new.history ≡ self.old.history) }
+        ensures names { OnErr result (IsPrefixOf self.old.names self.new.names) }
+    {
+        let told = self.names.len();
+        number_names(alloc, &mut self.names, &mut self.frames, &bytes[start..end])?;
+        let names = names_from(alloc, &self.names, told)?;
+        let frames = Listed::of(Vec::from_slice(alloc, self.frames.as_slice())?);
+        self.heads.remember(bytes, start, end, self.stacks)?;
+        self.history.push(&frames);
+        self.stacks += 1;
+        Ok(NewStack { names, frames })
+    }
+}

@@ -1,0 +1,11 @@
+use Rattle.profile_tables.proofs.ReaderLemmas.{few-state}
+use Rattle.profile_tables.proofs.reader.rows.PprofReaderRowReader.next_row.Goals as goal
+
+pub returns-in_err-fault-clause-few : goal.returns-in_err-fault-clause-few
+returns-in_err-fault-clause-few c = few-state c.self.inside _ c.self.view_is
+
+pub returns-in_err-step-clause-few : goal.returns-in_err-step-clause-few
+returns-in_err-step-clause-few c = few-state c.self.inside _ c.self.view_is
+
+pub returns-clause-few : goal.returns-clause-few
+returns-clause-few c = few-state c.self.inside _ c.self.view_is

@@ -1,0 +1,55 @@
+use Rattle.std.proofs.Common.{◌≡◌, ◌<◌, ℕ, List, length, Ok, get_or, ◌∙◌, ap, subst, refl, arith}
+use Rattle.stack_core.specs.Records.{names_at}
+use Rattle.stack_core.specs.RowReading.{stack_at}
+use Rattle.profile_tables.specs.Samples.{stack_of, weight_of}
+use Rattle.profile_tables.specs.checked.Offsets.{content_at}
+use Rattle.profile_tables.specs.checked.RowSteps.{IsToldSample}
+use Rattle.profile_tables.specs.checked.SeenOutline.{seen_outline}
+use Rattle.profile_tables.specs.checked.Tellers.{told_of}
+use Rattle.profile_tables.proofs.RestLemmas.{within}
+use Rattle.profile_tables.proofs.StepLemmas.{known-again, gives-next, tells-new, tells-depth}
+use Rattle.profile_tables.proofs.row_steps.next_row.Goals as goal
+
+pub returns-in-Some-known_row-clause-step : goal.returns-in-Some-known_row-clause-step
+returns-in-Some-known_row-clause-step c =
+    let outline = c.args.outline.now in
+    let places = outline.samples.items in
+    let told = told_of c.args.teller.now in
+    let known = c.in-Some-known_row.field-0 in
+    let is = known-again c.args.file.now c.in-Some.at.now outline c.args.teller.now c.front_of-front.result c.args.total known c.front_of-front.ensures c.in-Some-known_row.ensures c.requires.teller in
+    let lt : c.args.next < length places = subst (λ (list : List ℕ). c.args.next < length list) c.deref.ensures.value c.in-Some.ensures.lookup.3.0 in
+    let at_is : c.in-Some.at.now ≡ get_or places c.args.next 0 = c.in-Some.ensures.lookup.3.1 0 ∙ ap (λ (list : List ℕ). get_or list c.args.next 0) c.deref.ensures.value in
+    let fits = is.fits in (
+      record {
+        known = is.was_told;
+        same = refl;
+        gives = gives-next c.args.file.now (seen_outline outline) places c.args.next c.args.total c.in-Some.at.now (names_at told.names (stack_at told.stacks known.row)) known.weight lt at_is is.none is.stack is.weight_is;
+      },
+      omega (arith, fits),
+      record { total_limit = fits; is_there = lt },
+    )
+
+pub returns-in-Ok-clause-step : goal.returns-in-Ok-clause-step
+returns-in-Ok-clause-step c =
+    let outline = c.args.outline.now in
+    let tables = seen_outline outline in
+    let places = outline.samples.items in
+    let at = c.in-Some.at.now in
+    let row = c.in-Ok.field-0 in
+    let told = told_of c.args.teller.now in
+    let told' = told_of c.tell_sample.new.teller in
+    let is : IsToldSample tables c.args.total (content_at c.args.file.now at) told told' (Ok row) =
+    subst (IsToldSample tables c.args.total (content_at c.args.file.now at) told told') c.in-Ok.is c.in_ok-names.ensures.told in
+    let stack = stack_of tables.frames (content_at c.args.file.now at) in
+    let lt : c.args.next < length places = subst (λ (list : List ℕ). c.args.next < length list) c.deref.ensures.value c.in-Some.ensures.lookup.3.0 in
+    let at_is : at ≡ get_or places c.args.next 0 = c.in-Some.ensures.lookup.3.1 0 ∙ ap (λ (list : List ℕ). get_or list c.args.next 0) c.deref.ensures.value in
+    let limits = within tables c.args.total (content_at c.args.file.now at) is.0 in
+    let deep = limits.0 in
+    let heavy = limits.1 in
+    let weighs : row.weight ≡ weight_of tables.chosen (content_at c.args.file.now at) = is.2 in
+    let depth = tells-depth told told' row.names row.frames stack is.1 in (
+      tells-new told told' row.names row.frames stack row.weight _ _ is.1
+          (gives-next c.args.file.now tables places c.args.next c.args.total at stack row.weight lt at_is is.0 refl weighs),
+      (omega (arith, deep, depth), omega (arith, heavy, weighs)),
+      record { total_limit = omega (arith, heavy, weighs); is_there = lt },
+    )

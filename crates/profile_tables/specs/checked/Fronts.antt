@@ -1,0 +1,65 @@
+-- The front of a sample: its location ids as one packed run, its first field.
+use Rattle.std.specs.Prelude.{◌≡◌, ◌≤◌, ◌+◌, ℕ, List, [], ◌∷◌, Option, None, length, drop, flat_map, slice_range, ◌==◌, if◌then◌else◌}
+use Rattle.wire_fields.specs.declared.fault.WireFault.{WireFault}
+use Rattle.wire_fields.specs.Field.{WireField, delimited_bytes}
+use Rattle.wire_fields.specs.Reading.{Left, fields_of, numbers_of}
+use Rattle.profile_tables.specs.declared.fronts.Values.{Values}
+use Rattle.profile_tables.specs.declared.messages.Span.{Span}
+use Rattle.profile_tables.specs.Message.{first, repeated_from}
+use Rattle.profile_tables.specs.Shapes.{faults_in, faults_of_field, sample_shape, kinds_of_fault}
+use Rattle.profile_tables.specs.Samples.{SampleTables, location_ids, values_of, weight_of}
+use Rattle.profile_tables.specs.checked.Offsets.{content_at}
+
+-- the bytes of a part of a list
+abbrev pub bytes_at : List ℕ → Span → List ℕ
+bytes_at bytes span = slice_range bytes span.start span.end
+
+-- where the first of these fields begins, or a message of this length ends without a fault
+abbrev pub IsPlaceBefore : ℕ → List WireField → Option WireFault → ℕ → Type 0
+IsPlaceBefore size [] fault place = (fault ≡ None) × (place ≡ size)
+IsPlaceBefore size (field ∷ behind) fault place = place ≡ field.at
+
+abbrev pub IsNextPlace : ℕ → Left WireField → ℕ → Type 0
+IsNextPlace size left place = IsPlaceBefore size left.items left.fault place
+
+-- the first field of a message has this number and holds the bytes at this place
+pub record IsFirstHeld (message : List ℕ) (number : ℕ) (place : Span) : Type 0 where
+  pub order : place.start ≤ place.end
+  pub within : place.end ≤ length message
+  pub field : WireField
+  pub behind : List WireField
+  pub fields : (fields_of message).items ≡ field ∷ behind
+  pub number_is : field.number ≡ number
+  pub holds : field.value ≡ delimited_bytes (bytes_at message place)
+
+-- ---- values, one after another
+
+-- a further value
+abbrev pub with_value : ℕ → Values → ℕ → Values
+with_value chosen values value =
+    record { count = values.count + 1; weight = if values.count == chosen then value else values.weight }
+
+abbrev pub with_values : ℕ → Values → List ℕ → Values
+with_values chosen values [] = values
+with_values chosen values (value ∷ more) = with_values chosen (with_value chosen values value) more
+
+abbrev pub no_values : Values
+no_values = record { count = 0; weight = 0 }
+
+-- the values of a sample behind its first field, which has no other location ids and no fault
+pub record AreValuesBehind (chosen : ℕ) (message : List ℕ) (values : Values) : Type 0 where
+  pub no_fault : first (flat_map (faults_of_field sample_shape) (drop 1 (fields_of message).items)) ≡ None
+  pub no_end_fault : (fields_of message).fault ≡ None
+  pub no_ids : flat_map (repeated_from 1) (drop 1 (fields_of message).items) ≡ []
+  pub values_are : values ≡ with_values chosen no_values (flat_map (repeated_from 2) (drop 1 (fields_of message).items))
+
+-- ---- a front
+
+-- the location ids of the sample at a place are those of the run, and its values have this weight and no fault
+pub record IsFront (file : List ℕ) (at : ℕ) (tables : SampleTables) (run : Span) (weight : ℕ) : Type 0 where
+  pub order : run.start ≤ run.end
+  pub within : run.end ≤ length file
+  pub faults : first (faults_in sample_shape (content_at file at)) ≡ first (kinds_of_fault (numbers_of (bytes_at file run)).fault)
+  pub ids : location_ids (content_at file at) ≡ (numbers_of (bytes_at file run)).items
+  pub count : length (values_of (content_at file at)) ≡ tables.sample_types
+  pub weight_is : weight ≡ weight_of tables.chosen (content_at file at)

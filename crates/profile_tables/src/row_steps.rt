@@ -1,0 +1,162 @@
+//! The steps of a reader of rows.
+
+ghost use Rattle.std.specs.Prelude.{◌≡◌, ◌<◌, ◌≤◌, ◌+◌, ◌^◌, Some, length, option_map, IfOk, IfSome, OnOk, OnErr};
+ghost use Rattle.stack_core.specs.Prefixes.{IsPrefixOf};
+ghost use Rattle.stack_core.specs.RowReading.{IsLastStep};
+ghost use Rattle.profile_tables.specs.checked.Offsets.{content_at as content_in};
+ghost use Rattle.profile_tables.specs.checked.Fronts.{IsFront};
+ghost use Rattle.profile_tables.specs.checked.SeenOutline.{seen_outline};
+ghost use Rattle.profile_tables.specs.checked.Tellers.{told_of, IsTeller};
+ghost use Rattle.profile_tables.specs.checked.RowSteps.{IsKnownBy, IsToldSample, IsNextRow};
+ghost use Rattle.profile_tables.specs.checked.View.{told_by, IsTellerOf};
+
+use crate::contents::content_at;
+use crate::fronts::{Front, front_of};
+use crate::messages::Span;
+use crate::outline::Outline;
+use crate::samples::checked_sample;
+use crate::tellers::{NewRow, Teller};
+use stack_core::{ReadFault, ReadKind, RowStep, SourceEnd, WEIGHT_LIMIT};
+use std::alloc::{AllocError, Global};
+
+/// A sample whose stack was told before.
+#[derive(Clone, Copy)]
+struct KnownRow {
+    row: usize,
+    weight: u64,
+}
+
+/// The sample of a front, where its stack was told and it has no fault behind samples of this total weight. None says nothing.
+fn known_row(file: &[u8], teller: &Teller, front: Option<Front>, total: u64) -> Option<KnownRow>
+    requires total { total ≤ WEIGHT_LIMIT }
+    requires front { IfSome front (λ front.
+        (front.run.start ≤ front.run.end) × (front.run.end ≤ length file.now)) }
+    ensures { IfSome result (IsKnownBy file.now teller.now front total) }
+{
+    let Front { run, weight } = front?;
+    if weight > WEIGHT_LIMIT - total {
+        return None;
+    }
+    let row = teller.find(file, run)?;
+    Some(KnownRow { row, weight })
+}
+
+/// The run of a front.
+fn run_of(front: Option<Front>) -> Option<Span>
+    ensures { result ≡ option_map (λ front. front.run) front }
+{
+    match front {
+        Some(front) => Some(front.run),
+        None => None,
+    }
+}
+
+/// Tells the stack of the sample at an offset, behind samples of this total weight, or says what is wrong with the sample.
+fn tell_sample(
+    alloc: Global,
+    file: &[u8],
+    outline: &Outline,
+    teller: &mut Teller,
+    at: usize,
+    front: Option<Front>,
+    total: u64,
+) -> Result<Result<NewRow, ReadKind>, AllocError>
+    requires total { total ≤ WEIGHT_LIMIT }
+    requires teller { IsTeller file.now outline.now.frames teller.old }
+    requires room { teller.old.count + 1 < 2 ^ 64 }
+    requires front { IfSome front (λ front.
+        IsFront file.now at (seen_outline outline.now) front.run front.weight) }
+    ensures told { IfOk result (IsToldSample (seen_outline outline.now) total
+        (content_in file.now at) (told_of teller.old) (told_of teller.new)) }
+    ensures teller { IsTeller file.now outline.now.frames teller.new }
+    ensures count { teller.new.count ≤ teller.old.count + 1 }
+    ensures refused { OnErr result (teller.new.count ≡ teller.old.count) }
+    ensures stacks { OnErr result ((told_of teller.new).stacks ≡ (told_of teller.old).stacks) }
+    ensures names { IsPrefixOf (told_of teller.old).names (told_of teller.new).names }
+{
+    match checked_sample(alloc, outline, total, content_at(file, at))? {
+        Ok(sample) => {
+            let run = run_of(front);
+            Ok(Ok(teller.tell(alloc, &outline.frames, &sample, file, run)?))
+        }
+        Err(kind) => Ok(Err(kind)),
+    }
+}
+
+/// The next sample of a file by rows, where `next` of them, of this total weight, were given, or the ending. A stack that was told
+/// before takes no memory, and its location ids are not decoded again.
+fn next_row(
+    alloc: Global,
+    file: &[u8],
+    outline: &Outline,
+    teller: &mut Teller,
+    next: usize,
+    total: u64,
+) -> Result<RowStep, AllocError>
+    requires total { total ≤ WEIGHT_LIMIT }
+    requires teller { IsTeller file.now outline.now.frames teller.old }
+    requires count { teller.old.count ≤ next }
+    ensures step { IfOk result
+        (IsNextRow file.now outline.now next total (told_of teller.old) (told_of teller.new)) }
+    ensures teller { IsTeller file.now outline.now.frames teller.new }
+    ensures count { teller.new.count ≤ next + 1 }
+    ensures refused { OnErr result (teller.new.count ≤ next) }
+    ensures stacks { OnErr result ((told_of teller.new).stacks ≡ (told_of teller.old).stacks) }
+    ensures names { IsPrefixOf (told_of teller.old).names (told_of teller.new).names }
+{
+    let Some(at) = outline.samples.get(next) else {
+        return Ok(RowStep::End(SourceEnd::Clean { ignored: 0 }));
+    };
+    let front = front_of(file, *at, outline);
+    if let Some(KnownRow { row, weight }) = known_row(file, teller, front, total) {
+        return Ok(RowStep::Again { row, weight });
+    }
+    match tell_sample(alloc, file, outline, teller, *at, front, total)? {
+        Ok(
+            NewRow {
+                names,
+                frames,
+                weight,
+            },
+        ) => Ok(RowStep::New {
+            names,
+            frames,
+            weight,
+        }),
+        Err(kind) => {
+            let at = *at as u64;
+            Ok(RowStep::End(SourceEnd::Fault(ReadFault { kind, at })))
+        }
+    }
+}
+
+/// The same, where the teller is made with the first sample. Want of memory then leaves none.
+pub(crate) fn step_by_rows(
+    alloc: Global,
+    file: &[u8],
+    outline: &Outline,
+    teller: &mut Option<Teller>,
+    next: usize,
+    total: u64,
+) -> Result<RowStep, AllocError>
+    requires total { total ≤ WEIGHT_LIMIT }
+    requires teller { IsTellerOf file.now (Some outline.now) next teller.old }
+    ensures step { IfOk result
+        (IsNextRow file.now outline.now next total (told_by teller.old) (told_by teller.new)) }
+    ensures ended { IfOk result (λ step. IsLastStep step →
+        IsTellerOf file.now (Some outline.now) next teller.new) }
+    ensures teller { IsTellerOf file.now (Some outline.now) (next + 1) teller.new }
+    ensures refused { OnErr result (IsTellerOf file.now (Some outline.now) next teller.new) }
+    ensures stacks { OnErr result ((told_by teller.new).stacks ≡ (told_by teller.old).stacks) }
+    ensures names { IsPrefixOf (told_by teller.old).names (told_by teller.new).names }
+{
+    match teller {
+        Some(teller) => next_row(alloc, file, outline, teller, next, total),
+        None => {
+            let mut first = Teller::new(alloc, &outline.frames)?;
+            let step = next_row(alloc, file, outline, &mut first, next, total)?;
+            *teller = Some(first);
+            Ok(step)
+        }
+    }
+}

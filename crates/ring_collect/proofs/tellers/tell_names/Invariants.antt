@@ -1,0 +1,11 @@
+use Rattle.std.proofs.Common.{◌≡◌, ◌++◌, map}
+use Rattle.rtrb.specs.Ring.{sent, SameProducer}
+use Rattle.stack_core.specs.declared.records.RingRecord.TheVariants.{Name}
+use Rattle.ring_collect.proofs.tellers.tell_names.Given as goal
+
+-- the names so far are told
+abbrev pub invariant-loop-name : goal.invariant-loop-name
+invariant-loop-name g l = record {
+  ring : SameProducer l.fn.producer l.producer;
+  sent : sent l.producer ≡ sent l.fn.producer ++ map Name l.yielded;
+}

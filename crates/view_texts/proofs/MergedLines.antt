@@ -1,0 +1,56 @@
+-- The lines of merged stacks, name by name and stack by stack.
+use Rattle.std.proofs.Common.{◌≡◌, ℕ, zero, suc, ◌+◌, ◌<◌, List, [], ◌∷◌, ◌++◌, ltb, length, take, get_or, All, T, refl, sym, ap, ◌∙◌, arith}
+use Rattle.std.specs.List.{join_with_byte, AllByRecursion}
+use Rattle.std.proofs.lemmas.List.{take_more, length-take-le, map_more, append-nil, take-take, take_at, length-append}
+use Rattle.std.proofs.lemmas.Grind.{flat_map-append}
+use Rattle.std.proofs.lemmas.List.Elements.{recursion_from_All}
+use Rattle.std.proofs.lemmas.Bool.{lt-ltb}
+use Rattle.stack_core.specs.declared.samples.Sample.{Sample}
+use Rattle.std.specs.Io.{StartsWith}
+use Rattle.stack_core.specs.Ledgers.{sample_at}
+use Rattle.folded_lines.specs.Writing.{line_of}
+use Rattle.folded_lines.proofs.JoinLemmas.{join_with_byte-push}
+use Rattle.flame_layout.specs.Timeline.{Stack}
+use Rattle.flame_layout.specs.Paths.{SameOwn, weighed as all_weighed}
+use Rattle.flame_layout.specs.Merged.{Weighed, are_in_order}
+use Rattle.flame_layout.proofs.MergedSums.{same_rows}
+use Rattle.flame_layout.proofs.JoinedStacks.{rows_merged}
+use Rattle.view_texts.specs.Fold.{lines_of, fold_text}
+use Rattle.view_texts.specs.checked.Joined.{joint}
+
+-- one name more
+pub joined_more : (stack : Stack) (i : ℕ) → i < length stack → join_with_byte 59 (take (i + 1) stack) ≡ join_with_byte 59 (take i stack) ++ joint (ltb 0 i) (get_or stack i [])
+joined_more stack i lt = ap (join_with_byte 59) (take_more stack i [] lt) ∙ by (take i stack) i (length-take-le i stack (omega arith))
+  where
+    by : (front : Stack) (n : ℕ) → length front ≡ n → join_with_byte 59 (front ++ get_or stack i [] ∷ []) ≡ join_with_byte 59 front ++ joint (ltb 0 n) (get_or stack i [])
+    by [] zero e = refl
+    by [] (suc n) e = absurd (omega arith)
+    by (x ∷ front) zero e = absurd (omega arith)
+    by (x ∷ front) (suc n) e = join_with_byte-push 59 x front (get_or stack i []) ∙ ap (λ b. join_with_byte 59 (x ∷ front) ++ joint b (get_or stack i [])) (sym (lt-ltb 0 (suc n) (omega arith)))
+
+-- what begins with a text and more begins with the text
+pub further : (new middle start text : List ℕ) → StartsWith new middle → middle ≡ start ++ text → StartsWith new start
+further new middle start text front is =
+    let long : length middle ≡ length start + length text = ap length is ∙ length-append start text in
+    sym (take-take (length start) (length middle) new (omega arith)) ∙ ap (take (length start)) (front ∙ is) ∙ take_at start text (length start) refl
+
+abbrev line : Weighed → List ℕ
+line row = line_of row.0 row.1
+
+abbrev no_sample : Sample
+no_sample = record { stack = []; weight = 0 }
+
+-- one line more
+pub lines_more : (stacks : List Sample) (i : ℕ) → i < length stacks → lines_of (all_weighed (take (i + 1) stacks)) ≡ lines_of (all_weighed (take i stacks)) ++ line_of (sample_at stacks i).stack (sample_at stacks i).weight
+lines_more stacks i lt =
+    ap lines_of (map_more (λ (sample : Sample). (sample.stack, sample.weight)) stacks i no_sample lt) ∙ flat_map-append line (all_weighed (take i stacks)) (((sample_at stacks i).stack, (sample_at stacks i).weight) ∷ [])
+    ∙ ap (λ text. lines_of (all_weighed (take i stacks)) ++ text) (append-nil (line_of (sample_at stacks i).stack (sample_at stacks i).weight))
+
+-- the lines of merged stacks are the text of all samples that have their sums
+pub merged_text : (stacks samples : List Sample) → T (are_in_order (all_weighed stacks)) → All (λ sample. 0 < sample.weight) stacks → SameOwn samples stacks → lines_of (all_weighed stacks) ≡ fold_text samples
+merged_text stacks samples ordered positive same =
+    ap lines_of (rows_merged (all_weighed stacks) (all_weighed stacks) ordered (each stacks (recursion_from_All (λ (sample : Sample). 0 < sample.weight) stacks positive)) (λ q. refl) ∙ sym (same_rows samples stacks same))
+  where
+    each : (all : List Sample) → AllByRecursion (λ sample. 0 < sample.weight) all → AllByRecursion (λ row. 0 < row.1) (all_weighed all)
+    each [] h = tt
+    each (s ∷ all) h = (h.0, each all h.1)

@@ -1,0 +1,7 @@
+use Rattle.std.proofs.Common.{◌≡◌, ◌++◌, take}
+use Rattle.std.specs.List.{join_with_byte}
+use Rattle.stack_core.specs.Ledgers.{sample_at}
+use Rattle.view_texts.proofs.merged_lines.append_names.Given as goal
+
+abbrev pub invariant-loop-frame : goal.invariant-loop-frame
+invariant-loop-frame l = l.out.items ≡ l.fn.out.items ++ join_with_byte 59 (take l.frame (sample_at l.merged l.at).stack)

@@ -1,0 +1,6 @@
+use Rattle.std.proofs.Common.{[], ◌∷◌, arith}
+use Rattle.flame_layout.proofs.JoinedStacks.{all_weight}
+use Rattle.view_texts.proofs.tests.fold.merged_text.Goals as goal
+
+pub of-requires : goal.of-requires
+of-requires g c = omega (arith, all_weight (c.args.one ∷ c.args.other ∷ []), c.total.ensures, c.total-2.ensures)

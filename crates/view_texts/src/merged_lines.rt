@@ -1,0 +1,87 @@
+//! Folded text of merged stacks.
+ghost use Rattle.std.specs.Prelude.{◌≡◌, ◌++◌, ◌<◌, List, length, OnOk, OnErr};
+ghost use Rattle.std.specs.Io.{StartsWith};
+ghost use Rattle.std.specs.List.{join_with_byte};
+ghost use Rattle.stack_core.specs.declared.samples.Sample.{Sample};
+ghost use Rattle.stack_core.specs.Ledgers.{sample_at};
+ghost use Rattle.flame_layout.specs.Paths.{SameOwn};
+ghost use Rattle.folded_lines.specs.Writing.{column_of, line_of};
+ghost use Rattle.view_texts.specs.Fold.{fold_text};
+ghost use Rattle.view_texts.specs.checked.Joined.{joint};
+
+use crate::rollback::truncate_on_error;
+use flame_layout::MergedStacks;
+use itoa::Buffer;
+use std::alloc::AllocError;
+
+/// Appends the folded text of merged stacks: a line for each, in order, with its sum. It is that of
+/// every list of samples whose weights, summed up by stack, are the merged ones. An `Err` changes
+/// nothing.
+pub fn append_merged_text(out: &mut Vec<u8>, merged: &MergedStacks) -> Result<(), AllocError>
+    ensures ok { OnOk result ((samples : List Sample) → SameOwn samples merged.now
+        → out.new.items ≡ out.old.items ++ fold_text samples) }
+    ensures err { OnErr result (out.new.items ≡ out.old.items) }
+{
+    let before = out.len();
+    let answer = append_stacks(out, merged);
+    truncate_on_error(out, before, answer)
+}
+
+// Appends the lines of the stacks, or of those at the front.
+fn append_stacks(out: &mut Vec<u8>, merged: &MergedStacks) -> Result<(), AllocError>
+    ensures ok { OnOk result ((samples : List Sample) → SameOwn samples merged.now
+        → out.new.items ≡ out.old.items ++ fold_text samples) }
+    ensures front { StartsWith out.new.items out.old.items }
+{
+    for at in 0..merged.len() {
+        append_stack(out, merged, at)?;
+    }
+    Ok(())
+}
+
+// Appends the line of a stack, or its front.
+fn append_stack(out: &mut Vec<u8>, merged: &MergedStacks, at: usize) -> Result<(), AllocError>
+    requires { at < length merged.now }
+    ensures ok { OnOk result (out.new.items ≡ out.old.items
+        ++ line_of (sample_at merged.now at).stack (sample_at merged.now at).weight) }
+    ensures front { StartsWith out.new.items out.old.items }
+{
+    append_names(out, merged, at)?;
+    append_column(out, merged.weight(at))?;
+    out.push(b'\n')?;
+    Ok(())
+}
+
+// Appends a space and a weight, or the front of that.
+fn append_column(out: &mut Vec<u8>, weight: u64) -> Result<(), AllocError>
+    ensures ok { OnOk result (out.new.items ≡ out.old.items ++ column_of weight) }
+    ensures front { StartsWith out.new.items out.old.items }
+{
+    out.push(b' ')?;
+    let mut digits = Buffer::new();
+    out.extend_from_slice(digits.format(weight).as_bytes())
+}
+
+// Appends the names of a stack, joined by `;`, or those at the front.
+fn append_names(out: &mut Vec<u8>, merged: &MergedStacks, at: usize) -> Result<(), AllocError>
+    requires { at < length merged.now }
+    ensures ok { OnOk result (out.new.items
+        ≡ out.old.items ++ join_with_byte 59 (sample_at merged.now at).stack) }
+    ensures front { StartsWith out.new.items out.old.items }
+{
+    for frame in 0..merged.depth(at) {
+        append_name(out, frame > 0, merged.name(at, frame))?;
+    }
+    Ok(())
+}
+
+// Appends a name, after `;` if it is a later one.
+fn append_name(out: &mut Vec<u8>, later: bool, name: &str) -> Result<(), AllocError>
+    ensures ok { OnOk result (out.new.items ≡ out.old.items ++ joint later name.now) }
+    ensures front { StartsWith out.new.items out.old.items }
+{
+    if later {
+        out.push(b';')?;
+    }
+    out.extend_from_slice(name.as_bytes())
+}
