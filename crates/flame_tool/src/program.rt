@@ -156,7 +156,7 @@ fn open_gate(alloc: Global) -> Result<Arc<OpenGate>, AllocError> {
     Ok(Arc::new(alloc, OpenGate)?)
 }
 
-// Reads the sources, collects their samples, and writes the view of them.
+// Reads the sources, and shows them.
 fn show<T: Threads + Wait + Copy + Send + 'static, F: Files, W: Outlet, E: Outlet>(
     rt: &T,
     alloc: Global,
@@ -253,8 +253,7 @@ fn show_snapshots<T: Threads + Wait + Copy + Send + 'static, W: Outlet, E: Outle
     send_view(alloc, &gathered, plan.view, out)
 }
 
-// Writes the view of what was collected, unless a source has a fault. All of the text is made before the
-// first of it goes out.
+// Writes the view of what was collected, unless a source has a fault. All of it is made before the first goes out.
 fn send_view<W: Outlet>(
     alloc: Global,
     gathered: &Gathered,

@@ -51,7 +51,10 @@ fn run_rows<T: Threads + Wait + Copy + Send + 'static, G: Gate + Send + Sync + D
 ///
 /// The gate is asked before each sample of a source. Where it says Stop, the source's list has the samples before, and the ending
 /// `Stopped`.
-pub fn read_sources<T: Threads + Wait + Copy + Send + 'static, G: Gate + Send + Sync + Drop + 'static>(
+pub fn read_sources<
+    T: Threads + Wait + Copy + Send + 'static,
+    G: Gate + Send + Sync + Drop + 'static,
+>(
     rt: &T,
     alloc: Global,
     sources: Vec<Source>,

@@ -26,8 +26,11 @@ pub trait Feed<S> {
         weight: u64,
     ) -> Result<(), AllocError>
         requires { row < length ledger.now.stacks }
-        ensures ok { OnOk result (taken sink.new ≡ taken sink.old ++ (source, named ledger.now.told
-            (row_by ledger.now.stacks (record { stack = row; weight = weight }))) ∷ []) }
+        ensures ok { OnOk result (taken sink.new ≡ taken sink.old ++ (
+          source,
+          named ledger.now.told
+              (row_by ledger.now.stacks (record { stack = row; weight = weight })),
+        ) ∷ []) }
         ensures refused { OnErr result (taken sink.new ≡ taken sink.old) }
         ensures setting { setting sink.new ≡ setting sink.old };
 }

@@ -136,7 +136,8 @@ impl Intake {
             return Stage::Unnamed;
         }
         let ledger = &self.ledger;
-        if feed.feed(alloc, sink, self.number, ledger, row, weight).is_err() {
+        let fed = feed.feed(alloc, sink, self.number, ledger, row, weight);
+        if fed.is_err() {
             return Stage::Dropping;
         }
         if self.ledger.take_again(row, weight).is_err() || order.push(self.number).is_err() {
@@ -199,7 +200,9 @@ impl Intake {
             RingRecord::Row { frames, weight } => {
                 self.take_row(alloc, frames.get(), weight, feed, sink, order)
             }
-            RingRecord::Again { row, weight } => self.take_again(alloc, row, weight, feed, sink, order),
+            RingRecord::Again { row, weight } => self.take_again(
+                alloc, row, weight, feed, sink, order,
+            ),
             RingRecord::Close(last) => {
                 self.close = Some(last);
                 Stage::Taking

@@ -19,8 +19,8 @@ mod settlement;
 mod tellers;
 
 pub use faults::CollectFault;
-pub use run_options::{LARGEST_RING, RingSize};
 pub use row_runs::collect_rows;
+pub use run_options::{LARGEST_RING, RingSize};
 pub use runs::Collected;
 pub use sample_runs::collect;
 pub use stack_core::RingRecord;

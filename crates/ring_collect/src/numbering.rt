@@ -87,12 +87,9 @@ pub struct NumberingReader<R: SampleReader> {
     pub waiting: Option<Sample>,
     pub names: FrameTable,
     pub stacks: ToldStacks,
-    ghost few: { IfSome waiting (λ _. length (R.rest reader).samples + 1 < 2 ^ 64) }
-        by { Prim.hlevel props },
-    ghost depth: { IfSome waiting (λ sample. length sample.stack ≤ FRAME_LIMIT) }
-        by { Prim.hlevel props },
-    ghost weight: { IfSome waiting (λ sample. sample.weight ≤ WEIGHT_LIMIT) }
-        by { Prim.hlevel props },
+    ghost few: { IfSome waiting (λ _. length (R.rest reader).samples + 1 < 2 ^ 64) } by { Prim.hlevel props },
+    ghost depth: { IfSome waiting (λ sample. length sample.stack ≤ FRAME_LIMIT) } by { Prim.hlevel props },
+    ghost weight: { IfSome waiting (λ sample. sample.weight ≤ WEIGHT_LIMIT) } by { Prim.hlevel props },
 }
 
 impl<R: SampleReader> NumberingReader<R> {

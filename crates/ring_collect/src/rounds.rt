@@ -25,7 +25,13 @@ pub struct Collector<R: RowReader, G: Gate> {
 
 impl<R: RowReader, G: Gate> Collector<R, G> {
     /// Looks into the ring of the source with this number, if it is not closed.
-    fn look_at<S, F: Feed<S>>(&mut self, alloc: Global, source: usize, feed: &mut F, sink: &mut S) -> Look
+    fn look_at<S, F: Feed<S>>(
+        &mut self,
+        alloc: Global,
+        source: usize,
+        feed: &mut F,
+        sink: &mut S,
+    ) -> Look
         requires { source < length self.old.sources.items }
         ensures handles { map (λ running. running.handle) self.new.sources.items
             ≡ map (λ running. running.handle) self.old.sources.items }
@@ -77,7 +83,13 @@ impl<R: RowReader, G: Gate> Collector<R, G> {
     }
 
     /// Looks into the rings until all are closed. A round in which nothing came gives the processor away.
-    pub fn drain<W: Wait, S, F: Feed<S>>(&mut self, rt: &W, alloc: Global, feed: &mut F, sink: &mut S)
+    pub fn drain<W: Wait, S, F: Feed<S>>(
+        &mut self,
+        rt: &W,
+        alloc: Global,
+        feed: &mut F,
+        sink: &mut S,
+    )
         ensures handles { map (λ running. running.handle) self.new.sources.items
             ≡ map (λ running. running.handle) self.old.sources.items }
         ensures gained { (start : List (ℕ × TakenSample))

@@ -89,5 +89,13 @@ pub fn collect<
     ensures setting { S.setting sink.new ≡ S.setting sink.old }
 {
     let readers = number_all(alloc, readers)?;
-    collect_by(rt, alloc, readers, ring, gate, &mut BySamples::new(alloc), sink)
+    collect_by(
+        rt,
+        alloc,
+        readers,
+        ring,
+        gate,
+        &mut BySamples::new(alloc),
+        sink,
+    )
 }

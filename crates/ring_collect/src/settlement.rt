@@ -46,10 +46,7 @@ fn settle_by(left: Option<LeftOfRing>, intake: Intake) -> Option<Ledger>
 }
 
 /// Joins the thread of a source whose ring is closed, and hands its ledger out.
-fn settle<T: Threads, R: RowReader, G: Gate>(
-    rt: &T,
-    running: RunningSource<R, G>,
-) -> Option<Ledger>
+fn settle<T: Threads, R: RowReader, G: Gate>(rt: &T, running: RunningSource<R, G>) -> Option<Ledger>
     requires { IsSome running.intake.close }
     ensures { IfSome result (λ ledger.
         IsSettled (λ gate. G.may_stop gate) (λ gate. G.may_go gate) (λ reader. R.rest reader)

@@ -43,8 +43,11 @@ pub trait RowSink {
         weight: u64,
     ) -> Result<(), AllocError>
         requires { row < length ledger.now.stacks }
-        ensures ok { OnOk result (taken self.new ≡ taken self.old ++ (source, named ledger.now.told
-            (row_by ledger.now.stacks (record { stack = row; weight = weight }))) ∷ []) }
+        ensures ok { OnOk result (taken self.new ≡ taken self.old ++ (
+          source,
+          named ledger.now.told
+              (row_by ledger.now.stacks (record { stack = row; weight = weight })),
+        ) ∷ []) }
         ensures refused { OnErr result (taken self.new ≡ taken self.old) }
         ensures setting { setting self.new ≡ setting self.old };
 }

@@ -10,6 +10,6 @@ pub returns-clause-ok : goal.returns-clause-ok
 returns-clause-ok c =
     let gathered = c.args.gathered.now in
     let line =
-        subst (λ (s : ListsState). OnOk c.append_graph_line.result (c.append_graph_line.new.out.items ≡ c.append_snapshots.new.out.items ++ graph_line c.args.width (all_samples (samples_of s.lists)))) c.sources.ensures c.append_graph_line.ensures.ok in
+    subst (λ (s : ListsState). OnOk c.append_graph_line.result (c.append_graph_line.new.out.items ≡ c.append_snapshots.new.out.items ++ graph_line c.args.width (all_samples (samples_of s.lists)))) c.sources.ensures c.append_graph_line.ensures.ok in
     graph_appended c.append_graph_line.result c.args.out.now.items _ _ c.args.width gathered.order gathered.every (samples_of gathered.lists)
     c.in_ok-append_snapshots.ensures.ok line

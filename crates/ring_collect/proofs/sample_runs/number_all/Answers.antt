@@ -15,7 +15,7 @@ loop-reader-preserved g c =
     let pushed = c.in_ok-push.ensures.items in
     let fresh = c.of.ensures in
     let named : told_of numbering.names numbering.stacks ≡ record { names = []; stacks = [] } =
-        ap (λ names. told_of names numbering.stacks) fresh.names ∙ ap (λ (stacks : List (List ℕ)). let told : ToldRows = record { names = []; stacks = stacks } in told) fresh.stacks in
+    ap (λ names. told_of names numbering.stacks) fresh.names ∙ ap (λ (stacks : List (List ℕ)). let told : ToldRows = record { names = []; stacks = stacks } in told) fresh.stacks in
     record {
       rests = ap (map (λ one. with_waiting one.waiting (rest one.reader))) pushed
           ∙ map_push (λ one. with_waiting one.waiting (rest one.reader)) c.loop-reader.all.items numbering
