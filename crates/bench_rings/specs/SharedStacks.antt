@@ -1,6 +1,6 @@
 -- What a sink of shared stacks took.
 use Rattle.std.specs.Prelude.{ℕ, List, map}
-use Rattle.stack_core.specs.declared.samples.Sample.{Sample as TakenSample}
+use Rattle.sample_tables.specs.declared.samples.Sample.{Sample as TakenSample}
 use Rattle.bench_rings.specs.declared.shared_stacks.SharedStacks.{SharedStacks}
 
 -- the source and the sample of each row

@@ -1,6 +1,6 @@
 -- A tree whose paths are no deeper than a stack.
 use Rattle.std.specs.Prelude.{◌<◌, ◌≤◌, ℕ, List, length}
-use Rattle.stack_core.specs.declared.samples.TheConstants.{FRAME_LIMIT}
+use Rattle.sample_tables.specs.declared.samples.TheConstants.{FRAME_LIMIT}
 use Rattle.call_tree.specs.CallTree.{Tree, total_weight}
 
 -- each path with weight has at most as many numbers as a stack may have names

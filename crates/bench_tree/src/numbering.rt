@@ -1,7 +1,7 @@
 //! A reader's samples as rows of frame numbers.
 
 ghost use Rattle.std.specs.Prelude.{◌≡◌, ◌<◌, ◌≤◌, All, None, length, IfOk, OnOk};
-ghost use Rattle.stack_core.specs.Reading.{IsLimited};
+ghost use Rattle.sample_tables.specs.Samples.{IsLimited};
 
 use call_tree::FrameTable;
 use folded_lines::FoldedReader;

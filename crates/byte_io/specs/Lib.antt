@@ -4,3 +4,4 @@ pub mod Faults
 pub mod Files
 pub mod Inlet
 pub mod Outlet
+pub mod Pieces

@@ -25,4 +25,7 @@ pub trait Files {
             IfSome (known_input self.old) (λ known. bytes.items ≡ known)) }
         ensures input { known_input self.new ≡ known_input self.old }
         ensures files { known_file self.new ≡ known_file self.old };
+
+    /// Whether the input is a terminal, where someone has to type it.
+    fn is_input_terminal(&self) -> bool;
 }

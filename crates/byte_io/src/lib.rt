@@ -1,5 +1,5 @@
 //! Bytes in, and bytes out: readers and writers that count their failed calls, whole inputs and outputs
-//! over them, and the files of a run.
+//! over them, texts that go out piece by piece, and the files of a run.
 #![tactic(auto)]
 
 mod failure_counts;
@@ -8,6 +8,9 @@ mod inlet;
 mod machine_files;
 mod memory_files;
 mod outlet;
+mod piece_output;
+mod pieces;
+mod rollback;
 mod whole_input;
 mod whole_output;
 
@@ -16,6 +19,9 @@ pub use inlet::{CountedReader, Inlet};
 pub use machine_files::{MachineFiles, SOURCE_LIMIT};
 pub use memory_files::{MemoryFiles, NamedFile};
 pub use outlet::{CountedWriter, Outlet};
+pub use piece_output::{PieceFault, append_pieces, send_pieces};
+pub use pieces::{Chain, Literal, Pieces};
+pub use rollback::truncate_on_error;
 pub use whole_input::{LoadFault, load};
 pub use whole_output::{SendFault, send};
 

@@ -6,6 +6,7 @@ use crate::files::Files;
 use crate::inlet::CountedReader;
 use crate::whole_input::{LoadFault, load};
 use std::alloc::Global;
+use std::io::IsTerminal;
 use std::{fs, rt};
 
 /// The most bytes of one source.
@@ -24,7 +25,10 @@ impl<'a, T: rt::Files + Input> MachineFiles<'a, T> {
     }
 }
 
-impl<T: rt::Files + Input> Files for MachineFiles<'_, T> {
+impl<T: rt::Files + Input> Files for MachineFiles<'_, T>
+where
+    T::Reader: IsTerminal,
+{
     ghost known_input = { λ _. unknown };
 
     ghost known_file = { λ _. unknown_files };
@@ -52,5 +56,9 @@ impl<T: rt::Files + Input> Files for MachineFiles<'_, T> {
     {
         let mut reader = CountedReader::new(self.rt.reader());
         load(alloc, &mut reader, SOURCE_LIMIT)
+    }
+
+    fn is_input_terminal(&self) -> bool {
+        self.rt.reader().is_terminal()
     }
 }

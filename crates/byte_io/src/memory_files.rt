@@ -1,5 +1,5 @@
 //! Files and an input in memory.
-ghost use Rattle.std.specs.Prelude.{◌≡◌, ◌≢◌, ◌<◌, ◌≤◌, [], ◌∷◌, ◌++◌, length, vec_len, Some, OnOk, OnErr, IfOk, IfSome, IsErrOf, IsNone};
+ghost use Rattle.std.specs.Prelude.{◌≡◌, ◌≢◌, ◌<◌, ◌≤◌, [], ◌∷◌, ◌++◌, length, vec_len, false, Some, OnOk, OnErr, IfOk, IfSome, IsErrOf, IsNone};
 ghost use Rattle.byte_io.specs.Files.{input_bytes, named_files, byte_limit, file_at, bytes_at};
 ghost use Rattle.std.specs.Option.{option_copied};
 
@@ -88,6 +88,12 @@ impl Files for MemoryFiles {
         ensures io { result ≢ Err LoadFault.Io }
     {
         copied(alloc, self.input.as_slice(), self.limit)
+    }
+
+    fn is_input_terminal(&self) -> bool
+        ensures never { result ≡ false }
+    {
+        false
     }
 }
 

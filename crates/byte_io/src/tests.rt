@@ -2,3 +2,4 @@
 mod edge;
 mod fakes;
 mod page;
+mod pieces;

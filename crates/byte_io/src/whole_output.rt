@@ -40,6 +40,23 @@ pub fn send<W: Outlet>(bytes: &[u8], out: &mut W) -> Result<(), SendFault>
     ensures count { W.failures out.new
         ≡ (if is_ok result then W.failures out.old else one_more (W.failures out.old)) }
 {
+    write_whole(bytes, out)?;
+    let written = bytes.len();
+    match out.flush() {
+        Ok(()) => Ok(()),
+        Err(_) => Err(SendFault { written }),
+    }
+}
+
+// Writes all bytes in order, and does not flush.
+pub(crate) fn write_whole<W: Outlet>(bytes: &[u8], out: &mut W) -> Result<(), SendFault>
+    ensures ok { OnOk result (Appends (W.contents out.old) (W.contents out.new) bytes.now) }
+    ensures written { IfErr result (λ fault. fault.written ≤ length bytes.now) }
+    ensures fault { IfErr result (λ fault.
+        Appends (W.contents out.old) (W.contents out.new) (take fault.written bytes.now)) }
+    ensures count { W.failures out.new
+        ≡ (if is_ok result then W.failures out.old else one_more (W.failures out.old)) }
+{
     let mut written = 0;
     while written < bytes.len() {
         match out.write(&bytes[written..]) {
@@ -48,8 +65,5 @@ pub fn send<W: Outlet>(bytes: &[u8], out: &mut W) -> Result<(), SendFault>
             Err(_) => return Err(SendFault { written }),
         }
     }
-    match out.flush() {
-        Ok(()) => Ok(()),
-        Err(_) => Err(SendFault { written }),
-    }
+    Ok(())
 }

@@ -4,11 +4,11 @@ use Rattle.std.specs.List.{list_any}
 use Rattle.std.specs.Str.{bytes_eq}
 use Rattle.std.proofs.lemmas.List.{append-nil, get_or_append_left, drop-append-le, drop_all}
 use Rattle.std.proofs.lemmas.List.Elements.{All-weaker}
-use Rattle.stack_core.specs.Ledgers.{name_at}
+use Rattle.sample_tables.specs.Rows.{name_at}
 use Rattle.stack_core.specs.NamesInOrder.{with_name, with_stack}
 use Rattle.stack_core.specs.Prefixes.{IsPrefixOf}
 use Rattle.stack_core.specs.Records.{names_at}
-use Rattle.stack_core.proofs.Spans.{map_agree}
+use Rattle.sample_tables.proofs.Spans.{map_agree}
 
 -- one name more
 pub with_stack_push : (names stack : List (List ℕ)) (name : List ℕ) → with_stack names (stack ++ name ∷ []) ≡ with_name (with_stack names stack) name

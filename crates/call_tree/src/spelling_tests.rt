@@ -7,6 +7,12 @@ use std::alloc::{AllocError, Global};
 use std::process::Abort;
 use std::test::Fail;
 
+/// How many spellings a cache remembers without forgetting one.
+const COUNT: usize = 1_500;
+
+/// How many spellings with one hash a cache is given.
+const COLLIDING: usize = 40_000;
+
 /// A text of spellings of 16 bytes: a number, and what takes part in its hash or undoes it.
 fn text_of(alloc: Global, count: u64, colliding: bool) -> Result<Vec<u8>, AllocError> {
     let start = mixed(mixed(16, 1), mixed(2, 3));
@@ -50,40 +56,58 @@ fn remember_again(
     cache.remember(text, start, end, number)
 }
 
-/// With any one growth refused, spellings are found at the bytes that were remembered and at equal ones, and others are not; the
-/// test then ends in that refusal.
-#[test]
-fn spellings_are_found_again(rt: HostRuntime) -> Result<(), Fail> {
-    const COUNT: usize = 1_500;
-    let mut refused = false;
-    let mut cache = SpellingCache::new(rt.alloc());
-    let mut text = text_of(rt.alloc(), COUNT as u64, false)?;
+/// Remembers the spelling of each number, which was not known before.
+fn remember_all(
+    rt: &impl Abort,
+    cache: &mut SpellingCache,
+    text: &[u8],
+    refused: &mut bool,
+) -> Result<(), AllocError> {
     assert_eq!(rt; text.len(), COUNT * 16);
     for number in 0..COUNT {
-        assert_eq!(rt; found(&cache, text.as_slice(), number), None);
-        remember_again(&rt, &mut cache, text.as_slice(), number, &mut refused)?;
+        assert_eq!(rt; found(cache, text, number), None);
+        remember_again(rt, cache, text, number, refused)?;
     }
-    let once_more = text_of(rt.alloc(), COUNT as u64, false)?;
-    text.extend_from_slice(once_more.as_slice())?;
+    Ok(())
+}
+
+/// Finds the spelling of each number in a text that has each twice.
+fn all_found_twice(rt: &impl Abort, cache: &SpellingCache, text: &[u8]) {
     assert_eq!(rt; text.len(), COUNT * 32);
     for number in 0..COUNT {
-        assert_eq!(rt; found(&cache, text.as_slice(), number), Some(number));
-        assert_eq!(rt;
-            found(&cache, text.as_slice(), COUNT + number),
-            Some(number)
-        );
+        assert_eq!(rt; found(cache, text, number), Some(number));
+        assert_eq!(rt; found(cache, text, COUNT + number), Some(number));
     }
+}
+
+fn cache_goes_on(
+    rt: &impl Abort,
+    cache: &mut SpellingCache,
+    text: &mut Vec<u8>,
+    alloc: Global,
+) -> Result<(), Fail> {
+    let mut refused = false;
+    remember_all(rt, cache, text.as_slice(), &mut refused)?;
+    let once_more = text_of(alloc, COUNT as u64, false)?;
+    text.extend_from_slice(once_more.as_slice())?;
+    all_found_twice(rt, cache, text.as_slice());
     if refused {
         return Err(AllocError.into());
     }
     Ok(())
 }
 
-/// The rows of spellings of every length up to three blocks of the hash are told apart.
+/// With any one growth refused, spellings are found at the bytes that were remembered and at equal ones, and others are not; the
+/// test then ends in that refusal.
 #[test]
-fn lengths_are_told_apart(rt: HostRuntime) -> Result<(), Fail> {
-    let text = [b'a'; 100];
+fn spellings_are_found_again(rt: HostRuntime) -> Result<(), Fail> {
+    let mut text = text_of(rt.alloc(), COUNT as u64, false)?;
     let mut cache = SpellingCache::new(rt.alloc());
+    cache_goes_on(&rt, &mut cache, &mut text, rt.alloc())
+}
+
+fn lengths_are_found(rt: &impl Abort, cache: &mut SpellingCache) -> Result<(), Fail> {
+    let text = [b'a'; 100];
     for len in 0..100 {
         assert_eq!(rt; cache.find(&text, 0, len), None);
         cache.remember(&text, 0, len, len)?;
@@ -92,24 +116,47 @@ fn lengths_are_told_apart(rt: HostRuntime) -> Result<(), Fail> {
     Ok(())
 }
 
+/// The rows of spellings of every length up to three blocks of the hash are told apart.
+#[test]
+fn lengths_are_told_apart(rt: HostRuntime) -> Result<(), Fail> {
+    let mut cache = SpellingCache::new(rt.alloc());
+    lengths_are_found(&rt, &mut cache)
+}
+
+/// Remembers spellings with one hash, each of which is found right after.
+fn remember_colliding(
+    rt: &impl Abort,
+    cache: &mut SpellingCache,
+    text: &[u8],
+) -> Result<(), AllocError> {
+    assert_eq!(rt; text.len(), COLLIDING * 16);
+    for number in 0..COLLIDING {
+        let at = number * 16;
+        assert_eq!(rt; hash_of(&text[at..at + 16]), hash_of(&text[..16]));
+        cache.remember(text, at, at + 16, number)?;
+        assert_eq!(rt; found(cache, text, number), Some(number));
+    }
+    Ok(())
+}
+
+/// How many of the spellings are known.
+fn known_of(rt: &impl Abort, cache: &SpellingCache, text: &[u8]) -> usize {
+    assert_eq!(rt; text.len(), COLLIDING * 16);
+    (0..COLLIDING)
+        .filter(|number| cache.find(text, number * 16, number * 16 + 16).is_some())
+        .count()
+}
+
+fn sixteen_are_kept(rt: &impl Abort, cache: &mut SpellingCache, text: &[u8]) -> Result<(), Fail> {
+    remember_colliding(rt, cache, text)?;
+    assert_eq!(rt; known_of(rt, cache, text), 16);
+    Ok(())
+}
+
 /// Of spellings with one hash, those that have a slot are found. The others cost no more than these.
 #[test]
 fn colliding_spellings_are_forgotten(rt: HostRuntime) -> Result<(), Fail> {
-    const COUNT: usize = 40_000;
-    let text = text_of(rt.alloc(), COUNT as u64, true)?;
-    assert_eq!(rt; text.len(), COUNT * 16);
+    let text = text_of(rt.alloc(), COLLIDING as u64, true)?;
     let mut cache = SpellingCache::new(rt.alloc());
-    for number in 0..COUNT {
-        let at = number * 16;
-        assert_eq!(rt; hash_of(&text[at..at + 16]), hash_of(&text[..16]));
-        cache.remember(text.as_slice(), at, at + 16, number)?;
-        assert_eq!(rt; found(&cache, text.as_slice(), number), Some(number));
-    }
-    let known = (0..COUNT)
-        .filter(|number| cache
-            .find(text.as_slice(), number * 16, number * 16 + 16)
-            .is_some())
-        .count();
-    assert_eq!(rt; known, 16);
-    Ok(())
+    sixteen_are_kept(&rt, &mut cache, text.as_slice())
 }

@@ -1,10 +1,10 @@
 //! Worked examples, and what a refused growth leaves.
-ghost use Rattle.std.specs.Prelude.{◌≡◌, OnOk, OnErr};
+ghost use Rattle.std.specs.Prelude.{◌≡◌, IfOk, OnOk, OnErr};
 ghost use Rattle.call_tree.specs.CallTree.{with_weight};
 ghost use Rattle.call_tree.specs.Listing.{AreIn, HasNumbersOf};
 
 use crate::{CallTree, FrameTable, Visit};
-use std::alloc::AllocError;
+use std::alloc::{AllocError, Global};
 use std::process::Abort;
 use std::test::Fail;
 
@@ -101,11 +101,25 @@ fn copy_again(
     tree.copy()
 }
 
+/// Interns names, which get these numbers.
+fn numbers_are(
+    rt: &impl Abort,
+    table: &mut FrameTable,
+    names: &[(&str, usize)],
+    len: usize,
+) -> Result<(), Fail> {
+    for (name, number) in names {
+        assert_eq!(rt; table.intern(name)?, *number);
+    }
+    assert_eq!(rt; table.len(), len);
+    Ok(())
+}
+
 #[test]
 fn table(rt: HostRuntime) -> Result<(), Fail> {
     let mut table = FrameTable::new(rt.alloc());
     assert!(rt; table.is_empty());
-    for (name, number) in [
+    let names = [
         ("a", 0),
         ("b", 1),
         ("a", 0),
@@ -113,20 +127,8 @@ fn table(rt: HostRuntime) -> Result<(), Fail> {
         ("A", 3),
         ("a ", 4),
         ("", 2),
-    ] {
-        assert_eq!(rt; table.intern(name)?, number);
-    }
-    assert_eq!(rt; table.len(), 5);
-    Ok(())
-}
-
-/// Interns the names of the worked example.
-fn interns_worked_names(rt: &impl Abort, table: &mut FrameTable) -> Result<(), AllocError> {
-    for (name, number) in [("a", 0), ("b", 1), ("a", 0)] {
-        assert_eq!(rt; table.intern(name)?, number);
-    }
-    assert_eq!(rt; table.len(), 2);
-    Ok(())
+    ];
+    numbers_are(&rt, &mut table, &names, 5)
 }
 
 /// Adds the weights of the worked example.
@@ -147,14 +149,14 @@ fn children_are(
     tree: &CallTree,
     path: &[usize],
     numbers: &[usize],
-) -> Result<(), AllocError> {
+) -> Result<(), Fail> {
     let children = tree.children(path)?;
     assert_eq!(rt; children.as_slice(), numbers);
     Ok(())
 }
 
 /// What the worked example says of its tree.
-fn is_worked_tree(rt: &impl Abort, tree: &CallTree) -> Result<(), AllocError> {
+fn is_worked_tree(rt: &impl Abort, tree: &CallTree) -> Result<(), Fail> {
     for (path, total) in [
         ([].as_slice(), 10),
         (&[0], 10),
@@ -171,13 +173,29 @@ fn is_worked_tree(rt: &impl Abort, tree: &CallTree) -> Result<(), AllocError> {
     children_are(rt, tree, &[1], &[])
 }
 
+fn copy_is_worked_tree(rt: &impl Abort, tree: &CallTree) -> Result<(), Fail> {
+    let copy = tree.copy()?;
+    is_worked_tree(rt, &copy)
+}
+
+fn grows_to_worked_tree(rt: &impl Abort, tree: &mut CallTree) -> Result<(), Fail> {
+    add_worked_weights(rt, tree)?;
+    is_worked_tree(rt, tree)?;
+    copy_is_worked_tree(rt, tree)
+}
+
 #[test]
 fn table_and_tree(rt: HostRuntime) -> Result<(), Fail> {
-    interns_worked_names(&rt, &mut FrameTable::new(rt.alloc()))?;
+    let names = [("a", 0), ("b", 1), ("a", 0)];
+    numbers_are(&rt, &mut FrameTable::new(rt.alloc()), &names, 2)?;
     let mut tree = CallTree::new(rt.alloc())?;
-    add_worked_weights(&rt, &mut tree)?;
-    is_worked_tree(&rt, &tree)?;
-    is_worked_tree(&rt, &tree.copy()?)?;
+    grows_to_worked_tree(&rt, &mut tree)
+}
+
+fn adds_no_weight(rt: &impl Abort, tree: &mut CallTree) -> Result<(), Fail> {
+    add(rt, tree, &[1, 0], 0)?;
+    weights_are(rt, tree, &[1], 0, 0);
+    assert_eq!(rt; tree.len(), 1);
     Ok(())
 }
 
@@ -185,60 +203,21 @@ fn table_and_tree(rt: HostRuntime) -> Result<(), Fail> {
 #[test]
 fn weightless_path(rt: HostRuntime) -> Result<(), Fail> {
     let mut tree = CallTree::new(rt.alloc())?;
-    add(&rt, &mut tree, &[1, 0], 0)?;
-    weights_are(&rt, &tree, &[1], 0, 0);
-    assert_eq!(rt; tree.len(), 1);
-    Ok(())
+    adds_no_weight(&rt, &mut tree)
+}
+
+fn adds_children(rt: &impl Abort, tree: &mut CallTree) -> Result<(), Fail> {
+    for ids in [[0, 1], [0, 0], [0, 1]] {
+        add(rt, tree, &ids, 1)?;
+    }
+    children_are(rt, tree, &[0], &[0, 1])?;
+    children_are(rt, tree, &[1], &[])
 }
 
 #[test]
 fn children(rt: HostRuntime) -> Result<(), Fail> {
     let mut tree = CallTree::new(rt.alloc())?;
-    for ids in [[0, 1], [0, 0], [0, 1]] {
-        add(&rt, &mut tree, &ids, 1)?;
-    }
-    assert_eq!(rt; tree.children(&[0])?.as_slice(), [0, 1].as_slice());
-    assert!(rt; tree.children(&[1])?.is_empty());
-    Ok(())
-}
-
-/// The numbers rise as the names fall, and a listing goes by the names.
-#[test]
-fn listing_by_name(rt: HostRuntime) -> Result<(), Fail> {
-    let mut table = FrameTable::new(rt.alloc());
-    let _ = table.intern("b")?;
-    let _ = table.intern("a")?;
-    assert_eq!(rt; table.len(), 2);
-    let mut tree = CallTree::new(rt.alloc())?;
-    add(&rt, &mut tree, &[0], 2)?;
-    add(&rt, &mut tree, &[1, 0], 1)?;
-    let visits = tree.listing(&table)?;
-    let root = Visit {
-        depth: 0,
-        frame: 0,
-        total: 3,
-        own: 0,
-    };
-    let a = Visit {
-        depth: 1,
-        frame: 1,
-        total: 1,
-        own: 0,
-    };
-    let b_below = Visit {
-        depth: 2,
-        frame: 0,
-        total: 1,
-        own: 1,
-    };
-    let b = Visit {
-        depth: 1,
-        frame: 0,
-        total: 2,
-        own: 2,
-    };
-    assert_eq!(rt; visits.as_slice(), [root, a, b_below, b].as_slice());
-    Ok(())
+    adds_children(&rt, &mut tree)
 }
 
 /// The numbers of a path are the table's.
@@ -250,35 +229,108 @@ fn are_known(rt: &impl Abort, table: &FrameTable, ids: &[usize])
     }
 }
 
-/// Adds 1 at each path.
-fn add_known(
-    rt: &impl Abort,
-    table: &FrameTable,
-    tree: &mut CallTree,
-    paths: &[&[usize]],
-) -> Result<(), AllocError>
-    requires { HasNumbersOf table.now tree.old }
-    ensures { HasNumbersOf table.now tree.new }
-{
-    for ids in paths {
-        are_known(rt, table, ids);
-        add(rt, tree, ids, 1)?;
+/// A table of names, numbered in their order.
+fn table_of(rt: &impl Abort, alloc: Global, names: &[&str]) -> Result<FrameTable, AllocError> {
+    let mut table = FrameTable::new(alloc);
+    intern_all(rt, &mut table, names)?;
+    Ok(table)
+}
+
+fn intern_all(rt: &impl Abort, table: &mut FrameTable, names: &[&str]) -> Result<(), AllocError> {
+    for (number, name) in names.iter().enumerate() {
+        assert_eq!(rt; table.intern(name)?, number);
     }
     Ok(())
 }
 
-/// Nodes on three levels, made in another order than that of their names.
-#[test]
-fn listing_of_levels(rt: HostRuntime) -> Result<(), Fail> {
-    let mut table = FrameTable::new(rt.alloc());
-    for name in ["c", "a", "b"] {
-        let _ = table.intern(name)?;
+/// Adds a weight at each path.
+fn add_known(
+    rt: &impl Abort,
+    table: &FrameTable,
+    tree: &mut CallTree,
+    weights: &[(&[usize], u64)],
+) -> Result<(), AllocError>
+    requires { HasNumbersOf table.now tree.old }
+    ensures { HasNumbersOf table.now tree.new }
+{
+    for (ids, weight) in weights {
+        are_known(rt, table, ids);
+        add(rt, tree, ids, *weight)?;
     }
-    assert_eq!(rt; table.len(), 3);
-    let mut tree = CallTree::new(rt.alloc())?;
-    let paths: [&[usize]; 6] = [&[0, 1], &[2], &[0, 2, 1], &[1], &[0, 0], &[2, 1]];
-    add_known(&rt, &table, &mut tree, &paths)?;
-    let visits = tree.listing(&table)?;
+    Ok(())
+}
+
+/// The listing of a tree that has a weight at each path.
+fn listed(
+    rt: &impl Abort,
+    alloc: Global,
+    table: &FrameTable,
+    weights: &[(&[usize], u64)],
+) -> Result<Vec<Visit>, AllocError> {
+    let mut tree = CallTree::new(alloc)?;
+    add_known(rt, table, &mut tree, weights)?;
+    tree.listing(table)
+}
+
+/// The visits of the listing by name.
+const BY_NAME: [Visit; 4] = [
+    Visit {
+        depth: 0,
+        frame: 0,
+        total: 3,
+        own: 0,
+    },
+    Visit {
+        depth: 1,
+        frame: 1,
+        total: 1,
+        own: 0,
+    },
+    Visit {
+        depth: 2,
+        frame: 0,
+        total: 1,
+        own: 1,
+    },
+    Visit {
+        depth: 1,
+        frame: 0,
+        total: 2,
+        own: 2,
+    },
+];
+
+fn lists_by_name(rt: &impl Abort, alloc: Global, table: &FrameTable) -> Result<(), Fail> {
+    let visits = listed(rt, alloc, table, &[(&[0], 2), (&[1, 0], 1)])?;
+    assert_eq!(rt; visits.as_slice(), BY_NAME.as_slice());
+    Ok(())
+}
+
+/// The numbers rise as the names fall, and a listing goes by the names.
+#[test]
+fn listing_by_name(rt: HostRuntime) -> Result<(), Fail> {
+    let table = table_of(&rt, rt.alloc(), &["b", "a"])?;
+    lists_by_name(&rt, rt.alloc(), &table)
+}
+
+/// Depths and frames of visits.
+fn visits_are(rt: &impl Abort, visits: &[Visit], expected: &[(usize, usize)]) {
+    assert_eq!(rt; visits.len(), expected.len());
+    for (visit, place) in visits.iter().zip(expected) {
+        assert_eq!(rt; (visit.depth, visit.frame), *place);
+    }
+}
+
+fn lists_levels(rt: &impl Abort, alloc: Global, table: &FrameTable) -> Result<(), Fail> {
+    let weights: [(&[usize], u64); 6] = [
+        (&[0, 1], 1),
+        (&[2], 1),
+        (&[0, 2, 1], 1),
+        (&[1], 1),
+        (&[0, 0], 1),
+        (&[2, 1], 1),
+    ];
+    let visits = listed(rt, alloc, table, &weights)?;
     let expected = [
         (0, 0),
         (1, 1),
@@ -290,25 +342,43 @@ fn listing_of_levels(rt: HostRuntime) -> Result<(), Fail> {
         (3, 1),
         (2, 0),
     ];
-    assert_eq!(rt; visits.len(), expected.len());
-    for (visit, (depth, frame)) in visits.iter().zip(expected) {
-        assert_eq!(rt; (visit.depth, visit.frame), (depth, frame));
+    visits_are(rt, &visits, &expected);
+    Ok(())
+}
+
+/// Nodes on three levels, made in another order than that of their names.
+#[test]
+fn listing_of_levels(rt: HostRuntime) -> Result<(), Fail> {
+    let table = table_of(&rt, rt.alloc(), &["c", "a", "b"])?;
+    lists_levels(&rt, rt.alloc(), &table)
+}
+
+/// One visit at each depth, of weight 1.
+fn is_one_path(rt: &impl Abort, visits: &[Visit]) {
+    assert_eq!(rt; visits.len(), 4097);
+    for (depth, visit) in visits.iter().enumerate() {
+        assert_eq!(rt; (visit.depth, visit.total), (depth, 1));
     }
+}
+
+fn lists_deep_path(rt: &impl Abort, alloc: Global, table: &FrameTable) -> Result<(), Fail> {
+    let path = vec![in alloc; 0; 4096]?;
+    let visits = listed(rt, alloc, table, &[(&path, 1)])?;
+    is_one_path(rt, &visits);
     Ok(())
 }
 
 /// The deepest path that a stack can have.
 #[test]
 fn listing_of_a_deep_path(rt: HostRuntime) -> Result<(), Fail> {
-    let mut table = FrameTable::new(rt.alloc());
-    let frame = table.intern("f")?;
-    let mut tree = CallTree::new(rt.alloc())?;
-    let path = vec![in rt.alloc(); frame; 4096]?;
-    add_known(&rt, &table, &mut tree, &[&path])?;
-    let visits = tree.listing(&table)?;
-    assert_eq!(rt; visits.len(), 4097);
-    for (depth, visit) in visits.iter().enumerate() {
-        assert_eq!(rt; (visit.depth, visit.total), (depth, 1));
+    let table = table_of(&rt, rt.alloc(), &["f"])?;
+    lists_deep_path(&rt, rt.alloc(), &table)
+}
+
+fn adds_recursion(rt: &impl Abort, tree: &mut CallTree) -> Result<(), Fail> {
+    add(rt, tree, &[7, 7, 7], 3)?;
+    for (path, own) in [([].as_slice(), 0), (&[7], 0), (&[7, 7], 0), (&[7, 7, 7], 3)] {
+        weights_are(rt, tree, path, 3, own);
     }
     Ok(())
 }
@@ -317,9 +387,42 @@ fn listing_of_a_deep_path(rt: HostRuntime) -> Result<(), Fail> {
 #[test]
 fn recursion_counts_once(rt: HostRuntime) -> Result<(), Fail> {
     let mut tree = CallTree::new(rt.alloc())?;
-    add(&rt, &mut tree, &[7, 7, 7], 3)?;
-    for (path, own) in [([].as_slice(), 0), (&[7], 0), (&[7, 7], 0), (&[7, 7, 7], 3)] {
-        weights_are(&rt, &tree, path, 3, own);
+    adds_recursion(&rt, &mut tree)
+}
+
+/// A table keeps the names that it held, and goes on.
+fn table_goes_on(
+    rt: &impl Abort,
+    table: &mut FrameTable,
+    refused: &mut bool,
+) -> Result<(), AllocError> {
+    for (number, name) in NAMES.iter().enumerate() {
+        assert_eq!(rt; intern_again(rt, table, name, refused)?, number);
+    }
+    Ok(())
+}
+
+/// A tree and its copy have these weights.
+fn copy_goes_on(rt: &impl Abort, tree: &CallTree, refused: &mut bool) -> Result<(), Fail> {
+    let copy = copy_again(rt, tree, &[0, 3, 3], refused)?;
+    let expected = Weights {
+        len: 20,
+        totals: [40, 15, 5, 5],
+        owns: [0, 0, 0, 5],
+    };
+    assert_eq!(rt; weights_at(tree, &[0, 3, 3]), expected);
+    assert_eq!(rt; weights_at(&copy, &[0, 3, 3]), expected);
+    Ok(())
+}
+
+/// A tree keeps the weights that it held, and goes on.
+fn tree_goes_on(rt: &impl Abort, tree: &mut CallTree, refused: &mut bool) -> Result<(), Fail> {
+    for frame in 0..8 {
+        add_again(rt, tree, &[frame % 3, frame, frame], refused)?;
+    }
+    copy_goes_on(rt, tree, refused)?;
+    if *refused {
+        return Err(AllocError.into());
     }
     Ok(())
 }
@@ -328,42 +431,31 @@ fn recursion_counts_once(rt: HostRuntime) -> Result<(), Fail> {
 #[test]
 fn each_growth_refused(rt: HostRuntime) -> Result<(), Fail> {
     let mut refused = false;
-    let mut table = FrameTable::new(rt.alloc());
-    for (number, name) in NAMES.iter().enumerate() {
-        assert_eq!(rt; intern_again(&rt, &mut table, name, &mut refused)?, number);
-    }
+    table_goes_on(&rt, &mut FrameTable::new(rt.alloc()), &mut refused)?;
     let mut tree = CallTree::new(rt.alloc())?;
-    for frame in 0..8 {
-        add_again(&rt, &mut tree, &[frame % 3, frame, frame], &mut refused)?;
-    }
-    let copy = copy_again(&rt, &tree, &[0, 3, 3], &mut refused)?;
-    let expected = Weights {
-        len: 20,
-        totals: [40, 15, 5, 5],
-        owns: [0, 0, 0, 5],
-    };
-    assert_eq!(rt; weights_at(&tree, &[0, 3, 3]), expected);
-    assert_eq!(rt; weights_at(&copy, &[0, 3, 3]), expected);
-    if refused {
-        return Err(AllocError.into());
-    }
-    Ok(())
+    tree_goes_on(&rt, &mut tree, &mut refused)
 }
 
-/// The example of README.md.
-#[test]
-fn readme_example(rt: HostRuntime) -> Result<(), Fail> {
-    let alloc = rt.alloc();
-    let mut table = FrameTable::new(alloc);
+fn grows_as_in_readme(
+    rt: &impl Abort,
+    table: &mut FrameTable,
+    tree: &mut CallTree,
+) -> Result<(), Fail> {
     let main = table.intern("main")?;
     let read = table.intern("read")?;
-    let mut tree = CallTree::new(alloc)?;
     assert_eq!(rt; tree.total(&[]), 0);
     tree.add(&[main, read], 3)?;
     assert_eq!(rt; tree.total(&[]), 3);
     tree.add(&[main], 1)?;
     assert_eq!(rt; tree.total(&[main]), 4);
     assert_eq!(rt; tree.own(&[main]), 1);
-    assert_eq!(rt; tree.children(&[main])?.as_slice(), [read].as_slice());
-    Ok(())
+    children_are(rt, tree, &[main], &[read])
+}
+
+/// The example of README.md.
+#[test]
+fn readme_example(rt: HostRuntime) -> Result<(), Fail> {
+    let mut tree = CallTree::new(rt.alloc())?;
+    let mut table = FrameTable::new(rt.alloc());
+    grows_as_in_readme(&rt, &mut table, &mut tree)
 }

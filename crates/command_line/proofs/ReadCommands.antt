@@ -218,11 +218,11 @@ abbrev built_compare : Shape
 built_compare = slice_index_or built_line.subs 3 no_shape
 
 fold_known : KnowsArguments built_fold.rules
-fold_known = record { firsts = (refl, (refl, (refl, (refl, (refl, (refl, tt)))))); width = tt; ring = refl; every = tt; lines = refl; boxes = tt }
+fold_known = record { firsts = (refl, (refl, (refl, (refl, (refl, (refl, (refl, (refl, tt)))))))); width = tt; ring = refl; every = tt; lines = refl; boxes = tt }
 
 graph_known : KnowsArguments built_graph.rules
 graph_known = record {
-  firsts = (refl, (refl, (refl, (refl, (refl, (refl, (refl, (refl, tt))))))));
+  firsts = (refl, (refl, (refl, (refl, (refl, (refl, (refl, (refl, (refl, (refl, tt))))))))));
   width = refl;
   ring = refl;
   every = refl;
@@ -232,7 +232,7 @@ graph_known = record {
 
 chart_known : KnowsArguments built_chart.rules
 chart_known = record {
-  firsts = (refl, (refl, (refl, (refl, (refl, (refl, (refl, tt)))))));
+  firsts = (refl, (refl, (refl, (refl, (refl, (refl, (refl, (refl, (refl, tt)))))))));
   width = refl;
   ring = refl;
   every = tt;
@@ -242,7 +242,7 @@ chart_known = record {
 
 compare_known : KnowsArguments built_compare.rules
 compare_known = record {
-  firsts = (refl, (refl, (refl, (refl, (refl, (refl, (refl, (refl, (refl, tt)))))))));
+  firsts = (refl, (refl, (refl, (refl, (refl, (refl, (refl, (refl, (refl, (refl, (refl, tt)))))))))));
   width = refl;
   ring = refl;
   every = tt;

@@ -7,6 +7,7 @@ use Rattle.clap.specs.declared.error.kind.ErrorKind.TheVariants as kind
 use Rattle.run_options.specs.declared.choices.Naming.TheVariants.{Plain, Lines}
 use Rattle.run_options.specs.declared.choices.Pick.TheVariants.{Preferred, Named}
 use Rattle.command_line.specs.CommandLine.{command_line}
+use Rattle.run_options.specs.Filters.{everything}
 use Rattle.run_options.specs.Formats.{format_at}
 use Rattle.command_line.specs.Plans.{fault_of, plan_of, takes}
 use Rattle.run_options.specs.declared.formats.Format.TheVariants.{Folded, Pprof}
@@ -20,7 +21,7 @@ line_is_simple : is_simple_and_free command_line ≡ true
 line_is_simple = refl
 
 abbrev defaults : Options
-defaults = record { ring = 1024; pick = Preferred; naming = Plain; every = None }
+defaults = record { ring = 1024; pick = Preferred; naming = Plain; filter = everything; every = None }
 
 abbrev plan_with : View → Options → List Text → Plan
 plan_with view options files = record { view = view; options = options; format = None; files = files }
@@ -39,7 +40,7 @@ unfolding clap_on_literals
 chart_alone = refl
 
 options_after_files : plan_of (codes "graph" ∷ codes "a" ∷ codes "--ring=7" ∷ codes "b" ∷ codes "--every" ∷ codes "2" ∷ codes "--lines" ∷ codes "--type" ∷ codes "cpu" ∷ [])
-    ≡ Some (plan_with (Graph 1200) (record { ring = 7; pick = Named (codes "cpu"); naming = Lines; every = Some 2 }) (codes "a" ∷ codes "b" ∷ []))
+    ≡ Some (plan_with (Graph 1200) (record { ring = 7; pick = Named (codes "cpu"); naming = Lines; filter = everything; every = Some 2 }) (codes "a" ∷ codes "b" ∷ []))
 unfolding clap_on_literals
 options_after_files = refl
 
@@ -56,6 +57,21 @@ files_of_odd_names : plan_of (codes "fold" ∷ codes "-" ∷ codes "help" ∷ co
     ≡ Some (plan_with Fold defaults (codes "-" ∷ codes "help" ∷ codes "--ring" ∷ []))
 unfolding clap_on_literals
 files_of_odd_names = refl
+
+-- each use of a filter counts, in the order of the words
+filtered : plan_of (codes "fold" ∷ codes "--focus" ∷ codes "b" ∷ codes "--hide=c" ∷ codes "--focus=a" ∷ codes "x" ∷ [])
+    ≡ Some (plan_with Fold (record defaults { filter = record { focus = codes "b" ∷ codes "a" ∷ []; hide = codes "c" ∷ [] } }) (codes "x" ∷ []))
+unfolding clap_on_literals
+filtered = refl
+
+filtered_pairs : plan_of (codes "compare" ∷ codes "a" ∷ codes "--hide" ∷ codes "c" ∷ codes "b" ∷ [])
+    ≡ Some (plan_with Pairs (record defaults { filter = record { focus = []; hide = codes "c" ∷ [] } }) (codes "a" ∷ codes "b" ∷ []))
+unfolding clap_on_literals
+filtered_pairs = refl
+
+empty_focus : fault_of command_line (codes "graph" ∷ codes "--focus=" ∷ []) ≡ kind.InvalidValue ∷ []
+unfolding clap_on_literals
+empty_focus = refl
 
 -- a format is that of all sources, whatever their names
 profile_of_the_input : plan_of (codes "graph" ∷ codes "--format" ∷ codes "pprof" ∷ [])

@@ -3,7 +3,7 @@ use Rattle.std.specs.Prelude.{ℕ, true, false, List, [], ◌∷◌, Some, codes
 use Rattle.clap.specs.Simple.{App, Shape, new_rule, new_shape}
 use Rattle.clap.specs.Walk.{Rule, Text}
 use Rattle.clap.specs.declared.builder.action.ArgAction.TheVariants.{Append, SetTrue}
-use Rattle.clap.specs.declared.builder.value_parser.ValueParser.TheVariants.{Signed}
+use Rattle.clap.specs.declared.builder.value_parser.ValueParser.TheVariants.{NonEmptyString, Signed}
 use Rattle.run_options.specs.declared.ring_sizes.TheConstants.{LARGEST_RING}
 use Rattle.run_options.specs.declared.widths.TheConstants.{MAX_WIDTH}
 use Rattle.command_line.specs.declared.commands.TheConstants.{MOST_BETWEEN_SNAPSHOTS}
@@ -15,6 +15,11 @@ text_option name = record (new_rule name) { long = Some name; value_names = 1 }
 abbrev pub number_option : Text → ℕ → Rule
 number_option name most =
     record (text_option name) { parser = Some (Signed (pos 1) (pos most)) }
+
+-- an option that may be used several times, each time with a text that is not empty
+abbrev pub texts_option : Text → Rule
+texts_option name =
+    record (text_option name) { parser = Some NonEmptyString; action = Some Append }
 
 abbrev pub flag : Text → Rule
 flag name = record (new_rule name) { long = Some name; action = Some SetTrue }
@@ -35,6 +40,12 @@ type_option = text_option (codes "type")
 abbrev pub format_option : Rule
 format_option = text_option (codes "format")
 
+abbrev pub focus_option : Rule
+focus_option = texts_option (codes "focus")
+
+abbrev pub hide_option : Rule
+hide_option = texts_option (codes "hide")
+
 abbrev pub ring_option : Rule
 ring_option = number_option (codes "ring") LARGEST_RING
 
@@ -53,19 +64,20 @@ command name arguments = record (new_shape name) { rules = arguments }
 
 abbrev pub fold_command : Shape
 fold_command = command (codes "fold")
-    (type_option ∷ format_option ∷ ring_option ∷ lines_flag ∷ any_files (codes "file") ∷ [])
+    (type_option ∷ format_option ∷ focus_option ∷ hide_option ∷ ring_option ∷ lines_flag
+    ∷ any_files (codes "file") ∷ [])
 
 abbrev pub graph_command : Shape
-graph_command = command (codes "graph") (width_option ∷ type_option ∷ format_option ∷ ring_option
-    ∷ every_option ∷ lines_flag ∷ any_files (codes "file") ∷ [])
+graph_command = command (codes "graph") (width_option ∷ type_option ∷ format_option
+    ∷ focus_option ∷ hide_option ∷ ring_option ∷ every_option ∷ lines_flag ∷ any_files (codes "file") ∷ [])
 
 abbrev pub chart_command : Shape
-chart_command = command (codes "chart") (width_option ∷ type_option ∷ format_option ∷ ring_option
-    ∷ lines_flag ∷ any_files (codes "file") ∷ [])
+chart_command = command (codes "chart") (width_option ∷ type_option ∷ format_option
+    ∷ focus_option ∷ hide_option ∷ ring_option ∷ lines_flag ∷ any_files (codes "file") ∷ [])
 
 abbrev pub compare_command : Shape
-compare_command = command (codes "compare") (width_option ∷ type_option ∷ format_option ∷ ring_option
-    ∷ boxes_flag ∷ lines_flag ∷ one_file (codes "before") ∷ one_file (codes "after") ∷ [])
+compare_command = command (codes "compare") (width_option ∷ type_option ∷ format_option
+    ∷ focus_option ∷ hide_option ∷ ring_option ∷ boxes_flag ∷ lines_flag ∷ one_file (codes "before") ∷ one_file (codes "after") ∷ [])
 
 -- the words begin after the program's name, one of the commands is required, and the version can be asked for before it
 abbrev pub command_line : App

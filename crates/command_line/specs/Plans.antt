@@ -16,6 +16,7 @@ use Rattle.run_options.specs.declared.choices.Naming.{Naming}
 use Rattle.run_options.specs.declared.choices.Naming.TheVariants.{Plain, Lines}
 use Rattle.run_options.specs.declared.choices.Pick.{Pick}
 use Rattle.run_options.specs.declared.choices.Pick.TheVariants.{Preferred, Named}
+use Rattle.run_options.specs.declared.filters.Filter.{Filter}
 use Rattle.run_options.specs.declared.formats.Format.{Format}
 use Rattle.command_line.specs.CommandLine.{command_line}
 use Rattle.run_options.specs.declared.options.Options.{Options}
@@ -48,6 +49,13 @@ pick_of entries = option_map_or Named (first_of (codes "type") entries) Preferre
 abbrev pub naming_of : List Row → Naming
 naming_of entries = if is_set (codes "lines") entries then Lines else Plain
 
+-- the samples that the words ask for
+abbrev pub filter_of : List Row → Filter
+filter_of entries = record {
+  focus = values_at (codes "focus") entries;
+  hide = values_at (codes "hide") entries;
+}
+
 -- the format of all sources, if the words set one; and what they set is a format
 abbrev pub asked_format : List Row → Option Format
 asked_format entries = option_and_then named_format (first_of (codes "format") entries)
@@ -61,6 +69,7 @@ options_of entries = record {
   ring = unwrap_or (number_at (codes "ring") entries) 1024;
   pick = pick_of entries;
   naming = naming_of entries;
+  filter = filter_of entries;
   every = number_at (codes "every") entries;
 }
 

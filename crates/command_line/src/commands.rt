@@ -2,9 +2,10 @@
 ghost use Rattle.std.specs.Prelude.{◌≡◌, IfOk, codes};
 ghost use Rattle.clap.specs.Words.{app_of, rule_of};
 ghost use Rattle.command_line.specs.CommandLine.{chart_command, command_line, compare_command, fold_command, graph_command};
-ghost use Rattle.command_line.specs.CommandLine.{any_files, boxes_flag, every_option, format_option, lines_flag, one_file, ring_option, type_option, width_option};
+ghost use Rattle.command_line.specs.CommandLine.{any_files, boxes_flag, every_option, focus_option, format_option, hide_option, lines_flag, one_file, ring_option, type_option, width_option};
 ghost use Rattle.command_line.specs.checked.Apps.{as_app};
 
+use clap::builder::ValueParser;
 use clap::{Arg, ArgAction, Command, value_parser};
 use run_options::{LARGEST_RING, MAX_WIDTH};
 use std::alloc::{AllocError, Global};
@@ -58,6 +59,8 @@ fn fold_command<'a>(alloc: Global) -> Result<Command<'a>, AllocError>
         .after_help(FOLD_EXAMPLE)
         .arg(type_option(alloc))?
         .arg(format_option(alloc))?
+        .arg(focus_option(alloc))?
+        .arg(hide_option(alloc))?
         .arg(ring_option(alloc))?
         .arg(lines_flag(alloc))?
         .arg(files(alloc))
@@ -72,6 +75,8 @@ fn graph_command<'a>(alloc: Global) -> Result<Command<'a>, AllocError>
         .arg(width_option(alloc))?
         .arg(type_option(alloc))?
         .arg(format_option(alloc))?
+        .arg(focus_option(alloc))?
+        .arg(hide_option(alloc))?
         .arg(ring_option(alloc))?
         .arg(every_option(alloc))?
         .arg(lines_flag(alloc))?
@@ -87,6 +92,8 @@ fn chart_command<'a>(alloc: Global) -> Result<Command<'a>, AllocError>
         .arg(width_option(alloc))?
         .arg(type_option(alloc))?
         .arg(format_option(alloc))?
+        .arg(focus_option(alloc))?
+        .arg(hide_option(alloc))?
         .arg(ring_option(alloc))?
         .arg(lines_flag(alloc))?
         .arg(files(alloc))
@@ -101,6 +108,8 @@ fn compare_command<'a>(alloc: Global) -> Result<Command<'a>, AllocError>
         .arg(width_option(alloc))?
         .arg(type_option(alloc))?
         .arg(format_option(alloc))?
+        .arg(focus_option(alloc))?
+        .arg(hide_option(alloc))?
         .arg(ring_option(alloc))?
         .arg(boxes_flag(alloc))?
         .arg(lines_flag(alloc))?
@@ -133,6 +142,30 @@ fn format_option<'a>(alloc: Global) -> Arg<'a>
         .long("format")
         .value_name("FORMAT")
         .help("Format of every source, folded or pprof [default: by the name]")
+}
+
+fn focus_option<'a>(alloc: Global) -> Arg<'a>
+    ensures { rule_of result ≡ focus_option }
+{
+    Arg::new(alloc, "focus")
+        .long("focus")
+        .value_name("NAME")
+        .action(ArgAction::Append)
+        .value_parser(ValueParser::NonEmptyString)
+        .help_heading("Filters")
+        .help("Keep only samples with a frame whose name has this text")
+}
+
+fn hide_option<'a>(alloc: Global) -> Arg<'a>
+    ensures { rule_of result ≡ hide_option }
+{
+    Arg::new(alloc, "hide")
+        .long("hide")
+        .value_name("NAME")
+        .action(ArgAction::Append)
+        .value_parser(ValueParser::NonEmptyString)
+        .help_heading("Filters")
+        .help("Leave out samples with a frame whose name has this text")
 }
 
 fn ring_option<'a>(alloc: Global) -> Arg<'a>

@@ -1,3 +1,4 @@
 //! Worked command lines.
 mod examples;
+mod filters;
 mod words;

@@ -4,7 +4,7 @@ ghost use Rattle.clap.specs.Walk.{texts};
 ghost use Rattle.clap.specs.Words.{kind_of, subcommand_rows_of};
 ghost use Rattle.clap.specs.declared.error.kind.ErrorKind.TheVariants.{InvalidValue};
 ghost use Rattle.command_line.specs.CommandLine.{command_line};
-ghost use Rattle.command_line.specs.Plans.{IsComparison, IsFaultAmong, asked_format, compared_view, default_plan, entered_plan, fault_of, files_of, format_fault, knows_format, naming_of, number_at, options_of, pick_of, plan_of, takes, values_at, view_of, width_of};
+ghost use Rattle.command_line.specs.Plans.{IsComparison, IsFaultAmong, asked_format, compared_view, default_plan, entered_plan, fault_of, files_of, filter_of, format_fault, knows_format, naming_of, number_at, options_of, pick_of, plan_of, takes, values_at, view_of, width_of};
 ghost use Rattle.command_line.specs.checked.Entries.{IsFaultOf, IsFlagAt, IsNumberAt, IsRead, entries_of};
 ghost use Rattle.command_line.specs.declared.commands.TheConstants.{MOST_BETWEEN_SNAPSHOTS};
 ghost use Rattle.command_line.specs.declared.plans.PlanFault.TheVariants.{OutOfMemory};
@@ -15,7 +15,7 @@ use crate::commands::command_line;
 use crate::plans::{Plan, PlanFault, View};
 use clap::error::ErrorKind;
 use clap::{ArgMatches, Error};
-use run_options::{Format, Naming, Options, Pick, RingSize, Width};
+use run_options::{Filter, Format, Naming, Options, Pick, RingSize, Width};
 use stack_core::{Names, Text};
 use std::alloc::{AllocError, Global};
 
@@ -67,6 +67,7 @@ pub fn plan_without_words(alloc: Global) -> Plan
             ring: RingSize::of(DEFAULT_RING).unwrap(),
             pick: Pick::Preferred,
             naming: Naming::Plain,
+            filter: Filter::everything(alloc),
             every: None,
         },
         format: None,
@@ -153,6 +154,7 @@ fn options(alloc: Global, entries: &ArgMatches<'_>) -> Result<Options, AllocErro
         ring: ring(entries),
         pick: pick(alloc, entries)?,
         naming: naming(entries),
+        filter: filter(alloc, entries)?,
         every: every(entries),
     })
 }
@@ -183,6 +185,24 @@ fn naming(entries: &ArgMatches<'_>) -> Naming
     } else {
         Naming::Plain
     }
+}
+
+fn filter(alloc: Global, entries: &ArgMatches<'_>) -> Result<Filter, AllocError>
+    ensures { IfOk result (λ filter. filter ≡ filter_of (entries_of entries.now)) }
+{
+    Ok(Filter {
+        focus: values(alloc, entries, "focus")?,
+        hide: values(alloc, entries, "hide")?,
+    })
+}
+
+// All values of an argument.
+fn values(alloc: Global, entries: &ArgMatches<'_>, id: &str) -> Result<Names, AllocError>
+    ensures { IfOk result (λ values. values ≡ values_at id.now (entries_of entries.now)) }
+{
+    let mut values = Vec::new(alloc);
+    add_values(&mut values, entries, id)?;
+    Names::from_strs(alloc, values.as_slice())
 }
 
 fn every(entries: &ArgMatches<'_>) -> Option<u64>

@@ -4,13 +4,15 @@ use Rattle.std.specs.Ordering.{is_lt}
 use Rattle.std.specs.List.{AllByRecursion}
 use Rattle.std.proofs.lemmas.List.Sums.{sum_by-cons}
 use Rattle.std.proofs.lemmas.Bool.{cases_lt, cond-true, le-leb, leb-true}
-use Rattle.stack_core.specs.declared.samples.Sample.{Sample}
-use Rattle.flame_layout.specs.Timeline.{Stack, total_weight}
+use Rattle.sample_tables.specs.declared.samples.Sample.{Sample}
+use Rattle.merged_stacks.specs.Timeline.{Stack, total_weight}
 use Rattle.flame_layout.specs.Chart.{names_shared, begins_alike, run_at}
-use Rattle.flame_layout.specs.Graph.{stack_cmp, insert_by_stack, sorted_by_stack}
+use Rattle.merged_stacks.specs.Order.{stack_cmp}
+use Rattle.flame_layout.specs.Graph.{insert_by_stack, sorted_by_stack}
 use Rattle.flame_layout.proofs.Shared.{IsAlike, alike_from_shared, shared_from_alike}
 use Rattle.flame_layout.proofs.Order.{Le, Le-trans, not_below, below, between_alike}
-use Rattle.flame_layout.proofs.Runs.{total_weight-cons, run_at-alike, run_at-apart}
+use Rattle.merged_stacks.proofs.Timelines.{total_weight-cons}
+use Rattle.flame_layout.proofs.Runs.{run_at-alike, run_at-apart}
 
 -- each element passes, and a weaker test of each
 pub each-weaker : {X : Type 0} (P Q : X → Type 0) → ((x : X) → P x → Q x) → (xs : List X) → AllByRecursion P xs → AllByRecursion Q xs

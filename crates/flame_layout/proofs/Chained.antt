@@ -8,8 +8,8 @@ use Rattle.call_tree.specs.CallTree.{Tree}
 use Rattle.call_tree.specs.FrameTable.{HasDistinctNames}
 use Rattle.call_tree.proofs.Threads.{Chained}
 use Rattle.call_tree.specs.Listing.{named, visit_of as tree_visit, AreIn}
-use Rattle.stack_core.specs.declared.samples.Sample.{Sample}
-use Rattle.flame_layout.specs.Timeline.{Stack}
+use Rattle.sample_tables.specs.declared.samples.Sample.{Sample}
+use Rattle.merged_stacks.specs.Timeline.{Stack}
 use Rattle.flame_layout.specs.Chart.{names_shared}
 use Rattle.flame_layout.specs.Paths.{paths_after, paths_of}
 use Rattle.flame_layout.specs.checked.Paired.{next_path, visit_paths}

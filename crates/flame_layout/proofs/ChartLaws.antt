@@ -2,13 +2,14 @@
 use Rattle.std.proofs.Common.{◌≡◌, ℕ, zero, suc, ◌+◌, ◌-◌, ◌≤◌, ◌<◌, List, [], ◌∷◌, ◌++◌, length, map, take, sym, ◌∙◌, ap, subst, refl, arith, ◌⊎◌, inl, inr, ⊎_elim, Option, Some, None, Contains}
 use Rattle.std.specs.List.{AllByRecursion, range_with_len, last_or}
 use Rattle.std.proofs.lemmas.Bool.{cases_lt, cases_eq}
-use Rattle.stack_core.specs.declared.samples.Sample.{Sample}
+use Rattle.sample_tables.specs.declared.samples.Sample.{Sample}
 use Rattle.flame_layout.specs.declared.boxes.SpanBox.{SpanBox}
-use Rattle.flame_layout.specs.Timeline.{Stack, total_weight}
+use Rattle.merged_stacks.specs.Timeline.{Stack, total_weight}
 use Rattle.flame_layout.specs.Chart.{names_shared, run_at, own_weight, box_name, box_at, boxes_from, first_new, boxes_after, chart_of}
 use Rattle.flame_layout.specs.Runs.{stacks_of, first_stack, IsApart, IsLongestRun, run_box, IsOfRun}
 use Rattle.flame_layout.proofs.Shared.{IsAlike-sym, alike_from_shared, shared_from_alike}
-use Rattle.flame_layout.proofs.Runs.{total_weight-cons, run_at-alike, run_at-apart, names_shared-self}
+use Rattle.merged_stacks.proofs.Timelines.{total_weight-cons}
+use Rattle.flame_layout.proofs.Runs.{run_at-alike, run_at-apart, names_shared-self}
 
 -- an element stands in the list
 abbrev pub In : {X : Type 0} → X → List X → Type 0

@@ -4,11 +4,11 @@ use Rattle.std.specs.List.{zip}
 use Rattle.std.proofs.lemmas.List.{drop_more, drop_all, append-nil, get_or_at, get_or-map, length-map, length-append}
 use Rattle.std.proofs.lemmas.Slice.Zip.{firsts-zip, seconds-zip, AllZip-long}
 use Rattle.std.proofs.lemmas.Bool.{lt-ltb, ltb-true}
-use Rattle.stack_core.specs.declared.samples.Sample.{Sample}
+use Rattle.sample_tables.specs.declared.samples.Sample.{Sample}
 use Rattle.flame_layout.specs.declared.boxes.SpanBox.{SpanBox}
 use Rattle.flame_layout.specs.declared.boxes.PairRow.{PairRow}
 use Rattle.flame_layout.specs.declared.boxes.ComparedBox.{ComparedBox}
-use Rattle.flame_layout.specs.Timeline.{Stack, total_weight, drawn}
+use Rattle.merged_stacks.specs.Timeline.{Stack, total_weight, drawn}
 use Rattle.flame_layout.specs.Graph.{sorted_by_stack, graph_of}
 use Rattle.flame_layout.specs.Paths.{total_at, own_at, paths_of, visit_at, boxes_of_visits}
 use Rattle.flame_layout.specs.Comparison.{row_of, comparison_of, compared_box, compared_boxes_of}

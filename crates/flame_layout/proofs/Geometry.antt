@@ -4,13 +4,14 @@ use Rattle.std.specs.List.{AllByRecursion, range_with_len}
 use Rattle.std.proofs.lemmas.List.{append_assoc, append-nil}
 use Rattle.std.proofs.lemmas.List.Sums.{sum_by-append}
 use Rattle.std.proofs.lemmas.Bool.{cases_lt}
-use Rattle.stack_core.specs.declared.samples.Sample.{Sample}
+use Rattle.sample_tables.specs.declared.samples.Sample.{Sample}
 use Rattle.flame_layout.specs.declared.boxes.SpanBox.{SpanBox}
-use Rattle.flame_layout.specs.Timeline.{Stack, total_weight}
+use Rattle.merged_stacks.specs.Timeline.{Stack, total_weight}
 use Rattle.flame_layout.specs.Chart.{names_shared, run_at, box_at, boxes_from, first_new, boxes_after, chart_of}
 use Rattle.flame_layout.specs.Runs.{last_stack, first_stack, IsApart, IsLongestRun, StandsBefore, IsListed, LiesInside, DontOverlap}
 use Rattle.flame_layout.proofs.Shared.{IsAlike, IsAlike-sym, IsAlike-trans, alike_from_shared, shared_from_alike}
-use Rattle.flame_layout.proofs.Runs.{total_weight-cons, run_at-alike, run_at-apart, run_at-same, names_shared-self, weight_of}
+use Rattle.merged_stacks.proofs.Timelines.{total_weight-cons, weight_of}
+use Rattle.flame_layout.proofs.Runs.{run_at-alike, run_at-apart, run_at-same, names_shared-self}
 use Rattle.flame_layout.proofs.Ascending.{IsPositive, each-weaker}
 use Rattle.flame_layout.proofs.ChartLaws.{splits}
 

@@ -11,20 +11,19 @@ use Rattle.call_tree.specs.PathSums.{begins_with, total_of}
 use Rattle.call_tree.specs.FrameTable.{HasDistinctNames}
 use Rattle.call_tree.specs.declared.listing.Visit.{Visit as TreeVisit}
 use Rattle.call_tree.specs.Listing.{named, visit_of as tree_visit, HasNumbersOf, IsListing as IsTreeListing}
-use Rattle.stack_core.specs.declared.samples.Sample.{Sample}
+use Rattle.sample_tables.specs.declared.samples.Sample.{Sample}
 use Rattle.flame_layout.specs.declared.boxes.SpanBox.{SpanBox}
-use Rattle.flame_layout.specs.Timeline.{Stack, total_weight as timeline_total, drawn}
+use Rattle.merged_stacks.specs.Timeline.{Stack, total_weight as timeline_total, drawn}
 use Rattle.flame_layout.specs.Chart.{box_name, box_at, boxes_from, boxes_after, chart_of, first_new, run_at}
 use Rattle.flame_layout.specs.Graph.{sorted_by_stack, graph_of}
 use Rattle.flame_layout.specs.checked.Listed.{listed_box, listed_boxes}
 use Rattle.flame_layout.specs.Paths.{boxes_of_visits, SameOwn, tree_samples}
 use Rattle.flame_layout.proofs.Walked.{own_weight-le}
-use Rattle.flame_layout.proofs.Timelines.{total_weight-drawn, drawn-nil}
+use Rattle.merged_stacks.proofs.Timelines.{total_weight-drawn, drawn-nil, weight_of}
 use Rattle.flame_layout.proofs.Ascending.{sorted-sum}
 use Rattle.flame_layout.proofs.Geometry.{each-join, each-range, all_from_each, chart-within}
 use Rattle.flame_layout.proofs.Sums.{listing_graph, same_graph, same_sums}
 use Rattle.flame_layout.proofs.TreeSamples.{InTable, named_visit, named_listing, entries_named, path_in, sampled}
-use Rattle.flame_layout.proofs.Runs.{weight_of}
 
 -- the box that comes next
 pub listed_next : (P : SpanBox → Type 0) (names : List (List ℕ)) (visits : List TreeVisit) (boxes : List SpanBox) (start i : ℕ) (d : TreeVisit) → i < length visits →

@@ -13,21 +13,21 @@ use Rattle.call_tree.specs.FrameTable.{HasDistinctNames, with_name}
 use Rattle.call_tree.specs.declared.listing.Visit.{Visit as TreeVisit}
 use Rattle.call_tree.specs.Listing.{named, HasNumbersOf, IsListing as IsTreeListing, AreIn}
 use Rattle.call_tree.proofs.TreeSums.{total_weight-tree_of, own_weight-tree_of}
-use Rattle.stack_core.specs.declared.samples.Sample.{Sample}
-use Rattle.stack_core.specs.Ledgers.{sample_at}
-use Rattle.flame_layout.specs.Timeline.{total_weight, drawn}
+use Rattle.sample_tables.specs.declared.samples.Sample.{Sample}
+use Rattle.sample_tables.specs.Rows.{sample_at}
+use Rattle.merged_stacks.specs.Timeline.{total_weight, drawn}
 use Rattle.flame_layout.specs.Graph.{sorted_by_stack}
 use Rattle.flame_layout.specs.Paths.{total_at, own_at, paths_of, IsRising}
 use Rattle.flame_layout.specs.Comparison.{row_of, comparison_of}
-use Rattle.flame_layout.specs.checked.Paired.{Grows, Holds, pair_row, visit_paths}
+use Rattle.merged_stacks.specs.checked.Ranks.{Grows}
+use Rattle.flame_layout.specs.checked.Paired.{Holds, pair_row, visit_paths}
 use Rattle.flame_layout.proofs.PathWords.{path_total, visit_of, visit_at-is, total_at-is}
 use Rattle.flame_layout.proofs.Sums.{IsListing, listing_paths}
 use Rattle.flame_layout.proofs.Rising.{Among}
 use Rattle.flame_layout.proofs.ChartLaws.{In}
 use Rattle.flame_layout.proofs.TreeSamples.{IsNamed, sampled, path_in, total_named, own_named, has_numbers, named_visit, rising_named, paths_of_visits, in_paths, paths_in, among_named, each_visit}
-use Rattle.flame_layout.proofs.Timelines.{no_sample}
+use Rattle.merged_stacks.proofs.Timelines.{no_sample, weight_of}
 use Rattle.flame_layout.proofs.Chained.{PathsGoOn, chained_paths, visit_paths_are, numbers_chained}
-use Rattle.flame_layout.proofs.Runs.{weight_of}
 
 -- ---- a longer table
 

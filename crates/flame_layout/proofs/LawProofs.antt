@@ -5,8 +5,8 @@ use Rattle.std.specs.List.{AllByRecursion}
 use Rattle.std.proofs.lemmas.List.Sorted.{sum_by-IsPermutation}
 use Rattle.std.proofs.lemmas.List.Sums.{sum_by-append}
 use Rattle.std.proofs.Math.Nat.{div-eq_of_eq-mul_left, div-mul-le_self, le-div_iff_mul-le, mul-le-mul_left}
-use Rattle.stack_core.specs.declared.samples.Sample.{Sample}
-use Rattle.flame_layout.specs.Timeline.{Stack, total_weight, drawn}
+use Rattle.sample_tables.specs.declared.samples.Sample.{Sample}
+use Rattle.merged_stacks.specs.Timeline.{Stack, total_weight, drawn}
 use Rattle.flame_layout.specs.Chart.{begins_alike, chart_of}
 use Rattle.flame_layout.specs.Graph.{sorted_by_stack, graph_of}
 use Rattle.flame_layout.specs.Paths.{total_at, visit_at, paths_of, boxes_of_visits, SameOwn}

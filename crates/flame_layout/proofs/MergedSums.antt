@@ -15,18 +15,19 @@ use Rattle.flame_layout.specs.declared.walks.OpenRun.{OpenRun}
 use Rattle.flame_layout.specs.declared.boxes.SpanBox.{SpanBox}
 use Rattle.flame_layout.specs.checked.Walk.{IsWalk, seen}
 use Rattle.std.proofs.lemmas.Bool.Decides.{same_from_decides}
-use Rattle.stack_core.specs.declared.samples.Sample.{Sample}
-use Rattle.flame_layout.specs.Timeline.{Stack, drawn, total_weight}
+use Rattle.sample_tables.specs.declared.samples.Sample.{Sample}
+use Rattle.merged_stacks.specs.Timeline.{Stack, drawn, total_weight}
 use Rattle.flame_layout.specs.Chart.{chart_of}
-use Rattle.flame_layout.specs.Graph.{stack_cmp, insert_by_stack, sorted_by_stack, graph_of}
-use Rattle.flame_layout.specs.Paths.{weighed, SameOwn}
-use Rattle.flame_layout.specs.Merged.{Weighed, sum_at, merged, merged_samples, are_in_order}
+use Rattle.merged_stacks.specs.Order.{stack_cmp}
+use Rattle.flame_layout.specs.Graph.{insert_by_stack, sorted_by_stack, graph_of}
+use Rattle.merged_stacks.specs.Merged.{weighed, Weighed, sum_at, merged, merged_samples, are_in_order}
+use Rattle.flame_layout.specs.Paths.{SameOwn}
 use Rattle.flame_layout.proofs.Order.{stack_same, stack_total}
 use Rattle.flame_layout.proofs.PathWords.{path_own, own_at-is}
 use Rattle.flame_layout.proofs.Visits.{Decides-stack, path_own-cons}
 use Rattle.flame_layout.proofs.TreeSamples.{equal_is}
 use Rattle.flame_layout.proofs.Sums.{same_graph, same_sums}
-use Rattle.flame_layout.proofs.MergedRows.{sum_at-cons, sum_at-nil, sum_at-merged, merged-same, first, second}
+use Rattle.merged_stacks.proofs.MergedRows.{sum_at-cons, sum_at-nil, sum_at-merged, merged-same, first, second}
 
 pub Decides-order : (a b : Stack) → Decides (is_eq (stack_cmp a b)) (a ≡ b)
 Decides-order a b = ((λ e. stack_same a b (equal_is (stack_cmp a b) e)), (λ e. ap is_eq (subst (λ c. stack_cmp a c ≡ Equal) e (tied_itself stack_total a))))

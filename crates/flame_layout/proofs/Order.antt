@@ -7,8 +7,8 @@ use Rattle.std.specs.Cmp.{IsTotalOrder}
 use Rattle.std.specs.Cmp.Lexicographic.{slice_cmp}
 use Rattle.std.specs.FinMap.{nat_cmp-IsAntisymmetric, slice_cmp-IsAntisymmetric}
 use Rattle.std.proofs.lemmas.Cmp.{lists_total, nat_list_cmp_total}
-use Rattle.flame_layout.specs.Timeline.{Stack}
-use Rattle.flame_layout.specs.Graph.{stack_cmp}
+use Rattle.merged_stacks.specs.Timeline.{Stack}
+use Rattle.merged_stacks.specs.Order.{stack_cmp}
 use Rattle.flame_layout.proofs.Shared.{IsAlike, head_of, tail_of}
 
 pub stack_total : IsTotalOrder stack_cmp

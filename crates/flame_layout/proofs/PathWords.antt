@@ -6,10 +6,11 @@ use Rattle.std.specs.Cmp.Lexicographic.{pointwise}
 use Rattle.std.proofs.lemmas.List.Sums.{sum_by-cons}
 use Rattle.std.proofs.lemmas.Bool.{le-leb, lt-leb, cases_lt}
 use Rattle.call_tree.specs.PathSums.{begins_with, total_of, own_of}
-use Rattle.stack_core.specs.declared.samples.Sample.{Sample}
-use Rattle.flame_layout.specs.Timeline.{Stack}
+use Rattle.sample_tables.specs.declared.samples.Sample.{Sample}
+use Rattle.merged_stacks.specs.Timeline.{Stack}
 use Rattle.flame_layout.specs.Chart.{names_shared, begins_alike}
-use Rattle.flame_layout.specs.Paths.{weighed, total_at, own_at, Visit, visit_at}
+use Rattle.merged_stacks.specs.Merged.{weighed}
+use Rattle.flame_layout.specs.Paths.{total_at, own_at, Visit, visit_at}
 
 -- the sum of the weights of the samples whose stack begins with the path
 abbrev pub path_total : Stack → List Sample → ℕ

@@ -2,11 +2,11 @@
 use Rattle.std.proofs.Common.{◌≡◌, ℕ, List, [], ◌∷◌, map, refl}
 use Rattle.std.specs.Prelude.{codes}
 use Rattle.call_tree.specs.PathSums.{total_of, own_of}
-use Rattle.stack_core.specs.declared.samples.Sample.{Sample}
+use Rattle.sample_tables.specs.declared.samples.Sample.{Sample}
 use Rattle.flame_layout.specs.declared.boxes.SpanBox.{SpanBox}
 use Rattle.flame_layout.specs.declared.boxes.PlacedBox.{PlacedBox}
 use Rattle.flame_layout.specs.declared.boxes.PairRow.{PairRow}
-use Rattle.flame_layout.specs.Timeline.{Stack, timeline}
+use Rattle.merged_stacks.specs.Timeline.{Stack, timeline}
 use Rattle.flame_layout.specs.Chart.{chart_of}
 use Rattle.flame_layout.specs.Graph.{graph_of}
 use Rattle.flame_layout.specs.Edges.{placed_at}

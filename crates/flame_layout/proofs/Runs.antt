@@ -3,16 +3,10 @@ use Rattle.std.proofs.Common.{◌≡◌, ℕ, ◌+◌, ◌≤◌, ◌<◌, List,
 use Rattle.std.specs.List.{take_while}
 use Rattle.std.proofs.lemmas.List.Sums.{take_while-cons, sum_by-cons}
 use Rattle.std.proofs.lemmas.Bool.{cond-true, cond-false, lt-leb, le-leb}
-use Rattle.stack_core.specs.declared.samples.Sample.{Sample}
-use Rattle.flame_layout.specs.Timeline.{Stack, total_weight}
+use Rattle.sample_tables.specs.declared.samples.Sample.{Sample}
+use Rattle.merged_stacks.specs.Timeline.{Stack, total_weight}
 use Rattle.flame_layout.specs.Chart.{names_shared, begins_alike, run_at, own_weight}
 use Rattle.flame_layout.proofs.Shared.{IsAlike, IsAlike-refl, same_test, shared_from_alike}
-
-abbrev pub weight_of : Sample → ℕ
-weight_of sample = sample.weight
-
-pub total_weight-cons : (s : Sample) (xs : List Sample) → total_weight (s ∷ xs) ≡ s.weight + total_weight xs
-total_weight-cons s xs = sum_by-cons weight_of s xs
 
 -- what a sample gives to the own weight at a depth
 abbrev pub own_of_one : ℕ → Sample → ℕ

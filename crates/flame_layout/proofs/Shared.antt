@@ -4,7 +4,7 @@ use Rattle.std.specs.Str.{bytes_eq}
 use Rattle.std.proofs.lemmas.Slice.Eq.{bytes_eq-Decides}
 use Rattle.std.proofs.lemmas.Bool.Decides.{same_from_decides}
 use Rattle.std.proofs.lemmas.Bool.{leb-true, le-leb}
-use Rattle.flame_layout.specs.Timeline.{Stack}
+use Rattle.merged_stacks.specs.Timeline.{Stack}
 use Rattle.flame_layout.specs.Chart.{names_shared}
 
 -- both have that many names, and the same

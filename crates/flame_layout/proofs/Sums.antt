@@ -5,8 +5,8 @@ use Rattle.std.specs.Str.{bytes_eq}
 use Rattle.std.specs.Cmp.Lexicographic.{pointwise}
 use Rattle.std.proofs.lemmas.List.Sums.{sum_by-cons}
 use Rattle.std.proofs.lemmas.Bool.{lt-ltb}
-use Rattle.stack_core.specs.declared.samples.Sample.{Sample}
-use Rattle.flame_layout.specs.Timeline.{Stack, is_drawn, drawn}
+use Rattle.sample_tables.specs.declared.samples.Sample.{Sample}
+use Rattle.merged_stacks.specs.Timeline.{Stack, is_drawn, drawn}
 use Rattle.flame_layout.specs.Chart.{begins_alike}
 use Rattle.flame_layout.specs.Graph.{sorted_by_stack, graph_of}
 use Rattle.flame_layout.specs.Paths.{paths_of, Visit, boxes_of_visits, IsRising, SameOwn}

@@ -21,11 +21,11 @@ use Rattle.call_tree.specs.CallTree.{Tree, own_weight, total_weight}
 use Rattle.call_tree.specs.PathSums.{begins_with, total_of, own_of}
 use Rattle.call_tree.specs.FrameTable.{HasDistinctNames}
 use Rattle.call_tree.specs.Listing.{named, HasNumbersOf}
-use Rattle.stack_core.specs.declared.samples.Sample.{Sample}
-use Rattle.flame_layout.specs.Timeline.{Stack}
-use Rattle.flame_layout.specs.Paths.{weighed, total_at, own_at, tree_samples}
-use Rattle.flame_layout.specs.Paths.{Visit, IsRising}
-use Rattle.flame_layout.specs.Graph.{stack_cmp}
+use Rattle.sample_tables.specs.declared.samples.Sample.{Sample}
+use Rattle.merged_stacks.specs.Timeline.{Stack}
+use Rattle.merged_stacks.specs.Merged.{weighed}
+use Rattle.flame_layout.specs.Paths.{total_at, own_at, tree_samples, Visit, IsRising}
+use Rattle.merged_stacks.specs.Order.{stack_cmp}
 use Rattle.flame_layout.proofs.Order.{irreflexive}
 use Rattle.flame_layout.proofs.ChartLaws.{In}
 use Rattle.flame_layout.proofs.Rising.{Among}

@@ -7,9 +7,9 @@ use Rattle.std.proofs.lemmas.List.Sums.{sum_by-cons, sum_by-append}
 use Rattle.std.proofs.lemmas.List.{length-take-le, take_all, take-take, append_assoc, map-append, get_or-take}
 use Rattle.std.proofs.lemmas.Bool.{cases_lt, cases_eq, cond-true}
 use Rattle.std.proofs.lemmas.Slice.Eq.{bytes_eq-Decides, slice_eq-Decides}
-use Rattle.stack_core.specs.declared.samples.Sample.{Sample}
+use Rattle.sample_tables.specs.declared.samples.Sample.{Sample}
 use Rattle.flame_layout.specs.declared.boxes.SpanBox.{SpanBox}
-use Rattle.flame_layout.specs.Timeline.{Stack, total_weight}
+use Rattle.merged_stacks.specs.Timeline.{Stack, total_weight}
 use Rattle.flame_layout.specs.Chart.{names_shared, begins_alike, run_at, own_weight, box_name, box_at, boxes_from, boxes_after, chart_of}
 use Rattle.flame_layout.specs.Paths.{paths_from, paths_after, paths_of, Visit, boxes_of_visits}
 use Rattle.flame_layout.proofs.PathWords.{path_total, path_own, visit_of}

@@ -7,7 +7,7 @@ use Rattle.std.proofs.lemmas.List.Sums.{common_prefix_len-drop_yes, common_prefi
 use Rattle.std.proofs.lemmas.List.{get_or_at, get_or-take, get_or-map, length_push, take-take, take_at, drop_more, drop_all, length-map, length-drop, reverse-append}
 use Rattle.std.proofs.lemmas.List.FromFn.{length-enumerate_from, get_or-enumerate_from}
 use Rattle.flame_layout.specs.declared.walks.OpenRun.{OpenRun}
-use Rattle.flame_layout.specs.Timeline.{Stack}
+use Rattle.merged_stacks.specs.Timeline.{Stack}
 use Rattle.flame_layout.specs.Chart.{names_shared}
 use Rattle.flame_layout.specs.checked.Walk.{Run, seen, names_of, box_of_run, boxes_of_runs}
 use Rattle.flame_layout.specs.declared.boxes.SpanBox.{SpanBox}

@@ -4,14 +4,15 @@ use Rattle.std.specs.List.{range_with_len}
 use Rattle.std.proofs.lemmas.List.{same_lists, get_or-take, get_or-drop, get_or_append_left, get_or-append_right, get_or-set_same, get_or-set_other, length-set, length-append, length-take-le, length-map, length-drop, reverse-append, reverse-reverse, append-nil, get_or-map, get_or_default, map-set, take-map}
 use Rattle.std.proofs.lemmas.List.FromFn.{length-map-range_with_len, get_or-map-range_with_len}
 use Rattle.std.proofs.lemmas.Bool.{cases_lt, cases_eq, cond-true, cond-false, eq-eqb, ne_eqb}
-use Rattle.stack_core.specs.declared.samples.Sample.{Sample}
+use Rattle.sample_tables.specs.declared.samples.Sample.{Sample}
 use Rattle.flame_layout.specs.declared.boxes.SpanBox.{SpanBox}
 use Rattle.flame_layout.specs.declared.walks.OpenRun.{OpenRun}
-use Rattle.flame_layout.specs.Timeline.{Stack, total_weight}
+use Rattle.merged_stacks.specs.Timeline.{Stack, total_weight}
 use Rattle.flame_layout.specs.Chart.{names_shared, box_name, run_at, own_weight, box_at, boxes_from, boxes_after, chart_of}
 use Rattle.flame_layout.specs.checked.Walk.{Run, run_of, runs_at_front, boxes_behind, box_of_run, boxes_of_runs, new_run, seen, names_of, shared_runs_of, IsWalk}
 use Rattle.flame_layout.proofs.Shared.{IsAlike, alike_from_shared}
-use Rattle.flame_layout.proofs.Runs.{total_weight-cons, own_of_one, own_weight-cons, run_at-alike, run_at-apart, run_at-same, names_shared-self}
+use Rattle.merged_stacks.proofs.Timelines.{total_weight-cons}
+use Rattle.flame_layout.proofs.Runs.{own_of_one, own_weight-cons, run_at-alike, run_at-apart, run_at-same, names_shared-self}
 use Rattle.flame_layout.proofs.WalkSteps.{boxes_of_runs-length, boxes_of_runs-at, names_of-length, names_of-at}
 
 -- the runs that go on under a sample: those of its first `keep` depths

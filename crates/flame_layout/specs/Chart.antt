@@ -2,9 +2,9 @@
 use Rattle.std.specs.Prelude.{ℕ, zero, suc, ◌+◌, ◌-◌, Bool, List, [], ◌∷◌, ◌++◌, Option, None, Some, length, map, sum_by, nat_le, nat_eq, slice_index_or, if◌then◌else◌, codes, take_while}
 use Rattle.std.specs.Str.{bytes_eq}
 use Rattle.std.specs.List.{common_prefix_len, range_with_len}
-use Rattle.stack_core.specs.declared.samples.Sample.{Sample}
+use Rattle.sample_tables.specs.declared.samples.Sample.{Sample}
 use Rattle.flame_layout.specs.declared.boxes.SpanBox.{SpanBox}
-use Rattle.flame_layout.specs.Timeline.{Stack, total_weight}
+use Rattle.merged_stacks.specs.Timeline.{Stack, total_weight}
 
 -- with how many names two stacks begin alike
 abbrev pub names_shared : Stack → Stack → ℕ

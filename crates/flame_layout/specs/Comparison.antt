@@ -1,11 +1,11 @@
 -- The comparison of two profiles: its rows and its boxes.
 use Rattle.std.specs.Prelude.{List, ◌++◌, map}
 use Rattle.std.specs.List.{zip}
-use Rattle.stack_core.specs.declared.samples.Sample.{Sample}
+use Rattle.sample_tables.specs.declared.samples.Sample.{Sample}
 use Rattle.flame_layout.specs.declared.boxes.SpanBox.{SpanBox}
 use Rattle.flame_layout.specs.declared.boxes.PairRow.{PairRow}
 use Rattle.flame_layout.specs.declared.boxes.ComparedBox.{ComparedBox}
-use Rattle.flame_layout.specs.Timeline.{Stack, drawn}
+use Rattle.merged_stacks.specs.Timeline.{Stack, drawn}
 use Rattle.flame_layout.specs.Graph.{sorted_by_stack, graph_of}
 use Rattle.flame_layout.specs.Paths.{total_at, own_at, paths_of}
 

@@ -1,16 +1,11 @@
 -- The flame graph: the chart of the samples sorted by stack.
 use Rattle.std.specs.Prelude.{List, [], ◌∷◌, if◌then◌else◌}
-use Rattle.std.specs.declared.cmp.Ordering.{Ordering}
-use Rattle.std.specs.Ordering.{nat_cmp, is_lt}
-use Rattle.std.specs.Cmp.Lexicographic.{slice_cmp}
-use Rattle.stack_core.specs.declared.samples.Sample.{Sample}
+use Rattle.std.specs.Ordering.{is_lt}
+use Rattle.sample_tables.specs.declared.samples.Sample.{Sample}
 use Rattle.flame_layout.specs.declared.boxes.SpanBox.{SpanBox}
-use Rattle.flame_layout.specs.Timeline.{Stack, drawn}
+use Rattle.merged_stacks.specs.Order.{stack_cmp}
+use Rattle.merged_stacks.specs.Timeline.{drawn}
 use Rattle.flame_layout.specs.Chart.{chart_of}
-
--- the order of stacks: name by name, names by their bytes
-abbrev pub stack_cmp : Stack → Stack → Ordering
-stack_cmp = slice_cmp (slice_cmp nat_cmp)
 
 -- the samples with one put in before the first whose stack is not below its own
 abbrev pub insert_by_stack : Sample → List Sample → List Sample

@@ -1,8 +1,8 @@
 -- What the laws of graphs, comparisons and images say.
 use Rattle.std.specs.Prelude.{◌≡◌, ◌<◌, ◌+◌, ◌↔◌, ℕ, List, ◌∷◌, map, Contains}
-use Rattle.stack_core.specs.declared.samples.Sample.{Sample}
+use Rattle.sample_tables.specs.declared.samples.Sample.{Sample}
 use Rattle.flame_layout.specs.declared.boxes.SpanBox.{SpanBox}
-use Rattle.flame_layout.specs.Timeline.{Stack}
+use Rattle.merged_stacks.specs.Timeline.{Stack}
 use Rattle.flame_layout.specs.Graph.{graph_of}
 use Rattle.flame_layout.specs.Edges.{left_edge, right_edge}
 use Rattle.flame_layout.specs.Paths.{total_at, visit_at, boxes_of_visits, IsRising}

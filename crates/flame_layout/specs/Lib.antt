@@ -1,10 +1,9 @@
+pub mod Boxes
 pub mod Chart
 pub mod Comparison
 pub mod Edges
 pub mod Graph
 pub mod Laws
-pub mod Merged
 pub mod Paths
 pub mod Runs
-pub mod Timeline
 pub mod checked

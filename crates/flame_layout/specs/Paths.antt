@@ -7,15 +7,12 @@ use Rattle.std.specs.FinMap.{entries}
 use Rattle.call_tree.specs.CallTree.{Tree}
 use Rattle.call_tree.specs.Listing.{named}
 use Rattle.call_tree.specs.PathSums.{total_of, own_of}
-use Rattle.stack_core.specs.declared.samples.Sample.{Sample}
+use Rattle.sample_tables.specs.declared.samples.Sample.{Sample}
 use Rattle.flame_layout.specs.declared.boxes.SpanBox.{SpanBox}
-use Rattle.flame_layout.specs.Timeline.{Stack}
-use Rattle.flame_layout.specs.Graph.{stack_cmp}
+use Rattle.merged_stacks.specs.Timeline.{Stack}
+use Rattle.merged_stacks.specs.Order.{stack_cmp}
+use Rattle.merged_stacks.specs.Merged.{weighed}
 use Rattle.flame_layout.specs.Chart.{first_new, box_name}
-
--- each sample as its stack and its weight
-abbrev pub weighed : List Sample → List (Stack × ℕ)
-weighed samples = map (λ sample. (sample.stack, sample.weight)) samples
 
 -- the sum of the weights of the samples whose stack begins with the path, and of those whose stack is the path
 abbrev pub total_at : Stack → List Sample → ℕ

@@ -1,9 +1,9 @@
 -- Longest runs of neighbouring samples, and what the laws of charts say of their boxes.
 use Rattle.std.specs.Prelude.{◌≡◌, ◌<◌, ◌≤◌, ◌+◌, ◌⊎◌, ℕ, List, [], ◌∷◌, ◌++◌, Option, None, Some, length, map, take, ⊤}
 use Rattle.std.specs.List.{last_or, AllByRecursion}
-use Rattle.stack_core.specs.declared.samples.Sample.{Sample}
+use Rattle.sample_tables.specs.declared.samples.Sample.{Sample}
 use Rattle.flame_layout.specs.declared.boxes.SpanBox.{SpanBox}
-use Rattle.flame_layout.specs.Timeline.{Stack, total_weight}
+use Rattle.merged_stacks.specs.Timeline.{Stack, total_weight}
 use Rattle.flame_layout.specs.Chart.{names_shared, own_weight, box_name}
 
 abbrev pub stacks_of : List Sample → List Stack

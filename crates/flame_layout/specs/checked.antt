@@ -1,7 +1,4 @@
 -- Definitions that no contract of a public function cites. The proofs use them; a reader need not believe them.
-pub mod Kept
 pub mod Listed
 pub mod Paired
-pub mod Ranked
-pub mod Ranks
 pub mod Walk

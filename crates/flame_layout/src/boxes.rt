@@ -17,6 +17,21 @@ pub struct SpanBox {
     pub own: u64,
 }
 
+/// A `SpanBox` whose name is borrowed from what it was drawn of, so that it takes no memory of its own.
+#[derive(Clone, Copy, Debug)]
+pub struct DrawnBox<'a> {
+    /// As in `SpanBox`.
+    pub depth: u32,
+    /// As in `SpanBox`.
+    pub name: &'a str,
+    /// As in `SpanBox`.
+    pub start: u64,
+    /// As in `SpanBox`.
+    pub weight: u64,
+    /// As in `SpanBox`.
+    pub own: u64,
+}
+
 /// A box with its edges in an image.
 #[derive(Debug, Drop)]
 pub struct PlacedBox {

@@ -2,14 +2,15 @@
 
 ghost use Rattle.std.specs.Prelude.{◌≡◌, ◌<◌, ◌≤◌, ◌+◌, ◌++◌, ◌∷◌, ◌^◌, ℕ, [], List, All, IfOk, OnOk, length, map, take};
 ghost use Rattle.std.specs.List.{AllByRecursion};
-ghost use Rattle.stack_core.specs.Ledgers.{sample_at};
-ghost use Rattle.stack_core.specs.declared.samples.Sample.{Sample};
+ghost use Rattle.sample_tables.specs.Rows.{sample_at};
+ghost use Rattle.sample_tables.specs.declared.samples.Sample.{Sample};
 ghost use Rattle.call_tree.specs.CallTree.{Tree, total_weight as tree_total, own_weight as tree_own};
 ghost use Rattle.call_tree.specs.FrameTable.{HasDistinctNames};
 ghost use Rattle.call_tree.specs.Listing.{named, AreIn};
-ghost use Rattle.flame_layout.specs.Timeline.{total_weight};
+ghost use Rattle.merged_stacks.specs.Timeline.{total_weight};
 ghost use Rattle.flame_layout.specs.Comparison.{comparison_of, compared_boxes_of};
-ghost use Rattle.flame_layout.specs.checked.Paired.{Grows, visit_paths, next_path, pair_row, Holds, row_box};
+ghost use Rattle.merged_stacks.specs.checked.Ranks.{Grows};
+ghost use Rattle.flame_layout.specs.checked.Paired.{visit_paths, next_path, pair_row, Holds, row_box};
 
 use crate::boxes::{ComparedBox, PairRow, SpanBox};
 use call_tree::{CallTree, FrameTable, Visit};

@@ -4,6 +4,7 @@ ghost use Rattle.std.specs.Prelude.{◌≡◌, ℕ, ◌+◌, ◌*◌, ◌/◌, �
 ghost use Rattle.flame_layout.specs.Edges.{placed_at, left_edge, right_edge};
 
 use crate::boxes::{PlacedBox, SpanBox};
+use crate::flame_boxes::FlameBox;
 use run_options::Width;
 use std::alloc::{AllocError, Global};
 
@@ -27,14 +28,14 @@ pub fn place(
 }
 
 /// The edges of one box: where it begins and where it ends.
-pub fn edges(span: &SpanBox, total: u64, width: Width) -> (u32, u32)
-    requires within { span.now.start + span.now.weight ≤ total }
+pub fn edges<B: FlameBox>(span: &B, total: u64, width: Width) -> (u32, u32)
+    requires within { (B.span span.now).start + (B.span span.now).weight ≤ total }
     requires positive { 0 < total }
-    ensures { result ≡ (left_edge total width span.now, right_edge total width span.now) }
+    ensures { result ≡ (left_edge total width (B.span span.now), right_edge total width (B.span span.now)) }
 {
     (
-        edge(span.start, total, width),
-        edge(span.start + span.weight, total, width),
+        edge(span.start(), total, width),
+        edge(span.start() + span.weight(), total, width),
     )
 }
 

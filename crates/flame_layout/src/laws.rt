@@ -3,12 +3,12 @@
 
 ghost use Rattle.std.specs.Prelude.{◌≡◌, ◌+◌, ◌<◌, ◌≤◌, ◌++◌, ◌∷◌, ℕ, List, Contains, All, IsPermutation, map};
 ghost use Rattle.std.specs.List.{AllZip};
-ghost use Rattle.stack_core.specs.declared.samples.Sample.{Sample};
+ghost use Rattle.sample_tables.specs.declared.samples.Sample.{Sample};
 ghost use Rattle.flame_layout.specs.declared.boxes.SpanBox.{SpanBox};
-ghost use Rattle.flame_layout.specs.Timeline.{drawn, total_weight};
+ghost use Rattle.merged_stacks.specs.Timeline.{drawn, total_weight};
 ghost use Rattle.flame_layout.specs.Chart.{chart_of};
 ghost use Rattle.flame_layout.specs.Graph.{graph_of, sorted_by_stack};
-ghost use Rattle.flame_layout.specs.Merged.{merged_samples};
+ghost use Rattle.merged_stacks.specs.Merged.{merged_samples};
 ghost use Rattle.flame_layout.specs.Edges.{left_edge, right_edge};
 ghost use Rattle.flame_layout.specs.Paths.{SameOwn, paths_of, total_at};
 ghost use Rattle.flame_layout.specs.Comparison.{comparison_of, row_of, compared_boxes_of};

@@ -5,21 +5,19 @@
 mod boxes;
 mod charts;
 mod comparisons;
+mod flame_boxes;
 mod graphs;
 mod image;
 pub mod laws;
-mod merged;
-mod name_ranks;
-mod ranked_rows;
-mod stack_rows;
 #[cfg(test)]
 mod tests;
 mod walks;
 
-pub use boxes::{ComparedBox, PairRow, PlacedBox, SpanBox};
-pub use charts::{chart_boxes, total_weight};
+pub use boxes::{ComparedBox, DrawnBox, PairRow, PlacedBox, SpanBox};
+pub use charts::{chart_boxes, draw_chart};
 pub use comparisons::{compare, compared_boxes};
-pub use graphs::{graph_boxes, merged_boxes};
+pub use flame_boxes::FlameBox;
+pub use graphs::{draw_merged, draw_tree, graph_boxes, merged_boxes};
 pub use image::{edges, place};
-pub use merged::MergedStacks;
+pub use merged_stacks::{MergedStacks, total_weight};
 pub use run_options::{MAX_WIDTH, Width};

@@ -1,11 +1,12 @@
 //! Worked examples.
 
+mod drawn;
 mod merged;
 
 use crate::comparisons::add_list;
 use crate::{
-    ComparedBox, PairRow, PlacedBox, SpanBox, Width, chart_boxes, compare, compared_boxes, edges,
-    graph_boxes, place,
+    ComparedBox, FlameBox, PairRow, PlacedBox, SpanBox, Width, chart_boxes, compare,
+    compared_boxes, edges, graph_boxes, place,
 };
 use call_tree::{CallTree, FrameTable};
 use stack_core::{Close, Ledger, Names, Sample, SourceEnd, SourceList};
@@ -96,17 +97,14 @@ fn shown_rows(alloc: Global, rows: &[PairRow]) -> Result<String, AllocError> {
 }
 
 /// Depth, name, start, weight and own weight of each box.
-fn shown(alloc: Global, boxes: &[SpanBox]) -> Result<String, AllocError> {
+fn shown<B: FlameBox>(alloc: Global, boxes: &[B]) -> Result<String, AllocError> {
     let mut text = String::new(alloc);
-    for span in boxes {
-        let SpanBox {
-            depth,
-            name,
-            start,
-            weight,
-            own,
-        } = span;
-        let name = name.get();
+    for one in boxes {
+        let depth = one.depth();
+        let name = one.name();
+        let start = one.start();
+        let weight = one.weight();
+        let own = one.own();
         let line = format!(in alloc; "({depth} {name} {start} {weight} {own})")?;
         text.push_str(&line)?;
     }
@@ -159,117 +157,142 @@ fn shown_compared(
     Ok(text)
 }
 
+fn is_shown(rt: &impl Abort, alloc: Global, boxes: &[SpanBox], text: &str) -> Result<(), Fail> {
+    let found = shown(alloc, boxes)?;
+    assert_eq!(rt; found.as_str(), text);
+    Ok(())
+}
+
+fn is_shown_placed(
+    rt: &impl Abort,
+    alloc: Global,
+    boxes: &[PlacedBox],
+    text: &str,
+) -> Result<(), Fail> {
+    let found = shown_placed(alloc, boxes)?;
+    assert_eq!(rt; found.as_str(), text);
+    Ok(())
+}
+
 #[test]
 fn runs_of_a_chart(rt: HostRuntime) -> Result<(), Fail> {
     let alloc = rt.alloc();
     let lines: [(&[&str], u64); 3] = [(&["a", "b"], 1), (&["a", "c"], 1), (&["a", "b"], 1)];
-    let source = list(&rt, alloc, &lines)?;
-    let boxes = chart(&rt, alloc, source)?;
-    assert_eq!(rt;
-        shown(alloc, &boxes)?.as_str(),
-        "(0 all 0 3 0)(1 a 0 3 0)(2 b 0 1 1)(2 c 1 1 1)(2 b 2 1 1)"
-    );
-    Ok(())
+    let boxes = chart(&rt, alloc, list(&rt, alloc, &lines)?)?;
+    let text = "(0 all 0 3 0)(1 a 0 3 0)(2 b 0 1 1)(2 c 1 1 1)(2 b 2 1 1)";
+    is_shown(&rt, alloc, &boxes, text)
 }
 
 #[test]
 fn runs_under_other_parents(rt: HostRuntime) -> Result<(), Fail> {
     let alloc = rt.alloc();
     let lines: [(&[&str], u64); 2] = [(&["a", "x"], 1), (&["b", "x"], 1)];
-    let source = list(&rt, alloc, &lines)?;
-    let boxes = chart(&rt, alloc, source)?;
-    assert_eq!(rt;
-        shown(alloc, &boxes)?.as_str(),
-        "(0 all 0 2 0)(1 a 0 1 0)(2 x 0 1 1)(1 b 1 1 0)(2 x 1 1 1)"
-    );
-    Ok(())
+    let boxes = chart(&rt, alloc, list(&rt, alloc, &lines)?)?;
+    let text = "(0 all 0 2 0)(1 a 0 1 0)(2 x 0 1 1)(1 b 1 1 0)(2 x 1 1 1)";
+    is_shown(&rt, alloc, &boxes, text)
 }
 
 #[test]
 fn edges_of_three_lines(rt: HostRuntime) -> Result<(), Fail> {
     let alloc = rt.alloc();
     let lines: [(&[&str], u64); 3] = [(&["a"], 1), (&["c"], 0), (&["b"], 2)];
-    let source = list(&rt, alloc, &lines)?;
     let width = Width::of(10).ok_or("no width")?;
-    let boxes = placed_chart(&rt, alloc, source, width)?;
-    assert_eq!(rt;
-        shown_placed(alloc, &boxes)?.as_str(),
-        "(0 all 0 3 0 0 10)(1 a 0 1 1 0 3)(1 b 1 2 2 3 10)"
-    );
-    Ok(())
+    let boxes = placed_chart(&rt, alloc, list(&rt, alloc, &lines)?, width)?;
+    let text = "(0 all 0 3 0 0 10)(1 a 0 1 1 0 3)(1 b 1 2 2 3 10)";
+    is_shown_placed(&rt, alloc, &boxes, text)
 }
 
 #[test]
 fn empty_timeline(rt: HostRuntime) -> Result<(), Fail> {
     let alloc = rt.alloc();
     let lines: [(&[&str], u64); 1] = [(&["a"], 0)];
-    let source = list(&rt, alloc, &lines)?;
-    assert_eq!(rt; chart(&rt, alloc, source)?.len(), 0);
+    let boxes = chart(&rt, alloc, list(&rt, alloc, &lines)?)?;
+    assert_eq!(rt; boxes.len(), 0);
     Ok(())
 }
 
-#[test]
-fn comparison(rt: HostRuntime) -> Result<(), Fail> {
-    let alloc = rt.alloc();
-    let old: [(&[&str], u64); 2] = [(&["a"], 3), (&["b"], 1)];
-    let new: [(&[&str], u64); 2] = [(&["a"], 1), (&["c"], 2)];
-    let before = list(&rt, alloc, &old)?;
-    let after = list(&rt, alloc, &new)?;
+const OLD: [(&[&str], u64); 2] = [(&["a"], 3), (&["b"], 1)];
+
+const NEW: [(&[&str], u64); 2] = [(&["a"], 1), (&["c"], 2)];
+
+fn compares(
+    rt: &impl Abort,
+    alloc: Global,
+    before: &SourceList,
+    after: &SourceList,
+) -> Result<(), Fail> {
     assert!(rt; before.total() < 1_000);
     assert!(rt; after.total() < 1_000);
-    let rows = compare(alloc, &before, &after)?;
+    let rows = compare(alloc, before, after)?;
+    let found = shown_rows(alloc, &rows)?;
     assert_eq!(rt;
-        shown_rows(alloc, &rows)?.as_str(),
+        found.as_str(),
         "( 4 3 0 0)(a; 3 1 3 1)(b; 1 0 1 0)(c; 0 2 0 2)"
     );
     Ok(())
 }
 
 #[test]
-fn comparison_boxes(rt: HostRuntime) -> Result<(), Fail> {
-    let alloc = rt.alloc();
-    let old: [(&[&str], u64); 2] = [(&["a"], 3), (&["b"], 1)];
-    let new: [(&[&str], u64); 2] = [(&["a"], 1), (&["c"], 2)];
-    let before = list(&rt, alloc, &old)?;
-    let after = list(&rt, alloc, &new)?;
-    let width = Width::of(10).ok_or("no width")?;
+fn comparison(rt: HostRuntime) -> Result<(), Fail> {
+    let before = list(&rt, rt.alloc(), &OLD)?;
+    let after = list(&rt, rt.alloc(), &NEW)?;
+    compares(&rt, rt.alloc(), &before, &after)
+}
+
+fn draws_comparison(
+    rt: &impl Abort,
+    alloc: Global,
+    before: &SourceList,
+    after: &SourceList,
+    width: Width,
+) -> Result<(), Fail> {
     assert!(rt; before.total() < 1_000);
     assert!(rt; after.total() < 1_000);
-    let rows = compare(alloc, &before, &after)?;
+    let rows = compare(alloc, before, after)?;
     let boxes = compared_boxes(alloc, &rows)?;
+    let found = shown_compared(rt, alloc, &boxes, 3, width)?;
     assert_eq!(rt;
-        shown_compared(&rt, alloc, &boxes, 3, width)?.as_str(),
+        found.as_str(),
         "(4 0 all 0 3 0 0 10)(3 1 a 0 1 1 0 3)(0 1 c 1 2 2 3 10)"
     );
     Ok(())
 }
 
 #[test]
+fn comparison_boxes(rt: HostRuntime) -> Result<(), Fail> {
+    let width = Width::of(10).ok_or("no width")?;
+    let before = list(&rt, rt.alloc(), &OLD)?;
+    let after = list(&rt, rt.alloc(), &NEW)?;
+    draws_comparison(&rt, rt.alloc(), &before, &after, width)
+}
+
+fn draws_graph(
+    rt: &impl Abort,
+    alloc: Global,
+    source: &SourceList,
+    width: Width,
+    text: &str,
+) -> Result<(), Fail> {
+    let boxes = placed_graph(rt, alloc, source, width)?;
+    is_shown_placed(rt, alloc, &boxes, text)
+}
+
+#[test]
 fn graph_of_the_runs(rt: HostRuntime) -> Result<(), Fail> {
-    let alloc = rt.alloc();
     let lines: [(&[&str], u64); 3] = [(&["a", "b"], 1), (&["a", "c"], 1), (&["a", "b"], 1)];
-    let source = list(&rt, alloc, &lines)?;
     let width = Width::of(3).ok_or("no width")?;
-    let boxes = placed_graph(&rt, alloc, &source, width)?;
-    assert_eq!(rt;
-        shown_placed(alloc, &boxes)?.as_str(),
-        "(0 all 0 3 0 0 3)(1 a 0 3 0 0 3)(2 b 0 2 2 0 2)(2 c 2 1 1 2 3)"
-    );
-    Ok(())
+    let source = list(&rt, rt.alloc(), &lines)?;
+    let text = "(0 all 0 3 0 0 3)(1 a 0 3 0 0 3)(2 b 0 2 2 0 2)(2 c 2 1 1 2 3)";
+    draws_graph(&rt, rt.alloc(), &source, width, text)
 }
 
 #[test]
 fn graph_of_three_lines(rt: HostRuntime) -> Result<(), Fail> {
-    let alloc = rt.alloc();
     let lines: [(&[&str], u64); 3] = [(&["a"], 1), (&["c"], 0), (&["b"], 2)];
-    let source = list(&rt, alloc, &lines)?;
     let width = Width::of(10).ok_or("no width")?;
-    let boxes = placed_graph(&rt, alloc, &source, width)?;
-    assert_eq!(rt;
-        shown_placed(alloc, &boxes)?.as_str(),
-        "(0 all 0 3 0 0 10)(1 a 0 1 1 0 3)(1 b 1 2 2 3 10)"
-    );
-    Ok(())
+    let source = list(&rt, rt.alloc(), &lines)?;
+    let text = "(0 all 0 3 0 0 10)(1 a 0 1 1 0 3)(1 b 1 2 2 3 10)";
+    draws_graph(&rt, rt.alloc(), &source, width, text)
 }
 
 #[test]

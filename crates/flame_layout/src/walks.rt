@@ -2,14 +2,15 @@
 
 ghost use Rattle.std.specs.Prelude.{◌≡◌, ℕ, ◌+◌, ◌-◌, ◌<◌, ◌≤◌, ◌++◌, ◌^◌, ◌∷◌, [], OnOk, IfOk, IfSome, All, map, length, reverse, take, drop};
 ghost use Rattle.std.specs.List.{range_with_len};
-ghost use Rattle.stack_core.specs.Ledgers.{sample_at};
+ghost use Rattle.sample_tables.specs.Rows.{sample_at};
+ghost use Rattle.flame_layout.specs.Boxes.{span_of};
 ghost use Rattle.flame_layout.specs.Chart.{box_name, names_shared};
 ghost use Rattle.flame_layout.specs.checked.Walk.{IsFront, shared_runs_of, names_of, seen, box_of_run, boxes_of_runs, new_run};
 
-use crate::boxes::SpanBox;
-use crate::stack_rows::StackRows;
-use stack_core::{FRAME_LIMIT, Text};
-use std::alloc::{AllocError, Global};
+use crate::boxes::DrawnBox;
+use merged_stacks::StackRows;
+use stack_core::FRAME_LIMIT;
+use std::alloc::AllocError;
 
 /// A run that goes on at the front of what was walked.
 #[derive(Drop)]
@@ -27,7 +28,7 @@ pub(crate) struct OpenRun<'a> {
 #[derive(Drop)]
 pub(crate) struct Walk<'a> {
     pub(crate) runs: Vec<OpenRun<'a>>,
-    pub(crate) boxes: Vec<SpanBox>,
+    pub(crate) boxes: Vec<DrawnBox<'a>>,
 }
 
 /// With how many names the sample's stack and that of the runs begin alike.
@@ -91,9 +92,8 @@ pub(crate) fn shared_runs<S: StackRows>(
 
 /// Takes the runs off, the deepest first, down to `keep` of them, and appends their boxes.
 pub(crate) fn close<'a>(
-    alloc: Global,
     runs: &mut Vec<OpenRun<'a>>,
-    boxes: &mut Vec<SpanBox>,
+    boxes: &mut Vec<DrawnBox<'a>>,
     start: u64,
     keep: usize,
 ) -> Result<(), AllocError>
@@ -101,31 +101,31 @@ pub(crate) fn close<'a>(
     requires kept { keep ≤ length runs.old.items }
     requires begun { All (λ run. start ≤ run.end) runs.old.items }
     ensures runs { OnOk result (runs.new.items ≡ take keep runs.old.items) }
-    ensures boxes { OnOk result (boxes.new.items
-        ≡ boxes.old.items ++ reverse (drop keep (boxes_of_runs start (map seen runs.old.items)))) }
+    ensures boxes { OnOk result (map span_of boxes.new.items ≡ map span_of boxes.old.items
+        ++ reverse (drop keep (boxes_of_runs start (map seen runs.old.items)))) }
 {
     'each: while runs.len() > keep {
         let Some(run) = runs.pop() else {
             unreachable!();
         };
-        boxes.push(span(alloc, runs.len(), start, run)?)?;
+        boxes.push(drawn(runs.len(), start, run))?;
     }
     Ok(())
 }
 
-fn span(alloc: Global, depth: usize, start: u64, run: OpenRun<'_>) -> Result<SpanBox, AllocError>
+fn drawn<'a>(depth: usize, start: u64, run: OpenRun<'a>) -> DrawnBox<'a>
     requires few { depth < 2 ^ 32 }
     requires begun { start ≤ run.end }
-    ensures { IfOk result (λ span. span ≡ box_of_run start (depth, seen run.entry)) }
+    ensures { span_of result ≡ box_of_run start (depth, seen run.entry) }
 {
     let OpenRun { name, end, own } = run;
-    Ok(SpanBox {
+    DrawnBox {
         depth: depth as u32,
-        name: Text::from_str(alloc, name)?,
+        name,
         start,
         weight: end - start,
         own,
-    })
+    }
 }
 
 /// Appends the runs that begin with the sample, from a depth on.

@@ -3,7 +3,7 @@ use Rattle.std.proofs.Common.{◌≡◌, ℕ, zero, suc, false, List, [], ◌∷
 use Rattle.std.proofs.lemmas.List.Elements.{All-head, All-tail}
 use Rattle.stack_core.specs.Interleaving.{list_of}
 use Rattle.stack_core.specs.Reading.{IsSourceLimited}
-use Rattle.stack_core.specs.declared.samples.Sample.{Sample}
+use Rattle.sample_tables.specs.declared.samples.Sample.{Sample}
 use Rattle.run_options.specs.declared.choices.Naming.{Naming}
 use Rattle.run_options.specs.declared.choices.Pick.{Pick}
 use Rattle.run_options.specs.declared.formats.Format.{Format}
@@ -11,7 +11,7 @@ use Rattle.run_options.specs.declared.formats.Format.TheVariants.{Folded, Pprof}
 use Rattle.folded_lines.specs.LastNames.{last_ends_in_number}
 use Rattle.folded_lines.proofs.ReadLemmas.{IsSourceLimited-read_folded}
 use Rattle.profile_tables.proofs.RestLemmas.{pprof-limited}
-use Rattle.flame_layout.specs.Timeline.{drawn}
+use Rattle.merged_stacks.specs.Timeline.{drawn}
 use Rattle.flame_layout.proofs.Sums.{same_graph}
 use Rattle.merging.specs.Sources.{read_bytes}
 use Rattle.merging.specs.Sums.{all_samples}

@@ -11,7 +11,7 @@ use Rattle.std.specs.Io.KnownBytes.{Appends}
 use Rattle.stack_core.specs.Interleaving.{IsInterleaving}
 use Rattle.stack_core.specs.Ledgers.{ListState}
 use Rattle.stack_core.specs.Reading.{Rest}
-use Rattle.stack_core.specs.declared.samples.Sample.{Sample}
+use Rattle.sample_tables.specs.declared.samples.Sample.{Sample}
 use Rattle.stack_core.specs.declared.endings.SourceEnd.{SourceEnd}
 use Rattle.stack_core.specs.declared.endings.SourceEnd.TheVariants as ends
 use Rattle.folded_lines.proofs.UnstoppedLemmas.{unstopped-read_folded}
@@ -23,9 +23,9 @@ use Rattle.run_options.specs.declared.formats.Format.{Format}
 use Rattle.run_options.specs.declared.formats.Format.TheVariants.{Folded, Pprof}
 use Rattle.run_options.specs.declared.options.Options.{Options}
 use Rattle.ring_collect.specs.Collection.{AreWhole, seen_as_rest}
-use Rattle.flame_layout.specs.Timeline.{samples_of}
+use Rattle.merged_stacks.specs.Timeline.{samples_of}
 use Rattle.command_line.specs.declared.plans.Plan.{Plan}
-use Rattle.merging.specs.Sources.{rests_of, read_bytes, source_rest}
+use Rattle.merging.specs.Sources.{asked_rest, rests_of, read_bytes, source_rest}
 use Rattle.merging.specs.declared.sources.Source.{Source}
 use Rattle.flame_tool.specs.checked.Opening.{IsInput, IsOpened, AreOpened}
 use Rattle.flame_tool.specs.Requests.{all_found, rest_of, rest_at, rest_in, rests_at, known_rests}
@@ -61,7 +61,7 @@ opened_first : (options : Options) (format : Format) (known : Option (List ℕ))
 opened_first options format None found source sources formed same more = tt
 opened_first options format (Some bytes) None source sources formed same more = tt
 opened_first options format (Some bytes) (Some rests) source sources formed same more =
-    λ i. read_bytes (formed i) (same i) options.pick options.naming ∷ more i
+    λ i. asked_rest options (formed i) (same i) ∷ more i
 
 opened_files : (options : Options) (asked : Option Format) (files : List ℕ → Option (List ℕ)) (paths : List (List ℕ)) (sources : List Source) → AllZip (IsOpened asked files) paths sources
     → IfSome (all_found (rest_at options asked files) paths) (λ rests. rests_of options sources ≡ rests)
@@ -75,7 +75,7 @@ opened_input : (options : Options) (asked : Option Format) (input : Option (List
     → IfSome (option_map (λ rest. rest ∷ []) (rest_in options asked input)) (λ rests. rests_of options sources ≡ rests)
 opened_input options asked None sources opened = tt
 opened_input options asked (Some bytes) [] opened = absurd opened
-opened_input options asked (Some bytes) (source ∷ []) (folded, same) = λ i. read_bytes (folded i) (same i) options.pick options.naming ∷ []
+opened_input options asked (Some bytes) (source ∷ []) (folded, same) = λ i. asked_rest options (folded i) (same i) ∷ []
 opened_input options asked (Some bytes) (source ∷ other ∷ more) opened = absurd opened
 
 opened_rests : (options : Options) (asked : Option Format) (input : Option (List ℕ)) (files : List ℕ → Option (List ℕ)) (paths : List (List ℕ)) (sources : List Source) → AreOpened asked input files paths sources
@@ -107,9 +107,9 @@ clean_rests : (options : Options) (sources : List Source) → list_any (λ (rest
     → All (λ (rest : Rest). IsClean rest.ending) (rests_of options sources)
 clean_rests options [] faultless = All-nil (λ (rest : Rest). IsClean rest.ending)
 clean_rests options (source ∷ sources) faultless =
-    let both = neither (ends_in_fault (source_rest options.pick options.naming source).ending) (list_any (λ (rest : Rest). ends_in_fault rest.ending) (rests_of options sources)) faultless in
-    All-cons (λ (rest : Rest). IsClean rest.ending) (source_rest options.pick options.naming source) (rests_of options sources)
-    (clean_ending (source_rest options.pick options.naming source).ending (unstopped source.format source.bytes.items options.pick options.naming) both.0) (clean_rests options sources both.1)
+    let both = neither (ends_in_fault (source_rest options source).ending) (list_any (λ (rest : Rest). ends_in_fault rest.ending) (rests_of options sources)) faultless in
+    All-cons (λ (rest : Rest). IsClean rest.ending) (source_rest options source) (rests_of options sources)
+    (clean_ending (source_rest options source).ending (unstopped source.format source.bytes.items options.pick options.naming) both.0) (clean_rests options sources both.1)
 
 faulty_rests : (rests : List Rest) → list_any (λ (rest : Rest). ends_in_fault rest.ending) rests ≡ true → HasFault rests
 faulty_rests rests faulty =
@@ -185,7 +185,7 @@ module _ (plan : Plan) (input : Option (List ℕ)) (files : List ℕ → Option 
   not_shown old new NoThread fails = tt
   not_shown old new (Unfinished source) fails = tt
   not_shown old new Faults fails = faulty_rests (rests_of plan.options sources) (sym same_faults ∙ fails.0)
-  not_shown old new Output fails = (text, is_text fails.0, fails.1)
+  not_shown old new (Output fault) fails = (text, is_text fails.0, fails.1)
 
   pub err_shown : {T : Type 0} (result : Result T Failure) (old new : Option (List ℕ)) → IfErr result (FailsToShow lists text old new)
       → IfErr result (λ failure. IfSome (known_rests plan input files) (Fails plan old new failure))

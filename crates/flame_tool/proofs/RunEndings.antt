@@ -1,12 +1,17 @@
 -- How a run ends, by its words and by its plan.
-use Rattle.std.proofs.Common.{◌≡◌, ◌⊎◌, inl, inr, ℕ, List, [], ◌∷◌, map, length, Option, Some, None, IfSome, ap, sym, ◌∙◌, subst, refl, arith}
+use Rattle.std.proofs.Common.{◌≡◌, ◌⊎◌, inl, inr, ℕ, List, [], ◌∷◌, map, length, Option, Some, None, IfSome, ap, sym, ◌∙◌, subst, refl, arith, take, append-nil}
 use Rattle.std.specs.Prelude.{IsSomeAnd}
 use Rattle.std.specs.Io.KnownBytes.{Appends, Keeps}
 use Rattle.clap.specs.Walk.{Text}
 use Rattle.stack_core.specs.Reading.{Rest}
-use Rattle.stack_core.specs.declared.samples.Sample.{Sample}
+use Rattle.sample_tables.specs.declared.samples.Sample.{Sample}
 use Rattle.command_line.specs.CommandLine.{command_line}
-use Rattle.command_line.specs.Plans.{IsFaultAmong, fault_of, plan_of}
+use Rattle.folded_lines.specs.Reading.{read_folded}
+use Rattle.run_options.specs.Filters.{everything, kept_rest}
+use Rattle.run_options.proofs.FilterLemmas.{all_is_kept}
+use Rattle.merging.specs.Sums.{all_samples}
+use Rattle.view_texts.specs.Fold.{fold_text}
+use Rattle.command_line.specs.Plans.{IsFaultAmong, default_plan, fault_of, plan_of}
 use Rattle.command_line.specs.declared.plans.PlanFault.{PlanFault}
 use Rattle.command_line.specs.declared.plans.PlanFault.TheVariants as fault
 use Rattle.command_line.specs.declared.plans.Plan.{Plan}
@@ -14,7 +19,7 @@ use Rattle.command_line.specs.declared.plans.View.{View}
 use Rattle.command_line.specs.declared.plans.View.TheVariants.{Fold, Graph, Chart, Pairs, PairBoxes}
 use Rattle.flame_tool.specs.Requests.{AsksForHelp, asked_plan, known_rests}
 use Rattle.flame_tool.specs.Texts.{IsOrderless, view_text}
-use Rattle.flame_tool.specs.Runs.{lists_of, Shows, ShowsFront, HasFault}
+use Rattle.flame_tool.specs.Runs.{lists_of, text_of, GainsFront, Shows, ShowsFront, HasFault}
 use Rattle.flame_tool.specs.checked.Failures.{Fails, IsHelp, KeepsOutput, status_of}
 use Rattle.flame_tool.specs.declared.failures.Failure.{Failure}
 use Rattle.flame_tool.specs.declared.failures.Failure.TheVariants.{TooManyFiles, Unreadable, TooLarge, OutOfMemory, NoThread, Unfinished, Faults, Output}
@@ -30,7 +35,7 @@ module _ (plan : Plan) (known : Option (List Rest)) (old new : Option (List ℕ)
   failed_faulty NoThread one fails = absurd (omega arith)
   failed_faulty (Unfinished source) one fails = absurd (omega arith)
   failed_faulty Faults one fails = fails
-  failed_faulty Output one fails = absurd (omega arith)
+  failed_faulty (Output fault) one fails = absurd (omega arith)
 
   pub failed_front : (failure : Failure) → status_of failure ≡ 3 → KeepsOutput old new failure → IfSome known (Fails plan old new failure)
       → Keeps old new ⊎ IfSome known (ShowsFront plan old new)
@@ -41,7 +46,7 @@ module _ (plan : Plan) (known : Option (List Rest)) (old new : Option (List ℕ)
   failed_front NoThread three kept fails = inl kept
   failed_front (Unfinished source) three kept fails = inl kept
   failed_front Faults three kept fails = inl kept
-  failed_front Output three kept fails = inr fails
+  failed_front (Output fault) three kept fails = inr fails
 
 -- ---- a text without snapshots
 
@@ -57,6 +62,40 @@ pub exactly : (plan : Plan) (known : Option (List Rest)) (old new : Option (List
 exactly plan None old new shows orderless = tt
 exactly plan (Some rests) old new (text, is_text, appends) orderless =
     subst (Appends old new) (is_text.text_is ∙ orderless_text plan.view (lists_of rests) is_text.order plan.options.every orderless) appends
+
+-- ---- without words
+
+-- the input is folded, and all of it is kept
+whole_input : (bytes : List ℕ) → fold_text (all_samples (lists_of (kept_rest everything (read_folded bytes) ∷ []))) ≡ text_of bytes
+whole_input bytes =
+    ap (λ rest. fold_text (all_samples (lists_of (rest ∷ [])))) (all_is_kept everything refl (read_folded bytes))
+    ∙ ap fold_text (append-nil (read_folded bytes).samples)
+
+module _ (input : Option (List ℕ)) (files : List ℕ → Option (List ℕ)) (old new : Option (List ℕ)) where
+  pub input_text : (plan : Plan) → plan ≡ default_plan → IfSome (known_rests plan input files) (Shows plan old new) → IfSome input (λ bytes. Appends old new (text_of bytes))
+  input_text plan is shows = go input (subst (λ (p : Plan). IfSome (known_rests p input files) (Shows p old new)) is shows)
+    where
+      go : (known : Option (List ℕ)) → IfSome (known_rests default_plan known files) (Shows default_plan old new) → IfSome known (λ bytes. Appends old new (text_of bytes))
+      go None shows = tt
+      go (Some bytes) (text, is_text, appends) = subst (Appends old new) (is_text.text_is ∙ whole_input bytes) appends
+
+  unchanged : (before after : Option (List ℕ)) → Keeps before after → Appends before after []
+  unchanged None after kept = tt
+  unchanged (Some xs) None kept = kept
+  unchanged (Some xs) (Some ys) kept = kept ∙ sym (append-nil xs)
+
+  pub input_front : (plan : Plan) → plan ≡ default_plan → Keeps old new ⊎ IfSome (known_rests plan input files) (ShowsFront plan old new)
+      → IfSome input (λ bytes. GainsFront bytes old new)
+  input_front plan is (inl kept) = go input
+    where
+      go : (known : Option (List ℕ)) → IfSome known (λ bytes. GainsFront bytes old new)
+      go None = tt
+      go (Some bytes) = (0, unchanged old new kept)
+  input_front plan is (inr shows) = go input (subst (λ (p : Plan). IfSome (known_rests p input files) (ShowsFront p old new)) is shows)
+    where
+      go : (known : Option (List ℕ)) → IfSome (known_rests default_plan known files) (ShowsFront default_plan old new) → IfSome known (λ bytes. GainsFront bytes old new)
+      go None shows = tt
+      go (Some bytes) (text, is_text, (count, appends)) = (count, subst (λ t. Appends old new (take count t)) (is_text.text_is ∙ whole_input bytes) appends)
 
 -- ---- words
 

@@ -2,22 +2,26 @@
 use Rattle.std.proofs.Common.{◌≡◌, ◌++◌, ◌+◌, ◌<◌, ◌≤◌, ◌∷◌, ℕ, List, [], map, take, get_or, refl, true, length, All, Option, Result, Ok, Err, OnOk, codes, sym, ap, subst, ◌∙◌, arith}
 use Rattle.std.proofs.lemmas.List.Sums.{sum_by-append}
 use Rattle.std.proofs.lemmas.Result.{on_ok_weaker}
-use Rattle.std.proofs.lemmas.List.{append_assoc, get_or-map, length-map, take_more, flat_map_more}
-use Rattle.stack_core.specs.declared.samples.Sample.{Sample}
+use Rattle.std.proofs.lemmas.List.{get_or-map, length-append, length-map}
+use Rattle.std.proofs.lemmas.List.Folds.{concat-append}
+use Rattle.sample_tables.specs.declared.samples.Sample.{Sample}
 use Rattle.call_tree.specs.CallTree.{Tree, total_weight as tree_total}
-use Rattle.flame_layout.specs.Timeline.{total_weight, timeline, drawn}
+use Rattle.merged_stacks.specs.Timeline.{samples_of, total_weight, timeline, drawn}
 use Rattle.flame_layout.specs.Chart.{chart_of}
 use Rattle.flame_layout.specs.Graph.{graph_of}
 use Rattle.flame_layout.specs.Paths.{SameOwn, tree_samples}
 use Rattle.flame_layout.specs.declared.boxes.SpanBox.{SpanBox}
 use Rattle.flame_layout.proofs.Geometry.{chart-within}
-use Rattle.flame_layout.proofs.Timelines.{total_weight-drawn, timeline-chart_positive}
+use Rattle.merged_stacks.proofs.Timelines.{total_weight-drawn, weight_of}
+use Rattle.flame_layout.proofs.Timelines.{timeline-chart_positive}
 use Rattle.flame_layout.proofs.Sums.{same_sums, same_tested}
 use Rattle.flame_layout.proofs.GraphBoxes.{tree_weight, graph-within, graph-positive}
-use Rattle.std.specs.List.{range_with_len}
+use Rattle.std.specs.List.{concat, range_with_len}
 use Rattle.std.proofs.lemmas.List.FromFn.{map-range_with_len_more}
-use Rattle.stack_core.specs.Interleaving.{counts_at}
+use Rattle.stack_core.specs.Interleaving.{counts_at, list_of}
+use Rattle.stack_core.specs.Ledgers.{ListState}
 use Rattle.flame_tool.specs.checked.Filling.{filled}
+use Rattle.flame_tool.specs.checked.SnapshotPieces.{snapshot_pieces}
 use Rattle.view_texts.specs.Json.{snapshot_line, boxes_line}
 use Rattle.merging.specs.Snapshots.{snapshot_counts, snapshot_samples, snapshot_places, IsSnapshot, AreSnapshots}
 use Rattle.merging.proofs.GatherLemmas.{timeline_weight}
@@ -25,7 +29,6 @@ use Rattle.merging.specs.Sums.{all_samples}
 use Rattle.flame_tool.specs.Texts.{all_counts, snapshot_line_at, snapshot_lines, places_of, graph_line, graph_text}
 use Rattle.merging.specs.declared.snapshots.Snapshot.{Snapshot}
 use Rattle.merging.proofs.CountLemmas.{get_or-source_counts}
-use Rattle.flame_layout.proofs.Runs.{weight_of}
 
 -- counts filled up are those of all sources
 pub filled_counts : (sources m : ℕ) (order : List ℕ) → filled sources (snapshot_counts m order) ≡ map (counts_at m order) (range_with_len 0 sources)
@@ -78,16 +81,33 @@ snapshot_at_place result old new width place sources every order lists names tab
         ≡ snapshot_line_at width order lists snapshot.at
     counted = ap (λ cs. snapshot_line snapshot.at cs (total_weight (snapshot_samples snapshot.at order lists)) width (graph_of (snapshot_samples snapshot.at order lists))) counts
 
--- lines go on
-pub lines_more : (width : ℕ) (order : List ℕ) (lists : List (List Sample)) (snapshots : List Snapshot) (place : ℕ) (old out new : List ℕ) → place < length snapshots
-    → out ≡ old ++ snapshot_lines width lists order (take place (places_of snapshots))
-    → new ≡ out ++ snapshot_line_at width order lists (get_or (places_of snapshots) place 0)
-    → new ≡ old ++ snapshot_lines width lists order (take (place + 1) (places_of snapshots))
-lines_more width order lists snapshots place old out new below so_far more =
-    let places = places_of snapshots in
-    more ∙ (ap (λ xs. xs ++ snapshot_line_at width order lists (get_or places place 0)) so_far
-    ∙ (flat_map_more (snapshot_line_at width order lists) old (take place places) (get_or places place 0)
-    ∙ ap (λ ps. old ++ snapshot_lines width lists order ps) (sym (take_more places place 0 (omega (arith, below, length-map snapshots (λ (s : Snapshot). s.at)))))))
+-- the samples of a list that is lent
+pub listed_samples : (lists lent : List ListState) (i : ℕ) (d : ListState) → lent ≡ lists → i < length lists → (get_or lent i d).samples ≡ list_of (samples_of lists) i
+listed_samples lists lent i d lends within =
+    ap (λ (ls : List ListState). (get_or ls i d).samples) lends ∙ sym (get_or-map (λ (list : ListState). list.samples) lists i d [] within)
+
+-- the lines of the snapshots one after another
+snapshot_pieces-text : (width : ℕ) (lists : List (List Sample)) (order places : List ℕ) → concat (snapshot_pieces width lists order places) ≡ snapshot_lines width lists order places
+snapshot_pieces-text width lists order [] = refl
+snapshot_pieces-text width lists order (place ∷ places) = ap (λ text. snapshot_line_at width order lists place ++ text) (snapshot_pieces-text width lists order places)
+
+-- and each by itself
+pub snapshot_piece-at : (width : ℕ) (lists : List (List Sample)) (order places : List ℕ) (at : ℕ) → at < length places
+    → get_or (snapshot_pieces width lists order places) at [] ≡ snapshot_line_at width order lists (get_or places at 0)
+snapshot_piece-at width lists order places at within = get_or-map (snapshot_line_at width order lists) places at 0 [] within
+
+-- the lines of the snapshots, and then that of the graph
+pub graph_text-pieces : (width : ℕ) (lists : List (List Sample)) (order : List ℕ) (every : Option ℕ) (places : List ℕ) (line : List (List ℕ)) → places ≡ snapshot_places every (length order)
+    → concat line ≡ graph_line width (all_samples lists) → concat (snapshot_pieces width lists order places ++ line) ≡ graph_text width lists order every
+graph_text-pieces width lists order every places line placed is =
+    concat-append (snapshot_pieces width lists order places) line
+    ∙ (λ i. (snapshot_pieces-text width lists order places ∙ ap (snapshot_lines width lists order) placed) i ++ is i)
+
+pub few_pieces : (width : ℕ) (lists : List (List Sample)) (order : List ℕ) (snapshots : List Snapshot) (line : List (List ℕ))
+    → length (snapshot_pieces width lists order (places_of snapshots) ++ line) ≡ length snapshots + length line
+few_pieces width lists order snapshots line =
+    length-append (snapshot_pieces width lists order (places_of snapshots)) line
+    ∙ ap (λ n. n + length line) (length-map (places_of snapshots) (snapshot_line_at width order lists) ∙ length-map snapshots (λ (s : Snapshot). s.at))
 
 -- the boxes of a graph lie within the total
 pub graph_within : (samples : List Sample) (boxes : List SpanBox) (total : ℕ) → boxes ≡ graph_of samples → total ≡ total_weight samples
@@ -100,15 +120,6 @@ pub graph_positive : (samples : List Sample) (boxes : List SpanBox) (total : ℕ
     → 0 < length boxes → 0 < total
 graph_positive samples boxes total drawn weighed some =
     subst (λ n. 0 < n) (sym weighed) (graph-positive samples (subst (λ (bs : List SpanBox). 0 < length bs) drawn some))
-
--- the line of the graph after those of the snapshots
-pub graph_appended : {T E : Type 0} (result : Result T E) (old out new : List ℕ) (width : ℕ) (order : List ℕ) (every : Option ℕ) (lists : List (List Sample))
-    → out ≡ old ++ snapshot_lines width lists order (snapshot_places every (length order))
-    → OnOk result (new ≡ out ++ graph_line width (all_samples lists))
-    → OnOk result (new ≡ old ++ graph_text width lists order every)
-graph_appended result old out new width order every lists so_far appended =
-    on_ok_weaker result (λ more. more ∙ ((λ i. so_far i ++ graph_line width (all_samples lists))
-    ∙ append_assoc old (snapshot_lines width lists order (snapshot_places every (length order))) (graph_line width (all_samples lists)))) appended
 
 pub chart_within : (lists : List (List Sample)) (boxes : List SpanBox) (total : ℕ) → boxes ≡ chart_of (timeline lists) → total ≡ total_weight (all_samples lists)
     → All (λ span. span.start + span.weight ≤ total) boxes

@@ -8,7 +8,7 @@ use Rattle.call_tree.specs.PathSums.{total_of, own_of}
 use Rattle.clap.specs.Walk.{Text}
 use Rattle.stack_core.specs.Reading.{Rest}
 use Rattle.folded_lines.proofs.Computing.{computing}
-use Rattle.flame_layout.specs.Merged.{merged, stacks_of, sum_at}
+use Rattle.merged_stacks.specs.Merged.{merged, stacks_of, sum_at}
 use Rattle.flame_tool.specs.Requests.{asked_plan, known_rests}
 use Rattle.flame_tool.specs.Runs.{lists_of}
 use Rattle.flame_tool.specs.Texts.{view_text}
@@ -58,6 +58,19 @@ fold_of_the_input = refl
 folded_whatever_the_name : text_asked (codes "fold" ∷ codes "--format" ∷ codes "folded" ∷ codes "z.pb" ∷ []) None ≡ Some (codes "a 1\n")
 unfolding clap_on_literals merged stacks_of sum_at computing digits
 folded_whatever_the_name = refl
+
+-- what is not in the focus, or is hidden, is left out of each file
+fold_of_the_focus : text_asked (codes "fold" ∷ codes "--focus" ∷ codes "a" ∷ codes "y" ∷ codes "x" ∷ []) None ≡ Some (codes "a 3\n")
+unfolding clap_on_literals merged stacks_of sum_at computing digits
+fold_of_the_focus = refl
+
+fold_of_the_rest : text_asked (codes "fold" ∷ codes "--hide=a" ∷ codes "y" ∷ codes "x" ∷ []) None ≡ Some (codes "b 4\n")
+unfolding clap_on_literals merged stacks_of sum_at computing digits
+fold_of_the_rest = refl
+
+nothing_in_focus : text_asked (codes "fold" ∷ codes "--focus" ∷ codes "c" ∷ []) (Some (codes "a 1\n")) ≡ Some []
+unfolding clap_on_literals merged stacks_of sum_at computing digits
+nothing_in_focus = refl
 
 -- nothing is known of a run where a file or the input is not known
 unknown_file : rests_asked (codes "fold" ∷ codes "x" ∷ codes "z" ∷ []) (Some (codes "a 1\n")) ≡ None

@@ -1,6 +1,6 @@
 -- Worked examples, computed on the definition.
 use Rattle.std.proofs.Common.{◌≡◌, [], ◌∷◌, codes, refl}
-use Rattle.flame_layout.specs.Merged.{merged, stacks_of, sum_at}
+use Rattle.merged_stacks.specs.Merged.{merged, stacks_of, sum_at}
 use Rattle.std.specs.Fmt.{digits}
 use Rattle.flame_tool.specs.Runs.{text_of}
 use Rattle.folded_lines.proofs.Computing.{computing}

@@ -4,8 +4,8 @@ use Rattle.std.specs.Prelude.{None, Some, take}
 use Rattle.std.specs.Fmt.{digits}
 use Rattle.json.specs.Print.{escape_byte}
 use Rattle.call_tree.specs.PathSums.{total_of, own_of}
-use Rattle.stack_core.specs.declared.samples.Sample.{Sample}
-use Rattle.flame_layout.specs.Timeline.{Stack}
+use Rattle.sample_tables.specs.declared.samples.Sample.{Sample}
+use Rattle.merged_stacks.specs.Timeline.{Stack}
 use Rattle.view_texts.specs.Json.{boxes_line, snapshot_line, pair_boxes_line}
 use Rattle.merging.specs.Snapshots.{snapshot_counts, snapshot_places, snapshot_samples}
 use Rattle.flame_tool.specs.Texts.{graph_text, chart_text, pair_boxes_text}

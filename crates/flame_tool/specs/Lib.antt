@@ -11,11 +11,13 @@ pub use Rattle.byte_io.specs.Inlet
 pub use Rattle.byte_io.specs.Outlet
 pub use Rattle.command_line.specs.CommandLine
 pub use Rattle.command_line.specs.Plans
+pub use Rattle.merged_stacks.specs.Merged
 pub use Rattle.merging.specs.Gathered
 pub use Rattle.merging.specs.Snapshots
 pub use Rattle.merging.specs.Sources
 pub use Rattle.merging.specs.Sums
 pub use Rattle.merging.specs.TreeSinkState
+pub use Rattle.run_options.specs.Filters
 pub use Rattle.run_options.specs.Formats
 pub use Rattle.view_texts.specs.Fold
 pub use Rattle.view_texts.specs.Json

@@ -11,7 +11,7 @@ use Rattle.run_options.specs.declared.options.Options.{Options}
 use Rattle.command_line.specs.CommandLine.{command_line}
 use Rattle.command_line.specs.Plans.{IsRequest, default_plan, fault_of, plan_of}
 use Rattle.command_line.specs.declared.plans.Plan.{Plan}
-use Rattle.merging.specs.Sources.{read_bytes}
+use Rattle.merging.specs.Sources.{asked_rest}
 
 -- ---- the words
 
@@ -41,10 +41,10 @@ all_found find [] = Some []
 all_found find (x ∷ xs) =
     option_and_then (λ found. option_map (λ more. found ∷ more) (all_found find xs)) (find x)
 
--- the samples and the ending of known bytes
+-- the samples of known bytes that are asked for, and the ending
 abbrev pub rest_of : Options → Format → Option (List ℕ) → Option Rest
 rest_of options format bytes =
-    option_map (λ bytes. read_bytes format bytes options.pick options.naming) bytes
+    option_map (λ bytes. asked_rest options format bytes) bytes
 
 -- the same of the file of a path, whose name says its format unless one was asked for
 abbrev pub rest_at : Options → Option Format → (List ℕ → Option (List ℕ)) → List ℕ → Option Rest

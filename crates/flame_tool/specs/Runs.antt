@@ -1,9 +1,10 @@
 -- What a run leaves on its output, and what that says of its sources.
 use Rattle.std.specs.Prelude.{◌≡◌, ℕ, List, Option, take, map, All, Any}
 use Rattle.std.specs.Io.KnownBytes.{Appends}
+use Rattle.byte_io.specs.Pieces.{AppendsFront}
 use Rattle.stack_core.specs.Interleaving.{IsInterleaving}
 use Rattle.stack_core.specs.Reading.{Rest}
-use Rattle.stack_core.specs.declared.samples.Sample.{Sample}
+use Rattle.sample_tables.specs.declared.samples.Sample.{Sample}
 use Rattle.stack_core.specs.declared.endings.SourceEnd.{SourceEnd}
 use Rattle.stack_core.specs.declared.endings.SourceEnd.TheVariants as ends
 use Rattle.folded_lines.specs.Reading.{read_folded}
@@ -30,10 +31,6 @@ text_of bytes = fold_text (read_folded bytes).samples
 -- the output gained a part of the fold text from its front, or nothing
 abbrev pub GainsFront : List ℕ → Option (List ℕ) → Option (List ℕ) → Type 0
 GainsFront bytes old new = (count : ℕ) × Appends old new (take count (text_of bytes))
-
--- the output gained a part of the text from its front, or nothing
-abbrev pub AppendsFront : List ℕ → Option (List ℕ) → Option (List ℕ) → Type 0
-AppendsFront text old new = (count : ℕ) × Appends old new (take count text)
 
 -- the samples of sources
 abbrev pub lists_of : List Rest → List (List Sample)

@@ -1,9 +1,9 @@
 -- The text of each view, of the collected lists and the order of arrival.
 use Rattle.std.specs.Prelude.{◌≡◌, ℕ, List, ◌++◌, Option, None, codes, length, map}
 use Rattle.std.specs.List.{flat_map, range_with_len}
-use Rattle.stack_core.specs.declared.samples.Sample.{Sample}
+use Rattle.sample_tables.specs.declared.samples.Sample.{Sample}
 use Rattle.stack_core.specs.Interleaving.{counts_at, list_of}
-use Rattle.flame_layout.specs.Timeline.{timeline, total_weight}
+use Rattle.merged_stacks.specs.Timeline.{timeline, total_weight}
 use Rattle.flame_layout.specs.Chart.{chart_of}
 use Rattle.flame_layout.specs.Graph.{graph_of}
 use Rattle.flame_layout.specs.Comparison.{compared_boxes_of}

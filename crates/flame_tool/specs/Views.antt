@@ -3,7 +3,7 @@ use Rattle.std.specs.Prelude.{◌≡◌, ℕ, List, Option}
 use Rattle.stack_core.specs.Ledgers.{ListState}
 use Rattle.call_tree.specs.CallTree.{Tree}
 use Rattle.flame_layout.specs.declared.boxes.SpanBox.{SpanBox}
-use Rattle.flame_layout.specs.Timeline.{samples_of, timeline}
+use Rattle.merged_stacks.specs.Timeline.{samples_of, timeline}
 use Rattle.flame_layout.specs.Chart.{chart_of}
 use Rattle.flame_layout.specs.Graph.{graph_of}
 use Rattle.merging.specs.declared.snapshots.Snapshot.{Snapshot}

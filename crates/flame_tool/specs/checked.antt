@@ -2,3 +2,4 @@
 pub mod Failures
 pub mod Filling
 pub mod Opening
+pub mod SnapshotPieces

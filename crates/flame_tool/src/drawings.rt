@@ -2,7 +2,7 @@
 ghost use Rattle.std.specs.Prelude.{◌≡◌, IfOk};
 ghost use Rattle.flame_layout.specs.Chart.{chart_of};
 ghost use Rattle.flame_layout.specs.Graph.{graph_of};
-ghost use Rattle.flame_layout.specs.Timeline.{samples_of, timeline};
+ghost use Rattle.merged_stacks.specs.Timeline.{samples_of, timeline};
 ghost use Rattle.merging.specs.Sums.{all_samples};
 
 use flame_layout::{MergedStacks, SpanBox, chart_boxes, merged_boxes};

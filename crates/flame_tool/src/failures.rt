@@ -3,7 +3,7 @@ ghost use Rattle.std.specs.Prelude.{◌≡◌};
 ghost use Rattle.flame_tool.specs.checked.Failures.{status_of, failure_of_load, failure_of_collect};
 ghost use Rattle.flame_tool.specs.declared.failures.Failure.TheVariants.{OutOfMemory, Output};
 
-use byte_io::{LoadFault, SendFault};
+use byte_io::{LoadFault, PieceFault};
 use ring_collect::CollectFault;
 use std::alloc::AllocError;
 
@@ -24,8 +24,8 @@ pub(crate) enum Failure {
     Unfinished { source: u32 },
     // A source has a fault, or several have; each was reported.
     Faults,
-    // The output can't be written.
-    Output,
+    // The text was not sent whole: the output can't be written, or there was no memory on the way.
+    Output(PieceFault),
 }
 
 impl Failure {
@@ -52,7 +52,7 @@ impl Failure {
             | Failure::OutOfMemory
             | Failure::NoThread
             | Failure::Unfinished { source: _ }
-            | Failure::Output => 3,
+            | Failure::Output(_) => 3,
         }
     }
 }
@@ -77,10 +77,10 @@ impl From<CollectFault> for Failure {
     }
 }
 
-impl From<SendFault> for Failure {
-    ghost from_gives = { λ _ failure. failure ≡ Output };
+impl From<PieceFault> for Failure {
+    ghost from_gives = { λ fault failure. failure ≡ Output fault };
 
-    fn from(_fault: SendFault) -> Failure {
-        Failure::Output
+    fn from(fault: PieceFault) -> Failure {
+        Failure::Output(fault)
     }
 }

@@ -1,115 +1,102 @@
 //! The lines of a flame graph and of its snapshots.
-ghost use Rattle.std.specs.Prelude.{◌≡◌, ◌++◌, ◌<◌, OnOk, OnErr, IfOk, List, length};
-ghost use Rattle.std.specs.Io.{StartsWith};
-ghost use Rattle.std.specs.List.{slice_index_or};
-ghost use Rattle.stack_core.specs.declared.samples.Sample.{Sample};
+ghost use Rattle.std.specs.Prelude.{◌≡◌, ◌+◌, ◌++◌, ◌<◌, ◌^◌, OnOk, OnErr, IfOk, List, length};
+ghost use Rattle.std.specs.List.{concat, slice_index_or};
+ghost use Rattle.sample_tables.specs.declared.samples.Sample.{Sample};
 ghost use Rattle.flame_layout.specs.Paths.{SameOwn, tree_samples};
-ghost use Rattle.flame_layout.specs.Timeline.{samples_of, timeline, total_weight};
+ghost use Rattle.merged_stacks.specs.Timeline.{samples_of, timeline, total_weight};
 ghost use Rattle.flame_layout.specs.Chart.{chart_of};
 ghost use Rattle.flame_layout.specs.Graph.{graph_of};
 ghost use Rattle.view_texts.specs.Json.{snapshot_line};
 ghost use Rattle.merging.specs.Sums.{all_samples, IsDrawable};
-ghost use Rattle.merging.specs.Snapshots.{snapshot_places};
-ghost use Rattle.flame_tool.specs.Texts.{chart_text, graph_line, graph_text, snapshot_lines, snapshot_line_at, places_of};
+ghost use Rattle.flame_tool.specs.Texts.{chart_text, graph_line, graph_text, snapshot_line_at, places_of};
+ghost use Rattle.flame_tool.specs.checked.SnapshotPieces.{snapshot_pieces};
 ghost use Rattle.flame_tool.specs.checked.Filling.{filled};
 
+use byte_io::{Chain, Pieces};
 use call_tree::FrameTable;
 use flame_layout::{SpanBox, Width, graph_boxes};
 use merging::{Gathered, Snapshot, SourceLists};
 use std::alloc::{AllocError, Global};
-use view_texts::{Scale, append_boxes_line, append_snapshot_line, truncate_on_error};
+use view_texts::{JsonLine, Scale, append_snapshot_line, picture_line};
 
-// Appends the line of the chart. An `Err` changes nothing.
-pub(crate) fn append_chart(
-    alloc: Global,
-    out: &mut Vec<u8>,
+// The line of the chart.
+pub(crate) fn chart_line<'a>(
     sources: &SourceLists,
-    boxes: &[SpanBox],
+    boxes: &'a [SpanBox],
     width: Width,
-) -> Result<(), AllocError>
+) -> JsonLine<'a, SpanBox>
     requires boxes { boxes.now ≡ chart_of (timeline (samples_of sources.now.lists)) }
-    ensures ok { OnOk result (out.new.items ≡ out.old.items
-        ++ chart_text width (samples_of sources.now.lists)) }
-    ensures err { OnErr result (out.new.items ≡ out.old.items) }
+    ensures text { concat (⟦<JsonLine<'a, SpanBox> as Pieces>⟧.pieces result)
+        ≡ chart_text width (samples_of sources.now.lists) }
+    ensures few { length (⟦<JsonLine<'a, SpanBox> as Pieces>⟧.pieces result) < 2 ^ 64 }
 {
-    let scale = Scale {
-        total: sources.total(),
-        width,
-    };
-    append_boxes_line(alloc, out, "chart", boxes, &scale)
+    let total = sources.total();
+    picture_line("chart", boxes, Scale { total, width })
 }
 
-// Appends the line of the graph alone. An `Err` changes nothing.
-pub(crate) fn append_graph_line(
-    alloc: Global,
-    out: &mut Vec<u8>,
+// The line of the graph alone.
+pub(crate) fn graph_line<'a>(
     sources: &SourceLists,
-    boxes: &[SpanBox],
+    boxes: &'a [SpanBox],
     width: Width,
-) -> Result<(), AllocError>
+) -> JsonLine<'a, SpanBox>
     requires boxes { boxes.now ≡ graph_of (all_samples (samples_of sources.now.lists)) }
-    ensures ok { OnOk result (out.new.items ≡ out.old.items
-        ++ graph_line width (all_samples (samples_of sources.now.lists))) }
-    ensures err { OnErr result (out.new.items ≡ out.old.items) }
+    ensures text { concat (⟦<JsonLine<'a, SpanBox> as Pieces>⟧.pieces result)
+        ≡ graph_line width (all_samples (samples_of sources.now.lists)) }
+    ensures count { length (⟦<JsonLine<'a, SpanBox> as Pieces>⟧.pieces result)
+        ≡ length boxes.now + 2 }
+    ensures few { length (⟦<JsonLine<'a, SpanBox> as Pieces>⟧.pieces result) < 2 ^ 64 }
 {
-    let scale = Scale {
-        total: sources.total(),
-        width,
-    };
-    append_boxes_line(alloc, out, "graph", boxes, &scale)
+    let total = sources.total();
+    picture_line("graph", boxes, Scale { total, width })
 }
 
-// Appends the line of each snapshot, and then that of the graph. An `Err` changes nothing.
-pub(crate) fn append_graph(
-    alloc: Global,
-    out: &mut Vec<u8>,
-    gathered: &Gathered,
-    boxes: &[SpanBox],
+// The lines of the snapshots. Each is a piece.
+#[derive(Clone, Copy)]
+pub(crate) struct SnapshotLines<'a> {
+    gathered: &'a Gathered,
     width: Width,
-) -> Result<(), AllocError>
-    requires boxes { boxes.now ≡ graph_of (all_samples (samples_of gathered.now.lists)) }
-    ensures ok { OnOk result (out.new.items ≡ out.old.items ++ graph_text width
-        (samples_of gathered.now.lists) gathered.now.order gathered.now.every) }
-    ensures err { OnErr result (out.new.items ≡ out.old.items) }
-{
-    let before = out.len();
-    let answer = append_graph_lines(alloc, out, gathered, boxes, width);
-    truncate_on_error(out, before, answer)
 }
 
-// The same, but an `Err` may leave lines at the front.
-fn append_graph_lines(
-    alloc: Global,
-    out: &mut Vec<u8>,
-    gathered: &Gathered,
-    boxes: &[SpanBox],
-    width: Width,
-) -> Result<(), AllocError>
-    requires boxes { boxes.now ≡ graph_of (all_samples (samples_of gathered.now.lists)) }
-    ensures ok { OnOk result (out.new.items ≡ out.old.items ++ graph_text width
-        (samples_of gathered.now.lists) gathered.now.order gathered.now.every) }
-    ensures front { StartsWith out.new.items out.old.items }
-{
-    append_snapshots(alloc, out, gathered, width)?;
-    append_graph_line(alloc, out, gathered.sources(), boxes, width)
-}
+impl Pieces for SnapshotLines<'_> {
+    ghost pieces = { λ lines. snapshot_pieces lines.width (samples_of lines.gathered.now.lists)
+        lines.gathered.now.order (places_of lines.gathered.now.snapshots) };
 
-// Appends the lines of the snapshots, or of those at the front.
-fn append_snapshots(
-    alloc: Global,
-    out: &mut Vec<u8>,
-    gathered: &Gathered,
-    width: Width,
-) -> Result<(), AllocError>
-    ensures ok { OnOk result (out.new.items ≡ out.old.items ++ snapshot_lines width
-        (samples_of gathered.now.lists) gathered.now.order
-        (snapshot_places gathered.now.every (length gathered.now.order))) }
-    ensures front { StartsWith out.new.items out.old.items }
-{
-    for place in 0..gathered.snapshots().len() {
-        append_snapshot(alloc, out, gathered, place, width)?;
+    fn count(&self) -> usize {
+        self.gathered.snapshots().len()
     }
-    Ok(())
+
+    fn append_piece(&self, alloc: Global, at: usize, out: &mut Vec<u8>) -> Result<(), AllocError> {
+        append_snapshot(alloc, out, self.gathered, at, self.width)
+    }
+}
+
+// The text of a graph: the lines of its snapshots, and then its own.
+pub(crate) type GraphText<'a> = Chain<SnapshotLines<'a>, JsonLine<'a, SpanBox>>;
+
+// The line of each snapshot, and then that of the graph.
+pub(crate) fn graph_text<'a>(
+    gathered: &'a Gathered,
+    boxes: &'a [SpanBox],
+    width: Width,
+) -> GraphText<'a>
+    requires boxes { boxes.now ≡ graph_of (all_samples (samples_of gathered.now.lists)) }
+    ensures text { concat (⟦<GraphText<'a> as Pieces>⟧.pieces result) ≡ graph_text width
+        (samples_of gathered.now.lists) gathered.now.order gathered.now.every }
+    ensures few { length (⟦<GraphText<'a> as Pieces>⟧.pieces result) < 2 ^ 64 }
+{
+    have_few_pieces(gathered.snapshots(), boxes);
+    Chain {
+        first: SnapshotLines { gathered, width },
+        then: graph_line(gathered.sources(), boxes, width),
+    }
+}
+
+// No two slices in memory have so many items that their numbers add up to more.
+fn have_few_pieces(snapshots: &[Snapshot], boxes: &[SpanBox])
+    ensures { length snapshots.now + (length boxes.now + 2) < 2 ^ 64 }
+{
+    let _count = snapshots.len() + boxes.len() + 2;
 }
 
 // Appends the line of a snapshot. An `Err` changes nothing.

@@ -1,11 +1,11 @@
 //! The laws over the definitions of sources, views and texts, for all lists.
 ghost use Rattle.std.specs.Prelude.{◌≡◌, ℕ, false, List, [], All, None, map};
-ghost use Rattle.stack_core.specs.declared.samples.Sample.{Sample};
+ghost use Rattle.sample_tables.specs.declared.samples.Sample.{Sample};
 ghost use Rattle.run_options.specs.declared.choices.Naming.{Naming};
 ghost use Rattle.run_options.specs.declared.choices.Pick.{Pick};
 ghost use Rattle.run_options.specs.declared.formats.Format.{Format};
 ghost use Rattle.folded_lines.specs.LastNames.{last_ends_in_number};
-ghost use Rattle.flame_layout.specs.Timeline.{drawn};
+ghost use Rattle.merged_stacks.specs.Timeline.{drawn};
 ghost use Rattle.merging.specs.Sources.{read_bytes};
 ghost use Rattle.command_line.specs.declared.plans.View.{View};
 ghost use Rattle.view_texts.specs.Parts.{IsFoldable, refolded};

@@ -16,6 +16,7 @@ mod endings;
 mod failures;
 mod messages;
 mod program;
+mod sent_views;
 mod source_files;
 
 pub use byte_io::{
@@ -25,7 +26,7 @@ pub use byte_io::{
 pub use command_line::{Plan, PlanFault, View, plan};
 pub use merging::{Gathered, Snapshot, Source, TreeSink, gather};
 pub use program::run;
-pub use run_options::{Format, Options, format_of};
+pub use run_options::{Filter, Format, Options, format_of};
 pub use source_files::SOURCE_COUNT;
 pub use view_set::Views;
 pub use view_text::render;

@@ -2,8 +2,9 @@
 //! write changes nothing.
 
 use crate::failures::Failure;
-use byte_io::{Outlet, send};
+use byte_io::{Outlet, PieceFault, send};
 use itoa::Buffer;
+use run_options::Format;
 use stack_core::SourceEnd;
 
 // What messages call the standard input.
@@ -25,14 +26,25 @@ pub(crate) fn report_failure<E: Outlet>(err: &mut E, files: &[String], failure: 
             write_line(err, &[path_of(files, source), ": cannot be read"]);
         }
         Failure::TooLarge { source } => write_line(err, &[path_of(files, source), ": too large"]),
-        Failure::OutOfMemory => write_line(err, &["out of memory"]),
+        Failure::OutOfMemory | Failure::Output(PieceFault::OutOfMemory) => {
+            write_line(err, &["out of memory"]);
+        }
         Failure::NoThread => write_line(err, &["no thread"]),
         Failure::Unfinished { source } => {
             write_line(err, &[path_of(files, source as usize), ": unfinished"]);
         }
         Failure::Faults => {}
-        Failure::Output => write_line(err, &["output failed"]),
+        Failure::Output(PieceFault::Output) => write_line(err, &["output failed"]),
     }
+}
+
+// Says what is awaited where the input is a terminal.
+pub(crate) fn report_awaited_input<E: Outlet>(err: &mut E, format: Format) {
+    let awaited = match format {
+        Format::Folded => ": awaits folded lines, which end with Ctrl-D",
+        Format::Pprof => ": awaits a pprof profile",
+    };
+    write_line(err, &[INPUT, awaited, "; see flamecollect --help"]);
 }
 
 // Says what there is to say of the ending of a source: its fault, or how many lines were ignored, if

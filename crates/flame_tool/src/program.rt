@@ -1,23 +1,25 @@
 //! A run of the program.
-ghost use Rattle.std.specs.Prelude.{◌≡◌, ◌≢◌, ◌≤◌, ◌<◌, ◌⊎◌, ℕ, [], List, None, Option, false, true, IfSome, IfErr, IsErrOf, IsSomeAnd, OnOk, vec_len, length, map, string_bytes};
+ghost use Rattle.std.specs.Prelude.{◌≡◌, ◌≢◌, ◌≤◌, ◌<◌, ◌⊎◌, ℕ, [], List, None, Option, false, IfSome, IfErr, IsErrOf, IsNone, IsSomeAnd, OnOk, vec_len, length, map, string_bytes};
 ghost use Rattle.std.specs.Io.KnownBytes.{Appends, Keeps};
 ghost use Rattle.folded_lines.specs.Reading.{read_folded};
-ghost use Rattle.flame_layout.specs.Timeline.{samples_of};
+ghost use Rattle.merged_stacks.specs.Timeline.{samples_of};
 ghost use Rattle.command_line.specs.Plans.{IsComparison};
 ghost use Rattle.flame_tool.specs.Requests.{AreRefused, AsksForHelp, asked_plan, known_rests};
-ghost use Rattle.flame_tool.specs.Texts.{IsOrderless, view_text};
+ghost use Rattle.flame_tool.specs.Texts.{IsOrderless, graph_text, view_text};
 ghost use Rattle.flame_tool.specs.Runs.{IsClean, IsFault, text_of, lists_of, GainsFront, Shows, ShowsFront, HasFault};
 ghost use Rattle.flame_tool.specs.checked.Opening.{AreOpened};
 ghost use Rattle.flame_tool.specs.checked.Failures.{has_fault, Fails, FailsToShow, KeepsOutput, IsHelp, IsWords};
 
 use crate::endings::{any_fault, report_endings};
 use crate::failures::Failure;
-use crate::messages::report_failure;
+use crate::messages::{report_awaited_input, report_failure};
+use crate::sent_views::{send_plain_view, send_snapshots};
 use crate::source_files::open_sources;
-use crate::view_text::{append_plain_view, append_view};
-use byte_io::{Files, Outlet, send};
+use byte_io::{Files, Outlet, PieceFault, send};
 use command_line::{Plan, PlanFault, View, plan, plan_without_words};
+use flame_layout::Width;
 use merging::{Gathered, Source, SourceLists, gather, read_sources};
+use run_options::Format;
 use stack_core::OpenGate;
 use std::alloc::{AllocError, Global};
 use std::sync::{Arc, Wait};
@@ -108,7 +110,7 @@ fn refuse<W: Outlet, E: Outlet>(fault: PlanFault, out: &mut W, err: &mut E) -> u
         PlanFault::Help(text) => match send(text.as_bytes(), out) {
             Ok(()) => 0,
             Err(_) => {
-                report_failure(err, &[], Failure::Output);
+                report_failure(err, &[], Failure::Output(PieceFault::Output));
                 3
             }
         },
@@ -143,6 +145,9 @@ fn run_plan<T: Threads + Wait + Copy + Send + 'static, F: Files, W: Outlet, E: O
     ensures unwritten { result ≡ 1 → Keeps (W.contents out.old) (W.contents out.new) }
     ensures refused { result ≡ 2 → Keeps (W.contents out.old) (W.contents out.new) }
 {
+    if plan.files.get().is_empty() && files.is_input_terminal() {
+        report_awaited_input(err, plan.format.unwrap_or(Format::Folded));
+    }
     match show(rt, alloc, &plan, files, out, err) {
         Ok(()) => 0,
         Err(failure) => {
@@ -178,54 +183,24 @@ fn show<T: Threads + Wait + Copy + Send + 'static, F: Files, W: Outlet, E: Outle
     ensures many { IsErrOf result Failure.TooManyFiles → 64 < length plan.now.files }
 {
     let sources = open_sources(alloc, files, plan.files.get(), plan.format)?;
-    if is_orderless(plan.view, plan.options.every) {
-        show_lists(rt, alloc, plan, sources, out, err)
-    } else {
-        show_snapshots(rt, alloc, plan, sources, out, err)
-    }
+    show_sources(rt, alloc, plan, sources, out, err)
 }
 
-// Whether the text of a view is the same in whatever order the samples came.
-fn is_orderless(view: View, every: Option<u64>) -> bool
-    ensures { result ≡ true → IsOrderless view every }
+// The width of a graph with snapshots. The text of each other view is the same in whatever order the samples
+// came.
+fn snapshots_width(view: View, every: Option<u64>) -> Option<Width>
+    ensures some { IfSome result (λ width. view ≡ View.Graph width) }
+    ensures none { IsNone result → IsOrderless view every }
 {
     match view {
-        View::Graph(_) => every.is_none(),
-        View::Fold | View::Chart(_) | View::Pairs | View::PairBoxes(_) => true,
+        View::Graph(width) => every.map(|_| width),
+        View::Fold | View::Chart(_) | View::Pairs | View::PairBoxes(_) => None,
     }
 }
 
-// Collects the samples of sources, and writes the view of them.
-fn show_lists<T: Threads + Wait + Copy + Send + 'static, W: Outlet, E: Outlet>(
-    rt: &T,
-    alloc: Global,
-    plan: &Plan,
-    sources: Vec<Source>,
-    out: &mut W,
-    err: &mut E,
-) -> Result<(), Failure>
-    requires few { length sources.items ≤ 64 }
-    requires pairs { IsComparison plan.now.view → length sources.items ≡ 2 }
-    requires orderless { IsOrderless plan.now.view plan.now.options.every }
-    ensures ok { (input : Option (List ℕ)) (files : List ℕ → Option (List ℕ))
-        → AreOpened plan.now.format input files plan.now.files sources.items
-        → OnOk result (IfSome (known_rests plan.now input files)
-        (Shows plan.now (W.contents out.old) (W.contents out.new))) }
-    ensures err { (input : Option (List ℕ)) (files : List ℕ → Option (List ℕ))
-        → AreOpened plan.now.format input files plan.now.files sources.items
-        → IfErr result (λ failure. IfSome (known_rests plan.now input files)
-        (Fails plan.now (W.contents out.old) (W.contents out.new) failure)) }
-    ensures kept { IfErr result (λ failure.
-        KeepsOutput (W.contents out.old) (W.contents out.new) failure) }
-    ensures few_files { IsErrOf result Failure.TooManyFiles → ⊥ }
-{
-    let run = read_sources(rt, alloc, sources, &plan.options, open_gate(alloc)?)?;
-    report_endings(err, plan.files.get(), run.lists());
-    send_lists(alloc, &run, plan.view, out)
-}
-
-// The same with snapshots: the samples are merged as they arrive.
-fn show_snapshots<T: Threads + Wait + Copy + Send + 'static, W: Outlet, E: Outlet>(
+// Collects the samples of sources, and sends the view of them. Where it has snapshots, the samples are merged as
+// they arrive.
+fn show_sources<T: Threads + Wait + Copy + Send + 'static, W: Outlet, E: Outlet>(
     rt: &T,
     alloc: Global,
     plan: &Plan,
@@ -248,33 +223,39 @@ fn show_snapshots<T: Threads + Wait + Copy + Send + 'static, W: Outlet, E: Outle
         KeepsOutput (W.contents out.old) (W.contents out.new) failure) }
     ensures few_files { IsErrOf result Failure.TooManyFiles → ⊥ }
 {
-    let gathered = gather(rt, alloc, sources, &plan.options, open_gate(alloc)?)?;
-    report_endings(err, plan.files.get(), gathered.lists());
-    send_view(alloc, &gathered, plan.view, out)
+    let gate = open_gate(alloc)?;
+    match snapshots_width(plan.view, plan.options.every) {
+        Some(width) => {
+            let gathered = gather(rt, alloc, sources, &plan.options, gate)?;
+            report_endings(err, plan.files.get(), gathered.lists());
+            send_gathered(alloc, &gathered, width, out)
+        }
+        None => {
+            let run = read_sources(rt, alloc, sources, &plan.options, gate)?;
+            report_endings(err, plan.files.get(), run.lists());
+            send_lists(alloc, &run, plan.view, out)
+        }
+    }
 }
 
-// Writes the view of what was collected, unless a source has a fault. All of it is made before the first goes out.
-fn send_view<W: Outlet>(
+// Sends the text of what was collected, unless a source has a fault.
+fn send_gathered<W: Outlet>(
     alloc: Global,
     gathered: &Gathered,
-    view: View,
+    width: Width,
     out: &mut W,
 ) -> Result<(), Failure>
-    requires pairs { IsComparison view → length gathered.now.lists ≡ 2 }
     ensures faultless { OnOk result (has_fault gathered.now.lists ≡ false) }
-    ensures ok { OnOk result (Appends (W.contents out.old) (W.contents out.new)
-        (view_text view (samples_of gathered.now.lists) gathered.now.order gathered.now.every)) }
-    ensures err { IfErr result (FailsToShow gathered.now.lists
-        (view_text view (samples_of gathered.now.lists) gathered.now.order gathered.now.every)
+    ensures ok { OnOk result (Appends (W.contents out.old) (W.contents out.new) (graph_text width
+        (samples_of gathered.now.lists) gathered.now.order gathered.now.every)) }
+    ensures err { IfErr result (FailsToShow gathered.now.lists (graph_text width
+        (samples_of gathered.now.lists) gathered.now.order gathered.now.every)
         (W.contents out.old) (W.contents out.new)) }
 {
     if any_fault(gathered.lists()) {
         return Err(Failure::Faults);
     }
-    let mut text = Vec::new(alloc);
-    append_view(alloc, gathered, view, &mut text)?;
-    send(text.as_slice(), out)?;
-    Ok(())
+    send_snapshots(alloc, gathered, width, out)
 }
 
 // The same for the lists of a run, without snapshots.
@@ -295,7 +276,5 @@ fn send_lists<W: Outlet>(
     if any_fault(run.lists()) {
         return Err(Failure::Faults);
     }
-    let mut text = Vec::new(alloc);
-    append_plain_view(alloc, run, view, &mut text)?;
-    Ok(send(text.as_slice(), out)?)
+    send_plain_view(alloc, run, view, out)
 }

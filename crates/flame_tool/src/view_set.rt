@@ -3,7 +3,7 @@
 ghost use Rattle.std.specs.Prelude.{◌≡◌, ◌≤◌, ℕ, All, IfOk};
 ghost use Rattle.stack_core.specs.Interleaving.{IsInterleaving};
 ghost use Rattle.call_tree.specs.FrameTable.{HasDistinctNames};
-ghost use Rattle.flame_layout.specs.Timeline.{samples_of, timeline};
+ghost use Rattle.merged_stacks.specs.Timeline.{samples_of, timeline};
 ghost use Rattle.flame_layout.specs.Chart.{chart_of};
 ghost use Rattle.flame_layout.specs.Graph.{graph_of};
 ghost use Rattle.merging.specs.Snapshots.{snapshot_samples, AreSnapshots};

@@ -1,6 +1,6 @@
 //! The text of a view of what was collected.
-ghost use Rattle.std.specs.Prelude.{◌≡◌, ◌++◌, ◌<◌, ◌^◌, [], None, OnOk, OnErr, length};
-ghost use Rattle.flame_layout.specs.Timeline.{samples_of, total_weight};
+ghost use Rattle.std.specs.Prelude.{◌≡◌, ◌++◌, ◌<◌, ◌^◌, OnOk, OnErr, length};
+ghost use Rattle.merged_stacks.specs.Timeline.{samples_of, total_weight};
 ghost use Rattle.view_texts.specs.Fold.{fold_text};
 ghost use Rattle.view_texts.specs.Pairs.{pairs_text};
 ghost use Rattle.merging.specs.Sums.{all_samples};
@@ -8,12 +8,12 @@ ghost use Rattle.command_line.specs.Plans.{IsComparison};
 ghost use Rattle.flame_tool.specs.Texts.{view_text, pair_boxes_text};
 ghost use Rattle.stack_core.specs.Interleaving.{list_of};
 
-use crate::drawings::{draw_chart, draw_graph};
-use crate::graph_texts::{append_chart, append_graph, append_graph_line};
+use crate::graph_texts::{chart_line, graph_text};
 use crate::view_set::Views;
+use byte_io::append_pieces;
 use command_line::View;
 use flame_layout::{MergedStacks, Width, compare, compared_boxes};
-use merging::{Gathered, SourceLists};
+use merging::SourceLists;
 use stack_core::SourceList;
 use std::alloc::{AllocError, Global};
 use view_texts::{Scale, append_merged_text, append_pair_boxes_line, append_pairs_text};
@@ -26,63 +26,15 @@ pub fn render(alloc: Global, views: &Views, view: View, out: &mut Vec<u8>) -> Re
         ++ view_text view (samples_of views.now.lists) views.now.order views.now.every) }
     ensures err { OnErr result (out.new.items ≡ out.old.items) }
 {
-    match view {
-        View::Graph(width) => append_graph(alloc, out, views.gathered(), views.graph(), width),
-        View::Chart(width) => {
-            append_chart(alloc, out, views.gathered().sources(), views.chart(), width)
-        }
-        View::Fold | View::Pairs | View::PairBoxes(_) => {
-            append_plain_view(alloc, views.gathered().sources(), view, out)
-        }
-    }
-}
-
-// Appends the text of a view, and draws no more than that view needs. An `Err` changes nothing.
-pub(crate) fn append_view(
-    alloc: Global,
-    gathered: &Gathered,
-    view: View,
-    out: &mut Vec<u8>,
-) -> Result<(), AllocError>
-    requires pairs { IsComparison view → length gathered.now.lists ≡ 2 }
-    ensures ok { OnOk result (out.new.items ≡ out.old.items
-        ++ view_text view (samples_of gathered.now.lists) gathered.now.order gathered.now.every) }
-    ensures err { OnErr result (out.new.items ≡ out.old.items) }
-{
+    let gathered = views.gathered();
     let sources = gathered.sources();
-    match view {
-        View::Graph(width) => {
-            let boxes = draw_graph(alloc, sources)?;
-            append_graph(alloc, out, gathered, &boxes, width)
-        }
-        View::Fold | View::Chart(_) | View::Pairs | View::PairBoxes(_) => {
-            append_plain_view(alloc, sources, view, out)
-        }
-    }
-}
-
-// Appends the text of a view without snapshots, and draws no more than that view needs. An `Err` changes
-// nothing.
-pub(crate) fn append_plain_view(
-    alloc: Global,
-    sources: &SourceLists,
-    view: View,
-    out: &mut Vec<u8>,
-) -> Result<(), AllocError>
-    requires pairs { IsComparison view → length sources.now.lists ≡ 2 }
-    ensures ok { OnOk result (out.new.items ≡ out.old.items
-        ++ view_text view (samples_of sources.now.lists) [] None) }
-    ensures err { OnErr result (out.new.items ≡ out.old.items) }
-{
     match view {
         View::Fold => append_fold(alloc, out, sources),
         View::Graph(width) => {
-            let boxes = draw_graph(alloc, sources)?;
-            append_graph_line(alloc, out, sources, &boxes, width)
+            append_pieces(alloc, &graph_text(gathered, views.graph(), width), out)
         }
         View::Chart(width) => {
-            let boxes = draw_chart(alloc, sources)?;
-            append_chart(alloc, out, sources, &boxes, width)
+            append_pieces(alloc, &chart_line(sources, views.chart(), width), out)
         }
         View::Pairs => append_pairs(alloc, out, sources),
         View::PairBoxes(width) => append_pair_boxes(alloc, out, sources, width),

@@ -4,7 +4,7 @@ ghost use Rattle.std.specs.Prelude.{◌≡◌, ◌≤◌, ◌<◌, ℕ, IfOk, If
 ghost use Rattle.std.specs.Arc.{arc_value};
 ghost use Rattle.stack_core.specs.Interleaving.{IsInterleaving};
 ghost use Rattle.ring_collect.specs.Collection.{Collects, AreWhole};
-ghost use Rattle.flame_layout.specs.Timeline.{samples_of, timeline};
+ghost use Rattle.merged_stacks.specs.Timeline.{samples_of, timeline};
 ghost use Rattle.flame_layout.specs.Chart.{chart_of};
 ghost use Rattle.flame_layout.specs.Graph.{graph_of};
 ghost use Rattle.merging.specs.Sources.{rests_of};

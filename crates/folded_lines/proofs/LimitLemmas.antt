@@ -7,9 +7,10 @@ use Rattle.std.proofs.lemmas.List.Elements.{All-nil, All-cons}
 use Rattle.std.proofs.lemmas.List.Sums.{sum_by-cons}
 use Rattle.bstr.specs.Text.{line_len, lines_of, without_terminator}
 use Rattle.bstr.proofs.lemmas.LineLemmas.{line_len-bounds, lines-step, lines-nil}
-use Rattle.stack_core.specs.Reading.{IsLimited, IsSourceLimited}
-use Rattle.stack_core.specs.declared.samples.TheConstants.{FRAME_LIMIT, WEIGHT_LIMIT}
-use Rattle.stack_core.specs.declared.samples.Sample.{Sample as StackSample}
+use Rattle.sample_tables.specs.Samples.{IsLimited}
+use Rattle.stack_core.specs.Reading.{IsSourceLimited}
+use Rattle.sample_tables.specs.declared.samples.TheConstants.{FRAME_LIMIT, WEIGHT_LIMIT}
+use Rattle.sample_tables.specs.declared.samples.Sample.{Sample as StackSample}
 use Rattle.stack_core.specs.declared.endings.ReadKind.TheVariants.{DecimalWeight, TwoColumns, TooDeep, TotalTooLarge}
 use Rattle.stack_core.specs.declared.endings.SourceEnd.{SourceEnd}
 use Rattle.folded_lines.specs.declared.lines.Line.{Line}
@@ -17,7 +18,7 @@ use Rattle.folded_lines.specs.declared.lines.Line.TheVariants.{Ignored, Fault, S
 use Rattle.folded_lines.specs.declared.cursor.Cursor.{Cursor}
 use Rattle.folded_lines.specs.Lines.{text_lines, columns, has_point, ends_in_number, names_of, sample_of, read_columns, read_line}
 use Rattle.folded_lines.specs.checked.Scanning.{within_total, scan, rest_at, IsWithin}
-use Rattle.stack_core.specs.RowReading.{ToldRows}
+use Rattle.sample_tables.specs.Rows.{ToldRows}
 use Rattle.folded_lines.specs.checked.View.{state_at}
 use Rattle.folded_lines.proofs.ScanLemmas.{scan_line}
 

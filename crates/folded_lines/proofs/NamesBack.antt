@@ -8,8 +8,8 @@ use Rattle.std.proofs.lemmas.List.Elements.{All-nil, All-cons, All-head, All-tai
 use Rattle.bstr.specs.Text.{line_len, no_cr, without_terminator}
 use Rattle.bstr.proofs.lemmas.LineLemmas.{line_len-bounds, lines-nil}
 use Rattle.stack_core.specs.Reading.{Rest}
-use Rattle.stack_core.specs.declared.samples.TheConstants.{FRAME_LIMIT, WEIGHT_LIMIT}
-use Rattle.stack_core.specs.declared.samples.Sample.{Sample as StackSample}
+use Rattle.sample_tables.specs.declared.samples.TheConstants.{FRAME_LIMIT, WEIGHT_LIMIT}
+use Rattle.sample_tables.specs.declared.samples.Sample.{Sample as StackSample}
 use Rattle.stack_core.specs.declared.endings.ReadKind.TheVariants.{Compressed, DecimalWeight, TwoColumns, TooDeep, TotalTooLarge}
 use Rattle.folded_lines.specs.declared.lines.Line.{Line}
 use Rattle.folded_lines.specs.declared.lines.Line.TheVariants.{Ignored, Fault, Sample}

@@ -7,8 +7,8 @@ use Rattle.std.proofs.lemmas.List.Elements.{All-nil, All-cons, All-head, All-tai
 use Rattle.std.proofs.lemmas.List.Sums.{sum_by-append, sum_by-cons, sum_by_push}
 use Rattle.bstr.specs.Text.{lines_of, without_terminator}
 use Rattle.bstr.proofs.lemmas.LineLemmas.{EndsLine, lines-append, lines-nil}
-use Rattle.stack_core.specs.declared.samples.TheConstants.{WEIGHT_LIMIT}
-use Rattle.stack_core.specs.declared.samples.Sample.{Sample as StackSample}
+use Rattle.sample_tables.specs.declared.samples.TheConstants.{WEIGHT_LIMIT}
+use Rattle.sample_tables.specs.declared.samples.Sample.{Sample as StackSample}
 use Rattle.stack_core.specs.declared.endings.ReadKind.TheVariants.{Compressed, TotalTooLarge}
 use Rattle.stack_core.specs.declared.endings.SourceEnd.TheVariants as ends
 use Rattle.folded_lines.specs.declared.lines.Line.{Line}

@@ -4,10 +4,11 @@ use Rattle.std.specs.Bool.{then_some}
 use Rattle.std.proofs.lemmas.List.{append-nil}
 use Rattle.std.proofs.lemmas.List.Elements.{All-nil}
 use Rattle.std.proofs.lemmas.List.Sums.{sum_by_push}
-use Rattle.stack_core.specs.Reading.{Rest, IsLimited, IsSourceLimited}
-use Rattle.stack_core.specs.RowReading.{ToldRows}
-use Rattle.stack_core.specs.declared.samples.TheConstants.{WEIGHT_LIMIT}
-use Rattle.stack_core.specs.declared.samples.Sample.{Sample as StackSample}
+use Rattle.stack_core.specs.Reading.{Rest, IsSourceLimited}
+use Rattle.sample_tables.specs.Samples.{IsLimited}
+use Rattle.sample_tables.specs.Rows.{ToldRows}
+use Rattle.sample_tables.specs.declared.samples.TheConstants.{WEIGHT_LIMIT}
+use Rattle.sample_tables.specs.declared.samples.Sample.{Sample as StackSample}
 use Rattle.stack_core.specs.declared.endings.ReadKind.{ReadKind}
 use Rattle.stack_core.specs.declared.endings.ReadKind.TheVariants.{Compressed, TotalTooLarge}
 use Rattle.stack_core.specs.declared.endings.SourceEnd.{SourceEnd}

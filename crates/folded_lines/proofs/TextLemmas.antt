@@ -11,8 +11,8 @@ use Rattle.std.proofs.lemmas.List.Sums.{sum_by-cons}
 use Rattle.std.proofs.lemmas.Str.{IsUtf8-append, IsUtf8-nil, IsUtf8-from_ascii, lead_after_ascii}
 use Rattle.bstr.specs.Text.{lines_of, no_cr, without_terminator}
 use Rattle.bstr.proofs.lemmas.LineLemmas.{lines-append, lines-one, lines-nil}
-use Rattle.stack_core.specs.declared.samples.TheConstants.{WEIGHT_LIMIT}
-use Rattle.stack_core.specs.declared.samples.Sample.{Sample as StackSample}
+use Rattle.sample_tables.specs.declared.samples.TheConstants.{WEIGHT_LIMIT}
+use Rattle.sample_tables.specs.declared.samples.Sample.{Sample as StackSample}
 use Rattle.stack_core.specs.declared.endings.SourceEnd.TheVariants as ends
 use Rattle.folded_lines.specs.declared.lines.Line.TheVariants.{Sample}
 use Rattle.folded_lines.specs.Lines.{text_lines, read_line}

@@ -4,7 +4,7 @@ use Rattle.std.proofs.lemmas.List.{append-nil, get_or_append_left, get_or-append
 use Rattle.std.proofs.lemmas.List.Elements.{Contains-append_cases}
 use Rattle.stack_core.specs.Prefixes.{IsPrefixOf}
 use Rattle.stack_core.specs.Records.{names_at}
-use Rattle.stack_core.specs.RowReading.{ToldRows, stack_at}
+use Rattle.sample_tables.specs.Rows.{ToldRows, stack_at}
 use Rattle.call_tree.specs.SpellingCache.{Spelling, GrowsByAtMost}
 use Rattle.call_tree.proofs.NameNumbers.{numbers-longer, names_at-longer}
 use Rattle.folded_lines.specs.Lines.{names_of}

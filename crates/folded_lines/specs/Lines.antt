@@ -8,7 +8,7 @@ use Rattle.std.specs.Str.Parse.{digits_value}
 use Rattle.memchr.specs.Find.{is_byte2, places, last_of}
 use Rattle.bstr.specs.Text.{lines_of, without_terminator}
 use Rattle.bstr.specs.Utf8.{lossy_chars}
-use Rattle.stack_core.specs.declared.samples.TheConstants.{FRAME_LIMIT}
+use Rattle.sample_tables.specs.declared.samples.TheConstants.{FRAME_LIMIT}
 use Rattle.stack_core.specs.declared.endings.ReadKind.TheVariants.{DecimalWeight, TwoColumns, TooDeep}
 use Rattle.folded_lines.specs.declared.lines.Line.{Line}
 use Rattle.folded_lines.specs.declared.lines.Line.TheVariants.{Ignored, Fault, Sample}

@@ -1,8 +1,8 @@
 -- How folded text reads: the samples before the first fault, and how it ends.
 use Rattle.std.specs.Prelude.{ℕ, ◌+◌, Bool, true, false, ◌==◌, ◌&&◌, nat_lt, if◌then◌else◌, List, [], ◌∷◌, ◌++◌, length, map, Option, Some, None, slice_index, sum_by, count_by}
 use Rattle.stack_core.specs.Reading.{Rest}
-use Rattle.stack_core.specs.declared.samples.TheConstants.{WEIGHT_LIMIT}
-use Rattle.stack_core.specs.declared.samples.Sample.{Sample as StackSample}
+use Rattle.sample_tables.specs.declared.samples.TheConstants.{WEIGHT_LIMIT}
+use Rattle.sample_tables.specs.declared.samples.Sample.{Sample as StackSample}
 use Rattle.stack_core.specs.declared.endings.ReadKind.{ReadKind}
 use Rattle.stack_core.specs.declared.endings.ReadKind.TheVariants.{Compressed, TotalTooLarge}
 use Rattle.stack_core.specs.declared.endings.SourceEnd.TheVariants as ends

@@ -1,7 +1,7 @@
 -- What callers see of a reader.
 use Rattle.std.specs.Prelude.{Bool}
 use Rattle.stack_core.specs.Reading.{Rest}
-use Rattle.stack_core.specs.RowReading.{ToldRows}
+use Rattle.sample_tables.specs.Rows.{ToldRows}
 
 -- what it still has to give, whether it has come to the ending, and what it told by rows
 pub record State : Type 0 where

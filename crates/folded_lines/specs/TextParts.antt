@@ -1,7 +1,7 @@
 -- Text cut at line ends into parts, each of which is read by itself.
 use Rattle.std.specs.Prelude.{◌≡◌, ◌⊎◌, ℕ, List, [], ◌∷◌, ◌++◌, All, sum_by}
 use Rattle.std.specs.List.{flat_map}
-use Rattle.stack_core.specs.declared.samples.Sample.{Sample}
+use Rattle.sample_tables.specs.declared.samples.Sample.{Sample}
 use Rattle.stack_core.specs.declared.endings.SourceEnd.{SourceEnd}
 use Rattle.stack_core.specs.declared.endings.SourceEnd.TheVariants as ends
 use Rattle.folded_lines.specs.Reading.{read_folded}

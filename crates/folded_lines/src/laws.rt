@@ -2,9 +2,9 @@
 
 ghost use Rattle.std.specs.Prelude.{◌≡◌, ◌≤◌, ◌++◌, ◌∷◌, [], ℕ, false, List, All, sum_by};
 ghost use Rattle.std.specs.List.{concat};
-ghost use Rattle.stack_core.specs.Samples.{total_weight};
-ghost use Rattle.stack_core.specs.declared.samples.TheConstants.{WEIGHT_LIMIT};
-ghost use Rattle.stack_core.specs.declared.samples.Sample.{Sample};
+ghost use Rattle.sample_tables.specs.Samples.{total_weight};
+ghost use Rattle.sample_tables.specs.declared.samples.TheConstants.{WEIGHT_LIMIT};
+ghost use Rattle.sample_tables.specs.declared.samples.Sample.{Sample};
 ghost use Rattle.stack_core.specs.declared.endings.SourceEnd.TheVariants as ends;
 ghost use Rattle.folded_lines.specs.LastNames.{last_ends_in_number, is_open};
 ghost use Rattle.folded_lines.specs.Lines.{text_lines};

@@ -2,7 +2,8 @@
 
 ghost use Rattle.std.specs.Prelude.{◌≡◌, ◌+◌, ◌<◌, ◌≤◌, ◌^◌, length, IfOk, OnErr};
 ghost use Rattle.stack_core.specs.Prefixes.{IsPrefixOf};
-ghost use Rattle.stack_core.specs.RowReading.{ToldRows, StepsByRows, IsLimitedStep};
+ghost use Rattle.sample_tables.specs.Rows.{ToldRows};
+ghost use Rattle.stack_core.specs.RowReading.{StepsByRows, IsLimitedStep};
 ghost use Rattle.folded_lines.specs.checked.Scanning.{rest_at, place_after, rest_from, IsPlace, IsWithin};
 ghost use Rattle.folded_lines.specs.checked.Telling.{told_of, IsTelling};
 ghost use Rattle.folded_lines.specs.checked.RowLines.{line_by, weight_by, left_after, TellsLine};

@@ -6,19 +6,25 @@ use std::alloc::{AllocError, Global};
 use std::process::Abort;
 use std::test::Fail;
 
-/// The samples of a text, one a line as `append_line` writes them, and the ending.
-fn read(alloc: Global, text: &[u8]) -> Result<(Vec<u8>, Option<SourceEnd>), AllocError> {
-    let mut reader = FoldedReader::over(text.to_vec(alloc)?);
-    let mut lines = Vec::new(alloc);
+fn reader_of(alloc: Global, text: &[u8]) -> Result<FoldedReader, AllocError> {
+    Ok(FoldedReader::over(text.to_vec(alloc)?))
+}
+
+/// Appends the samples that are left, one a line as `append_line` writes them, and answers the ending.
+fn read_on(
+    alloc: Global,
+    reader: &mut FoldedReader,
+    lines: &mut Vec<u8>,
+) -> Result<Option<SourceEnd>, AllocError> {
     for _ in 0..100 {
         match reader.next(alloc)? {
             Step::Sample(sample) => {
-                append_line(alloc, &mut lines, sample.stack.get(), sample.weight)?;
+                append_line(alloc, lines, sample.stack.get(), sample.weight)?;
             }
-            Step::End(ending) => return Ok((lines, Some(ending))),
+            Step::End(ending) => return Ok(Some(ending)),
         }
     }
-    Ok((lines, None))
+    Ok(None)
 }
 
 /// The names and rows that a reader told.
@@ -29,6 +35,13 @@ struct Told {
 }
 
 impl Told {
+    fn learn(&mut self, names: Vec<Text>) -> Result<(), AllocError> {
+        for name in names {
+            self.names.push(name)?;
+        }
+        Ok(())
+    }
+
     /// Appends the line of a row. A row or a number that was not told leaves its names out.
     fn append(
         &self,
@@ -49,14 +62,13 @@ impl Told {
     }
 }
 
-/// The same as `read`, by rows: each line is written of what was told so far.
-fn read_rows(alloc: Global, text: &[u8]) -> Result<(Vec<u8>, Option<SourceEnd>), AllocError> {
-    let mut reader = FoldedReader::over(text.to_vec(alloc)?);
-    let mut lines = Vec::new(alloc);
-    let mut told = Told {
-        names: Vec::new(alloc),
-        rows: Vec::new(alloc),
-    };
+/// The same as `read_on`, by rows: each line is written of what was told so far.
+fn read_rows_on(
+    alloc: Global,
+    reader: &mut FoldedReader,
+    told: &mut Told,
+    lines: &mut Vec<u8>,
+) -> Result<Option<SourceEnd>, AllocError> {
     for _ in 0..100 {
         match reader.next_row(alloc)? {
             RowStep::New {
@@ -64,18 +76,66 @@ fn read_rows(alloc: Global, text: &[u8]) -> Result<(Vec<u8>, Option<SourceEnd>),
                 frames,
                 weight,
             } => {
-                for name in names.into_plain() {
-                    told.names.push(name)?;
-                }
                 let row = told.rows.len();
                 told.rows.push(frames)?;
-                told.append(alloc, &mut lines, row, weight)?;
+                told.learn(names.into_plain())?;
+                told.append(alloc, lines, row, weight)?;
             }
-            RowStep::Again { row, weight } => told.append(alloc, &mut lines, row, weight)?,
-            RowStep::End(ending) => return Ok((lines, Some(ending))),
+            RowStep::Again { row, weight } => told.append(alloc, lines, row, weight)?,
+            RowStep::End(ending) => return Ok(Some(ending)),
         }
     }
-    Ok((lines, None))
+    Ok(None)
+}
+
+fn samples_are(
+    rt: &(impl Abort + AllocGlobal),
+    reader: &mut FoldedReader,
+    lines: &[u8],
+    ending: SourceEnd,
+) -> Result<(), AllocError> {
+    let mut read = Vec::new(rt.alloc());
+    let end = read_on(rt.alloc(), reader, &mut read)?;
+    assert_eq!(rt; read.as_slice(), lines);
+    assert_eq!(rt; end, Some(ending));
+    Ok(())
+}
+
+fn rows_are(
+    rt: &(impl Abort + AllocGlobal),
+    reader: &mut FoldedReader,
+    lines: &[u8],
+    ending: SourceEnd,
+) -> Result<(), AllocError> {
+    let mut read = Vec::new(rt.alloc());
+    let mut told = Told {
+        names: Vec::new(rt.alloc()),
+        rows: Vec::new(rt.alloc()),
+    };
+    let end = read_rows_on(rt.alloc(), reader, &mut told, &mut read)?;
+    assert_eq!(rt; read.as_slice(), lines);
+    assert_eq!(rt; end, Some(ending));
+    Ok(())
+}
+
+fn has_samples(
+    rt: &(impl Abort + AllocGlobal),
+    text: &[u8],
+    lines: &[u8],
+    ending: SourceEnd,
+) -> Result<(), AllocError> {
+    let mut reader = reader_of(rt.alloc(), text)?;
+    samples_are(rt, &mut reader, lines, ending)
+}
+
+fn has_rows(
+    rt: &(impl Abort + AllocGlobal),
+    text: &[u8],
+    lines: &[u8],
+    ending: SourceEnd,
+) -> Result<(), AllocError> {
+    let mut reader = reader_of(rt.alloc(), text)?;
+    rows_are(rt, &mut reader, lines, ending)
 }
 
 fn reads_as(
@@ -84,13 +144,8 @@ fn reads_as(
     lines: &[u8],
     ending: SourceEnd,
 ) -> Result<(), AllocError> {
-    let (read, end) = read(rt.alloc(), text)?;
-    assert_eq!(rt; read.as_slice(), lines);
-    assert_eq!(rt; end, Some(ending));
-    let (read, end) = read_rows(rt.alloc(), text)?;
-    assert_eq!(rt; read.as_slice(), lines);
-    assert_eq!(rt; end, Some(ending));
-    Ok(())
+    has_samples(rt, text, lines, ending)?;
+    has_rows(rt, text, lines, ending)
 }
 
 fn clean(ignored: u64) -> SourceEnd {
@@ -155,6 +210,16 @@ fn deep_line(alloc: Global, names: usize) -> Result<Vec<u8>, AllocError> {
     Ok(line)
 }
 
+fn deepest_is_read(rt: &(impl Abort + AllocGlobal)) -> Result<(), AllocError> {
+    let line = deep_line(rt.alloc(), 4_096)?;
+    reads_as(rt, line.as_slice(), line.as_slice(), clean(0))
+}
+
+fn deeper_is_fault(rt: &(impl Abort + AllocGlobal)) -> Result<(), AllocError> {
+    let line = deep_line(rt.alloc(), 4_097)?;
+    reads_as(rt, line.as_slice(), b"", fault(ReadKind::TooDeep, 1))
+}
+
 #[test]
 fn limits_of_weights_and_depth(rt: HostRuntime) -> Result<(), Fail> {
     let most = b"a 72057594037927935\nb 0\n";
@@ -171,10 +236,8 @@ fn limits_of_weights_and_depth(rt: HostRuntime) -> Result<(), Fail> {
         b"",
         fault(ReadKind::TotalTooLarge, 1),
     )?;
-    let line = deep_line(rt.alloc(), 4_096)?;
-    reads_as(&rt, line.as_slice(), line.as_slice(), clean(0))?;
-    let line = deep_line(rt.alloc(), 4_097)?;
-    reads_as(&rt, line.as_slice(), b"", fault(ReadKind::TooDeep, 1))?;
+    deepest_is_read(&rt)?;
+    deeper_is_fault(&rt)?;
     Ok(())
 }
 
@@ -230,22 +293,32 @@ fn lines_writers_and_limits(rt: HostRuntime) -> Result<(), Fail> {
     Ok(())
 }
 
+fn append_pair(
+    alloc: Global,
+    out: &mut Vec<u8>,
+    name: &str,
+    before: u64,
+    after: u64,
+) -> Result<(), AllocError> {
+    let stack = [String::from_str(alloc, name)?];
+    append_pair_line(alloc, out, &stack, before, after)
+}
+
+fn append_pairs(alloc: Global, out: &mut Vec<u8>) -> Result<(), AllocError> {
+    append_pair(alloc, out, "a", 3, 1)?;
+    append_pair(alloc, out, "b", 1, 0)?;
+    append_pair(alloc, out, "c", 0, 2)
+}
+
 #[test]
 fn comparison(rt: HostRuntime) -> Result<(), Fail> {
     let mut out = Vec::new(rt.alloc());
-    let a = [String::from_str(rt.alloc(), "a")?];
-    let b = [String::from_str(rt.alloc(), "b")?];
-    let c = [String::from_str(rt.alloc(), "c")?];
-    append_pair_line(rt.alloc(), &mut out, &a, 3, 1)?;
-    append_pair_line(rt.alloc(), &mut out, &b, 1, 0)?;
-    append_pair_line(rt.alloc(), &mut out, &c, 0, 2)?;
+    append_pairs(rt.alloc(), &mut out)?;
     assert_eq!(rt; out.as_slice(), b"a 3 1\nb 1 0\nc 0 2\n".as_slice());
     Ok(())
 }
 
-#[test]
-fn ending_again(rt: HostRuntime) -> Result<(), Fail> {
-    let mut reader = FoldedReader::over(b"x\n".to_vec(rt.alloc())?);
+fn ends_again(rt: &(impl Abort + AllocGlobal), reader: &mut FoldedReader) -> Result<(), Fail> {
     for _ in 0..3 {
         match reader.next(rt.alloc())? {
             Step::Sample(_) => assert!(rt; false, "a sample after the ending"),
@@ -253,6 +326,12 @@ fn ending_again(rt: HostRuntime) -> Result<(), Fail> {
         }
     }
     Ok(())
+}
+
+#[test]
+fn ending_again(rt: HostRuntime) -> Result<(), Fail> {
+    let mut reader = reader_of(rt.alloc(), b"x\n")?;
+    ends_again(&rt, &mut reader)
 }
 
 /// Whether a stack is told with these new names and numbers.
@@ -272,49 +351,67 @@ fn is_new(step: &RowStep, new: &[&str], numbers: &[usize], sum: u64) -> bool {
         && *weight == sum
 }
 
+/// Whether a row is told again.
+fn is_again(step: &RowStep, number: usize, sum: u64) -> bool {
+    let RowStep::Again { row, weight } = step else {
+        return false;
+    };
+    *row == number && *weight == sum
+}
+
+fn tells_new(
+    rt: &(impl Abort + AllocGlobal),
+    reader: &mut FoldedReader,
+    new: &[&str],
+    numbers: &[usize],
+    sum: u64,
+) -> Result<(), AllocError> {
+    let step = reader.next_row(rt.alloc())?;
+    assert!(rt; is_new(&step, new, numbers, sum));
+    Ok(())
+}
+
+fn tells_again(
+    rt: &(impl Abort + AllocGlobal),
+    reader: &mut FoldedReader,
+    row: usize,
+    sum: u64,
+) -> Result<(), AllocError> {
+    let step = reader.next_row(rt.alloc())?;
+    assert!(rt; is_again(&step, row, sum));
+    Ok(())
+}
+
+/// Ends, with one ignored line.
+fn tells_ending(
+    rt: &(impl Abort + AllocGlobal),
+    reader: &mut FoldedReader,
+) -> Result<(), AllocError> {
+    let step = reader.next_row(rt.alloc())?;
+    assert!(rt; matches!(step, RowStep::End(SourceEnd::Clean { ignored: 1 })));
+    Ok(())
+}
+
+fn tells_rows(rt: &(impl Abort + AllocGlobal), reader: &mut FoldedReader) -> Result<(), Fail> {
+    tells_new(rt, reader, &["a", "b"], &[0, 1], 1)?;
+    tells_again(rt, reader, 0, 2)?;
+    tells_new(rt, reader, &["c"], &[1, 2, 1], 3)?;
+    tells_new(rt, reader, &[], &[0, 1], 4)?;
+    tells_again(rt, reader, 1, 5)?;
+    tells_new(rt, reader, &[], &[], 6)?;
+    tells_again(rt, reader, 2, 7)?;
+    tells_again(rt, reader, 3, 8)?;
+    tells_ending(rt, reader)?;
+    tells_ending(rt, reader)?;
+    Ok(())
+}
+
 /// A name is told once, and a head that was met is known by its bytes. Its weight is that of its own line.
 #[test]
 fn rows_are_told_once(rt: HostRuntime) -> Result<(), Fail> {
-    let alloc = rt.alloc();
     let text = b"a;b 1\na;b 2\nno count\nb;c;b 3\na;b; 4\r\nb;c;b\t5\n 6\na;b; 7\n 8\n";
-    let mut reader = FoldedReader::over(text.to_vec(alloc)?);
-    assert!(rt; is_new(&reader.next_row(alloc)?, &["a", "b"], &[0, 1], 1));
-    assert!(rt;
-        matches!(
-            reader.next_row(alloc)?,
-            RowStep::Again { row: 0, weight: 2 }
-        )
-    );
-    assert!(rt; is_new(&reader.next_row(alloc)?, &["c"], &[1, 2, 1], 3));
-    assert!(rt; is_new(&reader.next_row(alloc)?, &[], &[0, 1], 4));
-    assert!(rt;
-        matches!(
-            reader.next_row(alloc)?,
-            RowStep::Again { row: 1, weight: 5 }
-        )
-    );
-    assert!(rt; is_new(&reader.next_row(alloc)?, &[], &[], 6));
-    assert!(rt;
-        matches!(
-            reader.next_row(alloc)?,
-            RowStep::Again { row: 2, weight: 7 }
-        )
-    );
-    assert!(rt;
-        matches!(
-            reader.next_row(alloc)?,
-            RowStep::Again { row: 3, weight: 8 }
-        )
-    );
-    for _ in 0..2 {
-        assert!(rt;
-            matches!(
-                reader.next_row(alloc)?,
-                RowStep::End(SourceEnd::Clean { ignored: 1 })
-            )
-        );
-    }
-    Ok(())
+    let mut reader = reader_of(rt.alloc(), text)?;
+    tells_rows(&rt, &mut reader)
 }
 
 /// A line whose head is known has the faults that its count has.
@@ -343,22 +440,27 @@ fn known_heads_have_faults(rt: HostRuntime) -> Result<(), Fail> {
     Ok(())
 }
 
-/// The lines of README.md.
-#[test]
-fn example_of_the_page(rt: HostRuntime) -> Result<(), Fail> {
-    let alloc = rt.alloc();
-    let text = b"main;parse 5\nno count\nmain 2\n".to_vec(alloc)?;
-    let mut reader = FoldedReader::over(text);
-    let mut again = Vec::new(alloc);
+fn reads_as_on_the_page(
+    rt: &(impl Abort + AllocGlobal),
+    reader: &mut FoldedReader,
+    again: &mut Vec<u8>,
+) -> Result<(), Fail> {
     for _ in 0..2 {
-        if let Step::Sample(sample) = reader.next(alloc)? {
-            append_line(alloc, &mut again, sample.stack.get(), sample.weight)?;
+        if let Step::Sample(sample) = reader.next(rt.alloc())? {
+            append_line(rt.alloc(), again, sample.stack.get(), sample.weight)?;
         }
     }
     assert_eq!(rt; again.as_slice(), b"main;parse 5\nmain 2\n".as_slice());
-    assert_eq!(rt;
-        reader.next(alloc)?,
-        Step::End(SourceEnd::Clean { ignored: 1 })
-    );
+    let last = reader.next(rt.alloc())?;
+    assert_eq!(rt; last, Step::End(SourceEnd::Clean { ignored: 1 }));
     Ok(())
+}
+
+/// The lines of README.md.
+#[test]
+fn example_of_the_page(rt: HostRuntime) -> Result<(), Fail> {
+    let text = b"main;parse 5\nno count\nmain 2\n".to_vec(rt.alloc())?;
+    let mut reader = FoldedReader::over(text);
+    let mut again = Vec::new(rt.alloc());
+    reads_as_on_the_page(&rt, &mut reader, &mut again)
 }

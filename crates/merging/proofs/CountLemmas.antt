@@ -5,7 +5,7 @@ use Rattle.std.proofs.lemmas.List.{ext_get_or, length-set, get_or-set_same, get_
 use Rattle.std.proofs.lemmas.List.FromFn.{length-map-range_with_len, get_or-map-range_with_len}
 use Rattle.std.proofs.lemmas.List.Recursion.{max_push}
 use Rattle.stack_core.specs.Interleaving.{count_of, counts_at, list_of, IsInterleaving}
-use Rattle.stack_core.specs.declared.samples.Sample.{Sample}
+use Rattle.sample_tables.specs.declared.samples.Sample.{Sample}
 use Rattle.stack_core.proofs.InterleavingLemmas.{count_of-append, count_of_at, count_of_past}
 use Rattle.merging.specs.Snapshots.{sources_seen, source_counts, first_lists}
 

@@ -8,9 +8,10 @@ use Rattle.std.proofs.lemmas.List.Elements.{All-take, All-weaker, All-append}
 use Rattle.std.proofs.lemmas.List.FromFn.{length-map-range_with_len}
 use Rattle.std.proofs.lemmas.List.Sums.{sum_by-append, sum_by-take-le, sum_by-cons}
 use Rattle.std.proofs.lemmas.Option.{get_or_from_slice_get}
-use Rattle.stack_core.specs.declared.samples.Sample.{Sample}
-use Rattle.stack_core.specs.declared.samples.TheConstants.{FRAME_LIMIT, WEIGHT_LIMIT}
-use Rattle.stack_core.specs.Reading.{Rest, IsLimited, IsSourceLimited}
+use Rattle.sample_tables.specs.declared.samples.Sample.{Sample}
+use Rattle.sample_tables.specs.declared.samples.TheConstants.{FRAME_LIMIT, WEIGHT_LIMIT}
+use Rattle.stack_core.specs.Reading.{Rest, IsSourceLimited}
+use Rattle.sample_tables.specs.Samples.{IsLimited}
 use Rattle.stack_core.specs.Ledgers.{ListState}
 use Rattle.stack_core.specs.Told.{IsCollected}
 use Rattle.stack_core.specs.Interleaving.{IsInterleaving, interleaved, sources_of, list_of, counts_at}
@@ -21,11 +22,12 @@ use Rattle.call_tree.specs.CallTree.{Tree}
 use Rattle.call_tree.specs.PathSums.{begins_with, total_of}
 use Rattle.call_tree.proofs.TreeSums.{total_of-cons}
 use Rattle.call_tree.specs.Listing.{named, AreIn}
-use Rattle.flame_layout.specs.Timeline.{Stack, samples_of, timeline, drawn, total_weight as weight_sum}
+use Rattle.merged_stacks.specs.Timeline.{Stack, samples_of, timeline, drawn, total_weight as weight_sum}
 use Rattle.std.specs.Cmp.Lexicographic.{pointwise}
 use Rattle.flame_layout.specs.Chart.{begins_alike}
-use Rattle.flame_layout.specs.Paths.{total_at, own_at, weighed}
-use Rattle.flame_layout.proofs.Timelines.{total_weight-drawn}
+use Rattle.flame_layout.specs.Paths.{total_at, own_at}
+use Rattle.merged_stacks.specs.Merged.{weighed}
+use Rattle.merged_stacks.proofs.Timelines.{total_weight-drawn}
 use Rattle.flame_layout.proofs.PathWords.{total_at-is, own_at-is}
 use Rattle.flame_layout.proofs.TreeSamples.{entries_named, path_in}
 use Rattle.merging.specs.declared.snapshots.Snapshot.{Snapshot}

@@ -1,5 +1,6 @@
 pub mod BackLemmas
 pub mod CountLemmas
+mod FilteredSources
 pub mod GatherLemmas
 pub mod PairSums
 pub mod ReaderThreads

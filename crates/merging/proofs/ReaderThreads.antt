@@ -13,6 +13,9 @@ use Rattle.profile_tables.specs.contracts.outline.Outline as outline
 use Rattle.profile_tables.specs.contracts.tellers.Teller as teller
 use Rattle.profile_tables.specs.contracts.reader.PprofReader as pprof
 use Rattle.profile_tables.specs.contracts.reader.PprofReader.TheInside as pprof_inside
+use Rattle.sample_tables.specs.contracts.values.Names as names
+use Rattle.run_options.specs.contracts.filters.Filter as filter
+use Rattle.merging.specs.contracts.source_reader.SourceReader as source
 
 table_send : IsSend table.the_row
 table_send = search (sendable, crosses, maps.crosses) depth 30
@@ -49,3 +52,12 @@ pprof_inside_send = recorded_send _ _ _ (pprof_inside.the_type).to_one (struct_s
 
 pub pprof_send : IsSend pprof.the_row
 pprof_send = search (view_send, pprof_inside_send)
+
+names_send : IsSend names.the_row
+names_send = search (sendable, crosses) depth 30
+
+pub filter_send : IsSend (filter.the_field).row
+filter_send = search (sendable, names_send) depth 30
+
+pub source_send : IsSend (source.the_field).row
+source_send = search (sendable, folded_send, pprof_send) depth 30

@@ -9,13 +9,14 @@ use Rattle.std.proofs.lemmas.List.Elements.{All-map}
 use Rattle.std.proofs.lemmas.List.Sums.{sum_by-cons}
 use Rattle.std.proofs.lemmas.Simd.{map-map}
 use Rattle.std.proofs.Math.Nat.{zero-div}
-use Rattle.stack_core.specs.declared.samples.Sample.{Sample}
+use Rattle.sample_tables.specs.declared.samples.Sample.{Sample}
 use Rattle.stack_core.specs.Interleaving.{sources_of}
 use Rattle.call_tree.specs.CallTree.{Tree, tree_of, with_weight, total_weight}
 use Rattle.call_tree.specs.FrameTable.{HasDistinctNames}
 use Rattle.call_tree.specs.Listing.{named, AreIn}
-use Rattle.flame_layout.specs.checked.Paired.{Grows, Holds}
-use Rattle.flame_layout.specs.Timeline.{total_weight as weight_sum}
+use Rattle.merged_stacks.specs.checked.Ranks.{Grows}
+use Rattle.flame_layout.specs.checked.Paired.{Holds}
+use Rattle.merged_stacks.specs.Timeline.{total_weight as weight_sum}
 use Rattle.flame_layout.proofs.Held.{known-grows, named-grows, each-push, holds-small}
 use Rattle.merging.specs.declared.snapshots.Snapshot.{Snapshot}
 use Rattle.merging.specs.Sums.{HasSumsOf}

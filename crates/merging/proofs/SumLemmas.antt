@@ -4,15 +4,16 @@ use Rattle.std.specs.Str.{bytes_eq}
 use Rattle.std.specs.Cmp.Lexicographic.{pointwise}
 use Rattle.std.specs.FinMap.{entries}
 use Rattle.std.proofs.lemmas.Bool.{cases_lt}
-use Rattle.stack_core.specs.declared.samples.Sample.{Sample}
+use Rattle.sample_tables.specs.declared.samples.Sample.{Sample}
 use Rattle.call_tree.specs.CallTree.{Tree}
 use Rattle.call_tree.specs.FrameTable.{HasDistinctNames}
 use Rattle.call_tree.specs.Listing.{named, AreIn}
 use Rattle.call_tree.specs.PathSums.{begins_with, total_of, own_of}
 use Rattle.call_tree.proofs.TreeSums.{total_of-cons, own_of-cons}
-use Rattle.flame_layout.specs.Timeline.{Stack}
+use Rattle.merged_stacks.specs.Timeline.{Stack}
 use Rattle.flame_layout.specs.checked.Paired.{Holds}
-use Rattle.flame_layout.specs.Paths.{total_at, own_at, weighed, tree_samples, SameOwn}
+use Rattle.flame_layout.specs.Paths.{total_at, own_at, tree_samples, SameOwn}
+use Rattle.merged_stacks.specs.Merged.{weighed}
 use Rattle.flame_layout.proofs.TreeSamples.{sampled, entries_named, path_in, own_named, own_weight-sum, has_numbers}
 use Rattle.flame_layout.proofs.Held.{holds-total, holds-known, holds-numbers, total-held, own-held}
 use Rattle.merging.specs.Sums.{HasSumsOf}

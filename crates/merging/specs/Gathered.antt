@@ -4,7 +4,7 @@ use Rattle.stack_core.specs.Interleaving.{IsInterleaving}
 use Rattle.stack_core.specs.Ledgers.{ListState}
 use Rattle.stack_core.specs.Reading.{IsSourceLimited}
 use Rattle.call_tree.specs.CallTree.{Tree}
-use Rattle.flame_layout.specs.Timeline.{samples_of}
+use Rattle.merged_stacks.specs.Timeline.{samples_of}
 use Rattle.merging.specs.declared.snapshots.Snapshot.{Snapshot}
 use Rattle.merging.specs.Snapshots.{snapshot_samples, AreSnapshots}
 use Rattle.merging.specs.Sums.{all_samples, HasSumsOf}

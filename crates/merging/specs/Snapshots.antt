@@ -1,7 +1,7 @@
 -- Snapshots: which there are, and what each stands for.
 use Rattle.std.specs.Prelude.{◌≡◌, ℕ, ◌+◌, ◌*◌, ◌/◌, max, List, [], ◌∷◌, length, map, take, All, Option, None, Some}
 use Rattle.std.specs.List.{range_with_len}
-use Rattle.stack_core.specs.declared.samples.Sample.{Sample}
+use Rattle.sample_tables.specs.declared.samples.Sample.{Sample}
 use Rattle.stack_core.specs.Interleaving.{count_of, counts_at, list_of}
 use Rattle.merging.specs.declared.snapshots.Snapshot.{Snapshot}
 use Rattle.merging.specs.Sums.{all_samples, HasSumsOf}

@@ -5,6 +5,7 @@ use Rattle.folded_lines.specs.Reading.{read_folded}
 use Rattle.run_options.specs.declared.choices.Pick.{Pick}
 use Rattle.run_options.specs.declared.choices.Naming.{Naming}
 use Rattle.profile_tables.specs.Samples.{read_pprof}
+use Rattle.run_options.specs.Filters.{kept_rest}
 use Rattle.run_options.specs.declared.formats.Format.{Format}
 use Rattle.run_options.specs.declared.formats.Format.TheVariants.{Folded, Pprof}
 use Rattle.merging.specs.declared.sources.Source.{Source}
@@ -15,9 +16,14 @@ abbrev pub read_bytes : Format → List ℕ → Pick → Naming → Rest
 read_bytes Folded bytes pick naming = read_folded bytes
 read_bytes Pprof bytes pick naming = read_pprof bytes pick naming
 
-abbrev pub source_rest : Pick → Naming → Source → Rest
-source_rest pick naming source = read_bytes source.format source.bytes.items pick naming
+-- what the options of a run ask for of them: the samples that the filter keeps, and the ending
+abbrev pub asked_rest : Options → Format → List ℕ → Rest
+asked_rest options format bytes =
+    kept_rest options.filter (read_bytes format bytes options.pick options.naming)
 
--- the same of all sources, by the options of a run
+abbrev pub source_rest : Options → Source → Rest
+source_rest options source = asked_rest options source.format source.bytes.items
+
+-- the same of all sources
 abbrev pub rests_of : Options → List Source → List Rest
-rests_of options sources = map (source_rest options.pick options.naming) sources
+rests_of options sources = map (source_rest options) sources

@@ -1,11 +1,11 @@
 -- A merged tree that has the sums of samples.
 use Rattle.std.specs.Prelude.{◌≡◌, ◌<◌, ◌≤◌, ◌^◌, ℕ, List, [], length}
-use Rattle.stack_core.specs.declared.samples.Sample.{Sample}
-use Rattle.stack_core.specs.declared.samples.TheConstants.{FRAME_LIMIT}
+use Rattle.sample_tables.specs.declared.samples.Sample.{Sample}
+use Rattle.sample_tables.specs.declared.samples.TheConstants.{FRAME_LIMIT}
 use Rattle.call_tree.specs.CallTree.{Tree, own_weight, total_weight}
 use Rattle.call_tree.specs.FrameTable.{HasDistinctNames}
 use Rattle.call_tree.specs.Listing.{named, HasNumbersOf, AreIn}
-pub use Rattle.flame_layout.specs.Merged.{all_samples}
+pub use Rattle.merged_stacks.specs.Merged.{all_samples}
 use Rattle.flame_layout.specs.Paths.{total_at, own_at, tree_samples, SameOwn}
 
 -- at numbers of the table the tree has the sums that the samples have at their names. The tree has no other

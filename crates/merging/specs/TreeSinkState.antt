@@ -1,6 +1,6 @@
 -- A tree sink as contracts see it.
 use Rattle.std.specs.Prelude.{ℕ, List, Option}
-use Rattle.stack_core.specs.declared.samples.Sample.{Sample}
+use Rattle.sample_tables.specs.declared.samples.Sample.{Sample}
 use Rattle.call_tree.specs.CallTree.{Tree}
 use Rattle.merging.specs.declared.snapshots.Snapshot.{Snapshot}
 

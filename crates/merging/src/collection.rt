@@ -7,13 +7,14 @@ ghost use Rattle.stack_core.specs.Interleaving.{IsInterleaving, interleaved};
 ghost use Rattle.stack_core.specs.Reading.{IsSourceLimited};
 ghost use Rattle.call_tree.specs.FrameTable.{HasDistinctNames};
 ghost use Rattle.ring_collect.specs.Collection.{Collects, AreWhole};
-ghost use Rattle.flame_layout.specs.Timeline.{samples_of};
+ghost use Rattle.merged_stacks.specs.Timeline.{samples_of};
 ghost use Rattle.merging.specs.Sources.{rests_of};
-ghost use Rattle.merging.specs.checked.Readers.{reader_rest, reader_told};
+ghost use Rattle.merging.specs.checked.Readers.{filtered_rest, reader_rest, reader_told, whole_rests_of};
 ghost use Rattle.merging.specs.Snapshots.{snapshot_samples, AreSnapshots};
 ghost use Rattle.merging.specs.Sums.{all_samples, HasSumsOf, IsDrawable};
 ghost use Rattle.merging.specs.Gathered.{AreLimited, IsGathered};
 
+use crate::filtered_reader::{FilteredReader, filter_all};
 use crate::snapshots::Snapshot;
 use crate::source_lists::SourceLists;
 use crate::source_reader::SourceReader;
@@ -145,9 +146,9 @@ pub(crate) fn readers_of(
     options: &Options,
 ) -> Result<Vec<SourceReader>, AllocError>
     ensures rests { IfOk result (λ readers.
-        map reader_rest readers.items ≡ rests_of options.now sources.items) }
+        map reader_rest readers.items ≡ whole_rests_of options.now sources.items) }
     ensures limits { IfOk result (λ readers.
-        All (λ rest. IsSourceLimited rest.samples) (rests_of options.now sources.items)) }
+        All (λ rest. IsSourceLimited rest.samples) (whole_rests_of options.now sources.items)) }
     ensures told { IfOk result (λ readers.
         All (λ reader. reader_told reader ≡ record { names = []; stacks = [] }) readers.items) }
 {
@@ -158,32 +159,51 @@ pub(crate) fn readers_of(
     Ok(readers)
 }
 
-/// A reader for each source, and a sink for all.
-fn prepare(
+/// A reader for each source that gives what the filter keeps.
+fn filtered_readers_of(
     alloc: Global,
     sources: Vec<Source>,
     options: &Options,
-) -> Result<(Vec<SourceReader>, TreeSink), AllocError>
-    requires { IfSome options.now.every (λ every. 1 ≤ every) }
+) -> Result<Vec<FilteredReader<SourceReader>>, AllocError>
+    ensures rests { IfOk result (λ readers.
+        map filtered_rest readers.items ≡ rests_of options.now sources.items) }
+    ensures limits { IfOk result (λ readers.
+        All (λ rest. IsSourceLimited rest.samples) (rests_of options.now sources.items)) }
+{
+    let readers = readers_of(alloc, sources, options)?;
+    filter_all(alloc, readers, &options.filter)
+}
+
+/// A reader for each source that gives what the filter keeps, and a sink for all.
+pub(crate) fn prepare(
+    alloc: Global,
+    sources: Vec<Source>,
+    options: &Options,
+    every: Option<u64>,
+) -> Result<(Vec<FilteredReader<SourceReader>>, TreeSink), AllocError>
+    requires { IfSome every (λ every. 1 ≤ every) }
     ensures rests { IfOk result (λ made.
-        map reader_rest made.0.items ≡ rests_of options.now sources.items) }
+        map filtered_rest made.0.items ≡ rests_of options.now sources.items) }
     ensures limits { IfOk result (λ made.
         All (λ rest. IsSourceLimited rest.samples) (rests_of options.now sources.items)) }
     ensures count { IfOk result (λ made. length made.0.items ≡ length sources.items) }
     ensures taken { IfOk result (λ made. made.1.taken ≡ []) }
-    ensures every { IfOk result (λ made. made.1.every ≡ options.now.every) }
+    ensures every { IfOk result (λ made. made.1.every ≡ every) }
 {
-    let readers = readers_of(alloc, sources, options)?;
-    let sink = TreeSink::new(alloc, options.every)?;
+    let readers = filtered_readers_of(alloc, sources, options)?;
+    let sink = TreeSink::new(alloc, every)?;
     Ok((readers, sink))
 }
 
 /// Collects the samples of the readers, and feeds the sink. It stands alone, since that a reader may go to
 /// another thread is found where there is little else to look through.
-fn run_readers<T: Threads + Wait + Copy + Send + 'static, G: Gate + Send + Sync + Drop + 'static>(
+pub(crate) fn run_readers<
+    T: Threads + Wait + Copy + Send + 'static,
+    G: Gate + Send + Sync + Drop + 'static,
+>(
     rt: &T,
     alloc: Global,
-    readers: Vec<SourceReader>,
+    readers: Vec<FilteredReader<SourceReader>>,
     ring: RingSize,
     gate: Arc<G>,
     sink: &mut TreeSink,
@@ -191,9 +211,9 @@ fn run_readers<T: Threads + Wait + Copy + Send + 'static, G: Gate + Send + Sync 
     requires { length readers.items ≤ 64 }
     ensures lists { IfOk result (λ run.
         Collects (G.may_stop (arc_value gate)) (G.may_go (arc_value gate))
-        (map reader_rest readers.items) run.lists.items) }
+        (map filtered_rest readers.items) run.lists.items) }
     ensures whole { ((source index : ℕ) → G.may_stop (arc_value gate) source index → ⊥)
-        → IfOk result (λ run. AreWhole (map reader_rest readers.items) run.lists.items) }
+        → IfOk result (λ run. AreWhole (map filtered_rest readers.items) run.lists.items) }
     ensures order { IfOk result (λ run.
         IsInterleaving run.order.items (samples_of run.lists.items)) }
     ensures sink { IfOk result (λ run. sink.new.taken
@@ -242,7 +262,7 @@ pub fn gather<T: Threads + Wait + Copy + Send + 'static, G: Gate + Send + Sync +
     ensures refused { (source : ℕ) → IsErrOf result (CollectFault.Unfinished source)
         → source < length sources.items }
 {
-    let Ok((readers, sink)) = prepare(alloc, sources, options) else {
+    let Ok((readers, sink)) = prepare(alloc, sources, options, options.every) else {
         return Err(CollectFault::OutOfMemory);
     };
     let mut sink = sink;

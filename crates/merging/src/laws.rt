@@ -1,7 +1,7 @@
 //! Laws over the definitions, for all lists. Each function does nothing, and takes no memory.
 ghost use Rattle.std.specs.Prelude.{◌≡◌, ◌<◌, ◌≤◌, ◌^◌, ◌++◌, ℕ, false, List, All, length, slice_index};
 ghost use Rattle.stack_core.specs.Interleaving.{IsInterleaving, counts_at};
-ghost use Rattle.stack_core.specs.declared.samples.Sample.{Sample};
+ghost use Rattle.sample_tables.specs.declared.samples.Sample.{Sample};
 ghost use Rattle.run_options.specs.declared.choices.Naming.{Naming};
 ghost use Rattle.run_options.specs.declared.choices.Naming.TheVariants as naming;
 ghost use Rattle.run_options.specs.declared.choices.Pick.{Pick};

@@ -3,6 +3,7 @@
 #![tactic(auto)]
 
 mod collection;
+mod filtered_reader;
 pub mod laws;
 mod reading;
 mod snapshots;

@@ -2,8 +2,8 @@
 
 ghost use Rattle.std.specs.Prelude.{◌≡◌, ◌<◌, ◌^◌};
 ghost use Rattle.stack_core.specs.Interleaving.{IsInterleaving};
-ghost use Rattle.flame_layout.specs.Merged.{all_samples};
-ghost use Rattle.flame_layout.specs.Timeline.{samples_of, timeline, total_weight};
+ghost use Rattle.merged_stacks.specs.Merged.{all_samples};
+ghost use Rattle.merged_stacks.specs.Timeline.{samples_of, timeline, total_weight};
 ghost use Rattle.merging.specs.Gathered.{AreLimited};
 
 use flame_layout::total_weight;

@@ -2,7 +2,7 @@
 
 ghost use Rattle.std.specs.Prelude.{◌≡◌, [], IfOk, OnOk};
 ghost use Rattle.stack_core.specs.Reading.{IsSourceLimited};
-ghost use Rattle.merging.specs.Sources.{source_rest};
+ghost use Rattle.merging.specs.checked.Readers.{whole_rest};
 
 use crate::sources::Source;
 use folded_lines::FoldedReader;
@@ -28,10 +28,9 @@ impl SourceReader {
         options: &Options,
     ) -> Result<SourceReader, AllocError>
         ensures rest { IfOk result (λ reader.
-            reader_rest reader ≡ source_rest options.now.pick options.now.naming source) }
+            reader_rest reader ≡ whole_rest options.now source) }
         ensures told { IfOk result (λ reader. reader_told reader ≡ record { names = []; stacks = [] }) }
-        ensures limits { OnOk result
-            (IsSourceLimited (source_rest options.now.pick options.now.naming source).samples) }
+        ensures limits { OnOk result (IsSourceLimited (whole_rest options.now source).samples) }
     {
         match source.format {
             Format::Folded => Ok(SourceReader::Folded(FoldedReader::over(source.bytes))),

@@ -1,6 +1,6 @@
 //! The example of the crate's page.
 use crate::{Source, gather};
-use run_options::{Format, Naming, Options, Pick, RingSize};
+use run_options::{Filter, Format, Naming, Options, Pick, RingSize};
 use stack_core::OpenGate;
 use std::sync::Arc;
 use std::test::Fail;
@@ -16,6 +16,7 @@ fn example_of_the_page(rt: HostRuntime) -> Result<(), Fail> {
         ring: RingSize::of(8).unwrap(),
         pick: Pick::Preferred,
         naming: Naming::Plain,
+        filter: Filter::everything(alloc),
         every: None,
     };
     let gate = Arc::new(alloc, OpenGate)?;

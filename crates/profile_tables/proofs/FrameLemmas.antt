@@ -1,17 +1,17 @@
 -- The frames of a location, as they are lent and named.
-use Rattle.std.proofs.Common.{◌≡◌, [], ◌∷◌, ◌++◌, ℕ, ◌-◌, ◌+◌, ◌<◌, ◌≤◌, List, length, Option, Some, None, Bool, true, false, cond, refl, sym, ◌∙◌, ap, subst, take, drop, get_or, map, reverse, arith}
-use Rattle.std.specs.Prelude.{◌⊎◌, ◌&&◌, nat_le, option_map, unwrap_or, slice_range}
+use Rattle.std.proofs.Common.{◌≡◌, [], ◌∷◌, ◌++◌, ℕ, ◌-◌, ◌+◌, ◌<◌, ◌≤◌, List, length, Option, Some, None, refl, sym, ◌∙◌, ap, subst, take, drop, get_or, map, reverse}
+use Rattle.std.specs.Prelude.{◌⊎◌, option_map, unwrap_or, slice_range}
 use Rattle.std.specs.Slice.{IsGetRangeResult}
 use Rattle.std.specs.Borrow.{Bor}
 use Rattle.std.proofs.lemmas.List.{take-map, drop-map, take_more, length-map}
-use Rattle.std.proofs.lemmas.Grind.{common_steps}
+use Rattle.profile_messages.specs.declared.messages.Span.{Span}
+use Rattle.profile_messages.specs.SeenProfile.{items_in}
+use Rattle.profile_messages.proofs.ItemLemmas.{map-push}
+use Rattle.profile_messages.proofs.SpanLemmas.{part-by, no_part-by, within, outside, items-at}
 use Rattle.profile_tables.specs.declared.frames.Frame.{Frame}
-use Rattle.profile_tables.specs.declared.messages.Span.{Span}
 use Rattle.profile_tables.specs.declared.frames.Frames.{Frames}
 use Rattle.profile_tables.specs.checked.Frames.{text_in, texts_in, frames_at, LendsFrames}
 use Rattle.profile_tables.specs.checked.FrameNumbers.{all_texts, IsPlaceOf}
-use Rattle.profile_tables.specs.checked.Profile.{items_in}
-use Rattle.profile_tables.proofs.ItemLemmas.{map-push}
 
 -- what no location has
 abbrev pub nowhere : Span
@@ -21,24 +21,6 @@ nowhere = record { start = 0; end = 0 }
 
 pub map-part : {A B : Type 0} (f : A → B) (xs : List A) (start past : ℕ) → slice_range (map f xs) start past ≡ map f (slice_range xs start past)
 map-part f xs start past = ap (take (past - start)) (drop-map f start xs) ∙ take-map f (past - start) (drop start xs)
-
-part-by : {A : Type 0} (b : Bool) (items found : List A) → b ≡ true → items ≡ found → cond b (Some items) None ≡ Some found
-part-by true items found holds same = ap Some same
-part-by false items found holds same = cc
-
-no_part-by : {A : Type 0} (b : Bool) (items : List A) → b ≡ false → cond b (Some items) None ≡ None
-no_part-by true items fails = cc
-no_part-by false items fails = refl
-
-within : (start past n : ℕ) → start ≤ past → past ≤ n → (nat_le start past && nat_le past n) ≡ true
-within start past n le le' = grind (arith, common_steps)
-
-outside : (start past n : ℕ) → (past < start) ⊎ (n < past) → (nat_le start past && nat_le past n) ≡ false
-outside start past n apart = grind (arith, common_steps)
-
--- the items of a span that is one of the list
-pub items-at : {A : Type 0} (items : List A) (span : Span) → span.start ≤ span.end → span.end ≤ length items → items_in items span ≡ Some (slice_range items span.start span.end)
-items-at items span le le' = part-by _ _ _ (within span.start span.end (length items) le le') refl
 
 -- the texts of what is lent
 lent-texts : (f : Frame → List ℕ) (all : List Frame) (span : Span) (lent : Option (Bor (List Frame))) → IsGetRangeResult all span.start span.end lent → items_in (map f all) span ≡ option_map (λ part. map f part.now) lent

@@ -14,21 +14,22 @@ use Rattle.std.proofs.lemmas.Str.{IsUtf8-nil, IsUtf8-append, IsUtf8-encode, enco
 use Rattle.bstr.specs.Utf8.{decoded, or_replacement, lossy_chars}
 use Rattle.bstr.proofs.lemmas.PieceLemmas.{lossy_chars-step, lossy_chars-nil, piece-bounds}
 use Rattle.bstr.proofs.lemmas.SoundLemmas.{SpellsChar-decoded}
-use Rattle.stack_core.specs.declared.samples.Sample.{Sample}
+use Rattle.sample_tables.specs.declared.samples.Sample.{Sample}
 use Rattle.stack_core.specs.declared.endings.ReadKind.{ReadKind}
 use Rattle.stack_core.specs.declared.endings.ReadFault.{ReadFault}
 use Rattle.stack_core.specs.Reading.{Rest}
 use Rattle.run_options.specs.declared.choices.Pick.{Pick}
 use Rattle.run_options.specs.declared.choices.Naming.{Naming}
 use Rattle.run_options.specs.declared.choices.Naming.TheVariants.{Plain, Lines}
-use Rattle.profile_tables.specs.declared.messages.Line.{Line}
-use Rattle.profile_tables.specs.declared.messages.Function.{Function}
+use Rattle.profile_messages.specs.declared.messages.Line.{Line}
+use Rattle.profile_messages.specs.declared.messages.Function.{Function}
 use Rattle.profile_tables.specs.FrameNames.{IsFrameName}
-use Rattle.profile_tables.specs.Message.{first, Content}
+use Rattle.profile_messages.specs.Message.{first, Content}
 use Rattle.profile_tables.specs.Naming.{plain_char, plain_text, address_frame, name_or, function_name, line_suffix, name_of_line, frame_name, frames_of_lines, frames_of_location, frames_of}
-use Rattle.profile_tables.specs.Records.{Location}
-use Rattle.profile_tables.specs.Samples.{SampleTables, tables_of, location_ids, frames_of_ids, weight_of, sample_faults, sample_of, sample_then, read_samples, rest_of, file_faults, read_pprof}
-use Rattle.profile_tables.specs.Tables.{strings_of, functions_of, locations_of, string_at, function_at, location_at, samples_of}
+use Rattle.profile_messages.specs.Records.{Location}
+use Rattle.profile_tables.specs.Samples.{SampleTables, tables_of, location_ids, frames_of_ids, weight_of, sample_faults, sample_of, sample_then, read_samples, rest_of, read_pprof}
+use Rattle.profile_messages.specs.FileFaults.{file_faults}
+use Rattle.profile_messages.specs.Tables.{strings_of, functions_of, locations_of, string_at, function_at, location_at, samples_of}
 use lib.Utf8.{encode, low_scalar}
 
 -- ---- pieces of names

@@ -9,12 +9,12 @@ use Rattle.wire_fields.specs.Spelling.{IsFieldOf, IsValueOf, IsFieldAt, Concaten
 use Rattle.wire_fields.specs.Reading.{Left, IsReadingOfFields, EndsAt, fields_of, numbers_of}
 use Rattle.wire_fields.specs.Fault.{FirstFault}
 use Rattle.profile_tables.specs.declared.fronts.Values.{Values}
-use Rattle.profile_tables.specs.declared.messages.Span.{Span}
+use Rattle.profile_messages.specs.declared.messages.Span.{Span}
 use Rattle.stack_core.specs.declared.endings.ReadKind.{ReadKind}
-use Rattle.profile_tables.specs.Message.{first, bytes_in, repeated_from}
-use Rattle.profile_tables.specs.Shapes.{faults_in, faults_of_field, sample_shape, kinds_of_fault}
+use Rattle.profile_messages.specs.Message.{first, bytes_in, repeated_from}
+use Rattle.profile_messages.specs.Shapes.{faults_in, faults_of_field, sample_shape, kinds_of_fault}
 use Rattle.profile_tables.specs.Samples.{SampleTables, location_ids, values_of, weight_of}
-use Rattle.profile_tables.specs.checked.Offsets.{content_at, bytes_or_none}
+use Rattle.profile_messages.specs.Offsets.{content_at, bytes_or_none}
 use Rattle.profile_tables.specs.checked.Fronts.{bytes_at, IsPlaceBefore, IsFirstHeld, with_value, with_values, no_values, AreValuesBehind, IsFront}
 
 -- the bytes end at this place of the message

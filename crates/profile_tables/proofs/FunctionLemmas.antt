@@ -6,12 +6,12 @@ use Rattle.std.specs.Ordering.{nat_cmp, is_eq}
 use Rattle.std.specs.BTreeMap.{get, Updates}
 use Rattle.std.proofs.lemmas.List.{take_more, length-map}
 use Rattle.std.proofs.lemmas.Grind.{common_steps}
-use Rattle.profile_tables.specs.declared.messages.Function.{Function}
+use Rattle.profile_messages.specs.declared.messages.Function.{Function}
 use Rattle.profile_tables.specs.declared.functions.MadeNames.{MadeNames}
-use Rattle.profile_tables.specs.Tables.{string_at}
+use Rattle.profile_messages.specs.Tables.{string_at}
 use Rattle.profile_tables.specs.Naming.{function_name}
 use Rattle.profile_tables.specs.checked.Functions.{text_index, name_or_unknown, AreMade}
-use Rattle.profile_tables.proofs.ItemLemmas.{map-push, slice_get-append, slice_get-push, referred-kept}
+use Rattle.profile_messages.proofs.ItemLemmas.{map-push, slice_get-append, slice_get-push, referred-kept}
 
 is_eq-nat_cmp : (a b : ℕ) → is_eq (nat_cmp a b) ≡ (a == b)
 is_eq-nat_cmp a b = grind (arith, common_steps)

@@ -8,7 +8,7 @@ use Rattle.call_tree.proofs.Names.{with_name_known}
 use Rattle.call_tree.proofs.NameNumbers.{with_stack_push, numbers-longer, names_at-longer, IsPrefixOf-with_name}
 use Rattle.stack_core.specs.NamesInOrder.{with_name}
 use Rattle.stack_core.specs.Prefixes.{IsPrefixOf}
-use Rattle.stack_core.specs.Ledgers.{name_at}
+use Rattle.sample_tables.specs.Rows.{name_at}
 use Rattle.profile_tables.specs.declared.frames.Frames.{Frames}
 use Rattle.profile_tables.specs.checked.FrameNumbers.{all_texts, text_at, root_first, AreKept, IsNumbered}
 

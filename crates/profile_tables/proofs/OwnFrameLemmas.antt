@@ -4,10 +4,10 @@ use Rattle.std.specs.Prelude.{option_map, unwrap_or, is_some}
 use Rattle.std.specs.Option.{option_and_then}
 use Rattle.std.specs.List.{slice_get}
 use Rattle.std.proofs.lemmas.Option.{slice_get-map}
-use Rattle.profile_tables.specs.declared.messages.Span.{Span}
+use Rattle.profile_messages.specs.declared.messages.Span.{Span}
 use Rattle.profile_tables.specs.declared.frames.Frames.{Frames}
 use Rattle.profile_tables.specs.checked.Frames.{texts_in, frames_at, stacks_of, IsWhole}
-use Rattle.profile_tables.specs.SeenTables.{place_in}
+use Rattle.profile_messages.specs.SeenIndex.{place_in}
 
 -- a span that has frames
 at-span : (frames : Frames) (span : Option Span) → is_some (option_map reverse (option_and_then (texts_in frames) span)) ≡ is_some {T = ℕ} (Some 0) → option_map (λ s. reverse (unwrap_or (texts_in frames s) [])) span ≡ option_map reverse (option_and_then (texts_in frames) span)

@@ -10,7 +10,7 @@ use Rattle.run_options.specs.declared.choices.Pick.{Pick}
 use Rattle.run_options.specs.declared.choices.Naming.{Naming}
 use Rattle.profile_tables.specs.declared.outline.Outline.{Outline}
 use Rattle.profile_tables.specs.declared.reader.PprofReader.TheInside.{Inside}
-use Rattle.profile_tables.specs.checked.Offsets.{found_at}
+use Rattle.profile_messages.specs.Offsets.{found_at}
 use Rattle.profile_tables.specs.checked.SeenOutline.{seen_outline}
 use Rattle.profile_tables.specs.State.{State}
 use Rattle.profile_tables.specs.checked.View.{rest_by, rest_or_ended, state_of}

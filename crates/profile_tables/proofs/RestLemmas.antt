@@ -4,22 +4,24 @@ use Rattle.std.specs.Prelude.{nat_lt, sum_by, filter_map}
 use Rattle.std.specs.List.{AllByRecursion, cons_option}
 use Rattle.std.proofs.lemmas.Grind.{common_steps}
 use Rattle.std.proofs.lemmas.List.Recursion.{is_sum_by}
-use Rattle.stack_core.specs.declared.samples.TheConstants.{FRAME_LIMIT, WEIGHT_LIMIT}
-use Rattle.stack_core.specs.declared.samples.Sample.{Sample}
+use Rattle.sample_tables.specs.declared.samples.TheConstants.{FRAME_LIMIT, WEIGHT_LIMIT}
+use Rattle.sample_tables.specs.declared.samples.Sample.{Sample}
 use Rattle.stack_core.specs.declared.endings.ReadKind.{ReadKind}
 use Rattle.stack_core.specs.declared.endings.ReadKind.TheVariants.{TooDeep, TotalTooLarge}
 use Rattle.stack_core.specs.declared.endings.ReadFault.{ReadFault}
-use Rattle.stack_core.specs.Reading.{Rest, IsLimited, IsSourceLimited}
+use Rattle.stack_core.specs.Reading.{Rest, IsSourceLimited}
+use Rattle.sample_tables.specs.Samples.{IsLimited}
 use Rattle.run_options.specs.declared.choices.Pick.{Pick}
 use Rattle.run_options.specs.declared.choices.Naming.{Naming}
 use Rattle.wire_fields.specs.Reading.{fields_of}
-use Rattle.profile_tables.specs.Message.{first, Content, content_of}
-use Rattle.profile_tables.specs.Shapes.{faults_in, sample_shape}
-use Rattle.profile_tables.specs.Tables.{samples_of}
-use Rattle.profile_tables.specs.checked.Offsets.{offset_of, content_at, found_at}
-use Rattle.profile_tables.specs.Samples.{SampleTables, tables_of, weight_of, stack_of, value_faults, id_faults_of, weight_faults, depth_faults, total_faults, sample_faults, sample_of, with_sample, sample_then, read_samples, rest_of, file_faults, read_pprof}
-use Rattle.profile_tables.proofs.FirstLemmas.{first-none-parts}
-use Rattle.profile_tables.proofs.OffsetLemmas.{found-samples, few-fields}
+use Rattle.profile_messages.specs.Message.{first, Content, content_of}
+use Rattle.profile_messages.specs.Shapes.{faults_in, sample_shape}
+use Rattle.profile_messages.specs.Tables.{samples_of}
+use Rattle.profile_messages.specs.Offsets.{offset_of, content_at, found_at}
+use Rattle.profile_tables.specs.Samples.{SampleTables, tables_of, weight_of, stack_of, value_faults, id_faults_of, weight_faults, depth_faults, total_faults, sample_faults, sample_of, with_sample, sample_then, read_samples, rest_of, read_pprof}
+use Rattle.profile_messages.specs.FileFaults.{file_faults}
+use Rattle.profile_messages.proofs.FirstLemmas.{first-none-parts}
+use Rattle.profile_messages.proofs.OffsetLemmas.{found-samples, few-fields}
 
 pub start_is : (file : List ℕ) (pick : Pick) (naming : Naming) (tables : SampleTables) (places : List ℕ) → first (file_faults file pick) ≡ None → tables ≡ tables_of file pick naming → places ≡ map offset_of (samples_of file) → read_samples tables 0 (map (found_at file) (drop 0 places)) ≡ read_pprof file pick naming
 start_is file pick naming tables places none tables_are places_are =

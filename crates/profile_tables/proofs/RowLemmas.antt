@@ -4,13 +4,13 @@ use Rattle.std.specs.Prelude.{is_none, slice_range, IfSome}
 use Rattle.std.specs.List.{list_any}
 use Rattle.std.proofs.lemmas.List.{get_or_append_left, get_or-append_right}
 use Rattle.std.proofs.lemmas.List.Elements.{All-append, All-cons, All-nil, All-weaker}
-use Rattle.stack_core.specs.declared.samples.TheConstants.{FRAME_LIMIT}
+use Rattle.sample_tables.specs.declared.samples.TheConstants.{FRAME_LIMIT}
 use Rattle.stack_core.specs.Prefixes.{IsPrefixOf}
 use Rattle.stack_core.specs.Records.{names_at}
-use Rattle.stack_core.specs.RowReading.{stack_at}
+use Rattle.sample_tables.specs.Rows.{stack_at}
 use Rattle.call_tree.specs.SpellingCache.{Spelling}
 use Rattle.profile_tables.specs.declared.frames.Frames.{Frames}
-use Rattle.profile_tables.specs.declared.messages.Span.{Span}
+use Rattle.profile_messages.specs.declared.messages.Span.{Span}
 use Rattle.profile_tables.specs.Samples.{stack_of_ids}
 use Rattle.profile_tables.specs.checked.Frames.{frames_at}
 use Rattle.profile_tables.specs.checked.FrameNumbers.{IsNumbered}

@@ -4,13 +4,13 @@ use Rattle.std.specs.Prelude.{flat_map, is_none, nat_lt, slice_index, unwrap_or,
 use Rattle.std.specs.List.{list_any}
 use Rattle.std.proofs.lemmas.Grind.{common_steps, flat_map-append}
 use Rattle.std.proofs.lemmas.List.{reverse-append}
-use Rattle.stack_core.specs.declared.samples.TheConstants.{FRAME_LIMIT, WEIGHT_LIMIT}
-use Rattle.stack_core.specs.declared.samples.Sample.{Sample}
+use Rattle.sample_tables.specs.declared.samples.TheConstants.{FRAME_LIMIT, WEIGHT_LIMIT}
+use Rattle.sample_tables.specs.declared.samples.Sample.{Sample}
 use Rattle.stack_core.specs.declared.endings.ReadKind.TheVariants.{TooDeep, TotalTooLarge}
-use Rattle.profile_tables.specs.Message.{first}
-use Rattle.profile_tables.specs.Shapes.{faults_in, sample_shape}
+use Rattle.profile_messages.specs.Message.{first}
+use Rattle.profile_messages.specs.Shapes.{faults_in, sample_shape}
 use Rattle.profile_tables.specs.Samples.{SampleTables, location_ids, values_of, weight_of, stack_of, stack_of_ids, frames_of_ids, value_faults, id_faults_of, weight_faults, depth_faults, total_faults, sample_faults, sample_of}
-use Rattle.profile_tables.proofs.FirstLemmas.{first-append_none, first-append_some}
+use Rattle.profile_messages.proofs.FirstLemmas.{first-append_none, first-append_some}
 
 -- what is known of a sample behind the first four checks
 pub record Passes (tables : SampleTables) (sample values ids : List ℕ) (weight : ℕ) : Type 0 where

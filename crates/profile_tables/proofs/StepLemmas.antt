@@ -5,30 +5,30 @@ use Rattle.std.specs.List.{list_any}
 use Rattle.wire_fields.specs.declared.fault.WireFault.{WireFault}
 use Rattle.wire_fields.specs.Reading.{numbers_of}
 use Rattle.stack_core.specs.declared.endings.ReadKind.TheVariants.{UnknownLocation}
-use Rattle.stack_core.specs.declared.samples.Sample.{Sample}
-use Rattle.stack_core.specs.declared.samples.TheConstants.{FRAME_LIMIT, WEIGHT_LIMIT}
+use Rattle.sample_tables.specs.declared.samples.Sample.{Sample}
+use Rattle.sample_tables.specs.declared.samples.TheConstants.{FRAME_LIMIT, WEIGHT_LIMIT}
 use Rattle.stack_core.specs.Reading.{Rest}
 use Rattle.std.proofs.lemmas.List.{length-map}
-use Rattle.stack_core.specs.Ledgers.{name_at}
+use Rattle.sample_tables.specs.Rows.{name_at, ToldRows, stack_at}
 use Rattle.stack_core.specs.NamesInOrder.{with_stack}
 use Rattle.stack_core.specs.Records.{names_at}
-use Rattle.stack_core.specs.RowReading.{ToldRows, Gives, TellsNew, stack_at}
+use Rattle.stack_core.specs.RowReading.{Gives, TellsNew}
 use Rattle.profile_tables.specs.declared.frames.Frames.{Frames}
-use Rattle.profile_tables.specs.declared.messages.Span.{Span}
+use Rattle.profile_messages.specs.declared.messages.Span.{Span}
 use Rattle.profile_tables.specs.declared.fronts.Front.{Front}
 use Rattle.profile_tables.specs.declared.outline.Outline.{Outline}
 use Rattle.profile_tables.specs.declared.row_steps.KnownRow.{KnownRow}
 use Rattle.profile_tables.specs.declared.tellers.Teller.{Teller}
-use Rattle.profile_tables.specs.Message.{first}
-use Rattle.profile_tables.specs.Shapes.{faults_in, sample_shape, kinds_of_fault}
+use Rattle.profile_messages.specs.Message.{first}
+use Rattle.profile_messages.specs.Shapes.{faults_in, sample_shape, kinds_of_fault}
 use Rattle.profile_tables.specs.Samples.{SampleTables, location_ids, values_of, weight_of, stack_of, stack_of_ids, value_faults, id_faults_of, weight_faults, depth_faults, total_faults, sample_faults, sample_of, read_samples}
 use Rattle.profile_tables.specs.checked.Frames.{frames_at}
 use Rattle.profile_tables.specs.checked.Fronts.{bytes_at, IsFront}
-use Rattle.profile_tables.specs.checked.Offsets.{content_at, found_at}
+use Rattle.profile_messages.specs.Offsets.{content_at, found_at}
 use Rattle.profile_tables.specs.checked.Tellers.{told_of, IsTeller, IsStackOf, IsRunOf, TellsStack}
 use Rattle.profile_tables.specs.checked.RowSteps.{IsKnownBy}
 use Rattle.profile_tables.specs.checked.SeenOutline.{seen_outline}
-use Rattle.profile_tables.proofs.FirstLemmas.{first-none-parts}
+use Rattle.profile_messages.proofs.FirstLemmas.{first-none-parts}
 use Rattle.profile_tables.proofs.RestLemmas.{next_is, within}
 use Rattle.profile_tables.proofs.SampleLemmas.{Passes, counted, no_fault, length-frames_of_ids}
 

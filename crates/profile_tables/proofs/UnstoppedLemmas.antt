@@ -1,6 +1,6 @@
 -- No profile ends in Stopped.
 use Rattle.std.proofs.Common.{◌≢◌, ℕ, ◌+◌, List, [], ◌∷◌, Option, Some, None, subst}
-use Rattle.stack_core.specs.declared.samples.Sample.{Sample}
+use Rattle.sample_tables.specs.declared.samples.Sample.{Sample}
 use Rattle.stack_core.specs.declared.endings.ReadKind.{ReadKind}
 use Rattle.stack_core.specs.declared.endings.ReadFault.{ReadFault}
 use Rattle.stack_core.specs.declared.endings.SourceEnd.{SourceEnd}
@@ -8,9 +8,10 @@ use Rattle.stack_core.specs.declared.endings.SourceEnd.TheVariants.{Clean, Fault
 use Rattle.stack_core.specs.Reading.{Rest}
 use Rattle.run_options.specs.declared.choices.Pick.{Pick}
 use Rattle.run_options.specs.declared.choices.Naming.{Naming}
-use Rattle.profile_tables.specs.Message.{first, Content}
-use Rattle.profile_tables.specs.Tables.{samples_of}
-use Rattle.profile_tables.specs.Samples.{SampleTables, tables_of, weight_of, sample_faults, sample_of, sample_then, read_samples, rest_of, file_faults, read_pprof}
+use Rattle.profile_messages.specs.Message.{first, Content}
+use Rattle.profile_messages.specs.Tables.{samples_of}
+use Rattle.profile_tables.specs.Samples.{SampleTables, tables_of, weight_of, sample_faults, sample_of, sample_then, read_samples, rest_of, read_pprof}
+use Rattle.profile_messages.specs.FileFaults.{file_faults}
 
 abbrev IsUnstopped : SourceEnd → Type 0
 IsUnstopped (Clean ignored) = Unit {0}

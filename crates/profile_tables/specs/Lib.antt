@@ -1,11 +1,6 @@
-pub mod Message
-pub mod Records
-pub mod Shapes
-pub mod Tables
 pub mod Naming
 pub mod FrameNames
 pub mod Samples
-pub mod Faults
 pub mod SeenTables
 pub mod State
 pub mod checked

@@ -5,10 +5,10 @@ use Rattle.std.specs.Prelude.{false}
 use Rattle.bstr.specs.Utf8.{lossy_chars}
 use Rattle.run_options.specs.declared.choices.Naming.{Naming}
 use Rattle.run_options.specs.declared.choices.Naming.TheVariants.{Plain, Lines}
-use Rattle.profile_tables.specs.declared.messages.Line.{Line}
-use Rattle.profile_tables.specs.declared.messages.Function.{Function}
-use Rattle.profile_tables.specs.Records.{Location}
-use Rattle.profile_tables.specs.Tables.{strings_of, functions_of, locations_of, string_at, function_at, location_at}
+use Rattle.profile_messages.specs.declared.messages.Line.{Line}
+use Rattle.profile_messages.specs.declared.messages.Function.{Function}
+use Rattle.profile_messages.specs.Records.{Location}
+use Rattle.profile_messages.specs.Tables.{strings_of, functions_of, locations_of, string_at, function_at, location_at}
 
 -- `;` becomes `:`, and line feed a space, so that a name is a name of folded lines
 abbrev pub plain_char : ℕ → ℕ

@@ -1,18 +1,20 @@
 -- The samples of a profile, and reading a whole file.
-use Rattle.std.specs.Prelude.{ℕ, ◌+◌, ◌^◌, List, [], ◌∷◌, ◌++◌, length, reverse, flat_map, Option, Some, None, is_none, unwrap_or, slice_index, nat_lt, ◌==◌, ◌&&◌, Bool, if◌then◌else◌}
+use Rattle.std.specs.Prelude.{ℕ, ◌+◌, ◌^◌, List, [], ◌∷◌, ◌++◌, length, reverse, flat_map, Option, Some, None, is_none, unwrap_or, slice_index, nat_lt, ◌==◌, if◌then◌else◌}
 use Rattle.std.specs.List.{list_any}
 use Rattle.stack_core.specs.declared.endings.ReadKind.{ReadKind}
-use Rattle.stack_core.specs.declared.endings.ReadKind.TheVariants.{Compressed, ValueCount, UnknownLocation, NegativeWeight, TooDeep, TotalTooLarge}
+use Rattle.stack_core.specs.declared.endings.ReadKind.TheVariants.{ValueCount, UnknownLocation, NegativeWeight, TooDeep, TotalTooLarge}
 use Rattle.stack_core.specs.declared.endings.ReadFault.{ReadFault}
 use Rattle.stack_core.specs.declared.endings.SourceEnd.TheVariants.{Clean, Fault}
-use Rattle.stack_core.specs.declared.samples.Sample.{Sample}
-use Rattle.stack_core.specs.declared.samples.TheConstants.{FRAME_LIMIT, WEIGHT_LIMIT}
+use Rattle.sample_tables.specs.declared.samples.Sample.{Sample}
+use Rattle.sample_tables.specs.declared.samples.TheConstants.{FRAME_LIMIT, WEIGHT_LIMIT}
 use Rattle.stack_core.specs.Reading.{Rest}
 use Rattle.run_options.specs.declared.choices.Pick.{Pick}
 use Rattle.run_options.specs.declared.choices.Naming.{Naming}
-use Rattle.profile_tables.specs.Message.{first, Content, repeated_numbers}
-use Rattle.profile_tables.specs.Shapes.{faults_in, sample_shape, fault_at, field_faults}
-use Rattle.profile_tables.specs.Tables.{sample_types_of, samples_of, chosen_value, table_faults}
+use Rattle.profile_messages.specs.Message.{first, Content, repeated_numbers}
+use Rattle.profile_messages.specs.Shapes.{faults_in, sample_shape, fault_at}
+use Rattle.profile_messages.specs.Tables.{sample_types_of, samples_of}
+use Rattle.profile_messages.specs.Choosing.{chosen_value}
+use Rattle.profile_messages.specs.FileFaults.{file_faults}
 use Rattle.profile_tables.specs.Naming.{frames_of}
 
 -- what the samples of a file are read with: how many sample types there are, the place of the chosen value, and the frames of each
@@ -102,17 +104,6 @@ read_samples tables total (sample ∷ samples) =
     (read_samples tables (total + weight_of tables.chosen sample.bytes) samples)
 
 -- ---- a file
-
-abbrev pub is_gzip : List ℕ → Bool
-is_gzip file = nat_lt 1 (length file) && (slice_index file 0 == 0x1f && slice_index file 1 == 0x8b)
-
--- the faults of a file before its tables are looked at
-abbrev pub early_faults : List ℕ → List ReadFault
-early_faults file = (if is_gzip file then fault_at 0 Compressed ∷ [] else []) ++ field_faults file
-
--- the faults of a file before its samples, in the order in which they are looked for
-abbrev pub file_faults : List ℕ → Pick → List ReadFault
-file_faults file pick = early_faults file ++ table_faults file pick
 
 abbrev pub rest_of : Option ReadFault → Rest → Rest
 rest_of None rest = rest

@@ -1,15 +1,9 @@
 -- Definitions that no public contract cites: not to be believed, but checked with the code that cites them.
-pub mod Contents
-pub mod Decoding
 pub mod FrameNumbers
 pub mod Frames
 pub mod Fronts
 pub mod Functions
-pub mod Gathered
-pub mod Index
 pub mod Outcome
-pub mod Offsets
-pub mod Profile
 pub mod Rests
 pub mod RowSteps
 pub mod SeenOutline

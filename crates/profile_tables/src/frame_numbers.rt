@@ -10,8 +10,8 @@ ghost use Rattle.profile_tables.specs.checked.Frames.{text_in, frames_at};
 ghost use Rattle.profile_tables.specs.checked.FrameNumbers.{all_texts, text_at, root_first, AreNumbersOf, IsNumbered};
 
 use crate::frames::{Frame, Frames};
-use crate::messages::Span;
 use call_tree::FrameTable;
+use profile_messages::Span;
 use stack_core::Text;
 use std::alloc::{AllocError, Global};
 

@@ -2,9 +2,8 @@
 
 ghost use Rattle.std.specs.Prelude.{◌≡◌, ◌++◌, IfOk, IfSome, map, reverse, string_bytes};
 
-use crate::ids::Index;
-use crate::messages::Span;
 use crate::naming::{address_frame, append_line};
+use profile_messages::{Index, Span};
 use run_options::Naming;
 use stack_core::Names;
 use std::alloc::{AllocError, Global};

@@ -3,13 +3,13 @@
 ghost use Rattle.std.specs.Prelude.{◌≡◌, None, IfSome};
 ghost use Rattle.wire_fields.specs.Field.{seen_value};
 ghost use Rattle.wire_fields.specs.Reading.{numbers_of};
-ghost use Rattle.profile_tables.specs.Message.{first, numbers_in};
-ghost use Rattle.profile_tables.specs.Shapes.{faults_of_value, repeated_shape};
+ghost use Rattle.profile_messages.specs.Message.{first, numbers_in};
+ghost use Rattle.profile_messages.specs.Shapes.{faults_of_value, repeated_shape};
 ghost use Rattle.profile_tables.specs.checked.Fronts.{with_value, with_values, IsNextPlace, IsFirstHeld, AreValuesBehind, IsFront};
 ghost use Rattle.profile_tables.specs.checked.SeenOutline.{seen_outline};
 
-use crate::messages::Span;
 use crate::outline::Outline;
+use profile_messages::Span;
 use wire_fields::{FieldValue, Fields, Packed};
 
 /// The first field of a message, where it holds bytes.

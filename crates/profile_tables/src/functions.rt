@@ -2,15 +2,13 @@
 
 ghost use Rattle.std.specs.Prelude.{◌≡◌, ℕ, List, Some, IfOk, map, string_bytes};
 ghost use Rattle.std.specs.List.{slice_get};
-ghost use Rattle.profile_tables.specs.Tables.{string_at as string_of};
+ghost use Rattle.profile_messages.specs.Tables.{string_at as string_of};
 ghost use Rattle.profile_tables.specs.Naming.{function_name as name_of_function};
-ghost use Rattle.profile_tables.specs.checked.Contents.{texts_of};
+ghost use Rattle.profile_messages.specs.SeenProfile.{texts_of};
 ghost use Rattle.profile_tables.specs.checked.Functions.{name_or_unknown, text_index as index_of_text, AreMade};
 
-use crate::message::Content;
-use crate::messages::Function;
 use crate::naming::function_name;
-use crate::strings::string_at;
+use profile_messages::{Content, Function, string_at};
 use std::alloc::{AllocError, Global};
 use std::collections::BTreeMap;
 

@@ -1,15 +1,13 @@
 //! The lines of locations.
 
 ghost use Rattle.std.specs.Prelude.{◌≡◌, ◌++◌, ℕ, List, IfOk, map};
-ghost use Rattle.profile_tables.specs.checked.Index.{code_location_id, IsIndexOf};
-ghost use Rattle.profile_tables.specs.checked.Profile.{seen_locations};
+ghost use Rattle.profile_messages.specs.SeenIndex.{code_location_id, IsIndexOf};
+ghost use Rattle.profile_messages.specs.SeenProfile.{seen_locations};
 ghost use Rattle.profile_tables.specs.checked.Frames.{text_of, name_in, named_in, frame_named, lines_named, AreFramesOf, IsWhole};
 
 use crate::frames::{Frame, Frames};
 use crate::functions::FunctionNames;
-use crate::ids::Index;
-use crate::messages::{Line, Span};
-use crate::profile::Profile;
+use profile_messages::{Index, Line, Profile, Span};
 use run_options::Naming;
 use std::alloc::{AllocError, Global};
 

@@ -1,29 +1,25 @@
 //! What the samples of a profile are read with.
 
 ghost use Rattle.std.specs.Prelude.{◌≡◌, ℕ, List, None, map, IfOk, IfErr};
-ghost use Rattle.profile_tables.specs.Message.{first};
-ghost use Rattle.profile_tables.specs.Records.{function_id};
-ghost use Rattle.profile_tables.specs.Tables.{samples_of};
-ghost use Rattle.profile_tables.specs.checked.Offsets.{offset_of};
-ghost use Rattle.profile_tables.specs.Samples.{is_gzip, file_faults, tables_of};
-ghost use Rattle.profile_tables.specs.Faults.{IsFirstOf};
-ghost use Rattle.profile_tables.specs.checked.Index.{code_location_id, IsIndexOf};
-ghost use Rattle.profile_tables.specs.checked.Profile.{IsProfileOf};
+ghost use Rattle.profile_messages.specs.Message.{first};
+ghost use Rattle.profile_messages.specs.Records.{function_id};
+ghost use Rattle.profile_messages.specs.Tables.{samples_of};
+ghost use Rattle.profile_messages.specs.Offsets.{offset_of};
+ghost use Rattle.profile_messages.specs.FileFaults.{file_faults};
+ghost use Rattle.profile_messages.specs.SampleTypes.{chosen_type};
+ghost use Rattle.profile_tables.specs.Samples.{tables_of};
+ghost use Rattle.profile_messages.specs.Faults.{IsFirstOf};
+ghost use Rattle.profile_messages.specs.SeenIndex.{code_location_id, IsIndexOf};
+ghost use Rattle.profile_messages.specs.SeenProfile.{IsProfileOf};
 ghost use Rattle.profile_tables.specs.Naming.{frames_of as frames_of_file};
 ghost use Rattle.profile_tables.specs.checked.Frames.{frames_at, IsWhole};
 ghost use Rattle.profile_tables.specs.checked.SeenOutline.{seen_outline};
 
-use crate::checks::{function_fault, string_fault};
-use crate::faults::TableFault;
 use crate::frames::Frames;
 use crate::functions::function_names;
-use crate::ids::{Index, index_of};
 use crate::lines::frames_of;
-use crate::picking::{chosen_value, type_fault};
-use crate::profile::{Profile, profile_of};
-use crate::strings::string_zero_fault;
+use profile_messages::{CheckedProfile, Index, Profile, SampleType, TableFault, type_at};
 use run_options::{Naming, Pick};
-use stack_core::{ReadFault, ReadKind};
 use std::alloc::{AllocError, Global};
 
 /// What the samples of a profile are read with, and where they stand.
@@ -31,16 +27,10 @@ use std::alloc::{AllocError, Global};
 pub(crate) struct Outline {
     pub(crate) sample_types: usize,
     pub(crate) chosen: Option<usize>,
+    pub(crate) chosen_type: Option<SampleType>,
     pub(crate) frames: Frames,
     /// The offset of each sample's tag.
     pub(crate) samples: Vec<usize>,
-}
-
-/// Whether the bytes begin as gzip does.
-fn is_gzip(file: &[u8]) -> bool
-    ensures { result ≡ is_gzip file.now }
-{
-    file.len() > 1 && file[0] == 0x1f && file[1] == 0x8b
 }
 
 /// The frames of a profile's locations, where its functions and locations have these places.
@@ -70,34 +60,26 @@ pub(crate) fn outline_of(
 ) -> Result<Outline, TableFault>
     ensures faultless { IfOk result (λ _. first (file_faults file.now pick.now) ≡ None) }
     ensures tables { IfOk result (λ outline. seen_outline outline ≡ tables_of file.now pick.now naming) }
+    ensures chosen_type { IfOk result (λ outline.
+        outline.chosen_type ≡ chosen_type file.now pick.now) }
     ensures whole { IfOk result (λ outline. IsWhole outline.frames) }
     ensures samples { IfOk result (λ outline.
         outline.samples.items ≡ map offset_of (samples_of file.now)) }
     ensures fault { IfErr result (IsFirstOf (file_faults file.now pick.now)) }
 {
-    if is_gzip(file) {
-        let kind = ReadKind::Compressed;
-        return Err(TableFault::Read(ReadFault { kind, at: 0 }));
-    }
-    let profile = profile_of(alloc, file)?;
-    if let Some(fault) = string_zero_fault(&profile.strings) {
-        return Err(TableFault::Read(fault));
-    }
-    let functions = index_of(alloc, &profile.functions)?;
-    let locations = index_of(alloc, &profile.locations)?;
-    if let Some(fault) = string_fault(&profile) {
-        return Err(TableFault::Read(fault));
-    }
-    if let Some(fault) = function_fault(&functions, &profile) {
-        return Err(TableFault::Read(fault));
-    }
-    let chosen = chosen_value(alloc, &profile, pick)?;
-    if let Some(fault) = type_fault(file, &profile, chosen) {
-        return Err(TableFault::Read(fault));
-    }
+    let checked = CheckedProfile::of(alloc, file, pick)?;
+    let chosen = checked.chosen;
+    let chosen_type = type_at(alloc, &checked.profile, chosen)?;
+    let CheckedProfile {
+        profile,
+        functions,
+        locations,
+        ..
+    } = checked;
     Ok(Outline {
         sample_types: profile.sample_types.len(),
         chosen,
+        chosen_type,
         frames: profile_frames(alloc, &profile, &functions, locations, naming)?,
         samples: profile.samples,
     })

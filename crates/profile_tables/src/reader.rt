@@ -1,16 +1,19 @@
 //! A pprof profile, read sample by sample, or by rows of numbers.
 
-ghost use Rattle.std.specs.Prelude.{◌≡◌, ◌≢◌, ℕ, IsTrue};
-ghost use Rattle.stack_core.specs.Reading.{IsSourceLimited};
+ghost use Rattle.std.specs.Prelude.{◌≡◌, ◌≢◌, ◌<◌, ◌^◌, ℕ, length, IfOk, OnErr, IsOk, IsTrue};
+ghost use Rattle.stack_core.specs.Reading.{Steps, IsEnd, IsWithinLimits, IsSourceLimited};
 ghost use Rattle.stack_core.specs.declared.endings.SourceEnd.TheVariants.{Stopped};
 ghost use Rattle.profile_tables.specs.Samples.{read_pprof};
-ghost use Rattle.profile_tables.specs.State.{nothing_told};
+ghost use Rattle.profile_messages.specs.SampleTypes.{chosen_type};
+ghost use Rattle.profile_tables.specs.SeenTables.{LendsType};
+ghost use Rattle.profile_tables.specs.State.{nothing_told, told_type, HasRead};
 
 mod rows;
 
 use crate::outline::Outline;
 use crate::steps::{next_step, open};
 use crate::tellers::Teller;
+use profile_messages::SampleType;
 use run_options::{Naming, Pick};
 use stack_core::{SampleReader, SourceEnd, Step};
 use std::alloc::{AllocError, Global};
@@ -54,6 +57,7 @@ impl PprofReader {
     pub fn over(bytes: Vec<u8>, pick: Pick, naming: Naming) -> Self
         ensures rest { result.rest ≡ read_pprof bytes.items pick naming }
         ensures told { result.told ≡ nothing_told }
+        ensures chosen_type { result.chosen_type ≡ chosen_type bytes.items pick }
         ensures limits { IsSourceLimited (read_pprof bytes.items pick naming).samples }
         ensures unstopped { (after : ℕ)
             → (read_pprof bytes.items pick naming).ending ≢ Stopped after }
@@ -71,12 +75,31 @@ impl PprofReader {
     }
 }
 
+impl PprofReader {
+    /// The sample type of the chosen value. None before the tables were read, and where the file has no sample.
+    pub fn chosen_type(&self) -> Option<&SampleType>
+        ensures { LendsType (told_type self.now) result }
+    {
+        self.outline.as_ref()?.chosen_type.as_ref()
+    }
+}
+
 impl SampleReader for PprofReader {
     ghost rest = { λ reader. reader.rest };
 
     ghost has_ended = { λ reader. IsTrue reader.has_ended };
 
-    fn next(&mut self, alloc: Global) -> Result<Step, AllocError> {
+    /// As the trait has it. The type of the chosen value stays, and behind a sample it is known.
+    fn next(&mut self, alloc: Global) -> Result<Step, AllocError>
+        ensures step { IfOk result (λ step. Steps self.old.rest step self.new.rest) }
+        ensures limits { IfOk result IsWithinLimits }
+        ensures refused { OnErr result (self.new.rest ≡ self.old.rest) }
+        ensures few { length self.old.rest.samples < 2 ^ 64 }
+        ensures ended { IfOk result (λ step. IsEnd step → IsTrue self.new.has_ended) }
+        ensures repeats { IsTrue self.old.has_ended → IsOk result }
+        ensures chosen_type { self.new.chosen_type ≡ self.old.chosen_type }
+        ensures tables { IfOk result (HasRead self.new) }
+    {
         if let Some(ending) = self.ended {
             return Ok(Step::End(ending));
         }

@@ -3,19 +3,18 @@
 ghost use Rattle.std.specs.Prelude.{◌≡◌, ◌<◌, ◌≤◌, ◌+◌, ◌^◌, Some, length, option_map, IfOk, IfSome, OnOk, OnErr};
 ghost use Rattle.stack_core.specs.Prefixes.{IsPrefixOf};
 ghost use Rattle.stack_core.specs.RowReading.{IsLastStep};
-ghost use Rattle.profile_tables.specs.checked.Offsets.{content_at as content_in};
+ghost use Rattle.profile_messages.specs.Offsets.{content_at as content_in};
 ghost use Rattle.profile_tables.specs.checked.Fronts.{IsFront};
 ghost use Rattle.profile_tables.specs.checked.SeenOutline.{seen_outline};
 ghost use Rattle.profile_tables.specs.checked.Tellers.{told_of, IsTeller};
 ghost use Rattle.profile_tables.specs.checked.RowSteps.{IsKnownBy, IsToldSample, IsNextRow};
 ghost use Rattle.profile_tables.specs.checked.View.{told_by, IsTellerOf};
 
-use crate::contents::content_at;
 use crate::fronts::{Front, front_of};
-use crate::messages::Span;
 use crate::outline::Outline;
 use crate::samples::checked_sample;
 use crate::tellers::{NewRow, Teller};
+use profile_messages::{Span, content_at};
 use stack_core::{ReadFault, ReadKind, RowStep, SourceEnd, WEIGHT_LIMIT};
 use std::alloc::{AllocError, Global};
 

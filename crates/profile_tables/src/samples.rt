@@ -4,9 +4,9 @@ ghost use Rattle.std.specs.Prelude.{◌≡◌, ◌≤◌, IfOk, slice_index, unw
 ghost use Rattle.profile_tables.specs.checked.SeenOutline.{seen_outline};
 ghost use Rattle.profile_tables.specs.checked.Outcome.{IsChecked, IsOutcome};
 
-use crate::numbers::numbers_of;
 use crate::outline::Outline;
 use crate::stacks::{frame_count, stack_of};
+use profile_messages::numbers_of;
 use stack_core::{FRAME_LIMIT, Names, ReadKind, Sample, WEIGHT_LIMIT};
 use std::alloc::{AllocError, Global};
 

@@ -4,10 +4,9 @@ ghost use Rattle.std.specs.Prelude.{◌≡◌, ◌≤◌, IfOk, OnErr};
 ghost use Rattle.profile_tables.specs.checked.Rests.{IsStart, IsNext};
 ghost use Rattle.profile_tables.specs.checked.View.{IsOpened};
 
-use crate::contents::content_at;
-use crate::faults::TableFault;
 use crate::outline::{Outline, outline_of};
 use crate::samples::read_sample;
+use profile_messages::{TableFault, content_at};
 use run_options::{Naming, Pick};
 use stack_core::{ReadFault, SourceEnd, Step, WEIGHT_LIMIT};
 use std::alloc::{AllocError, Global};

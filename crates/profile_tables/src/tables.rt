@@ -1,14 +1,15 @@
 //! The tables of a profile.
 
 ghost use Rattle.std.specs.Prelude.{◌≡◌, None, IfOk, IfErr};
-ghost use Rattle.profile_tables.specs.Message.{first};
-ghost use Rattle.profile_tables.specs.Faults.{IsFirstOf};
-ghost use Rattle.profile_tables.specs.Samples.{file_faults, tables_of};
-ghost use Rattle.profile_tables.specs.SeenTables.{seen_tables, LendsNames};
+ghost use Rattle.profile_messages.specs.Message.{first};
+ghost use Rattle.profile_messages.specs.Faults.{IsFirstOf};
+ghost use Rattle.profile_messages.specs.FileFaults.{file_faults};
+ghost use Rattle.profile_messages.specs.SampleTypes.{chosen_type};
+ghost use Rattle.profile_tables.specs.Samples.{tables_of};
+ghost use Rattle.profile_tables.specs.SeenTables.{seen_tables, seen_type, LendsNames, LendsType};
 
-use crate::faults::TableFault;
-use crate::ids::Index;
 use crate::outline::outline_of;
+use profile_messages::{Index, SampleType, TableFault};
 use run_options::{Naming, Pick};
 use stack_core::Names;
 use std::alloc::Global;
@@ -22,6 +23,7 @@ use std::alloc::Global;
 pub struct Tables {
     pub(crate) sample_types: usize,
     pub(crate) chosen: Option<usize>,
+    pub(crate) type_of_chosen: Option<SampleType>,
     pub(crate) locations: Index,
     /// The names of each location's frames, by its place.
     pub(crate) frames: Vec<Names>,
@@ -39,6 +41,8 @@ impl Tables {
         ensures faultless { IfOk result (λ _. first (file_faults bytes.now pick.now) ≡ None) }
         ensures tables { IfOk result (λ tables.
             seen_tables tables ≡ tables_of bytes.now pick.now naming) }
+        ensures chosen_type { IfOk result (λ tables.
+            seen_type tables ≡ chosen_type bytes.now pick.now) }
         ensures fault { IfErr result (IsFirstOf (file_faults bytes.now pick.now)) }
     {
         let outline = outline_of(alloc, bytes, pick, naming)?;
@@ -46,6 +50,7 @@ impl Tables {
         Ok(Tables {
             sample_types: outline.sample_types,
             chosen: outline.chosen,
+            type_of_chosen: outline.chosen_type,
             locations: outline.frames.locations,
             frames,
         })
@@ -56,6 +61,13 @@ impl Tables {
         ensures { result ≡ (seen_tables self.now).chosen }
     {
         self.chosen
+    }
+
+    /// The sample type of the chosen value. None where the file has no sample.
+    pub fn chosen_type(&self) -> Option<&SampleType>
+        ensures { LendsType (seen_type self.now) result }
+    {
+        self.type_of_chosen.as_ref()
     }
 
     /// The number of sample types.

@@ -2,7 +2,7 @@
 
 ghost use Rattle.std.specs.Prelude.{◌≡◌, ◌<◌, ◌≤◌, ◌+◌, ◌-◌, ◌^◌, ℕ, List, [], length, false, is_none, IfOk, IfSome, OnOk, OnErr};
 ghost use Rattle.std.specs.List.{list_any};
-ghost use Rattle.stack_core.specs.declared.samples.TheConstants.{FRAME_LIMIT};
+ghost use Rattle.sample_tables.specs.declared.samples.TheConstants.{FRAME_LIMIT};
 ghost use Rattle.stack_core.specs.Prefixes.{IsPrefixOf};
 ghost use Rattle.profile_tables.specs.declared.frames.Frames.{Frames};
 ghost use Rattle.profile_tables.specs.Samples.{stack_of_ids};
@@ -13,9 +13,9 @@ ghost use Rattle.profile_tables.specs.checked.Tellers.{told_of, IsStackOf, IsTel
 
 use crate::frame_numbers::FrameNumbers;
 use crate::frames::Frames;
-use crate::messages::Span;
 use crate::samples::CheckedSample;
 use call_tree::{SpellingCache, StackHistory};
+use profile_messages::Span;
 use stack_core::{Listed, Text};
 use std::alloc::{AllocError, Global};
 use std::fmt;

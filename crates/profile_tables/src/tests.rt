@@ -6,7 +6,10 @@ mod depth;
 mod files;
 mod hostile;
 mod lending;
+mod reading;
 mod rows;
+mod told;
+mod types;
 mod weights;
 
 use super::*;
@@ -14,45 +17,12 @@ use files::{
     ADDRESS, BASE, GREATEST_ID, GREATEST_LENGTH, INLINED, INLINED_LINES, LEAST_INDEX, MINUS_ONE,
     NEGATIVE, NO_FRAMES, SAMPLE_FAULTS, SMALLEST, TABLE_FAULTS, TWO_LINES, UNPACKED,
 };
-use rows::read_by_rows;
-use stack_core::{ReadFault, ReadKind, SampleReader, SourceEnd, Step, Text};
+use reading::samples_read_as;
+use stack_core::{ReadFault, ReadKind, SampleReader, SourceEnd, Text};
 use std::alloc::{AllocError, Global};
 use std::process::Abort;
 use std::test::Fail;
-
-/// The samples of a profile, one a line: the names joined by `;`, a space and the weight. Each reader is asked again after its ending.
-fn read(
-    alloc: Global,
-    file: &[u8],
-    pick: &Pick,
-    naming: Naming,
-) -> Result<(String, Option<SourceEnd>), AllocError> {
-    let mut reader = PprofReader::over(file.to_vec(alloc)?, pick.copy(alloc)?, naming);
-    let mut lines = String::new(alloc);
-    for _ in 0..100 {
-        match reader.next(alloc)? {
-            Step::Sample(sample) => {
-                for (place, name) in sample.stack.get().iter().enumerate() {
-                    if place > 0 {
-                        lines.push_str(";")?;
-                    }
-                    lines.push_str(name.as_str())?;
-                }
-                let weight = sample.weight;
-                write!(lines, " {weight}\n")?;
-            }
-            Step::End(ending) => {
-                if let Step::End(again) = reader.next(alloc)?
-                    && again == ending
-                {
-                    return Ok((lines, Some(ending)));
-                }
-                return Ok((lines, None));
-            }
-        }
-    }
-    Ok((lines, None))
-}
+use told::rows_read_as;
 
 /// A file reads so sample by sample, and by rows.
 fn reads_as(
@@ -63,13 +33,8 @@ fn reads_as(
     lines: &str,
     ending: SourceEnd,
 ) -> Result<(), AllocError> {
-    let (read, end) = read(rt.alloc(), file, pick, naming)?;
-    assert_eq!(rt; read.as_str(), lines);
-    assert_eq!(rt; end, Some(ending));
-    let (read, end) = read_by_rows(rt.alloc(), file, pick, naming)?;
-    assert_eq!(rt; read.as_str(), lines);
-    assert_eq!(rt; end, Some(ending));
-    Ok(())
+    samples_read_as(rt, file, pick, naming, lines, ending)?;
+    rows_read_as(rt, file, pick, naming, lines, ending)
 }
 
 /// The same with the preferred value and plain names.
@@ -111,17 +76,20 @@ fn empty_sources(rt: HostRuntime) -> Result<(), Fail> {
     Ok(())
 }
 
+fn has_main(rt: &impl Abort, tables: &Tables) {
+    assert_eq!(rt; tables.chosen(), Some(0));
+    assert_eq!(rt; tables.sample_types(), 1);
+    let frames = tables.location(1).expect(rt, "the location");
+    assert_eq!(rt; frames.len(), 1);
+    assert_eq!(rt; frames[0].as_str(), "main");
+    assert!(rt; tables.location(2).is_none());
+}
+
 #[test]
 fn smallest_profile(rt: HostRuntime) -> Result<(), Fail> {
     reads_plainly(&rt, SMALLEST, "main 7\n", clean())?;
     let tables = Tables::read(rt.alloc(), SMALLEST, &Pick::Preferred, Naming::Plain);
-    let tables = tables.expect(&rt, "the tables");
-    assert_eq!(rt; tables.chosen(), Some(0));
-    assert_eq!(rt; tables.sample_types(), 1);
-    let frames = tables.location(1).expect(&rt, "the location");
-    assert_eq!(rt; frames.len(), 1);
-    assert_eq!(rt; frames[0].as_str(), "main");
-    assert!(rt; tables.location(2).is_none());
+    has_main(&rt, &tables.expect(&rt, "the tables"));
     Ok(())
 }
 

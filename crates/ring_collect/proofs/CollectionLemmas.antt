@@ -8,7 +8,7 @@ use Rattle.stack_core.specs.Told.{IsCollected, told}
 use Rattle.stack_core.proofs.ToldLemmas.{told_under-IsCollected, collected_whole}
 use Rattle.stack_core.specs.Interleaving.{AreOf, IsInterleaving, interleaved, list_of}
 use Rattle.stack_core.proofs.InterleavingLemmas.{AreOf-IsInterleaving, AreOf-interleaved}
-use Rattle.stack_core.specs.declared.samples.Sample.{Sample}
+use Rattle.sample_tables.specs.declared.samples.Sample.{Sample}
 use Rattle.stack_core.specs.declared.endings.Close.TheVariants.{Read}
 use Rattle.call_tree.specs.FrameTable.{HasDistinctNames}
 use Rattle.ring_collect.specs.NamesInOrder.{names_in_order}

@@ -4,7 +4,7 @@ use Rattle.std.proofs.lemmas.List.{map-append}
 use Rattle.stack_core.specs.Ledgers.{LedgerState}
 use Rattle.stack_core.specs.Records.{stands_for, names_told, stacks_told, IsWellToldAfter}
 use Rattle.stack_core.proofs.RecordLemmas.{stands_for-append, names_told-append, stacks_told-append, IsWellTold-append, IsWellTold-front, IsWellTold-back}
-use Rattle.stack_core.specs.declared.samples.Sample.{Sample}
+use Rattle.sample_tables.specs.declared.samples.Sample.{Sample}
 use Rattle.stack_core.specs.declared.endings.Close.{Close}
 use Rattle.stack_core.specs.declared.endings.Item.TheVariants as item
 use Rattle.stack_core.specs.declared.records.RingRecord.{RingRecord}

@@ -4,7 +4,7 @@ use Rattle.std.specs.List.{list_any}
 use Rattle.std.specs.Str.{bytes_eq}
 use Rattle.call_tree.specs.FrameTable.{with_name, HasDistinctNames}
 use Rattle.call_tree.proofs.Names.{HasDistinctNames_push}
-use Rattle.stack_core.specs.declared.samples.Sample.{Sample}
+use Rattle.sample_tables.specs.declared.samples.Sample.{Sample}
 use Rattle.ring_collect.specs.NamesInOrder.{with_stack, with_stacks, names_in_order}
 
 -- one name more

@@ -3,10 +3,10 @@ use Rattle.std.proofs.Common.{zero, suc, ◌≡◌, ◌≢◌, ℕ, ◌+◌, ◌
 use Rattle.std.proofs.lemmas.List.{map-append}
 use Rattle.std.proofs.Math.Seq.{take-append_seam}
 use Rattle.stack_core.specs.Reading.{Rest}
-use Rattle.stack_core.specs.RowReading.{ToldRows}
+use Rattle.sample_tables.specs.Rows.{ToldRows}
 use Rattle.stack_core.specs.Records.{names_told, stands_for, IsWellTold}
 use Rattle.stack_core.specs.Told.{IsToldUnder, Whole, StoppedAt, ShortOfMemory, told}
-use Rattle.stack_core.specs.declared.samples.Sample.{Sample}
+use Rattle.sample_tables.specs.declared.samples.Sample.{Sample}
 use Rattle.stack_core.specs.declared.endings.SourceEnd.{SourceEnd}
 use Rattle.stack_core.specs.declared.endings.Close.TheVariants as close
 use Rattle.stack_core.specs.declared.endings.Item.TheVariants as item

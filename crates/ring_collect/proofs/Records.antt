@@ -7,11 +7,11 @@ use Rattle.std.proofs.lemmas.Option.{get_or_from_slice_get, slice_get_within}
 use Rattle.call_tree.proofs.Names.{with_name_known}
 use Rattle.std.specs.List.{list_any}
 use Rattle.std.specs.Str.{bytes_eq}
-use Rattle.stack_core.specs.Ledgers.{stack_at}
+use Rattle.sample_tables.specs.Rows.{stack_at, ToldRows}
 use Rattle.stack_core.specs.Reading.{Rest}
 use Rattle.stack_core.specs.Records.{names_told, stacks_told, names_at, stands_for, stands_for_after, IsWellTold, IsWellToldAfter}
-use Rattle.stack_core.specs.RowReading.{ToldRows, StepsByRows, sample_by}
-use Rattle.stack_core.specs.declared.samples.Sample.{Sample}
+use Rattle.stack_core.specs.RowReading.{StepsByRows, sample_by}
+use Rattle.sample_tables.specs.declared.samples.Sample.{Sample}
 use Rattle.stack_core.specs.declared.readers.RowStep.{RowStep}
 use Rattle.stack_core.specs.declared.readers.RowStep.TheVariants as step
 use Rattle.stack_core.specs.declared.endings.Item.{Item}

@@ -4,7 +4,7 @@ use Rattle.std.proofs.lemmas.List.{map-append, get_or-set_same, get_or-set_other
 use Rattle.std.proofs.lemmas.Option.{slice_get-get_or, get_or_from_slice_get, slice_get_within, same_Some}
 use Rattle.stack_core.specs.Interleaving.{list_of, of_source, sources_of}
 use Rattle.stack_core.proofs.InterleavingLemmas.{of_source-append, of_source_at, of_source_past}
-use Rattle.stack_core.specs.declared.samples.Sample.{Sample}
+use Rattle.sample_tables.specs.declared.samples.Sample.{Sample}
 use Rattle.ring_collect.specs.checked.Records.{of_one}
 use Rattle.ring_collect.specs.checked.Intakes.{Tracks, GainsMore}
 use Rattle.ring_collect.specs.checked.Rounds.{HasGained, IsAt}

@@ -10,7 +10,7 @@ use Rattle.stack_core.specs.Told.{GoesBelow}
 use Rattle.stack_core.specs.Interleaving.{list_of, of_source}
 use Rattle.stack_core.specs.Prefixes.{IsPrefixOf}
 use Rattle.stack_core.proofs.InterleavingLemmas.{of_source_at, of_source_past}
-use Rattle.stack_core.specs.declared.samples.Sample.{Sample}
+use Rattle.sample_tables.specs.declared.samples.Sample.{Sample}
 use Rattle.ring_collect.specs.checked.Intakes.{Tracked}
 use Rattle.ring_collect.specs.checked.Rounds.{HasGained}
 use Rattle.ring_collect.specs.checked.RunningSources.{ArePromised, IsFresh, AreFresh}

@@ -12,7 +12,7 @@ use Rattle.stack_core.specs.Prefixes.{IsPrefixOf}
 use Rattle.stack_core.specs.Told.{GoesBelow, IsToldUnder, Whole, StoppedAt, ShortOfMemory, told}
 use Rattle.stack_core.proofs.RecordLemmas.{stands_for-append, stands_for_after-append, IsWellTold-front}
 use Rattle.stack_core.proofs.ToldLemmas.{told_under_is_told, same_told, told_list_whole}
-use Rattle.stack_core.specs.declared.samples.Sample.{Sample}
+use Rattle.sample_tables.specs.declared.samples.Sample.{Sample}
 use Rattle.stack_core.specs.declared.endings.SourceEnd.TheVariants as ending
 use Rattle.stack_core.specs.declared.endings.Close.{Close}
 use Rattle.stack_core.specs.declared.endings.Close.TheVariants as close

@@ -1,8 +1,8 @@
 //! How a sink is fed with the samples of rows.
 
 ghost use Rattle.std.specs.Prelude.{◌≡◌, ◌<◌, ◌++◌, ◌∷◌, [], ℕ, List, OnOk, OnErr, length};
-ghost use Rattle.stack_core.specs.Ledgers.{named, row_by};
-ghost use Rattle.stack_core.specs.declared.samples.Sample.{Sample as TakenSample};
+ghost use Rattle.sample_tables.specs.Rows.{named, row_by};
+ghost use Rattle.sample_tables.specs.declared.samples.Sample.{Sample as TakenSample};
 
 use stack_core::{Ledger, RowSink};
 use std::alloc::{AllocError, Global};

@@ -110,8 +110,8 @@ impl Intake {
     ghost use Rattle.ring_collect.specs.checked.Rings.{IsLimitedRecord};
     ghost use Rattle.ring_collect.specs.checked.Records.{TakesRecord};
     ghost use Rattle.ring_collect.specs.checked.Intakes.{PopsOne, FindsNothing, Tracks, GainsMore};
-    ghost use Rattle.stack_core.specs.declared.samples.Sample.{Sample as TakenSample};
-    ghost use Rattle.stack_core.specs.declared.samples.TheConstants.{FRAME_LIMIT, WEIGHT_LIMIT};
+    ghost use Rattle.sample_tables.specs.declared.samples.Sample.{Sample as TakenSample};
+    ghost use Rattle.sample_tables.specs.declared.samples.TheConstants.{FRAME_LIMIT, WEIGHT_LIMIT};
 
     /// Takes a sample of a stack that is kept: it is handed to the sink first, then to the ledger and the order. Answers the stage
     /// after it.

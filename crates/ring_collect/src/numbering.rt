@@ -5,7 +5,7 @@ ghost use Rattle.ring_collect.specs.NamesInOrder.{GrowsTo, with_stack};
 ghost use Rattle.ring_collect.specs.checked.Numbering.{stacks_of};
 ghost use Rattle.stack_core.specs.NamesInOrder.{with_name};
 ghost use Rattle.std.proofs.Props.{props};
-ghost use Rattle.stack_core.specs.declared.samples.TheConstants.{FRAME_LIMIT, WEIGHT_LIMIT};
+ghost use Rattle.sample_tables.specs.declared.samples.TheConstants.{FRAME_LIMIT, WEIGHT_LIMIT};
 ghost use Rattle.stack_core.specs.Records.{names_at};
 
 use call_tree::FrameTable;

@@ -2,7 +2,7 @@
 
 ghost use Rattle.std.specs.Prelude.{◌≡◌, ◌<◌, ℕ, List, IsSome, IfSome, false, length, map, slice_get};
 ghost use Rattle.ring_collect.specs.checked.Rounds.{HasGained};
-ghost use Rattle.stack_core.specs.declared.samples.Sample.{Sample as TakenSample};
+ghost use Rattle.sample_tables.specs.declared.samples.Sample.{Sample as TakenSample};
 
 use crate::feeds::Feed;
 use crate::intakes::Look;

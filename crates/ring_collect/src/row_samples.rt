@@ -1,7 +1,7 @@
 //! The sample that a sink of samples is handed: one for all rows, each time brought up to date at the frames whose names differ.
 
 ghost use Rattle.std.specs.Prelude.{◌≡◌, ◌≤◌, ◌<◌, ◌+◌, ◌++◌, ◌∷◌, [], All, length, map, max, take, string_bytes, OnOk};
-ghost use Rattle.stack_core.specs.Ledgers.{name_at, named};
+ghost use Rattle.sample_tables.specs.Rows.{name_at, named};
 ghost use Rattle.stack_core.specs.Records.{names_at};
 
 use crate::feeds::Feed;

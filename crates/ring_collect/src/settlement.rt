@@ -4,7 +4,7 @@ ghost use Rattle.std.specs.Prelude.{◌≡◌, ◌≢◌, ◌≤◌, ◌<◌, �
 ghost use Rattle.std.specs.Arc.{arc_value};
 ghost use Rattle.rtrb.specs.Ring.{all_sent, IsFinishedOf};
 ghost use Rattle.stack_core.specs.Records.{IsWellTold};
-ghost use Rattle.stack_core.specs.declared.samples.Sample.{Sample};
+ghost use Rattle.sample_tables.specs.declared.samples.Sample.{Sample};
 ghost use Rattle.ring_collect.specs.checked.Intakes.{Tracks};
 ghost use Rattle.ring_collect.specs.checked.Settlement.{IsReceived, IsSettled, AreSettled};
 

@@ -1,2 +1,3 @@
 -- The definitions that the contracts of run_options cite.
+pub mod Filters
 pub mod Formats

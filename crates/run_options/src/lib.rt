@@ -1,14 +1,16 @@
 //! What a run is asked for: how many items a ring holds, which value of a profile weighs its samples, how
-//! frames are named, which format a source has, and how wide an image is.
+//! frames are named, which samples are kept, which format a source has, and how wide an image is.
 #![tactic(auto)]
 
 mod choices;
+mod filters;
 mod formats;
 mod options;
 mod ring_sizes;
 mod widths;
 
 pub use choices::{Naming, Pick};
+pub use filters::Filter;
 pub use formats::{Format, format_of};
 pub use options::Options;
 pub use ring_sizes::{LARGEST_RING, RingSize};

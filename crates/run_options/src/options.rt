@@ -1,6 +1,7 @@
 //! What a run is asked for beside its view.
 
 use crate::choices::{Naming, Pick};
+use crate::filters::Filter;
 use crate::ring_sizes::RingSize;
 
 /// How sources are read and collected.
@@ -12,6 +13,8 @@ pub struct Options {
     pub pick: Pick,
     /// How the frames of pprof profiles are named.
     pub naming: Naming,
+    /// Which samples are kept.
+    pub filter: Filter,
     /// After how many collected samples, each time, a snapshot is taken. None are taken without it.
     pub every: Option<u64>,
 }

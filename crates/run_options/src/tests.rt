@@ -1,7 +1,7 @@
 //! The example of the README, and what no contract says.
 
-use crate::{Format, MAX_WIDTH, Pick, RingSize, Width, format_of};
-use stack_core::Text;
+use crate::{Filter, Format, MAX_WIDTH, Pick, RingSize, Width, format_of};
+use stack_core::{Names, Text};
 use std::test::Fail;
 
 #[test]
@@ -22,6 +22,29 @@ fn copy_of_a_named_choice(rt: HostRuntime) -> Result<(), Fail> {
     let pick = Pick::Named(Text::from_str(rt.alloc(), "cpu")?);
     let copy = pick.copy(rt.alloc())?;
     assert!(rt; matches!(&copy, Pick::Named(name) if name.get() == "cpu"));
+    Ok(())
+}
+
+#[test]
+fn samples_that_a_filter_keeps(rt: HostRuntime) -> Result<(), Fail> {
+    let alloc = rt.alloc();
+    let filter = Filter {
+        focus: Names::from_strs(alloc, &["lay", "pars"])?,
+        hide: Names::from_strs(alloc, &["read"])?,
+    };
+    let copy = filter.copy(alloc)?;
+    for (stack, kept) in [
+        (["main", "parse", "token"], true),
+        (["main", "parse", "reader"], false),
+        (["main", "Parse", "token"], false),
+    ] {
+        let stack = Names::from_strs(alloc, &stack)?;
+        assert_eq!(rt; filter.keeps(stack.get()), kept);
+        assert_eq!(rt; copy.keeps(stack.get()), kept);
+        assert!(rt; Filter::everything(alloc).keeps(stack.get()));
+    }
+    assert!(rt; Filter::everything(alloc).is_everything());
+    assert!(rt; !filter.is_everything());
     Ok(())
 }
 

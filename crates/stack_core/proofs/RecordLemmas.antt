@@ -4,8 +4,7 @@ use Rattle.std.proofs.lemmas.List.{append-nil, get_or_append_left}
 use Rattle.std.proofs.lemmas.List.Elements.{All-push, All-weaker}
 use Rattle.std.specs.Prelude.{All}
 use Rattle.std.specs.List.{slice_index_or}
-use Rattle.stack_core.specs.Ledgers.{stack_at}
-use Rattle.stack_core.specs.declared.endings.Item.{Item}
+use Rattle.sample_tables.specs.Rows.{stack_at}
 use Rattle.stack_core.specs.declared.endings.Item.TheVariants as item
 use Rattle.stack_core.specs.declared.records.RingRecord.{RingRecord}
 use Rattle.stack_core.specs.declared.records.RingRecord.TheVariants.{Name, Row, Again, Close}

@@ -1,6 +1,6 @@
 -- Worked schedules, computed on the definitions.
 use Rattle.std.proofs.Common.{◌≡◌, Bool, true, false, List, [], ◌∷◌, refl}
-use Rattle.stack_core.specs.declared.samples.Sample.{Sample}
+use Rattle.sample_tables.specs.declared.samples.Sample.{Sample}
 use Rattle.stack_core.specs.declared.endings.SourceEnd.TheVariants as ending
 use Rattle.stack_core.specs.declared.endings.Close.TheVariants as close
 use Rattle.stack_core.specs.declared.endings.Item.{Item}

@@ -1,6 +1,7 @@
 use Rattle.std.proofs.Common.{◌≡◌, [], ◌∷◌, length, None, refl}
-use Rattle.stack_core.specs.Ledgers.{LedgerState, with_again, with_row, with_sample, name_at, row_at, sample_at, stack_at, entry_at}
-use Rattle.stack_core.specs.Samples.{total_weight}
+use Rattle.stack_core.specs.Ledgers.{LedgerState, with_again, with_row, with_sample}
+use Rattle.sample_tables.specs.Rows.{name_at, row_at, sample_at, entry_at}
+use Rattle.sample_tables.specs.Samples.{total_weight}
 
 -- `a` and `b` are told, and then the rows of both and of `a` are taken
 abbrev rows_taken : LedgerState

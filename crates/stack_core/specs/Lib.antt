@@ -6,7 +6,6 @@ pub mod Prefixes
 pub mod Reading
 pub mod Records
 pub mod RowReading
-pub mod Samples
 pub mod Schedule
 pub mod Told
 pub mod checked

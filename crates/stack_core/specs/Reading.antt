@@ -1,7 +1,7 @@
-use Rattle.std.specs.Prelude.{◌≡◌, ◌≤◌, List, [], ◌∷◌, length, All}
-use Rattle.stack_core.specs.Samples.{total_weight}
-use Rattle.stack_core.specs.declared.samples.TheConstants.{FRAME_LIMIT, WEIGHT_LIMIT}
-use Rattle.stack_core.specs.declared.samples.Sample.{Sample}
+use Rattle.std.specs.Prelude.{◌≡◌, ◌≤◌, List, [], ◌∷◌, All}
+use Rattle.sample_tables.specs.Samples.{IsLimited, total_weight}
+use Rattle.sample_tables.specs.declared.samples.TheConstants.{WEIGHT_LIMIT}
+use Rattle.sample_tables.specs.declared.samples.Sample.{Sample}
 use Rattle.stack_core.specs.declared.endings.SourceEnd.{SourceEnd}
 use Rattle.stack_core.specs.declared.readers.Step.{Step}
 use Rattle.stack_core.specs.declared.readers.Step.TheVariants as step
@@ -19,11 +19,6 @@ Steps old (step.End ending) new = (old.samples ≡ []) × (old.ending ≡ ending
 abbrev pub IsEnd : Step → Type 0
 IsEnd (step.Sample sample) = ⊥
 IsEnd (step.End ending) = Unit {0}
-
--- at most 4,096 names, and a weight of at most 2^56-1
-pub record IsLimited (sample : Sample) : Type 0 where
-  pub depth : length sample.stack ≤ FRAME_LIMIT
-  pub weight : sample.weight ≤ WEIGHT_LIMIT
 
 abbrev pub IsWithinLimits : Step → Type 0
 IsWithinLimits (step.Sample sample) = IsLimited sample

@@ -1,5 +1,5 @@
 use Rattle.std.specs.Prelude.{ℕ, ◌+◌, ◌<◌, List, [], ◌∷◌, ◌++◌, map, All}
-use Rattle.stack_core.specs.Ledgers.{name_at, stack_at}
+use Rattle.sample_tables.specs.Rows.{name_at, stack_at}
 use Rattle.stack_core.specs.declared.endings.Item.{Item}
 use Rattle.stack_core.specs.declared.endings.Item.TheVariants as item
 use Rattle.stack_core.specs.declared.records.RingRecord.{RingRecord}

@@ -1,20 +1,14 @@
 -- What a reader of rows gives: each name once, each stack by the numbers of its names, and a stack that was told before by its own number.
 use Rattle.std.specs.Prelude.{◌≡◌, ◌<◌, ◌≤◌, ℕ, List, [], ◌∷◌, ◌++◌, length, All}
-pub use Rattle.stack_core.specs.Ledgers.{stack_at}
+use Rattle.sample_tables.specs.Rows.{ToldRows, stack_at}
 use Rattle.stack_core.specs.NamesInOrder.{with_stack}
 use Rattle.stack_core.specs.Reading.{Rest}
 use Rattle.stack_core.specs.Records.{names_at}
 use Rattle.stack_core.specs.declared.endings.SourceEnd.{SourceEnd}
 use Rattle.stack_core.specs.declared.readers.RowStep.{RowStep}
 use Rattle.stack_core.specs.declared.readers.RowStep.TheVariants as step
-use Rattle.stack_core.specs.declared.samples.Sample.{Sample}
-use Rattle.stack_core.specs.declared.samples.TheConstants.{FRAME_LIMIT, WEIGHT_LIMIT}
-
--- the names and the stacks of a source that were told, in order; number k stands for the k-th, from 0. A stack is
--- the numbers of its names, root first
-pub record ToldRows : Type 0 where
-  pub names : List (List ℕ)
-  pub stacks : List (List ℕ)
+use Rattle.sample_tables.specs.declared.samples.Sample.{Sample}
+use Rattle.sample_tables.specs.declared.samples.TheConstants.{FRAME_LIMIT, WEIGHT_LIMIT}
 
 -- the sample of a stack of numbers
 abbrev pub sample_by : List (List ℕ) → List ℕ → ℕ → Sample

@@ -1,7 +1,7 @@
 use Rattle.std.specs.Prelude.{◌≡◌, ℕ, ◌<◌, ◌≤◌, List, [], ◌∷◌, ◌++◌, length, take, map}
 use Rattle.std.specs.Prelude.{Option, Some, None}
 use Rattle.stack_core.specs.Reading.{Rest}
-use Rattle.stack_core.specs.declared.samples.Sample.{Sample}
+use Rattle.sample_tables.specs.declared.samples.Sample.{Sample}
 use Rattle.stack_core.specs.declared.endings.SourceEnd.TheVariants as ending
 use Rattle.stack_core.specs.declared.endings.Close.{Close}
 use Rattle.stack_core.specs.declared.endings.Close.TheVariants as close

@@ -3,7 +3,7 @@
 ghost use Rattle.std.specs.Prelude.{◌≡◌};
 ghost use Rattle.stack_core.specs.Faults.{kind_text};
 
-use crate::samples::Sample;
+use sample_tables::Sample;
 use std::error::Error;
 use std::fmt;
 

@@ -1,6 +1,6 @@
 //! Laws of the definitions, for all lists, and of the limits. Each function carries one, and does nothing.
 
-ghost use Rattle.std.specs.Prelude.{◌≡◌, ◌<◌, ◌≤◌, ◌+◌, ◌^◌, ℕ, List, [], ◌++◌, length, take};
+ghost use Rattle.std.specs.Prelude.{◌≡◌, ◌<◌, ◌≤◌, ℕ, List, [], ◌++◌, length, take};
 ghost use Rattle.std.specs.Prelude.{Option, Some, All, Contains, slice_get};
 ghost use Rattle.std.specs.Option.{option_map};
 ghost use Rattle.stack_core.specs.Interleaving.{IsInterleaving, AreOf, AreInterleaved};
@@ -15,17 +15,11 @@ ghost use Rattle.stack_core.specs.declared.endings.Close.{Close};
 ghost use Rattle.stack_core.specs.declared.endings.Item.{Item};
 ghost use Rattle.stack_core.specs.declared.endings.Item.TheVariants as item;
 ghost use Rattle.stack_core.specs.declared.records.RingRecord.{RingRecord};
-ghost use Rattle.stack_core.specs.declared.samples.Sample.{Sample};
-ghost use Rattle.stack_core.specs.declared.samples.TheConstants.{FRAME_LIMIT, WEIGHT_LIMIT};
+ghost use Rattle.sample_tables.specs.declared.samples.Sample.{Sample};
 ghost use Rattle.stack_core.specs.declared.worlds.Event.{Event};
 
 use crate::gates::Gate;
-
-/// The most frames of a stack and the greatest weight, of a sample and of a source, are these numbers.
-pub fn limits()
-    ensures frames { FRAME_LIMIT ≡ 4096 }
-    ensures weights { WEIGHT_LIMIT + 1 ≡ 2 ^ 56 }
-{}
+pub use sample_tables::laws::limits;
 
 /// Whatever happens, no item is lost, comes twice or overtakes another: what was received is the beginning of
 /// what was told, and the queue and what is still to push are the rest of it. What was received at one moment is

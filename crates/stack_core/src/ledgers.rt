@@ -1,16 +1,14 @@
 //! What is kept of a source while its samples arrive.
 
 ghost use Rattle.std.specs.Prelude.{◌≡◌, ◌<◌, ◌≤◌, ◌++◌, ◌∷◌, [], List, All, length, map, None, Some, is_some, option_copied, OnOk, OnErr};
-ghost use Rattle.stack_core.specs.declared.samples.TheConstants.{FRAME_LIMIT, WEIGHT_LIMIT};
-ghost use Rattle.stack_core.specs.Reading.{IsLimited};
-ghost use Rattle.stack_core.specs.Ledgers.{AreEntries, AreNamed, IsRead, keeping, name_at, stack_at, with_again, with_row, with_sample};
-ghost use Rattle.stack_core.specs.Samples.{total_weight};
+ghost use Rattle.sample_tables.specs.declared.samples.TheConstants.{FRAME_LIMIT, WEIGHT_LIMIT};
+ghost use Rattle.sample_tables.specs.Samples.{IsLimited, total_weight};
+ghost use Rattle.sample_tables.specs.Rows.{AreEntries, AreNamed, name_at, stack_at};
+ghost use Rattle.stack_core.specs.Ledgers.{IsRead, keeping, with_again, with_row, with_sample};
 
 use crate::endings::Close;
 use crate::lists::SourceList;
-use crate::samples::Sample;
-use crate::tables::RowTable;
-use crate::values::{Listed, Text};
+use sample_tables::{Listed, RowTable, Sample, Text};
 use std::alloc::{AllocError, Global};
 use std::marker::Model;
 
@@ -27,7 +25,8 @@ pub struct Ledger {
 
 impl Model for Ledger {
     ghost use Rattle.std.specs.Prelude.{map};
-    ghost use Rattle.stack_core.specs.Ledgers.{LedgerState, named, rows_by};
+    ghost use Rattle.stack_core.specs.Ledgers.{LedgerState};
+    ghost use Rattle.sample_tables.specs.Rows.{named, rows_by};
 
     ghost Value = { LedgerState };
 

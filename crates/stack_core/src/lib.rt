@@ -3,7 +3,6 @@
 #![tactic(auto)]
 
 mod endings;
-mod entries;
 mod gates;
 mod lanes;
 pub mod laws;
@@ -11,11 +10,7 @@ mod ledgers;
 mod lists;
 mod readers;
 mod records;
-mod samples;
 mod sinks;
-mod stacks;
-mod tables;
-mod values;
 mod worlds;
 
 pub use endings::{Close, Item, ReadFault, ReadKind, SourceEnd};
@@ -24,7 +19,6 @@ pub use ledgers::Ledger;
 pub use lists::SourceList;
 pub use readers::{RowReader, RowStep, SampleReader, Step};
 pub use records::RingRecord;
-pub use samples::{FRAME_LIMIT, Sample, WEIGHT_LIMIT};
+pub use sample_tables::{FRAME_LIMIT, Listed, Names, Sample, Text, WEIGHT_LIMIT};
 pub use sinks::{NoSink, RowSink, Sink};
-pub use values::{Listed, Names, Text};
 pub use worlds::{Event, World};

@@ -1,13 +1,12 @@
 //! What is collected of a source.
 
 ghost use Rattle.std.specs.Prelude.{◌≡◌, ◌<◌, ◌≤◌, ℕ, List, All, length, map, slice_index};
-ghost use Rattle.stack_core.specs.declared.samples.TheConstants.{FRAME_LIMIT, WEIGHT_LIMIT};
-ghost use Rattle.stack_core.specs.Reading.{IsLimited};
-ghost use Rattle.stack_core.specs.Ledgers.{AreEntries, AreNamed, entry_at, name_at, named, row_at, rows_by, sample_at, stack_at};
-ghost use Rattle.stack_core.specs.Samples.{total_weight};
+ghost use Rattle.sample_tables.specs.declared.samples.TheConstants.{FRAME_LIMIT, WEIGHT_LIMIT};
+ghost use Rattle.sample_tables.specs.Samples.{IsLimited, total_weight};
+ghost use Rattle.sample_tables.specs.Rows.{AreEntries, AreNamed, entry_at, name_at, named, row_at, rows_by, sample_at, stack_at};
 
 use crate::endings::SourceEnd;
-use crate::tables::RowTable;
+use sample_tables::RowTable;
 use std::marker::Model;
 
 /// The samples of a source in the order in which they were taken, and the source's ending. Names are told once
@@ -22,7 +21,8 @@ pub struct SourceList {
 
 impl Model for SourceList {
     ghost use Rattle.std.specs.Prelude.{map};
-    ghost use Rattle.stack_core.specs.Ledgers.{ListState, named, rows_by};
+    ghost use Rattle.stack_core.specs.Ledgers.{ListState};
+    ghost use Rattle.sample_tables.specs.Rows.{named, rows_by};
 
     ghost Value = { ListState };
 

@@ -3,12 +3,15 @@
 ghost use Rattle.std.specs.Prelude.{◌≡◌, ◌<◌, ◌^◌, length, IfOk, OnOk, OnErr, IsOk};
 ghost use Rattle.stack_core.specs.Prefixes.{IsPrefixOf};
 ghost use Rattle.stack_core.specs.Reading.{Steps, IsEnd, IsWithinLimits, Rest};
-ghost use Rattle.stack_core.specs.RowReading.{StepsByRows, IsLastStep, IsLimitedStep, ToldRows};
+ghost use Rattle.stack_core.specs.RowReading.{StepsByRows, IsLastStep, IsLimitedStep};
+ghost use Rattle.sample_tables.specs.Rows.{ToldRows};
 
 use crate::endings::SourceEnd;
-use crate::samples::Sample;
-use crate::values::{Listed, Text};
+use sample_tables::{Listed, Sample, Text};
 use std::alloc::{AllocError, Global};
+
+#[cfg(test)]
+mod tests;
 
 /// What a call of a reader gives.
 #[derive(Clone, Debug, PartialEq, Eq, Drop)]

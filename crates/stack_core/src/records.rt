@@ -1,7 +1,10 @@
 //! What a ring carries: names told once, rows of their numbers, and rows told again.
 
 use crate::endings::Close;
-use crate::values::{Listed, Text};
+use sample_tables::{Listed, Text};
+
+#[cfg(test)]
+mod tests;
 
 /// An item of a ring. Number k stands for the k-th name that was told in that ring, from 0.
 #[derive(Clone, Debug, PartialEq, Eq, Drop)]

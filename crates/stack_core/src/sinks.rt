@@ -1,11 +1,11 @@
 //! What the samples of all sources are handed to, in the order in which they arrive.
 
 ghost use Rattle.std.specs.Prelude.{◌≡◌, ◌<◌, ◌++◌, ◌∷◌, [], ℕ, List, OnOk, OnErr, length};
-ghost use Rattle.stack_core.specs.Ledgers.{named, row_by};
-ghost use Rattle.stack_core.specs.declared.samples.Sample.{Sample as TakenSample};
+ghost use Rattle.sample_tables.specs.Rows.{named, row_by};
+ghost use Rattle.sample_tables.specs.declared.samples.Sample.{Sample as TakenSample};
 
 use crate::ledgers::Ledger;
-use crate::samples::Sample;
+use sample_tables::Sample;
 use std::alloc::{AllocError, Global};
 use std::marker::Model;
 use std::snapshot::Snapshot;
@@ -81,7 +81,7 @@ pub struct NoSink {
 impl Model for NoSink {
     ghost use Rattle.std.specs.Prelude.{ℕ, List};
     ghost use Rattle.stack_core.specs.checked.TakenRows.{pairs_of};
-    ghost use Rattle.stack_core.specs.declared.samples.Sample.{Sample as TakenSample};
+    ghost use Rattle.sample_tables.specs.declared.samples.Sample.{Sample as TakenSample};
 
     ghost Value = { List (ℕ × TakenSample) };
 

@@ -10,10 +10,10 @@ use Rattle.call_tree.specs.CallTree.{Tree, own_weight, total_weight}
 use Rattle.call_tree.specs.FrameTable.{HasDistinctNames}
 use Rattle.call_tree.specs.declared.listing.Visit.{Visit as TreeVisit}
 use Rattle.call_tree.specs.Listing.{named, visit_of as tree_visit, HasNumbersOf, IsListing as IsTreeListing}
-use Rattle.stack_core.specs.declared.samples.Sample.{Sample}
+use Rattle.sample_tables.specs.declared.samples.Sample.{Sample}
 use Rattle.folded_lines.specs.Writing.{line_of}
-use Rattle.flame_layout.specs.Timeline.{Stack}
-use Rattle.flame_layout.specs.Graph.{stack_cmp}
+use Rattle.merged_stacks.specs.Timeline.{Stack}
+use Rattle.merged_stacks.specs.Order.{stack_cmp}
 use Rattle.flame_layout.specs.Paths.{Visit, IsRising, SameOwn, tree_samples}
 use Rattle.flame_layout.specs.checked.Paired.{next_path}
 use Rattle.flame_layout.proofs.PathWords.{path_total, path_own, visit_of}
@@ -25,9 +25,10 @@ use Rattle.flame_layout.proofs.TreeSamples.{equal_is, named_visit, named_listing
 use Rattle.flame_layout.proofs.Chained.{PathsGoOn, next_is}
 use Rattle.flame_layout.proofs.Held.{own_le, listing_chained, each_path}
 use Rattle.flame_layout.proofs.GraphBoxes.{each_at, tree_weight}
-use Rattle.view_texts.specs.Fold.{Weighed, merged, weighed, lines_of, if_positive, fold_text}
+use Rattle.merged_stacks.specs.Merged.{Weighed, merged, if_positive}
+use Rattle.view_texts.specs.Fold.{weighed, lines_of, fold_text}
 use Rattle.flame_layout.proofs.MergedSums.{Decides-order, sum_at-own, same_rows}
-use Rattle.view_texts.proofs.MergedRows.{is_true, as_true, merged-only}
+use Rattle.merged_stacks.proofs.MergedRows.{is_true, as_true, merged-only}
 use Rattle.view_texts.specs.checked.Visited.{next_names, visited_lines}
 
 -- ---- the lines of the visits

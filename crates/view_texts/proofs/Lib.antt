@@ -6,10 +6,10 @@ pub mod JsonMembers
 pub mod JsonReading
 pub mod JsonValues
 pub mod MergedLines
-pub mod MergedRows
 pub mod PairRows
 pub mod PartFolds
 pub mod SumViews
+pub mod TextPieces
 pub mod VisitedLines
 mod WorkedFold
 mod WorkedLines

@@ -5,16 +5,16 @@ use Rattle.std.proofs.lemmas.List.{take_more, length-take-le, map_more, append-n
 use Rattle.std.proofs.lemmas.Grind.{flat_map-append}
 use Rattle.std.proofs.lemmas.List.Elements.{recursion_from_All}
 use Rattle.std.proofs.lemmas.Bool.{lt-ltb}
-use Rattle.stack_core.specs.declared.samples.Sample.{Sample}
+use Rattle.sample_tables.specs.declared.samples.Sample.{Sample}
 use Rattle.std.specs.Io.{StartsWith}
-use Rattle.stack_core.specs.Ledgers.{sample_at}
+use Rattle.sample_tables.specs.Rows.{sample_at}
 use Rattle.folded_lines.specs.Writing.{line_of}
 use Rattle.folded_lines.proofs.JoinLemmas.{join_with_byte-push}
-use Rattle.flame_layout.specs.Timeline.{Stack}
-use Rattle.flame_layout.specs.Paths.{SameOwn, weighed as all_weighed}
-use Rattle.flame_layout.specs.Merged.{Weighed, are_in_order}
+use Rattle.merged_stacks.specs.Timeline.{Stack}
+use Rattle.flame_layout.specs.Paths.{SameOwn}
+use Rattle.merged_stacks.specs.Merged.{weighed as all_weighed, Weighed, are_in_order}
 use Rattle.flame_layout.proofs.MergedSums.{same_rows}
-use Rattle.flame_layout.proofs.JoinedStacks.{rows_merged}
+use Rattle.merged_stacks.proofs.JoinedStacks.{rows_merged}
 use Rattle.view_texts.specs.Fold.{lines_of, fold_text}
 use Rattle.view_texts.specs.checked.Joined.{joint}
 

@@ -2,9 +2,9 @@
 use Rattle.std.proofs.Common.{◌≡◌, ℕ, ◌+◌, ◌≤◌, ◌<◌, ◌||◌, List, [], ◌∷◌, ◌++◌, Bool, true, false, cond, map, filter, ltb, sym, ap, subst, refl, arith, ⊎_elim, Contains}
 use Rattle.std.proofs.lemmas.List.Elements.{All-map, All-filter}
 use Rattle.std.proofs.lemmas.Bool.{cases_lt, lt-ltb, ltb-true}
-use Rattle.stack_core.specs.declared.samples.Sample.{Sample}
+use Rattle.sample_tables.specs.declared.samples.Sample.{Sample}
 use Rattle.flame_layout.specs.declared.boxes.PairRow.{PairRow}
-use Rattle.flame_layout.specs.Timeline.{Stack, drawn}
+use Rattle.merged_stacks.specs.Timeline.{Stack, drawn}
 use Rattle.flame_layout.specs.Graph.{sorted_by_stack}
 use Rattle.flame_layout.specs.Paths.{own_at, total_at, paths_of, IsRising}
 use Rattle.flame_layout.specs.Comparison.{row_of, comparison_of}

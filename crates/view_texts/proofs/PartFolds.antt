@@ -10,9 +10,9 @@ use Rattle.std.proofs.lemmas.List.Folds.{flat_map-map}
 use Rattle.std.proofs.lemmas.List.Elements.{All-nil, All-cons, All-head, All-tail, All-append, All-map, All-filter}
 use Rattle.std.proofs.lemmas.List.Sums.{sum_by-append}
 use Rattle.stack_core.specs.Reading.{Rest, IsSourceLimited}
-use Rattle.stack_core.specs.Samples.{total_weight}
-use Rattle.stack_core.specs.declared.samples.TheConstants.{WEIGHT_LIMIT}
-use Rattle.stack_core.specs.declared.samples.Sample.{Sample}
+use Rattle.sample_tables.specs.Samples.{total_weight}
+use Rattle.sample_tables.specs.declared.samples.TheConstants.{WEIGHT_LIMIT}
+use Rattle.sample_tables.specs.declared.samples.Sample.{Sample}
 use Rattle.stack_core.specs.declared.endings.SourceEnd.TheVariants as ends
 use Rattle.folded_lines.specs.LastNames.{last_ends_in_number}
 use Rattle.folded_lines.specs.Reading.{read_folded}
@@ -22,16 +22,17 @@ use Rattle.folded_lines.specs.Writing.{line_of}
 use Rattle.folded_lines.proofs.NamesBack.{samples_plain}
 use Rattle.folded_lines.proofs.ReadLemmas.{IsSourceLimited-read_folded}
 use Rattle.folded_lines.proofs.TextLemmas.{read_folded-text_of}
-use Rattle.flame_layout.specs.Timeline.{Stack, is_drawn, drawn}
-use Rattle.flame_layout.specs.Graph.{stack_cmp, graph_of}
+use Rattle.merged_stacks.specs.Timeline.{Stack, is_drawn, drawn}
+use Rattle.merged_stacks.specs.Order.{stack_cmp}
+use Rattle.flame_layout.specs.Graph.{graph_of}
 use Rattle.flame_layout.proofs.PathWords.{path_own}
-use Rattle.flame_layout.specs.Merged.{Weighed, sum_at, merged, all_samples, merged_samples}
+use Rattle.merged_stacks.specs.Merged.{Weighed, sum_at, merged, all_samples, merged_samples}
 use Rattle.flame_layout.proofs.LawProofs.{permuted_own}
 use Rattle.flame_layout.proofs.MergedSums.{Decides-order, merged_own}
 use Rattle.flame_layout.proofs.Sums.{same_graph, same_sums}
 use Rattle.view_texts.specs.Fold.{weighed, fold_text}
 use Rattle.view_texts.specs.Parts.{IsFoldable, refolded, fold_of}
-use Rattle.view_texts.proofs.MergedRows.{sum_at-cons, sum_at-nil}
+use Rattle.merged_stacks.proofs.MergedRows.{sum_at-cons, sum_at-nil}
 use Rattle.view_texts.proofs.SumViews.{SameSums, same_append, same_weights, same_folds}
 
 -- a row as a sample

@@ -2,12 +2,12 @@
 use Rattle.std.proofs.Common.{◌≡◌, ◌+◌, ◌<◌, true, List, ◌++◌, length, map, sym, ap, subst, ◌∙◌, arith}
 use Rattle.std.specs.List.{flat_map, zip}
 use Rattle.std.proofs.lemmas.List.Sums.{sum_by-append}
-use Rattle.stack_core.specs.Samples.{total_weight}
-use Rattle.stack_core.specs.declared.samples.Sample.{Sample}
+use Rattle.sample_tables.specs.Samples.{total_weight}
+use Rattle.sample_tables.specs.declared.samples.Sample.{Sample}
 use Rattle.flame_layout.specs.Comparison.{row_of, comparison_of, compared_box, compared_boxes_of}
 use Rattle.flame_layout.specs.Graph.{sorted_by_stack}
 use Rattle.flame_layout.specs.Paths.{total_at, own_at, paths_of}
-use Rattle.flame_layout.specs.Timeline.{Stack, drawn}
+use Rattle.merged_stacks.specs.Timeline.{Stack, drawn}
 use Rattle.flame_layout.proofs.LawProofs.{weighs, stands}
 use Rattle.flame_layout.proofs.Ascending.{sorted-ascending}
 use Rattle.flame_layout.proofs.MergedSums.{sum_at-own}
@@ -16,7 +16,7 @@ use Rattle.flame_layout.proofs.Rising.{same_rising, paths_of-rise}
 use Rattle.flame_layout.proofs.Sums.{same_tested, same_totals, same_graph}
 use Rattle.view_texts.specs.Fold.{weighed, fold_text}
 use Rattle.view_texts.specs.Pairs.{pairs_of, pair_lines_of, pairs_text}
-use Rattle.view_texts.proofs.MergedRows.{merged-same}
+use Rattle.merged_stacks.proofs.MergedRows.{merged-same}
 
 abbrev pub SameSums : List Sample → List Sample → Type 0
 SameSums xs ys = (q : Stack) → path_own q xs ≡ path_own q ys

@@ -6,7 +6,7 @@ use Rattle.std.proofs.lemmas.List.Sums.{fold_push}
 use Rattle.std.proofs.lemmas.Bool.{lt-ltb, le-ltb}
 use Rattle.call_tree.specs.declared.listing.Visit.{Visit}
 use Rattle.folded_lines.specs.Writing.{line_of}
-use Rattle.flame_layout.specs.Timeline.{Stack}
+use Rattle.merged_stacks.specs.Timeline.{Stack}
 use Rattle.view_texts.specs.checked.Visited.{next_names, visited_lines}
 
 -- the names of the path of the last visit

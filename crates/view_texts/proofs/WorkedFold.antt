@@ -2,8 +2,8 @@
 use Rattle.std.proofs.Common.{◌≡◌, ℕ, List, [], ◌∷◌, codes, refl}
 use Rattle.std.specs.Fmt.{digits}
 use Rattle.call_tree.specs.PathSums.{total_of, own_of}
-use Rattle.stack_core.specs.declared.samples.Sample.{Sample}
-use Rattle.flame_layout.specs.Timeline.{Stack}
+use Rattle.sample_tables.specs.declared.samples.Sample.{Sample}
+use Rattle.merged_stacks.specs.Timeline.{Stack}
 use Rattle.view_texts.specs.Pairs.{pairs_text}
 
 abbrev pub taken : Stack → ℕ → Sample

@@ -2,13 +2,13 @@
 use Rattle.std.proofs.Common.{◌≡◌, List, [], ◌∷◌, ◌++◌, codes, map, refl}
 use Rattle.std.specs.List.{concat}
 use Rattle.std.specs.Fmt.{digits}
-use Rattle.stack_core.specs.declared.samples.Sample.{Sample}
+use Rattle.sample_tables.specs.declared.samples.Sample.{Sample}
 use Rattle.stack_core.specs.declared.endings.ReadKind.TheVariants.{TwoColumns}
 use Rattle.stack_core.specs.declared.endings.SourceEnd.TheVariants as ends
 use Rattle.folded_lines.specs.Reading.{read_folded}
 use Rattle.folded_lines.proofs.Computing.{computing}
 use Rattle.flame_layout.specs.Graph.{graph_of}
-use Rattle.flame_layout.specs.Merged.{sum_at, stacks_of, merged}
+use Rattle.merged_stacks.specs.Merged.{sum_at, stacks_of, merged}
 use Rattle.view_texts.specs.Fold.{fold_text}
 use Rattle.view_texts.specs.Parts.{refolded, fold_of}
 use Rattle.view_texts.proofs.WorkedFold.{taken}

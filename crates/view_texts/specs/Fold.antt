@@ -2,8 +2,8 @@
 use Rattle.std.specs.Prelude.{ℕ, List, map}
 use Rattle.std.specs.List.{flat_map}
 use Rattle.folded_lines.specs.Writing.{line_of}
-use Rattle.stack_core.specs.declared.samples.Sample.{Sample}
-pub use Rattle.flame_layout.specs.Merged.{Weighed, sum_at, stacks_of, merged, are_in_order, weight_at, if_positive}
+use Rattle.sample_tables.specs.declared.samples.Sample.{Sample}
+use Rattle.merged_stacks.specs.Merged.{Weighed, merged}
 
 -- the lines of some rows
 abbrev pub lines_of : List Weighed → List ℕ

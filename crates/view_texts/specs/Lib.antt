@@ -2,6 +2,8 @@
 pub mod Fold
 pub mod Json
 pub mod JsonLaws
+pub mod Lines
 pub mod Pairs
 pub mod Parts
+pub mod Pieces
 pub mod checked

@@ -1,10 +1,10 @@
 -- Two-column text: a line for each stack with an own weight in either of two profiles, sorted by stack, the first profile's weight first.
 use Rattle.std.specs.Prelude.{◌≡◌, ◌<◌, ◌+◌, ◌↔◌, ◌||◌, ℕ, Bool, List, All, Contains, map, filter, nat_lt}
 use Rattle.std.specs.List.{flat_map}
-use Rattle.stack_core.specs.declared.samples.Sample.{Sample}
+use Rattle.sample_tables.specs.declared.samples.Sample.{Sample}
 use Rattle.folded_lines.specs.Writing.{pair_line_of}
 use Rattle.flame_layout.specs.declared.boxes.PairRow.{PairRow}
-use Rattle.flame_layout.specs.Timeline.{Stack}
+use Rattle.merged_stacks.specs.Timeline.{Stack}
 use Rattle.flame_layout.specs.Paths.{own_at, IsRising}
 use Rattle.flame_layout.specs.Comparison.{comparison_of}
 

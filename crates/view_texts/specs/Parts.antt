@@ -1,11 +1,11 @@
 -- Samples in parts, each of which is folded by itself.
 use Rattle.std.specs.Prelude.{ℕ, ◌≤◌, List, All}
-use Rattle.stack_core.specs.Samples.{total_weight}
-use Rattle.stack_core.specs.declared.samples.TheConstants.{WEIGHT_LIMIT}
-use Rattle.stack_core.specs.declared.samples.Sample.{Sample}
+use Rattle.sample_tables.specs.Samples.{total_weight}
+use Rattle.sample_tables.specs.declared.samples.TheConstants.{WEIGHT_LIMIT}
+use Rattle.sample_tables.specs.declared.samples.Sample.{Sample}
 use Rattle.folded_lines.specs.Reading.{read_folded}
 use Rattle.folded_lines.specs.ReadingBack.{IsPlain}
-use Rattle.flame_layout.specs.Timeline.{drawn}
+use Rattle.merged_stacks.specs.Timeline.{drawn}
 use Rattle.view_texts.specs.Fold.{fold_text}
 
 -- a part whose fold text reads back: lines can carry each stack with weight, and the weights are within the limit of a source

@@ -1,14 +1,14 @@
 //! Merged folded text of a call tree.
 ghost use Rattle.std.specs.Prelude.{◌≡◌, ◌++◌, ◌^◌, ◌<◌, [], List, All, length, map, string_bytes, OnOk, OnErr};
 ghost use Rattle.std.specs.Io.{StartsWith};
-ghost use Rattle.stack_core.specs.declared.samples.Sample.{Sample};
+ghost use Rattle.sample_tables.specs.declared.samples.Sample.{Sample};
 ghost use Rattle.call_tree.specs.CallTree.{total_weight};
 ghost use Rattle.call_tree.specs.Listing.{HasNumbersOf};
 ghost use Rattle.flame_layout.specs.Paths.{SameOwn, tree_samples};
 ghost use Rattle.view_texts.specs.Fold.{fold_text};
 ghost use Rattle.view_texts.specs.checked.Visited.{next_names, visited_lines};
 
-use crate::rollback::truncate_on_error;
+use byte_io::truncate_on_error;
 use call_tree::{CallTree, FrameTable, Visit};
 use folded_lines::append_line;
 use std::alloc::{AllocError, Global};

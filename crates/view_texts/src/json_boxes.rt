@@ -1,6 +1,7 @@
 //! Boxes in JSON.
 
 ghost use Rattle.std.specs.Prelude.{◌≡◌, ℕ, ◌+◌, ◌<◌, ◌≤◌, ◌++◌, false, OnOk};
+ghost use Rattle.std.specs.Io.{StartsWith};
 ghost use Rattle.serde_json.specs.Data.{Data};
 ghost use Rattle.serde_json.specs.Written.{compact_text, members_text};
 ghost use Rattle.flame_layout.specs.Edges.{placed_at};
@@ -11,19 +12,21 @@ use crate::scales::Scale;
 use flame_layout::{ComparedBox, SpanBox, edges};
 use std::alloc::{AllocError, Global};
 
-// A box of a line, which is an object there.
-pub(crate) trait JsonBox {
+/// A box of a line of JSON, which is an object there.
+pub trait JsonBox {
     // The object, in an image of that total and width.
     ghost object_of: { ℕ → ℕ → Self → Data };
 
     // Where the box ends.
     ghost end: { Self → ℕ };
 
+    /// Appends the object. An `Err` may leave a part of it.
     fn append(&self, alloc: Global, text: &mut Vec<u8>, scale: &Scale) -> Result<(), AllocError>
         requires within { end self.now ≤ scale.now.total }
         requires positive { 0 < scale.now.total }
-        ensures { OnOk result (text.new.items
-            ≡ text.old.items ++ compact_text (object_of scale.now.total scale.now.width self.now)) };
+        ensures ok { OnOk result (text.new.items
+            ≡ text.old.items ++ compact_text (object_of scale.now.total scale.now.width self.now)) }
+        ensures front { StartsWith text.new.items text.old.items };
 }
 
 impl JsonBox for SpanBox {
@@ -58,8 +61,9 @@ fn append_members(
 ) -> Result<(), AllocError>
     requires within { span.now.start + span.now.weight ≤ scale.now.total }
     requires positive { 0 < scale.now.total }
-    ensures { OnOk result (text.new.items ≡ text.old.items
+    ensures ok { OnOk result (text.new.items ≡ text.old.items
         ++ members_text false (box_members (placed_at scale.now.total scale.now.width span.now))) }
+    ensures front { StartsWith text.new.items text.old.items }
 {
     let (left, right) = edges(span, scale.total, scale.width);
     append_number(text, b"\"depth\":", u64::from(span.depth))?;

@@ -1,6 +1,7 @@
 //! Numbers, texts and lists of numbers in JSON.
 
 ghost use Rattle.std.specs.Prelude.{◌≡◌, ◌++◌, map, decimal, OnOk};
+ghost use Rattle.std.specs.Io.{StartsWith};
 ghost use Rattle.serde_json.specs.Data.{string};
 ghost use Rattle.serde_json.specs.Written.{comma_if, compact_text};
 ghost use Rattle.view_texts.specs.Json.{whole_number, list_data};
@@ -17,7 +18,8 @@ pub(crate) fn comma_if(later: bool) -> &'static [u8]
 
 // Appends a literal piece and a number.
 pub(crate) fn append_number(out: &mut Vec<u8>, piece: &[u8], number: u64) -> Result<(), AllocError>
-    ensures { OnOk result (out.new.items ≡ out.old.items ++ (piece.now ++ decimal number)) }
+    ensures ok { OnOk result (out.new.items ≡ out.old.items ++ (piece.now ++ decimal number)) }
+    ensures front { StartsWith out.new.items out.old.items }
 {
     out.extend_from_slice(piece)?;
     let mut digits = Buffer::new();
@@ -31,8 +33,9 @@ pub(crate) fn append_text(
     piece: &[u8],
     text: &str,
 ) -> Result<(), AllocError>
-    ensures { OnOk result
+    ensures ok { OnOk result
         (out.new.items ≡ out.old.items ++ (piece.now ++ compact_text (string text.now))) }
+    ensures front { StartsWith out.new.items out.old.items }
 {
     out.extend_from_slice(piece)?;
     match serde_json::to_vec(alloc, &text) {
@@ -48,8 +51,9 @@ pub(crate) fn append_numbers(
     piece: &[u8],
     numbers: &[u64],
 ) -> Result<(), AllocError>
-    ensures { OnOk result (out.new.items
+    ensures ok { OnOk result (out.new.items
         ≡ out.old.items ++ (piece.now ++ compact_text (list_data (map whole_number numbers.now)))) }
+    ensures front { StartsWith out.new.items out.old.items }
 {
     out.extend_from_slice(piece)?;
     out.push(b'[')?;

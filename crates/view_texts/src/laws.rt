@@ -1,20 +1,20 @@
 //! Laws over the definitions, for all lists. Each function does nothing, and takes no memory.
 ghost use Rattle.std.specs.Prelude.{◌≡◌, ◌<◌, ◌≤◌, ◌^◌, ◌++◌, ℕ, false, List, All, IsTrue, IsPermutation, map};
 ghost use Rattle.std.specs.List.{concat};
-ghost use Rattle.stack_core.specs.Samples.{total_weight};
-ghost use Rattle.stack_core.specs.declared.samples.TheConstants.{WEIGHT_LIMIT};
-ghost use Rattle.stack_core.specs.declared.samples.Sample.{Sample};
+ghost use Rattle.sample_tables.specs.Samples.{total_weight};
+ghost use Rattle.sample_tables.specs.declared.samples.TheConstants.{WEIGHT_LIMIT};
+ghost use Rattle.sample_tables.specs.declared.samples.Sample.{Sample};
 ghost use Rattle.stack_core.specs.declared.endings.SourceEnd.TheVariants as ends;
 ghost use Rattle.folded_lines.specs.LastNames.{last_ends_in_number};
 ghost use Rattle.folded_lines.specs.Reading.{read_folded};
 ghost use Rattle.folded_lines.specs.TextParts.{ReadsAsParts};
 ghost use Rattle.flame_layout.specs.Comparison.{comparison_of};
 ghost use Rattle.flame_layout.specs.Graph.{graph_of};
-ghost use Rattle.flame_layout.specs.Merged.{all_samples, merged_samples};
-ghost use Rattle.flame_layout.specs.Timeline.{Stack, drawn};
+ghost use Rattle.merged_stacks.specs.Merged.{all_samples, merged_samples, Weighed, merged, are_in_order, weight_at, if_positive, sum_at};
+ghost use Rattle.merged_stacks.specs.Timeline.{Stack, drawn};
 ghost use Rattle.flame_layout.specs.declared.boxes.ComparedBox.{ComparedBox};
 ghost use Rattle.flame_layout.specs.declared.boxes.SpanBox.{SpanBox};
-ghost use Rattle.view_texts.specs.Fold.{Weighed, merged, are_in_order, weight_at, if_positive, sum_at, fold_text};
+ghost use Rattle.view_texts.specs.Fold.{fold_text};
 ghost use Rattle.view_texts.specs.Json.{boxes_data, boxes_line, snapshot_data, snapshot_line, pair_boxes_data, pair_boxes_line};
 ghost use Rattle.view_texts.specs.JsonLaws.{IsJsonLine, IsWithin};
 ghost use Rattle.view_texts.specs.Pairs.{pairs_of, AreAllPairs};

@@ -4,19 +4,24 @@
 
 mod fold_lines;
 mod json_boxes;
+mod json_line;
 mod json_lines;
 mod json_pieces;
 pub mod laws;
+mod line_kinds;
 mod merged_lines;
 mod pair_lines;
-mod rollback;
 mod scales;
 
+pub use byte_io::truncate_on_error;
 pub use fold_lines::append_fold_text;
-pub use json_lines::{append_boxes_line, append_pair_boxes_line, append_snapshot_line};
-pub use merged_lines::append_merged_text;
-pub use pair_lines::append_pairs_text;
-pub use rollback::truncate_on_error;
+pub use json_boxes::JsonBox;
+pub use json_line::JsonLine;
+pub use json_lines::{
+    append_boxes_line, append_pair_boxes_line, append_snapshot_line, comparison_line, picture_line,
+};
+pub use merged_lines::{FoldedText, append_merged_text};
+pub use pair_lines::{PairsText, append_pairs_text};
 pub use scales::Scale;
 
 #[cfg(test)]

@@ -1,18 +1,50 @@
 //! Folded text of merged stacks.
-ghost use Rattle.std.specs.Prelude.{◌≡◌, ◌++◌, ◌<◌, List, length, OnOk, OnErr};
+ghost use Rattle.std.specs.Prelude.{◌≡◌, ◌++◌, ◌<◌, ◌^◌, List, length, OnOk, OnErr};
 ghost use Rattle.std.specs.Io.{StartsWith};
-ghost use Rattle.std.specs.List.{join_with_byte};
-ghost use Rattle.stack_core.specs.declared.samples.Sample.{Sample};
-ghost use Rattle.stack_core.specs.Ledgers.{sample_at};
+ghost use Rattle.std.specs.List.{concat, join_with_byte};
+ghost use Rattle.sample_tables.specs.declared.samples.Sample.{Sample};
+ghost use Rattle.sample_tables.specs.Rows.{sample_at};
 ghost use Rattle.flame_layout.specs.Paths.{SameOwn};
 ghost use Rattle.folded_lines.specs.Writing.{column_of, line_of};
 ghost use Rattle.view_texts.specs.Fold.{fold_text};
+ghost use Rattle.view_texts.specs.Pieces.{stack_lines};
 ghost use Rattle.view_texts.specs.checked.Joined.{joint};
 
-use crate::rollback::truncate_on_error;
+use byte_io::{Pieces, truncate_on_error};
 use flame_layout::MergedStacks;
 use itoa::Buffer;
-use std::alloc::AllocError;
+use std::alloc::{AllocError, Global};
+
+/// The folded text of merged stacks, as `append_merged_text` appends it: a line is a piece.
+#[derive(Clone, Copy)]
+pub struct FoldedText<'a> {
+    pub merged: &'a MergedStacks,
+}
+
+impl<'a> FoldedText<'a> {
+    /// The text of these stacks.
+    pub fn of(merged: &'a MergedStacks) -> FoldedText<'a>
+        ensures stacks { result.merged.now ≡ merged.now }
+        ensures text { (samples : List Sample) → SameOwn samples merged.now
+            → concat (stack_lines merged.now) ≡ fold_text samples }
+        ensures few { length merged.now < 2 ^ 64 }
+    {
+        let _count = merged.len();
+        FoldedText { merged }
+    }
+}
+
+impl Pieces for FoldedText<'_> {
+    ghost pieces = { λ text. stack_lines text.merged.now };
+
+    fn count(&self) -> usize {
+        self.merged.len()
+    }
+
+    fn append_piece(&self, _alloc: Global, at: usize, out: &mut Vec<u8>) -> Result<(), AllocError> {
+        append_stack(out, self.merged, at)
+    }
+}
 
 /// Appends the folded text of merged stacks: a line for each, in order, with its sum. It is that of
 /// every list of samples whose weights, summed up by stack, are the merged ones. An `Err` changes

@@ -2,6 +2,7 @@
 
 use crate::{Plan, PlanFault, View, plan};
 use run_options::{Format, Naming, Options, Pick, Width};
+use stack_core::Names;
 use std::alloc::Global;
 use std::process::Abort;
 use std::test::Fail;
@@ -33,16 +34,20 @@ fn options_are(
 
 // The options where no word sets one.
 pub(crate) fn options_are_defaults(options: &Options) -> bool {
-    options_are(options, 1_024, None, Naming::Plain, None)
+    options_are(options, 1_024, None, Naming::Plain, None) && options.filter.is_everything()
+}
+
+pub(crate) fn are(names: &Names, texts: &[&str]) -> bool {
+    let names = names.get();
+    names.len() == texts.len()
+        && names
+            .iter()
+            .zip(texts)
+            .all(|(name, text)| name.as_str() == *text)
 }
 
 pub(crate) fn has_files(plan: &Plan, files: &[&str]) -> bool {
-    let named = plan.files.get();
-    named.len() == files.len()
-        && named
-            .iter()
-            .zip(files)
-            .all(|(name, file)| name.as_str() == *file)
+    are(&plan.files, files)
 }
 
 pub(crate) fn width(rt: &impl Abort, pixels: u32) -> Width {

@@ -37,6 +37,24 @@ fn texts(alloc: Global, words: &[&str]) -> Result<Vec<String>, AllocError> {
     Ok(texts)
 }
 
+fn named(alloc: Global, path: &str, bytes: &[u8]) -> Result<NamedFile, AllocError> {
+    Ok(NamedFile {
+        path: String::from_str(alloc, path)?,
+        bytes: bytes.to_vec(alloc)?,
+    })
+}
+
+fn add_files(
+    alloc: Global,
+    files: &mut MemoryFiles,
+    given: &[(&str, &[u8])],
+) -> Result<(), AllocError> {
+    for (path, bytes) in given {
+        files.add(named(alloc, path, bytes)?)?;
+    }
+    Ok(())
+}
+
 /// Runs the program over what is given, and answers its status.
 pub(super) fn status_of<
     T: Threads + Wait + AllocGlobal + Copy + Send + 'static,
@@ -45,12 +63,7 @@ pub(super) fn status_of<
 >(rt: &T, given: &Given<'_>, out: &mut W, err: &mut E) -> Result<u8, Fail> {
     let alloc = rt.alloc();
     let mut files = MemoryFiles::new(alloc, given.input.to_vec(alloc)?, SOURCE_LIMIT);
-    for (path, bytes) in given.files {
-        files.add(NamedFile {
-            path: String::from_str(alloc, path)?,
-            bytes: bytes.to_vec(alloc)?,
-        })?;
-    }
+    add_files(alloc, &mut files, given.files)?;
     let words = texts(alloc, given.words)?;
     Ok(run(rt, alloc, words, &mut files, out, err))
 }

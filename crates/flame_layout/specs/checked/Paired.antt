@@ -4,7 +4,7 @@ use Rattle.std.specs.List.{AllByRecursion}
 use Rattle.call_tree.specs.declared.listing.Visit.{Visit}
 use Rattle.call_tree.specs.CallTree.{Tree, tree_of, own_weight, total_weight}
 use Rattle.call_tree.specs.Listing.{named, AreIn}
-use Rattle.stack_core.specs.declared.samples.Sample.{Sample}
+use Rattle.sample_tables.specs.declared.samples.Sample.{Sample}
 use Rattle.flame_layout.specs.declared.boxes.PairRow.{PairRow}
 use Rattle.flame_layout.specs.declared.boxes.ComparedBox.{ComparedBox}
 use Rattle.flame_layout.specs.Chart.{box_name}
@@ -34,10 +34,6 @@ pub record Holds (names : List (List ℕ)) (tree : Tree) (samples : List Sample)
   pub tree_is : tree ≡ tree_of rows
   pub samples_are : samples ≡ map (λ row. record { stack = named names row.0; weight = row.1 }) rows
   pub known : AllByRecursion (λ row. AreIn names row.0) rows
-
--- the table has gained names at its end, or none
-abbrev pub Grows : List (List ℕ) → List (List ℕ) → Type 0
-Grows old new = (more : List (List ℕ)) × (new ≡ old ++ more)
 
 -- the box of a row, which starts at a place
 abbrev pub row_box : ℕ → PairRow → ComparedBox

@@ -1,11 +1,11 @@
 -- The walk over the samples from the last to the first, as the code that draws a chart makes it.
 use Rattle.std.specs.Prelude.{ℕ, ◌+◌, ◌-◌, ◌≡◌, ◌<◌, ◌≤◌, List, [], ◌∷◌, map, length, reverse, drop, Some}
 use Rattle.std.specs.List.{range_with_len, enumerate_from}
-use Rattle.stack_core.specs.declared.samples.Sample.{Sample}
-use Rattle.stack_core.specs.Ledgers.{sample_at}
+use Rattle.sample_tables.specs.declared.samples.Sample.{Sample}
+use Rattle.sample_tables.specs.Rows.{sample_at}
 use Rattle.flame_layout.specs.declared.boxes.SpanBox.{SpanBox}
 use Rattle.flame_layout.specs.declared.walks.OpenRun.{OpenRun}
-use Rattle.flame_layout.specs.Timeline.{Stack, total_weight}
+use Rattle.merged_stacks.specs.Timeline.{Stack, total_weight}
 use Rattle.flame_layout.specs.Chart.{names_shared, box_name, run_at, own_weight, boxes_after}
 
 -- a run that goes on at the front of what was walked: its name, where it ends, and its own weight

@@ -1,7 +1,7 @@
 -- Why a run fails, and what each failure says of its sources and of its output.
-use Rattle.std.specs.Prelude.{◌≡◌, ℕ, ◌<◌, List, Bool, true, false, Option}
+use Rattle.std.specs.Prelude.{◌≡◌, ℕ, ◌<◌, List, Bool, true, false, Option, Result, MatchResult}
 use Rattle.std.specs.List.{list_any}
-use Rattle.std.specs.Io.KnownBytes.{Keeps}
+use Rattle.std.specs.Io.KnownBytes.{Appends, Keeps}
 use Rattle.stack_core.specs.Ledgers.{ListState}
 use Rattle.stack_core.specs.Reading.{Rest}
 use Rattle.stack_core.specs.declared.endings.SourceEnd.{SourceEnd}
@@ -13,7 +13,8 @@ use Rattle.byte_io.specs.declared.whole_input.LoadFault.TheVariants as load
 use Rattle.command_line.specs.declared.plans.Plan.{Plan}
 use Rattle.command_line.specs.declared.plans.PlanFault.{PlanFault}
 use Rattle.command_line.specs.declared.plans.PlanFault.TheVariants as fault
-use Rattle.flame_tool.specs.Runs.{AppendsFront, HasFault, ShowsFront}
+use Rattle.byte_io.specs.Pieces.{AppendsFront}
+use Rattle.flame_tool.specs.Runs.{HasFault, ShowsFront}
 use Rattle.flame_tool.specs.declared.failures.Failure.{Failure}
 use Rattle.flame_tool.specs.declared.failures.Failure.TheVariants.{TooManyFiles, Unreadable, TooLarge, OutOfMemory, NoThread, Unfinished, Faults, Output}
 
@@ -26,7 +27,7 @@ ends_in_fault (ends.Stopped after) = false
 abbrev pub has_fault : List ListState → Bool
 has_fault lists = list_any (λ list. ends_in_fault list.ending) lists
 
--- the output is as it was, unless it failed
+-- the output is as it was, unless a text was not sent whole
 abbrev pub KeepsOutput : Option (List ℕ) → Option (List ℕ) → Failure → Type 0
 KeepsOutput old new TooManyFiles = Keeps old new
 KeepsOutput old new (Unreadable source) = Keeps old new
@@ -35,7 +36,7 @@ KeepsOutput old new OutOfMemory = Keeps old new
 KeepsOutput old new NoThread = Keeps old new
 KeepsOutput old new (Unfinished source) = Keeps old new
 KeepsOutput old new Faults = Keeps old new
-KeepsOutput old new Output = Unit {0}
+KeepsOutput old new (Output fault) = Unit {0}
 
 -- what a failed run of the plan says of the sources and of the output
 abbrev pub Fails : Plan → Option (List ℕ) → Option (List ℕ) → Failure → List Rest → Type 0
@@ -46,9 +47,9 @@ Fails plan old new OutOfMemory rests = Unit {0}
 Fails plan old new NoThread rests = Unit {0}
 Fails plan old new (Unfinished source) rests = Unit {0}
 Fails plan old new Faults rests = HasFault rests
-Fails plan old new Output rests = ShowsFront plan old new rests
+Fails plan old new (Output fault) rests = ShowsFront plan old new rests
 
--- a text of lists was not sent: for want of memory, for a fault in a list, or since the output failed
+-- a text of lists was not sent whole: for want of memory, for a fault in a list, or since its sending failed
 abbrev pub FailsToShow : List ListState → List ℕ → Option (List ℕ) → Option (List ℕ) → Failure → Type 0
 FailsToShow lists text old new TooManyFiles = ⊥
 FailsToShow lists text old new (Unreadable source) = ⊥
@@ -57,7 +58,22 @@ FailsToShow lists text old new OutOfMemory = Keeps old new
 FailsToShow lists text old new NoThread = ⊥
 FailsToShow lists text old new (Unfinished source) = ⊥
 FailsToShow lists text old new Faults = (has_fault lists ≡ true) × Keeps old new
-FailsToShow lists text old new Output = (has_fault lists ≡ false) × AppendsFront text old new
+FailsToShow lists text old new (Output fault) = (has_fault lists ≡ false) × AppendsFront text old new
+
+-- why a text was not sent whole, and what of it was: nothing for want of memory before, or else a front of it
+abbrev pub IsUnsent : List ℕ → Option (List ℕ) → Option (List ℕ) → Failure → Type 0
+IsUnsent text old new TooManyFiles = ⊥
+IsUnsent text old new (Unreadable source) = ⊥
+IsUnsent text old new (TooLarge source) = ⊥
+IsUnsent text old new OutOfMemory = Keeps old new
+IsUnsent text old new NoThread = ⊥
+IsUnsent text old new (Unfinished source) = ⊥
+IsUnsent text old new Faults = ⊥
+IsUnsent text old new (Output fault) = AppendsFront text old new
+
+-- the text was sent whole, or was not
+abbrev pub Sends : {T : Type 0} → List ℕ → Option (List ℕ) → Option (List ℕ) → Result T Failure → Type 0
+Sends text old new result = MatchResult result (λ _. Appends old new text) (IsUnsent text old new)
 
 -- the failure came before anything was collected, and so many files are too many only above 64
 abbrev pub IsOpening : ℕ → Failure → Type 0
@@ -68,7 +84,7 @@ IsOpening count OutOfMemory = Unit {0}
 IsOpening count NoThread = ⊥
 IsOpening count (Unfinished source) = ⊥
 IsOpening count Faults = ⊥
-IsOpening count Output = ⊥
+IsOpening count (Output fault) = ⊥
 
 -- the exit status of a failed run: 1 where a source has a fault, 2 where there are too many
 abbrev pub status_of : Failure → ℕ
@@ -79,7 +95,7 @@ status_of OutOfMemory = 3
 status_of NoThread = 3
 status_of (Unfinished source) = 3
 status_of Faults = 1
-status_of Output = 3
+status_of (Output fault) = 3
 
 -- the failure of a run for which the source could not be loaded
 abbrev pub failure_of_load : ℕ → LoadFault → Failure

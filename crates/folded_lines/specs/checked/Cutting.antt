@@ -1,6 +1,6 @@
 -- A head as it is cut: its trailing ';' go first, and each of what they separate is a name.
 use Rattle.std.specs.Prelude.{ℕ, nat_lt, if◌then◌else◌, List, [], ◌∷◌, length, Option, Some, None}
-use Rattle.stack_core.specs.declared.samples.TheConstants.{FRAME_LIMIT}
+use Rattle.sample_tables.specs.declared.samples.TheConstants.{FRAME_LIMIT}
 use Rattle.folded_lines.specs.Lines.{is_semicolon}
 
 -- a byte in front of the bytes that are kept: none is dropped but a ';' at the end

@@ -3,7 +3,8 @@ use Rattle.std.specs.Prelude.{◌≡◌, ◌<◌, ◌≤◌, ℕ, List, length, 
 use Rattle.stack_core.specs.Reading.{Rest}
 use Rattle.stack_core.specs.declared.readers.RowStep.{RowStep}
 use Rattle.stack_core.specs.declared.readers.RowStep.TheVariants as step
-use Rattle.stack_core.specs.RowReading.{ToldRows, stack_at, sample_by}
+use Rattle.sample_tables.specs.Rows.{ToldRows, stack_at}
+use Rattle.stack_core.specs.RowReading.{sample_by}
 use Rattle.folded_lines.specs.Lines.{names_of, read_line}
 use Rattle.folded_lines.specs.declared.lines.Line.{Line}
 use Rattle.folded_lines.specs.declared.lines.Line.TheVariants as line

@@ -1,10 +1,11 @@
 -- What is left of a text at some line, by the counts of what stands before it.
 use Rattle.std.specs.Prelude.{◌≡◌, ◌≤◌, ℕ, ◌+◌, nat_lt, if◌then◌else◌, List, [], ◌∷◌, length, drop}
-use Rattle.stack_core.specs.Reading.{Rest, IsLimited}
+use Rattle.stack_core.specs.Reading.{Rest}
+use Rattle.sample_tables.specs.Samples.{IsLimited}
 use Rattle.stack_core.specs.declared.readers.Step.{Step}
 use Rattle.stack_core.specs.declared.readers.Step.TheVariants as step
-use Rattle.stack_core.specs.declared.samples.TheConstants.{WEIGHT_LIMIT}
-use Rattle.stack_core.specs.declared.samples.Sample.{Sample as StackSample}
+use Rattle.sample_tables.specs.declared.samples.TheConstants.{WEIGHT_LIMIT}
+use Rattle.sample_tables.specs.declared.samples.Sample.{Sample as StackSample}
 use Rattle.stack_core.specs.declared.endings.ReadKind.TheVariants.{TotalTooLarge}
 use Rattle.stack_core.specs.declared.endings.SourceEnd.{SourceEnd}
 use Rattle.stack_core.specs.declared.endings.SourceEnd.TheVariants as ends

@@ -2,8 +2,8 @@
 use Rattle.std.specs.Prelude.{◌≡◌, ◌<◌, ℕ, ◌∷◌, ◌++◌, nat_lt, if◌then◌else◌, List, [], length, All, Contains, slice_range, Option, Some, None}
 use Rattle.stack_core.specs.NamesInOrder.{with_stack}
 use Rattle.stack_core.specs.Records.{names_at}
-use Rattle.stack_core.specs.RowReading.{ToldRows, stack_at}
-use Rattle.stack_core.specs.declared.samples.TheConstants.{FRAME_LIMIT}
+use Rattle.sample_tables.specs.Rows.{ToldRows, stack_at}
+use Rattle.sample_tables.specs.declared.samples.TheConstants.{FRAME_LIMIT}
 use Rattle.stack_core.specs.declared.endings.ReadKind.{ReadKind}
 use Rattle.stack_core.specs.declared.endings.ReadKind.TheVariants.{TwoColumns, TooDeep}
 use Rattle.call_tree.specs.SpellingCache.{Spelling}

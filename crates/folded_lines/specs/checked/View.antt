@@ -1,6 +1,6 @@
 -- The state of a reader, by its fields.
 use Rattle.std.specs.Prelude.{◌≤◌, true, false, Option, Some, None, List, ℕ, length}
-use Rattle.stack_core.specs.RowReading.{ToldRows}
+use Rattle.sample_tables.specs.Rows.{ToldRows}
 use Rattle.stack_core.specs.declared.endings.SourceEnd.{SourceEnd}
 use Rattle.folded_lines.specs.declared.cursor.Cursor.{Cursor}
 use Rattle.folded_lines.specs.State.{State}

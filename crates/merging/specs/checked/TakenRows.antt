@@ -1,6 +1,6 @@
 -- What the rows of a sink stand for.
 use Rattle.std.specs.Prelude.{◌≡◌, ℕ, List, [], ◌∷◌, ◌++◌, map}
-use Rattle.stack_core.specs.declared.samples.Sample.{Sample}
+use Rattle.sample_tables.specs.declared.samples.Sample.{Sample}
 use Rattle.call_tree.specs.Listing.{named, AreIn}
 use Rattle.merging.specs.declared.taken_rows.NumberedSample.{NumberedSample}
 use Rattle.merging.specs.declared.taken_rows.TakenRows.{TakenRows, Nothing, More'}

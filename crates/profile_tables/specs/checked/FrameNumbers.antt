@@ -4,7 +4,7 @@ use Rattle.stack_core.specs.NamesInOrder.{with_stack}
 use Rattle.stack_core.specs.Records.{names_at}
 use Rattle.profile_tables.specs.declared.frame_numbers.FrameNumbers.{FrameNumbers}
 use Rattle.profile_tables.specs.declared.frames.Frames.{Frames}
-use Rattle.profile_tables.specs.declared.messages.Span.{Span}
+use Rattle.profile_messages.specs.declared.messages.Span.{Span}
 use Rattle.profile_tables.specs.checked.Frames.{text_in, frames_at}
 
 -- the texts of all frames

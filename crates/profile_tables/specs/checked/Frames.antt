@@ -4,18 +4,18 @@ use Rattle.std.specs.Option.{option_and_then}
 use Rattle.std.specs.List.{slice_get}
 use Rattle.std.specs.Borrow.{Bor}
 use Rattle.run_options.specs.declared.choices.Naming.{Naming}
-use Rattle.profile_tables.specs.declared.ids.Index.{Index}
+use Rattle.profile_messages.specs.declared.ids.Index.{Index}
 use Rattle.profile_tables.specs.declared.functions.FunctionNames.{FunctionNames}
 use Rattle.profile_tables.specs.declared.frames.Frame.{Frame}
 use Rattle.profile_tables.specs.declared.frames.Frame.TheVariants.{Address, Function}
-use Rattle.profile_tables.specs.declared.messages.Span.{Span}
-use Rattle.profile_tables.specs.declared.messages.Line.{Line}
+use Rattle.profile_messages.specs.declared.messages.Span.{Span}
+use Rattle.profile_messages.specs.declared.messages.Line.{Line}
 use Rattle.profile_tables.specs.declared.frames.Frames.{Frames}
-use Rattle.profile_tables.specs.Records.{Location}
-use Rattle.profile_tables.specs.Tables.{location_at}
+use Rattle.profile_messages.specs.Records.{Location}
+use Rattle.profile_messages.specs.Tables.{location_at}
 use Rattle.profile_tables.specs.Naming.{address_frame, line_suffix}
-use Rattle.profile_tables.specs.SeenTables.{place_in}
-use Rattle.profile_tables.specs.checked.Profile.{items_in}
+use Rattle.profile_messages.specs.SeenIndex.{place_in}
+use Rattle.profile_messages.specs.SeenProfile.{items_in}
 
 -- ---- what the code keeps
 

@@ -4,11 +4,11 @@ use Rattle.wire_fields.specs.declared.fault.WireFault.{WireFault}
 use Rattle.wire_fields.specs.Field.{WireField, delimited_bytes}
 use Rattle.wire_fields.specs.Reading.{Left, fields_of, numbers_of}
 use Rattle.profile_tables.specs.declared.fronts.Values.{Values}
-use Rattle.profile_tables.specs.declared.messages.Span.{Span}
-use Rattle.profile_tables.specs.Message.{first, repeated_from}
-use Rattle.profile_tables.specs.Shapes.{faults_in, faults_of_field, sample_shape, kinds_of_fault}
+use Rattle.profile_messages.specs.declared.messages.Span.{Span}
+use Rattle.profile_messages.specs.Message.{first, repeated_from}
+use Rattle.profile_messages.specs.Shapes.{faults_in, faults_of_field, sample_shape, kinds_of_fault}
 use Rattle.profile_tables.specs.Samples.{SampleTables, location_ids, values_of, weight_of}
-use Rattle.profile_tables.specs.checked.Offsets.{content_at}
+use Rattle.profile_messages.specs.Offsets.{content_at}
 
 -- the bytes of a part of a list
 abbrev pub bytes_at : List ℕ → Span → List ℕ

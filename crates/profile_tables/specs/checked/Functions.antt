@@ -4,8 +4,8 @@ use Rattle.std.specs.List.{slice_get}
 use Rattle.std.specs.Ordering.{nat_cmp}
 use Rattle.std.specs.BTreeMap.{get}
 use Rattle.profile_tables.specs.declared.functions.MadeNames.{MadeNames}
-use Rattle.profile_tables.specs.declared.messages.Function.{Function}
-use Rattle.profile_tables.specs.Tables.{string_at}
+use Rattle.profile_messages.specs.declared.messages.Function.{Function}
+use Rattle.profile_messages.specs.Tables.{string_at}
 use Rattle.profile_tables.specs.Naming.{plain_text, name_or}
 
 -- the index of the string that a function is named by

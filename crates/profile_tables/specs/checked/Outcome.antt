@@ -1,8 +1,8 @@
 -- What reading one sample gives.
 use Rattle.std.specs.Prelude.{◌≡◌, ℕ, List, Some, None, Result, Ok, Err}
 use Rattle.stack_core.specs.declared.endings.ReadKind.{ReadKind}
-use Rattle.stack_core.specs.declared.samples.Sample.{Sample}
-use Rattle.profile_tables.specs.Message.{first}
+use Rattle.sample_tables.specs.declared.samples.Sample.{Sample}
+use Rattle.profile_messages.specs.Message.{first}
 use Rattle.profile_tables.specs.Samples.{SampleTables, location_ids, weight_of, sample_faults, sample_of}
 use Rattle.profile_tables.specs.declared.samples.CheckedSample.{CheckedSample}
 

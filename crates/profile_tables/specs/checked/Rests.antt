@@ -1,16 +1,18 @@
 -- The rest of a reader, in terms of what it goes by.
 use Rattle.std.specs.Prelude.{◌≡◌, ℕ, ◌+◌, ◌<◌, ◌≤◌, List, [], map, drop, length}
-use Rattle.stack_core.specs.declared.samples.TheConstants.{WEIGHT_LIMIT}
+use Rattle.sample_tables.specs.declared.samples.TheConstants.{WEIGHT_LIMIT}
 use Rattle.stack_core.specs.declared.readers.Step.{Step}
 use Rattle.stack_core.specs.declared.readers.Step.TheVariants as step
 use Rattle.stack_core.specs.declared.endings.SourceEnd.{SourceEnd}
-use Rattle.stack_core.specs.Reading.{Rest, IsLimited}
+use Rattle.stack_core.specs.Reading.{Rest}
+use Rattle.sample_tables.specs.Samples.{IsLimited}
 use Rattle.run_options.specs.declared.choices.Pick.{Pick}
 use Rattle.run_options.specs.declared.choices.Naming.{Naming}
+use Rattle.profile_messages.specs.SampleTypes.{chosen_type}
 use Rattle.profile_tables.specs.declared.outline.Outline.{Outline}
 use Rattle.profile_tables.specs.declared.steps.Start.{Start}
 use Rattle.profile_tables.specs.declared.steps.Start.TheVariants as start
-use Rattle.profile_tables.specs.checked.Offsets.{found_at}
+use Rattle.profile_messages.specs.Offsets.{found_at}
 use Rattle.profile_tables.specs.Samples.{read_samples, read_pprof, with_sample, no_samples}
 use Rattle.profile_tables.specs.checked.SeenOutline.{seen_outline}
 
@@ -23,7 +25,8 @@ abbrev pub ended : SourceEnd → Rest
 ended ending = record { samples = []; ending = ending }
 
 abbrev pub IsStart : List ℕ → Pick → Naming → Start → Type 0
-IsStart file pick naming (start.Outline outline) = rest_from file outline 0 0 ≡ read_pprof file pick naming
+IsStart file pick naming (start.Outline outline) =
+    (rest_from file outline 0 0 ≡ read_pprof file pick naming) × (outline.chosen_type ≡ chosen_type file pick)
 IsStart file pick naming (start.Fault fault) = no_samples fault ≡ read_pprof file pick naming
 
 -- the sample is the first of the rest, and stays within the limits; the ending is the rest's, which has no sample

@@ -1,17 +1,18 @@
 -- What the next sample gives by rows.
 use Rattle.std.specs.Prelude.{◌≡◌, ℕ, ◌+◌, ◌<◌, ◌≤◌, List, length, Option, Some, None, Result, Ok, Err}
-use Rattle.stack_core.specs.declared.samples.TheConstants.{WEIGHT_LIMIT}
+use Rattle.sample_tables.specs.declared.samples.TheConstants.{WEIGHT_LIMIT}
 use Rattle.stack_core.specs.declared.endings.ReadKind.{ReadKind}
 use Rattle.stack_core.specs.declared.readers.RowStep.{RowStep}
 use Rattle.stack_core.specs.declared.readers.RowStep.TheVariants as step
-use Rattle.stack_core.specs.RowReading.{ToldRows, TellsNew, TellsAgain, IsLimitedStep}
+use Rattle.sample_tables.specs.Rows.{ToldRows}
+use Rattle.stack_core.specs.RowReading.{TellsNew, TellsAgain, IsLimitedStep}
 use Rattle.profile_tables.specs.declared.frames.Frames.{Frames}
 use Rattle.profile_tables.specs.declared.fronts.Front.{Front}
 use Rattle.profile_tables.specs.declared.outline.Outline.{Outline}
 use Rattle.profile_tables.specs.declared.row_steps.KnownRow.{KnownRow}
 use Rattle.profile_tables.specs.declared.tellers.NewRow.{NewRow}
 use Rattle.profile_tables.specs.declared.tellers.Teller.{Teller}
-use Rattle.profile_tables.specs.Message.{first}
+use Rattle.profile_messages.specs.Message.{first}
 use Rattle.profile_tables.specs.Samples.{SampleTables, sample_faults, stack_of, weight_of}
 use Rattle.profile_tables.specs.checked.Fronts.{bytes_at}
 use Rattle.profile_tables.specs.checked.Rests.{rest_from, ended}

@@ -2,13 +2,13 @@
 use Rattle.std.specs.Prelude.{◌≡◌, ◌<◌, ◌≤◌, ℕ, List, [], ◌∷◌, ◌++◌, length, All, Option, Some, None, is_none, false, slice_range}
 use Rattle.std.specs.List.{list_any}
 use Rattle.wire_fields.specs.Reading.{numbers_of}
-use Rattle.stack_core.specs.declared.samples.TheConstants.{FRAME_LIMIT}
+use Rattle.sample_tables.specs.declared.samples.TheConstants.{FRAME_LIMIT}
 use Rattle.stack_core.specs.NamesInOrder.{with_stack}
 use Rattle.stack_core.specs.Records.{names_at}
-use Rattle.stack_core.specs.RowReading.{ToldRows, stack_at}
+use Rattle.sample_tables.specs.Rows.{ToldRows, stack_at}
 use Rattle.call_tree.specs.SpellingCache.{Spelling, GrowsByAtMost}
 use Rattle.profile_tables.specs.declared.frames.Frames.{Frames}
-use Rattle.profile_tables.specs.declared.messages.Span.{Span}
+use Rattle.profile_messages.specs.declared.messages.Span.{Span}
 use Rattle.profile_tables.specs.declared.tellers.Teller.{Teller}
 use Rattle.profile_tables.specs.Samples.{stack_of_ids}
 use Rattle.profile_tables.specs.checked.Frames.{frames_at}

@@ -1,18 +1,19 @@
 -- What a reader's fields stand for.
 use Rattle.std.specs.Prelude.{◌≡◌, ◌≤◌, ℕ, List, length, Option, Some, None, is_some, IsSome}
-use Rattle.stack_core.specs.declared.samples.TheConstants.{WEIGHT_LIMIT}
+use Rattle.sample_tables.specs.declared.samples.TheConstants.{WEIGHT_LIMIT}
 use Rattle.stack_core.specs.declared.endings.ReadFault.{ReadFault}
 use Rattle.stack_core.specs.declared.endings.SourceEnd.{SourceEnd}
 use Rattle.stack_core.specs.Reading.{Rest}
 use Rattle.run_options.specs.declared.choices.Pick.{Pick}
 use Rattle.run_options.specs.declared.choices.Naming.{Naming}
+use Rattle.profile_messages.specs.SampleTypes.{chosen_type}
 use Rattle.profile_tables.specs.declared.outline.Outline.{Outline}
 use Rattle.profile_tables.specs.declared.reader.PprofReader.TheInside.{Inside}
 use Rattle.profile_tables.specs.Samples.{no_samples, read_pprof}
 use Rattle.profile_tables.specs.checked.Rests.{rest_from, ended}
 use Rattle.profile_tables.specs.checked.Tellers.{told_of, IsTeller}
 use Rattle.profile_tables.specs.declared.tellers.Teller.{Teller}
-use Rattle.stack_core.specs.RowReading.{ToldRows}
+use Rattle.sample_tables.specs.Rows.{ToldRows}
 use Rattle.profile_tables.specs.State.{State, nothing_told}
 
 -- before the tables were read the rest is the whole file's
@@ -33,7 +34,14 @@ state_of a = record {
   rest = rest_or_ended a.ended (rest_by a.bytes.items a.pick a.naming a.outline a.given a.total);
   told = told_by a.teller;
   has_ended = is_some a.ended;
+  chosen_type = chosen_type a.bytes.items a.pick;
+  has_tables = is_some a.outline;
 }
+
+-- the type of the chosen value is the file's
+abbrev pub IsTypeOf : List ℕ → Pick → Option Outline → Type 0
+IsTypeOf file pick None = Unit {0}
+IsTypeOf file pick (Some outline) = outline.chosen_type ≡ chosen_type file pick
 
 abbrev pub GivenBefore : Option Outline → ℕ → ℕ → Type 0
 GivenBefore None given total = (given ≡ 0) × (total ≡ 0)
@@ -52,6 +60,7 @@ pub record IsOpen (file : List ℕ) (pick : Pick) (naming : Naming) (old new : O
   pub rest : (given total : ℕ) → GivenBefore old given total → rest_by file pick naming new given total ≡ rest_by file pick naming old given total
   pub given : (given total : ℕ) → GivenBefore old given total → GivenBefore new given total
   pub teller : (given : ℕ) (teller : Option Teller) → IsTellerOf file old given teller → IsTellerOf file new given teller
+  pub chosen : IsTypeOf file pick old → IsTypeOf file pick new
 
 -- the same, or the file's fault is answered
 abbrev pub IsOpened : List ℕ → Pick → Naming → Option Outline → Option Outline → Option ReadFault → Type 0
@@ -63,3 +72,4 @@ pub record IsReader (a : Inside) : Type 0 where
   pub given : GivenBefore a.outline a.given a.total
   pub total : a.total ≤ WEIGHT_LIMIT
   pub teller : IsTellerOf a.bytes.items a.outline a.given a.teller
+  pub chosen : IsTypeOf a.bytes.items a.pick a.outline

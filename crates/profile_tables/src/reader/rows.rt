@@ -1,6 +1,9 @@
 //! The same profile, read by rows of numbers.
 
-ghost use Rattle.std.specs.Prelude.{IsTrue};
+ghost use Rattle.std.specs.Prelude.{◌≡◌, ◌<◌, ◌^◌, length, IfOk, OnErr, IsOk, IsTrue};
+ghost use Rattle.stack_core.specs.Prefixes.{IsPrefixOf};
+ghost use Rattle.stack_core.specs.RowReading.{StepsByRows, IsLastStep, IsLimitedStep};
+ghost use Rattle.profile_tables.specs.State.{HasReadRow};
 
 use super::PprofReader;
 use crate::row_steps::step_by_rows;
@@ -17,7 +20,20 @@ impl RowReader for PprofReader {
 
     ghost has_ended = { λ reader. IsTrue reader.has_ended };
 
-    fn next_row(&mut self, alloc: Global) -> Result<RowStep, AllocError> {
+    /// As the trait has it. The type of the chosen value stays, and behind a sample it is known.
+    fn next_row(&mut self, alloc: Global) -> Result<RowStep, AllocError>
+        ensures step { IfOk result (λ step. StepsByRows self.old.told self.old.rest step
+            self.new.told self.new.rest) }
+        ensures limits { IfOk result IsLimitedStep }
+        ensures refused { OnErr result (self.new.rest ≡ self.old.rest) }
+        ensures stacks { OnErr result (self.new.told.stacks ≡ self.old.told.stacks) }
+        ensures names { OnErr result (IsPrefixOf self.old.told.names self.new.told.names) }
+        ensures few { length self.old.rest.samples < 2 ^ 64 }
+        ensures ended { IfOk result (λ step. IsLastStep step → IsTrue self.new.has_ended) }
+        ensures repeats { IsTrue self.old.has_ended → IsOk result }
+        ensures chosen_type { self.new.chosen_type ≡ self.old.chosen_type }
+        ensures tables { IfOk result (HasReadRow self.new) }
+    {
         if let Some(ending) = self.ended {
             return Ok(RowStep::End(ending));
         }

@@ -4,10 +4,11 @@ use super::files::{
     ADDRESS, BASE, GREATEST_ID, GREATEST_LENGTH, INLINED, INLINED_LINES, LEAST_INDEX, MINUS_ONE,
     NEGATIVE, NO_FRAMES, SAMPLE_FAULTS, SMALLEST, TABLE_FAULTS, TWO_LINES, UNPACKED,
 };
-use super::{clean, fault, followed, read, reads_plainly, with_cut_character, with_separators};
+use super::reading::append_read;
+use super::{clean, fault, followed, reads_plainly, with_cut_character, with_separators};
 use crate::{Naming, Pick};
 use stack_core::{ReadKind, SourceEnd};
-use std::alloc::AllocError;
+use std::alloc::{AllocError, Global};
 use std::process::Abort;
 use std::test::Fail;
 
@@ -38,12 +39,17 @@ fn compressed_and_cut(rt: HostRuntime) -> Result<(), Fail> {
     Ok(())
 }
 
+/// The ending of a file that is read with lines, where it comes again.
+fn ending_of(alloc: Global, file: &[u8]) -> Result<Option<SourceEnd>, AllocError> {
+    let mut lines = String::new(alloc);
+    append_read(alloc, file, &Pick::Preferred, Naming::Lines, &mut lines)
+}
+
 /// Each front of a file is read to its end, which comes again.
 fn each_front_ends(rt: &(impl Abort + AllocGlobal), file: &[u8]) -> Result<(), AllocError> {
     for len in 0..=file.len() {
         let front = file.get(..len).expect(rt, "a front");
-        let (_, ending) = read(rt.alloc(), front, &Pick::Preferred, Naming::Lines)?;
-        assert!(rt; ending.is_some());
+        assert!(rt; ending_of(rt.alloc(), front)?.is_some());
     }
     Ok(())
 }

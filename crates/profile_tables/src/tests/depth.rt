@@ -22,26 +22,46 @@ pub(super) fn append_field(file: &mut Vec<u8>, tag: u8, bytes: &[u8]) -> Result<
     Ok(())
 }
 
-/// A profile of one sample at `ids` times location 1, which has `lines` lines.
+/// Appends so many times the same bytes.
+fn append_times(bytes: &mut Vec<u8>, count: usize, more: &[u8]) -> Result<(), AllocError> {
+    for _ in 0..count {
+        bytes.extend_from_slice(more)?;
+    }
+    Ok(())
+}
+
+/// A sample at `ids` times location 1.
+fn append_sample(file: &mut Vec<u8>, alloc: Global, ids: usize) -> Result<(), AllocError> {
+    let mut sample = b"\x10\x07".to_vec(alloc)?;
+    append_times(&mut sample, ids, b"\x08\x01")?;
+    append_field(file, 0x12, &sample)
+}
+
+/// Location 1, which has `lines` lines.
+pub(super) fn append_location(
+    file: &mut Vec<u8>,
+    alloc: Global,
+    lines: usize,
+) -> Result<(), AllocError> {
+    let mut location = b"\x08\x01".to_vec(alloc)?;
+    append_times(&mut location, lines, b"\x22\x02\x08\x01")?;
+    append_field(file, 0x22, &location)
+}
+
+/// A profile of one such sample and this location.
 fn deep_profile(alloc: Global, ids: usize, lines: usize) -> Result<Vec<u8>, AllocError> {
     let mut file = b"\x0a\x04\x08\x01\x10\x02".to_vec(alloc)?;
-    let mut sample = Vec::new(alloc);
-    for _ in 0..ids {
-        sample.extend_from_slice(b"\x08\x01")?;
-    }
-    sample.extend_from_slice(b"\x10\x07")?;
-    append_field(&mut file, 0x12, &sample)?;
-    let mut location = b"\x08\x01".to_vec(alloc)?;
-    for _ in 0..lines {
-        location.extend_from_slice(b"\x22\x02\x08\x01")?;
-    }
-    append_field(&mut file, 0x22, &location)?;
+    append_sample(&mut file, alloc, ids)?;
+    append_location(&mut file, alloc, lines)?;
     file.extend_from_slice(b"\x2a\x04\x08\x01\x10\x03\x32\x00\x32\x03cpu\x32\x02ns\x32\x01f")?;
     Ok(file)
 }
 
-fn depth_of(rt: &(impl Abort + AllocGlobal), file: Vec<u8>) -> Result<usize, AllocError> {
-    let mut reader = PprofReader::over(file, Pick::Preferred, Naming::Plain);
+/// The depth of a reader's sample, and 0 where it is too deep.
+fn depth_by<R: SampleReader>(
+    rt: &(impl Abort + AllocGlobal),
+    reader: &mut R,
+) -> Result<usize, AllocError> {
     match reader.next(rt.alloc())? {
         Step::Sample(sample) => Ok(sample.stack.get().len()),
         Step::End(ending) => {
@@ -55,12 +75,23 @@ fn depth_of(rt: &(impl Abort + AllocGlobal), file: Vec<u8>) -> Result<usize, All
     }
 }
 
+fn depth_of(
+    rt: &(impl Abort + AllocGlobal),
+    ids: usize,
+    lines: usize,
+) -> Result<usize, AllocError> {
+    let file = deep_profile(rt.alloc(), ids, lines)?;
+    depth_by(
+        rt,
+        &mut PprofReader::over(file, Pick::Preferred, Naming::Plain),
+    )
+}
+
 #[test]
 fn limits_of_weights_and_depth_by_depth(rt: HostRuntime) -> Result<(), Fail> {
-    let alloc = rt.alloc();
-    assert_eq!(rt; depth_of(&rt, deep_profile(alloc, 4_096, 1)?)?, 4_096);
-    assert_eq!(rt; depth_of(&rt, deep_profile(alloc, 4_097, 1)?)?, 0);
-    assert_eq!(rt; depth_of(&rt, deep_profile(alloc, 1, 4_096)?)?, 4_096);
-    assert_eq!(rt; depth_of(&rt, deep_profile(alloc, 1, 4_097)?)?, 0);
+    assert_eq!(rt; depth_of(&rt, 4_096, 1)?, 4_096);
+    assert_eq!(rt; depth_of(&rt, 4_097, 1)?, 0);
+    assert_eq!(rt; depth_of(&rt, 1, 4_096)?, 4_096);
+    assert_eq!(rt; depth_of(&rt, 1, 4_097)?, 0);
     Ok(())
 }

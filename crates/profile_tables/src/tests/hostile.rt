@@ -1,6 +1,6 @@
 //! Profiles of a few megabytes whose frames, each with a name of its own, would take tens of gigabytes.
 
-use super::depth::{append_field, append_number};
+use super::depth::{append_field, append_location as append_lines, append_number};
 use super::{clean, fault, reads_plainly};
 use stack_core::ReadKind;
 use std::alloc::{AllocError, Global};
@@ -27,11 +27,7 @@ fn append_strings(alloc: Global, file: &mut Vec<u8>) -> Result<(), AllocError> {
 /// A location of many lines of one long name, and another of `f`.
 fn many_lines(alloc: Global, sampled: usize) -> Result<Vec<u8>, AllocError> {
     let mut file = sample_of(alloc, sampled)?;
-    let mut location = b"\x08\x01".to_vec(alloc)?;
-    for _ in 0..MANY {
-        location.extend_from_slice(b"\x22\x02\x08\x01")?;
-    }
-    append_field(&mut file, 0x22, &location)?;
+    append_lines(&mut file, alloc, MANY)?;
     append_field(&mut file, 0x22, b"\x08\x02\x22\x02\x08\x02")?;
     append_field(&mut file, 0x2a, b"\x08\x01\x10\x03")?;
     append_field(&mut file, 0x2a, b"\x08\x02\x10\x04")?;
@@ -39,20 +35,34 @@ fn many_lines(alloc: Global, sampled: usize) -> Result<Vec<u8>, AllocError> {
     Ok(file)
 }
 
+/// A location of this id with a line of a function of this id.
+fn append_location(file: &mut Vec<u8>, alloc: Global, id: usize) -> Result<(), AllocError> {
+    let mut location = Vec::new(alloc);
+    append_number(&mut location, 0x08, id)?;
+    location.extend_from_slice(b"\x22\x04")?;
+    append_number(&mut location, 0x08, id)?;
+    append_field(file, 0x22, &location)
+}
+
+/// A function of this id and name.
+fn append_function(
+    file: &mut Vec<u8>,
+    alloc: Global,
+    id: usize,
+    name: usize,
+) -> Result<(), AllocError> {
+    let mut function = Vec::new(alloc);
+    append_number(&mut function, 0x08, id)?;
+    append_number(&mut function, 0x10, name)?;
+    append_field(file, 0x2a, &function)
+}
+
 /// Many functions of one long name, each with a location, and one of `f`.
 fn many_functions(alloc: Global) -> Result<Vec<u8>, AllocError> {
     let mut file = sample_of(alloc, MANY)?;
     for id in 1..=MANY {
-        let mut line = Vec::new(alloc);
-        append_number(&mut line, 0x08, id)?;
-        let mut location = Vec::new(alloc);
-        append_number(&mut location, 0x08, id)?;
-        append_field(&mut location, 0x22, &line)?;
-        append_field(&mut file, 0x22, &location)?;
-        let mut function = Vec::new(alloc);
-        append_number(&mut function, 0x08, id)?;
-        append_number(&mut function, 0x10, if id < MANY { 3 } else { 4 })?;
-        append_field(&mut file, 0x2a, &function)?;
+        append_location(&mut file, alloc, id)?;
+        append_function(&mut file, alloc, id, if id < MANY { 3 } else { 4 })?;
     }
     append_strings(alloc, &mut file)?;
     Ok(file)

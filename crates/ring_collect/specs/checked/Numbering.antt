@@ -1,8 +1,8 @@
 -- What a reader of rows that numbers a reader's samples has told, and still has to give: checked, not to be believed.
 use Rattle.std.specs.Prelude.{List, ℕ, [], ◌∷◌, ◌++◌, Option, None, Some}
 use Rattle.stack_core.specs.Reading.{Rest}
-use Rattle.stack_core.specs.RowReading.{ToldRows}
-use Rattle.stack_core.specs.declared.samples.Sample.{Sample}
+use Rattle.sample_tables.specs.Rows.{ToldRows}
+use Rattle.sample_tables.specs.declared.samples.Sample.{Sample}
 use Rattle.ring_collect.specs.declared.numbering.ToldStacks.{ToldStacks, Nothing, More'}
 
 -- the stacks that were told, in order

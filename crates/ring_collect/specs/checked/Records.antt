@@ -1,8 +1,9 @@
 -- What the collecting thread does with a record of a source: checked, not to be believed.
 use Rattle.std.specs.Prelude.{◌≡◌, ◌<◌, ◌++◌, ◌⊎◌, ℕ, List, [], ◌∷◌, length, All, Option, Some, map}
-use Rattle.stack_core.specs.Ledgers.{LedgerState, named, row_by, with_again, with_row}
+use Rattle.stack_core.specs.Ledgers.{LedgerState, with_again, with_row}
+use Rattle.sample_tables.specs.Rows.{named, row_by}
 use Rattle.stack_core.specs.Interleaving.{sources_of}
-use Rattle.stack_core.specs.declared.samples.Sample.{Sample}
+use Rattle.sample_tables.specs.declared.samples.Sample.{Sample}
 use Rattle.stack_core.specs.declared.endings.Close.{Close}
 use Rattle.stack_core.specs.declared.records.RingRecord.{RingRecord}
 use Rattle.stack_core.specs.declared.records.RingRecord.TheVariants.{Name, Row, Again, Close as CloseRecord}

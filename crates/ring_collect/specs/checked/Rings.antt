@@ -3,7 +3,7 @@ use Rattle.std.specs.Prelude.{◌≤◌, length}
 use Rattle.rtrb.specs.Ends.{SameRing}
 use Rattle.rtrb.specs.declared.producer.Producer.{Producer}
 use Rattle.rtrb.specs.declared.finished.Finished.{Finished}
-use Rattle.stack_core.specs.declared.samples.TheConstants.{FRAME_LIMIT, WEIGHT_LIMIT}
+use Rattle.sample_tables.specs.declared.samples.TheConstants.{FRAME_LIMIT, WEIGHT_LIMIT}
 use Rattle.stack_core.specs.declared.records.RingRecord.{RingRecord}
 use Rattle.stack_core.specs.declared.records.RingRecord.TheVariants.{Name, Row, Again, Close}
 

@@ -1,7 +1,7 @@
 -- What the sink gained while the collecting thread looked into the rings: checked, not to be believed.
 use Rattle.std.specs.Prelude.{◌≡◌, ◌≢◌, ◌++◌, ℕ, List, length, Bool, false, Some, slice_get}
 use Rattle.stack_core.specs.Interleaving.{AreOf, list_of, sources_of}
-use Rattle.stack_core.specs.declared.samples.Sample.{Sample}
+use Rattle.sample_tables.specs.declared.samples.Sample.{Sample}
 use Rattle.ring_collect.specs.checked.Intakes.{Tracks}
 use Rattle.ring_collect.specs.declared.intakes.Intake.{Intake}
 use Rattle.ring_collect.specs.declared.intakes.Stage.TheVariants.{Dropping}

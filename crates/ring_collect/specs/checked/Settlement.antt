@@ -6,7 +6,7 @@ use Rattle.stack_core.specs.Reading.{Rest}
 use Rattle.stack_core.specs.Ledgers.{LedgerState, ListState}
 use Rattle.stack_core.specs.Prefixes.{IsPrefixOf}
 use Rattle.stack_core.specs.Told.{GoesBelow, IsToldUnder, told}
-use Rattle.stack_core.specs.declared.samples.Sample.{Sample}
+use Rattle.sample_tables.specs.declared.samples.Sample.{Sample}
 use Rattle.stack_core.specs.declared.endings.Close.{Close}
 use Rattle.stack_core.specs.declared.endings.Close.TheVariants.{Read}
 use Rattle.stack_core.specs.declared.records.RingRecord.{RingRecord}

@@ -3,7 +3,7 @@ use Rattle.std.specs.Prelude.{◌≡◌, ◌++◌, ℕ, List, length, Some, slic
 use Rattle.stack_core.specs.Reading.{Rest}
 use Rattle.stack_core.specs.Ledgers.{LedgerState}
 use Rattle.stack_core.specs.Interleaving.{AreOf, list_of, sources_of}
-use Rattle.stack_core.specs.declared.samples.Sample.{Sample}
+use Rattle.sample_tables.specs.declared.samples.Sample.{Sample}
 use Rattle.ring_collect.specs.Collection.{Unfinishes}
 use Rattle.ring_collect.specs.checked.Settlement.{IsAllTold}
 use Rattle.ring_collect.specs.declared.faults.CollectFault.{CollectFault}

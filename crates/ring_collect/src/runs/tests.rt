@@ -142,92 +142,109 @@ fn example_of_the_page(rt: HostRuntime) -> Result<(), Fail> {
     Ok(())
 }
 
-#[test]
-fn two_readers_meet(rt: HostRuntime) -> Result<(), Fail> {
-    let alloc = rt.alloc();
-    let counts = Counts::new(alloc)?;
-    let mut sink = Recorder::new(alloc, &counts)?;
+/// Runs over sources of these weights, whose lists and order are as they are to be.
+fn runs_to<
+    T: Threads + Wait + Abort + AllocGlobal + Copy + Send + 'static,
+    G: Gate + Send + Sync + Drop + 'static,
+>(
+    rt: &T,
+    sink: &mut Recorder,
+    sources: &[&'static [u8]],
+    ring: u32,
+    gate: G,
+    lists: &[(&'static [u8], SourceEnd)],
+) -> Result<(), Fail> {
+    let readers = tapes(rt.alloc(), &sink.counts, sources)?;
+    let run = collected(rt, rt.alloc(), readers, ring, gate, sink)??;
+    is_run(rt, &run, sink, lists);
+    Ok(())
+}
+
+fn two_of_two<T: Threads + Wait + Abort + AllocGlobal + Copy + Send + 'static>(
+    rt: &T,
+) -> Result<(), Fail> {
+    let mut sink = Recorder::of_own(rt.alloc())?;
     let gate = BothAsked {
         first: AtomicU64::new(0),
         second: AtomicU64::new(0),
     };
-    let readers = tapes(alloc, &counts, &[ONE; 2])?;
-    let run = collected(&rt, alloc, readers, 1, gate, &mut sink)??;
-    is_run(&rt, &run, &sink, &[(ONE, CLEAN); 2]);
+    runs_to(rt, &mut sink, &[ONE; 2], 1, gate, &[(ONE, CLEAN); 2])
+}
 
-    let mut sink = Recorder::new(alloc, &counts)?;
+fn eight_of_eight<T: Threads + Wait + Abort + AllocGlobal + Copy + Send + 'static>(
+    rt: &T,
+) -> Result<(), Fail> {
+    let mut sink = Recorder::of_own(rt.alloc())?;
     let gate = AllAsked {
         asked: AtomicU64::new(0),
         wanted: 8,
     };
-    let readers = tapes(alloc, &counts, &[ONE; 8])?;
-    let run = collected(&rt, alloc, readers, 1, gate, &mut sink)??;
-    is_run(&rt, &run, &sink, &[(ONE, CLEAN); 8]);
-    Ok(())
+    runs_to(rt, &mut sink, &[ONE; 8], 1, gate, &[(ONE, CLEAN); 8])
+}
+
+#[test]
+fn two_readers_meet(rt: HostRuntime) -> Result<(), Fail> {
+    two_of_two(&rt)?;
+    eight_of_eight(&rt)
 }
 
 #[test]
 fn sink_before_end(rt: HostRuntime) -> Result<(), Fail> {
-    let alloc = rt.alloc();
-    let counts = Counts::new(alloc)?;
-    let mut sink = Recorder::new(alloc, &counts)?;
+    let mut sink = Recorder::of_own(rt.alloc())?;
     let gate = AfterATake {
-        counts: Arc::try_clone(&counts)?,
+        counts: Arc::try_clone(&sink.counts)?,
     };
-    let readers = tapes(alloc, &counts, &[EIGHT])?;
-    let run = collected(&rt, alloc, readers, 2, gate, &mut sink)??;
-    is_run(&rt, &run, &sink, &[(EIGHT, CLEAN)]);
-    Ok(())
+    runs_to(&rt, &mut sink, &[EIGHT], 2, gate, &[(EIGHT, CLEAN)])
+}
+
+/// Whether the sink saw readers give more samples than that before it took one.
+fn sees_more<T: Threads + Wait + Abort + AllocGlobal + Copy + Send + 'static>(
+    rt: &T,
+    above: u64,
+    weights: &'static [u8],
+    ring: u32,
+) -> Result<bool, Fail> {
+    let mut sink = Recorder::of_own(rt.alloc())?;
+    sink.looks_above = Some(above);
+    runs_to(
+        rt,
+        &mut sink,
+        &[weights],
+        ring,
+        OpenGate,
+        &[(weights, CLEAN)],
+    )?;
+    Ok(sink.saw_more)
 }
 
 #[test]
 fn ring_holds_back(rt: HostRuntime) -> Result<(), Fail> {
-    let alloc = rt.alloc();
-    let counts = Counts::new(alloc)?;
-    let mut sink = Recorder::new(alloc, &counts)?;
-    sink.looks_above = Some(4);
-    let readers = tapes(alloc, &counts, &[HUNDRED])?;
-    let run = collected(&rt, alloc, readers, 2, OpenGate, &mut sink)??;
-    is_run(&rt, &run, &sink, &[(HUNDRED, CLEAN)]);
-    assert!(rt; !sink.saw_more);
+    assert!(rt; !sees_more(&rt, 4, HUNDRED, 2)?);
     Ok(())
 }
 
 // While the first sample is taken, the next eight are in the ring, and the reader waits with the tenth.
 #[test]
 fn ring_is_not_smaller(rt: HostRuntime) -> Result<(), Fail> {
-    let alloc = rt.alloc();
-    let counts = Counts::new(alloc)?;
-    let mut sink = Recorder::new(alloc, &counts)?;
-    sink.looks_above = Some(9);
-    let readers = tapes(alloc, &counts, &[TWENTY])?;
-    let run = collected(&rt, alloc, readers, 8, OpenGate, &mut sink)??;
-    is_run(&rt, &run, &sink, &[(TWENTY, CLEAN)]);
-    assert!(rt; sink.saw_more);
+    assert!(rt; sees_more(&rt, 9, TWENTY, 8)?);
     Ok(())
 }
 
 #[test]
 fn gate_stops_one_source(rt: HostRuntime) -> Result<(), Fail> {
-    let alloc = rt.alloc();
-    let counts = Counts::new(alloc)?;
-    let mut sink = Recorder::new(alloc, &counts)?;
+    let mut sink = Recorder::of_own(rt.alloc())?;
     let gate = StopsAt {
         source: 1,
         index: 2,
     };
-    let readers = tapes(alloc, &counts, &[THREE, THREE])?;
-    let run = collected(&rt, alloc, readers, 2, gate, &mut sink)??;
     let stopped = SourceEnd::Stopped { after: 2 };
-    is_run(&rt, &run, &sink, &[(THREE, CLEAN), (&[1, 2], stopped)]);
-    Ok(())
+    let lists: [(&[u8], SourceEnd); 2] = [(THREE, CLEAN), (&[1, 2], stopped)];
+    runs_to(&rt, &mut sink, &[THREE, THREE], 2, gate, &lists)
 }
 
 #[test]
 fn gate_stops_two_sources(rt: HostRuntime) -> Result<(), Fail> {
-    let alloc = rt.alloc();
-    let counts = Counts::new(alloc)?;
-    let mut sink = Recorder::new(alloc, &counts)?;
+    let mut sink = Recorder::of_own(rt.alloc())?;
     let gate = StopsAtTwo {
         first: StopsAt {
             source: 1,
@@ -238,51 +255,44 @@ fn gate_stops_two_sources(rt: HostRuntime) -> Result<(), Fail> {
             index: 0,
         },
     };
-    let readers = tapes(alloc, &counts, &[THREE; 3])?;
-    let run = collected(&rt, alloc, readers, 1, gate, &mut sink)??;
     let second = SourceEnd::Stopped { after: 2 };
     let third = SourceEnd::Stopped { after: 0 };
-    is_run(
-        &rt,
-        &run,
-        &sink,
-        &[(THREE, CLEAN), (&[1, 2], second), (&[], third)],
-    );
+    let lists: [(&[u8], SourceEnd); 3] = [(THREE, CLEAN), (&[1, 2], second), (&[], third)];
+    runs_to(&rt, &mut sink, &[THREE; 3], 1, gate, &lists)
+}
+
+/// Runs over three sources, the second of which ends in a fault.
+fn three_in_rings_of<T: Threads + Wait + Abort + AllocGlobal + Copy + Send + 'static>(
+    rt: &T,
+    sink: &mut Recorder,
+    ring: u32,
+) -> Result<(), Fail> {
+    let fault = SourceEnd::Fault(ReadFault {
+        kind: ReadKind::TooDeep,
+        at: 9,
+    });
+    let mut readers = tapes(rt.alloc(), &sink.counts, &[HUNDRED, EIGHT, HUNDRED])?;
+    assert_eq!(rt; readers.len(), 3);
+    readers[1].ending = fault;
+    let run = collected(rt, rt.alloc(), readers, ring, OpenGate, sink)??;
+    let lists = [(HUNDRED, CLEAN), (EIGHT, fault), (HUNDRED, CLEAN)];
+    is_run(rt, &run, sink, &lists);
     Ok(())
 }
 
 #[test]
 fn three_readers(rt: HostRuntime) -> Result<(), Fail> {
-    let alloc = rt.alloc();
-    let fault = SourceEnd::Fault(ReadFault {
-        kind: ReadKind::TooDeep,
-        at: 9,
-    });
     for ring in [1, 65_536] {
-        let counts = Counts::new(alloc)?;
-        let mut sink = Recorder::new(alloc, &counts)?;
-        let mut readers = tapes(alloc, &counts, &[HUNDRED, EIGHT, HUNDRED])?;
-        assert_eq!(rt; readers.len(), 3);
-        readers[1].ending = fault;
-        let run = collected(&rt, alloc, readers, ring, OpenGate, &mut sink)??;
-        is_run(
-            &rt,
-            &run,
-            &sink,
-            &[(HUNDRED, CLEAN), (EIGHT, fault), (HUNDRED, CLEAN)],
-        );
+        let mut sink = Recorder::of_own(rt.alloc())?;
+        three_in_rings_of(&rt, &mut sink, ring)?;
     }
     Ok(())
 }
 
 #[test]
 fn no_readers(rt: HostRuntime) -> Result<(), Fail> {
-    let alloc = rt.alloc();
-    let counts = Counts::new(alloc)?;
-    let mut sink = Recorder::new(alloc, &counts)?;
-    let run = collected(&rt, alloc, Vec::new(alloc), 1, OpenGate, &mut sink)??;
-    is_run(&rt, &run, &sink, &[]);
-    Ok(())
+    let mut sink = Recorder::of_own(rt.alloc())?;
+    runs_to(&rt, &mut sink, &[], 1, OpenGate, &[])
 }
 
 #[test]

@@ -1,7 +1,7 @@
 -- What a sink without memory took, which contracts alone read.
 use Rattle.std.specs.Prelude.{ℕ, List, [], ◌∷◌, ◌++◌}
-use Rattle.stack_core.specs.Ledgers.{named, row_by}
-use Rattle.stack_core.specs.declared.samples.Sample.{Sample}
+use Rattle.sample_tables.specs.Rows.{named, row_by}
+use Rattle.sample_tables.specs.declared.samples.Sample.{Sample}
 use Rattle.stack_core.specs.declared.sinks.TakenRow.{TakenRow}
 use Rattle.stack_core.specs.declared.sinks.TakenRows.{TakenRows, Nothing, More'}
 

@@ -1,4 +1,5 @@
 use super::*;
+use sample_tables::Names;
 use std::alloc::{AllocError, Global};
 use std::test::Fail;
 
@@ -14,5 +15,15 @@ fn faults_are_written_with_their_place(rt: HostRuntime) -> Result<(), Fail> {
     assert_eq!(rt; kind.to_string(alloc)?.as_str(), "UnknownFunction");
     let fault = ReadFault { kind, at: 12 };
     assert_eq!(rt; text_of(&fault, alloc)?.as_str(), "UnknownFunction at 12");
+    Ok(())
+}
+
+#[test]
+fn items_equal_their_copies(rt: HostRuntime) -> Result<(), Fail> {
+    let alloc = rt.alloc();
+    let stack = Names::from_strs(alloc, &["a", ""])?;
+    let item = Item::Sample(Sample { stack, weight: 2 });
+    assert_eq!(rt; item.clone()?, item);
+    assert_ne!(rt; item, Item::Close(Close::NoMemory));
     Ok(())
 }

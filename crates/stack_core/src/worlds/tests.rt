@@ -1,13 +1,12 @@
 //! Schedules whose answers are worked out by hand.
 
-ghost use Rattle.std.specs.Prelude.{◌≡◌, ◌<◌, length};
+ghost use Rattle.std.specs.Prelude.{◌≡◌, ◌<◌, length, IfOk};
 
 use super::{Event, World};
 use crate::endings::{Close, Item, SourceEnd};
 use crate::gates::OpenGate;
 use crate::laws;
-use crate::samples::Sample;
-use crate::values::Names;
+use sample_tables::{Names, Sample};
 use std::alloc::{AllocError, Global};
 use std::process::Abort;
 use std::test::Fail;
@@ -62,64 +61,67 @@ fn received(alloc: Global, world: &World, source: usize) -> Result<String, Alloc
     Ok(text)
 }
 
+/// One list of one sample, through a queue of one.
+const ONE_SOURCE: [(Event, bool); 7] = [
+    (Event::Push(0), true),
+    (Event::Push(0), false),
+    (Event::Pop(0), true),
+    (Event::Push(0), true),
+    (Event::Pop(0), true),
+    (Event::Pop(0), false),
+    (Event::Push(1), false),
+];
+
 #[test]
 fn world_and_ledger(rt: HostRuntime) -> Result<(), Fail> {
     let mut lists = Vec::new(rt.alloc());
     lists.push(told(rt.alloc(), &["x"])?)?;
     let mut world = World::new(rt.alloc(), lists, 1)?;
-    play(
-        &rt,
-        &mut world,
-        &[
-            (Event::Push(0), true),
-            (Event::Push(0), false),
-            (Event::Pop(0), true),
-            (Event::Push(0), true),
-            (Event::Pop(0), true),
-            (Event::Pop(0), false),
-            (Event::Push(1), false),
-        ],
-    );
+    play(&rt, &mut world, ONE_SOURCE.as_slice());
     let whole = told(rt.alloc(), &["x"])?;
     assert_eq!(rt; world.received(0), whole.as_slice());
     Ok(())
 }
 
+/// Two lists, of two samples and of one, through queues of two.
+const TWO_SOURCES: [(Event, bool); 11] = [
+    (Event::Push(0), true),
+    (Event::Push(1), true),
+    (Event::Push(0), true),
+    (Event::Push(0), false),
+    (Event::Pop(1), true),
+    (Event::Pop(1), false),
+    (Event::Push(1), true),
+    (Event::Pop(0), true),
+    (Event::Push(0), true),
+    (Event::Push(0), false),
+    (Event::Pop(1), true),
+];
+
+/// What comes after.
+const THE_REST: [(Event, bool); 4] = [
+    (Event::Pop(0), true),
+    (Event::Pop(0), true),
+    (Event::Pop(0), false),
+    (Event::Pop(2), false),
+];
+
+fn two_lists(alloc: Global) -> Result<World, AllocError>
+    ensures { IfOk result (λ world. length world.lanes ≡ 2) }
+{
+    let mut lists = Vec::new(alloc);
+    lists.push(told(alloc, &["a", "b"])?)?;
+    lists.push(told(alloc, &["c"])?)?;
+    World::new(alloc, lists, 2)
+}
+
 #[test]
 fn two_sources(rt: HostRuntime) -> Result<(), Fail> {
-    let mut lists = Vec::new(rt.alloc());
-    lists.push(told(rt.alloc(), &["a", "b"])?)?;
-    lists.push(told(rt.alloc(), &["c"])?)?;
-    let mut world = World::new(rt.alloc(), lists, 2)?;
-    play(
-        &rt,
-        &mut world,
-        &[
-            (Event::Push(0), true),
-            (Event::Push(1), true),
-            (Event::Push(0), true),
-            (Event::Push(0), false),
-            (Event::Pop(1), true),
-            (Event::Pop(1), false),
-            (Event::Push(1), true),
-            (Event::Pop(0), true),
-            (Event::Push(0), true),
-            (Event::Push(0), false),
-            (Event::Pop(1), true),
-        ],
-    );
+    let mut world = two_lists(rt.alloc())?;
+    play(&rt, &mut world, TWO_SOURCES.as_slice());
     assert_eq!(rt; received(rt.alloc(), &world, 0)?.as_str(), "a");
     assert_eq!(rt; received(rt.alloc(), &world, 1)?.as_str(), "c.");
-    play(
-        &rt,
-        &mut world,
-        &[
-            (Event::Pop(0), true),
-            (Event::Pop(0), true),
-            (Event::Pop(0), false),
-            (Event::Pop(2), false),
-        ],
-    );
+    play(&rt, &mut world, THE_REST.as_slice());
     assert_eq!(rt; received(rt.alloc(), &world, 0)?.as_str(), "ab.");
     Ok(())
 }

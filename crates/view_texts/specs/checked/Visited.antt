@@ -2,7 +2,7 @@
 use Rattle.std.specs.Prelude.{ℕ, ◌-◌, ◌==◌, List, [], ◌∷◌, ◌++◌, take, nat_lt, slice_index_or, if◌then◌else◌}
 use Rattle.call_tree.specs.declared.listing.Visit.{Visit}
 use Rattle.folded_lines.specs.Writing.{line_of}
-use Rattle.flame_layout.specs.Timeline.{Stack}
+use Rattle.merged_stacks.specs.Timeline.{Stack}
 
 -- the names of a visit's path, by those of the visit before it
 abbrev pub next_names : List (List ℕ) → Stack → Visit → Stack

@@ -1,6 +1,6 @@
 //! Worked examples.
 ghost use Rattle.std.specs.Prelude.{◌<◌, ◌^◌, [], List, OnOk, IfOk};
-ghost use Rattle.stack_core.specs.declared.samples.Sample.{Sample};
+ghost use Rattle.sample_tables.specs.declared.samples.Sample.{Sample};
 ghost use Rattle.call_tree.specs.CallTree.{total_weight};
 ghost use Rattle.call_tree.specs.Listing.{HasNumbersOf};
 ghost use Rattle.flame_layout.specs.checked.Paired.{Holds};

@@ -1,8 +1,8 @@
 use Rattle.std.proofs.Common.{◌∷◌, [], arith}
 use Rattle.std.proofs.lemmas.List.Sums.{sum_by-cons}
 use Rattle.stack_core.specs.Ledgers.{ListState}
-use Rattle.flame_layout.specs.Timeline.{total_weight}
-use Rattle.flame_layout.proofs.Timelines.{timeline_weight}
+use Rattle.merged_stacks.specs.Timeline.{total_weight}
+use Rattle.merged_stacks.proofs.Timelines.{timeline_weight}
 use Rattle.bench_tree.proofs.drawing.count_boxes.Goals as goal
 
 pub chart_boxes-requires : goal.chart_boxes-requires

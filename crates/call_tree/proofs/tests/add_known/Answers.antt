@@ -9,4 +9,4 @@ returns-in_err-add g c = subst (HasNumbersOf c.args.table.now) (sym c.in_err-add
 pub loop-ids-preserved : goal.loop-ids-preserved
 loop-ids-preserved g c =
     subst (HasNumbersOf c.args.table.now) (sym c.in_ok-add.ensures.ok)
-    (HasNumbersOf-with_weight c.args.table.now c.loop-ids.tree _ 1 c.loop-ids.invariant c.are_known.ensures)
+    (HasNumbersOf-with_weight c.args.table.now c.loop-ids.tree _ _ c.loop-ids.invariant c.are_known.ensures)

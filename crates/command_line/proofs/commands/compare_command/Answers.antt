@@ -10,9 +10,11 @@ returns c =
     let widths = with_argument _ _ _ _ _ c.in_ok-arg.ensures named c.width_option.ensures refl in
     let types = with_argument _ _ _ _ _ c.in_ok-arg-2.ensures widths c.type_option.ensures refl in
     let formats = with_argument _ _ _ _ _ c.in_ok-arg-3.ensures types c.format_option.ensures refl in
-    let rings = with_argument _ _ _ _ _ c.in_ok-arg-4.ensures formats c.ring_option.ensures refl in
-    let boxes = with_argument _ _ _ _ _ c.in_ok-arg-5.ensures rings c.boxes_flag.ensures refl in
-    let lines = with_argument _ _ _ _ _ c.in_ok-arg-6.ensures boxes c.lines_flag.ensures refl in
-    let before = with_argument _ _ _ _ _ c.in_ok-arg-7.ensures lines c.one_file.ensures refl in
+    let focuses = with_argument _ _ _ _ _ c.in_ok-arg-4.ensures formats c.focus_option.ensures refl in
+    let hides = with_argument _ _ _ _ _ c.in_ok-arg-5.ensures focuses c.hide_option.ensures refl in
+    let rings = with_argument _ _ _ _ _ c.in_ok-arg-6.ensures hides c.ring_option.ensures refl in
+    let boxes = with_argument _ _ _ _ _ c.in_ok-arg-7.ensures rings c.boxes_flag.ensures refl in
+    let lines = with_argument _ _ _ _ _ c.in_ok-arg-8.ensures boxes c.lines_flag.ensures refl in
+    let before = with_argument _ _ _ _ _ c.in_ok-arg-9.ensures lines c.one_file.ensures refl in
     IfOk-weaker _ _ _ (λ _ added. with_argument _ _ _ _ _ added before c.one_file-2.ensures refl)
-    c.arg-8.ensures
+    c.arg-10.ensures

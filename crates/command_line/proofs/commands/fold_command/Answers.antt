@@ -9,7 +9,9 @@ returns c =
     let named = ap app_of_fields c.after_help.ensures ∙ ap app_of_fields c.about.ensures ∙ c.new.ensures.app in
     let types = with_argument _ _ _ _ _ c.in_ok-arg.ensures named c.type_option.ensures refl in
     let formats = with_argument _ _ _ _ _ c.in_ok-arg-2.ensures types c.format_option.ensures refl in
-    let rings = with_argument _ _ _ _ _ c.in_ok-arg-3.ensures formats c.ring_option.ensures refl in
-    let lines = with_argument _ _ _ _ _ c.in_ok-arg-4.ensures rings c.lines_flag.ensures refl in
+    let focuses = with_argument _ _ _ _ _ c.in_ok-arg-3.ensures formats c.focus_option.ensures refl in
+    let hides = with_argument _ _ _ _ _ c.in_ok-arg-4.ensures focuses c.hide_option.ensures refl in
+    let rings = with_argument _ _ _ _ _ c.in_ok-arg-5.ensures hides c.ring_option.ensures refl in
+    let lines = with_argument _ _ _ _ _ c.in_ok-arg-6.ensures rings c.lines_flag.ensures refl in
     IfOk-weaker _ _ _ (λ _ added. with_argument _ _ _ _ _ added lines c.files.ensures refl)
-    c.arg-5.ensures
+    c.arg-7.ensures

@@ -10,8 +10,10 @@ returns c =
     let widths = with_argument _ _ _ _ _ c.in_ok-arg.ensures named c.width_option.ensures refl in
     let types = with_argument _ _ _ _ _ c.in_ok-arg-2.ensures widths c.type_option.ensures refl in
     let formats = with_argument _ _ _ _ _ c.in_ok-arg-3.ensures types c.format_option.ensures refl in
-    let rings = with_argument _ _ _ _ _ c.in_ok-arg-4.ensures formats c.ring_option.ensures refl in
-    let everys = with_argument _ _ _ _ _ c.in_ok-arg-5.ensures rings c.every_option.ensures refl in
-    let lines = with_argument _ _ _ _ _ c.in_ok-arg-6.ensures everys c.lines_flag.ensures refl in
+    let focuses = with_argument _ _ _ _ _ c.in_ok-arg-4.ensures formats c.focus_option.ensures refl in
+    let hides = with_argument _ _ _ _ _ c.in_ok-arg-5.ensures focuses c.hide_option.ensures refl in
+    let rings = with_argument _ _ _ _ _ c.in_ok-arg-6.ensures hides c.ring_option.ensures refl in
+    let everys = with_argument _ _ _ _ _ c.in_ok-arg-7.ensures rings c.every_option.ensures refl in
+    let lines = with_argument _ _ _ _ _ c.in_ok-arg-8.ensures everys c.lines_flag.ensures refl in
     IfOk-weaker _ _ _ (λ _ added. with_argument _ _ _ _ _ added lines c.files.ensures refl)
-    c.arg-7.ensures
+    c.arg-9.ensures

@@ -157,15 +157,19 @@ fn take_all(rt: &impl Abort, alloc: Global, sink: &mut TreeSink) -> Result<bool,
     Ok(refused)
 }
 
-/// With any one growth refused, a sink keeps what it held and goes on; the test then ends in that refusal.
-#[test]
-fn each_growth_of_a_sink_refused(rt: HostRuntime) -> Result<(), Fail> {
-    let mut sink = TreeSink::new(rt.alloc(), Some(2))?;
-    let refused = take_all(&rt, rt.alloc(), &mut sink)?;
-    assert_eq!(rt; held_by(&rt, &sink), AT_THE_END);
+fn goes_on(rt: &impl Abort, alloc: Global, sink: &mut TreeSink) -> Result<(), Fail> {
+    let refused = take_all(rt, alloc, sink)?;
+    assert_eq!(rt; held_by(rt, sink), AT_THE_END);
     assert_eq!(rt; sink.table().len(), 5);
     if refused {
         return Err(AllocError.into());
     }
     Ok(())
+}
+
+/// With any one growth refused, a sink keeps what it held and goes on; the test then ends in that refusal.
+#[test]
+fn each_growth_of_a_sink_refused(rt: HostRuntime) -> Result<(), Fail> {
+    let mut sink = TreeSink::new(rt.alloc(), Some(2))?;
+    goes_on(&rt, rt.alloc(), &mut sink)
 }

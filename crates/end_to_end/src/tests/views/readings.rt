@@ -1,10 +1,10 @@
 //! Runs whose sources are read in different ways.
 use super::shown::{CLEAN, folded, is_list, plain, run, run_folded};
 use crate::tests::worked::{BASE, INLINED_LINES};
-use flame_tool::{Format, Options, Source, Views};
+use flame_tool::{Filter, Format, Options, Source, Views};
 use profile_tables::{Naming, Pick};
 use ring_collect::RingSize;
-use stack_core::{OpenGate, ReadFault, ReadKind, SourceEnd, Text};
+use stack_core::{Names, OpenGate, ReadFault, ReadKind, SourceEnd, Text};
 use std::alloc::{AllocError, Global};
 use std::process::Abort;
 use std::sync::Wait;
@@ -23,10 +23,11 @@ fn with_profile(alloc: Global, bytes: &[u8]) -> Result<Vec<Source>, AllocError> 
 }
 
 /// The first list has no samples, the second these.
-fn are_read(rt: &impl Abort, alloc: Global, views: &Views, text: &str) -> Result<(), AllocError> {
+fn are_read(rt: &impl Abort, alloc: Global, views: &Views, text: &str) -> Result<(), Fail> {
     assert_eq!(rt; views.lists().len(), 2);
     is_list(rt, alloc, &views.lists()[0], "", CLEAN)?;
-    is_list(rt, alloc, &views.lists()[1], text, CLEAN)
+    is_list(rt, alloc, &views.lists()[1], text, CLEAN)?;
+    Ok(())
 }
 
 /// The profile is read as this text.
@@ -42,11 +43,11 @@ fn reads<T: Threads + Wait + Abort + Copy + Send + 'static>(
         ring: RingSize::of(4).expect(rt, "the size of a ring"),
         pick,
         naming,
+        filter: Filter::everything(alloc),
         every: None,
     };
     let views = run(rt, alloc, with_profile(alloc, bytes)?, &options, OpenGate)?;
-    are_read(rt, alloc, &views, text)?;
-    Ok(())
+    are_read(rt, alloc, &views, text)
 }
 
 #[test]
@@ -93,13 +94,19 @@ fn are_empty(rt: &impl Abort, views: &Views) {
 
 #[test]
 fn no_sources(rt: HostRuntime) -> Result<(), Fail> {
-    let views = run_folded(&rt, rt.alloc(), &[], &plain(&rt, 1, Some(1)), OpenGate)?;
+    let views = run_folded(
+        &rt,
+        rt.alloc(),
+        &[],
+        &plain(&rt, rt.alloc(), 1, Some(1)),
+        OpenGate,
+    )?;
     are_empty(&rt, &views);
     Ok(())
 }
 
 /// What stands before the fault is seen, and what other sources have.
-fn are_cut(rt: &impl Abort, alloc: Global, views: &Views) -> Result<(), AllocError> {
+fn are_cut(rt: &impl Abort, alloc: Global, views: &Views) -> Result<(), Fail> {
     let lists = views.lists();
     assert_eq!(rt; lists.len(), 2);
     let fault = SourceEnd::Fault(ReadFault {
@@ -121,16 +128,54 @@ fn are_cut(rt: &impl Abort, alloc: Global, views: &Views) -> Result<(), AllocErr
 #[test]
 fn refused_counts(rt: HostRuntime) -> Result<(), Fail> {
     let texts = ["b 2\na 1.5\n", "c 3\n\n"];
-    let views = run_folded(&rt, rt.alloc(), &texts, &plain(&rt, 1, None), OpenGate)?;
-    are_cut(&rt, rt.alloc(), &views)?;
+    let views = run_folded(
+        &rt,
+        rt.alloc(),
+        &texts,
+        &plain(&rt, rt.alloc(), 1, None),
+        OpenGate,
+    )?;
+    are_cut(&rt, rt.alloc(), &views)
+}
+
+/// What stands in a parser, but reads nothing.
+fn parsing(alloc: Global) -> Result<Filter, AllocError> {
+    Ok(Filter {
+        focus: Names::from_strs(alloc, &["pars"])?,
+        hide: Names::from_strs(alloc, &["read"])?,
+    })
+}
+
+/// The tree and the list have what the filter keeps.
+fn are_filtered(rt: &impl Abort, alloc: Global, views: &Views) -> Result<(), Fail> {
+    let lists = views.lists();
+    assert_eq!(rt; lists.len(), 1);
+    is_list(rt, alloc, &lists[0], "main;parse 3\n", CLEAN)?;
+    assert_eq!(rt; views.tree().total(&[]), 3);
     Ok(())
+}
+
+#[test]
+fn filtered_samples(rt: HostRuntime) -> Result<(), Fail> {
+    let alloc = rt.alloc();
+    let mut options = plain(&rt, alloc, 2, None);
+    options.filter = parsing(alloc)?;
+    let texts = ["main;parse;read 5\nmain;parse 3\nmain;layout 2\n"];
+    let views = run_folded(&rt, alloc, &texts, &options, OpenGate)?;
+    are_filtered(&rt, alloc, &views)
 }
 
 /// As many sources as there may be, each as heavy as it may be.
 #[test]
 fn limits_of_weights_and_depth_by_weights(rt: HostRuntime) -> Result<(), Fail> {
     let texts = ["a 72057594037927935\n"; 64];
-    let views = run_folded(&rt, rt.alloc(), &texts, &plain(&rt, 1, None), OpenGate)?;
+    let views = run_folded(
+        &rt,
+        rt.alloc(),
+        &texts,
+        &plain(&rt, rt.alloc(), 1, None),
+        OpenGate,
+    )?;
     assert_eq!(rt; views.tree().total(&[0]), 4_611_686_018_427_387_840);
     assert_eq!(rt; views.graph().len(), 2);
     assert_eq!(rt; views.graph()[1].own, 4_611_686_018_427_387_840);

@@ -22,12 +22,12 @@ fn run_both<T: Threads + Wait + Abort + Copy + Send + 'static>(
     }
     assert!(rt; sources.len() <= 64);
     let gate = Arc::new(alloc, OpenGate)?;
-    let options = plain(rt, 1, Some(2));
+    let options = plain(rt, alloc, 1, Some(2));
     Ok(views(rt, alloc, sources, &options, gate))
 }
 
 /// The views have the samples of both texts, and two snapshots.
-fn have_both(rt: &impl Abort, alloc: Global, views: &Views) -> Result<(), AllocError> {
+fn have_both(rt: &impl Abort, alloc: Global, views: &Views) -> Result<(), Fail> {
     assert_eq!(rt; views.lists().len(), 2);
     is_list(rt, alloc, &views.lists()[0], TEXTS[0], CLEAN)?;
     is_list(rt, alloc, &views.lists()[1], TEXTS[1], CLEAN)?;
@@ -37,21 +37,27 @@ fn have_both(rt: &impl Abort, alloc: Global, views: &Views) -> Result<(), AllocE
     Ok(())
 }
 
+fn gives_both<T: Threads + Wait + Abort + Copy + Send + 'static>(
+    rt: &T,
+    alloc: Global,
+) -> Result<(), Fail> {
+    let views = run_both(rt, alloc)??;
+    have_both(rt, alloc, &views)
+}
+
 /// With any one request refused, `views` gives what it gives with ample memory, or says what was not there;
 /// asked again, it gives it. The test then ends in the refusal.
 #[test]
 fn each_request_of_views_refused(rt: HostRuntime) -> Result<(), Fail> {
     let alloc = rt.alloc();
     match run_both(&rt, alloc)? {
-        Ok(views) => have_both(&rt, alloc, &views)?,
+        Ok(views) => have_both(&rt, alloc, &views),
         Err(fault) => {
             if let CollectFault::Unfinished { source } = fault {
                 assert!(rt; source < 2);
             }
-            let again = run_both(&rt, alloc)??;
-            have_both(&rt, alloc, &again)?;
-            return Err(fault.into());
+            gives_both(&rt, alloc)?;
+            Err(fault.into())
         }
     }
-    Ok(())
 }

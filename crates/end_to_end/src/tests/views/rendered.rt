@@ -7,7 +7,7 @@ use crate::tests::worked::{
 use flame_layout::Width;
 use flame_tool::{View, Views};
 use stack_core::OpenGate;
-use std::alloc::{AllocError, Global};
+use std::alloc::Global;
 use std::process::Abort;
 use std::test::Fail;
 
@@ -17,7 +17,7 @@ fn pixels(rt: &impl Abort, count: u32) -> Width {
 
 #[test]
 fn stored_run(rt: HostRuntime) -> Result<(), Fail> {
-    let options = plain(&rt, 1_024, None);
+    let options = plain(&rt, rt.alloc(), 1_024, None);
     let views = run_folded(
         &rt,
         rt.alloc(),
@@ -25,12 +25,11 @@ fn stored_run(rt: HostRuntime) -> Result<(), Fail> {
         &options,
         OpenGate,
     )?;
-    shows(&rt, rt.alloc(), &views, View::Fold, "a 1\na;b 5\n")?;
-    Ok(())
+    shows(&rt, rt.alloc(), &views, View::Fold, "a 1\na;b 5\n")
 }
 
 /// A source without samples has no lines and no boxes.
-fn shows_nothing(rt: &impl Abort, alloc: Global, views: &Views) -> Result<(), AllocError> {
+fn shows_nothing(rt: &impl Abort, alloc: Global, views: &Views) -> Result<(), Fail> {
     let graph = "{\"boxes\":[],\"total\":0,\"view\":\"graph\",\"width\":1200}\n";
     let chart = "{\"boxes\":[],\"total\":0,\"view\":\"chart\",\"width\":1200}\n";
     let width = pixels(rt, 1_200);
@@ -41,13 +40,12 @@ fn shows_nothing(rt: &impl Abort, alloc: Global, views: &Views) -> Result<(), Al
 
 #[test]
 fn empty_sources(rt: HostRuntime) -> Result<(), Fail> {
-    let options = plain(&rt, 1, Some(1));
+    let options = plain(&rt, rt.alloc(), 1, Some(1));
     let views = run_folded(&rt, rt.alloc(), &[""], &options, OpenGate)?;
-    shows_nothing(&rt, rt.alloc(), &views)?;
-    Ok(())
+    shows_nothing(&rt, rt.alloc(), &views)
 }
 
-fn shows_three_lines(rt: &impl Abort, alloc: Global, views: &Views) -> Result<(), AllocError> {
+fn shows_three_lines(rt: &impl Abort, alloc: Global, views: &Views) -> Result<(), Fail> {
     let width = pixels(rt, 10);
     shows(rt, alloc, views, View::Fold, "a 1\nb 2\n")?;
     shows(rt, alloc, views, View::Graph(width), GRAPH_OF_THREE_LINES)?;
@@ -56,13 +54,12 @@ fn shows_three_lines(rt: &impl Abort, alloc: Global, views: &Views) -> Result<()
 
 #[test]
 fn graph_of_three_lines(rt: HostRuntime) -> Result<(), Fail> {
-    let options = plain(&rt, 1_024, None);
+    let options = plain(&rt, rt.alloc(), 1_024, None);
     let views = run_folded(&rt, rt.alloc(), &[THREE_LINES], &options, OpenGate)?;
-    shows_three_lines(&rt, rt.alloc(), &views)?;
-    Ok(())
+    shows_three_lines(&rt, rt.alloc(), &views)
 }
 
-fn shows_comparison(rt: &impl Abort, alloc: Global, views: &Views) -> Result<(), AllocError> {
+fn shows_comparison(rt: &impl Abort, alloc: Global, views: &Views) -> Result<(), Fail> {
     assert_eq!(rt; views.lists().len(), 2);
     let boxes = View::PairBoxes(pixels(rt, 10));
     shows(rt, alloc, views, View::Pairs, COMPARISON_LINES)?;
@@ -71,18 +68,16 @@ fn shows_comparison(rt: &impl Abort, alloc: Global, views: &Views) -> Result<(),
 
 #[test]
 fn comparison(rt: HostRuntime) -> Result<(), Fail> {
-    let options = plain(&rt, 1_024, None);
+    let options = plain(&rt, rt.alloc(), 1_024, None);
     let views = run_folded(&rt, rt.alloc(), &[BEFORE, AFTER], &options, OpenGate)?;
-    shows_comparison(&rt, rt.alloc(), &views)?;
-    Ok(())
+    shows_comparison(&rt, rt.alloc(), &views)
 }
 
 /// The graph's lines are those of the snapshots at 2 and at 4, and that of all samples.
 #[test]
 fn snapshots_of_one_source(rt: HostRuntime) -> Result<(), Fail> {
-    let options = plain(&rt, 1_024, Some(2));
+    let options = plain(&rt, rt.alloc(), 1_024, Some(2));
     let views = run_folded(&rt, rt.alloc(), &[FIVE_LINES], &options, OpenGate)?;
     let graph = View::Graph(pixels(&rt, 10));
-    shows(&rt, rt.alloc(), &views, graph, SNAPSHOT_LINES)?;
-    Ok(())
+    shows(&rt, rt.alloc(), &views, graph, SNAPSHOT_LINES)
 }

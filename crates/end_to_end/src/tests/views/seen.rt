@@ -5,7 +5,7 @@ use super::gates::{AllAsked, BothAsked};
 use super::shown::{CLEAN, folded, is_list, number_of, plain, run, run_folded, shows};
 use crate::tests::worked::SMALLEST;
 use flame_tool::{Format, Options, Source, View, Views};
-use stack_core::{Gate, OpenGate};
+use stack_core::{Gate, OpenGate, SourceList};
 use std::alloc::{AllocError, Global};
 use std::process::Abort;
 use std::sync::Wait;
@@ -20,10 +20,9 @@ fn meet<T: Threads + Wait + Abort + Copy + Send + 'static, G: Gate + Send + Sync
     texts: &[&str],
     gate: G,
 ) -> Result<(), Fail> {
-    let options = plain(rt, 1, None);
+    let options = plain(rt, alloc, 1, None);
     let views = run_folded(rt, alloc, texts, &options, gate)?;
-    have_one_sample(rt, alloc, &views, texts.len())?;
-    Ok(())
+    have_one_sample(rt, alloc, &views, texts.len())
 }
 
 /// There are so many lists, each of the sample `a 1` alone.
@@ -32,7 +31,7 @@ fn have_one_sample(
     alloc: Global,
     views: &Views,
     count: usize,
-) -> Result<(), AllocError> {
+) -> Result<(), Fail> {
     assert_eq!(rt; views.lists().len(), count);
     assert_eq!(rt; views.order().len(), count);
     for list in views.lists() {
@@ -88,12 +87,23 @@ fn three(alloc: Global) -> Result<Vec<Source>, AllocError> {
     Ok(sources)
 }
 
+/// The list has a thousand lines with this name.
+fn has_lines(
+    rt: &impl Abort,
+    alloc: Global,
+    list: &SourceList,
+    name: &str,
+) -> Result<(), AllocError> {
+    let text = lines(alloc, name)?;
+    is_list(rt, alloc, list, &text, CLEAN)
+}
+
 /// The lists are these, in file order.
-fn are_three(rt: &impl Abort, alloc: Global, views: &Views) -> Result<(), AllocError> {
+fn are_three(rt: &impl Abort, alloc: Global, views: &Views) -> Result<(), Fail> {
     let lists = views.lists();
     assert_eq!(rt; lists.len(), 3);
-    is_list(rt, alloc, &lists[0], &lines(alloc, "s0")?, CLEAN)?;
-    is_list(rt, alloc, &lists[1], &lines(alloc, "s1")?, CLEAN)?;
+    has_lines(rt, alloc, &lists[0], "s0")?;
+    has_lines(rt, alloc, &lists[1], "s1")?;
     assert_eq!(rt; lists[2].len(), 1_000);
     assert_eq!(rt; lists[2].total(), 7_000);
     assert_eq!(rt; *lists[2].ending(), CLEAN);
@@ -137,22 +147,25 @@ const FOLD_OF_THREE_SOURCES: &str = "main 7000\n\
     s1;f0 100\ns1;f1 100\ns1;f2 100\ns1;f3 100\ns1;f4 100\n\
     s1;f5 100\ns1;f6 100\ns1;f7 100\ns1;f8 100\ns1;f9 100\n";
 
+/// The views of the three, without a snapshot, and their fold text.
+fn are_three_folded(rt: &impl Abort, alloc: Global, views: &Views) -> Result<(), Fail> {
+    are_merged(rt, views);
+    assert_eq!(rt; views.snapshots().len(), 0);
+    are_three(rt, alloc, views)?;
+    shows(rt, alloc, views, View::Fold, FOLD_OF_THREE_SOURCES)
+}
+
 #[test]
 fn three_sources_in_small_rings(rt: HostRuntime) -> Result<(), Fail> {
-    let views = run_three(&rt, rt.alloc(), &plain(&rt, 1, None))?;
-    are_merged(&rt, &views);
-    assert_eq!(rt; views.snapshots().len(), 0);
-    are_three(&rt, rt.alloc(), &views)?;
-    shows(&rt, rt.alloc(), &views, View::Fold, FOLD_OF_THREE_SOURCES)?;
-    Ok(())
+    let views = run_three(&rt, rt.alloc(), &plain(&rt, rt.alloc(), 1, None))?;
+    are_three_folded(&rt, rt.alloc(), &views)
 }
 
 #[test]
 fn three_sources_in_large_rings(rt: HostRuntime) -> Result<(), Fail> {
-    let views = run_three(&rt, rt.alloc(), &plain(&rt, 65_536, None))?;
+    let views = run_three(&rt, rt.alloc(), &plain(&rt, rt.alloc(), 65_536, None))?;
     are_merged(&rt, &views);
-    are_three(&rt, rt.alloc(), &views)?;
-    Ok(())
+    are_three(&rt, rt.alloc(), &views)
 }
 
 /// The counts of each snapshot add up to its number, and none falls.
@@ -175,9 +188,8 @@ fn are_rising(rt: &impl Abort, views: &Views) {
 
 #[test]
 fn three_sources_every_thousand(rt: HostRuntime) -> Result<(), Fail> {
-    let views = run_three(&rt, rt.alloc(), &plain(&rt, 1_024, Some(1_000)))?;
+    let views = run_three(&rt, rt.alloc(), &plain(&rt, rt.alloc(), 1_024, Some(1_000)))?;
     are_merged(&rt, &views);
     are_rising(&rt, &views);
-    are_three(&rt, rt.alloc(), &views)?;
-    Ok(())
+    are_three(&rt, rt.alloc(), &views)
 }

@@ -4,7 +4,7 @@ ghost use Rattle.flame_tool.specs.Plans.{IsComparison};
 
 use call_tree::FrameTable;
 use flame_layout::SpanBox;
-use flame_tool::{Format, Options, Source, View, Views, render, views};
+use flame_tool::{Filter, Format, Options, Source, View, Views, render, views};
 use profile_tables::{Naming, Pick};
 use ring_collect::RingSize;
 use stack_core::{Gate, SourceEnd, SourceList};
@@ -25,13 +25,14 @@ pub fn folded(alloc: Global, text: &str) -> Result<Source, AllocError> {
 }
 
 /// Rings of this many items, and nothing else chosen.
-pub fn plain(rt: &impl Abort, ring: u32, every: Option<u64>) -> Options
+pub fn plain(rt: &impl Abort, alloc: Global, ring: u32, every: Option<u64>) -> Options
     ensures { result.every ≡ every }
 {
     Options {
         ring: RingSize::of(ring).expect(rt, "the size of a ring"),
         pick: Pick::Preferred,
         naming: Naming::Plain,
+        filter: Filter::everything(alloc),
         every,
     }
 }
@@ -130,13 +131,18 @@ pub fn shows(
     views: &Views,
     view: View,
     text: &str,
-) -> Result<(), AllocError>
+) -> Result<(), Fail>
     requires { IsComparison view → length views.now.lists ≡ 2 }
 {
     let mut out = b"in front\n".to_vec(alloc)?;
     render(alloc, views, view, &mut out)?;
+    stand_in_front(rt, alloc, &out, text)
+}
+
+/// The text stands behind what stood there.
+fn stand_in_front(rt: &impl Abort, alloc: Global, out: &[u8], text: &str) -> Result<(), Fail> {
     let whole = format!(in alloc; "in front\n{text}")?;
-    assert_eq!(rt; out.as_slice(), whole.as_bytes());
+    assert_eq!(rt; out, whole.as_bytes());
     Ok(())
 }
 

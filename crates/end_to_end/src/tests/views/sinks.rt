@@ -62,12 +62,27 @@ fn has_snapshots(rt: &impl Abort, sink: &TreeSink) {
     assert_eq!(rt; snapshots[1].tree.total(&[]), 7);
 }
 
+fn takes_five(rt: &impl Abort, alloc: Global, sink: &mut TreeSink) -> Result<(), Fail> {
+    take_five(alloc, sink)?;
+    has_five(rt, sink);
+    has_snapshots(rt, sink);
+    Ok(())
+}
+
 #[test]
 fn sink_alone(rt: HostRuntime) -> Result<(), Fail> {
     let mut sink = TreeSink::new(rt.alloc(), Some(2))?;
-    take_five(rt.alloc(), &mut sink)?;
-    has_five(&rt, &sink);
-    has_snapshots(&rt, &sink);
+    takes_five(&rt, rt.alloc(), &mut sink)
+}
+
+fn takes_large(rt: &impl Abort, alloc: Global, sink: &mut TreeSink) -> Result<(), Fail> {
+    assert_eq!(rt; sink.table().len(), 0);
+    assert_eq!(rt; sink.tree().total(&[]), 0);
+    for _ in 0..5 {
+        take(alloc, sink, 4_000_000_000, &["a"], u64::MAX)?;
+    }
+    assert_eq!(rt; sink.tree().total(&[0]), 5 * u128::from(u64::MAX));
+    assert_eq!(rt; sink.snapshots().len(), 0);
     Ok(())
 }
 
@@ -75,14 +90,7 @@ fn sink_alone(rt: HostRuntime) -> Result<(), Fail> {
 #[test]
 fn sink_without_snapshots(rt: HostRuntime) -> Result<(), Fail> {
     let mut sink = TreeSink::new(rt.alloc(), None)?;
-    assert_eq!(rt; sink.table().len(), 0);
-    assert_eq!(rt; sink.tree().total(&[]), 0);
-    for _ in 0..5 {
-        take(rt.alloc(), &mut sink, 4_000_000_000, &["a"], u64::MAX)?;
-    }
-    assert_eq!(rt; sink.tree().total(&[0]), 5 * u128::from(u64::MAX));
-    assert_eq!(rt; sink.snapshots().len(), 0);
-    Ok(())
+    takes_large(&rt, rt.alloc(), &mut sink)
 }
 
 /// Runs over seven samples `a 1`, the last of which waits for three snapshots.
@@ -104,13 +112,12 @@ fn run_seven<T: Threads + Wait + Abort + Copy + Send + 'static>(
     Ok(())
 }
 
-#[test]
-fn snapshot_while_running(rt: HostRuntime) -> Result<(), Fail> {
-    let mut watched = Watched {
-        sink: TreeSink::new(rt.alloc(), Some(2))?,
-        made: Arc::new(rt.alloc(), AtomicU64::new(0))?,
-    };
-    run_seven(&rt, rt.alloc(), &mut watched)?;
+fn makes_snapshots<T: Threads + Wait + Abort + Copy + Send + 'static>(
+    rt: &T,
+    alloc: Global,
+    watched: &mut Watched,
+) -> Result<(), Fail> {
+    run_seven(rt, alloc, watched)?;
     assert_eq!(rt; watched.sink.snapshots().len(), 3);
     for (i, snapshot) in watched.sink.snapshots().iter().enumerate() {
         assert_eq!(rt; snapshot.at, 2 * (i as u64 + 1));
@@ -118,4 +125,13 @@ fn snapshot_while_running(rt: HostRuntime) -> Result<(), Fail> {
     }
     assert_eq!(rt; watched.sink.tree().total(&[]), 7);
     Ok(())
+}
+
+#[test]
+fn snapshot_while_running(rt: HostRuntime) -> Result<(), Fail> {
+    let mut watched = Watched {
+        sink: TreeSink::new(rt.alloc(), Some(2))?,
+        made: Arc::new(rt.alloc(), AtomicU64::new(0))?,
+    };
+    makes_snapshots(&rt, rt.alloc(), &mut watched)
 }

@@ -30,7 +30,7 @@ fn is_snapshot(
 }
 
 /// The views of the five samples, with a snapshot at 2 and at 4.
-fn are_of_five(rt: &impl Abort, alloc: Global, views: &Views) -> Result<(), AllocError> {
+fn are_of_five(rt: &impl Abort, alloc: Global, views: &Views) -> Result<(), Fail> {
     assert_eq!(rt; views.order(), [0; 5].as_slice());
     assert_eq!(rt; views.snapshots().len(), 2);
     let two = "(0 all 0 2 0)(1 a 0 2 1)(2 b 1 1 1)";
@@ -40,19 +40,19 @@ fn are_of_five(rt: &impl Abort, alloc: Global, views: &Views) -> Result<(), Allo
     let graph = "(0 all 0 6 0)(1 a 0 3 2)(2 b 2 1 1)(1 c 3 2 2)(1 d 5 1 1)";
     are_boxes(rt, alloc, views.graph(), graph)?;
     let chart = "(0 all 0 6 0)(1 a 0 2 1)(2 b 1 1 1)(1 c 2 2 2)(1 a 4 1 1)(1 d 5 1 1)";
-    are_boxes(rt, alloc, views.chart(), chart)
+    are_boxes(rt, alloc, views.chart(), chart)?;
+    Ok(())
 }
 
 #[test]
 fn snapshots_of_one_source(rt: HostRuntime) -> Result<(), Fail> {
-    let options = plain(&rt, 1_024, Some(2));
+    let options = plain(&rt, rt.alloc(), 1_024, Some(2));
     let views = run_folded(&rt, rt.alloc(), &[FIVE_LINES], &options, OpenGate)?;
-    are_of_five(&rt, rt.alloc(), &views)?;
-    Ok(())
+    are_of_five(&rt, rt.alloc(), &views)
 }
 
 /// The views of the first three samples.
-fn are_of_three(rt: &impl Abort, alloc: Global, views: &Views) -> Result<(), AllocError> {
+fn are_of_three(rt: &impl Abort, alloc: Global, views: &Views) -> Result<(), Fail> {
     assert_eq!(rt; views.lists().len(), 1);
     let stopped = SourceEnd::Stopped { after: 3 };
     is_list(rt, alloc, &views.lists()[0], "a 1\na;b 1\nc 2\n", stopped)?;
@@ -64,12 +64,11 @@ fn are_of_three(rt: &impl Abort, alloc: Global, views: &Views) -> Result<(), All
 
 #[test]
 fn gate_stops_the_source(rt: HostRuntime) -> Result<(), Fail> {
-    let options = plain(&rt, 2, Some(2));
+    let options = plain(&rt, rt.alloc(), 2, Some(2));
     let gate = StopsAt {
         source: 0,
         index: 3,
     };
     let views = run_folded(&rt, rt.alloc(), &[FIVE_LINES], &options, gate)?;
-    are_of_three(&rt, rt.alloc(), &views)?;
-    Ok(())
+    are_of_three(&rt, rt.alloc(), &views)
 }

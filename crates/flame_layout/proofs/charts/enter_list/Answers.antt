@@ -1,9 +1,10 @@
-use Rattle.std.proofs.Common.{◌≡◌, ◌+◌, ◌-◌, ◌<◌, ◌≤◌, ◌++◌, ◌∷◌, sym, arith, drop, length, subst, List}
-use Rattle.stack_core.specs.declared.samples.Sample.{Sample}
-use Rattle.stack_core.specs.Ledgers.{sample_at}
-use Rattle.flame_layout.specs.Timeline.{drawn}
+use Rattle.std.proofs.Common.{◌≡◌, ◌+◌, ◌-◌, ◌<◌, ◌≤◌, ◌++◌, ◌∷◌, sym, arith, drop, length, subst, List, map}
+use Rattle.sample_tables.specs.declared.samples.Sample.{Sample}
+use Rattle.sample_tables.specs.Rows.{sample_at}
+use Rattle.flame_layout.specs.Boxes.{span_of}
+use Rattle.merged_stacks.specs.Timeline.{drawn}
 use Rattle.flame_layout.specs.checked.Walk.{IsWalk}
-use Rattle.flame_layout.proofs.Timelines.{no_sample, total_weight-drop, total_weight-drop_le, drawn-drop_yes}
+use Rattle.merged_stacks.proofs.Timelines.{no_sample, total_weight-drop, total_weight-drop_le, drawn-drop_yes}
 use Rattle.flame_layout.proofs.charts.enter_list.Goals as goal
 
 pub enter-requires-clause-room : goal.enter-requires-clause-room
@@ -31,6 +32,6 @@ loop-at-preserved-then-weight-gt0 g c =
       later = c.in_ok-enter.ensures.front;
       start = omega (arith, more, weight, room, c.loop-at.invariant.start);
       walked = λ rest w.
-          subst (λ (xs : List Sample). IsWalk (c.loop-at.start - c.weight-weight.result) c.enter.new.walk.runs.items c.enter.new.walk.boxes.items (xs ++ rest)) (sym first)
+          subst (λ (xs : List Sample). IsWalk (c.loop-at.start - c.weight-weight.result) c.enter.new.walk.runs.items (map span_of c.enter.new.walk.boxes.items) (xs ++ rest)) (sym first)
           (c.in_ok-enter.ensures.walked (c.loop-at.start - c.weight-weight.result) (drawn (drop c.loop-at.at samples) ++ rest) (omega (arith, weight, room)) (c.loop-at.invariant.walked rest w));
     }

@@ -1,5 +1,5 @@
 use Rattle.std.proofs.Common.{◌≡◌, ◌<◌, ◌∙◌, length, arith}
-use Rattle.stack_core.specs.Ledgers.{sample_at}
+use Rattle.sample_tables.specs.Rows.{sample_at}
 use Rattle.call_tree.specs.CallTree.{with_weight}
 use Rattle.flame_layout.proofs.Held.{grows-trans, holds-next, holds-room}
 use Rattle.flame_layout.proofs.comparisons.add_list.Goals as goal

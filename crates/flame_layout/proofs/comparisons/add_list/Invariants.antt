@@ -1,7 +1,8 @@
 use Rattle.std.proofs.Common.{◌++◌, take, List}
-use Rattle.stack_core.specs.declared.samples.Sample.{Sample}
+use Rattle.sample_tables.specs.declared.samples.Sample.{Sample}
 use Rattle.call_tree.specs.FrameTable.{HasDistinctNames}
-use Rattle.flame_layout.specs.checked.Paired.{Grows, Holds}
+use Rattle.merged_stacks.specs.checked.Ranks.{Grows}
+use Rattle.flame_layout.specs.checked.Paired.{Holds}
 use Rattle.flame_layout.proofs.comparisons.add_list.Given as goal
 
 abbrev pub invariant-loop-at : goal.invariant-loop-at

@@ -1,6 +1,6 @@
 use Rattle.std.proofs.Common.{◌≡◌, ◌++◌, ◌∷◌, [], ◌∙◌, sym, ap, arith, take, get_or, length}
 use Rattle.std.proofs.lemmas.List.{map_push, take_more}
-use Rattle.stack_core.specs.Ledgers.{sample_at}
+use Rattle.sample_tables.specs.Rows.{sample_at}
 use Rattle.call_tree.specs.Listing.{named, AreIn}
 use Rattle.flame_layout.proofs.Held.{grows-trans, grows-interned, known-grows, named-grows, each-push, got}
 use Rattle.flame_layout.proofs.comparisons.frame_numbers.Goals as goal

@@ -1,8 +1,8 @@
 use Rattle.std.proofs.Common.{◌≡◌, take}
-use Rattle.stack_core.specs.Ledgers.{sample_at}
+use Rattle.sample_tables.specs.Rows.{sample_at}
 use Rattle.call_tree.specs.FrameTable.{HasDistinctNames}
 use Rattle.call_tree.specs.Listing.{named, AreIn}
-use Rattle.flame_layout.specs.checked.Paired.{Grows}
+use Rattle.merged_stacks.specs.checked.Ranks.{Grows}
 use Rattle.flame_layout.proofs.comparisons.frame_numbers.Given as goal
 
 abbrev pub invariant-loop-frame : goal.invariant-loop-frame

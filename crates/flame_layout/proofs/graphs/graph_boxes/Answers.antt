@@ -1,54 +1,21 @@
-use Rattle.std.proofs.Common.{◌≡◌, ◌+◌, ◌<◌, ◌≤◌, ◌∙◌, sym, ap, subst, All, length, List, []}
+use Rattle.std.proofs.Common.{◌≡◌, ◌∙◌, ◌<◌, ◌≤◌, ◌+◌, ap, [], map, length, All, IfOk, arith}
 use Rattle.std.proofs.lemmas.Result.{IfOk-weaker}
-use Rattle.stack_core.specs.declared.samples.Sample.{Sample}
+use Rattle.flame_layout.specs.Boxes.{span_of}
 use Rattle.call_tree.specs.CallTree.{total_weight}
-use Rattle.call_tree.specs.declared.listing.Visit.{Visit}
-use Rattle.flame_layout.specs.declared.boxes.SpanBox.{SpanBox}
-use Rattle.flame_layout.specs.checked.Listed.{listed_boxes}
-use Rattle.flame_layout.specs.Graph.{graph_of}
-use Rattle.flame_layout.specs.Paths.{SameOwn, tree_samples}
-use Rattle.flame_layout.proofs.GraphBoxes.{listed_graph, listed_few, listed_named, listed_sums, sampled_graph, graph-within, graph-positive, tree_weight}
+use Rattle.flame_layout.proofs.DrawnBoxes.{spans_within, spans_positive}
 use Rattle.flame_layout.proofs.graphs.graph_boxes.Goals as goal
 
-pub visit_boxes-requires-clause-few : goal.visit_boxes-requires-clause-few
-visit_boxes-requires-clause-few c =
-    subst (λ (vs : List Visit). All (λ visit. visit.depth ≤ 4096) vs) (sym c.deref.ensures.value)
-    (listed_few c.args.table.now c.args.tree.now c.in_ok-visits.visits.items c.in_ok-visits.ensures c.requires.depth)
-
-pub visit_boxes-requires-clause-named : goal.visit_boxes-requires-clause-named
-visit_boxes-requires-clause-named c =
-    subst (λ (vs : List Visit). All (λ visit. 0 < visit.depth → visit.frame < length c.args.table.now) vs) (sym c.deref.ensures.value)
-    (listed_named c.args.table.now c.args.tree.now c.in_ok-visits.visits.items c.in_ok-visits.ensures c.requires.numbers)
-
-pub visit_boxes-requires-clause-sums : goal.visit_boxes-requires-clause-sums
-visit_boxes-requires-clause-sums c =
-    let is = listed_graph c.args.table.now c.args.tree.now c.in_ok-visits.visits.items c.in_ok-visits.ensures c.in_ok-visits.ensures.distinct c.requires.numbers in
-    listed_sums c.args.table.now c.args.tree.now (listed_boxes c.args.table.now 0 c.deref.result.now) (ap (listed_boxes c.args.table.now 0) c.deref.ensures.value ∙ is) c.requires.total
-
--- the boxes are the graph of the tree's samples
-boxes_are : (c : goal.After-drop-visits) → listed_boxes c.args.table.now 0 c.deref.result.now ≡ graph_of (tree_samples c.args.table.now c.args.tree.now)
-boxes_are c = ap (listed_boxes c.args.table.now 0) c.deref.ensures.value ∙ listed_graph c.args.table.now c.args.tree.now c.in_ok-visits.visits.items c.in_ok-visits.ensures c.in_ok-visits.ensures.distinct c.requires.numbers
+-- the boxes are those that the drawn ones stand for
+copied : (c : goal.After-drop-drawn) → IfOk c.span_boxes.result (λ boxes. boxes.items ≡ map span_of c.in_ok-drawn.drawn.items)
+copied c = IfOk-weaker c.span_boxes.result _ _ (λ boxes e. e ∙ ap (map span_of) c.deref.ensures.value) c.span_boxes.ensures
 
 pub returns-clause-graph : goal.returns-clause-graph
-returns-clause-graph c =
-    IfOk-weaker c.visit_boxes.result (λ boxes. boxes.items ≡ listed_boxes c.args.table.now 0 c.deref.result.now)
-    (λ boxes. (samples : List Sample) → SameOwn samples (tree_samples c.args.table.now c.args.tree.now) → boxes.items ≡ graph_of samples)
-    (λ boxes e samples h. sampled_graph c.args.table.now c.args.tree.now boxes.items samples (e ∙ boxes_are c) h) c.visit_boxes.ensures
+returns-clause-graph c = IfOk-weaker c.span_boxes.result _ _ (λ boxes e samples same. e ∙ c.in_ok-drawn.ensures.graph samples same) (copied c)
 
 pub returns-clause-within : goal.returns-clause-within
 returns-clause-within c =
-    let samples = tree_samples c.args.table.now c.args.tree.now in
-    IfOk-weaker c.visit_boxes.result (λ boxes. boxes.items ≡ listed_boxes c.args.table.now 0 c.deref.result.now)
-    (λ boxes. All (λ span. span.start + span.weight ≤ total_weight c.args.tree.now []) boxes.items)
-    (λ boxes e.
-    subst (λ (bs : List SpanBox). All (λ span. span.start + span.weight ≤ total_weight c.args.tree.now []) bs) (sym (e ∙ boxes_are c))
-    (subst (λ n. All (λ span. span.start + span.weight ≤ n) (graph_of samples)) (tree_weight c.args.table.now c.args.tree.now) (graph-within samples)))
-    c.visit_boxes.ensures
+    IfOk-weaker c.span_boxes.result _ _ (λ boxes e. spans_within c.in_ok-drawn.drawn.items boxes.items (total_weight c.args.tree.now []) e c.in_ok-drawn.ensures.within) (copied c)
 
 pub returns-clause-positive : goal.returns-clause-positive
 returns-clause-positive c =
-    let samples = tree_samples c.args.table.now c.args.tree.now in
-    IfOk-weaker c.visit_boxes.result (λ boxes. boxes.items ≡ listed_boxes c.args.table.now 0 c.deref.result.now)
-    (λ boxes. 0 < length boxes.items → 0 < total_weight c.args.tree.now [])
-    (λ boxes e w. subst (λ n. 0 < n) (tree_weight c.args.table.now c.args.tree.now) (graph-positive samples (subst (λ (bs : List SpanBox). 0 < length bs) (e ∙ boxes_are c) w)))
-    c.visit_boxes.ensures
+    IfOk-weaker c.span_boxes.result _ _ (λ boxes e. spans_positive c.in_ok-drawn.drawn.items boxes.items (total_weight c.args.tree.now []) e c.in_ok-drawn.ensures.positive) (copied c)

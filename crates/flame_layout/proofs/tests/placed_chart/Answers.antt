@@ -1,5 +1,5 @@
 use Rattle.std.proofs.Common.{[], ◌∷◌, arith}
-use Rattle.flame_layout.proofs.Timelines.{timeline_weight}
+use Rattle.merged_stacks.proofs.Timelines.{timeline_weight}
 use Rattle.flame_layout.proofs.tests.placed_chart.Goals as goal
 
 pub chart_boxes-requires : goal.chart_boxes-requires

@@ -2,7 +2,7 @@ use Rattle.std.proofs.Common.{◌≡◌, ◌+◌, ◌-◌, ◌++◌, ◌∷◌, 
 use Rattle.std.specs.List.{range_with_len}
 use Rattle.std.proofs.lemmas.List.{map_push, append_assoc}
 use Rattle.std.proofs.lemmas.List.FromFn.{map-range_with_len_more}
-use Rattle.stack_core.specs.Ledgers.{sample_at}
+use Rattle.sample_tables.specs.Rows.{sample_at}
 use Rattle.flame_layout.specs.checked.Walk.{seen, new_run, Run}
 use Rattle.flame_layout.proofs.walks.open_runs.Goals as goal
 

@@ -1,6 +1,6 @@
 use Rattle.std.proofs.Common.{◌≡◌, ◌-◌, map, ◌++◌}
 use Rattle.std.specs.List.{range_with_len}
-use Rattle.stack_core.specs.Ledgers.{sample_at}
+use Rattle.sample_tables.specs.Rows.{sample_at}
 use Rattle.flame_layout.specs.checked.Walk.{seen, new_run}
 use Rattle.flame_layout.proofs.walks.open_runs.Given as goal
 

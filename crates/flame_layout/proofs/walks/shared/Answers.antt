@@ -2,7 +2,7 @@ use Rattle.std.proofs.Common.{◌≡◌, ◌+◌, ◌-◌, ◌∙◌, sym, ap, l
 use Rattle.std.specs.Str.{bytes_eq}
 use Rattle.std.proofs.lemmas.Bool.{not-true, not-false, cases_lt}
 use Rattle.std.proofs.lemmas.Slice.Eq.{bytes_eq-Decides}
-use Rattle.stack_core.specs.Ledgers.{sample_at}
+use Rattle.sample_tables.specs.Rows.{sample_at}
 use Rattle.flame_layout.specs.Chart.{names_shared}
 use Rattle.flame_layout.specs.checked.Walk.{names_of}
 use Rattle.flame_layout.proofs.WalkSteps.{shared_more, shared_stops, shared_ends_left, shared_ends_right, names_of-length, names_of-at}

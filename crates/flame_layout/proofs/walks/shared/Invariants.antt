@@ -1,5 +1,5 @@
 use Rattle.std.proofs.Common.{◌≡◌, ◌+◌, drop}
-use Rattle.stack_core.specs.Ledgers.{sample_at}
+use Rattle.sample_tables.specs.Rows.{sample_at}
 use Rattle.flame_layout.specs.Chart.{names_shared}
 use Rattle.flame_layout.specs.checked.Walk.{names_of}
 use Rattle.flame_layout.proofs.walks.shared.Given as goal

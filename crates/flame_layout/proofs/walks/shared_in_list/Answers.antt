@@ -2,7 +2,7 @@ use Rattle.std.proofs.Common.{◌≡◌, ◌+◌, length, get_or, drop, arith, f
 use Rattle.std.specs.Str.{bytes_eq}
 use Rattle.std.proofs.lemmas.Bool.{cases_lt, false_from_ne_true, false≢true}
 use Rattle.std.proofs.lemmas.Slice.Eq.{bytes_eq-Decides}
-use Rattle.stack_core.specs.Ledgers.{sample_at}
+use Rattle.sample_tables.specs.Rows.{sample_at}
 use Rattle.flame_layout.specs.Chart.{names_shared}
 use Rattle.flame_layout.proofs.WalkSteps.{shared_more, shared_stops, shared_ends_left, shared_ends_right}
 use Rattle.flame_layout.proofs.walks.shared_in_list.Goals as goal

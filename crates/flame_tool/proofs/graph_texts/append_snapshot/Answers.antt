@@ -1,7 +1,7 @@
 use Rattle.std.proofs.Common.{rules, ap, sym, ◌∙◌, length}
 use Rattle.std.proofs.lemmas.List.{length-map}
 use Rattle.stack_core.specs.Ledgers.{ListState}
-use Rattle.flame_layout.specs.Timeline.{samples_of}
+use Rattle.merged_stacks.specs.Timeline.{samples_of}
 use Rattle.flame_tool.proofs.TextLemmas.{snapshot_at_place}
 use Rattle.flame_tool.proofs.graph_texts.append_snapshot.Goals as goal
 

@@ -1,7 +1,7 @@
-use Rattle.std.proofs.Common.{rules, ◌≡◌, inr, length, map, string_bytes, Some}
+use Rattle.std.proofs.Common.{rules, ◌≡◌, inl, inr, length, map, string_bytes, Some}
 use Rattle.command_line.specs.CommandLine.{command_line}
 use Rattle.command_line.specs.Plans.{IsFaultAmong, fault_of, plan_of}
-use Rattle.flame_tool.proofs.RunEndings.{asked_exactly, partly_help, some_asked}
+use Rattle.flame_tool.proofs.RunEndings.{asked_exactly, asks_if_help, input_front, input_text, partly_help, some_asked}
 use Rattle.flame_tool.proofs.program.run.Goals as goal
 
 pub returns-in-Ok-clause-shown_exactly : goal.returns-in-Ok-clause-shown_exactly
@@ -15,3 +15,24 @@ returns-clause-partly g c =
     let some : length c.args.words.items ≡ 0 → ⊥ = search rules in
     let among : IsFaultAmong (fault_of command_line (map string_bytes c.args.words.items)) c.in-Err.fault = search rules in
     λ three. partly_help string_bytes c.args.words.items c.in-Err.fault _ _ some among (c.refuse.ensures.front three)
+
+-- without words all of the input is kept
+pub returns-then-is_empty-clause-text : goal.returns-then-is_empty-clause-text
+returns-then-is_empty-clause-text g c = λ _ zero.
+    input_text (g.F.Files.known_input c.args.files.now) (g.F.Files.known_file c.args.files.now) _ _ c.plan_without_words.result c.plan_without_words.ensures.plan (c.run_plan.ensures.shown zero)
+
+pub returns-then-is_empty-clause-front : goal.returns-then-is_empty-clause-front
+returns-then-is_empty-clause-front g c = λ _ three.
+    input_front (g.F.Files.known_input c.args.files.now) (g.F.Files.known_file c.args.files.now) _ _ c.plan_without_words.result c.plan_without_words.ensures.plan (c.run_plan.ensures.front three)
+
+pub returns-clause-shown : goal.returns-clause-shown
+returns-clause-shown g c =
+    let some : length c.args.words.items ≡ 0 → ⊥ = search rules in
+    let among : IsFaultAmong (fault_of command_line (map string_bytes c.args.words.items)) c.in-Err.fault = search rules in
+    λ zero. inl (asks_if_help string_bytes c.args.words.items c.in-Err.fault some among (c.refuse.ensures.help zero))
+
+pub returns-clause-shown_exactly : goal.returns-clause-shown_exactly
+returns-clause-shown_exactly g c =
+    let some : length c.args.words.items ≡ 0 → ⊥ = search rules in
+    let among : IsFaultAmong (fault_of command_line (map string_bytes c.args.words.items)) c.in-Err.fault = search rules in
+    λ zero. inl (asks_if_help string_bytes c.args.words.items c.in-Err.fault some among (c.refuse.ensures.help zero))

@@ -1,10 +1,10 @@
 use Rattle.std.proofs.Common.{◌∙◌, ap, subst, sym, List}
 use Rattle.std.proofs.lemmas.Result.{on_ok_weaker}
 use Rattle.stack_core.specs.Ledgers.{ListState}
-use Rattle.stack_core.specs.declared.samples.Sample.{Sample}
-use Rattle.flame_layout.specs.Merged.{all_samples, merged_samples}
+use Rattle.sample_tables.specs.declared.samples.Sample.{Sample}
+use Rattle.merged_stacks.specs.Merged.{all_samples, merged_samples}
 use Rattle.flame_layout.specs.Paths.{SameOwn}
-use Rattle.flame_layout.specs.Timeline.{samples_of}
+use Rattle.merged_stacks.specs.Timeline.{samples_of}
 use Rattle.flame_layout.proofs.MergedSums.{merged_own}
 use Rattle.flame_tool.proofs.view_text.append_fold.Goals as goal
 

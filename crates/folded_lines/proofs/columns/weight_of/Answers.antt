@@ -1,5 +1,5 @@
 use Rattle.std.proofs.Common.{◌∙◌, ap, ◌+◌, ◌*◌, min}
-use Rattle.stack_core.specs.declared.samples.TheConstants.{WEIGHT_LIMIT}
+use Rattle.sample_tables.specs.declared.samples.TheConstants.{WEIGHT_LIMIT}
 use Rattle.folded_lines.proofs.NumberLemmas.{weight_step}
 use Rattle.folded_lines.proofs.columns.weight_of.Goals as goal
 

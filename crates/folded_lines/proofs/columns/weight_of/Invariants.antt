@@ -1,7 +1,7 @@
 -- the number that the digits so far write
 use Rattle.std.proofs.Common.{◌≡◌, ◌+◌, min, take}
 use Rattle.std.specs.Str.Parse.{digits_value}
-use Rattle.stack_core.specs.declared.samples.TheConstants.{WEIGHT_LIMIT}
+use Rattle.sample_tables.specs.declared.samples.TheConstants.{WEIGHT_LIMIT}
 use Rattle.folded_lines.proofs.columns.weight_of.Given as goal
 
 abbrev pub invariant-loop-b : goal.invariant-loop-b

@@ -1,6 +1,6 @@
 -- the names so far, and those of what is left
 use Rattle.std.proofs.Common.{◌≡◌, ◌≤◌, ◌++◌, map, string_bytes, vec_len}
-use Rattle.stack_core.specs.declared.samples.TheConstants.{FRAME_LIMIT}
+use Rattle.sample_tables.specs.declared.samples.TheConstants.{FRAME_LIMIT}
 use Rattle.folded_lines.proofs.Cuts.{names_left, bytes_left}
 use Rattle.folded_lines.specs.Lines.{is_semicolon}
 use Rattle.std.specs.List.{slice_split}

@@ -2,19 +2,18 @@ use Rattle.std.proofs.Common.{◌≡◌, ◌++◌, ◌∷◌, [], ◌∙◌, sym
 use Rattle.std.proofs.lemmas.List.{map_push}
 use Rattle.std.proofs.lemmas.List.Elements.{All-push}
 use Rattle.stack_core.specs.Reading.{Rest, IsSourceLimited}
-use Rattle.merging.specs.checked.Readers.{reader_rest, reader_told}
+use Rattle.merging.specs.checked.Readers.{reader_rest, reader_told, whole_rest, whole_rests_of}
 use Rattle.merging.specs.declared.source_reader.SourceReader.{SourceReader}
-use Rattle.merging.specs.Sources.{source_rest, rests_of}
 use Rattle.merging.proofs.collection.readers_of.Goals as goal
 
 pub loop-source-preserved : goal.loop-source-preserved
 loop-source-preserved c =
     let options = c.args.options.now in
-    let rest_of = source_rest options.pick options.naming in
+    let rest_of = whole_rest options in
     let old = c.loop-source.yielded in
     let source = c.in-Some.source in
     let h = c.loop-source.invariant in
-    let more : rests_of options (old ++ source ∷ []) ≡ rests_of options old ++ rest_of source ∷ [] = map_push rest_of old source in
+    let more : whole_rests_of options (old ++ source ∷ []) ≡ whole_rests_of options old ++ rest_of source ∷ [] = map_push rest_of old source in
     record {
       rests =
           ap (map reader_rest) c.in_ok-push.ensures.items
@@ -22,7 +21,7 @@ loop-source-preserved c =
           ∙ ((λ i. h.rests i ++ c.in_ok-over.ensures.rest i ∷ []) ∙ sym more));
       limits =
           subst (λ (rests : List Rest). All (λ rest. IsSourceLimited rest.samples) rests) (sym more)
-          (All-push (λ rest. IsSourceLimited rest.samples) (rests_of options old) (rest_of source) h.limits c.in_ok-over.ensures.limits);
+          (All-push (λ rest. IsSourceLimited rest.samples) (whole_rests_of options old) (rest_of source) h.limits c.in_ok-over.ensures.limits);
       told =
           subst (λ (readers : List SourceReader). All (λ reader. reader_told reader ≡ record { names = []; stacks = [] }) readers) (sym c.in_ok-push.ensures.items)
           (All-push (λ (reader : SourceReader). reader_told reader ≡ record { names = []; stacks = [] }) c.loop-source.readers.items c.in_ok-over.field-0 h.told c.in_ok-over.ensures.told);

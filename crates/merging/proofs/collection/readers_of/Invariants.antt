@@ -1,12 +1,11 @@
 use Rattle.std.proofs.Common.{◌≡◌, [], All, map}
 use Rattle.stack_core.specs.Reading.{IsSourceLimited}
-use Rattle.merging.specs.checked.Readers.{reader_rest, reader_told}
-use Rattle.merging.specs.Sources.{rests_of}
+use Rattle.merging.specs.checked.Readers.{reader_rest, reader_told, whole_rests_of}
 use Rattle.merging.proofs.collection.readers_of.Given as goal
 
 abbrev pub invariant-loop-source : goal.invariant-loop-source
 invariant-loop-source l = record {
-  rests : map reader_rest l.readers.items ≡ rests_of l.options l.yielded;
-  limits : All (λ rest. IsSourceLimited rest.samples) (rests_of l.options l.yielded);
+  rests : map reader_rest l.readers.items ≡ whole_rests_of l.options l.yielded;
+  limits : All (λ rest. IsSourceLimited rest.samples) (whole_rests_of l.options l.yielded);
   told : All (λ reader. reader_told reader ≡ record { names = []; stacks = [] }) l.readers.items;
 }

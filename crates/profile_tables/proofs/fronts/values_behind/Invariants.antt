@@ -1,8 +1,8 @@
 use Rattle.std.proofs.Common.{◌≡◌, length, drop}
 use Rattle.std.specs.Prelude.{flat_map}
 use Rattle.wire_fields.specs.Reading.{fields_of}
-use Rattle.profile_tables.specs.Message.{first, repeated_from}
-use Rattle.profile_tables.specs.Shapes.{faults_of_field, sample_shape}
+use Rattle.profile_messages.specs.Message.{first, repeated_from}
+use Rattle.profile_messages.specs.Shapes.{faults_of_field, sample_shape}
 use Rattle.profile_tables.specs.checked.Fronts.{with_values, no_values}
 use Rattle.profile_tables.proofs.fronts.values_behind.Given as goal
 

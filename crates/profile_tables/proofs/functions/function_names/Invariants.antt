@@ -2,7 +2,7 @@ use Rattle.std.proofs.Common.{◌≡◌, Some, take, map}
 use Rattle.std.specs.Prelude.{string_bytes}
 use Rattle.std.specs.List.{slice_get}
 use Rattle.profile_tables.specs.Naming.{function_name}
-use Rattle.profile_tables.specs.checked.Contents.{texts_of}
+use Rattle.profile_messages.specs.SeenProfile.{texts_of}
 use Rattle.profile_tables.specs.checked.Functions.{AreMade}
 use Rattle.profile_tables.proofs.functions.function_names.Given as goal
 

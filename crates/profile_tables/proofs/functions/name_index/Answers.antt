@@ -1,7 +1,7 @@
 use Rattle.std.proofs.Common.{Some, sym, ◌∙◌, ap, map}
 use Rattle.std.specs.Prelude.{string_bytes}
 use Rattle.std.proofs.lemmas.List.{length-map}
-use Rattle.profile_tables.proofs.ItemLemmas.{map-push}
+use Rattle.profile_messages.proofs.ItemLemmas.{map-push}
 use Rattle.profile_tables.proofs.FunctionLemmas.{AreMade-more, made-kept, made-new}
 use Rattle.profile_tables.specs.checked.Functions.{name_or_unknown}
 use Rattle.profile_tables.proofs.functions.name_index.Goals as goal

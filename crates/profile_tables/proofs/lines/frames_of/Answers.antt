@@ -1,9 +1,9 @@
 use Rattle.std.proofs.Common.{ℕ, List, ◌++◌, get_or, sym, ap, map, ◌∙◌}
 use Rattle.std.specs.Prelude.{string_bytes}
 use Rattle.std.proofs.lemmas.List.{length-map}
-use Rattle.profile_tables.specs.declared.messages.Line.{Line}
-use Rattle.profile_tables.specs.declared.messages.Location.{Location}
-use Rattle.profile_tables.specs.checked.Profile.{seen_location}
+use Rattle.profile_messages.specs.declared.messages.Line.{Line}
+use Rattle.profile_messages.specs.declared.messages.Location.{Location}
+use Rattle.profile_messages.specs.SeenProfile.{seen_location}
 use Rattle.profile_tables.specs.checked.Frames.{text_of, name_in, named_in, lines_named, location_named}
 use Rattle.profile_tables.proofs.LineLemmas.{no_location, spans-more, AreFramesOf-all, IsWhole-all}
 use Rattle.profile_tables.proofs.lines.frames_of.Goals as goal

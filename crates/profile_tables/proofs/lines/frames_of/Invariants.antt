@@ -1,6 +1,6 @@
 use Rattle.std.proofs.Common.{◌≡◌, Some, take, map}
 use Rattle.std.specs.Prelude.{string_bytes}
-use Rattle.profile_tables.specs.checked.Profile.{items_in, seen_location}
+use Rattle.profile_messages.specs.SeenProfile.{items_in, seen_location}
 use Rattle.profile_tables.specs.checked.Frames.{text_of, name_in, location_named}
 use Rattle.profile_tables.proofs.lines.frames_of.Given as goal
 

@@ -1,8 +1,7 @@
 use Rattle.std.proofs.Common.{◌≡◌, ℕ, List, ap}
 use Rattle.std.proofs.lemmas.Result.{IfOk-weaker}
 use Rattle.profile_tables.specs.declared.frames.Frames.{Frames}
-use Rattle.profile_tables.specs.checked.Contents.{texts_of}
-use Rattle.profile_tables.specs.checked.Profile.{seen_locations, IsProfileOf}
+use Rattle.profile_messages.specs.SeenProfile.{texts_of, seen_locations, IsProfileOf}
 use Rattle.profile_tables.specs.Naming.{frames_of}
 use Rattle.profile_tables.specs.checked.Frames.{frames_at, named_in, AreFramesOf}
 use Rattle.profile_tables.proofs.FileLemmas.{frames_are}

@@ -1,8 +1,8 @@
 use Rattle.std.proofs.Common.{◌≡◌, ◌<◌, ℕ, List, length, Ok, get_or, ◌∙◌, ap, subst, refl, arith}
 use Rattle.stack_core.specs.Records.{names_at}
-use Rattle.stack_core.specs.RowReading.{stack_at}
+use Rattle.sample_tables.specs.Rows.{stack_at}
 use Rattle.profile_tables.specs.Samples.{stack_of, weight_of}
-use Rattle.profile_tables.specs.checked.Offsets.{content_at}
+use Rattle.profile_messages.specs.Offsets.{content_at}
 use Rattle.profile_tables.specs.checked.RowSteps.{IsToldSample}
 use Rattle.profile_tables.specs.checked.SeenOutline.{seen_outline}
 use Rattle.profile_tables.specs.checked.Tellers.{told_of}

@@ -1,10 +1,10 @@
 use Rattle.std.proofs.Common.{◌≡◌, ℕ, List, Option, Some, None, Ok, sym, subst}
 use Rattle.std.specs.Prelude.{option_map, IfSome}
 use Rattle.profile_tables.specs.declared.fronts.Front.{Front}
-use Rattle.profile_tables.specs.Message.{first}
+use Rattle.profile_messages.specs.Message.{first}
 use Rattle.profile_tables.specs.Samples.{SampleTables, sample_faults, location_ids}
 use Rattle.profile_tables.specs.checked.Fronts.{IsFront}
-use Rattle.profile_tables.specs.checked.Offsets.{content_at}
+use Rattle.profile_messages.specs.Offsets.{content_at}
 use Rattle.profile_tables.specs.checked.Outcome.{IsChecked}
 use Rattle.profile_tables.specs.checked.SeenOutline.{seen_outline}
 use Rattle.profile_tables.specs.checked.Tellers.{IsRunOf}

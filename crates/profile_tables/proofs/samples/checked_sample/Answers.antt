@@ -2,7 +2,7 @@ use Rattle.std.proofs.Common.{◌≡◌, ℕ, List, Ok, sym, ◌∙◌, ap, subs
 use Rattle.std.specs.Prelude.{is_none, slice_index, unwrap_or}
 use Rattle.std.specs.List.{list_any}
 use Rattle.profile_tables.specs.checked.SeenOutline.{seen_outline}
-use Rattle.profile_tables.specs.checked.Gathered.{AreNumbersOf}
+use Rattle.profile_messages.specs.SeenNumbers.{AreNumbersOf}
 use Rattle.profile_tables.proofs.SampleLemmas.{Passes, counted, too_deep, too_large, no_fault, weight-passed}
 use Rattle.profile_tables.proofs.samples.checked_sample.Goals as goal
 

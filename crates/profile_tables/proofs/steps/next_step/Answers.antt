@@ -1,6 +1,6 @@
 use Rattle.std.proofs.Common.{◌≡◌, ◌<◌, ℕ, List, Ok, length, get_or, ◌∙◌, ap, subst}
 use Rattle.profile_tables.specs.checked.Outcome.{IsOutcome}
-use Rattle.profile_tables.specs.checked.Offsets.{content_at}
+use Rattle.profile_messages.specs.Offsets.{content_at}
 use Rattle.profile_tables.specs.checked.SeenOutline.{seen_outline}
 use Rattle.profile_tables.proofs.RestLemmas.{next_is, limited}
 use Rattle.profile_tables.proofs.steps.next_step.Goals as goal

@@ -247,6 +247,12 @@ pub struct Recorder {
 }
 
 impl Recorder {
+    /// A recorder with counts of its own.
+    pub fn of_own(alloc: Global) -> Result<Recorder, AllocError> {
+        let counts = Counts::new(alloc)?;
+        Recorder::new(alloc, &counts)
+    }
+
     pub fn new(alloc: Global, counts: &Arc<Counts>) -> Result<Recorder, AllocError> {
         Ok(Recorder {
             pairs: Vec::new(alloc),

@@ -1,9 +1,10 @@
-use Rattle.std.proofs.Common.{arith}
-use Rattle.std.proofs.lemmas.Grind.{common_steps}
-use Rattle.view_texts.proofs.JsonFrames.{snapshot_line-parts}
+use Rattle.std.proofs.Common.{◌++◌, ◌∙◌, ap}
+use Rattle.std.proofs.lemmas.Result.{on_ok_weaker}
+use Rattle.view_texts.proofs.JsonFrames.{snapshot_is}
 use Rattle.view_texts.proofs.json_lines.append_snapshot_line.Goals as goal
 
 pub returns-clause-ok : goal.returns-clause-ok
 returns-clause-ok c =
-    let parts = snapshot_line-parts c.args.at c.args.counts.now c.args.scale.now.total c.args.scale.now.width c.args.boxes.now in
-    grind (arith, common_steps, parts)
+    let scale = c.args.scale.now in
+    let line = c.of-line.ensures.text ∙ snapshot_is c.args.at c.args.counts.now scale.total scale.width c.args.boxes.now in
+    on_ok_weaker c.append_pieces.result (λ e. e ∙ ap (λ text. c.args.out.now.items ++ text) line) c.append_pieces.ensures.ok

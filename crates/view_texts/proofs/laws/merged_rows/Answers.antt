@@ -1,4 +1,4 @@
-use Rattle.view_texts.proofs.MergedRows.{is_true, as_true, merged-in_order, merged-weight_at, merged-only}
+use Rattle.merged_stacks.proofs.MergedRows.{is_true, as_true, merged-in_order, merged-weight_at, merged-only}
 use Rattle.view_texts.proofs.laws.merged_rows.Goals as goal
 
 pub returns-clause-in_order : goal.returns-clause-in_order

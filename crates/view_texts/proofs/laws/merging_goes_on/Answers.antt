@@ -1,4 +1,4 @@
-use Rattle.view_texts.proofs.MergedRows.{merged-append, sum_at-merged}
+use Rattle.merged_stacks.proofs.MergedRows.{merged-append, sum_at-merged}
 use Rattle.view_texts.proofs.laws.merging_goes_on.Goals as goal
 
 pub returns-clause-rows : goal.returns-clause-rows

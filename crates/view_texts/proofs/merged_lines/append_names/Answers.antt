@@ -1,6 +1,6 @@
 use Rattle.std.proofs.Common.{◌∙◌, ◌++◌, sym, ap, arith, take, append_assoc, ltb}
 use Rattle.std.specs.List.{join_with_byte}
-use Rattle.stack_core.specs.Ledgers.{sample_at}
+use Rattle.sample_tables.specs.Rows.{sample_at}
 use Rattle.view_texts.specs.checked.Joined.{joint}
 use Rattle.view_texts.proofs.MergedLines.{joined_more, further}
 use Rattle.view_texts.proofs.merged_lines.append_names.Goals as goal

@@ -1,9 +1,9 @@
 use Rattle.std.proofs.Common.{◌∙◌, ◌++◌, sym, ap, arith, take, append_assoc}
 use Rattle.std.proofs.lemmas.List.{take_all}
-use Rattle.stack_core.specs.Ledgers.{sample_at}
+use Rattle.sample_tables.specs.Rows.{sample_at}
 use Rattle.folded_lines.specs.Writing.{line_of}
-use Rattle.flame_layout.specs.Paths.{weighed}
-use Rattle.flame_layout.proofs.MergedRows.{as_true}
+use Rattle.merged_stacks.specs.Merged.{weighed}
+use Rattle.merged_stacks.proofs.MergedRows.{as_true}
 use Rattle.view_texts.specs.Fold.{lines_of}
 use Rattle.view_texts.proofs.MergedLines.{further, lines_more, merged_text}
 use Rattle.view_texts.proofs.merged_lines.append_stacks.Goals as goal

@@ -1,5 +1,5 @@
 use Rattle.std.proofs.Common.{◌≡◌, ◌++◌, take}
-use Rattle.flame_layout.specs.Paths.{weighed}
+use Rattle.merged_stacks.specs.Merged.{weighed}
 use Rattle.view_texts.specs.Fold.{lines_of}
 use Rattle.view_texts.proofs.merged_lines.append_stacks.Given as goal
 

@@ -1,5 +1,5 @@
 use Rattle.std.proofs.Common.{◌≡◌, ◌++◌, ◌∷◌, [], List, ℕ, drop, length, slice_range, sym, ap, subst, ◌∙◌, arith, length-append}
-use Rattle.stack_core.specs.RowReading.{ToldRows}
+use Rattle.sample_tables.specs.Rows.{ToldRows}
 use Rattle.call_tree.specs.SpellingCache.{Spelling}
 use Rattle.call_tree.proofs.NameNumbers.{IsPrefixOf-rest}
 use Rattle.folded_lines.specs.Lines.{names_of}

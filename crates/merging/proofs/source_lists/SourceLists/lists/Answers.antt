@@ -1,6 +1,6 @@
 use Rattle.std.proofs.Common.{◌<◌, ◌^◌, subst}
-use Rattle.flame_layout.specs.Merged.{all_samples}
-use Rattle.flame_layout.specs.Timeline.{samples_of, timeline, total_weight}
+use Rattle.merged_stacks.specs.Merged.{all_samples}
+use Rattle.merged_stacks.specs.Timeline.{samples_of, timeline, total_weight}
 use Rattle.merging.specs.Gathered.{ListsState}
 use Rattle.merging.proofs.GatherLemmas.{lists_small, timeline_fits, total_fits}
 use Rattle.merging.proofs.source_lists.SourceLists.lists.Goals as goal

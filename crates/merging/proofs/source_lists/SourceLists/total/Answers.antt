@@ -1,5 +1,5 @@
 use Rattle.std.proofs.Common.{◌∙◌, ap}
-use Rattle.flame_layout.specs.Timeline.{samples_of, timeline, total_weight}
+use Rattle.merged_stacks.specs.Timeline.{samples_of, timeline, total_weight}
 use Rattle.stack_core.specs.Ledgers.{ListState}
 use Rattle.std.specs.Prelude.{List}
 use Rattle.merging.proofs.GatherLemmas.{timeline_weight}

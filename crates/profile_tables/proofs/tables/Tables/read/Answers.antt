@@ -2,7 +2,7 @@ use Rattle.std.proofs.Common.{ℕ, List, ap, ◌∙◌}
 use Rattle.std.specs.Option.{option_and_then}
 use Rattle.std.specs.List.{slice_get}
 use Rattle.profile_tables.specs.Samples.{SampleTables}
-use Rattle.profile_tables.specs.SeenTables.{place_in}
+use Rattle.profile_messages.specs.SeenIndex.{place_in}
 use Rattle.profile_tables.proofs.OwnFrameLemmas.{own-frames}
 use Rattle.profile_tables.proofs.tables.Tables.read.Goals as goal
 

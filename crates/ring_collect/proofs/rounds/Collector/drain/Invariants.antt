@@ -1,5 +1,5 @@
 use Rattle.std.proofs.Common.{false, ◌≡◌, ℕ, List, map}
-use Rattle.stack_core.specs.declared.samples.Sample.{Sample}
+use Rattle.sample_tables.specs.declared.samples.Sample.{Sample}
 use Rattle.ring_collect.specs.checked.Rounds.{HasGained}
 use Rattle.ring_collect.proofs.rounds.Collector.drain.Given as goal
 

@@ -1,5 +1,5 @@
 use Rattle.std.proofs.Common.{false, ◌≡◌, ◌<◌, ℕ, List, length, map, slice_get, IfSome, IsSome}
-use Rattle.stack_core.specs.declared.samples.Sample.{Sample}
+use Rattle.sample_tables.specs.declared.samples.Sample.{Sample}
 use Rattle.ring_collect.specs.checked.Rounds.{HasGained}
 use Rattle.ring_collect.specs.declared.intakes.Look.TheVariants.{Closed}
 use Rattle.ring_collect.proofs.rounds.Collector.look_round.Given as goal

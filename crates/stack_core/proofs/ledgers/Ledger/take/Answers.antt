@@ -1,9 +1,9 @@
 use Rattle.std.proofs.Common.{◌∷◌, [], ◌++◌, ◌∙◌, List, ap, length, rules}
 use Rattle.std.specs.Prelude.{map}
 use Rattle.std.specs.List.{range_with_len}
-use Rattle.stack_core.specs.Ledgers.{Row, named}
-use Rattle.stack_core.proofs.EntryLemmas.{rows_by-push}
-use Rattle.stack_core.proofs.Naming.{samples-fresh}
+use Rattle.sample_tables.specs.Rows.{Row, named}
+use Rattle.sample_tables.proofs.EntryLemmas.{rows_by-push}
+use Rattle.sample_tables.proofs.Naming.{samples-fresh}
 use Rattle.stack_core.proofs.ledgers.Ledger.take.Goals as goal
 
 pub returns-clause-ok : goal.returns-clause-ok

@@ -1,5 +1,5 @@
 use Rattle.std.proofs.Common.{◌∷◌, [], rules}
-use Rattle.stack_core.proofs.Naming.{samples-append}
+use Rattle.sample_tables.proofs.Naming.{samples-append}
 use Rattle.stack_core.proofs.ledgers.Ledger.tell.Goals as goal
 
 pub returns-clause-ok : goal.returns-clause-ok

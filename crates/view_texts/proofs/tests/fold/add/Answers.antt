@@ -1,6 +1,6 @@
 use Rattle.std.proofs.Common.{◌<◌, ◌++◌, ◌∷◌, [], ◌∙◌, sym, ap, subst, refl, length}
 use Rattle.std.proofs.lemmas.Result.{on_ok_weaker}
-use Rattle.stack_core.specs.declared.samples.Sample.{Sample}
+use Rattle.sample_tables.specs.declared.samples.Sample.{Sample}
 use Rattle.call_tree.specs.CallTree.{with_weight}
 use Rattle.call_tree.specs.Listing.{named, AreIn}
 use Rattle.flame_layout.proofs.Held.{grows-interned, holds-grows, known-grows, each-push, holds-push}

@@ -1,5 +1,5 @@
 use Rattle.std.proofs.Common.{[], ◌∷◌, arith}
-use Rattle.flame_layout.proofs.JoinedStacks.{all_weight}
+use Rattle.merged_stacks.proofs.JoinedStacks.{all_weight}
 use Rattle.view_texts.proofs.tests.fold.merged_text.Goals as goal
 
 pub of-requires : goal.of-requires

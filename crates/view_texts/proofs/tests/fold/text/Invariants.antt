@@ -1,6 +1,6 @@
 -- The tree holds samples.
 use Rattle.std.proofs.Common.{List}
-use Rattle.stack_core.specs.declared.samples.Sample.{Sample}
+use Rattle.sample_tables.specs.declared.samples.Sample.{Sample}
 use Rattle.flame_layout.specs.checked.Paired.{Holds}
 use Rattle.view_texts.proofs.tests.fold.text.Given as goal
 

@@ -1,0 +1,16 @@
+use Rattle.std.proofs.Common.{◌∙◌, ◌≤◌, length, drop, arith}
+use Rattle.std.proofs.lemmas.List.{take_rest, length-drop}
+use Rattle.byte_io.proofs.Bytes.{Appends-more, count-took}
+use Rattle.byte_io.proofs.whole_output.write_whole.Goals as goal
+
+pub loop-written-preserved : goal.loop-written-preserved
+loop-written-preserved g c =
+    let bytes = c.args.bytes.now in
+    let i = c.loop-written.written in
+    let is_left = take_rest bytes i in
+    let bound : c.in-Ok.count ≤ length (drop i bytes) = rw (← is_left) c.in-Ok.ensures.bound in
+    record {
+      within = omega (arith, length-drop i bytes);
+      sent = Appends-more _ _ _ bytes _ i c.in-Ok.count is_left c.loop-written.invariant.sent c.in-Ok.ensures.bytes;
+      unfailed = count-took _ _ c.in-Ok.count _ c.in-Ok.count-test.1 c.in-Ok.ensures.count ∙ c.loop-written.invariant.unfailed;
+    }

@@ -1,0 +1,24 @@
+-- boxes with borrowed names, by the boxes that they stand for
+use Rattle.std.proofs.Common.{◌≡◌, ℕ, ◌+◌, ◌<◌, ◌≤◌, List, length, map, get_or, All, sym, ◌∙◌, ap, subst, arith}
+use Rattle.std.proofs.lemmas.List.{get_or-map, length-map}
+use Rattle.std.proofs.lemmas.List.Elements.{All-map}
+use Rattle.flame_layout.specs.Boxes.{span_of}
+use Rattle.flame_layout.specs.declared.boxes.SpanBox.{SpanBox}
+use Rattle.flame_layout.specs.declared.boxes.DrawnBox.{DrawnBox}
+
+-- where the spans end within a total, so do the boxes
+pub drawn_within : (boxes : List DrawnBox) (spans : List SpanBox) (total : ℕ) → map span_of boxes ≡ spans → All (λ span. span.start + span.weight ≤ total) spans → All (λ drawn. drawn.start + drawn.weight ≤ total) boxes
+drawn_within boxes spans total e h k d l =
+    subst (λ (span : SpanBox). span.start + span.weight ≤ total) (ap (λ (all : List SpanBox). get_or all k (span_of d)) (sym e) ∙ get_or-map span_of boxes k d (span_of d) l)
+    (h k (span_of d) (omega (arith, l, length-map boxes span_of, ap length e)))
+
+-- and the other way
+pub spans_within : (boxes : List DrawnBox) (spans : List SpanBox) (total : ℕ) → spans ≡ map span_of boxes → All (λ drawn. drawn.start + drawn.weight ≤ total) boxes → All (λ span. span.start + span.weight ≤ total) spans
+spans_within boxes spans total e h =
+    subst (λ (all : List SpanBox). All (λ span. span.start + span.weight ≤ total) all) (sym e) (All-map (λ (span : SpanBox). span.start + span.weight ≤ total) span_of boxes h)
+
+pub drawn_positive : (boxes : List DrawnBox) (spans : List SpanBox) (total : ℕ) → map span_of boxes ≡ spans → (0 < length spans → 0 < total) → 0 < length boxes → 0 < total
+drawn_positive boxes spans total e h l = h (omega (arith, l, length-map boxes span_of, ap length e))
+
+pub spans_positive : (boxes : List DrawnBox) (spans : List SpanBox) (total : ℕ) → spans ≡ map span_of boxes → (0 < length boxes → 0 < total) → 0 < length spans → 0 < total
+spans_positive boxes spans total e h l = h (omega (arith, l, length-map boxes span_of, ap length e))

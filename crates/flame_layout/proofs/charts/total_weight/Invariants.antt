@@ -1,6 +1,0 @@
-use Rattle.std.proofs.Common.{◌≡◌, take}
-use Rattle.flame_layout.specs.Timeline.{total_weight, timeline, samples_of}
-use Rattle.flame_layout.proofs.charts.total_weight.Given as goal
-
-abbrev pub invariant-loop-list : goal.invariant-loop-list
-invariant-loop-list l = l.total ≡ total_weight (timeline (samples_of (take l.list-index l.lists)))

@@ -1,0 +1,4 @@
+pub mod Counting
+pub mod Functions
+pub mod OneTable
+mod WorkedRows

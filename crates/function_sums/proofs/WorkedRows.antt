@@ -1,0 +1,32 @@
+-- worked examples of the weights by function: recursion counts once, and a sample without frames or weight counts nowhere
+use Rattle.std.proofs.Common.{◌≡◌, List, [], ◌∷◌, codes, refl}
+use Rattle.std.specs.declared.cmp.Ordering.TheVariants.{Less}
+use Rattle.sample_tables.specs.declared.samples.Sample.{Sample}
+use Rattle.function_sums.specs.declared.sums.Order.TheVariants.{Own, Total}
+use Rattle.function_sums.specs.FunctionSums.{own_of, total_of, sums_of, sum_cmp}
+
+abbrev samples : List Sample
+samples =
+    record { stack = codes "f" ∷ codes "g" ∷ codes "f" ∷ codes "g" ∷ []; weight = 1 } ∷
+    record { stack = codes "m" ∷ codes "f" ∷ codes "f" ∷ []; weight = 2 } ∷
+    record { stack = codes "m" ∷ []; weight = 3 } ∷
+    record { stack = []; weight = 4 } ∷
+    record { stack = codes "z" ∷ []; weight = 0 } ∷ []
+
+recursion_counts_once : total_of (codes "f") samples ≡ 3
+recursion_counts_once = refl
+
+last_frames_count : own_of (codes "f") samples ≡ 2
+last_frames_count = refl
+
+callers_count : sums_of samples (codes "m") ≡ record { name = codes "m"; own = 3; total = 5 }
+callers_count = refl
+
+weightless : total_of (codes "z") samples ≡ 0
+weightless = refl
+
+heavier_first : sum_cmp Total (sums_of samples (codes "m")) (sums_of samples (codes "f")) ≡ Less
+heavier_first = refl
+
+ties_by_name : sum_cmp Own (record { name = codes "a"; own = 2; total = 2 }) (record { name = codes "b"; own = 2; total = 9 }) ≡ Less
+ties_by_name = refl

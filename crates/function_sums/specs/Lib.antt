@@ -1,0 +1,2 @@
+pub mod FunctionSums
+pub mod checked

@@ -1,0 +1,23 @@
+//! The sums of a function.
+
+use stack_core::Text;
+
+/// The weights of a function: of the name that its frames have.
+#[derive(Debug, Drop)]
+pub struct FunctionSum {
+    /// The name.
+    pub name: Text,
+    /// The sum of the weights of the samples whose last frame has the name.
+    pub own: u64,
+    /// The sum of the weights of the samples in whose stack the name stands, each sample once.
+    pub total: u64,
+}
+
+/// By which weight functions are listed.
+#[derive(Clone, Copy, Debug, PartialEq, Eq)]
+pub enum Order {
+    /// By what they weigh themselves.
+    Own,
+    /// By what they weigh with all that they call.
+    Total,
+}

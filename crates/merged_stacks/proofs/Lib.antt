@@ -1,0 +1,8 @@
+pub mod JoinedRows
+pub mod JoinedStacks
+pub mod KeptStacks
+pub mod MergedRows
+pub mod RankedNames
+pub mod SweptRows
+pub mod Timelines
+mod WorkedStacks

@@ -1,0 +1,5 @@
+pub mod Merged
+pub mod Order
+pub mod Paired
+pub mod Timeline
+pub mod checked

@@ -1,0 +1,41 @@
+-- Names in order, and the ranks of told names among them, as the code that merges makes them.
+use Rattle.std.specs.Prelude.{◌≡◌, ℕ, ◌+◌, ◌<◌, ◌++◌, List, length, map, All, false, slice_index_or}
+use Rattle.std.specs.List.{flat_map}
+use Rattle.std.specs.Ordering.{nat_cmp, is_lt}
+use Rattle.std.specs.Cmp.Lexicographic.{slice_cmp}
+use Rattle.std.specs.declared.cmp.Ordering.TheVariants.{Less}
+use denote.Ref.{Bor}
+use Rattle.stack_core.specs.Ledgers.{ListState}
+use Rattle.sample_tables.specs.Rows.{name_at}
+
+-- a told name, and its place among those of all lists
+abbrev pub NameAt : Type 0
+NameAt = Bor (List ℕ) × ℕ
+
+abbrev pub placed_name : NameAt → ℕ × List ℕ
+placed_name told = (told.1, told.0.now)
+
+-- the told names, list by list
+abbrev pub all_told : List ListState → List (List ℕ)
+all_told lists = flat_map (λ list. list.told) lists
+
+-- each name is below those after it
+abbrev pub AreRising : List (List ℕ) → Type 0
+AreRising names = (i j : ℕ) → i < j → j < length names → slice_cmp nat_cmp (name_at names i) (name_at names j) ≡ Less
+
+-- each of the names stands once among these, at its place, and none is below the one before it
+pub record AreSorted (names : List (List ℕ)) (told : List NameAt) : Type 0 where
+  pub len : length told ≡ length names
+  pub are : (i : ℕ) (d : NameAt) → i < length told → ((slice_index_or told i d).1 < length names) × ((slice_index_or told i d).0.now ≡ name_at names (slice_index_or told i d).1)
+  pub each : (k : ℕ) (d : NameAt) → k < length names → (i : ℕ) × (i < length told) × ((slice_index_or told i d).1 ≡ k)
+  pub ordered : (i : ℕ) (d : NameAt) → i + 1 < length told → is_lt (slice_cmp nat_cmp (slice_index_or told (i + 1) d).0.now (slice_index_or told i d).0.now) ≡ false
+
+-- the ranks lead from the told names to the same names, which rise
+pub record AreRanks (told names : List (List ℕ)) (ranks : List ℕ) : Type 0 where
+  pub rising : AreRising names
+  pub below : All (λ rank. rank < length names) ranks
+  pub named : map (name_at names) ranks ≡ told
+
+-- the names have gained some at their end, or none
+abbrev pub Grows : List (List ℕ) → List (List ℕ) → Type 0
+Grows old new = (more : List (List ℕ)) × (new ≡ old ++ more)

@@ -1,0 +1,17 @@
+//! Merged stacks: the samples of some lists by stack, each stack with weight once, in order.
+#![tactic(auto)]
+
+mod merged;
+mod name_ranks;
+mod paired;
+mod ranked_rows;
+mod stack_rows;
+mod sweeps;
+#[cfg(test)]
+mod tests;
+mod totals;
+
+pub use merged::MergedStacks;
+pub use paired::PairedStacks;
+pub use stack_rows::StackRows;
+pub use totals::total_weight;

@@ -1,0 +1,197 @@
+//! Merged stacks: each stack with weight once, in order, with the sum of its samples.
+
+ghost use Rattle.std.specs.Prelude.{◌≡◌, ◌+◌, ◌<◌, ◌≤◌, ◌^◌, ◌++◌, ◌∷◌, ℕ, [], List, All, IfOk, OnOk, IsTrue, length, map, string_bytes};
+ghost use Rattle.sample_tables.specs.declared.samples.Sample.{Sample};
+ghost use Rattle.sample_tables.specs.declared.samples.TheConstants.{FRAME_LIMIT};
+ghost use Rattle.sample_tables.specs.Rows.{name_at, sample_at, named};
+ghost use Rattle.merged_stacks.specs.Timeline.{total_weight, samples_of};
+ghost use Rattle.merged_stacks.specs.Merged.{weighed, all_samples, merged_samples, are_in_order};
+ghost use Rattle.merged_stacks.specs.checked.Ranks.{all_told};
+ghost use Rattle.merged_stacks.specs.checked.Ranked.{HasSums, IsNamedBy};
+ghost use Rattle.merged_stacks.specs.checked.Kept.{kept_samples, HaveSameSums};
+
+use crate::name_ranks::NameRanks;
+use crate::ranked_rows::RankedRows;
+use crate::stack_rows::StackRows;
+use stack_core::SourceList;
+use std::alloc::{AllocError, Global};
+use std::marker::Model;
+
+/// The merged stacks of some samples. Contracts see them as samples: each stack with weight once,
+/// sorted by the names, with the sum of its samples.
+#[derive(Drop)]
+pub struct MergedStacks {
+    names: Vec<String>,
+    rows: RankedRows,
+}
+
+impl Model for MergedStacks {
+    ghost use Rattle.std.specs.Prelude.{List, map, string_bytes};
+    ghost use Rattle.sample_tables.specs.declared.samples.Sample.{Sample};
+    ghost use Rattle.merged_stacks.specs.checked.Ranked.{sample_of, AreMerged};
+
+    ghost Value = { List Sample };
+
+    ghost view = { λ m. map (sample_of (map string_bytes m.names.items)) m.rows };
+
+    ghost invariant = { λ m. AreMerged (map string_bytes m.names.items) m.rows };
+}
+
+impl MergedStacks {
+    /// The merged stacks of the samples of all lists.
+    pub fn of(alloc: Global, lists: &[SourceList]) -> Result<MergedStacks, AllocError>
+        requires { total_weight (all_samples (samples_of lists.now)) < 2 ^ 64 }
+        ensures { IfOk result (λ merged. merged ≡ merged_samples (all_samples (samples_of lists.now))) }
+    {
+        let NameRanks { names, ranks } = NameRanks::of(alloc, lists)?;
+        let rows = ranked(alloc, lists, &ranks)?;
+        let rows = rows.merged(alloc)?;
+        Ok(MergedStacks { names, rows })
+    }
+
+    /// How many stacks there are.
+    pub fn len(&self) -> usize
+        ensures count { result ≡ length self.now }
+        ensures in_order { IsTrue (are_in_order (weighed self.now)) }
+        ensures positive { All (λ sample. 0 < sample.weight) self.now }
+        ensures total { total_weight self.now < 2 ^ 64 }
+    {
+        let _names = &self.names;
+        self.rows.len()
+    }
+
+    /// The sum of all weights.
+    pub fn total(&self) -> u64
+        ensures { result ≡ total_weight self.now }
+    {
+        let mut total: u64 = 0;
+        for at in 0..self.len() {
+            total += self.weight(at);
+        }
+        total
+    }
+
+    /// The sum of the samples of stack `at`.
+    pub fn weight(&self, at: usize) -> u64
+        requires { at < length self.now }
+        ensures { result ≡ (sample_at self.now at).weight }
+    {
+        self.rows.weight(at)
+    }
+
+    /// How many frames stack `at` has.
+    pub fn depth(&self, at: usize) -> usize
+        requires { at < length self.now }
+        ensures value { result ≡ length (sample_at self.now at).stack }
+        ensures limit { result ≤ FRAME_LIMIT }
+    {
+        let _names = &self.names;
+        self.rows.ranks(at).len()
+    }
+
+    /// The name of a frame of stack `at`. The root frame is frame 0.
+    pub fn name(&self, at: usize, frame: usize) -> &str
+        requires at { at < length self.now }
+        requires deep { frame < length (sample_at self.now at).stack }
+        ensures { result.now ≡ name_at (sample_at self.now at).stack frame }
+    {
+        let rank = self.rows.ranks(at)[frame];
+        self.names[rank].as_str()
+    }
+}
+
+impl StackRows for MergedStacks {
+    ghost samples = { λ merged. merged };
+
+    fn len(&self) -> usize {
+        MergedStacks::len(self)
+    }
+
+    fn weight(&self, at: usize) -> u64 {
+        MergedStacks::weight(self, at)
+    }
+
+    fn depth(&self, at: usize) -> usize {
+        MergedStacks::depth(self, at)
+    }
+
+    fn name(&self, at: usize, frame: usize) -> &str {
+        MergedStacks::name(self, at, frame)
+    }
+
+    /// No two names are the same, so their ranks tell.
+    fn is_same_name(&self, at: usize, later: usize, frame: usize) -> bool {
+        let _names = &self.names;
+        self.rows.ranks(at)[frame] == self.rows.ranks(later)[frame]
+    }
+}
+
+/// The samples of all lists, by the ranks of their names.
+fn ranked(alloc: Global, lists: &[SourceList], ranks: &[usize]) -> Result<RankedRows, AllocError>
+    requires ranks { length ranks.now ≡ length (all_told lists.now) }
+    requires total { total_weight (all_samples (samples_of lists.now)) < 2 ^ 64 }
+    ensures { IfOk result (λ rows. (names : List (List ℕ)) → IsNamedBy names ranks.now (all_told lists.now)
+        → HasSums names (all_samples (samples_of lists.now)) rows) }
+{
+    let mut rows = RankedRows::new(alloc);
+    let mut rest = ranks;
+    for list in lists {
+        let (own, others) = rest.split_at(list.told());
+        add_list(alloc, &mut rows, list, own)?;
+        rest = others;
+    }
+    Ok(rows)
+}
+
+/// Appends the samples of a list, by the ranks of its told names.
+pub(crate) fn add_list(
+    alloc: Global,
+    rows: &mut RankedRows,
+    list: &SourceList,
+    ranks: &[usize],
+) -> Result<(), AllocError>
+    requires ranks { length ranks.now ≡ length list.now.told }
+    requires total { total_weight list.now.samples < 2 ^ 64 }
+    ensures { OnOk result ((names : List (List ℕ)) (samples : List Sample)
+        → IsNamedBy names ranks.now list.now.told → HasSums names samples rows.old
+        → HasSums names (samples ++ list.now.samples) rows.new) }
+{
+    let sums = stack_sums(alloc, list)?;
+    for number in 0..list.stack_count() {
+        add_row(rows, list.stack(number), ranks, sums[number])?;
+    }
+    Ok(())
+}
+
+/// For each stack that the list keeps the sum of its samples.
+fn stack_sums(alloc: Global, list: &SourceList) -> Result<Vec<u64>, AllocError>
+    requires { total_weight list.now.samples < 2 ^ 64 }
+    ensures len { IfOk result (λ sums. length sums.items ≡ length list.now.stacks) }
+    ensures sums { IfOk result (λ sums.
+        HaveSameSums (kept_samples list.now.told list.now.stacks sums.items) list.now.samples) }
+{
+    let mut sums: Vec<u64> = vec![in alloc; 0; list.stack_count()]?;
+    for at in 0..list.len() {
+        sums[list.stack_number(at)] += list.weight(at);
+    }
+    Ok(sums)
+}
+
+/// Appends the samples of one stack, unless they weigh nothing.
+fn add_row(
+    rows: &mut RankedRows,
+    numbers: &[usize],
+    ranks: &[usize],
+    weight: u64,
+) -> Result<(), AllocError>
+    requires depth { length numbers.now ≤ FRAME_LIMIT }
+    requires known { All (λ number. number < length ranks.now) numbers.now }
+    ensures { OnOk result ((names told : List (List ℕ)) (samples : List Sample)
+        → IsNamedBy names ranks.now told → HasSums names samples rows.old
+        → HasSums names (samples ++ named told (record { frames = numbers.now; weight = weight }) ∷ []) rows.new) }
+{
+    if weight == 0 {
+        return Ok(());
+    }
+    rows.push(numbers, ranks, weight)
+}

@@ -1,0 +1,122 @@
+//! The stacks of two lists side by side, over one table of names.
+
+ghost use Rattle.std.specs.Prelude.{◌≡◌, ◌<◌, ◌≤◌, ◌^◌, ℕ, List, IfOk, length};
+ghost use Rattle.sample_tables.specs.declared.samples.TheConstants.{FRAME_LIMIT};
+ghost use Rattle.sample_tables.specs.Rows.{name_at};
+ghost use Rattle.merged_stacks.specs.Timeline.{total_weight};
+ghost use Rattle.merged_stacks.specs.Paired.{paired_stacks, pair_at};
+ghost use Rattle.merged_stacks.specs.checked.Ranks.{AreRising};
+ghost use Rattle.merged_stacks.specs.checked.Ranked.{IsNamedBy};
+ghost use Rattle.merged_stacks.specs.checked.Swept.{HasStacks};
+
+use crate::merged::add_list;
+use crate::name_ranks::NameRanks;
+use crate::ranked_rows::RankedRows;
+use crate::sweeps::{Place, place_ranks, sweep, weight_after, weight_before};
+use stack_core::SourceList;
+use std::alloc::{AllocError, Global};
+use std::marker::Model;
+
+/// The stacks of two lists side by side: each stack with weight in either list once, sorted by the
+/// names, with the sums of its samples in both. Contracts see them as a list.
+#[derive(Drop)]
+pub struct PairedStacks {
+    names: Vec<String>,
+    lefts: RankedRows,
+    rights: RankedRows,
+    places: Vec<Place>,
+}
+
+impl Model for PairedStacks {
+    ghost use Rattle.std.specs.Prelude.{List, map, string_bytes};
+    ghost use Rattle.merged_stacks.specs.Paired.{PairedStack};
+    ghost use Rattle.merged_stacks.specs.checked.Swept.{place_row, paired_of, ArePaired};
+
+    ghost Value = { List PairedStack };
+
+    ghost view = { λ p. map (λ place. paired_of (map string_bytes p.names.items) (place_row p.lefts p.rights place)) p.places.items };
+
+    ghost invariant = { λ p. ArePaired (map string_bytes p.names.items) p.lefts p.rights p.places.items };
+}
+
+impl PairedStacks {
+    /// The stacks of both lists.
+    pub fn of(
+        alloc: Global,
+        before: &SourceList,
+        after: &SourceList,
+    ) -> Result<PairedStacks, AllocError>
+        requires before { total_weight before.now.samples < 2 ^ 64 }
+        requires after { total_weight after.now.samples < 2 ^ 64 }
+        ensures { IfOk result (λ paired. paired ≡ paired_stacks before.now.samples after.now.samples) }
+    {
+        let NameRanks { names, ranks } = NameRanks::of_pair(alloc, before, after)?;
+        let (of_before, of_after) = ranks.split_at(before.told());
+        let lefts = merged_rows(alloc, before, of_before)?;
+        let rights = merged_rows(alloc, after, of_after)?;
+        let places = sweep(alloc, &lefts, &rights)?;
+        Ok(PairedStacks {
+            names,
+            lefts,
+            rights,
+            places,
+        })
+    }
+
+    /// How many stacks there are.
+    pub fn len(&self) -> usize
+        ensures { result ≡ length self.now }
+    {
+        self.places.len()
+    }
+
+    /// How many frames stack `at` has.
+    pub fn depth(&self, at: usize) -> usize
+        requires { at < length self.now }
+        ensures value { result ≡ length (pair_at self.now at).stack }
+        ensures limit { result ≤ FRAME_LIMIT }
+    {
+        let _names = &self.names;
+        place_ranks(&self.lefts, &self.rights, self.places[at]).len()
+    }
+
+    /// The name of a frame of stack `at`. The root frame is frame 0.
+    pub fn name(&self, at: usize, frame: usize) -> &str
+        requires at { at < length self.now }
+        requires deep { frame < length (pair_at self.now at).stack }
+        ensures { result.now ≡ name_at (pair_at self.now at).stack frame }
+    {
+        let rank = place_ranks(&self.lefts, &self.rights, self.places[at])[frame];
+        self.names[rank].as_str()
+    }
+
+    /// The sum of the samples of stack `at` in the first list.
+    pub fn before(&self, at: usize) -> u64
+        requires { at < length self.now }
+        ensures { result ≡ (pair_at self.now at).before }
+    {
+        let _names = &self.names;
+        weight_before(&self.lefts, &self.rights, self.places[at])
+    }
+
+    /// The same in the second list.
+    pub fn after(&self, at: usize) -> u64
+        requires { at < length self.now }
+        ensures { result ≡ (pair_at self.now at).after }
+    {
+        let _names = &self.names;
+        weight_after(&self.lefts, &self.rights, self.places[at])
+    }
+}
+
+/// The rows of a list, by the ranks of its told names: each stack with weight once, in order.
+fn merged_rows(alloc: Global, list: &SourceList, ranks: &[usize]) -> Result<RankedRows, AllocError>
+    requires named { (names : List (List ℕ)) × IsNamedBy names ranks.now list.now.told }
+    requires total { total_weight list.now.samples < 2 ^ 64 }
+    ensures { IfOk result (λ rows. (names : List (List ℕ)) → AreRising names
+        → IsNamedBy names ranks.now list.now.told → HasStacks names list.now.samples rows) }
+{
+    let mut rows = RankedRows::new(alloc);
+    add_list(alloc, &mut rows, list, ranks)?;
+    rows.merged(alloc)
+}

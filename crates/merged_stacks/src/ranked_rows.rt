@@ -1,0 +1,213 @@
+//! Stacks by the ranks of their names, sorted and joined.
+
+ghost use Rattle.std.specs.Prelude.{◌≡◌, ◌+◌, ◌-◌, ◌<◌, ◌≤◌, ◌^◌, ◌++◌, ◌∷◌, ℕ, [], List, All, IfOk, OnOk, IsPermutation, length, map, reverse, sum_by, slice_index, slice_index_or, slice_range};
+ghost use Rattle.merged_stacks.specs.checked.Ranked.{Ranked, ranked_row, ranked_rows, AreWithin, ranked_entry, IsEntryOf, join_front, joined, AreAscending};
+
+use std::alloc::{AllocError, Global};
+use std::marker::Model;
+
+/// Where the ranks of a stack's names lie, and its weight.
+#[derive(Clone, Copy, Debug)]
+pub(crate) struct RankedRow {
+    start: usize,
+    end: usize,
+    weight: u64,
+}
+
+/// Stacks by ranks, with weights, in a few flat vectors. Ranks that no row covers stand for nothing.
+#[derive(Drop)]
+pub(crate) struct RankedRows {
+    frames: Vec<usize>,
+    rows: Vec<RankedRow>,
+}
+
+impl Model for RankedRows {
+    ghost use Rattle.std.specs.Prelude.{ℕ, List};
+
+    ghost Value = { List (List ℕ × ℕ) };
+
+    ghost use Rattle.merged_stacks.specs.checked.Ranked.{ranked_rows, AreWithin};
+
+    ghost view = { λ r. ranked_rows r.frames.items r.rows.items };
+
+    ghost invariant = { λ r. AreWithin r.frames.items r.rows.items };
+}
+
+/// A row while rows are sorted: its ranks, its weight, and where it starts.
+type Entry<'a> = (&'a [usize], u64, usize);
+
+impl RankedRows {
+    pub(crate) fn new(alloc: Global) -> Self
+        ensures { result ≡ [] }
+    {
+        RankedRows {
+            frames: Vec::new(alloc),
+            rows: Vec::new(alloc),
+        }
+    }
+
+    /// Appends a row: the ranks of the numbers, and the weight.
+    pub(crate) fn push(
+        &mut self,
+        numbers: &[usize],
+        ranks: &[usize],
+        weight: u64,
+    ) -> Result<(), AllocError>
+        requires { All (λ number. number < length ranks.now) numbers.now }
+        ensures { OnOk result (self.new ≡ self.old ++ (map (slice_index ranks.now) numbers.now, weight) ∷ []) }
+    {
+        let start = self.frames.len();
+        append_ranks(&mut self.frames, numbers, ranks)?;
+        let end = self.frames.len();
+        self.rows.push(RankedRow { start, end, weight })?;
+        Ok(())
+    }
+
+    /// How many rows there are.
+    pub(crate) fn len(&self) -> usize
+        ensures { result ≡ length self.now }
+    {
+        self.rows.len()
+    }
+
+    /// The ranks of a row, root first.
+    pub(crate) fn ranks(&self, at: usize) -> &[usize]
+        requires { at < length self.now }
+        ensures { result.now ≡ (slice_index_or self.now at ([], 0)).0 }
+    {
+        let row = self.rows[at];
+        &self.frames[row.start..row.end]
+    }
+
+    /// The weight of a row.
+    pub(crate) fn weight(&self, at: usize) -> u64
+        requires { at < length self.now }
+        ensures { result ≡ (slice_index_or self.now at ([], 0)).1 }
+    {
+        self.rows[at].weight
+    }
+
+    /// The rows in the order of their ranks, those of the same ranks as one.
+    pub(crate) fn merged(self, alloc: Global) -> Result<RankedRows, AllocError>
+        requires { sum_by (λ row. row.1) self < 2 ^ 64 }
+        ensures { IfOk result (λ rows. (sorted : List Ranked) × IsPermutation self sorted
+            × AreAscending sorted × (rows ≡ joined sorted)) }
+    {
+        let RankedRows { frames, rows } = self;
+        let rows = joined_rows(alloc, &frames, rows)?;
+        Ok(RankedRows { frames, rows })
+    }
+}
+
+/// Appends the ranks of the numbers.
+fn append_ranks(
+    frames: &mut Vec<usize>,
+    numbers: &[usize],
+    ranks: &[usize],
+) -> Result<(), AllocError>
+    requires { All (λ number. number < length ranks.now) numbers.now }
+    ensures ok { OnOk result (frames.new.items ≡ frames.old.items ++ map (slice_index ranks.now) numbers.now) }
+    ensures grows { (more : List ℕ) × (frames.new.items ≡ frames.old.items ++ more) }
+{
+    for number in numbers {
+        frames.push(ranks[*number])?;
+    }
+    Ok(())
+}
+
+/// The rows in the order of their ranks, those of the same ranks as one.
+fn joined_rows(
+    alloc: Global,
+    frames: &[usize],
+    rows: Vec<RankedRow>,
+) -> Result<Vec<RankedRow>, AllocError>
+    requires within { AreWithin frames.now rows.items }
+    requires total { sum_by (λ row. row.1) (ranked_rows frames.now rows.items) < 2 ^ 64 }
+    ensures within { IfOk result (λ all. AreWithin frames.now all.items) }
+    ensures joined { IfOk result (λ all. (sorted : List Ranked)
+        × IsPermutation (ranked_rows frames.now rows.items) sorted × AreAscending sorted
+        × (ranked_rows frames.now all.items ≡ joined sorted)) }
+{
+    let mut entries = entries(alloc, frames, rows)?;
+    entries.sort_unstable();
+    join(alloc, frames, &entries)
+}
+
+/// An entry for each row.
+fn entries<'a>(
+    alloc: Global,
+    frames: &'a [usize],
+    rows: Vec<RankedRow>,
+) -> Result<Vec<Entry<'a>>, AllocError>
+    requires { AreWithin frames.now rows.items }
+    ensures ranked { IfOk result (λ all. map ranked_entry all.items ≡ ranked_rows frames.now rows.items) }
+    ensures within { IfOk result (λ all. All (IsEntryOf frames.now) all.items) }
+{
+    let mut all = Vec::with_capacity(alloc, rows.len())?;
+    for row in &rows {
+        all.push(entry(frames, *row))?;
+    }
+    Ok(all)
+}
+
+/// The entry of a row.
+fn entry(frames: &[usize], row: RankedRow) -> Entry<'_>
+    requires start { row.start ≤ row.end }
+    requires end { row.end ≤ length frames.now }
+    ensures ranked { ranked_entry result ≡ ranked_row frames.now row }
+    ensures within { IsEntryOf frames.now result }
+{
+    let RankedRow { start, end, weight } = row;
+    (&frames[start..end], weight, start)
+}
+
+/// The rows of sorted entries, neighbours of the same ranks as one.
+fn join(
+    alloc: Global,
+    frames: &[usize],
+    entries: &[Entry<'_>],
+) -> Result<Vec<RankedRow>, AllocError>
+    requires within { All (IsEntryOf frames.now) entries.now }
+    requires total { sum_by (λ row. row.1) (map ranked_entry entries.now) < 2 ^ 64 }
+    ensures within { IfOk result (λ all. AreWithin frames.now all.items) }
+    ensures joined { IfOk result (λ all. ranked_rows frames.now all.items ≡ joined (map ranked_entry entries.now)) }
+{
+    let mut rows = Vec::new(alloc);
+    for index in (0..entries.len()).rev() {
+        let (ranks, weight, start) = entries[index];
+        put_in_front(&mut rows, frames, ranks, weight, start)?;
+    }
+    rows.reverse();
+    Ok(rows)
+}
+
+/// Puts a row in front of those that came before, the last of which comes next after it.
+fn put_in_front(
+    rows: &mut Vec<RankedRow>,
+    frames: &[usize],
+    ranks: &[usize],
+    weight: u64,
+    start: usize,
+) -> Result<(), AllocError>
+    requires within { AreWithin frames.now rows.old.items }
+    requires ranks { ranks.now ≡ slice_range frames.now start (start + length ranks.now) }
+    requires room { start + length ranks.now ≤ length frames.now }
+    requires total { sum_by (λ row. row.weight) rows.old.items + weight < 2 ^ 64 }
+    ensures within { OnOk result (AreWithin frames.now rows.new.items) }
+    ensures joined { OnOk result (reverse (ranked_rows frames.now rows.new.items)
+        ≡ join_front (ranks.now, weight) (reverse (ranked_rows frames.now rows.old.items))) }
+{
+    let end = start + ranks.len();
+    let Some(next) = rows.pop() else {
+        rows.push(RankedRow { start, end, weight })?;
+        return Ok(());
+    };
+    if &frames[next.start..next.end] == ranks {
+        let weight = next.weight + weight;
+        rows.push(RankedRow { weight, ..next })?;
+        return Ok(());
+    }
+    rows.push(next)?;
+    rows.push(RankedRow { start, end, weight })?;
+    Ok(())
+}

@@ -1,0 +1,120 @@
+//! Worked examples.
+
+use crate::{MergedStacks, PairedStacks, total_weight};
+use stack_core::{Close, Ledger, Names, Sample, SourceEnd, SourceList};
+use std::alloc::{AllocError, Global};
+use std::process::Abort;
+use std::test::Fail;
+
+/// The list of a source with these lines: names, root first, and a weight.
+fn list(
+    rt: &impl Abort,
+    alloc: Global,
+    lines: &[(&[&str], u64)],
+) -> Result<SourceList, AllocError> {
+    let mut ledger = Ledger::new(alloc);
+    for (names, weight) in lines {
+        let mut stack = Vec::new(alloc);
+        for name in *names {
+            stack.push(String::from_str(alloc, name)?)?;
+        }
+        assert!(rt; !ledger.is_closed());
+        assert!(rt; stack.len() < 10);
+        assert!(rt; *weight < 100);
+        ledger.take(Sample {
+            stack: Names::of(stack),
+            weight: *weight,
+        })?;
+    }
+    assert!(rt; !ledger.is_closed());
+    ledger.close(Close::Read(SourceEnd::Clean { ignored: 0 }));
+    Ok(ledger.into_list())
+}
+
+/// The merged stacks of two sources.
+fn merged(
+    rt: &impl Abort,
+    alloc: Global,
+    one: SourceList,
+    other: SourceList,
+) -> Result<MergedStacks, AllocError> {
+    assert!(rt; one.total() < 1_000);
+    assert!(rt; other.total() < 1_000);
+    MergedStacks::of(alloc, &[one, other])
+}
+
+/// The names and the weight of each stack.
+fn shown_stacks(alloc: Global, merged: &MergedStacks) -> Result<String, AllocError> {
+    let mut text = String::new(alloc);
+    for at in 0..merged.len() {
+        text.push_str("(")?;
+        for frame in 0..merged.depth(at) {
+            text.push_str(merged.name(at, frame))?;
+            text.push_str(";")?;
+        }
+        let weight = merged.weight(at);
+        let line = format!(in alloc; " {weight})")?;
+        text.push_str(&line)?;
+    }
+    Ok(text)
+}
+
+#[test]
+fn stacks_of_two_sources(rt: HostRuntime) -> Result<(), Fail> {
+    let alloc = rt.alloc();
+    let one: [(&[&str], u64); 4] = [(&["a", "b"], 2), (&["a"], 1), (&["b"], 0), (&[], 5)];
+    let other: [(&[&str], u64); 3] = [(&["b", "a"], 1), (&["a", "", "b"], 1), (&["a", "b"], 3)];
+    let one = list(&rt, alloc, &one)?;
+    let other = list(&rt, alloc, &other)?;
+    let merged = merged(&rt, alloc, one, other)?;
+    assert_eq!(rt;
+        shown_stacks(alloc, &merged)?.as_str(),
+        "( 5)(a; 1)(a;;b; 1)(a;b; 5)(b;a; 1)"
+    );
+    assert_eq!(rt; merged.total(), 13);
+    Ok(())
+}
+
+#[test]
+fn nothing_merged(rt: HostRuntime) -> Result<(), Fail> {
+    let alloc = rt.alloc();
+    let merged = MergedStacks::of(alloc, &[])?;
+    assert_eq!(rt; merged.len(), 0);
+    assert_eq!(rt; merged.total(), 0);
+    assert_eq!(rt; total_weight(&[]), 0);
+    Ok(())
+}
+
+/// The names and both weights of each stack.
+fn shown_pairs(alloc: Global, paired: &PairedStacks) -> Result<String, AllocError> {
+    let mut text = String::new(alloc);
+    for at in 0..paired.len() {
+        text.push_str("(")?;
+        for frame in 0..paired.depth(at) {
+            text.push_str(paired.name(at, frame))?;
+            text.push_str(";")?;
+        }
+        let before = paired.before(at);
+        let after = paired.after(at);
+        let line = format!(in alloc; " {before} {after})")?;
+        text.push_str(&line)?;
+    }
+    Ok(text)
+}
+
+#[test]
+fn stacks_of_two_sources_side_by_side(rt: HostRuntime) -> Result<(), Fail> {
+    let alloc = rt.alloc();
+    let old: [(&[&str], u64); 3] = [(&["b"], 1), (&["a", "b"], 3), (&["c"], 0)];
+    let new: [(&[&str], u64); 3] = [(&["c"], 2), (&["a", "b"], 1), (&[], 1)];
+    let before = list(&rt, alloc, &old)?;
+    let after = list(&rt, alloc, &new)?;
+    assert!(rt; before.total() < 1_000);
+    assert!(rt; after.total() < 1_000);
+    let paired = PairedStacks::of(alloc, &before, &after)?;
+    assert_eq!(rt;
+        shown_pairs(alloc, &paired)?.as_str(),
+        "( 0 1)(a;b; 3 1)(b; 1 0)(c; 0 2)"
+    );
+    Ok(())
+}

@@ -1,0 +1,68 @@
+-- Worked examples, computed on the definitions.
+use Rattle.std.proofs.Common.{◌≡◌, ℕ, List, [], ◌∷◌, ◌++◌, Some, None, true, false, codes, refl}
+use Rattle.std.specs.Fmt.{digits}
+use Rattle.json.specs.Print.{escape_byte}
+use Rattle.page_texts.specs.ScriptSafe.{script_safe}
+use Rattle.page_texts.specs.Page.{PageBox, PageDrawing, PageSource, page_text}
+
+abbrev box : ℕ → List ℕ → ℕ → ℕ → ℕ → ℕ → PageBox
+box depth name start weight own other =
+    record { span = record { depth = depth; name = name; start = start; weight = weight; own = own }; other = other }
+
+-- the flame graph of `main;read<int> 2` and `main 1`
+abbrev small : List PageBox
+small = box 0 (codes "all") 0 3 0 0 ∷ box 1 (codes "main") 0 3 1 0 ∷ box 2 (codes "read<int>") 1 2 2 0 ∷ []
+
+abbrev small_source : PageSource
+small_source = record { name = codes "small.folded"; type_name = []; unit = []; weight = 3 }
+
+abbrev drawing : ℕ → List PageBox → PageDrawing
+drawing least boxes = record { moment = None; is_compared = false; least = least; total = 3; boxes = boxes }
+
+example : page_text (record { drawings = drawing 0 small ∷ []; sources = small_source ∷ []; title = codes "small.folded"; view = codes "graph" })
+    ≡ codes "{\"drawings\":[{\"depth\":[0,1,2],\"least\":0,\"left_out\":{\"boxes\":0,\"weight\":0},\"name\":[0,1,2],"
+    ++ (codes "\"own\":[0,1,2],\"start\":[0,0,1],\"total\":3,\"weight\":[3,3,2]}],"
+    ++ (codes "\"names\":[\"all\",\"main\",\"read\\u003cint\\u003e\"],"
+    ++ codes "\"sources\":[{\"name\":\"small.folded\",\"type\":\"\",\"unit\":\"\",\"weight\":3}],\"title\":\"small.folded\",\"view\":\"graph\"}"))
+unfolding page_text script_safe escape_byte digits
+example = refl
+
+-- boxes that weigh at least 3
+abbrev light : PageDrawing
+light = drawing 3 small
+
+narrow_box_left_out : page_text (record { drawings = light ∷ []; sources = []; title = []; view = codes "chart" })
+    ≡ codes "{\"drawings\":[{\"depth\":[0,1],\"least\":3,\"left_out\":{\"boxes\":1,\"weight\":2},\"name\":[0,1],"
+    ++ (codes "\"own\":[0,1],\"start\":[0,0],\"total\":3,\"weight\":[3,3]}],"
+    ++ codes "\"names\":[\"all\",\"main\"],\"sources\":[],\"title\":\"\",\"view\":\"chart\"}")
+unfolding page_text script_safe escape_byte digits
+narrow_box_left_out = refl
+
+-- a snapshot, and then the graph, whose names are told once
+abbrev snapshot : PageDrawing
+snapshot = record { moment = Some (record { at = 1; counts = 1 ∷ 0 ∷ [] }); is_compared = false; least = 0; total = 1; boxes = box 0 (codes "all") 0 1 0 0 ∷ box 1 (codes "&") 0 1 1 0 ∷ [] }
+
+snapshots : page_text (record { drawings = snapshot ∷ drawing 0 (box 0 (codes "all") 0 3 3 0 ∷ []) ∷ []; sources = []; title = []; view = codes "graph" })
+    ≡ codes "{\"drawings\":[{\"at\":1,\"counts\":[1,0],\"depth\":[0,1],\"least\":0,\"left_out\":{\"boxes\":0,\"weight\":0},\"name\":[0,1],"
+    ++ (codes "\"own\":[0,1],\"start\":[0,0],\"total\":1,\"weight\":[1,1]},"
+    ++ (codes "{\"depth\":[0],\"least\":0,\"left_out\":{\"boxes\":0,\"weight\":0},\"name\":[0],\"own\":[3],\"start\":[0],\"total\":3,\"weight\":[3]}],"
+    ++ codes "\"names\":[\"all\",\"\\u0026\"],\"sources\":[],\"title\":\"\",\"view\":\"graph\"}"))
+unfolding page_text script_safe escape_byte digits
+snapshots = refl
+
+-- the graph of BEFORE, with the weights of its paths after
+abbrev compared : PageDrawing
+compared = record { moment = None; is_compared = true; least = 0; total = 4; boxes = box 0 (codes "all") 0 4 1 3 ∷ box 1 (codes "a") 1 3 3 0 ∷ [] }
+
+comparison : page_text (record { drawings = compared ∷ []; sources = []; title = []; view = codes "compare" })
+    ≡ codes "{\"drawings\":[{\"depth\":[0,1],\"least\":0,\"left_out\":{\"boxes\":0,\"weight\":0},\"name\":[0,1],\"other\":[3,0],"
+    ++ (codes "\"own\":[1,3],\"start\":[0,1],\"total\":4,\"weight\":[4,3]}],"
+    ++ codes "\"names\":[\"all\",\"a\"],\"sources\":[],\"title\":\"\",\"view\":\"compare\"}")
+unfolding page_text script_safe escape_byte digits
+comparison = refl
+
+-- U+2028, U+2029 and what begins like them, in a title
+separators : script_safe (226 ∷ 128 ∷ 168 ∷ 226 ∷ 128 ∷ 169 ∷ 226 ∷ 128 ∷ 170 ∷ 226 ∷ 128 ∷ [])
+    ≡ codes "\\u2028\\u2029" ++ (226 ∷ 128 ∷ 170 ∷ 226 ∷ 128 ∷ [])
+unfolding script_safe
+separators = refl

@@ -1,0 +1,154 @@
+-- The data of a page: one JSON value, whose keys are in byte order, and its text.
+use Rattle.std.specs.Prelude.{ℕ, Bool, List, [], length, map, filter, sum_by, nat_le, not, Option, Some, None, codes, if◌then◌else◌}
+use Rattle.std.specs.List.{flat_map, position_or_len}
+use Rattle.std.specs.Str.{bytes_eq}
+use Rattle.serde_json.specs.Data.{Data, number, unsigned, string, array, object, Members, no_members, member}
+use Rattle.serde_json.specs.View.{items_of}
+use Rattle.stack_core.specs.NamesInOrder.{with_stack}
+use Rattle.flame_layout.specs.declared.boxes.SpanBox.{SpanBox}
+use Rattle.page_texts.specs.ScriptSafe.{page_data_text}
+
+abbrev pub whole_number : ℕ → Data
+whole_number n = number (unsigned n)
+
+abbrev pub list_data : List Data → Data
+list_data values = array (items_of values)
+
+-- a box, and in a comparison the weight of its path in the other profile
+pub record PageBox : Type 0 where
+  pub span : SpanBox
+  pub other : ℕ
+
+-- how many samples a snapshot has, and how many of them are of each source
+pub record Moment : Type 0 where
+  pub at : ℕ
+  pub counts : List ℕ
+
+-- a drawing: its boxes in order, the sum of the weights of its samples, and the least weight of a box that is kept
+pub record PageDrawing : Type 0 where
+  pub moment : Option Moment
+  pub is_compared : Bool
+  pub least : ℕ
+  pub total : ℕ
+  pub boxes : List PageBox
+
+-- a file, with the name and the unit of its weights, and their sum
+pub record PageSource : Type 0 where
+  pub name : List ℕ
+  pub type_name : List ℕ
+  pub unit : List ℕ
+  pub weight : ℕ
+
+pub record Page : Type 0 where
+  pub drawings : List PageDrawing
+  pub sources : List PageSource
+  pub title : List ℕ
+  pub view : List ℕ
+
+-- ---- boxes
+
+abbrev pub is_kept : ℕ → PageBox → Bool
+is_kept least box = nat_le least box.span.weight
+
+-- the boxes that weigh at least so much, and the others
+abbrev pub kept : ℕ → List PageBox → List PageBox
+kept least boxes = filter (is_kept least) boxes
+
+abbrev pub left_out : ℕ → List PageBox → List PageBox
+left_out least boxes = filter (λ box. not (is_kept least box)) boxes
+
+-- the sum of the weights of the samples that end in these boxes
+abbrev pub own_weight : List PageBox → ℕ
+own_weight boxes = sum_by (λ box. box.span.own) boxes
+
+-- ---- names
+
+abbrev pub names_of : List PageBox → List (List ℕ)
+names_of boxes = map (λ box. box.span.name) boxes
+
+abbrev pub kept_names : PageDrawing → List (List ℕ)
+kept_names drawing = names_of (kept drawing.least drawing.boxes)
+
+-- each name of a kept box once, by first appearance
+abbrev pub page_names : List PageDrawing → List (List ℕ)
+page_names drawings = with_stack [] (flat_map kept_names drawings)
+
+-- how many names stand before this one
+abbrev pub place_of : List (List ℕ) → List ℕ → ℕ
+place_of names name = position_or_len (bytes_eq name) names
+
+-- ---- members
+
+-- a number of each box
+abbrev pub column : (PageBox → ℕ) → List PageBox → Data
+column number_of boxes = list_data (map (λ box. whole_number (number_of box)) boxes)
+
+abbrev pub left_out_data : List PageBox → Data
+left_out_data boxes =
+    object
+    (member (codes "boxes") (whole_number (length boxes))
+    (member (codes "weight") (whole_number (own_weight boxes))
+    no_members))
+
+-- in snapshots alone
+abbrev pub moment_members : Option Moment → Members → Members
+moment_members None later = later
+moment_members (Some moment) later =
+    member (codes "at") (whole_number moment.at)
+    (member (codes "counts") (list_data (map whole_number moment.counts))
+    later)
+
+-- in comparisons alone
+abbrev pub other_members : Bool → List PageBox → Members → Members
+other_members is_compared boxes later =
+    if is_compared then member (codes "other") (column (λ box. box.other) boxes) later else later
+
+abbrev pub last_members : List PageBox → ℕ → Members
+last_members boxes total =
+    member (codes "own") (column (λ box. box.span.own) boxes)
+    (member (codes "start") (column (λ box. box.span.start) boxes)
+    (member (codes "total") (whole_number total)
+    (member (codes "weight") (column (λ box. box.span.weight) boxes)
+    no_members)))
+
+-- `boxes` are those that are kept, and `others` those that are not
+abbrev pub box_members : List (List ℕ) → PageDrawing → List PageBox → List PageBox → Members
+box_members names drawing boxes others =
+    member (codes "depth") (column (λ box. box.span.depth) boxes)
+    (member (codes "least") (whole_number drawing.least)
+    (member (codes "left_out") (left_out_data others)
+    (member (codes "name") (column (λ box. place_of names box.span.name) boxes)
+    (other_members drawing.is_compared boxes
+    (last_members boxes drawing.total)))))
+
+-- a drawing, whose names have their places in `names`
+abbrev pub drawing_data : List (List ℕ) → PageDrawing → Data
+drawing_data names drawing =
+    object
+    (moment_members drawing.moment
+    (box_members names drawing (kept drawing.least drawing.boxes) (left_out drawing.least drawing.boxes)))
+
+abbrev pub source_data : PageSource → Data
+source_data source =
+    object
+    (member (codes "name") (string source.name)
+    (member (codes "type") (string source.type_name)
+    (member (codes "unit") (string source.unit)
+    (member (codes "weight") (whole_number source.weight)
+    no_members))))
+
+-- ---- the whole
+
+abbrev pub page_value : Page → Data
+page_value page =
+    object
+    (member (codes "drawings") (list_data (map (drawing_data (page_names page.drawings)) page.drawings))
+    (member (codes "names") (list_data (map string (page_names page.drawings)))
+    (member (codes "sources") (list_data (map source_data page.sources))
+    (member (codes "title") (string page.title)
+    (member (codes "view") (string page.view)
+    no_members)))))
+
+-- the data of a page
+unfoldable pub page_text : Page → List ℕ
+page_text page = page_data_text (page_value page)

@@ -1,0 +1,29 @@
+//! Laws over the definitions, for all values. Each function does nothing, and takes no memory.
+ghost use Rattle.std.specs.Prelude.{◌≡◌, ◌↔◌, ◌+◌, ◌<◌, ◌≤◌, ℕ, List, [], length, Contains};
+ghost use Rattle.serde_json.specs.Data.{Data};
+ghost use Rattle.page_texts.specs.Page.{PageBox, kept, left_out, own_weight};
+ghost use Rattle.page_texts.specs.PageLaws.{HasNoMarkup, HasNoSeparator};
+ghost use Rattle.page_texts.specs.ScriptSafe.{page_data_text};
+
+/// No name and no title can end the element that the data stands in: the text of every value holds
+/// no `<`, no `>` and no `&`, and neither U+2028 nor U+2029.
+pub fn no_character_ends_the_element()
+    ensures markup { (value : Data) → HasNoMarkup (page_data_text value) }
+    ensures separators { (value : Data) → HasNoSeparator (page_data_text value) }
+{}
+
+/// A drawing keeps exactly the boxes that weigh at least the limit, in their order, and with the
+/// limit 0 all. The own weights of those that are kept and of those that are left out add up to
+/// those of all.
+pub fn only_narrow_boxes_are_left_out()
+    ensures all { (boxes : List PageBox) → kept 0 boxes ≡ boxes }
+    ensures none { (boxes : List PageBox) → left_out 0 boxes ≡ [] }
+    ensures kept { (least : ℕ) (boxes : List PageBox) (box : PageBox) →
+        Contains (kept least boxes) box ↔ (Contains boxes box × (least ≤ box.span.weight)) }
+    ensures others { (least : ℕ) (boxes : List PageBox) (box : PageBox) →
+        Contains (left_out least boxes) box ↔ (Contains boxes box × (box.span.weight < least)) }
+    ensures counts { (least : ℕ) (boxes : List PageBox) →
+        length (kept least boxes) + length (left_out least boxes) ≡ length boxes }
+    ensures weights { (least : ℕ) (boxes : List PageBox) →
+        own_weight (kept least boxes) + own_weight (left_out least boxes) ≡ own_weight boxes }
+{}

@@ -1,0 +1,2 @@
+//! Worked pages.
+mod examples;

@@ -1,0 +1,10 @@
+pub mod SpanLemmas
+pub mod ProfileLemmas
+pub mod ItemLemmas
+pub mod FirstLemmas
+pub mod FaultLemmas
+pub mod IndexLemmas
+pub mod PickLemmas
+pub mod TableLemmas
+pub mod TypeLemmas
+pub mod OffsetLemmas

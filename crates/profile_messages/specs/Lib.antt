@@ -1,0 +1,13 @@
+pub mod Message
+pub mod Records
+pub mod Shapes
+pub mod Tables
+pub mod Choosing
+pub mod FileFaults
+pub mod SampleTypes
+pub mod Offsets
+pub mod SeenProfile
+pub mod SeenIndex
+pub mod SeenNumbers
+pub mod Faults
+pub mod checked

@@ -1,0 +1,4 @@
+pub mod EntryLemmas
+pub mod Naming
+pub mod Spans
+mod Texts

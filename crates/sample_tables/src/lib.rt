@@ -1,0 +1,14 @@
+//! A stack sample, and the table that keeps the samples of a source: each name once, stacks as the numbers of
+//! their names, and samples as the numbers of their stacks.
+#![tactic(auto)]
+
+mod entries;
+pub mod laws;
+mod samples;
+mod stacks;
+mod tables;
+mod values;
+
+pub use samples::{FRAME_LIMIT, Sample, WEIGHT_LIMIT};
+pub use tables::RowTable;
+pub use values::{Listed, Names, Text};

@@ -1,0 +1,41 @@
+use super::*;
+use std::test::Fail;
+
+// The example of README.md.
+#[test]
+fn example_of_the_page(rt: HostRuntime) -> Result<(), Fail> {
+    let alloc = rt.alloc();
+    let mut table = RowTable::new(alloc);
+    table.add_name(Text::from_str(alloc, "main")?)?;
+    table.add_name(Text::from_str(alloc, "parse")?)?;
+    table.take_row([0, 1].as_slice(), 5)?;
+    table.take_again(0, 2)?;
+    assert_eq!(rt; table.len(), 2);
+    assert_eq!(rt; table.frames(1), [0, 1].as_slice());
+    assert_eq!(rt; table.total(), 7);
+    Ok(())
+}
+
+#[test]
+fn samples_with_names_of_their_own(rt: HostRuntime) -> Result<(), Fail> {
+    let alloc = rt.alloc();
+    let mut table = RowTable::new(alloc);
+    table.take(Names::from_strs(alloc, &["a", "b"])?, 3)?;
+    assert_eq!(rt; table.name_count(), 2);
+    assert_eq!(rt; table.name(1), "b");
+    assert_eq!(rt; table.stack(0), [0, 1].as_slice());
+    assert_eq!(rt; table.weight(0), 3);
+    Ok(())
+}
+
+#[test]
+fn kept_stacks_have_no_sample(rt: HostRuntime) -> Result<(), Fail> {
+    let alloc = rt.alloc();
+    let mut table = RowTable::new(alloc);
+    table.keep([].as_slice())?;
+    table.take_row([].as_slice(), 1)?;
+    table.recall_rows();
+    assert_eq!(rt; table.stack_count(), 2);
+    assert_eq!(rt; table.stack_number(0), 1);
+    Ok(())
+}

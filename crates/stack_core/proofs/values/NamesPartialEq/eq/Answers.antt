@@ -1,8 +1,0 @@
-use Rattle.std.proofs.Common.{string_bytes, nat_eq, ◌∙◌}
-use Rattle.std.specs.Cmp.Lexicographic.{pointwise}
-use Rattle.stack_core.proofs.Texts.{pointwise-map}
-use Rattle.stack_core.proofs.values.NamesPartialEq.eq.Goals as goal
-
-pub returns : goal.returns
-returns c =
-    rw (← c.self.view_is, ← c.other.view_is) (c.eq.ensures ∙ pointwise-map string_bytes (pointwise nat_eq) c.self.inside.plain.items c.other.inside.plain.items)

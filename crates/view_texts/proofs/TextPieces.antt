@@ -1,0 +1,96 @@
+-- The pieces of the texts one after another, and each by itself.
+use Rattle.std.proofs.Common.{◌≡◌, ℕ, zero, suc, ◌+◌, ◌-◌, ◌<◌, ◌≤◌, ◌||◌, List, [], ◌∷◌, ◌++◌, Bool, true, false, ltb, length, get_or, cond, map, filter, refl, sym, ap, ◌∙◌, arith, append_assoc, append-nil}
+use Rattle.std.proofs.lemmas.List.{get_or-map, length-map, get_or_append_left, get_or-append_right, length-append}
+use Rattle.std.proofs.lemmas.List.Folds.{concat-append}
+use Rattle.std.proofs.lemmas.Bool.{lt-ltb}
+use Rattle.std.specs.List.{concat}
+use Rattle.sample_tables.specs.declared.samples.Sample.{Sample}
+use Rattle.sample_tables.specs.Rows.{sample_at}
+use Rattle.serde_json.specs.Data.{Data}
+use Rattle.serde_json.specs.Written.{comma_if, compact_text}
+use Rattle.folded_lines.specs.Writing.{line_of, pair_line_of}
+use Rattle.merged_stacks.specs.Merged.{weighed}
+use Rattle.flame_layout.specs.declared.boxes.PairRow.{PairRow}
+use Rattle.view_texts.specs.Fold.{lines_of}
+use Rattle.view_texts.specs.Pairs.{has_own, pairs_of, pair_lines_of}
+use Rattle.view_texts.specs.Pieces.{stack_lines, row_line, row_lines, value_pieces, line_pieces}
+use Rattle.view_texts.proofs.JsonLists.{values_text}
+
+-- ---- merged stacks
+
+pub stack_lines-text : (stacks : List Sample) → concat (stack_lines stacks) ≡ lines_of (weighed stacks)
+stack_lines-text [] = refl
+stack_lines-text (s ∷ stacks) = ap (λ text. line_of s.stack s.weight ++ text) (stack_lines-text stacks)
+
+abbrev pub line_at : Sample → List ℕ
+line_at sample = line_of sample.stack sample.weight
+
+pub stack_line-at : (stacks : List Sample) (at : ℕ) → at < length stacks → get_or (stack_lines stacks) at [] ≡ line_of (sample_at stacks at).stack (sample_at stacks at).weight
+stack_line-at stacks at within = get_or-map line_at stacks at (record { stack = []; weight = 0 }) [] within
+
+-- ---- rows of a comparison
+
+pub row_lines-text : (rows : List PairRow) → concat (row_lines rows) ≡ pair_lines_of (pairs_of rows)
+row_lines-text [] = refl
+row_lines-text (row ∷ rows) = by (has_own row) (row_lines-text rows)
+  where
+    line : List ℕ
+    line = pair_line_of row.path row.own_before row.own_after
+
+    by : (own : Bool) → concat (row_lines rows) ≡ pair_lines_of (pairs_of rows)
+        → cond own line [] ++ concat (row_lines rows) ≡ pair_lines_of (cond own (row ∷ pairs_of rows) (pairs_of rows))
+    by true rest = ap (λ text. line ++ text) rest
+    by false rest = rest
+
+pub row_line-at : (rows : List PairRow) (at : ℕ) (row : PairRow) → at < length rows → row ≡ get_or rows at row → get_or (row_lines rows) at [] ≡ row_line row
+row_line-at rows at row within is = get_or-map row_line rows at row [] within ∙ ap row_line (sym is)
+
+-- ---- a line of JSON
+
+length-value_pieces : (later : Bool) (values : List Data) → length (value_pieces later values) ≡ length values
+length-value_pieces later [] = refl
+length-value_pieces later (value ∷ values) = ap suc (length-value_pieces true values)
+
+value_pieces-text : (later : Bool) (values : List Data) → concat (value_pieces later values) ≡ values_text later values
+value_pieces-text later [] = refl
+value_pieces-text later (value ∷ values) =
+    append_assoc (comma_if later) (compact_text value) (concat (value_pieces true values)) ∙ ap (λ text. comma_if later ++ (compact_text value ++ text)) (value_pieces-text true values)
+
+later_piece : (values : List Data) (at : ℕ) (d : Data) → at < length values → get_or (value_pieces true values) at [] ≡ comma_if true ++ compact_text (get_or values at d)
+later_piece [] at d within = absurd (omega arith)
+later_piece (value ∷ values) zero d within = refl
+later_piece (value ∷ values) (suc at) d within = later_piece values at d (omega arith)
+
+value_piece : (values : List Data) (at : ℕ) (d : Data) → at < length values → get_or (value_pieces false values) at [] ≡ comma_if (ltb 0 at) ++ compact_text (get_or values at d)
+value_piece [] at d within = absurd (omega arith)
+value_piece (value ∷ values) zero d within = refl
+value_piece (value ∷ values) (suc at) d within = later_piece values at d (omega arith) ∙ ap (λ later. comma_if later ++ compact_text (get_or values at d)) (sym (lt-ltb 0 (suc at) (omega arith)))
+
+pub line_pieces-text : (head tail : List ℕ) (values : List Data) → concat (line_pieces head values tail) ≡ head ++ (values_text false values ++ tail)
+line_pieces-text head tail values =
+    ap (λ text. head ++ text) (concat-append (value_pieces false values) (tail ∷ []) ∙ ((λ i. value_pieces-text false values i ++ append-nil tail i)))
+
+pub length-line_pieces : (head tail : List ℕ) (values : List Data) → length (line_pieces head values tail) ≡ length values + 2
+length-line_pieces head tail values = omega (arith, length-append (value_pieces false values) (tail ∷ []), length-value_pieces false values)
+
+-- the piece of a box
+pub box_piece : {B : Type 0} (object : B → Data) (boxes : List B) (head tail : List ℕ) (at place : ℕ) (item : B) → at ≡ place + 1 → place < length boxes
+    → get_or (line_pieces head (map object boxes) tail) at [] ≡ comma_if (ltb 0 place) ++ compact_text (object (get_or boxes place item))
+box_piece object boxes head tail at place item e within =
+    let values = map object boxes in
+    ap (λ n. get_or (line_pieces head values tail) n []) (e ∙ suc_is place) ∙ get_or_append_left (value_pieces false values) (tail ∷ []) [] place (omega (arith, length-value_pieces false values, length-map boxes object))
+    ∙ value_piece values place (object item) (omega (arith, length-map boxes object))
+    ∙ ap (λ value. comma_if (ltb 0 place) ++ compact_text value) (get_or-map object boxes place item (object item) within)
+  where
+    suc_is : (n : ℕ) → n + 1 ≡ suc n
+    suc_is n = omega arith
+
+-- the last piece
+pub tail_piece : (values : List Data) (head tail : List ℕ) (at : ℕ) → at ≡ length values + 1 → get_or (line_pieces head values tail) at [] ≡ tail
+tail_piece values head tail zero is = absurd (omega arith)
+tail_piece values head tail (suc k) is =
+    let count = length-value_pieces false values in
+    get_or-append_right (value_pieces false values) (tail ∷ []) k k [] (omega (arith, count)) (omega arith) ∙ ap (λ n. get_or (tail ∷ []) n []) (by k)
+  where
+    by : (n : ℕ) → n - n ≡ 0
+    by n = omega arith

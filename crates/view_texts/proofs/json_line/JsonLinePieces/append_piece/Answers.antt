@@ -1,0 +1,23 @@
+use Rattle.std.proofs.Common.{◌≡◌, ◌+◌, ◌-◌, ◌++◌, ◌∙◌, length, ap, map, sym, arith}
+use Rattle.std.proofs.lemmas.List.{length-map}
+use Rattle.std.proofs.lemmas.Result.{on_ok_weaker}
+use Rattle.view_texts.specs.Lines.{head_of, tail_of}
+use Rattle.view_texts.proofs.TextPieces.{box_piece, tail_piece, length-line_pieces}
+use Rattle.view_texts.proofs.json_line.JsonLinePieces.append_piece.Goals as goal
+
+pub returns-then-at-self-clause-ok : goal.returns-then-at-self-clause-ok
+returns-then-at-self-clause-ok g c =
+    let line = c.args.self.now in
+    let object = g.B.JsonBox.object_of line.scale.total line.scale.width in
+    let tail = tail_of line.kind line.counts.now line.view.now line.scale.total line.scale.width in
+    let piece = box_piece object line.boxes.now (head_of line.kind) tail c.args.at (c.args.at - 1) c.index-self-place.result (omega (arith, c.if-at-eq0.false)) (omega (arith, c.if-at-eq0.false, c.if-at-self.true)) in
+    on_ok_weaker c.append_item.result (λ e. e ∙ ap (λ text. c.args.out.now.items ++ text) (sym piece)) c.append_item.ensures.ok
+
+pub returns-else-at-self-clause-ok : goal.returns-else-at-self-clause-ok
+returns-else-at-self-clause-ok g c =
+    let line = c.args.self.now in
+    let object = g.B.JsonBox.object_of line.scale.total line.scale.width in
+    let tail = tail_of line.kind line.counts.now line.view.now line.scale.total line.scale.width in
+    let values = map object line.boxes.now in
+    let last : c.args.at ≡ length values + 1 = omega (arith, c.if-at-self.false, c.requires.there, length-line_pieces (head_of line.kind) tail values, length-map line.boxes.now object) in
+    on_ok_weaker c.append_tail.result (λ e. e ∙ ap (λ text. c.args.out.now.items ++ text) (sym (tail_piece values (head_of line.kind) tail c.args.at last))) c.append_tail.ensures.ok
