@@ -54,8 +54,8 @@ pub(crate) fn graph_line<'a>(
 // The lines of the snapshots. Each is a piece.
 #[derive(Clone, Copy)]
 pub(crate) struct SnapshotLines<'a> {
-    gathered: &'a Gathered,
-    width: Width,
+    pub(crate) gathered: &'a Gathered,
+    pub(crate) width: Width,
 }
 
 impl Pieces for SnapshotLines<'_> {

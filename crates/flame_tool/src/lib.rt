@@ -6,6 +6,7 @@ pub mod laws;
 
 // What is seen of the sources: boxes and texts.
 mod drawings;
+mod drawn_texts;
 mod graph_texts;
 mod view_set;
 mod view_text;

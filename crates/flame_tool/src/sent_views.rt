@@ -10,12 +10,12 @@ ghost use Rattle.flame_tool.specs.Texts.{chart_text, graph_line, graph_text, pai
 ghost use Rattle.flame_tool.specs.checked.Failures.{Sends};
 ghost use Rattle.stack_core.specs.Interleaving.{list_of};
 
-use crate::drawings::{draw_chart, draw_graph};
+use crate::drawings::{lend_chart, merge};
+use crate::drawn_texts::{drawn_chart, drawn_graph, drawn_graph_text};
 use crate::failures::Failure;
-use crate::graph_texts::{chart_line, graph_line, graph_text};
 use byte_io::{Outlet, Pieces, send_pieces};
 use command_line::View;
-use flame_layout::{MergedStacks, Width, compare, compared_boxes};
+use flame_layout::{MergedStacks, Width, compare, compared_boxes, draw_merged};
 use merging::{Gathered, SourceLists};
 use stack_core::SourceList;
 use std::alloc::Global;
@@ -54,8 +54,9 @@ pub(crate) fn send_snapshots<W: Outlet>(
     ensures { Sends (graph_text width (samples_of gathered.now.lists) gathered.now.order
         gathered.now.every) (W.contents out.old) (W.contents out.new) result }
 {
-    let boxes = draw_graph(alloc, gathered.sources())?;
-    send_text(alloc, &graph_text(gathered, &boxes, width), out)
+    let merged = merge(alloc, gathered.sources())?;
+    let boxes = draw_merged(alloc, &merged)?;
+    send_text(alloc, &drawn_graph_text(gathered, &boxes, width), out)
 }
 
 // Sends the fold text of all samples.
@@ -77,8 +78,9 @@ fn send_graph<W: Outlet>(
     ensures { Sends (graph_line width (all_samples (samples_of sources.now.lists)))
         (W.contents out.old) (W.contents out.new) result }
 {
-    let boxes = draw_graph(alloc, sources)?;
-    send_text(alloc, &graph_line(sources, &boxes, width), out)
+    let merged = merge(alloc, sources)?;
+    let boxes = draw_merged(alloc, &merged)?;
+    send_text(alloc, &drawn_graph(sources, &boxes, width), out)
 }
 
 // Sends the line of the chart.
@@ -91,8 +93,8 @@ fn send_chart<W: Outlet>(
     ensures { Sends (chart_text width (samples_of sources.now.lists))
         (W.contents out.old) (W.contents out.new) result }
 {
-    let boxes = draw_chart(alloc, sources)?;
-    send_text(alloc, &chart_line(sources, &boxes, width), out)
+    let boxes = lend_chart(alloc, sources)?;
+    send_text(alloc, &drawn_chart(sources, &boxes, width), out)
 }
 
 // Sends the two-column text of the first two sources.

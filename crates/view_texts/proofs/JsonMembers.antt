@@ -39,16 +39,16 @@ box_pieces text b =
     ∙ ap (λ t. text ++ t) (sym (box_members-text b))
 
 -- the same, where each call appends one
-pub box_written : (b : PlacedBox) (depth left right : ℕ) (name : List ℕ) (o o1 o2 o3 o4 o5 o6 o7 o8 : List ℕ)
-    → depth ≡ b.depth → left ≡ b.left → right ≡ b.right → name ≡ b.name
+pub box_written : (b : PlacedBox) (depth left right own start weight : ℕ) (name : List ℕ) (o o1 o2 o3 o4 o5 o6 o7 o8 : List ℕ)
+    → depth ≡ b.depth → left ≡ b.left → right ≡ b.right → name ≡ b.name → own ≡ b.own → start ≡ b.start → weight ≡ b.weight
     → o1 ≡ o ++ (codes "\"depth\":" ++ decimal depth)
     → o2 ≡ o1 ++ (codes ",\"left\":" ++ decimal left)
     → o3 ≡ o2 ++ (codes ",\"name\":" ++ compact_text (string name))
-    → o4 ≡ o3 ++ (codes ",\"own\":" ++ decimal b.own)
+    → o4 ≡ o3 ++ (codes ",\"own\":" ++ decimal own)
     → o5 ≡ o4 ++ (codes ",\"right\":" ++ decimal right)
-    → o6 ≡ o5 ++ (codes ",\"start\":" ++ decimal b.start)
-    → o7 ≡ o6 ++ (codes ",\"weight\":" ++ decimal b.weight)
+    → o6 ≡ o5 ++ (codes ",\"start\":" ++ decimal start)
+    → o7 ≡ o6 ++ (codes ",\"weight\":" ++ decimal weight)
     → o8 ≡ o7 ++ 125 ∷ []
     → o8 ≡ o ++ members_text false (box_members b)
-box_written b depth left right name o o1 o2 o3 o4 o5 o6 o7 o8 d l r n e1 e2 e3 e4 e5 e6 e7 e8 =
+box_written b depth left right own start weight name o o1 o2 o3 o4 o5 o6 o7 o8 d l r n w s g e1 e2 e3 e4 e5 e6 e7 e8 =
     let pieces = box_pieces o b in cc

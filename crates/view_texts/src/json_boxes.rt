@@ -4,12 +4,13 @@ ghost use Rattle.std.specs.Prelude.{◌≡◌, ℕ, ◌+◌, ◌<◌, ◌≤◌,
 ghost use Rattle.std.specs.Io.{StartsWith};
 ghost use Rattle.serde_json.specs.Data.{Data};
 ghost use Rattle.serde_json.specs.Written.{compact_text, members_text};
+ghost use Rattle.flame_layout.specs.Boxes.{span_of};
 ghost use Rattle.flame_layout.specs.Edges.{placed_at};
 ghost use Rattle.view_texts.specs.Json.{box_data, box_members, compared_box_data};
 
 use crate::json_pieces::{append_number, append_text};
 use crate::scales::Scale;
-use flame_layout::{ComparedBox, SpanBox, edges};
+use flame_layout::{ComparedBox, DrawnBox, FlameBox, SpanBox, edges};
 use std::alloc::{AllocError, Global};
 
 /// A box of a line of JSON, which is an object there.
@@ -40,6 +41,17 @@ impl JsonBox for SpanBox {
     }
 }
 
+impl<'a> JsonBox for DrawnBox<'a> {
+    ghost object_of = { λ total width drawn. box_data total width (span_of drawn) };
+
+    ghost end = { λ drawn. drawn.start + drawn.weight };
+
+    fn append(&self, alloc: Global, text: &mut Vec<u8>, scale: &Scale) -> Result<(), AllocError> {
+        text.push(b'{')?;
+        append_members(alloc, text, self, scale)
+    }
+}
+
 impl JsonBox for ComparedBox {
     ghost object_of = { compared_box_data };
 
@@ -53,26 +65,26 @@ impl JsonBox for ComparedBox {
 }
 
 // Appends the members of a box, and the bracket after them.
-fn append_members(
+fn append_members<B: FlameBox>(
     alloc: Global,
     text: &mut Vec<u8>,
-    span: &SpanBox,
+    span: &B,
     scale: &Scale,
 ) -> Result<(), AllocError>
-    requires within { span.now.start + span.now.weight ≤ scale.now.total }
+    requires within { (B.span span.now).start + (B.span span.now).weight ≤ scale.now.total }
     requires positive { 0 < scale.now.total }
-    ensures ok { OnOk result (text.new.items ≡ text.old.items
-        ++ members_text false (box_members (placed_at scale.now.total scale.now.width span.now))) }
+    ensures ok { OnOk result (text.new.items ≡ text.old.items ++ members_text false
+        (box_members (placed_at scale.now.total scale.now.width (B.span span.now)))) }
     ensures front { StartsWith text.new.items text.old.items }
 {
     let (left, right) = edges(span, scale.total, scale.width);
-    append_number(text, b"\"depth\":", u64::from(span.depth))?;
+    append_number(text, b"\"depth\":", u64::from(span.depth()))?;
     append_number(text, b",\"left\":", u64::from(left))?;
-    append_text(alloc, text, b",\"name\":", span.name.get())?;
-    append_number(text, b",\"own\":", span.own)?;
+    append_text(alloc, text, b",\"name\":", span.name())?;
+    append_number(text, b",\"own\":", span.own())?;
     append_number(text, b",\"right\":", u64::from(right))?;
-    append_number(text, b",\"start\":", span.start)?;
-    append_number(text, b",\"weight\":", span.weight)?;
+    append_number(text, b",\"start\":", span.start())?;
+    append_number(text, b",\"weight\":", span.weight())?;
     text.push(b'}')?;
     Ok(())
 }

@@ -1,15 +1,16 @@
 //! The JSON lines of the views. A line is written a box at a time, since one value for the whole line
 //! would take many times the memory of its text.
 
-ghost use Rattle.std.specs.Prelude.{◌≡◌, ◌+◌, ◌<◌, ◌≤◌, ◌^◌, ◌++◌, All, length, OnOk, OnErr};
+ghost use Rattle.std.specs.Prelude.{◌≡◌, ◌+◌, ◌<◌, ◌≤◌, ◌^◌, ◌++◌, All, length, map, OnOk, OnErr};
 ghost use Rattle.std.specs.List.{concat};
+ghost use Rattle.flame_layout.specs.Boxes.{span_of};
 ghost use Rattle.view_texts.specs.Json.{boxes_line, snapshot_line, pair_boxes_line};
 
 use crate::json_line::JsonLine;
 use crate::line_kinds::LineKind;
 use crate::scales::Scale;
 use byte_io::{Pieces, append_pieces};
-use flame_layout::{ComparedBox, SpanBox};
+use flame_layout::{ComparedBox, DrawnBox, SpanBox};
 use std::alloc::{AllocError, Global};
 
 /// The line of a picture, as `append_boxes_line` appends it.
@@ -24,6 +25,25 @@ pub fn picture_line<'a>(view: &'a str, boxes: &'a [SpanBox], scale: Scale) -> Js
 {
     let _count = boxes.len();
     JsonLine::of(LineKind::Picture, view, &[], boxes, scale)
+}
+
+/// The line of `picture_line`, of boxes whose names are lent.
+pub fn drawn_line<'a>(
+    view: &'a str,
+    boxes: &'a [DrawnBox<'a>],
+    scale: Scale,
+) -> JsonLine<'a, DrawnBox<'a>>
+    requires within { All (λ drawn. drawn.start + drawn.weight ≤ scale.total) boxes.now }
+    requires positive { 0 < length boxes.now → 0 < scale.total }
+    ensures text { concat (⟦<JsonLine<'a, DrawnBox<'a>> as Pieces>⟧.pieces result)
+        ≡ boxes_line view.now scale.total scale.width (map span_of boxes.now) }
+    ensures count { length (⟦<JsonLine<'a, DrawnBox<'a>> as Pieces>⟧.pieces result)
+        ≡ length boxes.now + 2 }
+    ensures few { length (⟦<JsonLine<'a, DrawnBox<'a>> as Pieces>⟧.pieces result) < 2 ^ 64 }
+{
+    let _count = boxes.len();
+    let kind = LineKind::Picture;
+    JsonLine::of(kind, view, &[], boxes, scale)
 }
 
 /// The line of a comparison, as `append_pair_boxes_line` appends it.

@@ -2,9 +2,12 @@
 
 ghost use Rattle.std.specs.Prelude.{◌≡◌, ◌+◌, ◌≤◌, All, IfOk, IsTrue};
 
-use crate::json_lines::{append_boxes_line, append_pair_boxes_line, append_snapshot_line};
+use crate::json_lines::{
+    append_boxes_line, append_pair_boxes_line, append_snapshot_line, drawn_line,
+};
 use crate::scales::Scale;
-use flame_layout::{ComparedBox, SpanBox, Width};
+use byte_io::append_pieces;
+use flame_layout::{ComparedBox, DrawnBox, SpanBox, Width};
 use stack_core::Text;
 use std::alloc::{AllocError, Global};
 use std::process::Abort;
@@ -28,17 +31,28 @@ fn boxes_of(alloc: Global, rows: &[Row<'_>]) -> Result<Vec<SpanBox>, AllocError>
 }
 
 // Whether a box ends within the total.
-fn is_within(span: &SpanBox, total: u64) -> bool
-    ensures { IsTrue result → span.now.start + span.now.weight ≤ total }
+fn is_within(start: u64, weight: u64, total: u64) -> bool
+    ensures { IsTrue result → start + weight ≤ total }
 {
-    span.start <= total && span.weight <= total - span.start
+    start <= total && weight <= total - start
 }
 
 // Whether each does.
 fn are_within(boxes: &[SpanBox], total: u64) -> bool
     ensures { IsTrue result → All (λ span. span.start + span.weight ≤ total) boxes.now }
 {
-    boxes.iter().all(|span| is_within(span, total))
+    boxes
+        .iter()
+        .all(|span| is_within(span.start, span.weight, total))
+}
+
+// The same of boxes whose names are lent.
+fn are_drawn_within(boxes: &[DrawnBox<'_>], total: u64) -> bool
+    ensures { IsTrue result → All (λ drawn. drawn.start + drawn.weight ≤ total) boxes.now }
+{
+    boxes
+        .iter()
+        .all(|drawn| is_within(drawn.start, drawn.weight, total))
 }
 
 // The same of the boxes of a comparison.
@@ -46,9 +60,7 @@ fn are_pairs_within(boxes: &[ComparedBox], total: u64) -> bool
     ensures { IsTrue result
         → All (λ compared. compared.span.start + compared.span.weight ≤ total) boxes.now }
 {
-    boxes
-        .iter()
-        .all(|compared| is_within(&compared.span, total))
+    boxes.iter().all(|compared| is_within(compared.span.start, compared.span.weight, total))
 }
 
 fn scale_of(total: u64, width: u32) -> Result<Scale, Fail>
@@ -137,6 +149,30 @@ fn graph_of_three_lines(rt: HostRuntime) -> Result<(), Fail> {
         "\n",
     );
     assert_eq!(rt; out.as_slice(), lines.as_bytes());
+    Ok(())
+}
+
+#[test]
+fn line_of_lent_names(rt: HostRuntime) -> Result<(), Fail> {
+    let alloc = rt.alloc();
+    let all = DrawnBox {
+        depth: 0,
+        name: "all",
+        start: 0,
+        weight: 3,
+        own: 3,
+    };
+    let boxes = [all];
+    assert!(rt; are_drawn_within(&boxes, 3));
+    let mut out = Vec::new(alloc);
+    let line = drawn_line("chart", &boxes, scale_of(3, 10)?);
+    append_pieces(alloc, &line, &mut out)?;
+    let text = concat!(
+        r#"{"boxes":[{"depth":0,"left":0,"name":"all","own":3,"right":10,"start":0,"weight":3}],"#,
+        r#""total":3,"view":"chart","width":10}"#,
+        "\n"
+    );
+    assert_eq!(rt; out.as_slice(), text.as_bytes());
     Ok(())
 }
 

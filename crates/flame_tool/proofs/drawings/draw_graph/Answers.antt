@@ -1,18 +1,13 @@
-use Rattle.std.proofs.Common.{◌≡◌, ◌∙◌, ap, subst, sym, List}
+use Rattle.std.proofs.Common.{◌≡◌}
 use Rattle.std.proofs.lemmas.Result.{IfOk-weaker}
-use Rattle.stack_core.specs.Ledgers.{ListState}
-use Rattle.sample_tables.specs.declared.samples.Sample.{Sample}
 use Rattle.flame_layout.specs.Graph.{graph_of}
-use Rattle.merged_stacks.specs.Merged.{all_samples, merged_samples}
-use Rattle.flame_layout.specs.Paths.{SameOwn}
+use Rattle.merged_stacks.specs.Merged.{all_samples}
 use Rattle.merged_stacks.specs.Timeline.{samples_of}
-use Rattle.flame_layout.proofs.MergedSums.{merged_own}
 use Rattle.flame_tool.proofs.drawings.draw_graph.Goals as goal
 
 pub returns : goal.returns
 returns c =
     let samples = all_samples (samples_of c.args.sources.now.lists) in
-    let merged = c.in_ok-merged.ensures ∙ ap (λ (lists : List ListState). merged_samples (all_samples (samples_of lists))) c.lists.ensures.lists in
     IfOk-weaker c.merged_boxes.result _ (λ boxes. boxes.items ≡ graph_of samples)
-    (λ boxes drawn. drawn samples (subst (λ (m : List Sample). SameOwn samples m) (sym merged) (merged_own samples)))
+    (λ boxes drawn. drawn samples c.in_ok-merged.ensures)
     c.merged_boxes.ensures.graph

@@ -1,6 +1,14 @@
-use Rattle.std.proofs.Common.{subst, ℕ, List}
+use Rattle.std.proofs.Common.{subst, ap, map, ℕ, List, ◌∙◌}
+use Rattle.flame_layout.specs.Boxes.{span_of}
+use Rattle.merged_stacks.specs.Timeline.{samples_of}
+use Rattle.merging.specs.Sums.{all_samples}
 use Rattle.flame_tool.specs.checked.Failures.{Sends}
 use Rattle.flame_tool.proofs.sent_views.send_graph.Goals as goal
 
 pub returns : goal.returns
-returns g c = subst (λ (text : List ℕ). Sends text (g.W.Outlet.contents c.args.out.now) (g.W.Outlet.contents c.send_text.new.out) c.send_text.result) c.graph_line.ensures.text c.send_text.ensures
+returns g c = subst (λ (text : List ℕ). Sends text (g.W.Outlet.contents c.args.out.now) (g.W.Outlet.contents c.send_text.new.out) c.send_text.result) c.drawn_graph.ensures.text c.send_text.ensures
+
+pub drawn_graph-requires : goal.drawn_graph-requires
+drawn_graph-requires g c = record {
+  boxes = ap (map span_of) c.deref.ensures.value ∙ c.in_ok-boxes.ensures.graph (all_samples (samples_of c.args.sources.now.lists)) c.in_ok-merged.ensures;
+}

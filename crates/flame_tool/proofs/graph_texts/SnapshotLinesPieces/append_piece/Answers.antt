@@ -2,7 +2,6 @@ use Rattle.std.proofs.Common.{◌++◌, ◌∙◌, ap, sym, arith}
 use Rattle.std.proofs.lemmas.Result.{on_ok_weaker}
 use Rattle.std.proofs.lemmas.List.{length-map}
 use Rattle.merged_stacks.specs.Timeline.{samples_of}
-use Rattle.merging.specs.declared.snapshots.Snapshot.{Snapshot}
 use Rattle.flame_tool.specs.Texts.{places_of, snapshot_line_at}
 use Rattle.flame_tool.proofs.TextLemmas.{snapshot_piece-at}
 use Rattle.flame_tool.proofs.graph_texts.SnapshotLinesPieces.append_piece.Goals as goal

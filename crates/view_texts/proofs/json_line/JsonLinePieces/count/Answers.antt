@@ -1,7 +1,6 @@
-use Rattle.std.proofs.Common.{◌≡◌, ◌+◌, ◌∙◌, length, ap, map, sym, arith}
+use Rattle.std.proofs.Common.{◌+◌, ◌∙◌, ap, map, sym, arith}
 use Rattle.std.proofs.lemmas.List.{length-map}
 use Rattle.view_texts.specs.Lines.{head_of, tail_of}
-use Rattle.view_texts.specs.Pieces.{line_pieces}
 use Rattle.view_texts.proofs.TextPieces.{length-line_pieces}
 use Rattle.view_texts.proofs.json_line.JsonLinePieces.count.Goals as goal
 

@@ -1,0 +1,17 @@
+use Rattle.std.proofs.Common.{◌∙◌, [], map, ap, sym, List}
+use Rattle.std.proofs.lemmas.Simd.{map-map}
+use Rattle.serde_json.specs.Data.{Data}
+use Rattle.flame_layout.specs.Boxes.{span_of}
+use Rattle.view_texts.specs.Json.{box_data}
+use Rattle.view_texts.specs.Lines.{line_text}
+use Rattle.view_texts.specs.declared.line_kinds.LineKind.TheVariants.{Picture}
+use Rattle.view_texts.proofs.JsonFrames.{picture_is}
+use Rattle.view_texts.proofs.json_lines.drawn_line.Goals as goal
+
+pub returns-clause-text : goal.returns-clause-text
+returns-clause-text c =
+    let total = c.args.scale.total in
+    let width = c.args.scale.width in
+    c.of.ensures.text
+    ∙ ap (λ (objects : List Data). line_text Picture [] c.args.view.now total width objects) (sym (map-map (box_data total width) span_of c.args.boxes.now))
+    ∙ picture_is [] c.args.view.now total width (map span_of c.args.boxes.now)
