@@ -3,19 +3,22 @@ _flamecollect() {
     local word=${COMP_WORDS[COMP_CWORD]} before=${COMP_WORDS[COMP_CWORD-1]} options
     COMPREPLY=()
     case $before in
+        --by) COMPREPLY=($(compgen -W 'own total' -- "$word")); return ;;
         --format) COMPREPLY=($(compgen -W 'folded pprof' -- "$word")); return ;;
-        --every|--focus|--hide|--ring|--type|--width) return ;;
+        --every|--focus|--hide|--least|--number|--ring|--title|--type|--width|-n) return ;;
     esac
     if [ "$COMP_CWORD" = 1 ]; then
-        COMPREPLY=($(compgen -W 'fold graph chart compare help -h --help -V --version' -- "$word"))
+        COMPREPLY=($(compgen -W 'fold graph chart compare top types help -h --help -V --version' -- "$word"))
         return
     fi
     case ${COMP_WORDS[1]} in
-        fold) options='--type --format --lines -h --help --focus --hide --ring' ;;
-        graph) options='--width --type --format --every --lines -h --help --focus --hide --ring' ;;
-        chart) options='--width --type --format --lines -h --help --focus --hide --ring' ;;
-        compare) options='--width --type --format --boxes --lines -h --help --focus --hide --ring' ;;
-        help) COMPREPLY=($(compgen -W 'fold graph chart compare' -- "$word")); return ;;
+        fold) options='--type --format --lines --quiet -h --help --focus --hide --ring' ;;
+        graph) options='--width --type --format --every --lines --quiet -h --help --focus --hide --ring --page --title --least' ;;
+        chart) options='--width --type --format --lines --quiet -h --help --focus --hide --ring --page --title --least' ;;
+        compare) options='--width --type --format --boxes --lines --quiet -h --help --focus --hide --ring --page --title --least' ;;
+        top) options='-n --number --by --json --type --format --lines --quiet -h --help --focus --hide --ring' ;;
+        types) options='-h --help' ;;
+        help) COMPREPLY=($(compgen -W 'fold graph chart compare top types' -- "$word")); return ;;
         *) return ;;
     esac
     case $word in

@@ -28,4 +28,7 @@ pub trait Files {
 
     /// Whether the input is a terminal, where someone has to type it.
     fn is_input_terminal(&self) -> bool;
+
+    /// Whether standard error is a terminal, where a line can be written over.
+    fn is_error_terminal(&self) -> bool;
 }

@@ -16,12 +16,24 @@ pub const SOURCE_LIMIT: usize = 1 << 30;
 #[derive(Drop)]
 pub struct MachineFiles<'a, T> {
     rt: &'a T,
+    is_error_terminal: bool,
 }
 
 impl<'a, T: rt::Files + Input> MachineFiles<'a, T> {
-    /// What the runtime reaches.
+    /// What the runtime reaches. Standard error is taken for no terminal.
     pub fn new(rt: &'a T) -> MachineFiles<'a, T> {
-        MachineFiles { rt }
+        MachineFiles {
+            rt,
+            is_error_terminal: false,
+        }
+    }
+
+    /// What the runtime reaches, beside this standard error.
+    pub fn beside<E: IsTerminal>(rt: &'a T, error: &E) -> MachineFiles<'a, T> {
+        MachineFiles {
+            rt,
+            is_error_terminal: error.is_terminal(),
+        }
     }
 }
 
@@ -60,5 +72,9 @@ where
 
     fn is_input_terminal(&self) -> bool {
         self.rt.reader().is_terminal()
+    }
+
+    fn is_error_terminal(&self) -> bool {
+        self.is_error_terminal
     }
 }

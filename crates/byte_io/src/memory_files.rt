@@ -95,6 +95,12 @@ impl Files for MemoryFiles {
     {
         false
     }
+
+    fn is_error_terminal(&self) -> bool
+        ensures never { result ≡ false }
+    {
+        false
+    }
 }
 
 // The first file of a path.

@@ -1,9 +1,11 @@
 //! Worked examples, and what a refused growth leaves.
 ghost use Rattle.std.specs.Prelude.{◌≡◌, IfOk, OnOk, OnErr};
 ghost use Rattle.call_tree.specs.CallTree.{with_weight};
-ghost use Rattle.call_tree.specs.Listing.{AreIn, HasNumbersOf};
 
-use crate::{CallTree, FrameTable, Visit};
+mod listings;
+mod page;
+
+use crate::{CallTree, FrameTable};
 use std::alloc::{AllocError, Global};
 use std::process::Abort;
 use std::test::Fail;
@@ -41,7 +43,7 @@ fn intern_again(
     assert_eq!(rt; table.len(), len);
     for number in 0..table.len() {
         let known = table.name(number);
-        assert_eq!(rt; NAMES.get(number), Some(&known));
+        assert!(rt; NAMES.get(number) == Some(&known));
     }
     table.intern(name)
 }
@@ -109,7 +111,8 @@ fn numbers_are(
     len: usize,
 ) -> Result<(), Fail> {
     for (name, number) in names {
-        assert_eq!(rt; table.intern(name)?, *number);
+        let found = table.intern(name)?;
+        assert!(rt; found == *number);
     }
     assert_eq!(rt; table.len(), len);
     Ok(())
@@ -155,8 +158,8 @@ fn children_are(
     Ok(())
 }
 
-/// What the worked example says of its tree.
-fn is_worked_tree(rt: &impl Abort, tree: &CallTree) -> Result<(), Fail> {
+/// The weights of the worked example's tree.
+fn has_worked_weights(rt: &impl Abort, tree: &CallTree) {
     for (path, total) in [
         ([].as_slice(), 10),
         (&[0], 10),
@@ -168,6 +171,11 @@ fn is_worked_tree(rt: &impl Abort, tree: &CallTree) -> Result<(), Fail> {
     }
     assert_eq!(rt; tree.own(&[0]), 1);
     assert_eq!(rt; tree.len(), 4);
+}
+
+/// What the worked example says of its tree.
+fn is_worked_tree(rt: &impl Abort, tree: &CallTree) -> Result<(), Fail> {
+    has_worked_weights(rt, tree);
     children_are(rt, tree, &[], &[0])?;
     children_are(rt, tree, &[0], &[0, 1])?;
     children_are(rt, tree, &[1], &[])
@@ -184,10 +192,14 @@ fn grows_to_worked_tree(rt: &impl Abort, tree: &mut CallTree) -> Result<(), Fail
     copy_is_worked_tree(rt, tree)
 }
 
+fn numbers_two_names(rt: &impl Abort, alloc: Global) -> Result<(), Fail> {
+    let names = [("a", 0), ("b", 1), ("a", 0)];
+    numbers_are(rt, &mut FrameTable::new(alloc), &names, 2)
+}
+
 #[test]
 fn table_and_tree(rt: HostRuntime) -> Result<(), Fail> {
-    let names = [("a", 0), ("b", 1), ("a", 0)];
-    numbers_are(&rt, &mut FrameTable::new(rt.alloc()), &names, 2)?;
+    numbers_two_names(&rt, rt.alloc())?;
     let mut tree = CallTree::new(rt.alloc())?;
     grows_to_worked_tree(&rt, &mut tree)
 }
@@ -220,161 +232,6 @@ fn children(rt: HostRuntime) -> Result<(), Fail> {
     adds_children(&rt, &mut tree)
 }
 
-/// The numbers of a path are the table's.
-fn are_known(rt: &impl Abort, table: &FrameTable, ids: &[usize])
-    ensures { AreIn table.now ids.now }
-{
-    for id in ids {
-        assert!(rt; *id < table.len());
-    }
-}
-
-/// A table of names, numbered in their order.
-fn table_of(rt: &impl Abort, alloc: Global, names: &[&str]) -> Result<FrameTable, AllocError> {
-    let mut table = FrameTable::new(alloc);
-    intern_all(rt, &mut table, names)?;
-    Ok(table)
-}
-
-fn intern_all(rt: &impl Abort, table: &mut FrameTable, names: &[&str]) -> Result<(), AllocError> {
-    for (number, name) in names.iter().enumerate() {
-        assert_eq!(rt; table.intern(name)?, number);
-    }
-    Ok(())
-}
-
-/// Adds a weight at each path.
-fn add_known(
-    rt: &impl Abort,
-    table: &FrameTable,
-    tree: &mut CallTree,
-    weights: &[(&[usize], u64)],
-) -> Result<(), AllocError>
-    requires { HasNumbersOf table.now tree.old }
-    ensures { HasNumbersOf table.now tree.new }
-{
-    for (ids, weight) in weights {
-        are_known(rt, table, ids);
-        add(rt, tree, ids, *weight)?;
-    }
-    Ok(())
-}
-
-/// The listing of a tree that has a weight at each path.
-fn listed(
-    rt: &impl Abort,
-    alloc: Global,
-    table: &FrameTable,
-    weights: &[(&[usize], u64)],
-) -> Result<Vec<Visit>, AllocError> {
-    let mut tree = CallTree::new(alloc)?;
-    add_known(rt, table, &mut tree, weights)?;
-    tree.listing(table)
-}
-
-/// The visits of the listing by name.
-const BY_NAME: [Visit; 4] = [
-    Visit {
-        depth: 0,
-        frame: 0,
-        total: 3,
-        own: 0,
-    },
-    Visit {
-        depth: 1,
-        frame: 1,
-        total: 1,
-        own: 0,
-    },
-    Visit {
-        depth: 2,
-        frame: 0,
-        total: 1,
-        own: 1,
-    },
-    Visit {
-        depth: 1,
-        frame: 0,
-        total: 2,
-        own: 2,
-    },
-];
-
-fn lists_by_name(rt: &impl Abort, alloc: Global, table: &FrameTable) -> Result<(), Fail> {
-    let visits = listed(rt, alloc, table, &[(&[0], 2), (&[1, 0], 1)])?;
-    assert_eq!(rt; visits.as_slice(), BY_NAME.as_slice());
-    Ok(())
-}
-
-/// The numbers rise as the names fall, and a listing goes by the names.
-#[test]
-fn listing_by_name(rt: HostRuntime) -> Result<(), Fail> {
-    let table = table_of(&rt, rt.alloc(), &["b", "a"])?;
-    lists_by_name(&rt, rt.alloc(), &table)
-}
-
-/// Depths and frames of visits.
-fn visits_are(rt: &impl Abort, visits: &[Visit], expected: &[(usize, usize)]) {
-    assert_eq!(rt; visits.len(), expected.len());
-    for (visit, place) in visits.iter().zip(expected) {
-        assert_eq!(rt; (visit.depth, visit.frame), *place);
-    }
-}
-
-fn lists_levels(rt: &impl Abort, alloc: Global, table: &FrameTable) -> Result<(), Fail> {
-    let weights: [(&[usize], u64); 6] = [
-        (&[0, 1], 1),
-        (&[2], 1),
-        (&[0, 2, 1], 1),
-        (&[1], 1),
-        (&[0, 0], 1),
-        (&[2, 1], 1),
-    ];
-    let visits = listed(rt, alloc, table, &weights)?;
-    let expected = [
-        (0, 0),
-        (1, 1),
-        (1, 2),
-        (2, 1),
-        (1, 0),
-        (2, 1),
-        (2, 2),
-        (3, 1),
-        (2, 0),
-    ];
-    visits_are(rt, &visits, &expected);
-    Ok(())
-}
-
-/// Nodes on three levels, made in another order than that of their names.
-#[test]
-fn listing_of_levels(rt: HostRuntime) -> Result<(), Fail> {
-    let table = table_of(&rt, rt.alloc(), &["c", "a", "b"])?;
-    lists_levels(&rt, rt.alloc(), &table)
-}
-
-/// One visit at each depth, of weight 1.
-fn is_one_path(rt: &impl Abort, visits: &[Visit]) {
-    assert_eq!(rt; visits.len(), 4097);
-    for (depth, visit) in visits.iter().enumerate() {
-        assert_eq!(rt; (visit.depth, visit.total), (depth, 1));
-    }
-}
-
-fn lists_deep_path(rt: &impl Abort, alloc: Global, table: &FrameTable) -> Result<(), Fail> {
-    let path = vec![in alloc; 0; 4096]?;
-    let visits = listed(rt, alloc, table, &[(&path, 1)])?;
-    is_one_path(rt, &visits);
-    Ok(())
-}
-
-/// The deepest path that a stack can have.
-#[test]
-fn listing_of_a_deep_path(rt: HostRuntime) -> Result<(), Fail> {
-    let table = table_of(&rt, rt.alloc(), &["f"])?;
-    lists_deep_path(&rt, rt.alloc(), &table)
-}
-
 fn adds_recursion(rt: &impl Abort, tree: &mut CallTree) -> Result<(), Fail> {
     add(rt, tree, &[7, 7, 7], 3)?;
     for (path, own) in [([].as_slice(), 0), (&[7], 0), (&[7, 7], 0), (&[7, 7, 7], 3)] {
@@ -397,9 +254,14 @@ fn table_goes_on(
     refused: &mut bool,
 ) -> Result<(), AllocError> {
     for (number, name) in NAMES.iter().enumerate() {
-        assert_eq!(rt; intern_again(rt, table, name, refused)?, number);
+        let found = intern_again(rt, table, name, refused)?;
+        assert!(rt; found == number);
     }
     Ok(())
+}
+
+fn new_table_goes_on(rt: &impl Abort, alloc: Global, refused: &mut bool) -> Result<(), AllocError> {
+    table_goes_on(rt, &mut FrameTable::new(alloc), refused)
 }
 
 /// A tree and its copy have these weights.
@@ -431,31 +293,7 @@ fn tree_goes_on(rt: &impl Abort, tree: &mut CallTree, refused: &mut bool) -> Res
 #[test]
 fn each_growth_refused(rt: HostRuntime) -> Result<(), Fail> {
     let mut refused = false;
-    table_goes_on(&rt, &mut FrameTable::new(rt.alloc()), &mut refused)?;
+    new_table_goes_on(&rt, rt.alloc(), &mut refused)?;
     let mut tree = CallTree::new(rt.alloc())?;
     tree_goes_on(&rt, &mut tree, &mut refused)
-}
-
-fn grows_as_in_readme(
-    rt: &impl Abort,
-    table: &mut FrameTable,
-    tree: &mut CallTree,
-) -> Result<(), Fail> {
-    let main = table.intern("main")?;
-    let read = table.intern("read")?;
-    assert_eq!(rt; tree.total(&[]), 0);
-    tree.add(&[main, read], 3)?;
-    assert_eq!(rt; tree.total(&[]), 3);
-    tree.add(&[main], 1)?;
-    assert_eq!(rt; tree.total(&[main]), 4);
-    assert_eq!(rt; tree.own(&[main]), 1);
-    children_are(rt, tree, &[main], &[read])
-}
-
-/// The example of README.md.
-#[test]
-fn readme_example(rt: HostRuntime) -> Result<(), Fail> {
-    let mut tree = CallTree::new(rt.alloc())?;
-    let mut table = FrameTable::new(rt.alloc());
-    grows_as_in_readme(&rt, &mut table, &mut tree)
 }

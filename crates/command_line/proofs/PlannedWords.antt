@@ -1,29 +1,29 @@
 -- From what a parse ensures to what a plan does.
-use Rattle.std.proofs.Common.{◌≡◌, ◌∙◌, ◌≤◌, ◌⊎◌, inl, inr, ℕ, Bool, cond, true, false, refl, sym, ap, subst, List, [], ◌∷◌, length, Option, Some, None, is_some, option_map, codes}
+use Rattle.std.proofs.Common.{◌≡◌, ◌∙◌, ◌≤◌, inl, inr, ℕ, Bool, cond, true, false, true≢false, ne_eqb, arith, refl, sym, ap, subst, List, [], ◌∷◌, length, Option, Some, None, is_some, option_map, codes}
 use Rattle.std.specs.Prelude.{unwrap_or, IfSome, IsSomeAnd}
-use Rattle.std.specs.Option.{option_map_or}
 use Rattle.std.specs.Str.{bytes_eq}
 use Rattle.std.specs.Str.Parse.{IsNumeral, digits_value, without_leading_plus}
 use Rattle.std.proofs.lemmas.Slice.Eq.{bytes_eq-Decides}
 use Rattle.clap.specs.Faults.{fault_of as parsing_fault, is_simple_and_free}
-use Rattle.clap.specs.Kinds.{HasKind, IsAmong, Kinds, or_else}
+use Rattle.clap.specs.Kinds.{HasKind, Kinds, or_else}
 use Rattle.clap.specs.Simple.{App, HasMatchesOf, is_simple, subcommand_of, subcommand_rows_of}
 use Rattle.clap.specs.Takes.{takes as parses}
 use Rattle.clap.specs.Values.{kind_of}
-use Rattle.clap.specs.Walk.{Row, Text, one_of}
+use Rattle.clap.specs.Walk.{Row, Text, is_empty, one_of}
 use Rattle.clap.specs.declared.error.Error.{Error}
 use Rattle.clap.specs.declared.error.kind.ErrorKind.{ErrorKind}
 use Rattle.clap.specs.declared.error.kind.ErrorKind.TheVariants as kind
 use Rattle.clap.specs.declared.parser.matches.ArgMatches.{ArgMatches}
 use Rattle.command_line.specs.CommandLine.{command_line}
 use Rattle.command_line.specs.checked.Entries.{IsFaultOf, IsNumberAt, IsRead}
-use Rattle.command_line.specs.Plans.{IsComparison, IsFaultAmong, IsRequest, command_plan, compared_view, entered_plan, fault_of, format_fault, knows_format, number_at, plan_with, view_of, width_of}
-use Rattle.command_line.specs.declared.commands.TheConstants.{MOST_BETWEEN_SNAPSHOTS}
+use Rattle.command_line.specs.Plans.{IsComparison, IsDrawn, IsFaultAmong, IsOfOneProfile, IsPage, IsRequest, command_plan, compared_view, entered_plan, entries_fault, fault_of, form_of, has_its_page, is_set, knows_format, knows_order, number_at, own_fault, page_of, plan_with, table_of, types_plan, view_of, width_of}
+use Rattle.command_line.specs.declared.plans.Form.TheVariants as form
+use Rattle.command_line.specs.declared.arguments.TheConstants.{MOST_BETWEEN_SNAPSHOTS}
 use Rattle.command_line.specs.declared.plans.Plan.{Plan}
 use Rattle.command_line.specs.declared.plans.PlanFault.{PlanFault}
 use Rattle.command_line.specs.declared.plans.PlanFault.TheVariants as fault
 use Rattle.command_line.specs.declared.plans.View.{View}
-use Rattle.command_line.specs.declared.plans.View.TheVariants.{Fold, Graph, Chart}
+use Rattle.command_line.specs.declared.plans.View.TheVariants.{Fold, Graph, Chart, Top}
 use Rattle.command_line.proofs.ReadCommands.{enters, reads}
 
 -- ---- matches
@@ -49,20 +49,21 @@ entered_reads words none (Some p) is = reads words none p.0 p.1 (sym is)
 comparison_named : (name : Text) (entries : List Row) (view : View) → view_of name entries ≡ Some view → IsComparison view
     → name ≡ codes "compare"
 comparison_named name entries view is compares =
-    go (bytes_eq name (codes "fold")) (bytes_eq name (codes "graph")) (bytes_eq name (codes "chart")) (bytes_eq name (codes "compare")) refl is
+    go (bytes_eq name (codes "fold")) (bytes_eq name (codes "graph")) (bytes_eq name (codes "chart")) (bytes_eq name (codes "compare")) (bytes_eq name (codes "top")) refl is
   where
     same : (v : View) → Some v ≡ Some view → IsComparison v
     same v e = subst IsComparison (sym (ap (λ (o : Option View). unwrap_or o view) e)) compares
 
-    go : (fold graph chart compare : Bool) → bytes_eq name (codes "compare") ≡ compare
+    go : (fold graph chart compare top : Bool) → bytes_eq name (codes "compare") ≡ compare
         → cond fold (Some Fold) (cond graph (Some (Graph (width_of entries))) (cond chart (Some (Chart (width_of entries)))
-        (cond compare (Some (compared_view entries)) None))) ≡ Some view
+        (cond compare (Some (compared_view entries)) (cond top (Some (Top (table_of entries))) None)))) ≡ Some view
         → name ≡ codes "compare"
-    go true graph chart compare named e = absurd (same Fold e)
-    go false true chart compare named e = absurd (same (Graph (width_of entries)) e)
-    go false false true compare named e = absurd (same (Chart (width_of entries)) e)
-    go false false false true named e = (bytes_eq-Decides name (codes "compare")).0 named
-    go false false false false named e = cc
+    go true graph chart compare top named e = absurd (same Fold e)
+    go false true chart compare top named e = absurd (same (Graph (width_of entries)) e)
+    go false false true compare top named e = absurd (same (Chart (width_of entries)) e)
+    go false false false true top named e = (bytes_eq-Decides name (codes "compare")).0 named
+    go false false false false true named e = absurd (same (Top (table_of entries)) e)
+    go false false false false false named e = cc
 
 number_in_range : (id : Text) (most : ℕ) (entries : List Row) → IsNumberAt id most entries
     → IfSome (number_at id entries) (λ n. (1 ≤ n) × (n ≤ most))
@@ -73,30 +74,68 @@ number_in_range id most entries number = go (one_of id entries) number
     go None known = tt
     go (Some t) known = (known.1, known.2)
 
-planned_view : (name : Text) (entries : List Row) (plan : Plan) → command_plan name entries ≡ Some plan
-    → option_map (plan_with entries) (view_of name entries) ≡ Some plan
-planned_view name entries plan is = go (knows_format entries) is
-  where
-    go : (b : Bool) → cond b (option_map (plan_with entries) (view_of name entries)) None ≡ Some plan
-        → option_map (plan_with entries) (view_of name entries) ≡ Some plan
-    go true at = at
-    go false at = cc
+-- what a run asks of its plan
+pub record Asks (plan : Plan) : Type 0 where
+  pub pair : IsComparison plan.view → length plan.files ≡ 2
+  pub every : IfSome plan.options.every (λ every. (1 ≤ every) × (every ≤ MOST_BETWEEN_SNAPSHOTS))
+  pub page : IsPage plan.form → IsDrawn plan.view
+  pub types : plan.form ≡ form.Types → IsOfOneProfile plan
 
-command_asks : (name : Text) (entries : List Row) (plan : Plan) → IsRead name entries → command_plan name entries ≡ Some plan
-    → (IsComparison plan.view → length plan.files ≡ 2) × IfSome plan.options.every (λ every. (1 ≤ every) × (every ≤ MOST_BETWEEN_SNAPSHOTS))
-command_asks name entries plan read is = of_view (view_of name entries) refl (planned_view name entries plan is)
+page_is_drawn : (entries : List Row) (view : View) → (is_set (codes "page") entries ≡ true → IsDrawn view) → IsPage (form_of entries) → IsDrawn view
+page_is_drawn entries view drawn = go (is_set (codes "page") entries) refl
   where
-    of_view : (view : Option View) → view_of name entries ≡ view → option_map (plan_with entries) view ≡ Some plan
-        → (IsComparison plan.view → length plan.files ≡ 2) × IfSome plan.options.every (λ every. (1 ≤ every) × (every ≤ MOST_BETWEEN_SNAPSHOTS))
+    go : (b : Bool) → is_set (codes "page") entries ≡ b → IsPage (cond b (form.Page (page_of entries)) form.Text) → IsDrawn view
+    go true set page = drawn set
+    go false set page = absurd page
+
+shows_no_types : (entries : List Row) (P : Type 0) → form_of entries ≡ form.Types → P
+shows_no_types entries P = go (is_set (codes "page") entries)
+  where
+    go : (b : Bool) → cond b (form.Page (page_of entries)) form.Text ≡ form.Types → P
+    go true e = cc
+    go false e = cc
+
+view_asks : (name : Text) (entries : List Row) (view : View) → IsRead name entries → view_of name entries ≡ Some view → Asks (plan_with entries view)
+view_asks name entries view read known = record {
+  pair = λ compares. read.pair (comparison_named name entries view known compares);
+  every = number_in_range (codes "every") MOST_BETWEEN_SNAPSHOTS entries read.every;
+  page = page_is_drawn entries view (λ set. subst (λ (o : Option View). IfSome o IsDrawn) known (read.drawn set));
+  types = shows_no_types entries _;
+}
+
+types_asks : (name : Text) (entries : List Row) → IsRead name entries → bytes_eq name (codes "types") ≡ true → Asks (types_plan entries)
+types_asks name entries read is = record { pair = λ compares. absurd compares; every = tt; page = λ page. absurd page; types = λ _. (read.single is, refl, refl) }
+
+-- entries without a fault
+pub none_in : (kinds : Kinds) → is_empty kinds ≡ true → kinds ≡ []
+none_in [] is = refl
+none_in (k ∷ ks) is =
+    let some : is_empty (k ∷ ks) ≡ false = ne_eqb _ _ (λ e. omega arith) in
+    absurd (true≢false (sym is ∙ some))
+
+with_no_fault : {A : Type 0} (kinds : Kinds) (o : Option A) (x : A) → cond (is_empty kinds) o None ≡ Some x → (kinds ≡ []) × (o ≡ Some x)
+with_no_fault {A} kinds o x at = go (is_empty kinds) refl at
+  where
+    go : (b : Bool) → is_empty kinds ≡ b → cond b o None ≡ Some x → (kinds ≡ []) × (o ≡ Some x)
+    go true is at = (none_in kinds is, at)
+    go false is at = cc
+
+command_asks : (name : Text) (entries : List Row) (plan : Plan) → IsRead name entries → command_plan name entries ≡ Some plan → Asks plan
+command_asks name entries plan read is = of_name (bytes_eq name (codes "types")) refl (with_no_fault (entries_fault entries) _ plan is).1
+  where
+    same : (p : Plan) → Some p ≡ Some plan → Asks p → Asks plan
+    same p e asks = subst Asks (ap (λ (o : Option Plan). unwrap_or o p) e) asks
+
+    of_view : (view : Option View) → view_of name entries ≡ view → option_map (plan_with entries) view ≡ Some plan → Asks plan
     of_view None known at = cc
-    of_view (Some view) known at =
-        let whole : plan_with entries view ≡ plan = ap (λ (o : Option Plan). unwrap_or o plan) at in
-        subst (λ (p : Plan). (IsComparison p.view → length p.files ≡ 2) × IfSome p.options.every (λ every. (1 ≤ every) × (every ≤ MOST_BETWEEN_SNAPSHOTS))) whole
-        (λ compares. read.pair (comparison_named name entries view known compares), number_in_range (codes "every") MOST_BETWEEN_SNAPSHOTS entries read.every)
+    of_view (Some view) known at = same (plan_with entries view) at (view_asks name entries view read known)
+
+    of_name : (b : Bool) → bytes_eq name (codes "types") ≡ b → cond b (Some (types_plan entries)) (option_map (plan_with entries) (view_of name entries)) ≡ Some plan → Asks plan
+    of_name true named at = same (types_plan entries) at (types_asks name entries read named)
+    of_name false named at = of_view (view_of name entries) refl at
 
 pub plan_asks : (entered : Option (Text × List Row)) (plan : Plan) → IsSomeAnd entered (λ p. IsRead p.0 p.1)
-    → entered_plan entered ≡ Some plan → (IsComparison plan.view → length plan.files ≡ 2)
-    × IfSome plan.options.every (λ every. (1 ≤ every) × (every ≤ MOST_BETWEEN_SNAPSHOTS))
+    → entered_plan entered ≡ Some plan → Asks plan
 plan_asks None plan read is = absurd read
 plan_asks (Some p) plan read is = command_asks p.0 p.1 plan read is
 
@@ -110,40 +149,47 @@ pub only_memory : (a : App) (words : List Text) (e : Error) → a ≡ command_li
     → (parses a words ≡ true → kind_of e ≡ kind.OutOfMemory) → parses command_line words ≡ true → kind_of e ≡ kind.OutOfMemory
 only_memory a words e is passes taken = passes (ap (λ b. parses b words) is ∙ taken)
 
--- ---- the format
+-- ---- the faults of entries
 
-pub planned_format : (entered : Option (Text × List Row)) (plan : Plan) → entered_plan entered ≡ Some plan → format_fault entered ≡ []
-planned_format None plan is = refl
-planned_format (Some p) plan is = go (knows_format p.1) is
-  where
-    go : (b : Bool) → cond b (option_map (plan_with p.1) (view_of p.0 p.1)) None ≡ Some plan → cond b [] (kind.InvalidValue ∷ []) ≡ []
-    go true at = refl
-    go false at = cc
+pub planned_own : (entered : Option (Text × List Row)) (plan : Plan) → entered_plan entered ≡ Some plan → own_fault entered ≡ []
+planned_own None plan is = refl
+planned_own (Some p) plan is = (with_no_fault (entries_fault p.1) _ plan is).0
 
-pub taken_format : (entered : Option (Text × List Row)) → option_map_or (λ p. knows_format p.1) entered true ≡ true → format_fault entered ≡ []
-taken_format None is = refl
-taken_format (Some p) is = ap (λ b. cond b [] (kind.InvalidValue ∷ [])) is
+-- one of no kinds is want of memory
+pub among_none : (f : PlanFault) → IsFaultAmong [] f → f ≡ fault.OutOfMemory
+among_none fault.OutOfMemory among = refl
+among_none (fault.Words text) among = absurd among.1
+among_none (fault.Help text) among = absurd among.1
 
-refused_format : (entries : List Row) (f : PlanFault) → (f ≡ fault.OutOfMemory) ⊎ ((knows_format entries ≡ false) × IsFaultOf kind.InvalidValue f)
-    → IsFaultAmong (cond (knows_format entries) [] (kind.InvalidValue ∷ [])) f
-refused_format entries f (inl memory) = rw memory tt
-refused_format entries (fault.Words text) (inr (unknown, is)) = rw unknown (kind.InvalidValue, inl refl, is.0)
-refused_format entries (fault.Help text) (inr (unknown, is)) = absurd (no_request is)
-  where
-    no_request : IsRequest kind.InvalidValue → ⊥
-    no_request (inl help) = cc
-    no_request (inr version) = cc
-refused_format entries fault.OutOfMemory (inr (unknown, is)) = tt
+-- a refusal of a kind that the entries have
+pub refused_for : (entries : List Row) (k : ErrorKind) (f : PlanFault) → entries_fault entries ≡ k ∷ [] → IsFaultOf k f → IsFaultAmong (entries_fault entries) f
+refused_for entries k fault.OutOfMemory is of = tt
+refused_for entries k (fault.Words text) is of = rw is (k, inl refl, of.0)
+refused_for entries k (fault.Help text) is of = rw is (k, inl refl, of)
 
-pub refused_entered : (entered : Option (Text × List Row)) (name : Text) (entries : List Row) (f : PlanFault) → entered ≡ Some (name, entries)
-    → (f ≡ fault.OutOfMemory) ⊎ ((knows_format entries ≡ false) × IsFaultOf kind.InvalidValue f) → IsFaultAmong (format_fault entered) f
-refused_entered entered name entries f is why = subst (λ e. IsFaultAmong (format_fault e) f) (sym is) (refused_format entries f why)
+pub refused_format : (entries : List Row) → knows_format entries ≡ false → entries_fault entries ≡ kind.InvalidValue ∷ []
+refused_format entries unknown = rw unknown refl
 
--- words that `clap` takes have the fault of their format alone
-pub format_alone : (words : List Text) (entered : Option (Text × List Row)) → parsing_fault command_line words ≡ [] → entered ≡ subcommand_of command_line words
-    → format_fault entered ≡ fault_of command_line words
-format_alone words entered none is =
-    ap format_fault is ∙ sym (ap (λ kinds. or_else kinds (format_fault (subcommand_of command_line words))) none)
+pub refused_order : (entries : List Row) → knows_format entries ≡ true → knows_order entries ≡ false → entries_fault entries ≡ kind.InvalidValue ∷ []
+refused_order entries known unknown = rw (known, unknown) refl
+
+pub refused_page : (entries : List Row) → knows_format entries ≡ true → knows_order entries ≡ true → has_its_page entries ≡ false
+    → entries_fault entries ≡ kind.MissingRequiredArgument ∷ []
+refused_page entries format order page = rw (format, order, page) refl
+
+pub without_fault : (entries : List Row) → knows_format entries ≡ true → knows_order entries ≡ true → has_its_page entries ≡ true → entries_fault entries ≡ []
+without_fault entries format order page = rw (format, order, page) refl
+
+pub planned_command : (name : Text) (entries : List Row) (o : Option Plan) → entries_fault entries ≡ []
+    → cond (bytes_eq name (codes "types")) (Some (types_plan entries)) (option_map (plan_with entries) (view_of name entries)) ≡ o
+    → command_plan name entries ≡ o
+planned_command name entries o none is = rw none is
+
+-- words that `clap` takes have the faults of their entries alone
+pub own_alone : (words : List Text) (entered : Option (Text × List Row)) → parsing_fault command_line words ≡ [] → entered ≡ subcommand_of command_line words
+    → own_fault entered ≡ fault_of command_line words
+own_alone words entered none is =
+    ap own_fault is ∙ sym (ap (λ kinds. or_else kinds (own_fault (subcommand_of command_line words))) none)
 
 pub more_kinds : (kinds more : Kinds) (e : Error) → HasKind kinds e → HasKind (or_else kinds more) e
 more_kinds kinds more e (inl memory) = inl memory

@@ -1,5 +1,5 @@
 -- What a command line without a fault makes of its command and entries.
-use Rattle.std.proofs.Common.{◌≡◌, ◌∙◌, ◌≤◌, ◌||◌, ◌⊎◌, inl, inr, ℕ, Bool, true, false, not, refl, sym, ap, subst, arith, List, [], ◌∷◌, ◌++◌, length, Option, Some, None, is_some, option_map, true≢false, codes}
+use Rattle.std.proofs.Common.{◌≡◌, ◌∙◌, ◌≤◌, ◌||◌, ◌⊎◌, inl, inr, ℕ, Bool, cond, true, false, not, refl, sym, ap, subst, arith, List, [], ◌∷◌, ◌++◌, length, Option, Some, None, is_some, option_map, true≢false, codes}
 use Rattle.std.specs.Prelude.{slice_get, unwrap_or, option_and_then, pos, IfSome, IsSome}
 use Rattle.std.specs.List.{AllByRecursion as Each, find, list_any, slice_index_or}
 use Rattle.std.specs.Option.{option_map_or}
@@ -25,10 +25,11 @@ use Rattle.clap.proofs.ValueTestLemmas.{accepts-Accepts}
 use Rattle.clap.proofs.WalkLemmas.{both}
 use Rattle.run_options.specs.declared.ring_sizes.TheConstants.{LARGEST_RING}
 use Rattle.run_options.specs.declared.widths.TheConstants.{MAX_WIDTH}
-use Rattle.command_line.specs.declared.commands.TheConstants.{MOST_BETWEEN_SNAPSHOTS}
+use Rattle.command_line.specs.declared.arguments.TheConstants.{MOST_BETWEEN_SNAPSHOTS, MOST_ROWS}
 use Rattle.command_line.specs.CommandLine.{command_line}
-use Rattle.command_line.specs.checked.Entries.{IsFlagAt, IsNumberAt, IsRead}
-use Rattle.command_line.specs.Plans.{files_of, values_at, view_of}
+use Rattle.command_line.specs.checked.Entries.{IsCountAt, IsFlagAt, IsNumberAt, IsRead}
+use Rattle.command_line.specs.Plans.{IsDrawn, compared_view, files_of, is_set, values_at, view_of, width_of}
+use Rattle.command_line.specs.declared.plans.View.TheVariants.{PairBoxes, Pairs}
 use Rattle.command_line.proofs.PassedLevels.{level_holds}
 use Rattle.command_line.proofs.PassedUses.{IsFirstOfId, IsRow, IsRowOf, IsSingle, found_each}
 use Rattle.command_line.proofs.EnteredCommands.{IsElsewhere, walk_elsewhere}
@@ -110,6 +111,27 @@ module _ (c : List Rule) (rows : List Row) (each : Each (IsRow c) rows) where
       let reading : reading_by a ≡ how.AsWritten = ap (λ (p : Option ValueParser). reading_of (parser_of_value p)) parser in
       rw reading (flag_read text accepted))
 
+  count_at_id : (id : Text) → IfSome (arg_by_id c id) (λ a. a.parser ≡ Some (vp.Unsigned 0 18446744073709551615)) → IsCountAt id rows
+  count_at_id id known = read_at id _ (λ a text is pass.
+      let number = vp.Unsigned 0 18446744073709551615 in
+      let parser : a.parser ≡ Some number = rw is at known in
+      let accepted : accepts a.ignore_case number text ≡ true =
+      ap (λ (p : Option ValueParser). accepts a.ignore_case (parser_of_value p) text) (sym parser) ∙ pass in
+      let reading : reading_by a ≡ how.AsWritten = ap (λ (p : Option ValueParser). reading_of (parser_of_value p)) parser in
+      let passed = accepts-Accepts a.ignore_case number text accepted in
+      rw reading (passed.0, passed.1))
+
+  unset_at_id : (id : Text) → arg_by_id c id ≡ None → is_set id rows ≡ false
+  unset_at_id id unknown = go (find (λ r. bytes_eq r.id id) rows) refl
+    where
+      go : (found : Option Row) → find (λ r. bytes_eq r.id id) rows ≡ found
+          → option_map_or (λ text. bytes_eq text (codes "true")) (option_and_then row_text found) false ≡ false
+      go None is = refl
+      go (Some r) is =
+          let own = row_at id r is in
+          let no : Some own.0 ≡ None = sym own.1 ∙ unknown in
+          cc
+
   none_at_id : (id : Text) → arg_by_id c id ≡ None → values_at id rows ≡ []
   none_at_id id unknown = go (find (λ r. bytes_eq r.id id) rows) refl
     where
@@ -148,6 +170,21 @@ module _ (c : List Rule) (rows : List Row) (each : Each (IsRow c) rows) where
         length-append (values_at (codes "before") rows) (values_at (codes "after") rows),
       )
 
+  single_at : (file : Rule) → arg_by_id c (codes "file") ≡ Some file → IsSingle file → is_given (codes "file") rows ≡ true
+      → arg_by_id c (codes "before") ≡ None → arg_by_id c (codes "after") ≡ None → length (files_of rows) ≡ 1
+  single_at file file_is single given no_before no_after =
+      let one = one_at_id (codes "file") file file_is single given in
+      let before : length (values_at (codes "before") rows) ≡ 0 = ap length (none_at_id (codes "before") no_before) in
+      let after : length (values_at (codes "after") rows) ≡ 0 = ap length (none_at_id (codes "after") no_after) in
+      omega (
+        arith,
+        one,
+        before,
+        after,
+        length-append (values_at (codes "file") rows) (values_at (codes "before") rows ++ values_at (codes "after") rows),
+        length-append (values_at (codes "before") rows) (values_at (codes "after") rows),
+      )
+
 -- ---- the commands
 
 checks_pass : (wants_help wants_subcommand wants_argument : Bool) → check_kinds wants_help wants_subcommand wants_argument ≡ []
@@ -163,6 +200,9 @@ IsNumberRule most found = IfSome found (λ a. a.parser ≡ Some (vp.Signed (pos 
 abbrev IsFlagRule : Option Rule → Type 0
 IsFlagRule found = IfSome found (λ a. a.parser ≡ Some vp.Bool)
 
+abbrev IsCountRule : Option Rule → Type 0
+IsCountRule found = IfSome found (λ a. a.parser ≡ Some (vp.Unsigned 0 18446744073709551615))
+
 -- the arguments of a command that are numbers and flags
 record KnowsArguments (c : List Rule) : Type 0 where
   firsts : Each (IsFirstOfId c) c
@@ -171,6 +211,11 @@ record KnowsArguments (c : List Rule) : Type 0 where
   every : IsNumberRule MOST_BETWEEN_SNAPSHOTS (arg_by_id c (codes "every"))
   lines : IsFlagRule (arg_by_id c (codes "lines"))
   boxes : IsFlagRule (arg_by_id c (codes "boxes"))
+  rows : IsNumberRule MOST_ROWS (arg_by_id c (codes "number"))
+  json : IsFlagRule (arg_by_id c (codes "json"))
+  quiet : IsFlagRule (arg_by_id c (codes "quiet"))
+  page : IsFlagRule (arg_by_id c (codes "page"))
+  least : IsCountRule (arg_by_id c (codes "least"))
 
 module _ (s : Shape) (known : KnowsArguments s.rules) (once : s.args_override_self ≡ false) (words : List Text)
     (fault : level_fault s [] nothing_held words false [] ≡ []) where
@@ -183,16 +228,30 @@ module _ (s : Shape) (known : KnowsArguments s.rules) (once : s.args_override_se
   checked : check_fault s rows false ≡ []
   checked = (level_holds s [] known.firsts once words false [] fault).3
 
-  reads_command : IsSome (view_of s.name rows) → (s.name ≡ codes "compare" → length (files_of rows) ≡ 2) → IsRead s.name rows
-  reads_command viewed pair = record {
+  reads_command : (bytes_eq s.name (codes "types") ≡ false → IsSome (view_of s.name rows))
+      → (s.name ≡ codes "compare" → length (files_of rows) ≡ 2)
+      → (is_set (codes "page") rows ≡ true → IfSome (view_of s.name rows) IsDrawn)
+      → (bytes_eq s.name (codes "types") ≡ true → length (files_of rows) ≡ 1) → IsRead s.name rows
+  reads_command viewed pair drawn single = record {
     command = viewed;
     width = number_at_id s.rules rows each_row (codes "width") MAX_WIDTH known.width;
     ring = number_at_id s.rules rows each_row (codes "ring") LARGEST_RING known.ring;
     every = number_at_id s.rules rows each_row (codes "every") MOST_BETWEEN_SNAPSHOTS known.every;
     lines = flag_at_id s.rules rows each_row (codes "lines") known.lines;
     boxes = flag_at_id s.rules rows each_row (codes "boxes") known.boxes;
+    rows = number_at_id s.rules rows each_row (codes "number") MOST_ROWS known.rows;
+    json = flag_at_id s.rules rows each_row (codes "json") known.json;
+    quiet = flag_at_id s.rules rows each_row (codes "quiet") known.quiet;
+    page = flag_at_id s.rules rows each_row (codes "page") known.page;
+    least = count_at_id s.rules rows each_row (codes "least") known.least;
     pair = pair;
+    drawn = drawn;
+    single = single;
   }
+
+  -- a command that has no page asks for none
+  draws_no_page : (P : Type 0) → arg_by_id s.rules (codes "page") ≡ None → is_set (codes "page") rows ≡ true → P
+  draws_no_page P unknown set = absurd (true≢false (sym set ∙ unset_at_id s.rules rows each_row (codes "page") unknown))
 
 -- what is known of a command of the built command line, `help` aside
 abbrev ReadsCommand : Shape → Type 0
@@ -217,59 +276,157 @@ built_chart = slice_index_or built_line.subs 2 no_shape
 abbrev built_compare : Shape
 built_compare = slice_index_or built_line.subs 3 no_shape
 
+abbrev built_top : Shape
+built_top = slice_index_or built_line.subs 4 no_shape
+
+abbrev built_types : Shape
+built_types = slice_index_or built_line.subs 5 no_shape
+
 fold_known : KnowsArguments built_fold.rules
-fold_known = record { firsts = (refl, (refl, (refl, (refl, (refl, (refl, (refl, (refl, tt)))))))); width = tt; ring = refl; every = tt; lines = refl; boxes = tt }
+fold_known = record {
+  firsts = (refl, (refl, (refl, (refl, (refl, (refl, (refl, (refl, (refl, tt)))))))));
+  width = tt;
+  ring = refl;
+  every = tt;
+  lines = refl;
+  boxes = tt;
+  rows = tt;
+  json = tt;
+  quiet = refl;
+  page = tt;
+  least = tt;
+}
 
 graph_known : KnowsArguments built_graph.rules
 graph_known = record {
-  firsts = (refl, (refl, (refl, (refl, (refl, (refl, (refl, (refl, (refl, (refl, tt))))))))));
+  firsts = (refl, (refl, (refl, (refl, (refl, (refl, (refl, (refl, (refl, (refl, (refl, (refl, (refl, (refl, tt))))))))))))));
   width = refl;
   ring = refl;
   every = refl;
   lines = refl;
   boxes = tt;
+  rows = tt;
+  json = tt;
+  quiet = refl;
+  page = refl;
+  least = refl;
 }
 
 chart_known : KnowsArguments built_chart.rules
 chart_known = record {
-  firsts = (refl, (refl, (refl, (refl, (refl, (refl, (refl, (refl, (refl, tt)))))))));
+  firsts = (refl, (refl, (refl, (refl, (refl, (refl, (refl, (refl, (refl, (refl, (refl, (refl, (refl, tt)))))))))))));
   width = refl;
   ring = refl;
   every = tt;
   lines = refl;
   boxes = tt;
+  rows = tt;
+  json = tt;
+  quiet = refl;
+  page = refl;
+  least = refl;
 }
 
 compare_known : KnowsArguments built_compare.rules
 compare_known = record {
-  firsts = (refl, (refl, (refl, (refl, (refl, (refl, (refl, (refl, (refl, (refl, (refl, tt)))))))))));
+  firsts = (refl, (refl, (refl, (refl, (refl, (refl, (refl, (refl, (refl, (refl, (refl, (refl, (refl, (refl, (refl, tt)))))))))))))));
   width = refl;
   ring = refl;
   every = tt;
   lines = refl;
   boxes = refl;
+  rows = tt;
+  json = tt;
+  quiet = refl;
+  page = refl;
+  least = refl;
+}
+
+top_known : KnowsArguments built_top.rules
+top_known = record {
+  firsts = (refl, (refl, (refl, (refl, (refl, (refl, (refl, (refl, (refl, (refl, (refl, (refl, tt))))))))))));
+  width = tt;
+  ring = refl;
+  every = tt;
+  lines = refl;
+  boxes = tt;
+  rows = refl;
+  json = refl;
+  quiet = refl;
+  page = tt;
+  least = tt;
+}
+
+types_known : KnowsArguments built_types.rules
+types_known = record {
+  firsts = (refl, (refl, tt));
+  width = tt;
+  ring = tt;
+  every = tt;
+  lines = tt;
+  boxes = tt;
+  rows = tt;
+  json = tt;
+  quiet = tt;
+  page = tt;
+  least = tt;
 }
 
 -- a name that is not `compare`, by a byte that differs
 not_compare : (name : Text) (P : Type 0) → bytes_eq name (codes "compare") ≡ false → name ≡ codes "compare" → P
 not_compare name P differs same = absurd (true≢false (sym (ap (λ n. bytes_eq n (codes "compare")) same) ∙ differs))
 
+-- the name is not `types`, by a byte that differs
+not_types : (P : Type 0) → false ≡ true → P
+not_types P same = absurd (true≢false (sym same))
+
 fold_reads : ReadsCommand built_fold
-fold_reads = (refl, λ words other fault. reads_command built_fold fold_known refl words fault refl (not_compare _ _ refl))
+fold_reads = (
+  refl,
+  λ words other fault. reads_command built_fold fold_known refl words fault (λ _. refl) (not_compare _ _ refl)
+      (draws_no_page built_fold fold_known refl words fault _ refl) (not_types _),
+)
 
 graph_reads : ReadsCommand built_graph
-graph_reads = (refl, λ words other fault. reads_command built_graph graph_known refl words fault refl (not_compare _ _ refl))
+graph_reads = (
+  refl,
+  λ words other fault. reads_command built_graph graph_known refl words fault (λ _. refl) (not_compare _ _ refl)
+      (λ _. tt) (not_types _),
+)
 
 chart_reads : ReadsCommand built_chart
-chart_reads = (refl, λ words other fault. reads_command built_chart chart_known refl words fault refl (not_compare _ _ refl))
+chart_reads = (
+  refl,
+  λ words other fault. reads_command built_chart chart_known refl words fault (λ _. refl) (not_compare _ _ refl)
+      (λ _. tt) (not_types _),
+)
+
+top_reads : ReadsCommand built_top
+top_reads = (
+  refl,
+  λ words other fault. reads_command built_top top_known refl words fault (λ _. refl) (not_compare _ _ refl)
+      (draws_no_page built_top top_known refl words fault _ refl) (not_types _),
+)
 
 both_given : (before after : Bool) → (not before || (not after || false)) ≡ false → (before ≡ true) × (after ≡ true)
 both_given true true e = (refl, refl)
 both_given true false e = absurd (true≢false e)
 both_given false after e = absurd (true≢false e)
 
+compared_is_drawn : (entries : List Row) → is_set (codes "page") entries ≡ true → IsDrawn (compared_view entries)
+compared_is_drawn entries set = go (is_set (codes "boxes") entries) (is_set (codes "page") entries) set
+  where
+    go : (boxes page : Bool) → page ≡ true → IsDrawn (cond (boxes || page) (PairBoxes (width_of entries)) Pairs)
+    go true page e = tt
+    go false true e = tt
+    go false false e = absurd (true≢false (sym e))
+
 compare_reads : ReadsCommand built_compare
-compare_reads = (refl, λ words other fault. reads_command built_compare compare_known refl words fault refl (λ _. two words fault))
+compare_reads = (
+  refl,
+  λ words other fault. reads_command built_compare compare_known refl words fault (λ _. refl) (λ _. two words fault)
+      (compared_is_drawn (rows_after built_compare.rules [] words)) (not_types _),
+)
   where
     two : (words : List Text) → level_fault built_compare [] nothing_held words false [] ≡ [] → length (files_of (rows_after built_compare.rules [] words)) ≡ 2
     two words fault =
@@ -280,11 +437,30 @@ compare_reads = (refl, λ words other fault. reads_command built_compare compare
         (checks_pass false false wants (checked built_compare compare_known refl words fault)).1 in
         pair_at built_compare.rules found each _ _ refl refl (refl, refl, refl, refl) given.0 refl (refl, refl, refl, refl) given.1
 
-help_reads : ReadsCommand (slice_index_or built_line.subs 4 no_shape)
+one_given : (given : Bool) → (not given || false) ≡ false → given ≡ true
+one_given true e = refl
+one_given false e = absurd (true≢false e)
+
+types_reads : ReadsCommand built_types
+types_reads = (
+  refl,
+  λ words other fault. reads_command built_types types_known refl words fault (λ e. absurd (true≢false e)) (not_compare _ _ refl)
+      (draws_no_page built_types types_known refl words fault _ refl) (λ _. one words fault),
+)
+  where
+    one : (words : List Text) → level_fault built_types [] nothing_held words false [] ≡ [] → length (files_of (rows_after built_types.rules [] words)) ≡ 1
+    one words fault =
+        let found = rows_after built_types.rules [] words in
+        let each = each_row built_types types_known refl words fault in
+        let wants = not (is_given (codes "file") found) || false in
+        let given = one_given (is_given (codes "file") found) (checks_pass false false wants (checked built_types types_known refl words fault)).1 in
+        single_at built_types.rules found each _ refl (refl, refl, refl, refl) given refl refl
+
+help_reads : ReadsCommand (slice_index_or built_line.subs 6 no_shape)
 help_reads = (refl, λ words other fault. absurd (true≢false other))
 
 commands_read : Each ReadsCommand built_line.subs
-commands_read = (fold_reads, (graph_reads, (chart_reads, (compare_reads, (help_reads, tt)))))
+commands_read = (fold_reads, (graph_reads, (chart_reads, (compare_reads, (top_reads, (types_reads, (help_reads, tt)))))))
 
 -- ---- the command line
 

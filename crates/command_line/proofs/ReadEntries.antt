@@ -1,18 +1,22 @@
 -- What the getters of matches read of the entries.
-use Rattle.std.proofs.Common.{◌≡◌, ◌∙◌, ◌<◌, ◌≤◌, ◌^◌, ◌⊎◌, inl, inr, ℕ, Bool, true, false, refl, sym, ap, arith, List, [], Option, Some, None, Result, option_map, codes, is_some}
+use Rattle.std.proofs.Common.{◌≡◌, ◌∙◌, ◌<◌, ◌≤◌, ◌^◌, ◌⊎◌, inl, inr, ℕ, Bool, true, false, not, refl, sym, ap, arith, List, [], Option, Some, None, Result, option_map, codes, is_some}
 use Rattle.std.specs.Prelude.{option_and_then, unwrap_or, IfSome, SomeIff}
 use Rattle.std.specs.Option.{option_map_or}
 use Rattle.std.specs.Str.{bytes_eq}
 use Rattle.std.specs.Str.Parse.{ExplainsUnsignedError, HasUnsignedDigitsIfOk, IsNumeral, ParsesUnsigned, digits_value, without_leading_plus}
 use Rattle.std.specs.declared.num.ParseIntError.{ParseIntError}
 use Rattle.clap.specs.Matches.{ReadsOne, first_value, found_of, matched_of, one_text, raw_values}
-use Rattle.clap.specs.Walk.{Text, one_of}
+use Rattle.clap.specs.Walk.{Row, Text, one_of}
 use Rattle.clap.specs.declared.parser.matches.ArgMatches.{ArgMatches}
+use Rattle.clap.specs.declared.parser.matches.MatchedArg.{MatchedArg}
 use Rattle.clap.proofs.WalkLemmas.{first_value-rows, one_text-rows, raw_values-rows}
 use Rattle.run_options.specs.declared.choices.Pick.TheVariants.{Preferred, Named}
-use Rattle.command_line.specs.checked.Entries.{IsFlagAt, IsNumberAt, entries_of}
+use Rattle.command_line.specs.checked.Entries.{IsCountAt, IsFlagAt, IsNumberAt, entries_of}
 use Rattle.run_options.specs.Formats.{named_format}
-use Rattle.command_line.specs.Plans.{asked_format, is_set, knows_format, number_at, pick_of, values_at}
+use Rattle.run_options.specs.Orders.{named_order}
+use Rattle.run_options.specs.declared.orders.FunctionOrder.TheVariants.{Own}
+use Rattle.command_line.specs.Plans.{asked_format, form_of, has_its_page, is_set, is_used, knows_format, knows_order, number_at, order_of, page_of, pick_of, shows_boxes, title_of, values_at}
+use Rattle.command_line.specs.declared.plans.Form.TheVariants as form
 
 -- how `u32` reads a text
 abbrev pub ReadsU32 : Text → Result ℕ ParseIntError → Type 0
@@ -51,6 +55,27 @@ pub given_by_iff : (r : Option ℕ) (P : Type 0) (n : ℕ) → SomeIff r P n →
 given_by_iff None P n iff p = absurd (iff p)
 given_by_iff (Some m) P n iff p = ap (λ k. Some k) iff.1
 
+-- how `u64` reads a text
+abbrev pub ReadsU64 : Text → Result ℕ ParseIntError → Type 0
+ReadsU64 t r = ParsesUnsigned 64 10 t r × ExplainsUnsignedError 10 t r × HasUnsignedDigitsIfOk t r
+
+-- `get_one` of an option with a number of 64 bits
+pub count_given : (m : ArgMatches) (id : Text) (r : Option ℕ) → IsCountAt id (entries_of m)
+    → (one_text (found_of m) id ≡ None → r ≡ None) → ((t : Text) → one_text (found_of m) id ≡ Some t → ReadsOne ReadsU64 t r)
+    → r ≡ number_at id (entries_of m)
+count_given m id r number none value = go (one_of id (entries_of m)) refl number
+  where
+    read : (t : Text) (o : Option ℕ) → IsNumeral 10 (without_leading_plus t) → digits_value 10 (without_leading_plus t) < 2 ^ 64
+        → ReadsOne ReadsU64 t o → o ≡ Some (digits_value 10 (without_leading_plus t))
+    read t (Some n) numeral small gives = ap (λ m. Some m) gives.0.1
+    read t None numeral small gives = absurd (gives.1.0 (numeral, small))
+
+    go : (o : Option Text) → one_of id (entries_of m) ≡ o
+        → IfSome o (λ t. IsNumeral 10 (without_leading_plus t) × (digits_value 10 (without_leading_plus t) < 2 ^ 64))
+        → r ≡ option_map (λ t. digits_value 10 (without_leading_plus t)) o
+    go None is number = none (one_text-rows (found_of m) id ∙ is)
+    go (Some t) is number = read t r number.0 number.1 (value t (one_text-rows (found_of m) id ∙ is))
+
 -- `get_flag`
 pub flag_given : (m : ArgMatches) (id : Text) (r : Bool) → IsFlagAt id (entries_of m)
     → (one_text (found_of m) id ≡ None → r ≡ false) → (one_text (found_of m) id ≡ Some (codes "true") → r ≡ true)
@@ -80,3 +105,47 @@ format_given m name is =
       ap (option_and_then named_format) read,
       ap (λ o. option_map_or (λ n. is_some (named_format n)) o true) read,
     )
+
+pub order_given : (m : ArgMatches) (name : Option Text) → name ≡ first_value (found_of m) (codes "by")
+    → (order_of (entries_of m) ≡ unwrap_or (option_and_then named_order name) Own)
+    × (knows_order (entries_of m) ≡ option_map_or (λ n. is_some (named_order n)) name true)
+order_given m name is =
+    let read = sym (first_value-rows (found_of m) (codes "by")) ∙ sym is in (
+      ap (λ o. unwrap_or (option_and_then named_order o) Own) read,
+      ap (λ o. option_map_or (λ n. is_some (named_order n)) o true) read,
+    )
+
+pub title_given : (m : ArgMatches) (name : Option Text) → name ≡ first_value (found_of m) (codes "title") → title_of (entries_of m) ≡ name
+title_given m name is = sym (first_value-rows (found_of m) (codes "title")) ∙ sym is
+
+-- `contains_id`
+pub used_given : (m : ArgMatches) (id : Text) (r : Bool) → r ≡ is_some (matched_of (found_of m) id) → r ≡ is_used id (entries_of m)
+used_given m id r is = is ∙ mapped (matched_of (found_of m) id) ∙ ap is_some (raw_values-rows (found_of m) id)
+  where
+    mapped : (o : Option MatchedArg) → is_some o ≡ is_some (option_map raw_values o)
+    mapped None = refl
+    mapped (Some a) = refl
+
+-- ---- pages
+
+pub paged : (entries : List Row) → is_set (codes "page") entries ≡ true → form_of entries ≡ form.Page (page_of entries)
+paged entries set = rw set refl
+
+pub unpaged : (entries : List Row) → is_set (codes "page") entries ≡ false → form_of entries ≡ form.Text
+unpaged entries unset = rw unset refl
+
+pub asked_page : (entries : List Row) → is_set (codes "page") entries ≡ true → has_its_page entries ≡ true
+asked_page entries set = rw set refl
+
+pub titled_alone : (entries : List Row) → is_set (codes "page") entries ≡ false → is_used (codes "title") entries ≡ true → has_its_page entries ≡ false
+titled_alone entries unset title = rw (unset, title) refl
+
+pub untitled : (entries : List Row) → is_set (codes "page") entries ≡ false → is_used (codes "title") entries ≡ false
+    → has_its_page entries ≡ not (is_used (codes "least") entries)
+untitled entries unset title = rw (unset, title) refl
+
+pub boxed : (entries : List Row) → is_set (codes "boxes") entries ≡ true → shows_boxes entries ≡ true
+boxed entries boxes = rw boxes refl
+
+pub boxed_by_page : (entries : List Row) → is_set (codes "boxes") entries ≡ false → shows_boxes entries ≡ is_set (codes "page") entries
+boxed_by_page entries unset = rw unset refl

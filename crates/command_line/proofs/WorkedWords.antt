@@ -1,5 +1,5 @@
 -- Worked command lines, computed on the definitions.
-use Rattle.std.proofs.Common.{◌≡◌, true, refl, List, [], ◌∷◌, Some, None, codes}
+use Rattle.std.proofs.Common.{◌≡◌, false, true, refl, List, [], ◌∷◌, Some, None, codes}
 use Rattle.clap.proofs.OnLiterals.{clap_on_literals}
 use Rattle.clap.specs.Faults.{is_simple_and_free}
 use Rattle.clap.specs.Walk.{Text}
@@ -12,9 +12,11 @@ use Rattle.run_options.specs.Formats.{format_at}
 use Rattle.command_line.specs.Plans.{fault_of, plan_of, takes}
 use Rattle.run_options.specs.declared.formats.Format.TheVariants.{Folded, Pprof}
 use Rattle.run_options.specs.declared.options.Options.{Options}
+use Rattle.run_options.specs.declared.orders.FunctionOrder.TheVariants.{Own, Total}
+use Rattle.command_line.specs.declared.plans.Form.TheVariants as form
 use Rattle.command_line.specs.declared.plans.Plan.{Plan}
 use Rattle.command_line.specs.declared.plans.View.{View}
-use Rattle.command_line.specs.declared.plans.View.TheVariants.{Fold, Graph, Chart, Pairs, PairBoxes}
+use Rattle.command_line.specs.declared.plans.View.TheVariants.{Fold, Graph, Chart, Pairs, PairBoxes, Top}
 
 -- what `clap` says in `plan`'s clauses it says of this command line
 line_is_simple : is_simple_and_free command_line ≡ true
@@ -24,7 +26,7 @@ abbrev defaults : Options
 defaults = record { ring = 1024; pick = Preferred; naming = Plain; filter = everything; every = None }
 
 abbrev plan_with : View → Options → List Text → Plan
-plan_with view options files = record { view = view; options = options; format = None; files = files }
+plan_with view options files = record { view = view; options = options; format = None; files = files; form = form.Text; is_quiet = false }
 
 graph_with_a_width : plan_of (codes "graph" ∷ codes "--width" ∷ codes "10" ∷ codes "x.folded" ∷ [])
     ≡ Some (plan_with (Graph 10) defaults (codes "x.folded" ∷ []))
@@ -52,6 +54,91 @@ pair_boxes : plan_of (codes "compare" ∷ codes "b" ∷ codes "--boxes" ∷ code
     ≡ Some (plan_with (PairBoxes 10) defaults (codes "b" ∷ codes "a" ∷ []))
 unfolding clap_on_literals
 pair_boxes = refl
+
+top_alone : plan_of (codes "top" ∷ []) ≡ Some (plan_with (Top (record { by = Own; rows = 10; is_json = false })) defaults [])
+unfolding clap_on_literals
+top_alone = refl
+
+top_with_options : plan_of (codes "top" ∷ codes "-n" ∷ codes "3" ∷ codes "x" ∷ codes "--by=total" ∷ codes "--json" ∷ codes "--hide" ∷ codes "c" ∷ [])
+    ≡ Some (plan_with (Top (record { by = Total; rows = 3; is_json = true }))
+    (record defaults { filter = record { focus = []; hide = codes "c" ∷ [] } }) (codes "x" ∷ []))
+unfolding clap_on_literals
+top_with_options = refl
+
+top_of_a_number : plan_of (codes "top" ∷ codes "--number=1000000000" ∷ codes "--by" ∷ codes "own" ∷ [])
+    ≡ Some (plan_with (Top (record { by = Own; rows = 1000000000; is_json = false })) defaults [])
+unfolding clap_on_literals
+top_of_a_number = refl
+
+no_functions : fault_of command_line (codes "top" ∷ codes "-n" ∷ codes "0" ∷ []) ≡ kind.ValueValidation ∷ []
+unfolding clap_on_literals
+no_functions = refl
+
+too_many_functions : fault_of command_line (codes "top" ∷ codes "-n1000000001" ∷ []) ≡ kind.ValueValidation ∷ []
+unfolding clap_on_literals
+too_many_functions = refl
+
+no_such_order : fault_of command_line (codes "top" ∷ codes "--by" ∷ codes "name" ∷ []) ≡ kind.InvalidValue ∷ []
+unfolding clap_on_literals
+no_such_order = refl
+
+no_plan_of_such_an_order : plan_of (codes "top" ∷ codes "--by" ∷ codes "name" ∷ []) ≡ None
+unfolding clap_on_literals
+no_plan_of_such_an_order = refl
+
+no_order_of_fold : fault_of command_line (codes "fold" ∷ codes "--by" ∷ codes "own" ∷ []) ≡ kind.UnknownArgument ∷ []
+unfolding clap_on_literals
+no_order_of_fold = refl
+
+quiet_fold : plan_of (codes "fold" ∷ codes "--quiet" ∷ []) ≡ Some (record (plan_with Fold defaults []) { is_quiet = true })
+unfolding clap_on_literals
+quiet_fold = refl
+
+page_of_a_graph : plan_of (codes "graph" ∷ codes "--page" ∷ codes "x" ∷ [])
+    ≡ Some (record (plan_with (Graph 1200) defaults (codes "x" ∷ [])) { form = form.Page (record { title = None; least = None }) })
+unfolding clap_on_literals
+page_of_a_graph = refl
+
+page_with_a_title : plan_of (codes "chart" ∷ codes "--title" ∷ codes "t u" ∷ codes "--page" ∷ codes "--least=0" ∷ codes "--width=9" ∷ [])
+    ≡ Some (record (plan_with (Chart 9) defaults []) { form = form.Page (record { title = Some (codes "t u"); least = Some 0 }) })
+unfolding clap_on_literals
+page_with_a_title = refl
+
+-- the page of a comparison shows boxes, said or not
+page_of_a_comparison : plan_of (codes "compare" ∷ codes "--page" ∷ codes "a" ∷ codes "b" ∷ [])
+    ≡ plan_of (codes "compare" ∷ codes "--page" ∷ codes "--boxes" ∷ codes "a" ∷ codes "b" ∷ [])
+unfolding clap_on_literals
+page_of_a_comparison = refl
+
+title_without_a_page : fault_of command_line (codes "graph" ∷ codes "--title" ∷ codes "t" ∷ []) ≡ kind.MissingRequiredArgument ∷ []
+unfolding clap_on_literals
+title_without_a_page = refl
+
+least_without_a_page : plan_of (codes "compare" ∷ codes "a" ∷ codes "--least" ∷ codes "5" ∷ codes "b" ∷ []) ≡ None
+unfolding clap_on_literals
+least_without_a_page = refl
+
+empty_title : fault_of command_line (codes "graph" ∷ codes "--page" ∷ codes "--title=" ∷ []) ≡ kind.InvalidValue ∷ []
+unfolding clap_on_literals
+empty_title = refl
+
+no_page_of_fold : fault_of command_line (codes "fold" ∷ codes "--page" ∷ []) ≡ kind.UnknownArgument ∷ []
+unfolding clap_on_literals
+no_page_of_fold = refl
+
+-- `types` reads a profile, whatever its name
+types_of_a_file : plan_of (codes "types" ∷ codes "x.folded" ∷ [])
+    ≡ Some (record (plan_with Fold defaults (codes "x.folded" ∷ [])) { format = Some Pprof; form = form.Types })
+unfolding clap_on_literals
+types_of_a_file = refl
+
+types_of_no_file : fault_of command_line (codes "types" ∷ []) ≡ kind.MissingRequiredArgument ∷ []
+unfolding clap_on_literals
+types_of_no_file = refl
+
+types_of_two_files : fault_of command_line (codes "types" ∷ codes "a" ∷ codes "b" ∷ []) ≡ kind.UnknownArgument ∷ []
+unfolding clap_on_literals
+types_of_two_files = refl
 
 files_of_odd_names : plan_of (codes "fold" ∷ codes "-" ∷ codes "help" ∷ codes "--" ∷ codes "--ring" ∷ [])
     ≡ Some (plan_with Fold defaults (codes "-" ∷ codes "help" ∷ codes "--ring" ∷ []))

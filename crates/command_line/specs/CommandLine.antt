@@ -3,10 +3,10 @@ use Rattle.std.specs.Prelude.{ℕ, true, false, List, [], ◌∷◌, Some, codes
 use Rattle.clap.specs.Simple.{App, Shape, new_rule, new_shape}
 use Rattle.clap.specs.Walk.{Rule, Text}
 use Rattle.clap.specs.declared.builder.action.ArgAction.TheVariants.{Append, SetTrue}
-use Rattle.clap.specs.declared.builder.value_parser.ValueParser.TheVariants.{NonEmptyString, Signed}
+use Rattle.clap.specs.declared.builder.value_parser.ValueParser.TheVariants.{NonEmptyString, Signed, Unsigned}
 use Rattle.run_options.specs.declared.ring_sizes.TheConstants.{LARGEST_RING}
 use Rattle.run_options.specs.declared.widths.TheConstants.{MAX_WIDTH}
-use Rattle.command_line.specs.declared.commands.TheConstants.{MOST_BETWEEN_SNAPSHOTS}
+use Rattle.command_line.specs.declared.arguments.TheConstants.{MOST_BETWEEN_SNAPSHOTS, MOST_ROWS}
 
 -- an option with a value: a text, or a number from 1 to `most`
 abbrev pub text_option : Text → Rule
@@ -58,26 +58,58 @@ lines_flag = flag (codes "lines")
 abbrev pub boxes_flag : Rule
 boxes_flag = flag (codes "boxes")
 
+-- also as `-n`, where 110 is the code of n
+abbrev pub rows_option : Rule
+rows_option = record (number_option (codes "number") MOST_ROWS) { short = Some 110 }
+
+abbrev pub by_option : Rule
+by_option = text_option (codes "by")
+
+abbrev pub json_flag : Rule
+json_flag = flag (codes "json")
+
+abbrev pub quiet_flag : Rule
+quiet_flag = flag (codes "quiet")
+
+abbrev pub page_flag : Rule
+page_flag = flag (codes "page")
+
+abbrev pub title_option : Rule
+title_option = record (text_option (codes "title")) { parser = Some NonEmptyString }
+
+-- any number of 64 bits
+abbrev pub least_option : Rule
+least_option = record (text_option (codes "least")) { parser = Some (Unsigned 0 18446744073709551615) }
+
 -- a command with its arguments
 abbrev pub command : Text → List Rule → Shape
 command name arguments = record (new_shape name) { rules = arguments }
 
 abbrev pub fold_command : Shape
-fold_command = command (codes "fold")
-    (type_option ∷ format_option ∷ focus_option ∷ hide_option ∷ ring_option ∷ lines_flag
-    ∷ any_files (codes "file") ∷ [])
+fold_command = command (codes "fold") (type_option ∷ format_option ∷ focus_option ∷ hide_option
+    ∷ ring_option ∷ lines_flag ∷ quiet_flag ∷ any_files (codes "file") ∷ [])
 
 abbrev pub graph_command : Shape
 graph_command = command (codes "graph") (width_option ∷ type_option ∷ format_option
-    ∷ focus_option ∷ hide_option ∷ ring_option ∷ every_option ∷ lines_flag ∷ any_files (codes "file") ∷ [])
+    ∷ focus_option ∷ hide_option ∷ ring_option ∷ every_option ∷ lines_flag ∷ quiet_flag
+    ∷ page_flag ∷ title_option ∷ least_option ∷ any_files (codes "file") ∷ [])
 
 abbrev pub chart_command : Shape
 chart_command = command (codes "chart") (width_option ∷ type_option ∷ format_option
-    ∷ focus_option ∷ hide_option ∷ ring_option ∷ lines_flag ∷ any_files (codes "file") ∷ [])
+    ∷ focus_option ∷ hide_option ∷ ring_option ∷ lines_flag ∷ quiet_flag
+    ∷ page_flag ∷ title_option ∷ least_option ∷ any_files (codes "file") ∷ [])
 
 abbrev pub compare_command : Shape
 compare_command = command (codes "compare") (width_option ∷ type_option ∷ format_option
-    ∷ focus_option ∷ hide_option ∷ ring_option ∷ boxes_flag ∷ lines_flag ∷ one_file (codes "before") ∷ one_file (codes "after") ∷ [])
+    ∷ focus_option ∷ hide_option ∷ ring_option ∷ boxes_flag ∷ lines_flag ∷ quiet_flag
+    ∷ page_flag ∷ title_option ∷ least_option ∷ one_file (codes "before") ∷ one_file (codes "after") ∷ [])
+
+abbrev pub top_command : Shape
+top_command = command (codes "top") (rows_option ∷ by_option ∷ json_flag ∷ type_option ∷ format_option
+    ∷ focus_option ∷ hide_option ∷ ring_option ∷ lines_flag ∷ quiet_flag ∷ any_files (codes "file") ∷ [])
+
+abbrev pub types_command : Shape
+types_command = command (codes "types") (one_file (codes "file") ∷ [])
 
 -- the words begin after the program's name, one of the commands is required, and the version can be asked for before it
 abbrev pub command_line : App
@@ -88,5 +120,5 @@ command_line = record {
     has_version = true;
     subcommand_required = true;
   };
-  subs = fold_command ∷ graph_command ∷ chart_command ∷ compare_command ∷ [];
+  subs = fold_command ∷ graph_command ∷ chart_command ∷ compare_command ∷ top_command ∷ types_command ∷ [];
 }

@@ -1,6 +1,6 @@
 -- The plan that words stand for, by the entries that `clap` makes of them.
-use Rattle.std.specs.Prelude.{◌≡◌, ◌⊎◌, ◌&&◌, ℕ, Bool, true, false, List, [], ◌∷◌, ◌++◌, Option, Some, None, is_some}
-use Rattle.std.specs.Prelude.{codes, if◌then◌else◌, option_and_then, option_map, string_bytes, unwrap_or}
+use Rattle.std.specs.Prelude.{◌≡◌, ◌⊎◌, ◌&&◌, ◌||◌, ℕ, Bool, true, false, List, [], ◌∷◌, ◌++◌, Option, Some, None, is_some}
+use Rattle.std.specs.Prelude.{codes, if◌then◌else◌, length, not, option_and_then, option_map, string_bytes, unwrap_or}
 use Rattle.std.specs.Option.{option_map_or}
 use Rattle.std.specs.Str.{bytes_eq}
 use Rattle.std.specs.Str.Parse.{digits_value, without_leading_plus}
@@ -8,23 +8,31 @@ use Rattle.clap.specs.Faults.{fault_of as parsing_fault}
 use Rattle.clap.specs.Kinds.{IsAmong, Kinds, or_else}
 use Rattle.clap.specs.Simple.{App, subcommand_of}
 use Rattle.clap.specs.Takes.{takes as parses}
-use Rattle.clap.specs.Walk.{Row, Text, all_of, first_of, one_of}
+use Rattle.clap.specs.Walk.{Row, Text, all_of, first_of, is_empty, one_of}
 use Rattle.clap.specs.declared.error.kind.ErrorKind.{ErrorKind}
 use Rattle.clap.specs.declared.error.kind.ErrorKind.TheVariants as kind
 use Rattle.run_options.specs.Formats.{named_format}
+use Rattle.run_options.specs.Orders.{named_order}
 use Rattle.run_options.specs.declared.choices.Naming.{Naming}
 use Rattle.run_options.specs.declared.choices.Naming.TheVariants.{Plain, Lines}
 use Rattle.run_options.specs.declared.choices.Pick.{Pick}
 use Rattle.run_options.specs.declared.choices.Pick.TheVariants.{Preferred, Named}
 use Rattle.run_options.specs.declared.filters.Filter.{Filter}
 use Rattle.run_options.specs.declared.formats.Format.{Format}
-use Rattle.command_line.specs.CommandLine.{command_line}
+use Rattle.run_options.specs.declared.formats.Format.TheVariants.{Pprof}
 use Rattle.run_options.specs.declared.options.Options.{Options}
+use Rattle.run_options.specs.declared.orders.FunctionOrder.{FunctionOrder}
+use Rattle.run_options.specs.declared.orders.FunctionOrder.TheVariants.{Own}
+use Rattle.command_line.specs.CommandLine.{command_line}
+use Rattle.command_line.specs.declared.plans.Form.{Form}
+use Rattle.command_line.specs.declared.plans.Form.TheVariants as form
+use Rattle.command_line.specs.declared.plans.PageForm.{PageForm}
 use Rattle.command_line.specs.declared.plans.Plan.{Plan}
 use Rattle.command_line.specs.declared.plans.PlanFault.{PlanFault}
 use Rattle.command_line.specs.declared.plans.PlanFault.TheVariants as fault
+use Rattle.command_line.specs.declared.plans.TopTable.{TopTable}
 use Rattle.command_line.specs.declared.plans.View.{View}
-use Rattle.command_line.specs.declared.plans.View.TheVariants.{Fold, Graph, Chart, Pairs, PairBoxes}
+use Rattle.command_line.specs.declared.plans.View.TheVariants.{Fold, Graph, Chart, Pairs, PairBoxes, Top}
 
 -- ---- the entries of a command, by the ids of its arguments
 
@@ -40,6 +48,10 @@ is_set id entries = option_map_or (λ text. bytes_eq text (codes "true")) (one_o
 -- all values of an argument, in their order
 abbrev pub values_at : Text → List Row → List Text
 values_at id entries = unwrap_or (all_of id entries) []
+
+-- the option was used
+abbrev pub is_used : Text → List Row → Bool
+is_used id entries = is_some (all_of id entries)
 
 -- ---- the plan, where what no entry sets has its default
 
@@ -73,19 +85,60 @@ options_of entries = record {
   every = number_at (codes "every") entries;
 }
 
+abbrev pub default_options : Options
+default_options = options_of []
+
 abbrev pub width_of : List Row → ℕ
 width_of entries = unwrap_or (number_at (codes "width") entries) 1200
 
+-- a page shows boxes, whatever else is said
+abbrev pub shows_boxes : List Row → Bool
+shows_boxes entries = is_set (codes "boxes") entries || is_set (codes "page") entries
+
 abbrev pub compared_view : List Row → View
 compared_view entries =
-    if is_set (codes "boxes") entries then PairBoxes (width_of entries) else Pairs
+    if shows_boxes entries then PairBoxes (width_of entries) else Pairs
+
+-- by which weight the functions are listed, and what the words set is such an order
+abbrev pub order_of : List Row → FunctionOrder
+order_of entries = unwrap_or (option_and_then named_order (first_of (codes "by") entries)) Own
+
+abbrev pub knows_order : List Row → Bool
+knows_order entries =
+    option_map_or (λ name. is_some (named_order name)) (first_of (codes "by") entries) true
+
+abbrev pub rows_of : List Row → ℕ
+rows_of entries = unwrap_or (number_at (codes "number") entries) 10
+
+abbrev pub table_of : List Row → TopTable
+table_of entries = record {
+  by = order_of entries;
+  rows = rows_of entries;
+  is_json = is_set (codes "json") entries;
+}
 
 abbrev pub view_of : Text → List Row → Option View
 view_of name entries =
     if bytes_eq name (codes "fold") then Some Fold
     else (if bytes_eq name (codes "graph") then Some (Graph (width_of entries))
     else (if bytes_eq name (codes "chart") then Some (Chart (width_of entries))
-    else (if bytes_eq name (codes "compare") then Some (compared_view entries) else None)))
+    else (if bytes_eq name (codes "compare") then Some (compared_view entries)
+    else (if bytes_eq name (codes "top") then Some (Top (table_of entries)) else None))))
+
+-- what is written of the view: its text, or a page with what the words say of it
+abbrev pub title_of : List Row → Option Text
+title_of entries = first_of (codes "title") entries
+
+abbrev pub page_of : List Row → PageForm
+page_of entries = record { title = title_of entries; least = number_at (codes "least") entries }
+
+abbrev pub form_of : List Row → Form
+form_of entries = if is_set (codes "page") entries then form.Page (page_of entries) else form.Text
+
+-- a title and a least weight are those of a page
+abbrev pub has_its_page : List Row → Bool
+has_its_page entries = is_set (codes "page") entries
+    || not (is_used (codes "title") entries || is_used (codes "least") entries)
 
 -- a command has either FILEs or BEFORE and AFTER
 abbrev pub files_of : List Row → List Text
@@ -99,12 +152,34 @@ plan_with entries view = record {
   options = options_of entries;
   format = asked_format entries;
   files = files_of entries;
+  form = form_of entries;
+  is_quiet = is_set (codes "quiet") entries;
 }
 
--- the plan of a command with its entries, if they set no format that there is not
+-- the plan of `types`: the file is a profile, whatever its name, and nothing is asked of its samples
+abbrev pub types_plan : List Row → Plan
+types_plan entries = record {
+  view = Fold;
+  options = default_options;
+  format = Some Pprof;
+  files = files_of entries;
+  form = form.Types;
+  is_quiet = false;
+}
+
+-- the faults of entries that `clap` takes: a format or an order that there is not, else a title or a least weight without a page
+abbrev pub entries_fault : List Row → Kinds
+entries_fault entries =
+    if knows_format entries && knows_order entries
+    then (if has_its_page entries then [] else kind.MissingRequiredArgument ∷ [])
+    else kind.InvalidValue ∷ []
+
+-- the plan of a command with its entries, if they have no fault
 abbrev pub command_plan : Text → List Row → Option Plan
 command_plan name entries =
-    if knows_format entries then option_map (plan_with entries) (view_of name entries) else None
+    if is_empty (entries_fault entries) then (if bytes_eq name (codes "types") then Some (types_plan entries)
+    else option_map (plan_with entries) (view_of name entries))
+    else None
 
 -- the plan of the command that was entered
 abbrev pub entered_plan : Option (Text × List Row) → Option Plan
@@ -125,22 +200,42 @@ IsComparison (PairBoxes width) = Unit {0}
 IsComparison Fold = ⊥
 IsComparison (Graph width) = ⊥
 IsComparison (Chart width) = ⊥
+IsComparison (Top table) = ⊥
+
+-- the view has boxes
+abbrev pub IsDrawn : View → Type 0
+IsDrawn Fold = ⊥
+IsDrawn (Graph width) = Unit {0}
+IsDrawn (Chart width) = Unit {0}
+IsDrawn Pairs = ⊥
+IsDrawn (PairBoxes width) = Unit {0}
+IsDrawn (Top table) = ⊥
+
+-- a page is written
+abbrev pub IsPage : Form → Type 0
+IsPage form.Text = ⊥
+IsPage (form.Page page) = Unit {0}
+IsPage form.Types = ⊥
+
+-- the plan reads one profile, with the default options
+abbrev pub IsOfOneProfile : Plan → Type 0
+IsOfOneProfile plan =
+    (length plan.files ≡ 1) × (plan.format ≡ Some Pprof) × (plan.options ≡ default_options)
 
 -- ---- refusals
 
--- the fault of a command with its entries: a format that there is not
-abbrev pub format_fault : Option (Text × List Row) → Kinds
-format_fault entered = option_map_or (λ entered. if knows_format entered.1 then []
-    else kind.InvalidValue ∷ []) entered []
+-- the faults of the entries of the command that was entered
+abbrev pub own_fault : Option (Text × List Row) → Kinds
+own_fault entered = option_map_or (λ entered. entries_fault entered.1) entered []
 
--- the words are taken: `clap` takes them, and a format that they set is one
+-- the words are taken: `clap` takes them, and their entries have no fault
 abbrev pub takes : App → List Text → Bool
 takes line words = parses line words
-    && option_map_or (λ entered. knows_format entered.1) (subcommand_of line words) true
+    && is_empty (own_fault (subcommand_of line words))
 
--- the faults of words: those that `clap` finds, else that of their format
+-- the faults of words: those that `clap` finds, else those of the entries
 abbrev pub fault_of : App → List Text → Kinds
-fault_of line words = or_else (parsing_fault line words) (format_fault (subcommand_of line words))
+fault_of line words = or_else (parsing_fault line words) (own_fault (subcommand_of line words))
 
 -- the text that a fault is shown as
 abbrev pub fault_text : PlanFault → List ℕ

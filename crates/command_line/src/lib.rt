@@ -1,11 +1,16 @@
 //! The command line: from words to the plan of a run.
 #![tactic(auto)]
 
+mod arguments;
 mod commands;
+mod entered;
+mod entries;
 mod plans;
+mod refusals;
+mod views;
 mod words;
 
-pub use plans::{Plan, PlanFault, View};
+pub use plans::{Form, PageForm, Plan, PlanFault, TopTable, View};
 pub use words::{plan, plan_without_words};
 
 #[cfg(test)]

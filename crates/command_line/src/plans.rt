@@ -2,8 +2,8 @@
 ghost use Rattle.std.specs.Prelude.{◌≡◌};
 ghost use Rattle.command_line.specs.declared.plans.PlanFault.TheVariants.{OutOfMemory};
 
-use run_options::{Format, Options, Width};
-use stack_core::Names;
+use run_options::{Format, FunctionOrder, Options, Width};
+use stack_core::{Names, Text};
 use std::alloc::AllocError;
 use std::error::Error;
 use std::fmt;
@@ -21,6 +21,39 @@ pub enum View {
     Pairs,
     /// The flame graph of the second of two sources, with the weights of the first.
     PairBoxes(Width),
+    /// The functions by weight.
+    Top(TopTable),
+}
+
+/// A table of functions.
+#[derive(Clone, Copy, Debug, PartialEq)]
+pub struct TopTable {
+    /// The weight that sorts the functions, the greatest first.
+    pub by: FunctionOrder,
+    /// How many functions it has, if there are so many.
+    pub rows: u64,
+    /// It is written as a line of JSON.
+    pub is_json: bool,
+}
+
+/// What a run writes.
+#[derive(Debug, Drop)]
+pub enum Form {
+    /// The text of the view.
+    Text,
+    /// A page for browsers that shows the view.
+    Page(PageForm),
+    /// The sample types of a profile, in place of a view.
+    Types,
+}
+
+/// A page for browsers.
+#[derive(Debug, Drop)]
+pub struct PageForm {
+    /// Its title, if the words set one.
+    pub title: Option<Text>,
+    /// The least weight of a box that it keeps, if the words set one.
+    pub least: Option<u64>,
 }
 
 /// A run as the words ask for it.
@@ -32,6 +65,10 @@ pub struct Plan {
     pub format: Option<Format>,
     /// The paths of the sources, in order. None is the standard input.
     pub files: Names,
+    /// What is written.
+    pub form: Form,
+    /// No progress is shown on a terminal.
+    pub is_quiet: bool,
 }
 
 /// Why words are no plan.

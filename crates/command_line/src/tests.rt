@@ -1,4 +1,7 @@
 //! Worked command lines.
 mod examples;
 mod filters;
+mod forms;
+mod help;
+mod top;
 mod words;

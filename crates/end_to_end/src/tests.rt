@@ -5,5 +5,7 @@ mod outputs;
 mod page;
 mod pictures;
 mod profiles;
+mod sources;
+mod types;
 mod views;
 mod worked;

@@ -1,5 +1,5 @@
 -- trees that hold samples
-use Rattle.std.proofs.Common.{◌≡◌, ℕ, zero, suc, ◌+◌, ◌≤◌, ◌<◌, List, [], ◌∷◌, ◌++◌, cond, length, map, get_or, sym, ◌∙◌, ap, subst, refl, arith, inl, inr, nat_eq, Contains, Bool, true, false, ◌&&◌, take, Some, slice_get}
+use Rattle.std.proofs.Common.{◌≡◌, ℕ, zero, suc, ◌+◌, ◌≤◌, ◌<◌, List, [], ◌∷◌, ◌++◌, cond, length, get_or, sym, ◌∙◌, ap, subst, refl, arith, inr, nat_eq, Bool, true, false, ◌&&◌, take, Some, slice_get}
 use Rattle.std.specs.Prelude.{if◌then◌else◌, All}
 use Rattle.std.specs.List.{AllByRecursion, list_any}
 use Rattle.std.specs.Str.{bytes_eq}
@@ -10,24 +10,16 @@ use Rattle.std.specs.Cmp.Lexicographic.{pointwise}
 use Rattle.call_tree.specs.CallTree.{Tree, own_weight, total_weight as tree_total, with_weight}
 use Rattle.call_tree.specs.PathSums.{begins_with, total_of, own_of}
 use Rattle.call_tree.specs.FrameTable.{HasDistinctNames, with_name}
-use Rattle.call_tree.specs.declared.listing.Visit.{Visit as TreeVisit}
-use Rattle.call_tree.specs.Listing.{named, HasNumbersOf, IsListing as IsTreeListing, AreIn}
+use Rattle.call_tree.specs.Listing.{named, HasNumbersOf, AreIn}
 use Rattle.call_tree.proofs.TreeSums.{total_weight-tree_of, own_weight-tree_of}
 use Rattle.sample_tables.specs.declared.samples.Sample.{Sample}
 use Rattle.sample_tables.specs.Rows.{sample_at}
-use Rattle.merged_stacks.specs.Timeline.{total_weight, drawn}
-use Rattle.flame_layout.specs.Graph.{sorted_by_stack}
-use Rattle.flame_layout.specs.Paths.{total_at, own_at, paths_of, IsRising}
-use Rattle.flame_layout.specs.Comparison.{row_of, comparison_of}
+use Rattle.merged_stacks.specs.Timeline.{total_weight}
 use Rattle.merged_stacks.specs.checked.Ranks.{Grows}
-use Rattle.flame_layout.specs.checked.Paired.{Holds, pair_row, visit_paths}
-use Rattle.flame_layout.proofs.PathWords.{path_total, visit_of, visit_at-is, total_at-is}
-use Rattle.flame_layout.proofs.Sums.{IsListing, listing_paths}
-use Rattle.flame_layout.proofs.Rising.{Among}
-use Rattle.flame_layout.proofs.ChartLaws.{In}
-use Rattle.flame_layout.proofs.TreeSamples.{IsNamed, sampled, path_in, total_named, own_named, has_numbers, named_visit, rising_named, paths_of_visits, in_paths, paths_in, among_named, each_visit}
+use Rattle.flame_layout.specs.Paths.{total_at, own_at}
+use Rattle.flame_layout.specs.checked.Held.{Holds}
+use Rattle.flame_layout.proofs.TreeSamples.{IsNamed, sampled, path_in, total_named, own_named}
 use Rattle.merged_stacks.proofs.Timelines.{no_sample, weight_of}
-use Rattle.flame_layout.proofs.Chained.{PathsGoOn, chained_paths, visit_paths_are, numbers_chained}
 
 -- ---- a longer table
 
@@ -146,68 +138,6 @@ total-held names tree xs h d p k = holds-total names tree xs h p ∙ (total_name
 
 pub own-held : (names : List (List ℕ)) (tree : Tree) (xs : List Sample) → Holds names tree xs → HasDistinctNames names → (p : List ℕ) → AreIn names p → own_weight tree p ≡ own_at (named names p) xs
 own-held names tree xs h d p k = holds-own names tree xs h p ∙ (own_named names d p h.rows k (all_named names h.rows h.known) ∙ ap (own_at (named names p)) (sym h.samples_are))
-
--- ---- its listing
-
-pub held_listing : (names : List (List ℕ)) (tree : Tree) (xs : List Sample) (visits : List TreeVisit) (l : IsTreeListing names tree visits) → Holds names tree xs → HasDistinctNames names → IsListing (map (named_visit names tree) l.paths) xs
-held_listing names tree xs visits l h d = record {
-  rises = subst IsRising (sym (paths_of_visits names tree l.paths)) (rising_named names l.paths l.rises);
-  all = λ stack w.
-      let r = has_numbers names stack h.rows (subst (λ n. 0 < n) (sym (total_at-is stack xs) ∙ ap (total_at stack) h.samples_are) w) in
-      subst (λ ps. Among stack ps) (sym (paths_of_visits names tree l.paths))
-      (subst (λ s. Among s (map (named names) l.paths)) (sym r.is)
-      (among_named names r.path l.paths (in_paths r.path l.paths ((l.members r.path).1 (subst (λ n. 0 < n) (sym (holds-total names tree xs h r.path)) r.weighs)))));
-  sums = each_visit (λ visit. (visit ≡ visit_of xs visit.path) × (0 < path_total visit.path xs)) (named_visit names tree) l.paths (λ p m.
-      let w = (l.members p).0 (paths_in p l.paths m) in
-      let here = holds-known names tree xs h p w in
-      let total = total-held names tree xs h d p here in
-      let own = own-held names tree xs h d p here in (
-        (λ i. record { path = named names p; own = own i; total = total i }) ∙ ap (λ f. f (named names p)) (visit_at-is xs),
-        subst (λ n. 0 < n) (total ∙ total_at-is (named names p) xs) w,
-      ));
-}
-
-pub each_path : (P : List ℕ → Type 0) (ps : List (List ℕ)) → ((p : List ℕ) → Contains ps p → P p) → AllByRecursion P ps
-each_path P ps h = by ps (λ p m. h p (paths_in p ps m))
-  where
-    by : (qs : List (List ℕ)) → ((p : List ℕ) → In p qs → P p) → AllByRecursion P qs
-    by [] g = tt
-    by (q ∷ qs) g = (g q (inl refl), by qs (λ p m. g p (inr m)))
-
-pub listed_known : (names : List (List ℕ)) (tree : Tree) (xs : List Sample) (visits : List TreeVisit) (l : IsTreeListing names tree visits) → Holds names tree xs → AllByRecursion (AreIn names) l.paths
-listed_known names tree xs visits l h = each_path (AreIn names) l.paths (λ p c. holds-known names tree xs h p ((l.members p).0 c))
-
-line_paths : (names : List (List ℕ)) (tree : Tree) (xs : List Sample) (visits : List TreeVisit) (l : IsTreeListing names tree visits) → IsListing (map (named_visit names tree) l.paths) xs → paths_of (sorted_by_stack (drawn xs)) ≡ map (named names) l.paths
-line_paths names tree xs visits l h = listing_paths xs (map (named_visit names tree) l.paths) h ∙ paths_of_visits names tree l.paths
-
--- each path of a listing goes on from the path before it
-pub listing_chained : (names : List (List ℕ)) (tree : Tree) (xs : List Sample) (visits : List TreeVisit) (l : IsTreeListing names tree visits) → IsListing (map (named_visit names tree) l.paths) xs → AllByRecursion (AreIn names) l.paths → HasDistinctNames names → PathsGoOn [] l.paths
-listing_chained names tree xs visits l h k d =
-    numbers_chained names d l.paths k (subst (λ ps. PathsGoOn [] ps) (line_paths names tree xs visits l h) (chained_paths (sorted_by_stack (drawn xs))))
-
-pub visited_paths : (names : List (List ℕ)) (tree : Tree) (xs : List Sample) (visits : List TreeVisit) (l : IsTreeListing names tree visits) → Holds names tree xs → HasDistinctNames names → visit_paths [] visits ≡ l.paths
-visited_paths names tree xs visits l h d =
-    ap (visit_paths []) l.are ∙ visit_paths_are tree [] l.paths (listing_chained names tree xs visits l (held_listing names tree xs visits l h d) (listed_known names tree xs visits l h) d)
-
-rows_are : (names : List (List ℕ)) (before after : Tree) (xs ys : List Sample) → Holds names before xs → Holds names after ys → HasDistinctNames names → (ps : List (List ℕ)) → AllByRecursion (AreIn names) ps →
-    map (pair_row names before after) ps ≡ map (row_of xs ys) (map (named names) ps)
-rows_are names before after xs ys h g d [] k = refl
-rows_are names before after xs ys h g d (p ∷ ps) k =
-    λ i. record {
-      path = named names p;
-      total_before = total-held names before xs h d p k.0 i;
-      total_after = total-held names after ys g d p k.0 i;
-      own_before = own-held names before xs h d p k.0 i;
-      own_after = own-held names after ys g d p k.0 i;
-    } ∷ rows_are names before after xs ys h g d ps k.1 i
-
--- the rows of the joint tree's visits are the comparison
-pub compared : (names : List (List ℕ)) (before after both : Tree) (xs ys : List Sample) (visits : List TreeVisit) (l : IsTreeListing names both visits) → Holds names before xs → Holds names after ys → Holds names both (xs ++ ys) → HasDistinctNames names →
-    map (pair_row names before after) (visit_paths [] visits) ≡ comparison_of xs ys
-compared names before after both xs ys visits l h g b d =
-    ap (map (pair_row names before after)) (visited_paths names both (xs ++ ys) visits l b d) ∙
-    (rows_are names before after xs ys h g d l.paths (listed_known names both (xs ++ ys) visits l b) ∙
-    ap (map (row_of xs ys)) (sym (line_paths names both (xs ++ ys) visits l (held_listing names both (xs ++ ys) visits l b d))))
 
 -- ---- a table that gains names
 

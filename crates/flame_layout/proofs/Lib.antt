@@ -11,11 +11,13 @@ pub mod InStep
 pub mod LawProofs
 pub mod MergedSums
 pub mod Order
+pub mod PairedRows
 pub mod PathWords
 pub mod Rising
 pub mod Rows
 pub mod Runs
 pub mod Shared
+pub mod Sides
 pub mod Sums
 pub mod TreeSamples
 pub mod Timelines

@@ -44,7 +44,7 @@ pub same_rows : (xs ys : List Sample) → SameOwn xs ys → merged (weighed xs) 
 same_rows xs ys h =
     merged-same (weighed xs) (weighed ys) (λ q. sum_at-own q xs ∙ (sym (own_at-is q xs) ∙ (h q ∙ (own_at-is q ys ∙ sym (sum_at-own q ys)))))
 
-weighed_back : (rows : List Weighed) → weighed (map (λ (row : Weighed). (let s : Sample = record { stack = row.0; weight = row.1 } in s)) rows) ≡ rows
+pub weighed_back : (rows : List Weighed) → weighed (map (λ (row : Weighed). (let s : Sample = record { stack = row.0; weight = row.1 } in s)) rows) ≡ rows
 weighed_back [] = refl
 weighed_back (row ∷ rows) = ap (λ all. row ∷ all) (weighed_back rows)
 
@@ -59,7 +59,7 @@ less_from Less h = refl
 less_from Equal h = absurd h
 less_from Greater h = absurd h
 
-sorted_already : (samples : List Sample) → T (are_in_order (weighed samples)) → sorted_by_stack samples ≡ samples
+pub sorted_already : (samples : List Sample) → T (are_in_order (weighed samples)) → sorted_by_stack samples ≡ samples
 sorted_already [] h = refl
 sorted_already (s ∷ samples) h =
     ap (insert_by_stack s) (sorted_already samples (second (below_all stack_cmp s.stack (weighed samples)) (is_sorted stack_cmp (weighed samples)) h))

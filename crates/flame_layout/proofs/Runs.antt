@@ -4,7 +4,7 @@ use Rattle.std.specs.List.{take_while}
 use Rattle.std.proofs.lemmas.List.Sums.{take_while-cons, sum_by-cons}
 use Rattle.std.proofs.lemmas.Bool.{cond-true, cond-false, lt-leb, le-leb}
 use Rattle.sample_tables.specs.declared.samples.Sample.{Sample}
-use Rattle.merged_stacks.specs.Timeline.{Stack, total_weight}
+use Rattle.merged_stacks.specs.Timeline.{Stack}
 use Rattle.flame_layout.specs.Chart.{names_shared, begins_alike, run_at, own_weight}
 use Rattle.flame_layout.proofs.Shared.{IsAlike, IsAlike-refl, same_test, shared_from_alike}
 

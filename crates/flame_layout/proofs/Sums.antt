@@ -192,6 +192,18 @@ listing_graph samples visits l =
     ascending-visits line (sorted-ascending (drawn samples)) ∙
     ((λ i. boxes_of_visits 0 (map (same i) (listing_paths samples visits l i))) ∙ ap (boxes_of_visits 0) (visits_of-paths samples visits l.sums))
 
+-- the paths with weight are given by the own sums
+pub same_paths : (xs ys : List Sample) → SameSums xs ys → paths_of (sorted_by_stack (drawn xs)) ≡ paths_of (sorted_by_stack (drawn ys))
+same_paths xs ys h =
+    let left = sorted_by_stack (drawn xs) in
+    let right = sorted_by_stack (drawn ys) in
+    let totals : (p : Stack) → path_total p left ≡ path_total p right = λ p. timeline_total p xs ∙ (same_totals xs ys h p ∙ sym (timeline_total p ys)) in
+    let weighs_left = paths_of-weigh left (sorted-each (λ s. 0 < s.weight) (drawn xs) (drawn-positive xs)) in
+    let weighs_right = paths_of-weigh right (sorted-each (λ s. 0 < s.weight) (drawn ys) (drawn-positive ys)) in
+    same_rising (paths_of left) (paths_of right) (paths_of-rise left (sorted-ascending (drawn xs))) (paths_of-rise right (sorted-ascending (drawn ys)))
+    (λ p m. paths_of-all p right (subst (λ n. 0 < n) (totals p) (each-among (λ q. 0 < path_total q left) p (paths_of left) weighs_left m)))
+    (λ p m. paths_of-all p left (subst (λ n. 0 < n) (sym (totals p)) (each-among (λ q. 0 < path_total q right) p (paths_of right) weighs_right m)))
+
 -- a graph is given by the own sums
 pub same_graph : (xs ys : List Sample) → SameSums xs ys → graph_of xs ≡ graph_of ys
 same_graph xs ys h =
@@ -200,13 +212,7 @@ same_graph xs ys h =
     let totals : (p : Stack) → path_total p left ≡ path_total p right = λ p. timeline_total p xs ∙ (same_totals xs ys h p ∙ sym (timeline_total p ys)) in
     let owns : (p : Stack) → path_own p left ≡ path_own p right = λ p. timeline_own p xs ∙ (h p ∙ sym (timeline_own p ys)) in
     let same : visit_of (sorted_by_stack (drawn xs)) ≡ visit_of (sorted_by_stack (drawn ys)) = λ i p. record { path = p; own = owns p i; total = totals p i } in
-    let weighs_left = paths_of-weigh left (sorted-each (λ s. 0 < s.weight) (drawn xs) (drawn-positive xs)) in
-    let weighs_right = paths_of-weigh right (sorted-each (λ s. 0 < s.weight) (drawn ys) (drawn-positive ys)) in
-    let paths : paths_of (sorted_by_stack (drawn xs)) ≡ paths_of (sorted_by_stack (drawn ys)) =
-    same_rising (paths_of left) (paths_of right) (paths_of-rise left (sorted-ascending (drawn xs))) (paths_of-rise right (sorted-ascending (drawn ys)))
-    (λ p m. paths_of-all p right (subst (λ n. 0 < n) (totals p) (each-among (λ q. 0 < path_total q left) p (paths_of left) weighs_left m)))
-    (λ p m. paths_of-all p left (subst (λ n. 0 < n) (sym (totals p)) (each-among (λ q. 0 < path_total q right) p (paths_of right) weighs_right m))) in
-    ascending-visits left (sorted-ascending (drawn xs)) ∙ ((λ i. boxes_of_visits 0 (map (same i) (paths i))) ∙ sym (ascending-visits right (sorted-ascending (drawn ys))))
+    ascending-visits left (sorted-ascending (drawn xs)) ∙ ((λ i. boxes_of_visits 0 (map (same i) (same_paths xs ys h i))) ∙ sym (ascending-visits right (sorted-ascending (drawn ys))))
 
 pub same_sums : (xs ys : List Sample) → SameOwn xs ys → SameSums xs ys
 same_sums xs ys h path = sym (own_at-is path xs) ∙ (h path ∙ own_at-is path ys)

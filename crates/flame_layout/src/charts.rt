@@ -113,6 +113,29 @@ pub fn draw_chart<'a>(
     end(walk)
 }
 
+/// The boxes of the flame chart of samples that weigh `total`. Those of weight 0 are not left out.
+pub(crate) fn draw_all<'a, S: StackRows>(
+    alloc: Global,
+    list: &'a S,
+    total: u64,
+) -> Result<Vec<DrawnBox<'a>>, AllocError>
+    requires { total_weight (S.samples list.now) ≡ total }
+    ensures { IfOk result (λ boxes. map span_of boxes.items ≡ chart_of (S.samples list.now)) }
+{
+    let mut walk = Walk {
+        runs: Vec::new(alloc),
+        boxes: Vec::new(alloc),
+    };
+    let mut start = total;
+    let mut later = None;
+    for at in (0..list.len()).rev() {
+        enter(&mut walk, start, list, at, later)?;
+        start -= list.weight(at);
+        later = Some(at);
+    }
+    end(walk)
+}
+
 /// The boxes of what was walked, once it begins at 0.
 pub(crate) fn end<'a>(walk: Walk<'a>) -> Result<Vec<DrawnBox<'a>>, AllocError>
     requires { (samples : List WalkedSample)

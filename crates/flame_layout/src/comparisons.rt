@@ -1,19 +1,16 @@
 //! The comparison of two profiles.
 
-ghost use Rattle.std.specs.Prelude.{◌≡◌, ◌<◌, ◌≤◌, ◌+◌, ◌++◌, ◌∷◌, ◌^◌, ℕ, [], List, All, IfOk, OnOk, length, map, take};
-ghost use Rattle.std.specs.List.{AllByRecursion};
-ghost use Rattle.sample_tables.specs.Rows.{sample_at};
+ghost use Rattle.std.specs.Prelude.{◌≡◌, ◌<◌, ◌≤◌, ◌+◌, ◌^◌, [], List, All, IfOk, OnOk, length, map};
 ghost use Rattle.sample_tables.specs.declared.samples.Sample.{Sample};
-ghost use Rattle.call_tree.specs.CallTree.{Tree, total_weight as tree_total, own_weight as tree_own};
-ghost use Rattle.call_tree.specs.FrameTable.{HasDistinctNames};
-ghost use Rattle.call_tree.specs.Listing.{named, AreIn};
 ghost use Rattle.merged_stacks.specs.Timeline.{total_weight};
+ghost use Rattle.flame_layout.specs.Boxes.{span_of};
 ghost use Rattle.flame_layout.specs.Comparison.{comparison_of, compared_boxes_of};
-ghost use Rattle.merged_stacks.specs.checked.Ranks.{Grows};
-ghost use Rattle.flame_layout.specs.checked.Paired.{visit_paths, next_path, pair_row, Holds, row_box};
+ghost use Rattle.flame_layout.specs.checked.Paired.{names_now, next_path, paired_boxes, paired_row, paired_rows, row_box};
 
-use crate::boxes::{ComparedBox, PairRow, SpanBox};
-use call_tree::{CallTree, FrameTable, Visit};
+use crate::boxes::{ComparedBox, DrawnBox, PairRow, SpanBox};
+use crate::charts::draw_all;
+use crate::flame_boxes::span_box;
+use merged_stacks::{PairedSide, PairedStacks, Side};
 use stack_core::{Names, SourceList, Text};
 use std::alloc::{AllocError, Global};
 
@@ -30,137 +27,130 @@ pub fn compare(
         rows.items ≡ comparison_of before.now.samples after.now.samples) }
     ensures depth { IfOk result (λ rows. All (λ row. length row.path ≤ 4096) rows.items) }
 {
-    let mut table = FrameTable::new(alloc);
-    let mut left = CallTree::new(alloc)?;
-    let mut right = CallTree::new(alloc)?;
-    let mut both = CallTree::new(alloc)?;
-    add_list(alloc, &mut table, &mut left, &mut both, before)?;
-    add_list(alloc, &mut table, &mut right, &mut both, after)?;
-    let visits = both.listing(&table)?;
-    pair_rows(alloc, &table, &visits, &left, &right)
+    // The samples are within the limits: the counts tell it.
+    let _counts = (before.len(), after.len());
+    let stacks = PairedStacks::of(alloc, before, after)?;
+    let lefts = PairedSide {
+        stacks: &stacks,
+        side: Side::Before,
+    };
+    let rights = PairedSide {
+        stacks: &stacks,
+        side: Side::After,
+    };
+    let left = draw_all(alloc, &lefts, before.total() as u64)?;
+    let right = draw_all(alloc, &rights, after.total() as u64)?;
+    pair_rows(alloc, &left, &right)
 }
 
-/// Adds the samples of a list to its own tree and to that of both lists.
-pub(crate) fn add_list(
+/// The boxes of `compared_boxes`, without a row for each path.
+pub fn draw_comparison(
     alloc: Global,
-    table: &mut FrameTable,
-    own: &mut CallTree,
-    both: &mut CallTree,
-    list: &SourceList,
-) -> Result<(), AllocError>
-    requires own { (samples : List Sample) × Holds table.old own.old samples
-        × (total_weight samples + total_weight list.now.samples < 2 ^ 128) }
-    requires both { (samples : List Sample) × Holds table.old both.old samples
-        × (total_weight samples + total_weight list.now.samples < 2 ^ 128) }
-    requires distinct { HasDistinctNames table.old }
-    ensures own { OnOk result ((samples : List Sample) → Holds table.old own.old samples
-        → Holds table.new own.new (samples ++ list.now.samples)) }
-    ensures both { OnOk result ((samples : List Sample) → Holds table.old both.old samples
-        → Holds table.new both.new (samples ++ list.now.samples)) }
-    ensures grows { OnOk result (Grows table.old table.new) }
-    ensures distinct { OnOk result (HasDistinctNames table.new) }
-    ensures depth { All (λ sample. length sample.stack ≤ 4096) list.now.samples }
+    before: &SourceList,
+    after: &SourceList,
+) -> Result<Vec<ComparedBox>, AllocError>
+    requires before { total_weight before.now.samples < 2 ^ 64 }
+    requires after { total_weight after.now.samples < 2 ^ 64 }
+    ensures boxes { IfOk result (λ boxes.
+        boxes.items ≡ compared_boxes_of before.now.samples after.now.samples) }
+    ensures within { IfOk result (λ boxes.
+        All (λ compared. compared.span.start + compared.span.weight ≤ total_weight after.now.samples)
+        boxes.items) }
+    ensures positive { IfOk result (λ boxes. 0 < length boxes.items
+        → 0 < total_weight after.now.samples) }
 {
-    for at in 0..list.len() {
-        let numbers = frame_numbers(alloc, table, list, at)?;
-        own.add(&numbers, list.weight(at))?;
-        both.add(&numbers, list.weight(at))?;
-    }
-    Ok(())
+    let stacks = PairedStacks::of(alloc, before, after)?;
+    let lefts = PairedSide {
+        stacks: &stacks,
+        side: Side::Before,
+    };
+    let rights = PairedSide {
+        stacks: &stacks,
+        side: Side::After,
+    };
+    let left = draw_all(alloc, &lefts, before.total() as u64)?;
+    let right = draw_all(alloc, &rights, after.total() as u64)?;
+    pair_boxes(alloc, &left, &right)
 }
 
-/// The numbers of the frames of a sample. New names are put into the table.
-fn frame_numbers(
+/// The boxes of the second side that weigh, each with the weight of that of the first side.
+fn pair_boxes(
     alloc: Global,
-    table: &mut FrameTable,
-    list: &SourceList,
-    at: usize,
-) -> Result<Vec<usize>, AllocError>
-    requires at { at < length list.now.samples }
-    requires distinct { HasDistinctNames table.old }
-    ensures names { IfOk result (λ numbers.
-        named table.new numbers.items ≡ (sample_at list.now.samples at).stack) }
-    ensures known { IfOk result (λ numbers. AreIn table.new numbers.items) }
-    ensures grows { OnOk result (Grows table.old table.new) }
-    ensures distinct { OnOk result (HasDistinctNames table.new) }
+    before: &[DrawnBox<'_>],
+    after: &[DrawnBox<'_>],
+) -> Result<Vec<ComparedBox>, AllocError>
+    ensures { IfOk result (λ boxes.
+        boxes.items ≡ paired_boxes (map span_of before.now) (map span_of after.now)) }
 {
-    let mut numbers = Vec::new(alloc);
-    for frame in 0..list.depth(at) {
-        numbers.push(table.intern(list.name(at, frame))?)?;
+    let mut boxes = Vec::new(alloc);
+    for (left, right) in before.iter().zip(after) {
+        if right.weight > 0 {
+            boxes.push(ComparedBox {
+                span: span_box(alloc, right)?,
+                before: left.weight,
+            })?;
+        }
     }
-    Ok(numbers)
+    Ok(boxes)
 }
 
-/// The rows of the visits of a listing, by the trees of both sides.
+/// The rows of the boxes of both sides. The boxes stand in step, since both sides have the same stacks.
 fn pair_rows(
     alloc: Global,
-    table: &FrameTable,
-    visits: &[Visit],
-    before: &CallTree,
-    after: &CallTree,
+    before: &[DrawnBox<'_>],
+    after: &[DrawnBox<'_>],
 ) -> Result<Vec<PairRow>, AllocError>
-    requires known { AllByRecursion (AreIn table.now) (visit_paths [] visits.now) }
-    requires before { (path : List ℕ)
-        → (tree_total before.now path < 2 ^ 64) × (tree_own before.now path < 2 ^ 64) }
-    requires after { (path : List ℕ)
-        → (tree_total after.now path < 2 ^ 64) × (tree_own after.now path < 2 ^ 64) }
     ensures { IfOk result (λ rows.
-        rows.items ≡ map (pair_row table.now before.now after.now) (visit_paths [] visits.now)) }
+        rows.items ≡ paired_rows [] (map span_of before.now) (map span_of after.now)) }
 {
     let mut rows = Vec::new(alloc);
     let mut path = Vec::new(alloc);
-    for visit in visits {
-        step_path(&mut path, *visit)?;
-        rows.push(row(alloc, table, &path, before, after)?)?;
+    for (left, right) in before.iter().zip(after) {
+        step_path(&mut path, left)?;
+        rows.push(row(alloc, &path, left, right)?)?;
     }
     Ok(rows)
 }
 
-/// Steps to the path of the next visit.
-fn step_path(path: &mut Vec<usize>, visit: Visit) -> Result<(), AllocError>
-    ensures { OnOk result (path.new.items ≡ next_path path.old.items visit) }
+/// Steps to the path of the next box.
+fn step_path<'a>(path: &mut Vec<&'a str>, next: &DrawnBox<'a>) -> Result<(), AllocError>
+    ensures { OnOk result (names_now path.new.items ≡ next_path (names_now path.old.items) (span_of next.now)) }
 {
-    if visit.depth == 0 {
+    if next.depth == 0 {
         path.clear();
         return Ok(());
     }
-    path.truncate(visit.depth - 1);
-    path.push(visit.frame)?;
+    path.truncate(next.depth as usize - 1);
+    path.push(next.name)?;
     Ok(())
 }
 
-/// The row of a path.
+/// The row of a path, by its boxes in both profiles.
 fn row(
     alloc: Global,
-    table: &FrameTable,
-    path: &[usize],
-    before: &CallTree,
-    after: &CallTree,
+    path: &[&str],
+    before: &DrawnBox<'_>,
+    after: &DrawnBox<'_>,
 ) -> Result<PairRow, AllocError>
-    requires known { AreIn table.now path.now }
-    requires before { (tree_total before.now path.now < 2 ^ 64)
-        × (tree_own before.now path.now < 2 ^ 64) }
-    requires after { (tree_total after.now path.now < 2 ^ 64)
-        × (tree_own after.now path.now < 2 ^ 64) }
-    ensures { IfOk result (λ row. row ≡ pair_row table.now before.now after.now path.now) }
+    ensures { IfOk result (λ row.
+        row ≡ paired_row (names_now path.now) (span_of before.now) (span_of after.now)) }
 {
     Ok(PairRow {
-        path: names(alloc, table, path)?,
-        total_before: before.total(path) as u64,
-        total_after: after.total(path) as u64,
-        own_before: before.own(path) as u64,
-        own_after: after.own(path) as u64,
+        path: names(alloc, path)?,
+        total_before: before.weight,
+        total_after: after.weight,
+        own_before: before.own,
+        own_after: after.own,
     })
 }
 
-/// The names of a path's numbers.
-fn names(alloc: Global, table: &FrameTable, path: &[usize]) -> Result<Names, AllocError>
-    requires { AreIn table.now path.now }
-    ensures { IfOk result (λ names. names ≡ named table.now path.now) }
+/// The names of a path.
+fn names(alloc: Global, path: &[&str]) -> Result<Names, AllocError>
+    ensures { IfOk result (λ names. names ≡ names_now path.now) }
 {
     let mut names = Vec::new(alloc);
-    for number in path {
-        names.push(String::from_str(alloc, table.name(*number))?)?;
+    for name in path {
+        names.push(String::from_str(alloc, name)?)?;
     }
     Ok(Names::of(names))
 }

@@ -4,7 +4,7 @@ ghost use Rattle.std.specs.Prelude.{◌≡◌, IfOk, map};
 ghost use Rattle.flame_layout.specs.declared.boxes.SpanBox.{SpanBox as Span};
 ghost use Rattle.flame_layout.specs.Boxes.{span_of};
 
-use crate::boxes::{DrawnBox, SpanBox};
+use crate::boxes::{ComparedBox, DrawnBox, SpanBox};
 use stack_core::Text;
 use std::alloc::{AllocError, Global};
 
@@ -82,6 +82,30 @@ impl<'a> FlameBox for DrawnBox<'a> {
     }
 }
 
+impl FlameBox for ComparedBox {
+    ghost span = { λ compared. compared.span };
+
+    fn depth(&self) -> u32 {
+        self.span.depth
+    }
+
+    fn name(&self) -> &str {
+        self.span.name.get()
+    }
+
+    fn start(&self) -> u64 {
+        self.span.start
+    }
+
+    fn weight(&self) -> u64 {
+        self.span.weight
+    }
+
+    fn own(&self) -> u64 {
+        self.span.own
+    }
+}
+
 /// The boxes with names of their own.
 pub(crate) fn span_boxes(alloc: Global, drawn: &[DrawnBox<'_>]) -> Result<Vec<SpanBox>, AllocError>
     ensures { IfOk result (λ boxes. boxes.items ≡ map span_of drawn.now) }
@@ -93,7 +117,7 @@ pub(crate) fn span_boxes(alloc: Global, drawn: &[DrawnBox<'_>]) -> Result<Vec<Sp
     Ok(boxes)
 }
 
-fn span_box(alloc: Global, drawn: &DrawnBox<'_>) -> Result<SpanBox, AllocError>
+pub(crate) fn span_box(alloc: Global, drawn: &DrawnBox<'_>) -> Result<SpanBox, AllocError>
     ensures { IfOk result (λ span. span ≡ span_of drawn.now) }
 {
     Ok(SpanBox {

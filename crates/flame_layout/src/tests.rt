@@ -1,14 +1,11 @@
 //! Worked examples.
 
+mod comparisons;
 mod drawn;
 mod merged;
+mod trees;
 
-use crate::comparisons::add_list;
-use crate::{
-    ComparedBox, FlameBox, PairRow, PlacedBox, SpanBox, Width, chart_boxes, compare,
-    compared_boxes, edges, graph_boxes, place,
-};
-use call_tree::{CallTree, FrameTable};
+use crate::{FlameBox, PlacedBox, SpanBox, Width, chart_boxes, place};
 use stack_core::{Close, Ledger, Names, Sample, SourceEnd, SourceList};
 use std::alloc::{AllocError, Global};
 use std::process::Abort;
@@ -58,44 +55,6 @@ fn placed_chart(
     place(alloc, boxes, total as u64, width)
 }
 
-/// The graph of one source, in an image.
-fn placed_graph(
-    rt: &impl Abort,
-    alloc: Global,
-    source: &SourceList,
-    width: Width,
-) -> Result<Vec<PlacedBox>, AllocError> {
-    // The samples are within the limits: the count tells it.
-    let _count = source.len();
-    let total = source.total();
-    assert!(rt; total < 1_000);
-    let mut table = FrameTable::new(alloc);
-    let mut tree = CallTree::new(alloc)?;
-    let mut both = CallTree::new(alloc)?;
-    add_list(alloc, &mut table, &mut tree, &mut both, source)?;
-    let boxes = graph_boxes(alloc, &tree, &table)?;
-    place(alloc, boxes, total as u64, width)
-}
-
-/// Names and the four weights of each row.
-fn shown_rows(alloc: Global, rows: &[PairRow]) -> Result<String, AllocError> {
-    let mut text = String::new(alloc);
-    for row in rows {
-        text.push_str("(")?;
-        for name in row.path.get() {
-            text.push_str(name.as_str())?;
-            text.push_str(";")?;
-        }
-        let total_before = row.total_before;
-        let total_after = row.total_after;
-        let own_before = row.own_before;
-        let own_after = row.own_after;
-        let line = format!(in alloc; " {total_before} {total_after} {own_before} {own_after})")?;
-        text.push_str(&line)?;
-    }
-    Ok(text)
-}
-
 /// Depth, name, start, weight and own weight of each box.
 fn shown<B: FlameBox>(alloc: Global, boxes: &[B]) -> Result<String, AllocError> {
     let mut text = String::new(alloc);
@@ -123,35 +82,6 @@ fn shown_placed(alloc: Global, boxes: &[PlacedBox]) -> Result<String, AllocError
         let left = span.left;
         let right = span.right;
         let line = format!(in alloc; "({depth} {name} {start} {weight} {own} {left} {right})")?;
-        text.push_str(&line)?;
-    }
-    Ok(text)
-}
-
-/// The first profile's total, depth, name, start, weight and own weight of each box, and its edges.
-fn shown_compared(
-    rt: &impl Abort,
-    alloc: Global,
-    boxes: &[ComparedBox],
-    total: u64,
-    width: Width,
-) -> Result<String, AllocError> {
-    let mut text = String::new(alloc);
-    for compared in boxes {
-        let span = &compared.span;
-        assert!(rt; total > 0);
-        assert!(rt; span.start <= total);
-        assert!(rt; span.weight <= total - span.start);
-        let (left, right) = edges(span, total, width);
-        let before = compared.before;
-        let depth = span.depth;
-        let name = span.name.get();
-        let start = span.start;
-        let weight = span.weight;
-        let own = span.own;
-        let line = format!(in alloc;
-            "({before} {depth} {name} {start} {weight} {own} {left} {right})"
-        )?;
         text.push_str(&line)?;
     }
     Ok(text)
@@ -208,99 +138,6 @@ fn empty_timeline(rt: HostRuntime) -> Result<(), Fail> {
     let lines: [(&[&str], u64); 1] = [(&["a"], 0)];
     let boxes = chart(&rt, alloc, list(&rt, alloc, &lines)?)?;
     assert_eq!(rt; boxes.len(), 0);
-    Ok(())
-}
-
-const OLD: [(&[&str], u64); 2] = [(&["a"], 3), (&["b"], 1)];
-
-const NEW: [(&[&str], u64); 2] = [(&["a"], 1), (&["c"], 2)];
-
-fn compares(
-    rt: &impl Abort,
-    alloc: Global,
-    before: &SourceList,
-    after: &SourceList,
-) -> Result<(), Fail> {
-    assert!(rt; before.total() < 1_000);
-    assert!(rt; after.total() < 1_000);
-    let rows = compare(alloc, before, after)?;
-    let found = shown_rows(alloc, &rows)?;
-    assert_eq!(rt;
-        found.as_str(),
-        "( 4 3 0 0)(a; 3 1 3 1)(b; 1 0 1 0)(c; 0 2 0 2)"
-    );
-    Ok(())
-}
-
-#[test]
-fn comparison(rt: HostRuntime) -> Result<(), Fail> {
-    let before = list(&rt, rt.alloc(), &OLD)?;
-    let after = list(&rt, rt.alloc(), &NEW)?;
-    compares(&rt, rt.alloc(), &before, &after)
-}
-
-fn draws_comparison(
-    rt: &impl Abort,
-    alloc: Global,
-    before: &SourceList,
-    after: &SourceList,
-    width: Width,
-) -> Result<(), Fail> {
-    assert!(rt; before.total() < 1_000);
-    assert!(rt; after.total() < 1_000);
-    let rows = compare(alloc, before, after)?;
-    let boxes = compared_boxes(alloc, &rows)?;
-    let found = shown_compared(rt, alloc, &boxes, 3, width)?;
-    assert_eq!(rt;
-        found.as_str(),
-        "(4 0 all 0 3 0 0 10)(3 1 a 0 1 1 0 3)(0 1 c 1 2 2 3 10)"
-    );
-    Ok(())
-}
-
-#[test]
-fn comparison_boxes(rt: HostRuntime) -> Result<(), Fail> {
-    let width = Width::of(10).ok_or("no width")?;
-    let before = list(&rt, rt.alloc(), &OLD)?;
-    let after = list(&rt, rt.alloc(), &NEW)?;
-    draws_comparison(&rt, rt.alloc(), &before, &after, width)
-}
-
-fn draws_graph(
-    rt: &impl Abort,
-    alloc: Global,
-    source: &SourceList,
-    width: Width,
-    text: &str,
-) -> Result<(), Fail> {
-    let boxes = placed_graph(rt, alloc, source, width)?;
-    is_shown_placed(rt, alloc, &boxes, text)
-}
-
-#[test]
-fn graph_of_the_runs(rt: HostRuntime) -> Result<(), Fail> {
-    let lines: [(&[&str], u64); 3] = [(&["a", "b"], 1), (&["a", "c"], 1), (&["a", "b"], 1)];
-    let width = Width::of(3).ok_or("no width")?;
-    let source = list(&rt, rt.alloc(), &lines)?;
-    let text = "(0 all 0 3 0 0 3)(1 a 0 3 0 0 3)(2 b 0 2 2 0 2)(2 c 2 1 1 2 3)";
-    draws_graph(&rt, rt.alloc(), &source, width, text)
-}
-
-#[test]
-fn graph_of_three_lines(rt: HostRuntime) -> Result<(), Fail> {
-    let lines: [(&[&str], u64); 3] = [(&["a"], 1), (&["c"], 0), (&["b"], 2)];
-    let width = Width::of(10).ok_or("no width")?;
-    let source = list(&rt, rt.alloc(), &lines)?;
-    let text = "(0 all 0 3 0 0 10)(1 a 0 1 1 0 3)(1 b 1 2 2 3 10)";
-    draws_graph(&rt, rt.alloc(), &source, width, text)
-}
-
-#[test]
-fn empty_graph(rt: HostRuntime) -> Result<(), Fail> {
-    let alloc = rt.alloc();
-    let tree = CallTree::new(alloc)?;
-    let table = FrameTable::new(alloc);
-    assert_eq!(rt; graph_boxes(alloc, &tree, &table)?.len(), 0);
     Ok(())
 }
 

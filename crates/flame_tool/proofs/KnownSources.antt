@@ -29,7 +29,7 @@ use Rattle.merging.specs.Sources.{asked_rest, rests_of, read_bytes, source_rest}
 use Rattle.merging.specs.declared.sources.Source.{Source}
 use Rattle.flame_tool.specs.checked.Opening.{IsInput, IsOpened, AreOpened}
 use Rattle.flame_tool.specs.Requests.{all_found, rest_of, rest_at, rest_in, rests_at, known_rests}
-use Rattle.flame_tool.specs.Texts.{view_text}
+use Rattle.flame_tool.specs.Pages.{shown_text}
 use Rattle.flame_tool.specs.Runs.{IsClean, IsFault, lists_of, IsTextOf, Shows, HasFault}
 use Rattle.flame_tool.specs.checked.Failures.{has_fault, ends_in_fault, Fails, FailsToShow}
 use Rattle.flame_tool.specs.declared.failures.Failure.{Failure}
@@ -143,7 +143,7 @@ collected_of plan input files paths sources lists order every same opened whole 
 
 module _ (plan : Plan) (input : Option (List ℕ)) (files : List ℕ → Option (List ℕ)) (sources : List Source) (lists : List ListState) (order : List ℕ) (every : Option ℕ) (collected : AreCollected plan input files sources lists order every) where
   abbrev text : List ℕ
-  text = view_text plan.view (samples_of lists) order every
+  text = shown_text plan (samples_of lists) order every
 
   same_samples : samples_of lists ≡ lists_of (rests_of plan.options sources)
   same_samples = samples_of_rests lists ∙ ap lists_of collected.whole
@@ -156,7 +156,7 @@ module _ (plan : Plan) (input : Option (List ℕ)) (files : List ℕ → Option 
     clean = clean_rests plan.options sources (sym same_faults ∙ faultless);
     order = order;
     ordered = subst (λ (samples : List (List Sample)). IsInterleaving order samples) same_samples collected.ordered;
-    text_is = λ i. view_text plan.view (same_samples i) order (collected.every_is i);
+    text_is = λ i. shown_text plan (same_samples i) order (collected.every_is i);
   }
 
   -- what holds of the sources that were collected holds of those that are known
@@ -169,7 +169,7 @@ module _ (plan : Plan) (input : Option (List ℕ)) (files : List ℕ → Option 
 
   pub ok_shown : {T E : Type 0} (result : Result T E) (old new : Option (List ℕ)) → OnOk result (has_fault lists ≡ false) → OnOk result (Appends old new text)
       → OnOk result (IfSome (known_rests plan input files) (Shows plan old new))
-  ok_shown (Ok done) old new faultless appends = if_known (Shows plan old new) (text, is_text faultless, appends)
+  ok_shown (Ok done) old new faultless appends = if_known (Shows plan old new) (λ _. (text, is_text faultless, appends))
   ok_shown (Err error) old new faultless appends = tt
 
   -- the same of a text that is said in other words
@@ -185,7 +185,7 @@ module _ (plan : Plan) (input : Option (List ℕ)) (files : List ℕ → Option 
   not_shown old new NoThread fails = tt
   not_shown old new (Unfinished source) fails = tt
   not_shown old new Faults fails = faulty_rests (rests_of plan.options sources) (sym same_faults ∙ fails.0)
-  not_shown old new (Output fault) fails = (text, is_text fails.0, fails.1)
+  not_shown old new (Output fault) fails = λ _. (text, is_text fails.0, fails.1)
 
   pub err_shown : {T : Type 0} (result : Result T Failure) (old new : Option (List ℕ)) → IfErr result (FailsToShow lists text old new)
       → IfErr result (λ failure. IfSome (known_rests plan input files) (Fails plan old new failure))

@@ -1,5 +1,5 @@
 -- How a run ends, by its words and by its plan.
-use Rattle.std.proofs.Common.{◌≡◌, ◌⊎◌, inl, inr, ℕ, List, [], ◌∷◌, map, length, Option, Some, None, IfSome, ap, sym, ◌∙◌, subst, refl, arith, take, append-nil}
+use Rattle.std.proofs.Common.{◌≡◌, ◌≢◌, ◌≤◌, ◌⊎◌, inl, inr, ℕ, List, [], ◌∷◌, map, length, Option, Some, None, IfSome, ap, sym, ◌∙◌, subst, refl, arith, take, append-nil}
 use Rattle.std.specs.Prelude.{IsSomeAnd}
 use Rattle.std.specs.Io.KnownBytes.{Appends, Keeps}
 use Rattle.clap.specs.Walk.{Text}
@@ -14,12 +14,17 @@ use Rattle.view_texts.specs.Fold.{fold_text}
 use Rattle.command_line.specs.Plans.{IsFaultAmong, default_plan, fault_of, plan_of}
 use Rattle.command_line.specs.declared.plans.PlanFault.{PlanFault}
 use Rattle.command_line.specs.declared.plans.PlanFault.TheVariants as fault
+use Rattle.command_line.specs.declared.plans.Form.{Form}
+use Rattle.command_line.specs.declared.plans.Form.TheVariants as form
 use Rattle.command_line.specs.declared.plans.Plan.{Plan}
 use Rattle.command_line.specs.declared.plans.View.{View}
-use Rattle.command_line.specs.declared.plans.View.TheVariants.{Fold, Graph, Chart, Pairs, PairBoxes}
-use Rattle.flame_tool.specs.Requests.{AsksForHelp, asked_plan, known_rests}
-use Rattle.flame_tool.specs.Texts.{IsOrderless, view_text}
-use Rattle.flame_tool.specs.Runs.{lists_of, text_of, GainsFront, Shows, ShowsFront, HasFault}
+use Rattle.command_line.specs.declared.plans.View.TheVariants.{Fold, Graph, Chart, Pairs, PairBoxes, Top}
+use Rattle.flame_tool.specs.Requests.{AsksForHelp, asked_faults, asked_plan, known_rests}
+use Rattle.command_line.specs.declared.plans.PageForm.{PageForm}
+use Rattle.flame_tool.specs.Pages.{page_text, shown_text, text_in}
+use Rattle.flame_tool.specs.Texts.{IsOrderless, graph_text, view_text}
+use Rattle.flame_tool.specs.checked.Forms.{IsOfView, IsOrderlessIn}
+use Rattle.flame_tool.specs.Runs.{lists_of, text_of, GainsFront, Shows, ShowsFront, ShowsSamples, HasFault}
 use Rattle.flame_tool.specs.checked.Failures.{Fails, IsHelp, KeepsOutput, status_of}
 use Rattle.flame_tool.specs.declared.failures.Failure.{Failure}
 use Rattle.flame_tool.specs.declared.failures.Failure.TheVariants.{TooManyFiles, Unreadable, TooLarge, OutOfMemory, NoThread, Unfinished, Faults, Output}
@@ -56,12 +61,38 @@ orderless_text (Graph width) lists order every orderless = ap (view_text (Graph 
 orderless_text (Chart width) lists order every orderless = refl
 orderless_text Pairs lists order every orderless = refl
 orderless_text (PairBoxes width) lists order every orderless = refl
+orderless_text (Top top) lists order every orderless = refl
 
-pub exactly : (plan : Plan) (known : Option (List Rest)) (old new : Option (List ℕ)) → IfSome known (Shows plan old new) → IsOrderless plan.view plan.options.every
+orderless_in : (written : Form) (plan : Plan) (lists : List (List Sample)) (order : List ℕ) (every : Option ℕ) → IsOrderlessIn written plan.view every → text_in written plan lists order every ≡ text_in written plan lists [] None
+orderless_in form.Text plan lists order every orderless = orderless_text plan.view lists order every orderless
+orderless_in (form.Page page) plan lists order every orderless = refl
+orderless_in form.Types plan lists order every orderless = orderless_text plan.view lists order every orderless
+
+pub orderless_shown : (plan : Plan) (lists : List (List Sample)) (order : List ℕ) (every : Option ℕ) → IsOrderlessIn plan.form plan.view every → shown_text plan lists order every ≡ shown_text plan lists [] None
+orderless_shown plan = orderless_in plan.form plan
+
+-- the text of a graph, where no page is written
+graph_in : (written : Form) (plan : Plan) (width : ℕ) (lists : List (List Sample)) (order : List ℕ) (every : Option ℕ) → IsOfView written → plan.view ≡ Graph width → text_in written plan lists order every ≡ graph_text width lists order every
+graph_in form.Text plan width lists order every of_view is = ap (λ (view : View). view_text view lists order every) is
+graph_in (form.Page page) plan width lists order every of_view is = absurd of_view
+graph_in form.Types plan width lists order every of_view is = ap (λ (view : View). view_text view lists order every) is
+
+pub graph_shown : (plan : Plan) (width : ℕ) (lists : List (List Sample)) (order : List ℕ) (every : Option ℕ) → IsOfView plan.form → plan.view ≡ Graph width → shown_text plan lists order every ≡ graph_text width lists order every
+graph_shown plan = graph_in plan.form plan
+
+pub exactly : (plan : Plan) (known : Option (List Rest)) (old new : Option (List ℕ)) → IfSome known (Shows plan old new) → plan.form ≡ form.Text → IsOrderless plan.view plan.options.every
     → IfSome known (λ rests. Appends old new (view_text plan.view (lists_of rests) [] None))
-exactly plan None old new shows orderless = tt
-exactly plan (Some rests) old new (text, is_text, appends) orderless =
-    subst (Appends old new) (is_text.text_is ∙ orderless_text plan.view (lists_of rests) is_text.order plan.options.every orderless) appends
+exactly plan None old new shows as_text orderless = tt
+exactly plan (Some rests) old new shows as_text orderless =
+    let shown = shows (subst ShowsSamples (sym as_text) tt) in
+    subst (Appends old new) (shown.1.text_is ∙ ap (λ (written : Form). text_in written plan (lists_of rests) shown.1.order plan.options.every) as_text ∙ orderless_text plan.view (lists_of rests) shown.1.order plan.options.every orderless) shown.2
+
+pub page_exactly : (plan : Plan) (known : Option (List Rest)) (old new : Option (List ℕ)) → IfSome known (Shows plan old new) → (page : PageForm) → plan.form ≡ form.Page page
+    → IfSome known (λ rests. Appends old new (page_text plan page (lists_of rests)))
+page_exactly plan None old new shows page as_page = tt
+page_exactly plan (Some rests) old new shows page as_page =
+    let shown = shows (subst ShowsSamples (sym as_page) tt) in
+    subst (Appends old new) (shown.1.text_is ∙ ap (λ (written : Form). text_in written plan (lists_of rests) shown.1.order plan.options.every) as_page) shown.2
 
 -- ---- without words
 
@@ -77,7 +108,9 @@ module _ (input : Option (List ℕ)) (files : List ℕ → Option (List ℕ)) (o
     where
       go : (known : Option (List ℕ)) → IfSome (known_rests default_plan known files) (Shows default_plan old new) → IfSome known (λ bytes. Appends old new (text_of bytes))
       go None shows = tt
-      go (Some bytes) (text, is_text, appends) = subst (Appends old new) (is_text.text_is ∙ whole_input bytes) appends
+      go (Some bytes) shows =
+          let shown = shows tt in
+          subst (Appends old new) (shown.1.text_is ∙ whole_input bytes) shown.2
 
   unchanged : (before after : Option (List ℕ)) → Keeps before after → Appends before after []
   unchanged None after kept = tt
@@ -95,7 +128,9 @@ module _ (input : Option (List ℕ)) (files : List ℕ → Option (List ℕ)) (o
     where
       go : (known : Option (List ℕ)) → IfSome (known_rests default_plan known files) (ShowsFront default_plan old new) → IfSome known (λ bytes. GainsFront bytes old new)
       go None shows = tt
-      go (Some bytes) (text, is_text, (count, appends)) = (count, subst (λ t. Appends old new (take count t)) (is_text.text_is ∙ whole_input bytes) appends)
+      go (Some bytes) shows =
+          let shown = shows tt in
+          (shown.2.0, subst (λ t. Appends old new (take shown.2.0 t)) (shown.1.text_is ∙ whole_input bytes) shown.2.1)
 
 -- ---- words
 
@@ -104,11 +139,19 @@ words_have words plan P asked holds = subst (λ asked. IsSomeAnd asked P) (sym a
 
 pub asked_exactly : (words : List Text) (plan : Plan) (input : Option (List ℕ)) (files : List ℕ → Option (List ℕ)) (old new : Option (List ℕ)) → asked_plan words ≡ Some plan
     → IfSome (known_rests plan input files) (Shows plan old new)
-    → IsSomeAnd (asked_plan words) (λ plan. IsOrderless plan.view plan.options.every
+    → IsSomeAnd (asked_plan words) (λ plan. plan.form ≡ form.Text → IsOrderless plan.view plan.options.every
     → IfSome (known_rests plan input files) (λ rests. Appends old new (view_text plan.view (lists_of rests) [] None)))
 asked_exactly words plan input files old new asked shows =
-    words_have words plan (λ plan. IsOrderless plan.view plan.options.every → IfSome (known_rests plan input files) (λ rests. Appends old new (view_text plan.view (lists_of rests) [] None)))
+    words_have words plan (λ plan. plan.form ≡ form.Text → IsOrderless plan.view plan.options.every → IfSome (known_rests plan input files) (λ rests. Appends old new (view_text plan.view (lists_of rests) [] None)))
     asked (exactly plan (known_rests plan input files) old new shows)
+
+pub asked_page : (words : List Text) (plan : Plan) (input : Option (List ℕ)) (files : List ℕ → Option (List ℕ)) (old new : Option (List ℕ)) → asked_plan words ≡ Some plan
+    → IfSome (known_rests plan input files) (Shows plan old new)
+    → IsSomeAnd (asked_plan words) (λ plan. (page : PageForm) → plan.form ≡ form.Page page
+    → IfSome (known_rests plan input files) (λ rests. Appends old new (page_text plan page (lists_of rests))))
+asked_page words plan input files old new asked shows =
+    words_have words plan (λ plan. (page : PageForm) → plan.form ≡ form.Page page → IfSome (known_rests plan input files) (λ rests. Appends old new (page_text plan page (lists_of rests))))
+    asked (page_exactly plan (known_rests plan input files) old new shows)
 
 pub some_asked : {A : Type 0} (bytes : A → List ℕ) (words : List A) (plan : Plan) → (length words ≡ 0 → ⊥) → plan_of (map bytes words) ≡ Some plan → asked_plan (map bytes words) ≡ Some plan
 some_asked bytes [] plan some planned = absurd (some refl)
@@ -126,3 +169,17 @@ pub partly_help : {A : Type 0} {Q : Type 0} (bytes : A → List ℕ) (words : Li
     → IsFaultAmong (fault_of command_line (map bytes words)) f → Keeps old new ⊎ IsHelp f → Keeps old new ⊎ (AsksForHelp (map bytes words) ⊎ Q)
 partly_help bytes words f old new some among (inl kept) = inl kept
 partly_help bytes words f old new some among (inr help) = inr (inl (asks_if_help bytes words f some among help))
+
+-- words that have no fault and name at most 64 files
+abbrev pub IsAccepted : List Text → Type 0
+IsAccepted words = (asked_faults words ≡ []) × IsSomeAnd (asked_plan words) (λ plan. length plan.files ≤ 64)
+
+pub accepted_none : {A : Type 0} (bytes : A → List ℕ) (words : List A) → length words ≡ 0 → IsAccepted (map bytes words)
+accepted_none bytes [] none = (refl, omega arith)
+accepted_none bytes (word ∷ words) none = absurd (omega arith)
+
+pub accepted_some : {A : Type 0} (bytes : A → List ℕ) (words : List A) (plan : Plan) (status : ℕ) → (length words ≡ 0 → ⊥) → plan_of (map bytes words) ≡ Some plan
+    → fault_of command_line (map bytes words) ≡ [] → (status ≢ 2 → length plan.files ≤ 64) → status ≤ 1 → IsAccepted (map bytes words)
+accepted_some bytes [] plan status some planned faultless few accepted = absurd (some refl)
+accepted_some bytes (word ∷ words) plan status some planned faultless few accepted =
+    (faultless, words_have (map bytes (word ∷ words)) plan (λ plan. length plan.files ≤ 64) planned (few (λ two. omega arith)))

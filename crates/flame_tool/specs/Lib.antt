@@ -1,8 +1,10 @@
 -- The definitions that the contracts of flame_tool cite. Those of the crates below it are passed on.
+pub mod Pages
 pub mod Requests
 pub mod Runs
 pub mod SumViews
 pub mod Texts
+pub mod TypeRuns
 pub mod Views
 pub mod checked
 pub use Rattle.byte_io.specs.Calls
@@ -11,16 +13,24 @@ pub use Rattle.byte_io.specs.Inlet
 pub use Rattle.byte_io.specs.Outlet
 pub use Rattle.command_line.specs.CommandLine
 pub use Rattle.command_line.specs.Plans
+pub use Rattle.function_sums.specs.FunctionList
+pub use Rattle.function_sums.specs.FunctionSums
 pub use Rattle.merged_stacks.specs.Merged
 pub use Rattle.merging.specs.Gathered
 pub use Rattle.merging.specs.Snapshots
 pub use Rattle.merging.specs.Sources
 pub use Rattle.merging.specs.Sums
 pub use Rattle.merging.specs.TreeSinkState
+pub use Rattle.page_texts.specs.Document
+pub use Rattle.page_texts.specs.Page
 pub use Rattle.run_options.specs.Filters
 pub use Rattle.run_options.specs.Formats
+pub use Rattle.sum_texts.specs.FunctionJson
+pub use Rattle.sum_texts.specs.FunctionTable
+pub use Rattle.sum_texts.specs.TopTexts
 pub use Rattle.view_texts.specs.Fold
 pub use Rattle.view_texts.specs.Json
 pub use Rattle.view_texts.specs.JsonLaws
 pub use Rattle.view_texts.specs.Pairs
 pub use Rattle.view_texts.specs.Parts
+pub use Rattle.view_texts.specs.Types

@@ -8,9 +8,11 @@ use Rattle.sample_tables.specs.declared.samples.Sample.{Sample}
 use Rattle.stack_core.specs.declared.endings.SourceEnd.{SourceEnd}
 use Rattle.stack_core.specs.declared.endings.SourceEnd.TheVariants as ends
 use Rattle.folded_lines.specs.Reading.{read_folded}
+use Rattle.command_line.specs.declared.plans.Form.{Form}
+use Rattle.command_line.specs.declared.plans.Form.TheVariants as form
 use Rattle.command_line.specs.declared.plans.Plan.{Plan}
 use Rattle.view_texts.specs.Fold.{fold_text}
-use Rattle.flame_tool.specs.Texts.{view_text}
+use Rattle.flame_tool.specs.Pages.{shown_text}
 
 -- all of the source was read
 abbrev pub IsClean : SourceEnd → Type 0
@@ -36,21 +38,29 @@ GainsFront bytes old new = (count : ℕ) × Appends old new (take count (text_of
 abbrev pub lists_of : List Rest → List (List Sample)
 lists_of rests = map (λ rest. rest.samples) rests
 
--- a text that the plan asks for: all of each source was read, and it is the view of their samples, in an order in which they may
--- come
+-- samples are shown, and not what a profile says of them
+abbrev pub ShowsSamples : Form → Type 0
+ShowsSamples form.Text = Unit {0}
+ShowsSamples (form.Page page) = Unit {0}
+ShowsSamples form.Types = ⊥
+
+-- a text that the plan asks for: all of each source was read, and it is the view of their samples, or its page, in an order in
+-- which they may come
 pub record IsTextOf (plan : Plan) (rests : List Rest) (text : List ℕ) : Type 0 where
   pub clean : All (λ rest. IsClean rest.ending) rests
   pub order : List ℕ
   pub ordered : IsInterleaving order (lists_of rests)
-  pub text_is : text ≡ view_text plan.view (lists_of rests) order plan.options.every
+  pub text_is : text ≡ shown_text plan (lists_of rests) order plan.options.every
 
--- the output gained what the plan asks for
+-- the output gained what the plan asks for, if that shows samples
 abbrev pub Shows : Plan → Option (List ℕ) → Option (List ℕ) → List Rest → Type 0
-Shows plan old new rests = (text : List ℕ) × IsTextOf plan rests text × Appends old new text
+Shows plan old new rests =
+    ShowsSamples plan.form → (text : List ℕ) × IsTextOf plan rests text × Appends old new text
 
 -- the output gained a part of that from its front, or nothing
 abbrev pub ShowsFront : Plan → Option (List ℕ) → Option (List ℕ) → List Rest → Type 0
-ShowsFront plan old new rests = (text : List ℕ) × IsTextOf plan rests text × AppendsFront text old new
+ShowsFront plan old new rests =
+    ShowsSamples plan.form → (text : List ℕ) × IsTextOf plan rests text × AppendsFront text old new
 
 -- a source was read up to a fault
 abbrev pub HasFault : List Rest → Type 0

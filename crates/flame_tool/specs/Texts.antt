@@ -1,5 +1,5 @@
 -- The text of each view, of the collected lists and the order of arrival.
-use Rattle.std.specs.Prelude.{◌≡◌, ℕ, List, ◌++◌, Option, None, codes, length, map}
+use Rattle.std.specs.Prelude.{◌≡◌, ℕ, List, ◌++◌, Option, None, codes, length, map, if◌then◌else◌}
 use Rattle.std.specs.List.{flat_map, range_with_len}
 use Rattle.sample_tables.specs.declared.samples.Sample.{Sample}
 use Rattle.stack_core.specs.Interleaving.{counts_at, list_of}
@@ -12,9 +12,11 @@ use Rattle.view_texts.specs.Json.{boxes_line, snapshot_line, pair_boxes_line}
 use Rattle.view_texts.specs.Pairs.{pairs_text}
 use Rattle.merging.specs.Snapshots.{snapshot_samples, snapshot_places}
 use Rattle.merging.specs.Sums.{all_samples}
+use Rattle.sum_texts.specs.TopTexts.{top_table, top_line}
+use Rattle.command_line.specs.declared.plans.TopTable.{TopTable}
 use Rattle.command_line.specs.declared.plans.View.{View}
 use Rattle.merging.specs.declared.snapshots.Snapshot.{Snapshot}
-use Rattle.command_line.specs.declared.plans.View.TheVariants.{Fold, Graph, Chart, Pairs, PairBoxes}
+use Rattle.command_line.specs.declared.plans.View.TheVariants.{Fold, Graph, Chart, Pairs, PairBoxes, Top}
 
 -- the flame graph of samples
 abbrev pub graph_line : ℕ → List Sample → List ℕ
@@ -51,12 +53,18 @@ abbrev pub pair_boxes_text : ℕ → List Sample → List Sample → List ℕ
 pair_boxes_text width before after =
     pair_boxes_line (total_weight before) (total_weight after) width (compared_boxes_of before after)
 
+-- the heaviest functions: their table, or their line of JSON
+abbrev pub top_text : TopTable → List Sample → List ℕ
+top_text top samples =
+    if top.is_json then top_line top.by top.rows samples else top_table top.by top.rows samples
+
 abbrev pub view_text : View → List (List Sample) → List ℕ → Option ℕ → List ℕ
 view_text Fold lists order every = fold_text (all_samples lists)
 view_text (Graph width) lists order every = graph_text width lists order every
 view_text (Chart width) lists order every = chart_text width lists
 view_text Pairs lists order every = pairs_text (list_of lists 0) (list_of lists 1)
 view_text (PairBoxes width) lists order every = pair_boxes_text width (list_of lists 0) (list_of lists 1)
+view_text (Top top) lists order every = top_text top (all_samples lists)
 
 -- the text is the same in whatever order the samples come, since it has no snapshots
 abbrev pub IsOrderless : View → Option ℕ → Type 0
@@ -65,3 +73,4 @@ IsOrderless (Graph width) every = every ≡ None
 IsOrderless (Chart width) every = Unit {0}
 IsOrderless Pairs every = Unit {0}
 IsOrderless (PairBoxes width) every = Unit {0}
+IsOrderless (Top top) every = Unit {0}

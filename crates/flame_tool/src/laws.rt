@@ -13,10 +13,12 @@ ghost use Rattle.flame_tool.specs.SumViews.{SeesSums};
 ghost use Rattle.flame_tool.specs.Texts.{view_text};
 
 pub use folded_lines::laws::{lines_read_back, names_read_back, text_reads_as_its_parts};
+pub use function_sums::laws::{functions_are_listed, tables_are_one};
 pub use merging::laws::{
     all_samples_come, counts_have_each_source, counts_never_fall, lines_and_addresses_read_back,
     samples_read_back,
 };
+pub use sum_texts::laws::{function_lines_read_back, percentages_are_rounded};
 pub use view_texts::laws::{
     folds_are_of_the_whole, folds_see_no_order, json_lines_read_back, merged_rows, merging_goes_on,
     pairs_have_all_stacks, text_folds_in_parts,

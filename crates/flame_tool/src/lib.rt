@@ -7,6 +7,7 @@ pub mod laws;
 // What is seen of the sources: boxes and texts.
 mod drawings;
 mod drawn_texts;
+mod functions;
 mod graph_texts;
 mod view_set;
 mod view_text;
@@ -17,17 +18,20 @@ mod endings;
 mod failures;
 mod messages;
 mod program;
+mod progress;
+mod sent_pages;
 mod sent_views;
 mod source_files;
+mod types_run;
 
 pub use byte_io::{
     CountedReader, CountedWriter, Files, Inlet, LoadFault, MachineFiles, MemoryFiles, NamedFile,
     Outlet, SOURCE_LIMIT, SendFault, load, send,
 };
-pub use command_line::{Plan, PlanFault, View, plan};
+pub use command_line::{Form, PageForm, Plan, PlanFault, TopTable, View, plan};
 pub use merging::{Gathered, Snapshot, Source, TreeSink, gather};
 pub use program::run;
-pub use run_options::{Filter, Format, Options, format_of};
+pub use run_options::{Filter, Format, FunctionOrder, Options, format_of};
 pub use source_files::SOURCE_COUNT;
 pub use view_set::Views;
 pub use view_text::render;

@@ -1,17 +1,22 @@
 //! What a run says on standard error, each on a line of its own. It takes no memory, and a failure to
 //! write changes nothing.
 
+ghost use Rattle.std.specs.Prelude.{◌≡◌, map, string_bytes};
+ghost use Rattle.flame_tool.specs.Pages.{source_name};
+
 use crate::failures::Failure;
 use byte_io::{Outlet, PieceFault, send};
 use itoa::Buffer;
 use run_options::Format;
 use stack_core::SourceEnd;
 
-// What messages call the standard input.
+// What messages and pages call the standard input.
 const INPUT: &str = "-";
 
-// What messages call a source of these files: its path, or the standard input where there is no file.
-fn path_of(files: &[String], source: usize) -> &str {
+// What messages and pages call a source of these files: its path, or the standard input where there is no file.
+pub(crate) fn path_of(files: &[String], source: usize) -> &str
+    ensures { result.now ≡ source_name (map string_bytes files.now) source }
+{
     match files.get(source) {
         Some(path) => path.as_str(),
         None => INPUT,

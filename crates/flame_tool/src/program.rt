@@ -3,22 +3,30 @@ ghost use Rattle.std.specs.Prelude.{◌≡◌, ◌≢◌, ◌≤◌, ◌<◌, �
 ghost use Rattle.std.specs.Io.KnownBytes.{Appends, Keeps};
 ghost use Rattle.folded_lines.specs.Reading.{read_folded};
 ghost use Rattle.merged_stacks.specs.Timeline.{samples_of};
-ghost use Rattle.command_line.specs.Plans.{IsComparison};
-ghost use Rattle.flame_tool.specs.Requests.{AreRefused, AsksForHelp, asked_plan, known_rests};
+ghost use Rattle.command_line.specs.Plans.{IsComparison, IsOfOneProfile};
+ghost use Rattle.command_line.specs.declared.plans.PageForm.{PageForm};
+ghost use Rattle.flame_tool.specs.Requests.{AreRefused, AsksForHelp, asked_faults, asked_plan, known_rests};
+ghost use Rattle.flame_tool.specs.Pages.{page_text, shown_text};
 ghost use Rattle.flame_tool.specs.Texts.{IsOrderless, graph_text, view_text};
 ghost use Rattle.flame_tool.specs.Runs.{IsClean, IsFault, text_of, lists_of, GainsFront, Shows, ShowsFront, HasFault};
+ghost use Rattle.flame_tool.specs.TypeRuns.{known_profile, HasTableFault, ShowsTypes, ShowsTypesFront};
+ghost use Rattle.flame_tool.specs.checked.TypeFailures.{FailsTypes};
 ghost use Rattle.flame_tool.specs.checked.Opening.{AreOpened};
-ghost use Rattle.flame_tool.specs.checked.Failures.{has_fault, Fails, FailsToShow, KeepsOutput, IsHelp, IsWords};
+ghost use Rattle.flame_tool.specs.checked.Failures.{has_fault, Fails, FailsToShow, Flushes, KeepsOutput, IsHelp, IsWords};
+ghost use Rattle.flame_tool.specs.checked.Forms.{IsOfView, IsOrderlessIn};
 
 use crate::endings::{any_fault, report_endings};
 use crate::failures::Failure;
 use crate::messages::{report_awaited_input, report_failure};
+use crate::progress::Progress;
+use crate::sent_pages::send_asked_page;
 use crate::sent_views::{send_plain_view, send_snapshots};
 use crate::source_files::open_sources;
+use crate::types_run::show_types;
 use byte_io::{Files, Outlet, PieceFault, send};
-use command_line::{Plan, PlanFault, View, plan, plan_without_words};
+use command_line::{Form, Plan, PlanFault, View, plan, plan_without_words};
 use flame_layout::Width;
-use merging::{Gathered, Source, SourceLists, gather, read_sources};
+use merging::{Gathered, Source, SourceLists, gather, read_whole_sources};
 use run_options::Format;
 use stack_core::OpenGate;
 use std::alloc::{AllocError, Global};
@@ -40,6 +48,10 @@ pub fn run<T: Threads + Wait + Copy + Send + 'static, F: Files, W: Outlet, E: Ou
 ) -> u8
     ensures status { result ≤ 3 }
     ensures no_words { vec_len words ≡ 0 → result ≢ 2 }
+
+    // 0 means that what was written was flushed too. No call of the output failed but where 3 is answered.
+    ensures flushed { result ≡ 0 → W.is_flushed out.new }
+    ensures unfailed { result ≢ 3 → W.failures out.new ≡ W.failures out.old }
 
     // Without words 0 is success: the input has no fault, and its whole fold text went out.
     ensures clean { vec_len words ≡ 0 → result ≡ 0 → IfSome (F.known_input files.old) (λ input.
@@ -66,10 +78,18 @@ pub fn run<T: Threads + Wait + Copy + Send + 'static, F: Files, W: Outlet, E: Ou
         (Shows plan (W.contents out.old) (W.contents out.new))) }
     ensures shown_exactly { result ≡ 0 → AsksForHelp (map string_bytes words.items)
         ⊎ IsSomeAnd (asked_plan (map string_bytes words.items)) (λ plan.
-        IsOrderless plan.view plan.options.every
+        plan.form ≡ Form.Text → IsOrderless plan.view plan.options.every
         → IfSome (known_rests plan (F.known_input files.old) (F.known_file files.old)) (λ rests.
         Appends (W.contents out.old) (W.contents out.new)
         (view_text plan.view (lists_of rests) [] None))) }
+
+    // Of a page no order of the samples is left.
+    ensures shown_page { result ≡ 0 → AsksForHelp (map string_bytes words.items)
+        ⊎ IsSomeAnd (asked_plan (map string_bytes words.items)) (λ plan.
+        (page : PageForm) → plan.form ≡ Form.Page page
+        → IfSome (known_rests plan (F.known_input files.old) (F.known_file files.old)) (λ rests.
+        Appends (W.contents out.old) (W.contents out.new)
+        (page_text plan page (lists_of rests)))) }
 
     // 1 is a fault of a source, 2 are words that are refused or more than 64 files, and 3 leaves nothing
     // or a part of the text from its front.
@@ -78,11 +98,32 @@ pub fn run<T: Threads + Wait + Copy + Send + 'static, F: Files, W: Outlet, E: Ou
     ensures blamed { result ≡ 2 → AreRefused (map string_bytes words.items)
         ⊎ IsSomeAnd (asked_plan (map string_bytes words.items)) (λ plan.
         64 < length plan.files) }
+
+    // Words with a fault, and more than 64 files, are never followed.
+    ensures accepted { result ≤ 1 → AsksForHelp (map string_bytes words.items)
+        ⊎ ((asked_faults (map string_bytes words.items) ≡ [])
+        × IsSomeAnd (asked_plan (map string_bytes words.items)) (λ plan.
+        length plan.files ≤ 64)) }
     ensures partly { result ≡ 3 → Keeps (W.contents out.old) (W.contents out.new)
         ⊎ (AsksForHelp (map string_bytes words.items)
         ⊎ IsSomeAnd (asked_plan (map string_bytes words.items)) (λ plan.
         IfSome (known_rests plan (F.known_input files.old) (F.known_file files.old))
         (ShowsFront plan (W.contents out.old) (W.contents out.new)))) }
+
+    // The same of the sample types of a profile: 0 is their text, 1 is a fault of the profile before its
+    // samples, and 3 leaves nothing or a part of the text from its front.
+    ensures types { result ≡ 0 → AsksForHelp (map string_bytes words.items)
+        ⊎ IsSomeAnd (asked_plan (map string_bytes words.items)) (λ plan. plan.form ≡ Form.Types
+        → IfSome (known_profile plan (F.known_file files.old))
+        (ShowsTypes (W.contents out.old) (W.contents out.new))) }
+    ensures types_faulty { result ≡ 1 → IsSomeAnd (asked_plan (map string_bytes words.items)) (λ plan.
+        plan.form ≡ Form.Types
+        → IfSome (known_profile plan (F.known_file files.old)) HasTableFault) }
+    ensures types_partly { result ≡ 3 → Keeps (W.contents out.old) (W.contents out.new)
+        ⊎ (AsksForHelp (map string_bytes words.items)
+        ⊎ IsSomeAnd (asked_plan (map string_bytes words.items)) (λ plan. plan.form ≡ Form.Types
+        → IfSome (known_profile plan (F.known_file files.old))
+        (ShowsTypesFront (W.contents out.old) (W.contents out.new)))) }
 {
     if words.is_empty() {
         return run_plan(rt, alloc, plan_without_words(alloc), files, out, err);
@@ -96,11 +137,13 @@ pub fn run<T: Threads + Wait + Copy + Send + 'static, F: Files, W: Outlet, E: Ou
 // Says what is wrong with the words, or the help that they ask for.
 fn refuse<W: Outlet, E: Outlet>(fault: PlanFault, out: &mut W, err: &mut E) -> u8
     ensures status { result ≤ 3 }
-    ensures help { result ≡ 0 → IsHelp fault }
+    ensures help { result ≤ 1 → IsHelp fault }
     ensures no_fault { result ≢ 1 }
     ensures words { result ≡ 2 → IsWords fault }
     ensures refused { result ≡ 2 → Keeps (W.contents out.old) (W.contents out.new) }
     ensures front { result ≡ 3 → Keeps (W.contents out.old) (W.contents out.new) ⊎ IsHelp fault }
+    ensures flushed { result ≡ 0 → W.is_flushed out.new }
+    ensures unfailed { result ≢ 3 → W.failures out.new ≡ W.failures out.old }
 {
     match fault {
         PlanFault::Words(text) => {
@@ -132,6 +175,7 @@ fn run_plan<T: Threads + Wait + Copy + Send + 'static, F: Files, W: Outlet, E: O
 ) -> u8
     requires pairs { IsComparison plan.view → length plan.files ≡ 2 }
     requires every { IfSome plan.options.every (λ every. 1 ≤ every) }
+    requires profile { plan.form ≡ Form.Types → IsOfOneProfile plan }
     ensures status { result ≤ 3 }
     ensures shown { result ≡ 0
         → IfSome (known_rests plan (F.known_input files.old) (F.known_file files.old))
@@ -139,21 +183,69 @@ fn run_plan<T: Threads + Wait + Copy + Send + 'static, F: Files, W: Outlet, E: O
     ensures faulty { result ≡ 1
         → IfSome (known_rests plan (F.known_input files.old) (F.known_file files.old)) HasFault }
     ensures many { result ≡ 2 → 64 < length plan.files }
+    ensures few { result ≢ 2 → length plan.files ≤ 64 }
     ensures front { result ≡ 3 → Keeps (W.contents out.old) (W.contents out.new)
         ⊎ IfSome (known_rests plan (F.known_input files.old) (F.known_file files.old))
         (ShowsFront plan (W.contents out.old) (W.contents out.new)) }
+    ensures types { result ≡ 0 → plan.form ≡ Form.Types
+        → IfSome (known_profile plan (F.known_file files.old))
+        (ShowsTypes (W.contents out.old) (W.contents out.new)) }
+    ensures types_faulty { result ≡ 1 → plan.form ≡ Form.Types
+        → IfSome (known_profile plan (F.known_file files.old)) HasTableFault }
+    ensures types_front { result ≡ 3 → Keeps (W.contents out.old) (W.contents out.new)
+        ⊎ (plan.form ≡ Form.Types → IfSome (known_profile plan (F.known_file files.old))
+        (ShowsTypesFront (W.contents out.old) (W.contents out.new))) }
     ensures unwritten { result ≡ 1 → Keeps (W.contents out.old) (W.contents out.new) }
     ensures refused { result ≡ 2 → Keeps (W.contents out.old) (W.contents out.new) }
+    ensures flushed { result ≡ 0 → W.is_flushed out.new }
+    ensures unfailed { result ≢ 3 → W.failures out.new ≡ W.failures out.old }
 {
     if plan.files.get().is_empty() && files.is_input_terminal() {
         report_awaited_input(err, plan.format.unwrap_or(Format::Folded));
     }
-    match show(rt, alloc, &plan, files, out, err) {
+    match show_plan(rt, alloc, &plan, files, out, err) {
         Ok(()) => 0,
         Err(failure) => {
             report_failure(err, plan.files.get(), failure);
             failure.status()
         }
+    }
+}
+
+// Shows the samples of the sources, or the sample types of the one profile.
+fn show_plan<T: Threads + Wait + Copy + Send + 'static, F: Files, W: Outlet, E: Outlet>(
+    rt: &T,
+    alloc: Global,
+    plan: &Plan,
+    files: &mut F,
+    out: &mut W,
+    err: &mut E,
+) -> Result<(), Failure>
+    requires pairs { IsComparison plan.now.view → length plan.now.files ≡ 2 }
+    requires every { IfSome plan.now.options.every (λ every. 1 ≤ every) }
+    requires profile { plan.now.form ≡ Form.Types → IsOfOneProfile plan.now }
+    ensures ok { OnOk result
+        (IfSome (known_rests plan.now (F.known_input files.old) (F.known_file files.old))
+        (Shows plan.now (W.contents out.old) (W.contents out.new))) }
+    ensures err { IfErr result (λ failure.
+        IfSome (known_rests plan.now (F.known_input files.old) (F.known_file files.old))
+        (Fails plan.now (W.contents out.old) (W.contents out.new) failure)) }
+    ensures types { OnOk result (plan.now.form ≡ Form.Types
+        → IfSome (known_profile plan.now (F.known_file files.old))
+        (ShowsTypes (W.contents out.old) (W.contents out.new))) }
+    ensures types_err { IfErr result (λ failure. plan.now.form ≡ Form.Types
+        → IfSome (known_profile plan.now (F.known_file files.old))
+        (FailsTypes (W.contents out.old) (W.contents out.new) failure)) }
+    ensures kept { IfErr result (λ failure.
+        KeepsOutput (W.contents out.old) (W.contents out.new) failure) }
+    ensures many { IsErrOf result Failure.TooManyFiles → 64 < length plan.now.files }
+    ensures few { result ≢ Err Failure.TooManyFiles → length plan.now.files ≤ 64 }
+    ensures flushed { Flushes (W.is_flushed out.new) (W.failures out.old) (W.failures out.new)
+        result }
+{
+    match plan.form {
+        Form::Types => show_types(alloc, plan, files, out, err),
+        Form::Text | Form::Page(_) => show(rt, alloc, plan, files, out, err),
     }
 }
 
@@ -181,9 +273,16 @@ fn show<T: Threads + Wait + Copy + Send + 'static, F: Files, W: Outlet, E: Outle
     ensures kept { IfErr result (λ failure.
         KeepsOutput (W.contents out.old) (W.contents out.new) failure) }
     ensures many { IsErrOf result Failure.TooManyFiles → 64 < length plan.now.files }
+    ensures few { result ≢ Err Failure.TooManyFiles → length plan.now.files ≤ 64 }
+    ensures flushed { Flushes (W.is_flushed out.new) (W.failures out.old) (W.failures out.new)
+        result }
 {
     let sources = open_sources(alloc, files, plan.files.get(), plan.format)?;
-    show_sources(rt, alloc, plan, sources, out, err)
+    let is_shown = !plan.is_quiet && files.is_error_terminal();
+    let mut progress = Progress::new(err, sources.len(), is_shown);
+    let shown = show_sources(rt, alloc, plan, sources, out, &mut progress);
+    progress.clear();
+    shown
 }
 
 // The width of a graph with snapshots. The text of each other view is the same in whatever order the samples
@@ -194,19 +293,32 @@ fn snapshots_width(view: View, every: Option<u64>) -> Option<Width>
 {
     match view {
         View::Graph(width) => every.map(|_| width),
-        View::Fold | View::Chart(_) | View::Pairs | View::PairBoxes(_) => None,
+        View::Fold | View::Chart(_) | View::Pairs | View::PairBoxes(_) | View::Top(_) => None,
+    }
+}
+
+// The width of a graph with snapshots that is written as text. A page has none.
+fn asked_snapshots(plan: &Plan) -> Option<Width>
+    ensures view { IfSome result (λ width. plan.now.view ≡ View.Graph width) }
+    ensures form { IfSome result (λ width. IsOfView plan.now.form) }
+    ensures none { IsNone result
+        → IsOrderlessIn plan.now.form plan.now.view plan.now.options.every }
+{
+    match &plan.form {
+        Form::Text | Form::Types => snapshots_width(plan.view, plan.options.every),
+        Form::Page(_) => None,
     }
 }
 
 // Collects the samples of sources, and sends the view of them. Where it has snapshots, the samples are merged as
-// they arrive.
+// they arrive, and no progress is told.
 fn show_sources<T: Threads + Wait + Copy + Send + 'static, W: Outlet, E: Outlet>(
     rt: &T,
     alloc: Global,
     plan: &Plan,
     sources: Vec<Source>,
     out: &mut W,
-    err: &mut E,
+    progress: &mut Progress<'_, E>,
 ) -> Result<(), Failure>
     requires few { length sources.items ≤ 64 }
     requires pairs { IsComparison plan.now.view → length sources.items ≡ 2 }
@@ -222,18 +334,20 @@ fn show_sources<T: Threads + Wait + Copy + Send + 'static, W: Outlet, E: Outlet>
     ensures kept { IfErr result (λ failure.
         KeepsOutput (W.contents out.old) (W.contents out.new) failure) }
     ensures few_files { IsErrOf result Failure.TooManyFiles → ⊥ }
+    ensures flushed { Flushes (W.is_flushed out.new) (W.failures out.old) (W.failures out.new)
+        result }
 {
-    let gate = open_gate(alloc)?;
-    match snapshots_width(plan.view, plan.options.every) {
+    match asked_snapshots(plan) {
         Some(width) => {
+            let gate = open_gate(alloc)?;
             let gathered = gather(rt, alloc, sources, &plan.options, gate)?;
-            report_endings(err, plan.files.get(), gathered.lists());
+            report_endings(progress.messages(), plan.files.get(), gathered.lists());
             send_gathered(alloc, &gathered, width, out)
         }
         None => {
-            let run = read_sources(rt, alloc, sources, &plan.options, gate)?;
-            report_endings(err, plan.files.get(), run.lists());
-            send_lists(alloc, &run, plan.view, out)
+            let run = read_whole_sources(rt, alloc, sources, &plan.options, progress)?;
+            report_endings(progress.messages(), plan.files.get(), run.kept.lists());
+            send_lists(alloc, &run.kept, plan, out)
         }
     }
 }
@@ -251,6 +365,8 @@ fn send_gathered<W: Outlet>(
     ensures err { IfErr result (FailsToShow gathered.now.lists (graph_text width
         (samples_of gathered.now.lists) gathered.now.order gathered.now.every)
         (W.contents out.old) (W.contents out.new)) }
+    ensures flushed { Flushes (W.is_flushed out.new) (W.failures out.old) (W.failures out.new)
+        result }
 {
     if any_fault(gathered.lists()) {
         return Err(Failure::Faults);
@@ -262,19 +378,24 @@ fn send_gathered<W: Outlet>(
 fn send_lists<W: Outlet>(
     alloc: Global,
     run: &SourceLists,
-    view: View,
+    plan: &Plan,
     out: &mut W,
 ) -> Result<(), Failure>
-    requires pairs { IsComparison view → length run.now.lists ≡ 2 }
+    requires pairs { IsComparison plan.now.view → length run.now.lists ≡ 2 }
     ensures faultless { OnOk result (has_fault run.now.lists ≡ false) }
     ensures ok { OnOk result (Appends (W.contents out.old) (W.contents out.new)
-        (view_text view (samples_of run.now.lists) [] None)) }
+        (shown_text plan.now (samples_of run.now.lists) [] None)) }
     ensures err { IfErr result (FailsToShow run.now.lists
-        (view_text view (samples_of run.now.lists) [] None)
+        (shown_text plan.now (samples_of run.now.lists) [] None)
         (W.contents out.old) (W.contents out.new)) }
+    ensures flushed { Flushes (W.is_flushed out.new) (W.failures out.old) (W.failures out.new)
+        result }
 {
     if any_fault(run.lists()) {
         return Err(Failure::Faults);
     }
-    send_plain_view(alloc, run, view, out)
+    match &plan.form {
+        Form::Text | Form::Types => send_plain_view(alloc, run, plan.view, out),
+        Form::Page(page) => send_asked_page(alloc, run, plan, page, out),
+    }
 }

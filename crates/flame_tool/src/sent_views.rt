@@ -6,20 +6,23 @@ ghost use Rattle.view_texts.specs.Fold.{fold_text};
 ghost use Rattle.view_texts.specs.Pairs.{pairs_text};
 ghost use Rattle.merging.specs.Sums.{all_samples};
 ghost use Rattle.command_line.specs.Plans.{IsComparison};
-ghost use Rattle.flame_tool.specs.Texts.{chart_text, graph_line, graph_text, pair_boxes_text, view_text};
-ghost use Rattle.flame_tool.specs.checked.Failures.{Sends};
+ghost use Rattle.flame_tool.specs.Texts.{chart_text, graph_line, graph_text, pair_boxes_text, top_text, view_text};
+ghost use Rattle.flame_tool.specs.checked.Failures.{Flushes, Sends};
 ghost use Rattle.stack_core.specs.Interleaving.{list_of};
 
 use crate::drawings::{lend_chart, merge};
 use crate::drawn_texts::{drawn_chart, drawn_graph, drawn_graph_text};
 use crate::failures::Failure;
+use crate::functions::weigh_functions;
 use byte_io::{Outlet, Pieces, send_pieces};
-use command_line::View;
-use flame_layout::{MergedStacks, Width, compare, compared_boxes, draw_merged};
+use command_line::{TopTable, View};
+use flame_layout::{MergedStacks, Width, draw_comparison, draw_merged};
+use merged_stacks::PairedStacks;
 use merging::{Gathered, SourceLists};
 use stack_core::SourceList;
 use std::alloc::Global;
-use view_texts::{FoldedText, PairsText, Scale, comparison_line};
+use sum_texts::{SumLine, SumTable};
+use view_texts::{FoldedText, PairedText, Scale, comparison_line};
 
 // Sends the text of a view without snapshots, and draws no more than that view needs.
 pub(crate) fn send_plain_view<W: Outlet>(
@@ -29,8 +32,10 @@ pub(crate) fn send_plain_view<W: Outlet>(
     out: &mut W,
 ) -> Result<(), Failure>
     requires pairs { IsComparison view → length sources.now.lists ≡ 2 }
-    ensures { Sends (view_text view (samples_of sources.now.lists) [] None)
+    ensures sent { Sends (view_text view (samples_of sources.now.lists) [] None)
         (W.contents out.old) (W.contents out.new) result }
+    ensures flushed { Flushes (W.is_flushed out.new) (W.failures out.old) (W.failures out.new)
+        result }
 {
     match view {
         View::Fold => send_fold(alloc, sources, out),
@@ -41,6 +46,7 @@ pub(crate) fn send_plain_view<W: Outlet>(
             let lists = sources.lists();
             send_compared(alloc, &lists[0], &lists[1], width, out)
         }
+        View::Top(top) => send_top(alloc, sources, top, out),
     }
 }
 
@@ -51,8 +57,10 @@ pub(crate) fn send_snapshots<W: Outlet>(
     width: Width,
     out: &mut W,
 ) -> Result<(), Failure>
-    ensures { Sends (graph_text width (samples_of gathered.now.lists) gathered.now.order
+    ensures sent { Sends (graph_text width (samples_of gathered.now.lists) gathered.now.order
         gathered.now.every) (W.contents out.old) (W.contents out.new) result }
+    ensures flushed { Flushes (W.is_flushed out.new) (W.failures out.old) (W.failures out.new)
+        result }
 {
     let merged = merge(alloc, gathered.sources())?;
     let boxes = draw_merged(alloc, &merged)?;
@@ -61,8 +69,10 @@ pub(crate) fn send_snapshots<W: Outlet>(
 
 // Sends the fold text of all samples.
 fn send_fold<W: Outlet>(alloc: Global, sources: &SourceLists, out: &mut W) -> Result<(), Failure>
-    ensures { Sends (fold_text (all_samples (samples_of sources.now.lists)))
+    ensures sent { Sends (fold_text (all_samples (samples_of sources.now.lists)))
         (W.contents out.old) (W.contents out.new) result }
+    ensures flushed { Flushes (W.is_flushed out.new) (W.failures out.old) (W.failures out.new)
+        result }
 {
     let merged = MergedStacks::of(alloc, sources.lists())?;
     send_text(alloc, &FoldedText::of(&merged), out)
@@ -75,8 +85,10 @@ fn send_graph<W: Outlet>(
     width: Width,
     out: &mut W,
 ) -> Result<(), Failure>
-    ensures { Sends (graph_line width (all_samples (samples_of sources.now.lists)))
+    ensures sent { Sends (graph_line width (all_samples (samples_of sources.now.lists)))
         (W.contents out.old) (W.contents out.new) result }
+    ensures flushed { Flushes (W.is_flushed out.new) (W.failures out.old) (W.failures out.new)
+        result }
 {
     let merged = merge(alloc, sources)?;
     let boxes = draw_merged(alloc, &merged)?;
@@ -90,8 +102,10 @@ fn send_chart<W: Outlet>(
     width: Width,
     out: &mut W,
 ) -> Result<(), Failure>
-    ensures { Sends (chart_text width (samples_of sources.now.lists))
+    ensures sent { Sends (chart_text width (samples_of sources.now.lists))
         (W.contents out.old) (W.contents out.new) result }
+    ensures flushed { Flushes (W.is_flushed out.new) (W.failures out.old) (W.failures out.new)
+        result }
 {
     let boxes = lend_chart(alloc, sources)?;
     send_text(alloc, &drawn_chart(sources, &boxes, width), out)
@@ -100,12 +114,14 @@ fn send_chart<W: Outlet>(
 // Sends the two-column text of the first two sources.
 fn send_pairs<W: Outlet>(alloc: Global, sources: &SourceLists, out: &mut W) -> Result<(), Failure>
     requires { length sources.now.lists ≡ 2 }
-    ensures { Sends (pairs_text (list_of (samples_of sources.now.lists) 0)
+    ensures sent { Sends (pairs_text (list_of (samples_of sources.now.lists) 0)
         (list_of (samples_of sources.now.lists) 1)) (W.contents out.old) (W.contents out.new) result }
+    ensures flushed { Flushes (W.is_flushed out.new) (W.failures out.old) (W.failures out.new)
+        result }
 {
     let lists = sources.lists();
-    let rows = compare(alloc, &lists[0], &lists[1])?;
-    send_text(alloc, &PairsText::of(&rows), out)
+    let stacks = PairedStacks::of(alloc, &lists[0], &lists[1])?;
+    send_text(alloc, &PairedText::of(&stacks), out)
 }
 
 // Sends the flame graph of the second profile, with the weights of the first.
@@ -118,20 +134,48 @@ fn send_compared<W: Outlet>(
 ) -> Result<(), Failure>
     requires before { total_weight before.now.samples < 2 ^ 64 }
     requires after { total_weight after.now.samples < 2 ^ 64 }
-    ensures { Sends (pair_boxes_text width before.now.samples after.now.samples)
+    ensures sent { Sends (pair_boxes_text width before.now.samples after.now.samples)
         (W.contents out.old) (W.contents out.new) result }
+    ensures flushed { Flushes (W.is_flushed out.new) (W.failures out.old) (W.failures out.new)
+        result }
 {
-    let rows = compare(alloc, before, after)?;
-    let boxes = compared_boxes(alloc, &rows)?;
+    let boxes = draw_comparison(alloc, before, after)?;
     let total = after.total() as u64;
     let line = comparison_line(before.total() as u64, &boxes, Scale { total, width });
     send_text(alloc, &line, out)
 }
 
+// Sends the heaviest functions, as a table or as a line of JSON.
+fn send_top<W: Outlet>(
+    alloc: Global,
+    sources: &SourceLists,
+    top: TopTable,
+    out: &mut W,
+) -> Result<(), Failure>
+    ensures sent { Sends (top_text top (all_samples (samples_of sources.now.lists)))
+        (W.contents out.old) (W.contents out.new) result }
+    ensures flushed { Flushes (W.is_flushed out.new) (W.failures out.old) (W.failures out.new)
+        result }
+{
+    let sums = weigh_functions(alloc, sources, top.by)?;
+    let whole = sources.total();
+    if top.is_json {
+        send_text(alloc, &SumLine::of(&sums, top.rows, whole), out)
+    } else {
+        send_text(alloc, &SumTable::of(&sums, top.rows, whole), out)
+    }
+}
+
 // Sends a text while it is made.
-fn send_text<P: Pieces, W: Outlet>(alloc: Global, text: &P, out: &mut W) -> Result<(), Failure>
+pub(crate) fn send_text<P: Pieces, W: Outlet>(
+    alloc: Global,
+    text: &P,
+    out: &mut W,
+) -> Result<(), Failure>
     requires { length (P.pieces text.now) < 2 ^ 64 }
-    ensures { Sends (concat (P.pieces text.now)) (W.contents out.old) (W.contents out.new) result }
+    ensures sent { Sends (concat (P.pieces text.now)) (W.contents out.old) (W.contents out.new) result }
+    ensures flushed { Flushes (W.is_flushed out.new) (W.failures out.old) (W.failures out.new)
+        result }
 {
     send_pieces(alloc, text, out)?;
     Ok(())

@@ -1,5 +1,5 @@
 //! The sources of a run, loaded.
-ghost use Rattle.std.specs.Prelude.{◌≡◌, ◌≤◌, [], ◌∷◌, ◌++◌, IfOk, IfErr, IfSome, OnOk, length, map, string_bytes};
+ghost use Rattle.std.specs.Prelude.{◌≡◌, ◌≢◌, ◌≤◌, [], ◌∷◌, ◌++◌, IfOk, IfErr, IfSome, OnOk, length, map, string_bytes};
 ghost use Rattle.flame_tool.specs.checked.Opening.{AreOpened, IsInput, IsOpened};
 ghost use Rattle.flame_tool.specs.checked.Failures.{IsOpening};
 
@@ -26,6 +26,7 @@ pub(crate) fn open_sources<F: Files>(
     ensures opened { IfOk result (λ sources. AreOpened asked (F.known_input files.old)
         (F.known_file files.old) (map string_bytes paths.now) sources.items) }
     ensures err { IfErr result (IsOpening (length paths.now)) }
+    ensures within { result ≢ Err Failure.TooManyFiles → length paths.now ≤ 64 }
 {
     if paths.len() > SOURCE_COUNT {
         return Err(Failure::TooManyFiles);
@@ -64,7 +65,7 @@ fn input<F: Files>(alloc: Global, files: &mut F, asked: Option<Format>) -> Resul
 }
 
 // The source of a path.
-fn named<F: Files>(
+pub(crate) fn named<F: Files>(
     alloc: Global,
     files: &mut F,
     at: usize,

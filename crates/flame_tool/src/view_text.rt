@@ -5,20 +5,22 @@ ghost use Rattle.view_texts.specs.Fold.{fold_text};
 ghost use Rattle.view_texts.specs.Pairs.{pairs_text};
 ghost use Rattle.merging.specs.Sums.{all_samples};
 ghost use Rattle.command_line.specs.Plans.{IsComparison};
-ghost use Rattle.flame_tool.specs.Texts.{view_text, pair_boxes_text};
+ghost use Rattle.flame_tool.specs.Texts.{view_text, pair_boxes_text, top_text};
 ghost use Rattle.stack_core.specs.Interleaving.{list_of};
 
+use crate::functions::weigh_functions;
 use crate::graph_texts::{chart_line, graph_text};
 use crate::view_set::Views;
 use byte_io::append_pieces;
-use command_line::View;
+use command_line::{TopTable, View};
 use flame_layout::{MergedStacks, Width, compare, compared_boxes};
 use merging::SourceLists;
 use stack_core::SourceList;
 use std::alloc::{AllocError, Global};
+use sum_texts::{append_sum_line, append_sum_table};
 use view_texts::{Scale, append_merged_text, append_pair_boxes_line, append_pairs_text};
 
-/// Appends the whole text of a view: folded lines, two-column lines, or lines of JSON. An `Err` changes
+/// Appends the whole text of a view: folded lines, two-column lines, lines of JSON, or a table. An `Err` changes
 /// nothing. The two views of a comparison are of exactly two sources.
 pub fn render(alloc: Global, views: &Views, view: View, out: &mut Vec<u8>) -> Result<(), AllocError>
     requires pairs { IsComparison view → length views.now.lists ≡ 2 }
@@ -38,6 +40,7 @@ pub fn render(alloc: Global, views: &Views, view: View, out: &mut Vec<u8>) -> Re
         }
         View::Pairs => append_pairs(alloc, out, sources),
         View::PairBoxes(width) => append_pair_boxes(alloc, out, sources, width),
+        View::Top(top) => append_top(alloc, out, sources, top),
     }
 }
 
@@ -100,4 +103,24 @@ fn append_compared(
     let total = after.total() as u64;
     let scale = Scale { total, width };
     append_pair_boxes_line(alloc, out, before.total() as u64, &boxes, &scale)
+}
+
+// Appends the heaviest functions, as a table or as a line of JSON.
+fn append_top(
+    alloc: Global,
+    out: &mut Vec<u8>,
+    sources: &SourceLists,
+    top: TopTable,
+) -> Result<(), AllocError>
+    ensures ok { OnOk result (out.new.items ≡ out.old.items
+        ++ top_text top (all_samples (samples_of sources.now.lists))) }
+    ensures err { OnErr result (out.new.items ≡ out.old.items) }
+{
+    let sums = weigh_functions(alloc, sources, top.by)?;
+    let whole = sources.total();
+    if top.is_json {
+        append_sum_line(alloc, out, &sums, top.rows, whole)
+    } else {
+        append_sum_table(alloc, out, &sums, top.rows, whole)
+    }
 }

@@ -12,7 +12,7 @@ fn main(rt: HostRuntime) -> ExitCode {
     let words = env::args(&rt).and_then(|args| Ok(args.skip(1).collect::<Vec<String>>(alloc)?));
     let status = match words {
         Ok(words) => {
-            let mut files = MachineFiles::new(&rt);
+            let mut files = MachineFiles::beside(&rt, &rt.stderr());
             let mut out = CountedWriter::new(rt.stdout());
             let mut err = CountedWriter::new(rt.stderr());
             run(&rt, alloc, words, &mut files, &mut out, &mut err)

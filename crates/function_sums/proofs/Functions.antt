@@ -25,7 +25,7 @@ use Rattle.flame_layout.specs.Paths.{SameOwn}
 use Rattle.flame_layout.proofs.Sums.{same_tested, same_sums}
 use Rattle.function_sums.specs.declared.counts.Count.{Count}
 use Rattle.function_sums.specs.declared.sums.FunctionSum.{FunctionSum}
-use Rattle.function_sums.specs.declared.sums.Order.{Order}
+use Rattle.run_options.specs.declared.orders.FunctionOrder.{FunctionOrder as Order}
 use Rattle.function_sums.specs.FunctionSums.{stands_in, ends, own_of, total_of, sums_of, weight_of, sum_cmp, AreFunctionSums}
 use Rattle.function_sums.specs.checked.Counted.{AreCounts}
 use Rattle.function_sums.specs.checked.Rows.{Row, row_sum}
@@ -44,7 +44,7 @@ same-flips one other =
     let back = bytes_eq-Decides other.name one.name in
     same_from_decides _ _ (bytes_eq-Decides one.name other.name) ((λ t. sym (back.0 t)), (λ e. back.1 (sym e)))
 
-then_equal : (x y : Ordering) → ordering_then x y ≡ Equal → y ≡ Equal
+pub then_equal : (x y : Ordering) → ordering_then x y ≡ Equal → y ≡ Equal
 then_equal Less y e = absurd (true≢false (ap is_lt e))
 then_equal Equal y e = e
 then_equal Greater y e = absurd (true≢false (ap (λ o. is_lt (ordering_reverse o)) e))

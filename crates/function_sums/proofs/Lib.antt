@@ -1,4 +1,5 @@
 pub mod Counting
+pub mod FunctionList
 pub mod Functions
 pub mod OneTable
 mod WorkedRows

@@ -1,5 +1,5 @@
 -- the samples have one table
-use Rattle.std.proofs.Common.{◌≡◌, ◌⊎◌, inl, inr, ⊎_elim, ℕ, ◌<◌, zero, suc, List, [], ◌∷◌, length, map, All, Contains, refl, sym, ap, subst, ◌∙◌, arith, true≢false}
+use Rattle.std.proofs.Common.{◌≡◌, ◌⊎◌, inl, inr, ⊎_elim, ℕ, zero, suc, List, [], ◌∷◌, map, Contains, refl, sym, ap, subst, ◌∙◌, arith, true≢false}
 use Rattle.std.specs.List.{AllByRecursion}
 use Rattle.std.specs.List.Sorted.{IsStrictlySortedBy}
 use Rattle.std.specs.Cmp.{IsTotalOrder}
@@ -11,25 +11,25 @@ use Rattle.std.proofs.lemmas.List.Elements.{recursion_from_All}
 use Rattle.std.proofs.lemmas.Map.Keys.{sorted_head, sorted_tail}
 use Rattle.sample_tables.specs.declared.samples.Sample.{Sample}
 use Rattle.function_sums.specs.declared.sums.FunctionSum.{FunctionSum}
-use Rattle.function_sums.specs.declared.sums.Order.{Order}
+use Rattle.run_options.specs.declared.orders.FunctionOrder.{FunctionOrder as Order}
 use Rattle.function_sums.specs.FunctionSums.{sums_of, sum_cmp, AreFunctionSums}
 use Rattle.function_sums.proofs.Functions.{sum_total}
 
-abbrev Among : {X : Type 0} → X → List X → Type 0
+abbrev pub Among : {X : Type 0} → X → List X → Type 0
 Among x [] = ⊥
 Among x (y ∷ ys) = (x ≡ y) ⊎ Among x ys
 
-among-contained : {X : Type 0} (xs : List X) (x : X) → Contains xs x → Among x xs
+pub among-contained : {X : Type 0} (xs : List X) (x : X) → Contains xs x → Among x xs
 among-contained [] x c = absurd (omega (arith, c.1))
 among-contained (y ∷ ys) x (zero, lt, e) = inl (sym e)
 among-contained (y ∷ ys) x (suc k, lt, e) = inr (among-contained ys x (k, omega (arith, lt), e))
 
-contained-among : {X : Type 0} (xs : List X) (x : X) → Among x xs → Contains xs x
+pub contained-among : {X : Type 0} (xs : List X) (x : X) → Among x xs → Contains xs x
 contained-among [] x m = absurd m
 contained-among (y ∷ ys) x (inl e) = (zero, omega arith, sym e)
 contained-among (y ∷ ys) x (inr m) = let c = contained-among ys x m in (suc c.0, omega (arith, c.1), c.2)
 
-each-among : {X : Type 0} (P : X → Type 0) (x : X) (xs : List X) → AllByRecursion P xs → Among x xs → P x
+pub each-among : {X : Type 0} (P : X → Type 0) (x : X) (xs : List X) → AllByRecursion P xs → Among x xs → P x
 each-among P x [] h m = absurd m
 each-among P x (y ∷ ys) h (inl e) = subst P (sym e) h.0
 each-among P x (y ∷ ys) h (inr m) = each-among P x ys h.1 m
@@ -64,7 +64,7 @@ among-name sum [] m = m
 among-name sum (one ∷ sums) (inl e) = inl (ap (λ (s : FunctionSum). s.name) e)
 among-name sum (one ∷ sums) (inr m) = inr (among-name sum sums m)
 
-named-among : (name : List ℕ) (sums : List FunctionSum) → Among name (map (λ (one : FunctionSum). one.name) sums) → (sum : FunctionSum) × Among sum sums × (sum.name ≡ name)
+pub named-among : (name : List ℕ) (sums : List FunctionSum) → Among name (map (λ (one : FunctionSum). one.name) sums) → (sum : FunctionSum) × Among sum sums × (sum.name ≡ name)
 named-among name [] m = absurd m
 named-among name (one ∷ sums) (inl e) = (one, inl refl, sym e)
 named-among name (one ∷ sums) (inr m) = let found = named-among name sums m in (found.0, inr found.1, found.2)

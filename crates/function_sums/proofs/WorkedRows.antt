@@ -1,8 +1,10 @@
 -- worked examples of the weights by function: recursion counts once, and a sample without frames or weight counts nowhere
-use Rattle.std.proofs.Common.{◌≡◌, List, [], ◌∷◌, codes, refl}
+use Rattle.std.proofs.Common.{◌≡◌, ℕ, List, [], ◌∷◌, codes, refl}
 use Rattle.std.specs.declared.cmp.Ordering.TheVariants.{Less}
 use Rattle.sample_tables.specs.declared.samples.Sample.{Sample}
-use Rattle.function_sums.specs.declared.sums.Order.TheVariants.{Own, Total}
+use Rattle.run_options.specs.declared.orders.FunctionOrder.TheVariants.{Own, Total}
+use Rattle.function_sums.specs.declared.sums.FunctionSum.{FunctionSum}
+use Rattle.function_sums.specs.FunctionList.{functions_of}
 use Rattle.function_sums.specs.FunctionSums.{own_of, total_of, sums_of, sum_cmp}
 
 abbrev samples : List Sample
@@ -30,3 +32,11 @@ heavier_first = refl
 
 ties_by_name : sum_cmp Own (record { name = codes "a"; own = 2; total = 2 }) (record { name = codes "b"; own = 2; total = 9 }) ≡ Less
 ties_by_name = refl
+
+abbrev sum : List ℕ → ℕ → ℕ → FunctionSum
+sum name own total = record { name = name; own = own; total = total }
+
+-- each name once, those without weight not at all
+list_by_own : functions_of Own samples ≡ sum (codes "m") 3 5 ∷ sum (codes "f") 2 3 ∷ sum (codes "g") 1 1 ∷ []
+unfolding functions_of
+list_by_own = refl

@@ -10,8 +10,8 @@ use Rattle.sample_tables.specs.declared.samples.Sample.{Sample}
 use Rattle.sample_tables.specs.Rows.{name_at}
 use Rattle.merged_stacks.specs.Timeline.{Stack}
 use Rattle.function_sums.specs.declared.sums.FunctionSum.{FunctionSum}
-use Rattle.function_sums.specs.declared.sums.Order.{Order}
-use Rattle.function_sums.specs.declared.sums.Order.TheVariants.{Own, Total}
+use Rattle.run_options.specs.declared.orders.FunctionOrder.{FunctionOrder as Order}
+use Rattle.run_options.specs.declared.orders.FunctionOrder.TheVariants.{Own, Total}
 
 -- whether a frame of the stack has the name, and whether its last frame has it
 abbrev pub stands_in : List ℕ → Stack → Bool

@@ -1,2 +1,3 @@
+pub mod FunctionList
 pub mod FunctionSums
 pub mod checked

@@ -9,5 +9,6 @@ mod tables;
 #[cfg(test)]
 mod tests;
 
-pub use sums::{FunctionSum, Order};
+pub use run_options::FunctionOrder as Order;
+pub use sums::FunctionSum;
 pub use tables::function_sums;

@@ -6,8 +6,9 @@ ghost use Rattle.function_sums.specs.FunctionSums.{sums_of, weight_of};
 ghost use Rattle.function_sums.specs.checked.Counted.{AreCounts};
 ghost use Rattle.function_sums.specs.checked.Rows.{row_sum};
 
+use crate::Order;
 use crate::counts::Count;
-use crate::sums::{FunctionSum, Order};
+use crate::sums::FunctionSum;
 use call_tree::FrameTable;
 use stack_core::Text;
 use std::alloc::{AllocError, Global};

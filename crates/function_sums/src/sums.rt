@@ -12,12 +12,3 @@ pub struct FunctionSum {
     /// The sum of the weights of the samples in whose stack the name stands, each sample once.
     pub total: u64,
 }
-
-/// By which weight functions are listed.
-#[derive(Clone, Copy, Debug, PartialEq, Eq)]
-pub enum Order {
-    /// By what they weigh themselves.
-    Own,
-    /// By what they weigh with all that they call.
-    Total,
-}

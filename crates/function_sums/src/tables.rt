@@ -7,9 +7,10 @@ ghost use Rattle.flame_layout.specs.Paths.{SameOwn};
 ghost use Rattle.function_sums.specs.FunctionSums.{AreFunctionSums};
 ghost use Rattle.function_sums.specs.checked.Counted.{AreCounts};
 
+use crate::Order;
 use crate::counts::{Count, count_stack};
 use crate::rows::{rows, sums};
-use crate::sums::{FunctionSum, Order};
+use crate::sums::FunctionSum;
 use call_tree::FrameTable;
 use flame_layout::MergedStacks;
 use std::alloc::{AllocError, Global};

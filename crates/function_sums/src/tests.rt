@@ -97,5 +97,6 @@ fn no_functions(rt: HostRuntime) -> Result<(), Fail> {
 
 #[test]
 fn laws_take_nothing() {
+    crate::laws::functions_are_listed();
     crate::laws::tables_are_one();
 }

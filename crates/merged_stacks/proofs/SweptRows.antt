@@ -21,7 +21,7 @@ use Rattle.merged_stacks.specs.Merged.{Weighed, weighed, sum_at, merged}
 use Rattle.merged_stacks.specs.Paired.{PairedStack, paired_at, paired_stacks, pair_at}
 use Rattle.merged_stacks.specs.checked.Ranks.{AreRising}
 use Rattle.merged_stacks.specs.checked.Ranked.{Ranked, named_row, named_rows, IsRankedStack, AreMerged}
-use Rattle.merged_stacks.specs.checked.Swept.{PairedRow, row_of_after, swept_front, swept, place_row, IsPlace, paired_of}
+use Rattle.merged_stacks.specs.checked.Swept.{PairedRow, row_of_after, swept_front, swept, place_row, IsPlace, ArePaired, paired_of}
 use Rattle.merged_stacks.proofs.JoinedStacks.{stacks_rise, below_far, both, less_from, rows_merged}
 use Rattle.merged_stacks.proofs.MergedRows.{stack_cmp_total, sum_at-cons, sum_at-nil, sum_at-append, as_true, first, second}
 
@@ -273,3 +273,22 @@ pub place_fits : (names : List (List ℕ)) (lefts rights : List Ranked) → AreM
 place_fits names lefts rights a b (Before at) h = fit_at names lefts a at h
 place_fits names lefts rights a b (After at) h = fit_at names rights b at h
 place_fits names lefts rights a b (Both at other) h = fit_at names lefts a at h.0
+
+-- the name of a frame, by its rank
+pub record IsPairedFrame (names : List (List ℕ)) (all : List PairedStack) (at frame rank : ℕ) : Type 0 where
+  pub name : name_at (pair_at all at).stack frame ≡ name_at names rank
+  pub below : rank < length names
+
+pub paired_frame : (names : List (List ℕ)) (lefts rights : List Ranked) (places : List Place) (all : List PairedStack) (at frame : ℕ) (place : Place) (ranks : List ℕ) → ArePaired names lefts rights places
+    → map (λ p. paired_of names (place_row lefts rights p)) places ≡ all → at < length all → place ≡ get_or places at place → ranks ≡ (place_row lefts rights place).0 → frame < length (pair_at all at).stack
+    → IsPairedFrame names all at frame (get_or ranks frame 0)
+paired_frame names lefts rights places all at frame place ranks are view lt is row deep =
+    let here = pair_is names lefts rights places all at place view lt is in
+    let stack : (pair_at all at).stack ≡ map (name_at names) ranks = ap (λ (pair : PairedStack). pair.stack) here ∙ ap (map (name_at names)) (sym row) in
+    let inside : frame < length ranks = omega (arith, deep, ap length stack, length-map ranks (name_at names)) in
+    let within : at < length places = omega (arith, lt, ap length view, length-map places (λ (p : Place). paired_of names (place_row lefts rights p))) in
+    let fits = place_fits names lefts rights are.before are.after place (subst (IsPlace lefts rights) (sym is) (are.within at place within)) in
+    record {
+      name = ap (λ xs. name_at xs frame) stack ∙ get_or-map (name_at names) ranks frame 0 [] inside;
+      below = subst (λ xs. All (λ rank. rank < length names) xs) (sym row) fits.below frame 0 inside;
+    }

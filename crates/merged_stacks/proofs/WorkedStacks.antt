@@ -1,9 +1,10 @@
 -- Worked examples, computed on the definitions.
 use Rattle.std.proofs.Common.{◌≡◌, ℕ, List, [], ◌∷◌, codes, refl}
 use Rattle.sample_tables.specs.declared.samples.Sample.{Sample}
+use Rattle.merged_stacks.specs.declared.paired_sides.Side.TheVariants.{Before, After}
 use Rattle.merged_stacks.specs.Timeline.{Stack}
 use Rattle.merged_stacks.specs.Merged.{sum_at, stacks_of, merged, merged_samples}
-use Rattle.merged_stacks.specs.Paired.{PairedStack, paired_stacks}
+use Rattle.merged_stacks.specs.Paired.{PairedStack, paired_stacks, side_samples}
 
 abbrev taken : Stack → ℕ → Sample
 taken stack weight = record { stack = stack; weight = weight }
@@ -28,3 +29,15 @@ stacks_side_by_side : paired_stacks (taken (b ∷ []) 1 ∷ taken (a ∷ b ∷ [
     ≡ pair [] 0 1 ∷ pair (a ∷ b ∷ []) 3 1 ∷ pair (b ∷ []) 1 0 ∷ []
 unfolding sum_at stacks_of merged
 stacks_side_by_side = refl
+
+abbrev both : List PairedStack
+both = paired_stacks (taken (b ∷ []) 1 ∷ taken (a ∷ b ∷ []) 3 ∷ []) (taken (a ∷ b ∷ []) 1 ∷ taken (b ∷ a ∷ []) 2 ∷ [])
+
+-- one side has the stacks of both, with weight 0 where it has none of its own
+stacks_before : side_samples Before both ≡ taken (a ∷ b ∷ []) 3 ∷ taken (b ∷ []) 1 ∷ taken (b ∷ a ∷ []) 0 ∷ []
+unfolding sum_at stacks_of merged
+stacks_before = refl
+
+stacks_after : side_samples After both ≡ taken (a ∷ b ∷ []) 1 ∷ taken (b ∷ []) 0 ∷ taken (b ∷ a ∷ []) 2 ∷ []
+unfolding sum_at stacks_of merged
+stacks_after = refl

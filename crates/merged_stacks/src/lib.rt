@@ -4,6 +4,7 @@
 mod merged;
 mod name_ranks;
 mod paired;
+mod paired_sides;
 mod ranked_rows;
 mod stack_rows;
 mod sweeps;
@@ -13,5 +14,6 @@ mod totals;
 
 pub use merged::MergedStacks;
 pub use paired::PairedStacks;
+pub use paired_sides::{PairedSide, Side};
 pub use stack_rows::StackRows;
 pub use totals::total_weight;

@@ -1,6 +1,6 @@
 //! The stacks of two lists side by side, over one table of names.
 
-ghost use Rattle.std.specs.Prelude.{◌≡◌, ◌<◌, ◌≤◌, ◌^◌, ℕ, List, IfOk, length};
+ghost use Rattle.std.specs.Prelude.{◌≡◌, ◌↔◌, ◌<◌, ◌≤◌, ◌^◌, ℕ, List, IfOk, IsTrue, length};
 ghost use Rattle.sample_tables.specs.declared.samples.TheConstants.{FRAME_LIMIT};
 ghost use Rattle.sample_tables.specs.Rows.{name_at};
 ghost use Rattle.merged_stacks.specs.Timeline.{total_weight};
@@ -88,6 +88,22 @@ impl PairedStacks {
     {
         let rank = place_ranks(&self.lefts, &self.rights, self.places[at])[frame];
         self.names[rank].as_str()
+    }
+
+    /// Whether a frame has the same name in two stacks. No two names are the same, so their ranks
+    /// tell.
+    pub fn is_same_name(&self, at: usize, later: usize, frame: usize) -> bool
+        requires at { at < length self.now }
+        requires later { later < length self.now }
+        requires deep { frame < length (pair_at self.now at).stack }
+        requires later_deep { frame < length (pair_at self.now later).stack }
+        ensures { IsTrue result ↔ (name_at (pair_at self.now at).stack frame
+            ≡ name_at (pair_at self.now later).stack frame) }
+    {
+        let _names = &self.names;
+        let one = place_ranks(&self.lefts, &self.rights, self.places[at]);
+        let other = place_ranks(&self.lefts, &self.rights, self.places[later]);
+        one[frame] == other[frame]
     }
 
     /// The sum of the samples of stack `at` in the first list.

@@ -8,8 +8,8 @@ use Rattle.run_options.proofs.FilterLemmas.{all_is_kept, fewer_kept, limited_kep
 use Rattle.run_options.specs.Filters.{is_everything, kept_rest, kept_samples}
 use Rattle.run_options.specs.declared.filters.Filter.{Filter}
 use Rattle.run_options.specs.declared.options.Options.{Options}
-use Rattle.merging.specs.Sources.{rests_of, source_rest}
-use Rattle.merging.specs.checked.Readers.{reader_rest, whole_rest, whole_rests_of}
+use Rattle.merging.specs.Sources.{rests_of, whole_rest, whole_rests_of}
+use Rattle.merging.specs.checked.Readers.{reader_rest}
 use Rattle.merging.specs.declared.source_reader.SourceReader.{SourceReader}
 use Rattle.merging.specs.declared.sources.Source.{Source}
 

@@ -2,6 +2,7 @@ pub mod BackLemmas
 pub mod CountLemmas
 mod FilteredSources
 pub mod GatherLemmas
+mod KeptLemmas
 pub mod PairSums
 pub mod ReaderThreads
 mod RowLemmas

@@ -15,7 +15,7 @@ use Rattle.call_tree.specs.CallTree.{Tree, tree_of, with_weight, total_weight}
 use Rattle.call_tree.specs.FrameTable.{HasDistinctNames}
 use Rattle.call_tree.specs.Listing.{named, AreIn}
 use Rattle.merged_stacks.specs.checked.Ranks.{Grows}
-use Rattle.flame_layout.specs.checked.Paired.{Holds}
+use Rattle.flame_layout.specs.checked.Held.{Holds}
 use Rattle.merged_stacks.specs.Timeline.{total_weight as weight_sum}
 use Rattle.flame_layout.proofs.Held.{known-grows, named-grows, each-push, holds-small}
 use Rattle.merging.specs.declared.snapshots.Snapshot.{Snapshot}

@@ -11,7 +11,7 @@ use Rattle.call_tree.specs.Listing.{named, AreIn}
 use Rattle.call_tree.specs.PathSums.{begins_with, total_of, own_of}
 use Rattle.call_tree.proofs.TreeSums.{total_of-cons, own_of-cons}
 use Rattle.merged_stacks.specs.Timeline.{Stack}
-use Rattle.flame_layout.specs.checked.Paired.{Holds}
+use Rattle.flame_layout.specs.checked.Held.{Holds}
 use Rattle.flame_layout.specs.Paths.{total_at, own_at, tree_samples, SameOwn}
 use Rattle.merged_stacks.specs.Merged.{weighed}
 use Rattle.flame_layout.proofs.TreeSamples.{sampled, entries_named, path_in, own_named, own_weight-sum, has_numbers}

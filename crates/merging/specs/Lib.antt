@@ -4,4 +4,5 @@ pub mod Snapshots
 pub mod Sources
 pub mod Sums
 pub mod TreeSinkState
+pub mod WholeRuns
 pub mod checked

@@ -10,6 +10,8 @@ use Rattle.run_options.specs.declared.formats.Format.{Format}
 use Rattle.run_options.specs.declared.formats.Format.TheVariants.{Folded, Pprof}
 use Rattle.merging.specs.declared.sources.Source.{Source}
 use Rattle.run_options.specs.declared.options.Options.{Options}
+use Rattle.sample_tables.specs.Samples.{total_weight}
+use Rattle.merged_stacks.specs.Merged.{all_samples}
 
 -- the samples and the ending for which bytes of a format stand
 abbrev pub read_bytes : Format → List ℕ → Pick → Naming → Rest
@@ -27,3 +29,15 @@ source_rest options source = asked_rest options source.format source.bytes.items
 -- the same of all sources
 abbrev pub rests_of : Options → List Source → List Rest
 rests_of options sources = map (source_rest options) sources
+
+-- all samples of a source and its ending, whatever the filter
+abbrev pub whole_rest : Options → Source → Rest
+whole_rest options source = read_bytes source.format source.bytes.items options.pick options.naming
+
+abbrev pub whole_rests_of : Options → List Source → List Rest
+whole_rests_of options sources = map (whole_rest options) sources
+
+-- what the samples of all sources weigh together, whatever the filter
+abbrev pub weight_of_sources : Options → List Source → ℕ
+weight_of_sources options sources =
+    total_weight (all_samples (map (λ rest. rest.samples) (whole_rests_of options sources)))

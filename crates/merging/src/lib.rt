@@ -4,6 +4,9 @@
 
 mod collection;
 mod filtered_reader;
+mod kept_lists;
+mod kept_order;
+mod kept_stacks;
 pub mod laws;
 mod reading;
 mod snapshots;
@@ -13,6 +16,7 @@ mod sources;
 mod taken_rows;
 mod tally;
 mod tree_sink;
+mod whole_runs;
 
 pub use collection::{Gathered, gather};
 pub use reading::read_sources;
@@ -20,6 +24,4 @@ pub use snapshots::Snapshot;
 pub use source_lists::SourceLists;
 pub use sources::Source;
 pub use tree_sink::TreeSink;
-
-#[cfg(test)]
-mod tests;
+pub use whole_runs::{WholeRun, read_whole_sources};

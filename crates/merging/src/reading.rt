@@ -1,8 +1,8 @@
 //! A run of which the lists alone are wanted.
 
-ghost use Rattle.std.specs.Prelude.{◌≡◌, ◌≤◌, ◌<◌, ℕ, [], All, IfOk, IsErrOf, length, map, true};
+ghost use Rattle.std.specs.Prelude.{◌≡◌, ◌≤◌, ◌<◌, ◌++◌, ℕ, [], All, IfOk, IsErrOf, length, map, true};
 ghost use Rattle.std.specs.Arc.{arc_value};
-ghost use Rattle.stack_core.specs.Interleaving.{IsInterleaving};
+ghost use Rattle.stack_core.specs.Interleaving.{AreOf, IsInterleaving, interleaved};
 ghost use Rattle.ring_collect.specs.Collection.{Collects, AreWhole};
 ghost use Rattle.merged_stacks.specs.Timeline.{samples_of};
 ghost use Rattle.run_options.specs.Filters.{is_everything};
@@ -16,19 +16,24 @@ use crate::source_reader::SourceReader;
 use crate::sources::Source;
 use ring_collect::{CollectFault, Collected, collect_rows};
 use run_options::{Options, RingSize};
-use stack_core::{Gate, NoSink};
+use stack_core::{Gate, NoSink, RowSink};
 use std::alloc::Global;
 use std::sync::{Arc, Wait};
 use std::thread::Threads;
 
 /// Collects what the readers tell. It stands alone, since that a reader may go to another thread is found where there is little
 /// else to look through.
-fn run_rows<T: Threads + Wait + Copy + Send + 'static, G: Gate + Send + Sync + Drop + 'static>(
+pub(crate) fn run_rows<
+    T: Threads + Wait + Copy + Send + 'static,
+    G: Gate + Send + Sync + Drop + 'static,
+    S: RowSink,
+>(
     rt: &T,
     alloc: Global,
     readers: Vec<SourceReader>,
     ring: RingSize,
     gate: Arc<G>,
+    sink: &mut S,
 ) -> Result<Collected, CollectFault>
     requires few { length readers.items ≤ 64 }
     requires told { All (λ reader. reader_told reader ≡ record { names = []; stacks = [] })
@@ -42,9 +47,13 @@ fn run_rows<T: Threads + Wait + Copy + Send + 'static, G: Gate + Send + Sync + D
         IsInterleaving run.order.items (samples_of run.lists.items)) }
     ensures unfinished { (source : ℕ) → IsErrOf result (CollectFault.Unfinished source)
         → source < length readers.items }
+    ensures fed { IfOk result (λ run. S.taken sink.new ≡ S.taken sink.old ++ interleaved run.order.items
+        (samples_of run.lists.items)) }
+    ensures by_source { IfOk result (λ run. AreOf (interleaved run.order.items
+        (samples_of run.lists.items)) (samples_of run.lists.items)) }
+    ensures setting { S.setting sink.new ≡ S.setting sink.old }
 {
-    let mut sink = NoSink::new();
-    collect_rows(rt, alloc, readers, ring, gate, &mut sink)
+    collect_rows(rt, alloc, readers, ring, gate, sink)
 }
 
 /// The lists of sources of which every sample is kept.
@@ -69,7 +78,7 @@ fn collect_whole<T: Threads + Wait + Copy + Send + 'static, G: Gate + Send + Syn
         → source < length sources.items }
 {
     let readers = readers_of(alloc, sources, options)?;
-    run_rows(rt, alloc, readers, options.ring, gate)
+    run_rows(rt, alloc, readers, options.ring, gate, &mut NoSink::new())
 }
 
 /// The lists of sources of which a filter keeps samples. What is left out is told by samples, so they are collected as `gather` does.

@@ -1,14 +1,21 @@
 //! What a run collected of its sources.
 
-ghost use Rattle.std.specs.Prelude.{◌≡◌, ◌<◌, ◌^◌};
+ghost use Rattle.std.specs.Prelude.{◌≡◌, ◌<◌, ◌^◌, IfOk, map};
 ghost use Rattle.stack_core.specs.Interleaving.{IsInterleaving};
 ghost use Rattle.merged_stacks.specs.Merged.{all_samples};
 ghost use Rattle.merged_stacks.specs.Timeline.{samples_of, timeline, total_weight};
+ghost use Rattle.ring_collect.specs.Collection.{seen_as_rest};
+ghost use Rattle.run_options.specs.Filters.{kept_rest};
 ghost use Rattle.merging.specs.Gathered.{AreLimited};
 
+use crate::kept_lists::kept_lists;
+use crate::kept_order::kept_order;
+use crate::kept_stacks::all_kept_stacks;
 use flame_layout::total_weight;
 use ring_collect::Collected;
+use run_options::Filter;
 use stack_core::SourceList;
+use std::alloc::{AllocError, Global};
 use std::marker::Model;
 
 /// The lists of a run, one for each source, and the order in which their samples came. No call takes memory.
@@ -39,6 +46,21 @@ impl SourceLists {
             lists: run.lists,
             order: run.order,
         }
+    }
+
+    /// What a filter keeps of the samples.
+    pub(crate) fn kept(self, alloc: Global, filter: &Filter) -> Result<SourceLists, AllocError>
+        ensures { IfOk result (λ left. map seen_as_rest left.lists
+            ≡ map (kept_rest filter.now) (map seen_as_rest self.lists)) }
+    {
+        if filter.is_everything() {
+            return Ok(self);
+        }
+        let SourceLists { lists, order } = self;
+        let kept = all_kept_stacks(alloc, &lists, filter)?;
+        let order = kept_order(alloc, &order, &lists, &kept)?;
+        let lists = kept_lists(alloc, &lists, &kept)?;
+        Ok(SourceLists { lists, order })
     }
 
     /// One list for each source, in their order.

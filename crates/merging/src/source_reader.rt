@@ -2,7 +2,7 @@
 
 ghost use Rattle.std.specs.Prelude.{◌≡◌, [], IfOk, OnOk};
 ghost use Rattle.stack_core.specs.Reading.{IsSourceLimited};
-ghost use Rattle.merging.specs.checked.Readers.{whole_rest};
+ghost use Rattle.merging.specs.Sources.{whole_rest};
 
 use crate::sources::Source;
 use folded_lines::FoldedReader;

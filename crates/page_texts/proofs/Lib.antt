@@ -1,9 +1,11 @@
 pub mod DrawingTexts
+pub mod KeptDrawings
 pub mod KeptParts
 pub mod Lists
 pub mod Names
 pub mod NoMarkup
 pub mod PageTexts
+pub mod PartLists
 pub mod SafeText
 pub mod Seams
 mod WorkedPages

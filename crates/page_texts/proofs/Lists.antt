@@ -5,12 +5,7 @@ use Rattle.std.proofs.lemmas.List.{map_more, length-map, length-take-le}
 use Rattle.serde_json.specs.Data.{Data}
 use Rattle.serde_json.specs.View.{items_of}
 use Rattle.serde_json.specs.Written.{comma_if}
-use Rattle.page_texts.specs.checked.SafeText.{safe_text, safe_items}
-
--- the values with their commas, before the closing bracket
-abbrev pub values_text : Bool → List Data → List ℕ
-values_text later [] = []
-values_text later (d ∷ ds) = comma_if later ++ (safe_text d ++ values_text true ds)
+use Rattle.page_texts.specs.checked.SafeText.{safe_text, safe_items, values_text}
 
 regroup : (a b c d : List ℕ) → a ++ (b ++ (c ++ d)) ≡ (a ++ (b ++ c)) ++ d
 regroup a b c d = simp append_assoc

@@ -63,7 +63,7 @@ still_named names rest (box ∷ boxes) h =
     let same = place_stays box.span.name names rest h.0 in
     (omega (arith, same, h.0, length-append names rest), still_named names rest boxes h.1)
 
-still_numbered : (names rest : List (List ℕ)) (boxes : List PageBox) → AreNamed names boxes → map (numbered names) boxes ≡ map (numbered (names ++ rest)) boxes
+pub still_numbered : (names rest : List (List ℕ)) (boxes : List PageBox) → AreNamed names boxes → map (numbered names) boxes ≡ map (numbered (names ++ rest)) boxes
 still_numbered names rest [] h = refl
 still_numbered names rest (box ∷ boxes) h =
     let same = place_stays box.span.name names rest h.0 in

@@ -12,9 +12,9 @@ use Rattle.page_texts.specs.ScriptSafe.{script_safe}
 use Rattle.page_texts.specs.Drawn.{source_of}
 use Rattle.page_texts.specs.declared.pages.Source.{Source}
 use Rattle.page_texts.specs.checked.Kept.{AreNamed, number_text}
-use Rattle.page_texts.specs.checked.SafeText.{safe_text}
+use Rattle.page_texts.specs.checked.SafeText.{safe_text, values_text}
 use Rattle.page_texts.proofs.SafeText.{safe-value}
-use Rattle.page_texts.proofs.Lists.{values_text, values_text-push}
+use Rattle.page_texts.proofs.Lists.{values_text-push}
 use Rattle.page_texts.proofs.Names.{grown, place_stays, still_named, with_stack-append}
 
 abbrev pub text_after : List ℕ → List ℕ → List ℕ
@@ -28,80 +28,18 @@ source_text source = refl
 regroup : (a b c d : List ℕ) → ((a ++ b) ++ c) ++ d ≡ a ++ (b ++ (c ++ d))
 regroup a b c d = simp append_assoc
 
--- ---- names that are added leave the drawings before them as they are
+-- ---- names that are added
 
-grown_stack : (names stack : List (List ℕ)) → (rest : List (List ℕ)) × (with_stack names stack ≡ names ++ rest)
+pub grown_stack : (names stack : List (List ℕ)) → (rest : List (List ℕ)) × (with_stack names stack ≡ names ++ rest)
 grown_stack names [] = ([], sym (append-nil names))
 grown_stack names (name ∷ stack) =
     let g = grown names name in
     let h = grown_stack (with_name names name) stack in
     (g.0 ++ h.0, h.1 ∙ ap (λ ns. ns ++ h.0) g.1 ∙ append_assoc names g.0 h.0)
 
-same_places : (names rest : List (List ℕ)) (boxes : List PageBox) → AreNamed names boxes
-    → map (λ box. whole_number (place_of names box.span.name)) boxes ≡ map (λ box. whole_number (place_of (names ++ rest) box.span.name)) boxes
-same_places names rest [] h = refl
-same_places names rest (box ∷ boxes) h = ap₂ (λ n later. whole_number n ∷ later) (sym (place_stays box.span.name names rest h.0)) (same_places names rest boxes h.1)
-
-abbrev pub IsNamed : List (List ℕ) → PageDrawing → Type 0
-IsNamed names drawing = AreNamed names (kept drawing.least drawing.boxes)
-
-abbrev pub AreAllNamed : List (List ℕ) → List PageDrawing → Type 0
-AreAllNamed names drawings = AllByRecursion (IsNamed names) drawings
-
-all_still_named : (names rest : List (List ℕ)) (drawings : List PageDrawing) → AreAllNamed names drawings → AreAllNamed (names ++ rest) drawings
-all_still_named names rest [] h = tt
-all_still_named names rest (drawing ∷ drawings) h = (still_named names rest (kept drawing.least drawing.boxes) h.0, all_still_named names rest drawings h.1)
-
-all_named_push : (names : List (List ℕ)) (drawings : List PageDrawing) (drawing : PageDrawing) → AreAllNamed names drawings → IsNamed names drawing → AreAllNamed names (drawings ++ drawing ∷ [])
-all_named_push names [] drawing h k = (k, tt)
-all_named_push names (one ∷ drawings) drawing h k = (h.0, all_named_push names drawings drawing h.1 k)
-
-drawing_stays : (names rest : List (List ℕ)) (drawing : PageDrawing) → IsNamed names drawing → drawing_data names drawing ≡ drawing_data (names ++ rest) drawing
-drawing_stays names rest drawing h =
-    let boxes = kept drawing.least drawing.boxes in
-    ap (λ name. object (moment_members drawing.moment
-    (member (codes "depth") (column (λ box. box.span.depth) boxes)
-    (member (codes "least") (whole_number drawing.least)
-    (member (codes "left_out") (left_out_data (left_out drawing.least drawing.boxes))
-    (member (codes "name") (list_data name)
-    (other_members drawing.is_compared boxes (last_members boxes drawing.total))))))))
-    (same_places names rest boxes h)
-
-drawings_stay : (names rest : List (List ℕ)) (drawings : List PageDrawing) → AreAllNamed names drawings → map (drawing_data names) drawings ≡ map (drawing_data (names ++ rest)) drawings
-drawings_stay names rest [] h = refl
-drawings_stay names rest (drawing ∷ drawings) h = ap₂ (λ d ds. d ∷ ds) (drawing_stays names rest drawing h.0) (drawings_stay names rest drawings h.1)
-
-flat_push : (drawings : List PageDrawing) (drawing : PageDrawing) → flat_map kept_names (drawings ++ drawing ∷ []) ≡ flat_map kept_names drawings ++ kept_names drawing
+pub flat_push : (drawings : List PageDrawing) (drawing : PageDrawing) → flat_map kept_names (drawings ++ drawing ∷ []) ≡ flat_map kept_names drawings ++ kept_names drawing
 flat_push [] drawing = append-nil (kept_names drawing)
 flat_push (one ∷ drawings) drawing = ap (λ t. kept_names one ++ t) (flat_push drawings drawing) ∙ sym (append_assoc (kept_names one) (flat_map kept_names drawings) (kept_names drawing))
-
--- ---- the drawings so far
-
-pub record PageSoFar (names : List (List ℕ)) (done : List PageDrawing) (before text : List ℕ) : Type 0 where
-  pub names_are : names ≡ page_names done
-  pub named : AreAllNamed names done
-  pub text_is : text ≡ before ++ values_text false (map (drawing_data names) done)
-
-pub drawing_step : (names : List (List ℕ)) (done : List PageDrawing) (before text : List ℕ) → PageSoFar names done before text
-    → (drawing : PageDrawing) (names' : List (List ℕ)) (text' : List ℕ)
-    → names' ≡ with_stack names (kept_names drawing) → IsNamed names' drawing → text' ≡ (text ++ comma_if (nat_lt 0 (length done))) ++ safe_text (drawing_data names' drawing)
-    → PageSoFar names' (done ++ drawing ∷ []) before text'
-drawing_step names done before text so_far drawing names' text' more named is =
-    let g = grown_stack names (kept_names drawing) in
-    let longer : names' ≡ names ++ g.0 = more ∙ g.1 in
-    let same : map (drawing_data names) done ≡ map (drawing_data names') done = drawings_stay names g.0 done so_far.named ∙ ap (λ ns. map (drawing_data ns) done) (sym longer) in
-    let count : length (map (drawing_data names') done) ≡ length done = length-map done (drawing_data names') in
-    let pushed = values_text-push (map (drawing_data names') done) (drawing_data names' drawing) in
-    let old = values_text false (map (drawing_data names') done) in
-    let comma = comma_if (nat_lt 0 (length done)) in
-    let new = safe_text (drawing_data names' drawing) in
-    record {
-      names_are = more ∙ ap (λ ns. with_stack ns (kept_names drawing)) so_far.names_are ∙ sym (with_stack-append [] (flat_map kept_names done) (kept_names drawing)) ∙ ap (with_stack []) (sym (flat_push done drawing));
-      named = all_named_push names' done drawing (subst (λ ns. AreAllNamed ns done) (sym longer) (all_still_named names g.0 done so_far.named)) named;
-      text_is = is ∙ ap (λ t. (t ++ comma) ++ new) (so_far.text_is ∙ ap (λ ds. before ++ values_text false ds) same)
-          ∙ regroup before old comma new
-          ∙ ap (λ t. before ++ t) (ap (λ n. old ++ (comma_if (nat_lt 0 n) ++ new)) (sym count) ∙ sym pushed ∙ ap (values_text false) (sym (map-append (drawing_data names') done (drawing ∷ []))));
-    }
 
 -- ---- lists that are appended value by value
 
@@ -148,3 +86,7 @@ page_parts page names are =
 pub sources_same : (sources : List Source) → map (λ source. source_data (source_of source)) sources ≡ map source_data (map source_of sources)
 sources_same [] = refl
 sources_same (source ∷ sources) = ap (λ ds. source_data (source_of source) ∷ ds) (sources_same sources)
+
+pub maps_are_one : {S T U : Type 0} (f : S → T) (g : T → U) (xs : List S) → map g (map f xs) ≡ map (λ x. g (f x)) xs
+maps_are_one f g [] = refl
+maps_are_one f g (x ∷ xs) = ap (λ ys. g (f x) ∷ ys) (maps_are_one f g xs)

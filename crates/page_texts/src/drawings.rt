@@ -1,17 +1,12 @@
 //! The drawings of a page.
-ghost use Rattle.std.specs.Prelude.{◌≡◌, ◌++◌, map, OnOk};
-ghost use Rattle.stack_core.specs.NamesInOrder.{with_stack};
-ghost use Rattle.page_texts.specs.Page.{drawing_data, kept, kept_names};
-ghost use Rattle.page_texts.specs.Drawn.{drawing_of, shown};
-ghost use Rattle.page_texts.specs.checked.Kept.{AreNamed, moment_text, first_text, last_text, other_text};
-ghost use Rattle.page_texts.specs.checked.SafeText.{safe_text};
+ghost use Rattle.std.specs.Prelude.{◌≡◌, ◌++◌, OnOk};
+ghost use Rattle.page_texts.specs.checked.Kept.{drawing_parts, moment_text, first_text, last_text, other_text};
+ghost use Rattle.page_texts.specs.checked.Parts.{parts_text};
 
-use crate::json_parts::{append_column, append_number, append_numbers};
-use crate::keeping::keep;
 use crate::kept_boxes::{Column, KeptBoxes};
 use crate::page_boxes::PageBox;
-use call_tree::FrameTable;
-use std::alloc::{AllocError, Global};
+use crate::parts::{Part, push_column, push_literal, push_number, push_numbers};
+use std::alloc::AllocError;
 
 /// What a snapshot has.
 #[derive(Clone, Copy, Debug)]
@@ -35,73 +30,79 @@ pub struct Drawing<'a, B> {
     pub moment: Option<Moment<'a>>,
 }
 
-// Appends the data of a drawing, and adds its names.
-pub(crate) fn append_drawing<B: PageBox>(
-    alloc: Global,
-    out: &mut Vec<u8>,
-    names: &mut FrameTable,
+// Adds the data of a drawing whose boxes were kept.
+pub(crate) fn push_drawing<'k, B: PageBox>(
+    parts: &mut Vec<Part<'_, 'k>>,
     drawing: &Drawing<'_, B>,
+    kept: &'k KeptBoxes,
 ) -> Result<(), AllocError>
-    ensures names { OnOk result (names.new
-        ≡ with_stack names.old (kept_names (drawing_of B.span B.other B.compared drawing.now))) }
-    ensures named { OnOk result
-        (AreNamed names.new (kept drawing.now.least (map (shown B.span B.other) drawing.now.boxes.now))) }
-    ensures text { OnOk result (out.new.items ≡ out.old.items
-        ++ safe_text (drawing_data names.new (drawing_of B.span B.other B.compared drawing.now))) }
+    ensures { OnOk result (parts_text parts.new.items ≡ parts_text parts.old.items
+        ++ drawing_parts B.compared drawing.now kept.now) }
 {
-    let answer = keep(alloc, names, drawing.boxes, drawing.least)?;
-    append_moment(out, drawing.moment)?;
-    append_first(out, &answer, drawing.least)?;
-    append_other(out, &answer, B::is_compared())?;
-    append_last(out, &answer, drawing.total)?;
-    Ok(())
+    push_moment(parts, drawing.moment)?;
+    push_first(parts, kept, drawing.least)?;
+    push_other(parts, kept, B::is_compared())?;
+    push_last(parts, kept, drawing.total)
 }
 
-// Appends the bracket before a drawing, and what only a snapshot has.
-fn append_moment(out: &mut Vec<u8>, moment: Option<Moment<'_>>) -> Result<(), AllocError>
-    ensures { OnOk result (out.new.items ≡ out.old.items ++ moment_text moment.entry) }
+// Adds the bracket before a drawing, and what only a snapshot has.
+fn push_moment(parts: &mut Vec<Part<'_, '_>>, moment: Option<Moment<'_>>) -> Result<(), AllocError>
+    ensures { OnOk result
+        (parts_text parts.new.items ≡ parts_text parts.old.items ++ moment_text moment.entry) }
 {
     match moment {
-        None => out.push(b'{')?,
+        None => push_literal(parts, b"{"),
         Some(moment) => {
-            append_number(out, b"{\"at\":", moment.at)?;
-            append_numbers(out, b",\"counts\":", moment.counts)?;
-            out.push(b',')?;
+            push_number(parts, b"{\"at\":", u128::from(moment.at))?;
+            push_numbers(parts, b",\"counts\":", moment.counts)?;
+            push_literal(parts, b",")
         }
     }
-    Ok(())
 }
 
-// Appends the members before those of a comparison.
-fn append_first(out: &mut Vec<u8>, kept: &KeptBoxes, least: u64) -> Result<(), AllocError>
-    ensures { OnOk result (out.new.items ≡ out.old.items ++ first_text kept.now least) }
+// Adds the members before those of a comparison.
+fn push_first<'k>(
+    parts: &mut Vec<Part<'_, 'k>>,
+    kept: &'k KeptBoxes,
+    least: u64,
+) -> Result<(), AllocError>
+    ensures { OnOk result
+        (parts_text parts.new.items ≡ parts_text parts.old.items ++ first_text kept.now least) }
 {
-    append_column(out, b"\"depth\":", Column::Depth, &kept.boxes)?;
-    append_number(out, b",\"least\":", least)?;
-    append_number(out, b",\"left_out\":{\"boxes\":", kept.left_boxes)?;
-    append_number(out, b",\"weight\":", kept.left_weight)?;
-    append_column(out, b"},\"name\":", Column::Name, &kept.boxes)?;
-    Ok(())
+    push_column(parts, b"\"depth\":", Column::Depth, &kept.boxes)?;
+    push_number(parts, b",\"least\":", u128::from(least))?;
+    push_number(parts, b",\"left_out\":{\"boxes\":", kept.left_boxes as u128)?;
+    push_number(parts, b",\"weight\":", kept.left_weight)?;
+    push_column(parts, b"},\"name\":", Column::Name, &kept.boxes)
 }
 
-// Appends what only a comparison has.
-fn append_other(out: &mut Vec<u8>, kept: &KeptBoxes, is_compared: bool) -> Result<(), AllocError>
-    ensures { OnOk result (out.new.items ≡ out.old.items ++ other_text is_compared kept.now) }
+// Adds what only a comparison has.
+fn push_other<'k>(
+    parts: &mut Vec<Part<'_, 'k>>,
+    kept: &'k KeptBoxes,
+    is_compared: bool,
+) -> Result<(), AllocError>
+    ensures { OnOk result
+        (parts_text parts.new.items ≡ parts_text parts.old.items ++ other_text is_compared kept.now) }
 {
     if is_compared {
-        append_column(out, b",\"other\":", Column::Other, &kept.boxes)?;
+        push_column(parts, b",\"other\":", Column::Other, &kept.boxes)?;
     }
     Ok(())
 }
 
-// Appends the members after those of a comparison, and the bracket after the drawing.
-fn append_last(out: &mut Vec<u8>, kept: &KeptBoxes, total: u64) -> Result<(), AllocError>
-    ensures { OnOk result (out.new.items ≡ out.old.items ++ last_text kept.now total) }
+// Adds the members after those of a comparison, and the bracket after the drawing.
+fn push_last<'k>(
+    parts: &mut Vec<Part<'_, 'k>>,
+    kept: &'k KeptBoxes,
+    total: u64,
+) -> Result<(), AllocError>
+    ensures { OnOk result
+        (parts_text parts.new.items ≡ parts_text parts.old.items ++ last_text kept.now total) }
 {
-    append_column(out, b",\"own\":", Column::Own, &kept.boxes)?;
-    append_column(out, b",\"start\":", Column::Start, &kept.boxes)?;
-    append_number(out, b",\"total\":", total)?;
-    append_column(out, b",\"weight\":", Column::Weight, &kept.boxes)?;
-    out.push(b'}')?;
-    Ok(())
+    push_column(parts, b",\"own\":", Column::Own, &kept.boxes)?;
+    push_column(parts, b",\"start\":", Column::Start, &kept.boxes)?;
+    push_number(parts, b",\"total\":", u128::from(total))?;
+    push_column(parts, b",\"weight\":", Column::Weight, &kept.boxes)?;
+    push_literal(parts, b"}")
 }

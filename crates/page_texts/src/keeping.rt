@@ -1,18 +1,38 @@
 //! Keeping the boxes that weigh enough.
 ghost use Rattle.std.specs.Prelude.{◌≡◌, ◌<◌, length, map, OnOk, IfOk};
 ghost use Rattle.stack_core.specs.NamesInOrder.{with_name, with_stack};
-ghost use Rattle.page_texts.specs.Drawn.{shown};
+ghost use Rattle.page_texts.specs.Drawn.{drawing_of, shown};
 ghost use Rattle.page_texts.specs.Page.{kept, names_of, place_of};
-ghost use Rattle.page_texts.specs.checked.Kept.{Keeps, numbered};
+ghost use Rattle.page_texts.specs.checked.Kept.{AreKept, Keeps, numbered};
 
-use crate::kept_boxes::{KeptBox, KeptBoxes};
+use crate::drawings::Drawing;
+use crate::kept_boxes::{KeptBox, KeptBoxes, KeptDrawings};
 use crate::page_boxes::PageBox;
 use call_tree::FrameTable;
 use std::alloc::{AllocError, Global};
 
+// The boxes of each drawing that weigh enough, and their names.
+pub(crate) fn keep_drawings<B: PageBox>(
+    alloc: Global,
+    drawings: &[Drawing<'_, B>],
+) -> Result<KeptDrawings, AllocError>
+    ensures { IfOk result
+        (AreKept (map (drawing_of B.span B.other B.compared) drawings.now)) }
+{
+    let mut names = FrameTable::new(alloc);
+    let mut kept = Vec::new(alloc);
+    for drawing in drawings {
+        kept.push(keep(alloc, &mut names, drawing.boxes, drawing.least)?)?;
+    }
+    Ok(KeptDrawings {
+        names,
+        drawings: kept,
+    })
+}
+
 // The boxes that weigh at least so much, with the numbers of their names, and what is told of the
 // others.
-pub(crate) fn keep<B: PageBox>(
+fn keep<B: PageBox>(
     alloc: Global,
     names: &mut FrameTable,
     boxes: &[B],

@@ -2,6 +2,8 @@
 ghost use Rattle.std.specs.Prelude.{◌≡◌};
 ghost use Rattle.page_texts.specs.checked.Kept.{number_in};
 
+use call_tree::FrameTable;
+
 // A box that is kept, with the number of its name.
 #[derive(Clone, Copy)]
 pub(crate) struct KeptBox {
@@ -46,4 +48,11 @@ pub(crate) struct KeptBoxes {
     pub(crate) boxes: Vec<KeptBox>,
     pub(crate) left_boxes: usize,
     pub(crate) left_weight: u128,
+}
+
+// What is kept of the drawings of a page, and the names of their boxes, each once.
+#[derive(Drop)]
+pub(crate) struct KeptDrawings {
+    pub(crate) names: FrameTable,
+    pub(crate) drawings: Vec<KeptBoxes>,
 }

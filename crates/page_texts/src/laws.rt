@@ -1,7 +1,9 @@
 //! Laws over the definitions, for all values. Each function does nothing, and takes no memory.
-ghost use Rattle.std.specs.Prelude.{◌≡◌, ◌↔◌, ◌+◌, ◌<◌, ◌≤◌, ℕ, List, [], length, Contains};
+ghost use Rattle.std.specs.Prelude.{◌≡◌, ◌↔◌, ◌+◌, ◌<◌, ◌≤◌, ◌++◌, ℕ, List, [], length, Contains};
 ghost use Rattle.serde_json.specs.Data.{Data};
-ghost use Rattle.page_texts.specs.Page.{PageBox, kept, left_out, own_weight};
+ghost use Rattle.page_source.specs.Source.{page_head, page_tail};
+ghost use Rattle.page_texts.specs.Document.{document_text};
+ghost use Rattle.page_texts.specs.Page.{Page, PageBox, kept, left_out, own_weight};
 ghost use Rattle.page_texts.specs.PageLaws.{HasNoMarkup, HasNoSeparator};
 ghost use Rattle.page_texts.specs.ScriptSafe.{page_data_text};
 
@@ -10,6 +12,14 @@ ghost use Rattle.page_texts.specs.ScriptSafe.{page_data_text};
 pub fn no_character_ends_the_element()
     ensures markup { (value : Data) → HasNoMarkup (page_data_text value) }
     ensures separators { (value : Data) → HasNoSeparator (page_data_text value) }
+{}
+
+/// What a browser reads as markup in a document is its constant parts alone: what stands between them
+/// has none.
+pub fn markup_is_constant()
+    ensures { (page : Page) → (between : List ℕ)
+        × (document_text page ≡ page_head ++ (between ++ page_tail))
+        × HasNoMarkup between × HasNoSeparator between }
 {}
 
 /// A drawing keeps exactly the boxes that weigh at least the limit, in their order, and with the

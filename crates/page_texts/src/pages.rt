@@ -1,14 +1,23 @@
-//! The data of a whole page.
-ghost use Rattle.std.specs.Prelude.{◌≡◌, ◌++◌, [], ◌∷◌, codes, map, OnOk, OnErr};
-ghost use Rattle.serde_json.specs.Data.{string};
-ghost use Rattle.page_texts.specs.Page.{drawing_data, list_data, page_names, page_text, source_data};
-ghost use Rattle.page_texts.specs.Drawn.{drawing_of, page_of, source_of};
-ghost use Rattle.page_texts.specs.checked.SafeText.{safe_text};
+//! The text of a whole page.
+ghost use Rattle.std.specs.Prelude.{◌≡◌, ◌≢◌, ◌<◌, ◌^◌, ◌++◌, length, map, OnOk, OnErr, IfOk, IsErrOf};
+ghost use Rattle.std.specs.Io.KnownBytes.{Appends};
+ghost use Rattle.byte_io.specs.Calls.{one_more};
+ghost use Rattle.byte_io.specs.Pieces.{AppendsFront};
+ghost use Rattle.page_texts.specs.Page.{page_text};
+ghost use Rattle.page_texts.specs.Document.{document_text};
+ghost use Rattle.page_texts.specs.Drawn.{drawing_of, page_of};
+ghost use Rattle.page_texts.specs.checked.Kept.{AreKept};
+ghost use Rattle.page_texts.specs.checked.Parts.{parts_text};
 
-use crate::drawings::{Drawing, append_drawing};
-use crate::json_parts::{append_number, append_text, comma_if};
+use crate::drawings::Drawing;
+use crate::keeping::keep_drawings;
+use crate::kept_boxes::KeptDrawings;
 use crate::page_boxes::PageBox;
-use call_tree::FrameTable;
+use crate::page_parts::push_page;
+use crate::part_texts::PartText;
+use crate::parts::push_literal;
+use byte_io::{Outlet, PieceFault, append_pieces, send_pieces};
+use page_source::{head, tail};
 use std::alloc::{AllocError, Global};
 
 /// A source of a page.
@@ -37,6 +46,30 @@ pub struct Page<'a, B> {
     pub view: &'a str,
 }
 
+/// Sends a page: the document that a browser opens. No name and no title can be read as markup in it. It
+/// is sent while its text is made; at the first call that fails it ends, and leaves a front of the text.
+pub fn send_page<B: PageBox, W: Outlet>(
+    alloc: Global,
+    page: &Page<'_, B>,
+    out: &mut W,
+) -> Result<(), PieceFault>
+    ensures ok { OnOk result (Appends (W.contents out.old) (W.contents out.new)
+        (document_text (page_of B.span B.other B.compared page.now))) }
+    ensures flushed { OnOk result (W.is_flushed out.new) }
+    ensures front { OnErr result
+        (AppendsFront (document_text (page_of B.span B.other B.compared page.now))
+        (W.contents out.old) (W.contents out.new)) }
+
+    // As in `send_pieces`.
+    ensures output { IsErrOf result PieceFault.Output
+        → W.failures out.new ≡ one_more (W.failures out.old) }
+    ensures unfailed { result ≢ Err PieceFault.Output → W.failures out.new ≡ W.failures out.old }
+{
+    let kept = keep_drawings(alloc, page.drawings)?;
+    let document = document(alloc, page, &kept)?;
+    send_pieces(alloc, &document, out)
+}
+
 /// Appends the data of a page, in which no name and no title can end the script element that it
 /// stands in. An `Err` changes nothing.
 pub fn append_page_data<B: PageBox>(
@@ -48,93 +81,45 @@ pub fn append_page_data<B: PageBox>(
         ≡ out.old.items ++ page_text (page_of B.span B.other B.compared page.now)) }
     ensures err { OnErr result (out.new.items ≡ out.old.items) }
 {
-    let mut text = Vec::new(alloc);
-    append_page(alloc, &mut text, page)?;
-    out.extend_from_slice(&text)
+    let kept = keep_drawings(alloc, page.drawings)?;
+    let data = data(alloc, page, &kept)?;
+    append_pieces(alloc, &data, out)
 }
 
-// Appends the data of a page, or the front of that.
-fn append_page<B: PageBox>(
+// The text of the whole document, of boxes that were kept.
+fn document<'p, 'k, B: PageBox>(
     alloc: Global,
-    out: &mut Vec<u8>,
-    page: &Page<'_, B>,
-) -> Result<(), AllocError>
-    ensures { OnOk result (out.new.items
-        ≡ out.old.items ++ page_text (page_of B.span B.other B.compared page.now)) }
+    page: &Page<'p, B>,
+    kept: &'k KeptDrawings,
+) -> Result<PartText<'p, 'k>, AllocError>
+    requires { AreKept
+        (map (drawing_of B.span B.other B.compared) page.now.drawings.now) kept.now }
+    ensures text { IfOk result (λ text. parts_text text.parts.items
+        ≡ document_text (page_of B.span B.other B.compared page.now)) }
+    ensures few { IfOk result (λ text. length text.parts.items < 2 ^ 64) }
 {
-    let mut names = FrameTable::new(alloc);
-    out.extend_from_slice(b"{\"drawings\":")?;
-    append_drawings(alloc, out, &mut names, page.drawings)?;
-    append_names(alloc, out, &names)?;
-    append_sources(alloc, out, page.sources)?;
-    append_text(alloc, out, b",\"title\":", page.title)?;
-    append_text(alloc, out, b",\"view\":", page.view)?;
-    out.push(b'}')?;
-    Ok(())
+    let mut parts = Vec::new(alloc);
+    push_literal(&mut parts, head().as_bytes())?;
+    push_page(&mut parts, page, kept)?;
+    push_literal(&mut parts, tail().as_bytes())?;
+    let _count = parts.len();
+    Ok(PartText { parts })
 }
 
-// Appends the list of the drawings, and adds their names to a table without names.
-fn append_drawings<B: PageBox>(
+// The text of the data, of boxes that were kept.
+fn data<'p, 'k, B: PageBox>(
     alloc: Global,
-    out: &mut Vec<u8>,
-    names: &mut FrameTable,
-    drawings: &[Drawing<'_, B>],
-) -> Result<(), AllocError>
-    requires { names.old ≡ [] }
-    ensures names { OnOk result
-        (names.new ≡ page_names (map (drawing_of B.span B.other B.compared) drawings.now)) }
-    ensures text { OnOk result (out.new.items ≡ out.old.items ++ safe_text (list_data
-        (map (drawing_data names.new) (map (drawing_of B.span B.other B.compared) drawings.now)))) }
+    page: &Page<'p, B>,
+    kept: &'k KeptDrawings,
+) -> Result<PartText<'p, 'k>, AllocError>
+    requires { AreKept
+        (map (drawing_of B.span B.other B.compared) page.now.drawings.now) kept.now }
+    ensures text { IfOk result (λ text. parts_text text.parts.items
+        ≡ page_text (page_of B.span B.other B.compared page.now)) }
+    ensures few { IfOk result (λ text. length text.parts.items < 2 ^ 64) }
 {
-    out.push(b'[')?;
-    for (i, drawing) in drawings.iter().enumerate() {
-        out.extend_from_slice(comma_if(i > 0))?;
-        append_drawing(alloc, out, names, drawing)?;
-    }
-    out.push(b']')?;
-    Ok(())
-}
-
-// Appends the list of the names, after its key.
-fn append_names(alloc: Global, out: &mut Vec<u8>, names: &FrameTable) -> Result<(), AllocError>
-    ensures { OnOk result (out.new.items
-        ≡ out.old.items ++ (codes ",\"names\":" ++ safe_text (list_data (map string names.now)))) }
-{
-    out.extend_from_slice(b",\"names\":[")?;
-    for number in 0..names.len() {
-        append_text(alloc, out, comma_if(number > 0), names.name(number))?;
-    }
-    out.push(b']')?;
-    Ok(())
-}
-
-// Appends the list of the sources, after its key.
-fn append_sources(
-    alloc: Global,
-    out: &mut Vec<u8>,
-    sources: &[Source<'_>],
-) -> Result<(), AllocError>
-    ensures { OnOk result (out.new.items ≡ out.old.items ++ (codes ",\"sources\":"
-        ++ safe_text (list_data (map (λ source. source_data (source_of source)) sources.now)))) }
-{
-    out.extend_from_slice(b",\"sources\":[")?;
-    for (i, source) in sources.iter().enumerate() {
-        out.extend_from_slice(comma_if(i > 0))?;
-        append_source(alloc, out, source)?;
-    }
-    out.push(b']')?;
-    Ok(())
-}
-
-// Appends a source.
-fn append_source(alloc: Global, out: &mut Vec<u8>, source: &Source<'_>) -> Result<(), AllocError>
-    ensures { OnOk result
-        (out.new.items ≡ out.old.items ++ safe_text (source_data (source_of source.now))) }
-{
-    append_text(alloc, out, b"{\"name\":", source.name)?;
-    append_text(alloc, out, b",\"type\":", source.type_name)?;
-    append_text(alloc, out, b",\"unit\":", source.unit)?;
-    append_number(out, b",\"weight\":", source.weight)?;
-    out.push(b'}')?;
-    Ok(())
+    let mut parts = Vec::new(alloc);
+    push_page(&mut parts, page, kept)?;
+    let _count = parts.len();
+    Ok(PartText { parts })
 }

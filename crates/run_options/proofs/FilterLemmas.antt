@@ -59,6 +59,17 @@ pub match_named : {Z : Type 0} (texts stack : List (String Z)) → list_any (λ 
 match_named texts [] = refl
 match_named texts (name ∷ stack) = (λ i. sym (any_named (λ text. has_text text (string_bytes name)) texts) i || match_named texts stack i)
 
+or_false : (b : Bool) → b ≡ (b || false)
+or_false true = refl
+or_false false = refl
+
+-- the same of one name
+pub one_matched : {Z : Type 0} (texts : List (String Z)) (name : List ℕ) → list_any (λ text. has_text (string_bytes text) name) texts
+    ≡ has_match (map string_bytes texts) (name ∷ [])
+one_matched texts name =
+    or_false (list_any (λ text. has_text (string_bytes text) name) texts)
+    ∙ ap (λ b. b || false) (sym (any_named (λ text. has_text text name) texts))
+
 -- ---- the samples of a source
 
 pub none_matches : (stack : List (List ℕ)) → has_match [] stack ≡ false

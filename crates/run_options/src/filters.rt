@@ -1,6 +1,6 @@
 //! Which samples are kept, by the names of their frames.
 
-ghost use Rattle.std.specs.Prelude.{◌≡◌, ◌||◌, IfOk, map, string_bytes};
+ghost use Rattle.std.specs.Prelude.{◌≡◌, ◌||◌, ◌∷◌, [], IfOk, map, string_bytes};
 ghost use Rattle.std.specs.List.{list_any};
 ghost use Rattle.run_options.specs.Filters.{everything, has_match, has_text, is_everything, is_none, keeps};
 
@@ -39,6 +39,20 @@ impl Filter {
         ensures { result ≡ keeps self.now (map string_bytes stack.now) }
     {
         is_in_focus(&self.focus, stack) && !has_match(&self.hide, stack)
+    }
+
+    /// Whether a frame of this name is in the focus. Where there is no focus, none is.
+    pub fn focuses(&self, name: &str) -> bool
+        ensures { result ≡ has_match self.now.focus (name.now ∷ []) }
+    {
+        has_any(self.focus.get(), name)
+    }
+
+    /// Whether a frame of this name is hidden.
+    pub fn hides(&self, name: &str) -> bool
+        ensures { result ≡ has_match self.now.hide (name.now ∷ []) }
+    {
+        has_any(self.hide.get(), name)
     }
 
     /// The same filter, with texts of its own.

@@ -1,6 +1,6 @@
 //! The example of the README, and what no contract says.
 
-use crate::{Filter, Format, MAX_WIDTH, Pick, RingSize, Width, format_of};
+use crate::{Filter, Format, FunctionOrder, MAX_WIDTH, Pick, RingSize, Width, format_of};
 use stack_core::{Names, Text};
 use std::test::Fail;
 
@@ -54,6 +54,15 @@ fn names_of_formats(rt: HostRuntime) {
     assert_eq!(rt; Format::named("pprof"), Some(Format::Pprof));
     for name in ["", "Folded", "PPROF", "pprof ", "pb", "folded,pprof"] {
         assert!(rt; Format::named(name).is_none(), "{name}");
+    }
+}
+
+#[test]
+fn names_of_orders(rt: HostRuntime) {
+    assert_eq!(rt; FunctionOrder::named("own"), Some(FunctionOrder::Own));
+    assert_eq!(rt; FunctionOrder::named("total"), Some(FunctionOrder::Total));
+    for name in ["", "Own", "TOTAL", "total ", "sum", "own,total"] {
+        assert!(rt; FunctionOrder::named(name).is_none(), "{name}");
     }
 }
 

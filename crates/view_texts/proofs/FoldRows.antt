@@ -1,29 +1,29 @@
 -- the lines of a tree's listing are the fold text of its samples
-use Rattle.std.proofs.Common.{◌≡◌, ℕ, ◌-◌, ◌^◌, ◌<◌, List, [], ◌∷◌, ◌++◌, Bool, true, false, cond, ◌&&◌, length, map, filter, take, get_or, ltb, nat_eq, Some, None, T, sym, ◌∙◌, ap, subst, refl, arith, inl, inr, ⊎_elim, All}
+use Rattle.std.proofs.Common.{◌≡◌, ℕ, ◌+◌, ◌-◌, ◌^◌, ◌<◌, List, [], ◌∷◌, ◌++◌, Bool, true, false, cond, ◌&&◌, length, map, filter, take, get_or, ltb, nat_eq, Some, None, T, sym, ◌∙◌, ap, subst, refl, arith, inl, inr, ⊎_elim, All}
 use Rattle.std.specs.List.{AllByRecursion}
 use Rattle.std.specs.Ordering.{is_eq, is_lt}
 use Rattle.std.specs.FinMap.{entries}
 use Rattle.std.specs.FinMap.Entries.{find, is_sorted, below_all}
-use Rattle.std.proofs.lemmas.List.{take-map, map_push}
-use Rattle.std.proofs.lemmas.Bool.{cases_lt}
+use Rattle.std.proofs.lemmas.List.{take_more, take_all, get_or-map, length-map}
+use Rattle.std.proofs.lemmas.Bool.{cases_lt, ne_eqb}
 use Rattle.call_tree.specs.CallTree.{Tree, own_weight, total_weight}
 use Rattle.call_tree.specs.FrameTable.{HasDistinctNames}
 use Rattle.call_tree.specs.declared.listing.Visit.{Visit as TreeVisit}
 use Rattle.call_tree.specs.Listing.{named, visit_of as tree_visit, HasNumbersOf, IsListing as IsTreeListing}
 use Rattle.sample_tables.specs.declared.samples.Sample.{Sample}
 use Rattle.folded_lines.specs.Writing.{line_of}
-use Rattle.merged_stacks.specs.Timeline.{Stack}
+use Rattle.merged_stacks.specs.Timeline.{Stack, drawn}
 use Rattle.merged_stacks.specs.Order.{stack_cmp}
+use Rattle.flame_layout.specs.Graph.{sorted_by_stack}
 use Rattle.flame_layout.specs.Paths.{Visit, IsRising, SameOwn, tree_samples}
-use Rattle.flame_layout.specs.checked.Paired.{next_path}
 use Rattle.flame_layout.proofs.PathWords.{path_total, path_own, visit_of}
 use Rattle.flame_layout.proofs.Order.{Lt, Lt-irrefl, stack_same}
 use Rattle.flame_layout.proofs.Rising.{Among, each-among}
 use Rattle.flame_layout.proofs.Visits.{own-part}
-use Rattle.flame_layout.proofs.Sums.{IsListing, visits_weigh}
-use Rattle.flame_layout.proofs.TreeSamples.{equal_is, named_visit, named_listing, own_weight-sum, entries_named, path_in}
-use Rattle.flame_layout.proofs.Chained.{PathsGoOn, next_is}
-use Rattle.flame_layout.proofs.Held.{own_le, listing_chained, each_path}
+use Rattle.flame_layout.proofs.Sums.{IsListing, visits_weigh, listing_paths}
+use Rattle.flame_layout.proofs.TreeSamples.{equal_is, named_visit, named_listing, own_weight-sum, paths_of_visits}
+use Rattle.flame_layout.proofs.Chained.{PathsGoOn, chained_paths}
+use Rattle.flame_layout.proofs.Held.{own_le}
 use Rattle.flame_layout.proofs.GraphBoxes.{each_at, tree_weight}
 use Rattle.merged_stacks.specs.Merged.{Weighed, merged, if_positive}
 use Rattle.view_texts.specs.Fold.{weighed, lines_of, fold_text}
@@ -37,25 +37,28 @@ use Rattle.view_texts.specs.checked.Visited.{next_names, visited_lines}
 abbrev rows_of_visits : List Visit → List Weighed
 rows_of_visits visits = filter (λ row. ltb 0 row.1) (map (λ visit. (visit.path, visit.own)) visits)
 
--- the names of the next path are those of its numbers
-next_named : (names : List (List ℕ)) (before : List ℕ) (v : TreeVisit) → next_names names (named names before) v ≡ named names (next_path before v)
-next_named names before v = by (nat_eq v.depth 0)
-  where
-    name : ℕ → List ℕ
-    name = λ n. get_or names n []
+-- the names of the next path
+next_named : (names : List (List ℕ)) (tree : Tree) (before : Stack) (p : List ℕ) → (0 < length (named names p) → take (length (named names p) - 1) before ≡ take (length (named names p) - 1) (named names p)) → next_names names before (tree_visit tree p) ≡ named names p
+next_named names tree before [] h = refl
+next_named names tree before (n ∷ p) h =
+    let name = λ (k : ℕ). get_or names k [] in
+    let k = length (n ∷ p) - 1 in
+    let long : length (named names (n ∷ p)) ≡ length (n ∷ p) = length-map (n ∷ p) name in
+    let front : take k before ≡ take k (named names (n ∷ p)) =
+    ap (λ m. take (m - 1) before) (sym long) ∙ (h (omega (arith, long)) ∙ ap (λ m. take (m - 1) (named names (n ∷ p))) long) in
+    ap (λ b. cond b [] (take k before ++ get_or names (get_or (n ∷ p) k 0) [] ∷ [])) (ne_eqb (length (n ∷ p)) 0 (λ e. omega (arith, e))) ∙
+    (ap (λ stack. stack ++ get_or names (get_or (n ∷ p) k 0) [] ∷ []) front ∙
+    (ap (λ last. take k (named names (n ∷ p)) ++ last ∷ []) (sym (get_or-map name (n ∷ p) k 0 [] (omega arith))) ∙
+    (sym (take_more (named names (n ∷ p)) k [] (omega (arith, long))) ∙ take_all (k + 1) (named names (n ∷ p)) (omega (arith, long)))))
 
-    by : (b : Bool) → cond b [] (take (v.depth - 1) (named names before) ++ get_or names v.frame [] ∷ []) ≡ named names (cond b [] (take (v.depth - 1) before ++ v.frame ∷ []))
-    by true = refl
-    by false = ap (λ front. front ++ name v.frame ∷ []) (take-map name (v.depth - 1) before) ∙ sym (map_push name (take (v.depth - 1) before) v.frame)
-
-lines_of_visits : (names : List (List ℕ)) (tree : Tree) (before : List ℕ) (paths : List (List ℕ)) → PathsGoOn before paths →
-    visited_lines names (named names before) (map (tree_visit tree) paths) ≡ lines_of (rows_of_visits (map (named_visit names tree) paths))
+lines_of_visits : (names : List (List ℕ)) (tree : Tree) (before : Stack) (paths : List (List ℕ)) → PathsGoOn before (map (named names) paths) →
+    visited_lines names before (map (tree_visit tree) paths) ≡ lines_of (rows_of_visits (map (named_visit names tree) paths))
 lines_of_visits names tree before [] h = refl
 lines_of_visits names tree before (p ∷ ps) h =
     let own = own_weight tree p in
-    let next : next_names names (named names before) (tree_visit tree p) ≡ named names p = next_named names before (tree_visit tree p) ∙ ap (named names) (next_is tree before p h.0) in
+    let next : next_names names before (tree_visit tree p) ≡ named names p = next_named names tree before p h.0 in
     ap (λ path. cond (ltb 0 own) (line_of path own) [] ++ visited_lines names path (map (tree_visit tree) ps)) next ∙
-    (ap (λ text. cond (ltb 0 own) (line_of (named names p) own) [] ++ text) (lines_of_visits names tree p ps h.1) ∙ by (ltb 0 own))
+    (ap (λ text. cond (ltb 0 own) (line_of (named names p) own) [] ++ text) (lines_of_visits names tree (named names p) ps h.1) ∙ by (ltb 0 own))
   where
     by : (b : Bool) → cond b (line_of (named names p) (own_weight tree p)) [] ++ lines_of (rows_of_visits (map (named_visit names tree) ps))
         ≡ lines_of (cond b ((named names p, own_weight tree p) ∷ rows_of_visits (map (named_visit names tree) ps)) (rows_of_visits (map (named_visit names tree) ps)))
@@ -134,8 +137,8 @@ pub listing_text : (names : List (List ℕ)) (tree : Tree) (visits : List TreeVi
     (samples : List Sample) → SameOwn samples (tree_samples names tree) → visited_lines names [] visits ≡ fold_text samples
 listing_text names tree visits l d numbers samples h =
     let listing = named_listing names tree visits l d numbers in
-    let known = each_path (λ p. AllByRecursion (λ n. n < length names) p) l.paths (λ p c. path_in names (entries tree) p (entries_named names tree numbers) ((l.members p).0 c)) in
-    let chained = listing_chained names tree (tree_samples names tree) visits l listing known d in
+    let all = tree_samples names tree in
+    let chained = subst (λ ps. PathsGoOn [] ps) (listing_paths all (map (named_visit names tree) l.paths) listing ∙ paths_of_visits names tree l.paths) (chained_paths (sorted_by_stack (drawn all))) in
     ap (visited_lines names []) l.are ∙ (lines_of_visits names tree [] l.paths chained ∙
     ap lines_of (rows_merged (tree_samples names tree) (map (named_visit names tree) l.paths) listing ∙ sym (same_rows samples (tree_samples names tree) h)))
 

@@ -14,20 +14,20 @@ use Rattle.view_texts.specs.JsonLaws.{HasRisingKeys, ItemsHaveRisingKeys, IsWith
 use Rattle.view_texts.proofs.JsonBytes.{text_is_uncontrolled}
 use Rattle.view_texts.proofs.JsonReading.{HasWholeNumbers, ItemsHaveWholeNumbers, text_reads_back}
 
-each_of : {S : Type 0} (P Q : S → Type 0) (xs : List S) → ((x : S) → P x → Q x) → All P xs → AllByRecursion Q xs
+pub each_of : {S : Type 0} (P Q : S → Type 0) (xs : List S) → ((x : S) → P x → Q x) → All P xs → AllByRecursion Q xs
 each_of P Q [] f h = tt
 each_of P Q (x ∷ xs) f h = (f x (h 0 x (omega arith)), each_of P Q xs f (λ k d l. h (suc k) d (omega arith)))
 
 module _ {S : Type 0} (f : S → Data) where
-  whole_items : (xs : List S) → AllByRecursion (λ x. HasWholeNumbers (f x)) xs → ItemsHaveWholeNumbers (items_of (map f xs))
+  pub whole_items : (xs : List S) → AllByRecursion (λ x. HasWholeNumbers (f x)) xs → ItemsHaveWholeNumbers (items_of (map f xs))
   whole_items [] h = tt
   whole_items (x ∷ xs) h = (h.0, whole_items xs h.1)
 
-  rising_items : ((x : S) → HasRisingKeys (f x)) → (xs : List S) → ItemsHaveRisingKeys (items_of (map f xs))
+  pub rising_items : ((x : S) → HasRisingKeys (f x)) → (xs : List S) → ItemsHaveRisingKeys (items_of (map f xs))
   rising_items h [] = tt
   rising_items h (x ∷ xs) = (h x, rising_items h xs)
 
-  items_depth-le : (n : ℕ) → ((x : S) → depth (f x) ≤ n) → (xs : List S) → items_depth (items_of (map f xs)) ≤ n
+  pub items_depth-le : (n : ℕ) → ((x : S) → depth (f x) ≤ n) → (xs : List S) → items_depth (items_of (map f xs)) ≤ n
   items_depth-le n h [] = omega arith
   items_depth-le n h (x ∷ xs) = omega (arith, h x, items_depth-le n h xs)
 
@@ -55,7 +55,7 @@ whole_compared_box total width compared t w h = (h.1, whole_box total width comp
 -- ---- lines
 
 -- the line of such a value
-line_of_value : (d : Data) → HasWholeNumbers d → HasRisingKeys d → depth d ≤ max_depth → IsJsonLine (json_line d) d
+pub line_of_value : (d : Data) → HasWholeNumbers d → HasRisingKeys d → depth d ≤ max_depth → IsJsonLine (json_line d) d
 line_of_value d w h shallow = record {
   text = compact_text d;
   ended = refl;

@@ -8,9 +8,12 @@ pub mod JsonValues
 pub mod MergedLines
 pub mod PairRows
 pub mod PartFolds
+pub mod StackPairs
 pub mod SumViews
 pub mod TextPieces
+pub mod TypeLines
 pub mod VisitedLines
 mod WorkedFold
 mod WorkedLines
 mod WorkedParts
+mod WorkedTypes

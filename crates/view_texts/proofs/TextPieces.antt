@@ -10,10 +10,11 @@ use Rattle.serde_json.specs.Data.{Data}
 use Rattle.serde_json.specs.Written.{comma_if, compact_text}
 use Rattle.folded_lines.specs.Writing.{line_of, pair_line_of}
 use Rattle.merged_stacks.specs.Merged.{weighed}
+use Rattle.merged_stacks.specs.Paired.{PairedStack, pair_at}
 use Rattle.flame_layout.specs.declared.boxes.PairRow.{PairRow}
 use Rattle.view_texts.specs.Fold.{lines_of}
 use Rattle.view_texts.specs.Pairs.{has_own, pairs_of, pair_lines_of}
-use Rattle.view_texts.specs.Pieces.{stack_lines, row_line, row_lines, value_pieces, line_pieces}
+use Rattle.view_texts.specs.Pieces.{stack_lines, pair_lines, row_line, row_lines, value_pieces, line_pieces}
 use Rattle.view_texts.proofs.JsonLists.{values_text}
 
 -- ---- merged stacks
@@ -27,6 +28,14 @@ line_at sample = line_of sample.stack sample.weight
 
 pub stack_line-at : (stacks : List Sample) (at : ℕ) → at < length stacks → get_or (stack_lines stacks) at [] ≡ line_of (sample_at stacks at).stack (sample_at stacks at).weight
 stack_line-at stacks at within = get_or-map line_at stacks at (record { stack = []; weight = 0 }) [] within
+
+-- ---- stacks of two lists
+
+abbrev pub pair_line_at : PairedStack → List ℕ
+pair_line_at pair = pair_line_of pair.stack pair.before pair.after
+
+pub pair_line-at : (stacks : List PairedStack) (at : ℕ) → at < length stacks → get_or (pair_lines stacks) at [] ≡ pair_line_at (pair_at stacks at)
+pair_line-at stacks at within = get_or-map pair_line_at stacks at (record { stack = []; before = 0; after = 0 }) [] within
 
 -- ---- rows of a comparison
 

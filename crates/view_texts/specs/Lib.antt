@@ -6,4 +6,5 @@ pub mod Lines
 pub mod Pairs
 pub mod Parts
 pub mod Pieces
+pub mod Types
 pub mod checked

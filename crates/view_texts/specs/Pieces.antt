@@ -5,11 +5,16 @@ use Rattle.serde_json.specs.Written.{comma_if, compact_text}
 use Rattle.sample_tables.specs.declared.samples.Sample.{Sample}
 use Rattle.folded_lines.specs.Writing.{line_of, pair_line_of}
 use Rattle.flame_layout.specs.declared.boxes.PairRow.{PairRow}
+use Rattle.merged_stacks.specs.Paired.{PairedStack}
 use Rattle.view_texts.specs.Pairs.{has_own}
 
 -- a line for each stack
 abbrev pub stack_lines : List Sample → List (List ℕ)
 stack_lines stacks = map (λ sample. line_of sample.stack sample.weight) stacks
+
+-- a line with both sums for each stack of two lists
+abbrev pub pair_lines : List PairedStack → List (List ℕ)
+pair_lines stacks = map (λ pair. pair_line_of pair.stack pair.before pair.after) stacks
 
 -- the line of a row, or nothing where its path has no own weight in either profile
 abbrev pub row_line : PairRow → List ℕ

@@ -1,5 +1,5 @@
 //! The texts of the views: folded lines of a merged tree, two-column lines of a comparison, and lines of
-//! JSON.
+//! JSON; and the sample types of a profile.
 #![tactic(auto)]
 
 mod fold_lines;
@@ -12,6 +12,8 @@ mod line_kinds;
 mod merged_lines;
 mod pair_lines;
 mod scales;
+mod stack_pairs;
+mod type_lines;
 
 pub use byte_io::truncate_on_error;
 pub use fold_lines::append_fold_text;
@@ -24,6 +26,8 @@ pub use json_lines::{
 pub use merged_lines::{FoldedText, append_merged_text};
 pub use pair_lines::{PairsText, append_pairs_text};
 pub use scales::Scale;
+pub use stack_pairs::PairedText;
+pub use type_lines::{TypesText, append_types_text};
 
 #[cfg(test)]
 mod tests;

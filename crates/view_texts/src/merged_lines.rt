@@ -13,6 +13,7 @@ ghost use Rattle.view_texts.specs.checked.Joined.{joint};
 use byte_io::{Pieces, truncate_on_error};
 use flame_layout::MergedStacks;
 use itoa::Buffer;
+use merged_stacks::StackRows;
 use std::alloc::{AllocError, Global};
 
 /// The folded text of merged stacks, as `append_merged_text` appends it: a line is a piece.
@@ -85,7 +86,7 @@ fn append_stack(out: &mut Vec<u8>, merged: &MergedStacks, at: usize) -> Result<(
 }
 
 // Appends a space and a weight, or the front of that.
-fn append_column(out: &mut Vec<u8>, weight: u64) -> Result<(), AllocError>
+pub(crate) fn append_column(out: &mut Vec<u8>, weight: u64) -> Result<(), AllocError>
     ensures ok { OnOk result (out.new.items ≡ out.old.items ++ column_of weight) }
     ensures front { StartsWith out.new.items out.old.items }
 {
@@ -95,14 +96,18 @@ fn append_column(out: &mut Vec<u8>, weight: u64) -> Result<(), AllocError>
 }
 
 // Appends the names of a stack, joined by `;`, or those at the front.
-fn append_names(out: &mut Vec<u8>, merged: &MergedStacks, at: usize) -> Result<(), AllocError>
-    requires { at < length merged.now }
+pub(crate) fn append_names<S: StackRows>(
+    out: &mut Vec<u8>,
+    rows: &S,
+    at: usize,
+) -> Result<(), AllocError>
+    requires { at < length (S.samples rows.now) }
     ensures ok { OnOk result (out.new.items
-        ≡ out.old.items ++ join_with_byte 59 (sample_at merged.now at).stack) }
+        ≡ out.old.items ++ join_with_byte 59 (sample_at (S.samples rows.now) at).stack) }
     ensures front { StartsWith out.new.items out.old.items }
 {
-    for frame in 0..merged.depth(at) {
-        append_name(out, frame > 0, merged.name(at, frame))?;
+    for frame in 0..rows.depth(at) {
+        append_name(out, frame > 0, rows.name(at, frame))?;
     }
     Ok(())
 }

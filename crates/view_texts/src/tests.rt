@@ -2,3 +2,4 @@
 mod examples;
 mod fold;
 mod lines;
+mod types;

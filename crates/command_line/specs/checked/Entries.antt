@@ -1,5 +1,6 @@
 -- What holds of the entries of a command line without a fault.
-use Rattle.std.specs.Prelude.{◌≡◌, ◌≢◌, ◌⊎◌, ◌≤◌, ℕ, List, IfSome, IsSome, codes, length}
+use Rattle.std.specs.Prelude.{◌≡◌, ◌≢◌, ◌⊎◌, ◌≤◌, ◌<◌, ◌^◌, ℕ, List, IfSome, IsSome, codes, false, length, true}
+use Rattle.std.specs.Str.{bytes_eq}
 use Rattle.std.specs.Str.Parse.{IsNumeral, digits_value, without_leading_plus}
 use Rattle.clap.specs.Matches.{found_of}
 use Rattle.clap.specs.Walk.{Row, Text, one_of, rows_of}
@@ -8,8 +9,8 @@ use Rattle.clap.specs.declared.error.kind.ErrorKind.TheVariants as kind
 use Rattle.clap.specs.declared.parser.matches.ArgMatches.{ArgMatches}
 use Rattle.run_options.specs.declared.ring_sizes.TheConstants.{LARGEST_RING}
 use Rattle.run_options.specs.declared.widths.TheConstants.{MAX_WIDTH}
-use Rattle.command_line.specs.Plans.{IsRequest, files_of, view_of}
-use Rattle.command_line.specs.declared.commands.TheConstants.{MOST_BETWEEN_SNAPSHOTS}
+use Rattle.command_line.specs.Plans.{IsDrawn, IsRequest, files_of, is_set, view_of}
+use Rattle.command_line.specs.declared.arguments.TheConstants.{MOST_BETWEEN_SNAPSHOTS, MOST_ROWS}
 use Rattle.command_line.specs.declared.plans.PlanFault.{PlanFault}
 use Rattle.command_line.specs.declared.plans.PlanFault.TheVariants as fault
 
@@ -23,19 +24,32 @@ IsNumberAt id most entries = IfSome (one_of id entries) (λ text.
     × (1 ≤ digits_value 10 (without_leading_plus text))
     × (digits_value 10 (without_leading_plus text) ≤ most))
 
+-- a value, if there is one, is a number of 64 bits
+abbrev pub IsCountAt : Text → List Row → Type 0
+IsCountAt id entries = IfSome (one_of id entries) (λ text.
+    IsNumeral 10 (without_leading_plus text) × (digits_value 10 (without_leading_plus text) < 2 ^ 64))
+
 abbrev pub IsFlagAt : Text → List Row → Type 0
 IsFlagAt id entries =
     IfSome (one_of id entries) (λ text. (text ≡ codes "true") ⊎ (text ≡ codes "false"))
 
--- the command is one of the four, its values are read as they are meant, and a comparison has two files
+-- the command is `types` or shows a view, its values are read as they are meant, a comparison has two files, a page
+-- is of a view with boxes, and `types` has one file
 pub record IsRead (name : Text) (entries : List Row) : Type 0 where
-  pub command : IsSome (view_of name entries)
+  pub command : bytes_eq name (codes "types") ≡ false → IsSome (view_of name entries)
   pub width : IsNumberAt (codes "width") MAX_WIDTH entries
   pub ring : IsNumberAt (codes "ring") LARGEST_RING entries
   pub every : IsNumberAt (codes "every") MOST_BETWEEN_SNAPSHOTS entries
   pub lines : IsFlagAt (codes "lines") entries
   pub boxes : IsFlagAt (codes "boxes") entries
+  pub rows : IsNumberAt (codes "number") MOST_ROWS entries
+  pub json : IsFlagAt (codes "json") entries
+  pub quiet : IsFlagAt (codes "quiet") entries
+  pub page : IsFlagAt (codes "page") entries
+  pub least : IsCountAt (codes "least") entries
   pub pair : name ≡ codes "compare" → length (files_of entries) ≡ 2
+  pub drawn : is_set (codes "page") entries ≡ true → IfSome (view_of name entries) IsDrawn
+  pub single : bytes_eq name (codes "types") ≡ true → length (files_of entries) ≡ 1
 
 -- what an error of that kind is for the caller
 abbrev pub IsFaultOf : ErrorKind → PlanFault → Type 0

@@ -2,8 +2,8 @@
 
 use crate::tests::answers::{Given, answer, gives};
 use crate::tests::worked::{
-    AFTER, BEFORE, CHART_OF_THREE_LINES, COMPARISON_BOXES, COMPARISON_LINES, FIVE_LINES,
-    GRAPH_OF_THREE_LINES, SNAPSHOT_LINES, THREE_LINES,
+    AFTER, BEFORE, CALLS, CHART_OF_THREE_LINES, COMPARISON_BOXES, COMPARISON_LINES, FIVE_LINES,
+    FUNCTIONS, GRAPH_OF_THREE_LINES, GREATEST_TOTALS, SNAPSHOT_LINES, THREE_LINES,
 };
 use std::test::Fail;
 
@@ -54,11 +54,21 @@ fn snapshots_of_one_source(rt: HostRuntime) -> Result<(), Fail> {
 }
 
 #[test]
+fn functions_by_weight(rt: HostRuntime) -> Result<(), Fail> {
+    let file = ("x", CALLS.as_bytes());
+    assert!(rt; gives(&rt, &["top", "x"], file, (0, FUNCTIONS, ""))?);
+    let words = ["top", "--json", "--by", "total", "x", "-n", "2"];
+    assert!(rt; gives(&rt, &words, file, (0, GREATEST_TOTALS, ""))?);
+    Ok(())
+}
+
+#[test]
 fn refused_words(rt: HostRuntime) -> Result<(), Fail> {
     for words in [
         ["graph", "--width", "0"],
         ["fold", "--every", "2"],
         ["compare", "x", "--boxes"],
+        ["top", "-n", "0"],
     ] {
         let given = Given {
             words: &words,

@@ -57,6 +57,22 @@ pub(super) const COMPARISON_BOXES: &str = "{\"before\":4,\"boxes\":[\
     {\"before\":0,\"depth\":1,\"left\":3,\"name\":\"c\",\"own\":2,\"right\":10,\"start\":1,\
     \"weight\":2}],\"total\":3,\"view\":\"compare\",\"width\":10}\n";
 
+/// A name that calls itself, one that stands twice, a stack without frames, and one without weight.
+pub(super) const CALLS: &str = "main;f;g 3\nmain;f;f 2\nmain 1\nmain;h 2\nz 0\n 4\nf;g;f;g 1\n";
+
+/// Its functions, by their own weight.
+pub(super) const FUNCTIONS: &str = "own    own%  total  total%  name
+  4  30.77%      4  30.77%  g
+  2  15.38%      6  46.15%  f
+  2  15.38%      2  15.38%  h
+  1   7.69%      8  61.54%  main
+";
+
+/// Its two functions with the greatest totals.
+pub(super) const GREATEST_TOTALS: &str = "{\"functions\":[\
+    {\"name\":\"main\",\"own\":1,\"total\":8},\
+    {\"name\":\"f\",\"own\":2,\"total\":6}],\"total\":13,\"view\":\"top\"}\n";
+
 /// Five samples of one source.
 pub(super) const FIVE_LINES: &str = "a 1\na;b 1\nc 2\na 1\nd 1\n";
 

@@ -1,39 +1,42 @@
--- Trees that hold samples, and the rows of two of them, as the code that compares makes them.
-use Rattle.std.specs.Prelude.{◌≡◌, ℕ, ◌-◌, ◌==◌, List, [], ◌∷◌, ◌++◌, map, take, length, if◌then◌else◌}
-use Rattle.std.specs.List.{AllByRecursion}
-use Rattle.call_tree.specs.declared.listing.Visit.{Visit}
-use Rattle.call_tree.specs.CallTree.{Tree, tree_of, own_weight, total_weight}
-use Rattle.call_tree.specs.Listing.{named, AreIn}
-use Rattle.sample_tables.specs.declared.samples.Sample.{Sample}
+-- The rows of two charts of the same stacks, as the code that compares makes them.
+use Rattle.std.specs.Prelude.{ℕ, nat_lt, ◌-◌, ◌==◌, List, [], ◌∷◌, ◌++◌, take, length, if◌then◌else◌, map}
+use denote.Ref.{Bor}
+use Rattle.merged_stacks.specs.Timeline.{Stack}
+use Rattle.flame_layout.specs.declared.boxes.SpanBox.{SpanBox}
 use Rattle.flame_layout.specs.declared.boxes.PairRow.{PairRow}
 use Rattle.flame_layout.specs.declared.boxes.ComparedBox.{ComparedBox}
 use Rattle.flame_layout.specs.Chart.{box_name}
 
--- the path of a visit, by the path of the visit before it
-abbrev pub next_path : List ℕ → Visit → List ℕ
-next_path before visit = if visit.depth == 0 then [] else take (visit.depth - 1) before ++ visit.frame ∷ []
+-- names that are lent
+abbrev pub names_now : List (Bor (List ℕ)) → Stack
+names_now names = map (λ name. name.now) names
 
--- the paths of the visits of a listing
-abbrev pub visit_paths : List ℕ → List Visit → List (List ℕ)
-visit_paths before [] = []
-visit_paths before (visit ∷ rest) = next_path before visit ∷ visit_paths (next_path before visit) rest
+-- the path of a box, by the path of the box before it
+abbrev pub next_path : Stack → SpanBox → Stack
+next_path before span = if span.depth == 0 then [] else take (span.depth - 1) before ++ span.name ∷ []
 
--- the row of a path of numbers, by the trees of both sides
-abbrev pub pair_row : List (List ℕ) → Tree → Tree → List ℕ → PairRow
-pair_row names before after path = record {
-  path = named names path;
-  total_before = total_weight before path;
-  total_after = total_weight after path;
-  own_before = own_weight before path;
-  own_after = own_weight after path;
+-- the row of a path, by its boxes in both charts
+abbrev pub paired_row : Stack → SpanBox → SpanBox → PairRow
+paired_row path left right = record {
+  path = path;
+  total_before = left.weight;
+  total_after = right.weight;
+  own_before = left.own;
+  own_after = right.own;
 }
 
--- the tree holds the samples: rows of the table's numbers, that were added to it
-pub record Holds (names : List (List ℕ)) (tree : Tree) (samples : List Sample) : Type 0 where
-  pub rows : List (List ℕ × ℕ)
-  pub tree_is : tree ≡ tree_of rows
-  pub samples_are : samples ≡ map (λ row. record { stack = named names row.0; weight = row.1 }) rows
-  pub known : AllByRecursion (λ row. AreIn names row.0) rows
+-- the rows of boxes that stand in step, after a path
+abbrev pub paired_rows : Stack → List SpanBox → List SpanBox → List PairRow
+paired_rows before [] rights = []
+paired_rows before (left ∷ lefts) [] = []
+paired_rows before (left ∷ lefts) (right ∷ rights) = paired_row (next_path before left) left right ∷ paired_rows (next_path before left) lefts rights
+
+-- the boxes of the second chart that weigh, each with the weight of that in the first
+abbrev pub paired_boxes : List SpanBox → List SpanBox → List ComparedBox
+paired_boxes [] rights = []
+paired_boxes (left ∷ lefts) [] = []
+paired_boxes (left ∷ lefts) (right ∷ rights) =
+    if nat_lt 0 right.weight then record { span = right; before = left.weight } ∷ paired_boxes lefts rights else paired_boxes lefts rights
 
 -- the box of a row, which starts at a place
 abbrev pub row_box : ℕ → PairRow → ComparedBox

@@ -10,9 +10,11 @@ use Rattle.ring_collect.specs.declared.faults.CollectFault.{CollectFault}
 use Rattle.ring_collect.specs.declared.faults.CollectFault.TheVariants as collect
 use Rattle.byte_io.specs.declared.whole_input.LoadFault.{LoadFault}
 use Rattle.byte_io.specs.declared.whole_input.LoadFault.TheVariants as load
+use Rattle.byte_io.specs.declared.piece_output.PieceFault.TheVariants as piece
 use Rattle.command_line.specs.declared.plans.Plan.{Plan}
 use Rattle.command_line.specs.declared.plans.PlanFault.{PlanFault}
 use Rattle.command_line.specs.declared.plans.PlanFault.TheVariants as fault
+use Rattle.byte_io.specs.Calls.{one_more}
 use Rattle.byte_io.specs.Pieces.{AppendsFront}
 use Rattle.flame_tool.specs.Runs.{HasFault, ShowsFront}
 use Rattle.flame_tool.specs.declared.failures.Failure.{Failure}
@@ -74,6 +76,22 @@ IsUnsent text old new (Output fault) = AppendsFront text old new
 -- the text was sent whole, or was not
 abbrev pub Sends : {T : Type 0} → List ℕ → Option (List ℕ) → Option (List ℕ) → Result T Failure → Type 0
 Sends text old new result = MatchResult result (λ _. Appends old new text) (IsUnsent text old new)
+
+-- a call of the output failed where that is why the text was not sent, and no call failed otherwise
+abbrev pub CountsFailure : ℕ → ℕ → Failure → Type 0
+CountsFailure old new TooManyFiles = new ≡ old
+CountsFailure old new (Unreadable source) = new ≡ old
+CountsFailure old new (TooLarge source) = new ≡ old
+CountsFailure old new OutOfMemory = new ≡ old
+CountsFailure old new NoThread = new ≡ old
+CountsFailure old new (Unfinished source) = new ≡ old
+CountsFailure old new Faults = new ≡ old
+CountsFailure old new (Output piece.OutOfMemory) = new ≡ old
+CountsFailure old new (Output piece.Output) = new ≡ one_more old
+
+-- what was sent was flushed, and no call of the output failed but the one that ended it
+abbrev pub Flushes : {T : Type 0} → Type 0 → ℕ → ℕ → Result T Failure → Type 0
+Flushes flushed old new result = MatchResult result (λ _. flushed × (new ≡ old)) (CountsFailure old new)
 
 -- the failure came before anything was collected, and so many files are too many only above 64
 abbrev pub IsOpening : ℕ → Failure → Type 0

@@ -1,11 +1,8 @@
 -- What a reader of either format still has to give.
-use Rattle.std.specs.Prelude.{IsTrue, List, map}
+use Rattle.std.specs.Prelude.{IsTrue}
 use Rattle.stack_core.specs.Reading.{Rest}
 use Rattle.sample_tables.specs.Rows.{ToldRows}
 use Rattle.run_options.specs.Filters.{kept_rest}
-use Rattle.run_options.specs.declared.options.Options.{Options}
-use Rattle.merging.specs.Sources.{read_bytes}
-use Rattle.merging.specs.declared.sources.Source.{Source}
 use Rattle.merging.specs.declared.filtered_reader.FilteredReader.{FilteredReader}
 use Rattle.merging.specs.declared.source_reader.SourceReader.{SourceReader}
 use Rattle.merging.specs.declared.source_reader.SourceReader.TheVariants.{Folded, Pprof}
@@ -27,10 +24,3 @@ HasEnded (Pprof reader) = IsTrue reader.has_ended
 -- what a reader that leaves samples out still has to give
 abbrev pub filtered_rest : FilteredReader SourceReader → Rest
 filtered_rest filtered = kept_rest filtered.filter (reader_rest filtered.reader)
-
--- all samples of a source and its ending, whatever the filter
-abbrev pub whole_rest : Options → Source → Rest
-whole_rest options source = read_bytes source.format source.bytes.items options.pick options.naming
-
-abbrev pub whole_rests_of : Options → List Source → List Rest
-whole_rests_of options sources = map (whole_rest options) sources

@@ -1,10 +1,12 @@
 -- The boxes that are kept, as the code has them.
 use Rattle.std.specs.Prelude.{◌≡◌, ◌<◌, ◌++◌, decimal, ℕ, Bool, List, [], ◌∷◌, length, map, Option, Some, None, codes, if◌then◌else◌}
 use Rattle.std.specs.List.{AllByRecursion}
-use Rattle.page_texts.specs.Page.{PageBox, kept, left_out, own_weight, place_of, whole_number, list_data}
+use Rattle.page_texts.specs.Page.{PageBox, PageDrawing, kept, left_out, own_weight, page_names, place_of, whole_number, list_data}
+use Rattle.page_texts.specs.declared.drawings.Drawing.{Drawing}
 use Rattle.page_texts.specs.declared.drawings.Moment.{Moment}
 use Rattle.page_texts.specs.declared.kept_boxes.KeptBox.{KeptBox}
 use Rattle.page_texts.specs.declared.kept_boxes.KeptBoxes.{KeptBoxes}
+use Rattle.page_texts.specs.declared.kept_boxes.KeptDrawings.{KeptDrawings}
 use Rattle.page_texts.specs.declared.kept_boxes.Column.{Column}
 use Rattle.page_texts.specs.declared.kept_boxes.Column.TheVariants.{Depth, Name, Other, Own, Start, Weight}
 use Rattle.page_texts.specs.checked.SafeText.{safe_text}
@@ -39,6 +41,17 @@ pub record Keeps (names : List (List ℕ)) (least : ℕ) (boxes : List PageBox) 
   pub left_boxes : answer.left_boxes ≡ length (left_out least boxes)
   pub left_weight : answer.left_weight ≡ own_weight (left_out least boxes)
 
+-- the same of each drawing
+abbrev pub AreAllKept : List (List ℕ) → List PageDrawing → List KeptBoxes → Type 0
+AreAllKept names [] [] = Unit {0}
+AreAllKept names (drawing ∷ drawings) (answer ∷ answers) = Keeps names drawing.least drawing.boxes answer × AreAllKept names drawings answers
+AreAllKept names [] (answer ∷ answers) = ⊥
+AreAllKept names (drawing ∷ drawings) [] = ⊥
+
+-- what is kept of the drawings of a page, and their names
+abbrev pub AreKept : List PageDrawing → KeptDrawings → Type 0
+AreKept drawings kept = (kept.names ≡ page_names drawings) × AreAllKept kept.names drawings kept.drawings.items
+
 -- ---- the text of a drawing, in the parts in which it is written
 
 -- a column after its key
@@ -70,3 +83,8 @@ last_text kept total =
     ++ (column_text (codes ",\"start\":") Start kept.boxes.items
     ++ (number_text (codes ",\"total\":") total
     ++ (column_text (codes ",\"weight\":") Weight kept.boxes.items ++ 125 ∷ [])))
+
+-- the whole
+abbrev pub drawing_parts : {B : Type 0} → Bool → Drawing B → KeptBoxes → List ℕ
+drawing_parts is_compared drawing kept =
+    moment_text drawing.moment ++ (first_text kept drawing.least ++ (other_text is_compared kept ++ last_text kept drawing.total))

@@ -23,3 +23,8 @@ abbrev mutual
   pub safe_members : Bool → Members → List ℕ
   safe_members later no_members = 125 ∷ []
   safe_members later (member k d ms) = comma_if later ++ (script_safe (quoted k) ++ 58 ∷ (safe_text d ++ safe_members true ms))
+
+-- the values of a list with their commas, before the closing bracket
+abbrev pub values_text : Bool → List Data → List ℕ
+values_text later [] = []
+values_text later (d ∷ ds) = comma_if later ++ (safe_text d ++ values_text true ds)

@@ -1,7 +1,9 @@
 //! The texts of small pages, as docs/PAGE-DATA.md has them.
 
-use crate::{Drawing, Moment, Page, Source, append_page_data};
-use flame_layout::SpanBox;
+use crate::{Drawing, Moment, Page, Source, append_page_data, send_page};
+use byte_io::CountedWriter;
+use flame_layout::{ComparedBox, SpanBox};
+use page_source::{head, tail};
 use stack_core::Text;
 use std::alloc::{AllocError, Global};
 use std::test::Fail;
@@ -86,6 +88,62 @@ fn narrow_boxes_are_told(rt: HostRuntime) -> Result<(), Fail> {
 }
 
 #[test]
+fn comparison_has_the_other_weights(rt: HostRuntime) -> Result<(), Fail> {
+    let alloc = rt.alloc();
+    let mut boxes = Vec::new(alloc);
+    for (span, before) in boxes_of(alloc, &SMALL)?.into_iter().zip([7, 5, 0]) {
+        boxes.push(ComparedBox { span, before })?;
+    }
+    let drawing = Drawing {
+        boxes: &boxes,
+        least: 0,
+        total: 3,
+        moment: None,
+    };
+    let page = Page {
+        drawings: &[drawing],
+        sources: &[],
+        title: "",
+        view: "compare",
+    };
+    let mut out = Vec::new(alloc);
+    append_page_data(alloc, &mut out, &page)?;
+    assert_eq!(rt;
+        out.as_slice(),
+        b"{\"drawings\":[{\"depth\":[0,1,2],\"least\":0,\"left_out\":{\"boxes\":0,\"weight\":0},\"name\":[0,1,2],\"other\":[7,5,0],\"own\":[0,1,2],\"start\":[0,0,1],\"total\":3,\"weight\":[3,3,2]}],\"names\":[\"all\",\"main\",\"read\\u003cint\\u003e\"],\"sources\":[],\"title\":\"\",\"view\":\"compare\"}".as_slice()
+    );
+    Ok(())
+}
+
+// More numbers than a part has.
+#[test]
+fn long_columns_are_whole(rt: HostRuntime) -> Result<(), Fail> {
+    let alloc = rt.alloc();
+    let mut rows = Vec::new(alloc);
+    for _ in 0..2500 {
+        rows.push((0, "all", 0, 1, 1))?;
+    }
+    let boxes = boxes_of(alloc, &rows)?;
+    let drawing = Drawing {
+        boxes: &boxes,
+        least: 0,
+        total: 2500,
+        moment: None,
+    };
+    let page = Page {
+        drawings: &[drawing],
+        sources: &[],
+        title: "",
+        view: "chart",
+    };
+    let mut out = Vec::new(alloc);
+    append_page_data(alloc, &mut out, &page)?;
+    // Five columns of 2500 digits with 2499 commas, and what stands round them.
+    assert_eq!(rt; out.len(), 5 * (2500 + 2499) + 181);
+    Ok(())
+}
+
+#[test]
 fn example_of_the_readme(rt: HostRuntime) -> Result<(), Fail> {
     let alloc = rt.alloc();
     let boxes = boxes_of(alloc, &SMALL[..1])?;
@@ -101,8 +159,15 @@ fn example_of_the_readme(rt: HostRuntime) -> Result<(), Fail> {
         title: "<small>",
         view: "graph",
     };
-    let mut out = Vec::new(alloc);
-    append_page_data(alloc, &mut out, &page)?;
-    assert!(rt; !out.contains(&b'<'));
+    let mut data = Vec::new(alloc);
+    append_page_data(alloc, &mut data, &page)?;
+    assert!(rt; !data.contains(&b'<'));
+
+    let mut out = CountedWriter::new(Vec::new(alloc));
+    send_page(alloc, &page, &mut out)?;
+    let document = out.into_inner();
+    assert_eq!(rt; document.len(), head().len() + data.len() + tail().len());
+    assert!(rt; document.starts_with(head().as_bytes()));
+    assert!(rt; document.ends_with(tail().as_bytes()));
     Ok(())
 }

@@ -1,17 +1,16 @@
 //! Runs with readers, gates and sinks of which it is known what they do.
 
 mod fakes;
+mod gates;
 mod refusals;
 mod rows;
 
-use self::fakes::{
-    AfterATake, AllAsked, BothAsked, CLEAN, Counts, Recorder, StopsAt, StopsAtTwo, Tape,
-};
+use self::fakes::{CLEAN, Counts, Recorder, Tape};
 use super::*;
 use crate::sample_runs::collect;
 use stack_core::{OpenGate, ReadFault, ReadKind, Sample, SourceEnd};
 use std::process::Abort;
-use std::sync::atomic::{AtomicU64, Ordering};
+use std::sync::atomic::Ordering;
 use std::test::Fail;
 
 /// The frame of each sample of a source.
@@ -110,8 +109,6 @@ fn is_next(
     next[source] = i + 1;
 }
 
-const ONE: &[u8] = &[1];
-
 const THREE: &[u8] = &[1, 2, 3];
 
 const EIGHT: &[u8] = &[1, 2, 3, 4, 5, 6, 7, 8];
@@ -160,43 +157,6 @@ fn runs_to<
     Ok(())
 }
 
-fn two_of_two<T: Threads + Wait + Abort + AllocGlobal + Copy + Send + 'static>(
-    rt: &T,
-) -> Result<(), Fail> {
-    let mut sink = Recorder::of_own(rt.alloc())?;
-    let gate = BothAsked {
-        first: AtomicU64::new(0),
-        second: AtomicU64::new(0),
-    };
-    runs_to(rt, &mut sink, &[ONE; 2], 1, gate, &[(ONE, CLEAN); 2])
-}
-
-fn eight_of_eight<T: Threads + Wait + Abort + AllocGlobal + Copy + Send + 'static>(
-    rt: &T,
-) -> Result<(), Fail> {
-    let mut sink = Recorder::of_own(rt.alloc())?;
-    let gate = AllAsked {
-        asked: AtomicU64::new(0),
-        wanted: 8,
-    };
-    runs_to(rt, &mut sink, &[ONE; 8], 1, gate, &[(ONE, CLEAN); 8])
-}
-
-#[test]
-fn two_readers_meet(rt: HostRuntime) -> Result<(), Fail> {
-    two_of_two(&rt)?;
-    eight_of_eight(&rt)
-}
-
-#[test]
-fn sink_before_end(rt: HostRuntime) -> Result<(), Fail> {
-    let mut sink = Recorder::of_own(rt.alloc())?;
-    let gate = AfterATake {
-        counts: Arc::try_clone(&sink.counts)?,
-    };
-    runs_to(&rt, &mut sink, &[EIGHT], 2, gate, &[(EIGHT, CLEAN)])
-}
-
 /// Whether the sink saw readers give more samples than that before it took one.
 fn sees_more<T: Threads + Wait + Abort + AllocGlobal + Copy + Send + 'static>(
     rt: &T,
@@ -228,37 +188,6 @@ fn ring_holds_back(rt: HostRuntime) -> Result<(), Fail> {
 fn ring_is_not_smaller(rt: HostRuntime) -> Result<(), Fail> {
     assert!(rt; sees_more(&rt, 9, TWENTY, 8)?);
     Ok(())
-}
-
-#[test]
-fn gate_stops_one_source(rt: HostRuntime) -> Result<(), Fail> {
-    let mut sink = Recorder::of_own(rt.alloc())?;
-    let gate = StopsAt {
-        source: 1,
-        index: 2,
-    };
-    let stopped = SourceEnd::Stopped { after: 2 };
-    let lists: [(&[u8], SourceEnd); 2] = [(THREE, CLEAN), (&[1, 2], stopped)];
-    runs_to(&rt, &mut sink, &[THREE, THREE], 2, gate, &lists)
-}
-
-#[test]
-fn gate_stops_two_sources(rt: HostRuntime) -> Result<(), Fail> {
-    let mut sink = Recorder::of_own(rt.alloc())?;
-    let gate = StopsAtTwo {
-        first: StopsAt {
-            source: 1,
-            index: 2,
-        },
-        second: StopsAt {
-            source: 2,
-            index: 0,
-        },
-    };
-    let second = SourceEnd::Stopped { after: 2 };
-    let third = SourceEnd::Stopped { after: 0 };
-    let lists: [(&[u8], SourceEnd); 3] = [(THREE, CLEAN), (&[1, 2], second), (&[], third)];
-    runs_to(&rt, &mut sink, &[THREE; 3], 1, gate, &lists)
 }
 
 /// Runs over three sources, the second of which ends in a fault.

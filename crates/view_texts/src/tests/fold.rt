@@ -3,13 +3,16 @@ ghost use Rattle.std.specs.Prelude.{◌<◌, ◌^◌, [], List, OnOk, IfOk};
 ghost use Rattle.sample_tables.specs.declared.samples.Sample.{Sample};
 ghost use Rattle.call_tree.specs.CallTree.{total_weight};
 ghost use Rattle.call_tree.specs.Listing.{HasNumbersOf};
-ghost use Rattle.flame_layout.specs.checked.Paired.{Holds};
+ghost use Rattle.flame_layout.specs.checked.Held.{Holds};
 
 use crate::fold_lines::append_fold_text;
 use crate::merged_lines::append_merged_text;
 use crate::pair_lines::append_pairs_text;
+use crate::stack_pairs::PairedText;
+use byte_io::append_pieces;
 use call_tree::{CallTree, FrameTable};
 use flame_layout::{MergedStacks, compare};
+use merged_stacks::PairedStacks;
 use stack_core::{Close, Ledger, Names, Sample, SourceEnd, SourceList};
 use std::alloc::{AllocError, Global};
 use std::process::Abort;
@@ -102,6 +105,45 @@ fn pairs(
     Ok(out)
 }
 
+// The same text, of the paired stacks of both profiles.
+fn paired(
+    rt: &impl Abort,
+    alloc: Global,
+    old: &[(&[&str], u64)],
+    new: &[(&[&str], u64)],
+) -> Result<Vec<u8>, AllocError> {
+    let before = list(rt, alloc, old)?;
+    paired_with(rt, alloc, &before, new)
+}
+
+fn paired_with(
+    rt: &impl Abort,
+    alloc: Global,
+    before: &SourceList,
+    new: &[(&[&str], u64)],
+) -> Result<Vec<u8>, AllocError> {
+    let after = list(rt, alloc, new)?;
+    paired_lists(rt, alloc, before, &after)
+}
+
+fn paired_lists(
+    rt: &impl Abort,
+    alloc: Global,
+    before: &SourceList,
+    after: &SourceList,
+) -> Result<Vec<u8>, AllocError> {
+    assert!(rt; before.total() < 1_000);
+    assert!(rt; after.total() < 1_000);
+    let stacks = PairedStacks::of(alloc, before, after)?;
+    text_of_pairs(alloc, &stacks)
+}
+
+fn text_of_pairs(alloc: Global, stacks: &PairedStacks) -> Result<Vec<u8>, AllocError> {
+    let mut out = Vec::from_slice(alloc, b"# ")?;
+    append_pieces(alloc, &PairedText::of(stacks), &mut out)?;
+    Ok(out)
+}
+
 #[test]
 fn stored_run(rt: HostRuntime) -> Result<(), Fail> {
     let samples: [(&[&str], u64); 3] = [(&["a", "b"], 2), (&["a"], 1), (&["a", "b"], 3)];
@@ -185,6 +227,18 @@ fn comparison(rt: HostRuntime) -> Result<(), Fail> {
     let new: [(&[&str], u64); 2] = [(&["a"], 1), (&["c"], 2)];
     let out = pairs(&rt, rt.alloc(), &old, &new)?;
     assert_eq!(rt; out.as_slice(), b"# a 3 1\nb 1 0\nc 0 2\n".as_slice());
+    Ok(())
+}
+
+#[test]
+fn comparison_of_paired_stacks(rt: HostRuntime) -> Result<(), Fail> {
+    let old: [(&[&str], u64); 3] = [(&["b"], 1), (&["a", "b"], 3), (&["c"], 0)];
+    let new: [(&[&str], u64); 3] = [(&["c"], 2), (&["a", "b"], 1), (&[], 1)];
+    let out = paired(&rt, rt.alloc(), &old, &new)?;
+    assert_eq!(rt;
+        out.as_slice(),
+        b"#  0 1\na;b 3 1\nb 1 0\nc 0 2\n".as_slice()
+    );
     Ok(())
 }
 

@@ -14,5 +14,9 @@ returns c =
     let hides = with_argument _ _ _ _ _ c.in_ok-arg-5.ensures focuses c.hide_option.ensures refl in
     let rings = with_argument _ _ _ _ _ c.in_ok-arg-6.ensures hides c.ring_option.ensures refl in
     let lines = with_argument _ _ _ _ _ c.in_ok-arg-7.ensures rings c.lines_flag.ensures refl in
-    IfOk-weaker _ _ _ (λ _ added. with_argument _ _ _ _ _ added lines c.files.ensures refl)
-    c.arg-8.ensures
+    let quiets = with_argument _ _ _ _ _ c.in_ok-arg-8.ensures lines c.quiet_flag.ensures refl in
+    let pages = with_argument _ _ _ _ _ c.in_ok-arg-9.ensures quiets c.page_flag.ensures refl in
+    let titles = with_argument _ _ _ _ _ c.in_ok-arg-10.ensures pages c.title_option.ensures refl in
+    let leasts = with_argument _ _ _ _ _ c.in_ok-arg-11.ensures titles c.least_option.ensures refl in
+    IfOk-weaker _ _ _ (λ _ added. with_argument _ _ _ _ _ added leasts c.files.ensures refl)
+    c.arg-12.ensures

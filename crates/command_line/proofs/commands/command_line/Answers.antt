@@ -18,5 +18,7 @@ returns c =
     let one = with_command _ _ _ _ _ c.in_ok-subcommand.ensures wanting c.in_ok-fold_command.ensures refl in
     let two = with_command _ _ _ _ _ c.in_ok-subcommand-2.ensures one c.in_ok-graph_command.ensures refl in
     let three = with_command _ _ _ _ _ c.in_ok-subcommand-3.ensures two c.in_ok-chart_command.ensures refl in
-    IfOk-weaker _ _ _ (λ _ added. with_command _ _ _ _ _ added three c.in_ok-compare_command.ensures refl)
-    c.subcommand-4.ensures
+    let four = with_command _ _ _ _ _ c.in_ok-subcommand-4.ensures three c.in_ok-compare_command.ensures refl in
+    let five = with_command _ _ _ _ _ c.in_ok-subcommand-5.ensures four c.in_ok-top_command.ensures refl in
+    IfOk-weaker _ _ _ (λ _ added. with_command _ _ _ _ _ added five c.in_ok-types_command.ensures refl)
+    c.subcommand-6.ensures

@@ -13,5 +13,6 @@ returns c =
     let hides = with_argument _ _ _ _ _ c.in_ok-arg-4.ensures focuses c.hide_option.ensures refl in
     let rings = with_argument _ _ _ _ _ c.in_ok-arg-5.ensures hides c.ring_option.ensures refl in
     let lines = with_argument _ _ _ _ _ c.in_ok-arg-6.ensures rings c.lines_flag.ensures refl in
-    IfOk-weaker _ _ _ (λ _ added. with_argument _ _ _ _ _ added lines c.files.ensures refl)
-    c.arg-7.ensures
+    let quiets = with_argument _ _ _ _ _ c.in_ok-arg-7.ensures lines c.quiet_flag.ensures refl in
+    IfOk-weaker _ _ _ (λ _ added. with_argument _ _ _ _ _ added quiets c.files.ensures refl)
+    c.arg-8.ensures

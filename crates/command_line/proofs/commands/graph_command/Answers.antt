@@ -15,5 +15,9 @@ returns c =
     let rings = with_argument _ _ _ _ _ c.in_ok-arg-6.ensures hides c.ring_option.ensures refl in
     let everys = with_argument _ _ _ _ _ c.in_ok-arg-7.ensures rings c.every_option.ensures refl in
     let lines = with_argument _ _ _ _ _ c.in_ok-arg-8.ensures everys c.lines_flag.ensures refl in
-    IfOk-weaker _ _ _ (λ _ added. with_argument _ _ _ _ _ added lines c.files.ensures refl)
-    c.arg-9.ensures
+    let quiets = with_argument _ _ _ _ _ c.in_ok-arg-9.ensures lines c.quiet_flag.ensures refl in
+    let pages = with_argument _ _ _ _ _ c.in_ok-arg-10.ensures quiets c.page_flag.ensures refl in
+    let titles = with_argument _ _ _ _ _ c.in_ok-arg-11.ensures pages c.title_option.ensures refl in
+    let leasts = with_argument _ _ _ _ _ c.in_ok-arg-12.ensures titles c.least_option.ensures refl in
+    IfOk-weaker _ _ _ (λ _ added. with_argument _ _ _ _ _ added leasts c.files.ensures refl)
+    c.arg-13.ensures

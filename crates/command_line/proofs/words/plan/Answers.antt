@@ -1,11 +1,11 @@
 use Rattle.std.proofs.Common.{◌≡◌, ◌∙◌, map, string_bytes, subst, sym, true, Some}
 use Rattle.std.proofs.lemmas.Result.{IfOk-weaker}
 use Rattle.std.specs.Prelude.{IfOk, IfErr}
-use Rattle.std.specs.Option.{option_map_or}
 use Rattle.clap.proofs.WalkLemmas.{both}
 use Rattle.clap.specs.Simple.{subcommand_rows_of}
-use Rattle.command_line.specs.Plans.{IsFaultAmong, entered_plan, knows_format}
-use Rattle.command_line.proofs.PlannedWords.{entered_reads, entered_rows, error_kind, fault_among, fault_of_memory, format_alone, more_kinds, no_fault, only_memory, plan_asks, planned_format, taken_format}
+use Rattle.clap.specs.Walk.{is_empty}
+use Rattle.command_line.specs.Plans.{IsFaultAmong, entered_plan, own_fault}
+use Rattle.command_line.proofs.PlannedWords.{entered_reads, entered_rows, error_kind, fault_among, fault_of_memory, own_alone, more_kinds, no_fault, only_memory, plan_asks, none_in, planned_own}
 use Rattle.command_line.proofs.words.plan.Goals as goal
 
 pub planned-requires : goal.planned-requires
@@ -22,30 +22,42 @@ pub returns-in-Ok-clause-taken : goal.returns-in-Ok-clause-taken
 returns-in-Ok-clause-taken c =
     let none = no_fault _ (map string_bytes c.args.words.now) c.in_ok-line.ensures c.in-Ok.ensures.kinds in
     let rows = entered_rows _ _ c.in-Ok.matches c.in_ok-line.ensures c.in-Ok.ensures.matches in
-    IfOk-weaker _ _ _ (λ plan is. sym (format_alone (map string_bytes c.args.words.now) _ none rows) ∙ planned_format (subcommand_rows_of c.in-Ok.matches) plan is) c.planned.ensures.plan
+    IfOk-weaker _ _ _ (λ plan is. sym (own_alone (map string_bytes c.args.words.now) _ none rows) ∙ planned_own (subcommand_rows_of c.in-Ok.matches) plan is) c.planned.ensures.plan
 
 pub returns-in-Ok-clause-refused : goal.returns-in-Ok-clause-refused
 returns-in-Ok-clause-refused c =
     let none = no_fault _ (map string_bytes c.args.words.now) c.in_ok-line.ensures c.in-Ok.ensures.kinds in
     let rows = entered_rows _ _ c.in-Ok.matches c.in_ok-line.ensures c.in-Ok.ensures.matches in
-    subst (λ kinds. IfErr c.planned.result (IsFaultAmong kinds)) (format_alone (map string_bytes c.args.words.now) _ none rows) c.planned.ensures.refused
+    subst (λ kinds. IfErr c.planned.result (IsFaultAmong kinds)) (own_alone (map string_bytes c.args.words.now) _ none rows) c.planned.ensures.refused
 
 pub returns-in-Ok-clause-passes : goal.returns-in-Ok-clause-passes
 returns-in-Ok-clause-passes c = λ taken.
     let rows = entered_rows _ _ c.in-Ok.matches c.in_ok-line.ensures c.in-Ok.ensures.matches in
-    c.planned.ensures.passes (taken_format (subcommand_rows_of c.in-Ok.matches) (subst (λ entered. option_map_or (λ p. knows_format p.1) entered true ≡ true) (sym rows) (both _ _ taken).1))
+    c.planned.ensures.passes (none_in _ (subst (λ entered. is_empty (own_fault entered) ≡ true) (sym rows) (both _ _ taken).1))
 
 pub returns-in-Ok-clause-pair : goal.returns-in-Ok-clause-pair
 returns-in-Ok-clause-pair c =
     let none = no_fault _ (map string_bytes c.args.words.now) c.in_ok-line.ensures c.in-Ok.ensures.kinds in
     let read = entered_reads (map string_bytes c.args.words.now) none _ (entered_rows _ _ c.in-Ok.matches c.in_ok-line.ensures c.in-Ok.ensures.matches) in
-    IfOk-weaker _ _ _ (λ plan is. (plan_asks _ plan read is).0) c.planned.ensures.plan
+    IfOk-weaker _ _ _ (λ plan is. (plan_asks _ plan read is).pair) c.planned.ensures.plan
 
 pub returns-in-Ok-clause-every : goal.returns-in-Ok-clause-every
 returns-in-Ok-clause-every c =
     let none = no_fault _ (map string_bytes c.args.words.now) c.in_ok-line.ensures c.in-Ok.ensures.kinds in
     let read = entered_reads (map string_bytes c.args.words.now) none _ (entered_rows _ _ c.in-Ok.matches c.in_ok-line.ensures c.in-Ok.ensures.matches) in
-    IfOk-weaker _ _ _ (λ plan is. (plan_asks _ plan read is).1) c.planned.ensures.plan
+    IfOk-weaker _ _ _ (λ plan is. (plan_asks _ plan read is).every) c.planned.ensures.plan
+
+pub returns-in-Ok-clause-page : goal.returns-in-Ok-clause-page
+returns-in-Ok-clause-page c =
+    let none = no_fault _ (map string_bytes c.args.words.now) c.in_ok-line.ensures c.in-Ok.ensures.kinds in
+    let read = entered_reads (map string_bytes c.args.words.now) none _ (entered_rows _ _ c.in-Ok.matches c.in_ok-line.ensures c.in-Ok.ensures.matches) in
+    IfOk-weaker _ _ _ (λ plan is. (plan_asks _ plan read is).page) c.planned.ensures.plan
+
+pub returns-in-Ok-clause-types : goal.returns-in-Ok-clause-types
+returns-in-Ok-clause-types c =
+    let none = no_fault _ (map string_bytes c.args.words.now) c.in_ok-line.ensures c.in-Ok.ensures.kinds in
+    let read = entered_reads (map string_bytes c.args.words.now) none _ (entered_rows _ _ c.in-Ok.matches c.in_ok-line.ensures c.in-Ok.ensures.matches) in
+    IfOk-weaker _ _ _ (λ plan is. (plan_asks _ plan read is).types) c.planned.ensures.plan
 
 pub returns-in-Err-clause-refused : goal.returns-in-Err-clause-refused
 returns-in-Err-clause-refused c =

@@ -1,11 +1,11 @@
 //! Views rendered as text, behind what stood there.
 use super::shown::{plain, run_folded, shows};
 use crate::tests::worked::{
-    AFTER, BEFORE, CHART_OF_THREE_LINES, COMPARISON_BOXES, COMPARISON_LINES, FIVE_LINES,
-    GRAPH_OF_THREE_LINES, SNAPSHOT_LINES, THREE_LINES,
+    AFTER, BEFORE, CALLS, CHART_OF_THREE_LINES, COMPARISON_BOXES, COMPARISON_LINES, FIVE_LINES,
+    FUNCTIONS, GRAPH_OF_THREE_LINES, GREATEST_TOTALS, SNAPSHOT_LINES, THREE_LINES,
 };
 use flame_layout::Width;
-use flame_tool::{View, Views};
+use flame_tool::{FunctionOrder, TopTable, View, Views};
 use stack_core::OpenGate;
 use std::alloc::Global;
 use std::process::Abort;
@@ -71,6 +71,28 @@ fn comparison(rt: HostRuntime) -> Result<(), Fail> {
     let options = plain(&rt, rt.alloc(), 1_024, None);
     let views = run_folded(&rt, rt.alloc(), &[BEFORE, AFTER], &options, OpenGate)?;
     shows_comparison(&rt, rt.alloc(), &views)
+}
+
+fn shows_functions(rt: &impl Abort, alloc: Global, views: &Views) -> Result<(), Fail> {
+    let top = TopTable {
+        by: FunctionOrder::Own,
+        rows: 10,
+        is_json: false,
+    };
+    let totals = TopTable {
+        by: FunctionOrder::Total,
+        rows: 2,
+        is_json: true,
+    };
+    shows(rt, alloc, views, View::Top(top), FUNCTIONS)?;
+    shows(rt, alloc, views, View::Top(totals), GREATEST_TOTALS)
+}
+
+#[test]
+fn functions_by_weight(rt: HostRuntime) -> Result<(), Fail> {
+    let options = plain(&rt, rt.alloc(), 1_024, None);
+    let views = run_folded(&rt, rt.alloc(), &[CALLS], &options, OpenGate)?;
+    shows_functions(&rt, rt.alloc(), &views)
 }
 
 /// The graph's lines are those of the snapshots at 2 and at 4, and that of all samples.

@@ -1,6 +1,6 @@
 use Rattle.std.proofs.Common.{◌≡◌, take, map, string_bytes}
-use Rattle.call_tree.specs.Listing.{named}
+use Rattle.flame_layout.specs.checked.Paired.{names_now}
 use Rattle.flame_layout.proofs.comparisons.names.Given as goal
 
-abbrev pub invariant-loop-number : goal.invariant-loop-number
-invariant-loop-number l = map string_bytes l.names.items ≡ named l.table (take l.number-index l.path)
+abbrev pub invariant-loop-name : goal.invariant-loop-name
+invariant-loop-name l = map string_bytes l.names.items ≡ names_now (take l.name-index l.path)

@@ -1,11 +1,8 @@
-use Rattle.std.proofs.Common.{◌≡◌, ◌++◌, drop, map, []}
-use Rattle.std.specs.List.{AllByRecursion}
-use Rattle.flame_layout.specs.checked.Paired.{visit_paths, pair_row}
-use Rattle.call_tree.specs.Listing.{AreIn}
+use Rattle.std.proofs.Common.{◌≡◌, ◌++◌, drop, length, map, []}
+use Rattle.flame_layout.specs.Boxes.{span_of}
+use Rattle.flame_layout.specs.checked.Paired.{names_now, paired_rows}
 use Rattle.flame_layout.proofs.comparisons.pair_rows.Given as goal
 
-abbrev pub invariant-loop-visit : goal.invariant-loop-visit
-invariant-loop-visit l = record {
-  known : AllByRecursion (AreIn l.table) (visit_paths l.path.items (drop l.visit-index l.visits));
-  rows : map (pair_row l.table l.before l.after) (visit_paths [] l.visits) ≡ l.rows.items ++ map (pair_row l.table l.before l.after) (visit_paths l.path.items (drop l.visit-index l.visits));
-}
+abbrev pub invariant-loop-left : goal.invariant-loop-left
+invariant-loop-left l =
+    paired_rows [] (map span_of l.before) (map span_of l.after) ≡ l.rows.items ++ paired_rows (names_now l.path.items) (map span_of (drop (length l.yielded) l.before)) (map span_of (drop (length l.yielded) l.after))

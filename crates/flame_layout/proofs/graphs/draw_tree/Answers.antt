@@ -3,7 +3,6 @@ use Rattle.std.proofs.lemmas.Result.{IfOk-weaker}
 use Rattle.sample_tables.specs.declared.samples.Sample.{Sample}
 use Rattle.call_tree.specs.CallTree.{total_weight}
 use Rattle.call_tree.specs.declared.listing.Visit.{Visit}
-use Rattle.flame_layout.specs.declared.boxes.SpanBox.{SpanBox}
 use Rattle.flame_layout.specs.Boxes.{span_of}
 use Rattle.flame_layout.specs.checked.Listed.{listed_boxes}
 use Rattle.flame_layout.specs.Graph.{graph_of}

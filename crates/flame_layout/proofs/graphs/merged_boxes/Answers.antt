@@ -1,4 +1,4 @@
-use Rattle.std.proofs.Common.{◌≡◌, ◌∙◌, ◌<◌, ◌≤◌, ◌+◌, ap, map, length, All, IfOk, arith}
+use Rattle.std.proofs.Common.{◌≡◌, ◌∙◌, ap, map, IfOk}
 use Rattle.std.proofs.lemmas.Result.{IfOk-weaker}
 use Rattle.flame_layout.specs.Boxes.{span_of}
 use Rattle.merged_stacks.specs.Timeline.{total_weight}

@@ -1,7 +1,7 @@
-use Rattle.std.proofs.Common.{rules, ◌≡◌, inl, inr, length, map, string_bytes, Some}
+use Rattle.std.proofs.Common.{arith, rules, ◌≡◌, inl, inr, [], length, map, string_bytes, Some}
 use Rattle.command_line.specs.CommandLine.{command_line}
 use Rattle.command_line.specs.Plans.{IsFaultAmong, fault_of, plan_of}
-use Rattle.flame_tool.proofs.RunEndings.{asked_exactly, asks_if_help, input_front, input_text, partly_help, some_asked}
+use Rattle.flame_tool.proofs.RunEndings.{accepted_none, accepted_some, asked_exactly, asked_page, asks_if_help, input_front, input_text, partly_help, some_asked}
 use Rattle.flame_tool.proofs.program.run.Goals as goal
 
 pub returns-in-Ok-clause-shown_exactly : goal.returns-in-Ok-clause-shown_exactly
@@ -10,8 +10,20 @@ returns-in-Ok-clause-shown_exactly g c =
     let planned : plan_of (map string_bytes c.args.words.items) ≡ Some c.in-Ok.plan = search rules in
     λ zero. inr (asked_exactly (map string_bytes c.args.words.items) c.in-Ok.plan (g.F.Files.known_input c.args.files.now) (g.F.Files.known_file c.args.files.now) _ _ (some_asked string_bytes c.args.words.items c.in-Ok.plan some planned) (c.run_plan-in-Ok.ensures.shown zero))
 
+pub returns-in-Ok-clause-shown_page : goal.returns-in-Ok-clause-shown_page
+returns-in-Ok-clause-shown_page g c =
+    let some : length c.args.words.items ≡ 0 → ⊥ = search rules in
+    let planned : plan_of (map string_bytes c.args.words.items) ≡ Some c.in-Ok.plan = search rules in
+    λ zero. inr (asked_page (map string_bytes c.args.words.items) c.in-Ok.plan (g.F.Files.known_input c.args.files.now) (g.F.Files.known_file c.args.files.now) _ _ (some_asked string_bytes c.args.words.items c.in-Ok.plan some planned) (c.run_plan-in-Ok.ensures.shown zero))
+
 pub returns-clause-partly : goal.returns-clause-partly
 returns-clause-partly g c =
+    let some : length c.args.words.items ≡ 0 → ⊥ = search rules in
+    let among : IsFaultAmong (fault_of command_line (map string_bytes c.args.words.items)) c.in-Err.fault = search rules in
+    λ three. partly_help string_bytes c.args.words.items c.in-Err.fault _ _ some among (c.refuse.ensures.front three)
+
+pub returns-clause-types_partly : goal.returns-clause-types_partly
+returns-clause-types_partly g c =
     let some : length c.args.words.items ≡ 0 → ⊥ = search rules in
     let among : IsFaultAmong (fault_of command_line (map string_bytes c.args.words.items)) c.in-Err.fault = search rules in
     λ three. partly_help string_bytes c.args.words.items c.in-Err.fault _ _ some among (c.refuse.ensures.front three)
@@ -29,10 +41,33 @@ pub returns-clause-shown : goal.returns-clause-shown
 returns-clause-shown g c =
     let some : length c.args.words.items ≡ 0 → ⊥ = search rules in
     let among : IsFaultAmong (fault_of command_line (map string_bytes c.args.words.items)) c.in-Err.fault = search rules in
-    λ zero. inl (asks_if_help string_bytes c.args.words.items c.in-Err.fault some among (c.refuse.ensures.help zero))
+    λ zero. inl (asks_if_help string_bytes c.args.words.items c.in-Err.fault some among (c.refuse.ensures.help (omega (arith, zero))))
 
 pub returns-clause-shown_exactly : goal.returns-clause-shown_exactly
 returns-clause-shown_exactly g c =
     let some : length c.args.words.items ≡ 0 → ⊥ = search rules in
     let among : IsFaultAmong (fault_of command_line (map string_bytes c.args.words.items)) c.in-Err.fault = search rules in
-    λ zero. inl (asks_if_help string_bytes c.args.words.items c.in-Err.fault some among (c.refuse.ensures.help zero))
+    λ zero. inl (asks_if_help string_bytes c.args.words.items c.in-Err.fault some among (c.refuse.ensures.help (omega (arith, zero))))
+
+pub returns-clause-shown_page : goal.returns-clause-shown_page
+returns-clause-shown_page g c =
+    let some : length c.args.words.items ≡ 0 → ⊥ = search rules in
+    let among : IsFaultAmong (fault_of command_line (map string_bytes c.args.words.items)) c.in-Err.fault = search rules in
+    λ zero. inl (asks_if_help string_bytes c.args.words.items c.in-Err.fault some among (c.refuse.ensures.help (omega (arith, zero))))
+
+-- words that are followed have no fault
+pub returns-then-is_empty-clause-accepted : goal.returns-then-is_empty-clause-accepted
+returns-then-is_empty-clause-accepted g c = λ _. inr (accepted_none string_bytes c.args.words.items (search rules))
+
+pub returns-in-Ok-clause-accepted : goal.returns-in-Ok-clause-accepted
+returns-in-Ok-clause-accepted g c =
+    let some : length c.args.words.items ≡ 0 → ⊥ = search rules in
+    let planned : plan_of (map string_bytes c.args.words.items) ≡ Some c.in-Ok.plan = search rules in
+    let faultless : fault_of command_line (map string_bytes c.args.words.items) ≡ [] = search rules in
+    λ accepted. inr (accepted_some string_bytes c.args.words.items c.in-Ok.plan _ some planned faultless c.run_plan-in-Ok.ensures.few accepted)
+
+pub returns-clause-accepted : goal.returns-clause-accepted
+returns-clause-accepted g c =
+    let some : length c.args.words.items ≡ 0 → ⊥ = search rules in
+    let among : IsFaultAmong (fault_of command_line (map string_bytes c.args.words.items)) c.in-Err.fault = search rules in
+    λ accepted. inl (asks_if_help string_bytes c.args.words.items c.in-Err.fault some among (c.refuse.ensures.help accepted))

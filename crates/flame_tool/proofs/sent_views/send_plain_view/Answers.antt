@@ -8,8 +8,8 @@ use Rattle.flame_tool.specs.checked.Failures.{Sends}
 use Rattle.flame_tool.proofs.TextLemmas.{listed_samples}
 use Rattle.flame_tool.proofs.sent_views.send_plain_view.Goals as goal
 
-pub returns-in-PairBoxes : goal.returns-in-PairBoxes
-returns-in-PairBoxes g c =
+pub returns-in-PairBoxes-clause-sent : goal.returns-in-PairBoxes-clause-sent
+returns-in-PairBoxes-clause-sent g c =
     let lists = c.args.sources.now.lists in
     let two : length lists ≡ 2 = search rules in
     let is : c.args.view ≡ PairBoxes c.in-PairBoxes.width = search rules in
@@ -17,4 +17,4 @@ returns-in-PairBoxes g c =
     let after = ap (λ (list : ListState). list.samples) c.index-lists-1.is ∙ listed_samples lists c.lists-lists.result.now 1 c.index-lists-1.result c.lists-lists.ensures.lists (omega (arith, two)) in
     subst (λ (text : List ℕ). Sends text (g.W.Outlet.contents c.args.out.now) (g.W.Outlet.contents c.send_compared.new.out) c.send_compared.result)
     ((λ i. pair_boxes_text c.in-PairBoxes.width (before i) (after i)) ∙ ap (λ (view : View). view_text view (samples_of lists) [] None) (sym is))
-    c.send_compared.ensures
+    c.send_compared.ensures.sent

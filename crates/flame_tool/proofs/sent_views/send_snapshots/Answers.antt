@@ -7,8 +7,8 @@ use Rattle.merging.specs.Sums.{all_samples}
 use Rattle.flame_tool.specs.checked.Failures.{Sends}
 use Rattle.flame_tool.proofs.sent_views.send_snapshots.Goals as goal
 
-pub returns : goal.returns
-returns g c = subst (λ (text : List ℕ). Sends text (g.W.Outlet.contents c.args.out.now) (g.W.Outlet.contents c.send_text.new.out) c.send_text.result) c.drawn_graph_text.ensures.text c.send_text.ensures
+pub returns-clause-sent : goal.returns-clause-sent
+returns-clause-sent g c = subst (λ (text : List ℕ). Sends text (g.W.Outlet.contents c.args.out.now) (g.W.Outlet.contents c.send_text.new.out) c.send_text.result) c.drawn_graph_text.ensures.text c.send_text.ensures.sent
 
 pub drawn_graph_text-requires : goal.drawn_graph_text-requires
 drawn_graph_text-requires g c = record {

@@ -2,7 +2,8 @@ use Rattle.std.proofs.Common.{◌≡◌, ◌++◌, ◌∷◌, [], ◌∙◌, sym
 use Rattle.std.proofs.lemmas.List.{map_push}
 use Rattle.std.proofs.lemmas.List.Elements.{All-push}
 use Rattle.stack_core.specs.Reading.{Rest, IsSourceLimited}
-use Rattle.merging.specs.checked.Readers.{reader_rest, reader_told, whole_rest, whole_rests_of}
+use Rattle.merging.specs.Sources.{whole_rest, whole_rests_of}
+use Rattle.merging.specs.checked.Readers.{reader_rest, reader_told}
 use Rattle.merging.specs.declared.source_reader.SourceReader.{SourceReader}
 use Rattle.merging.proofs.collection.readers_of.Goals as goal
 

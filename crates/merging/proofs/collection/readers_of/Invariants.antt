@@ -1,6 +1,7 @@
 use Rattle.std.proofs.Common.{◌≡◌, [], All, map}
 use Rattle.stack_core.specs.Reading.{IsSourceLimited}
-use Rattle.merging.specs.checked.Readers.{reader_rest, reader_told, whole_rests_of}
+use Rattle.merging.specs.Sources.{whole_rests_of}
+use Rattle.merging.specs.checked.Readers.{reader_rest, reader_told}
 use Rattle.merging.proofs.collection.readers_of.Given as goal
 
 abbrev pub invariant-loop-source : goal.invariant-loop-source

@@ -1,4 +1,4 @@
-use Rattle.std.proofs.Common.{◌≡◌, ◌∙◌, ◌++◌, ◌∷◌, [], ap, sym, map}
+use Rattle.std.proofs.Common.{◌∙◌, ◌++◌, ◌∷◌, [], ap, sym, map}
 use Rattle.std.proofs.lemmas.List.{map_push}
 use Rattle.run_options.specs.Filters.{kept_rest}
 use Rattle.merging.proofs.filtered_reader.filter_all.Goals as goal

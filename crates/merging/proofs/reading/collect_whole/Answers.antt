@@ -1,4 +1,4 @@
-use Rattle.std.proofs.Common.{◌≡◌, ◌∙◌, arith, ap, length, sym, subst, map, List, All}
+use Rattle.std.proofs.Common.{◌∙◌, arith, ap, length, sym, subst, map, List, All}
 use Rattle.std.specs.Prelude.{IfOk}
 use Rattle.std.specs.Arc.{arc_value}
 use Rattle.std.proofs.lemmas.Result.{IfOk-weaker}
@@ -7,7 +7,7 @@ use Rattle.stack_core.specs.Reading.{Rest, IsSourceLimited}
 use Rattle.ring_collect.specs.Collection.{AreWhole, Collects}
 use Rattle.merging.specs.Gathered.{AreLimited}
 use Rattle.merging.specs.checked.Readers.{reader_rest}
-use Rattle.merging.specs.Sources.{rests_of, source_rest}
+use Rattle.merging.specs.Sources.{source_rest}
 use Rattle.merging.proofs.FilteredSources.{limited_rests, whole_is_kept}
 use Rattle.merging.proofs.GatherLemmas.{collected-limited}
 use Rattle.merging.proofs.reading.collect_whole.Goals as goal

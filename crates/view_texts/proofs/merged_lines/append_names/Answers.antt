@@ -6,13 +6,13 @@ use Rattle.view_texts.proofs.MergedLines.{joined_more, further}
 use Rattle.view_texts.proofs.merged_lines.append_names.Goals as goal
 
 pub loop-frame-preserved : goal.loop-frame-preserved
-loop-frame-preserved c =
+loop-frame-preserved g c =
     let i = c.loop-frame.frame in
-    let stack = (sample_at c.args.merged.now c.args.at).stack in
+    let stack = (sample_at (g.S.StackRows.samples c.args.rows.now) c.args.at).stack in
     let start = c.args.out.now.items in
     c.in_ok-append_name.ensures.ok ∙ (λ k. c.loop-frame.invariant k ++ joint (ltb 0 i) (c.name.ensures k)) ∙ append_assoc start (join_with_byte 59 (take i stack)) _
     ∙ ap (λ text. start ++ text) (sym (joined_more stack i (omega (arith, c.depth-frame-end.ensures.value))))
 
 pub returns-in_err-append_name-clause-front : goal.returns-in_err-append_name-clause-front
-returns-in_err-append_name-clause-front c =
-    further c.append_name.new.out.items c.loop-frame.out.items c.args.out.now.items (join_with_byte 59 (take c.loop-frame.frame (sample_at c.args.merged.now c.args.at).stack)) c.append_name.ensures.front c.loop-frame.invariant
+returns-in_err-append_name-clause-front g c =
+    further c.append_name.new.out.items c.loop-frame.out.items c.args.out.now.items (join_with_byte 59 (take c.loop-frame.frame (sample_at (g.S.StackRows.samples c.args.rows.now) c.args.at).stack)) c.append_name.ensures.front c.loop-frame.invariant

@@ -1,7 +1,7 @@
 -- The numbers are the table's, and the tree holds what it held.
 use Rattle.std.proofs.Common.{List}
 use Rattle.sample_tables.specs.declared.samples.Sample.{Sample}
-use Rattle.flame_layout.specs.checked.Paired.{Holds}
+use Rattle.flame_layout.specs.checked.Held.{Holds}
 use Rattle.call_tree.specs.Listing.{AreIn}
 use Rattle.view_texts.proofs.tests.fold.add.Given as goal
 

@@ -1,7 +1,7 @@
 -- The tree holds samples.
 use Rattle.std.proofs.Common.{List}
 use Rattle.sample_tables.specs.declared.samples.Sample.{Sample}
-use Rattle.flame_layout.specs.checked.Paired.{Holds}
+use Rattle.flame_layout.specs.checked.Held.{Holds}
 use Rattle.view_texts.proofs.tests.fold.text.Given as goal
 
 abbrev pub invariant-loop-names : goal.invariant-loop-names

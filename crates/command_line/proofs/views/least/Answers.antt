@@ -1,0 +1,6 @@
+use Rattle.std.proofs.Common.{codes}
+use Rattle.command_line.proofs.ReadEntries.{count_given}
+use Rattle.command_line.proofs.views.least.Goals as goal
+
+pub returns : goal.returns
+returns c = count_given c.args.entries.now (codes "least") c.get_one.result c.requires c.get_one.ensures.none c.get_one.ensures.value

@@ -1,0 +1,65 @@
+//! The plan of the command that was entered.
+ghost use Rattle.std.specs.Prelude.{◌≡◌, [], IfErr, IfOk, IsSome, IsSomeAnd, Some, option_map};
+ghost use Rattle.clap.specs.Words.{subcommand_rows_of};
+ghost use Rattle.command_line.specs.Plans.{IsFaultAmong, entered_plan, own_fault, plan_with, types_plan, view_of};
+ghost use Rattle.command_line.specs.checked.Entries.{IsRead, entries_of};
+ghost use Rattle.command_line.specs.declared.plans.PlanFault.TheVariants.{OutOfMemory};
+
+use crate::entries::{default_options, files, format, options};
+use crate::plans::{Form, Plan, PlanFault, View};
+use crate::refusals::check_entries;
+use crate::views::{form, view};
+use clap::ArgMatches;
+use run_options::Format;
+use std::alloc::{AllocError, Global};
+
+// The plan of the command that was entered.
+pub(crate) fn planned(alloc: Global, matches: &ArgMatches<'_>) -> Result<Plan, PlanFault>
+    requires { IsSomeAnd (subcommand_rows_of matches.now) (λ entered.
+        IsRead entered.0 entered.1) }
+    ensures plan { IfOk result (λ plan. entered_plan (subcommand_rows_of matches.now) ≡ Some plan) }
+    ensures refused { IfErr result (IsFaultAmong (own_fault (subcommand_rows_of matches.now))) }
+    ensures passes { own_fault (subcommand_rows_of matches.now) ≡ []
+        → IfErr result (λ fault. fault ≡ OutOfMemory) }
+{
+    let Some((name, entries)) = matches.subcommand() else {
+        unreachable!()
+    };
+    check_entries(alloc, entries)?;
+    if name == "types" {
+        Ok(types_plan(alloc, entries)?)
+    } else {
+        Ok(view_plan(alloc, name, entries)?)
+    }
+}
+
+// The plan of a command that shows a view.
+fn view_plan(alloc: Global, name: &str, entries: &ArgMatches<'_>) -> Result<Plan, AllocError>
+    requires read { IsRead name.now (entries_of entries.now) }
+    requires view { IsSome (view_of name.now (entries_of entries.now)) }
+    ensures { IfOk result (λ plan. option_map (plan_with (entries_of entries.now))
+        (view_of name.now (entries_of entries.now)) ≡ Some plan) }
+{
+    Ok(Plan {
+        view: view(name, entries),
+        options: options(alloc, entries)?,
+        format: format(entries),
+        files: files(alloc, entries)?,
+        form: form(alloc, entries)?,
+        is_quiet: entries.get_flag("quiet"),
+    })
+}
+
+// The plan of `types`.
+fn types_plan(alloc: Global, entries: &ArgMatches<'_>) -> Result<Plan, AllocError>
+    ensures { IfOk result (λ plan. plan ≡ types_plan (entries_of entries.now)) }
+{
+    Ok(Plan {
+        view: View::Fold,
+        options: default_options(alloc),
+        format: Some(Format::Pprof),
+        files: files(alloc, entries)?,
+        form: Form::Types,
+        is_quiet: false,
+    })
+}

@@ -1,0 +1,131 @@
+//! What the entries of a command ask for, beside the view.
+ghost use Rattle.std.specs.Prelude.{◌≡◌, ◌++◌, IfOk, OnOk, codes};
+ghost use Rattle.clap.specs.Walk.{texts};
+ghost use Rattle.command_line.specs.Plans.{asked_format, default_options, files_of, filter_of, naming_of, number_at, options_of, pick_of, values_at};
+ghost use Rattle.command_line.specs.checked.Entries.{IsFlagAt, IsNumberAt, entries_of};
+ghost use Rattle.command_line.specs.declared.arguments.TheConstants.{MOST_BETWEEN_SNAPSHOTS};
+ghost use Rattle.run_options.specs.declared.ring_sizes.TheConstants.{LARGEST_RING};
+
+use clap::ArgMatches;
+use run_options::{Filter, Format, Naming, Options, Pick, RingSize};
+use stack_core::{Names, Text};
+use std::alloc::{AllocError, Global};
+
+// The size of a ring unless the words set it.
+const DEFAULT_RING: u32 = 1_024;
+
+// The options where no word sets one.
+pub(crate) fn default_options(alloc: Global) -> Options
+    ensures { result ≡ default_options }
+{
+    Options {
+        ring: RingSize::of(DEFAULT_RING).unwrap(),
+        pick: Pick::Preferred,
+        naming: Naming::Plain,
+        filter: Filter::everything(alloc),
+        every: None,
+    }
+}
+
+pub(crate) fn options(alloc: Global, entries: &ArgMatches<'_>) -> Result<Options, AllocError>
+    requires ring { IsNumberAt (codes "ring") LARGEST_RING (entries_of entries.now) }
+    requires every { IsNumberAt (codes "every") MOST_BETWEEN_SNAPSHOTS (entries_of entries.now) }
+    requires lines { IsFlagAt (codes "lines") (entries_of entries.now) }
+    ensures { IfOk result (λ options. options ≡ options_of (entries_of entries.now)) }
+{
+    Ok(Options {
+        ring: ring(entries),
+        pick: pick(alloc, entries)?,
+        naming: naming(entries),
+        filter: filter(alloc, entries)?,
+        every: every(entries),
+    })
+}
+
+fn ring(entries: &ArgMatches<'_>) -> RingSize
+    requires { IsNumberAt (codes "ring") LARGEST_RING (entries_of entries.now) }
+    ensures { result ≡ (options_of (entries_of entries.now)).ring }
+{
+    let items = entries.get_one::<u32>("ring").unwrap_or(DEFAULT_RING);
+    RingSize::of(items).unwrap()
+}
+
+fn pick(alloc: Global, entries: &ArgMatches<'_>) -> Result<Pick, AllocError>
+    ensures { IfOk result (λ pick. pick ≡ pick_of (entries_of entries.now)) }
+{
+    match entries.get_str("type") {
+        Some(name) => Ok(Pick::Named(Text::from_str(alloc, name)?)),
+        None => Ok(Pick::Preferred),
+    }
+}
+
+fn naming(entries: &ArgMatches<'_>) -> Naming
+    requires { IsFlagAt (codes "lines") (entries_of entries.now) }
+    ensures { result ≡ naming_of (entries_of entries.now) }
+{
+    if entries.get_flag("lines") {
+        Naming::Lines
+    } else {
+        Naming::Plain
+    }
+}
+
+fn filter(alloc: Global, entries: &ArgMatches<'_>) -> Result<Filter, AllocError>
+    ensures { IfOk result (λ filter. filter ≡ filter_of (entries_of entries.now)) }
+{
+    Ok(Filter {
+        focus: values(alloc, entries, "focus")?,
+        hide: values(alloc, entries, "hide")?,
+    })
+}
+
+// All values of an argument.
+fn values(alloc: Global, entries: &ArgMatches<'_>, id: &str) -> Result<Names, AllocError>
+    ensures { IfOk result (λ values. values ≡ values_at id.now (entries_of entries.now)) }
+{
+    let mut values = Vec::new(alloc);
+    add_values(&mut values, entries, id)?;
+    Names::from_strs(alloc, values.as_slice())
+}
+
+fn every(entries: &ArgMatches<'_>) -> Option<u64>
+    requires { IsNumberAt (codes "every") MOST_BETWEEN_SNAPSHOTS (entries_of entries.now) }
+    ensures { result ≡ number_at (codes "every") (entries_of entries.now) }
+{
+    entries.get_one::<u32>("every").map(u64::from)
+}
+
+// The format that the words set.
+pub(crate) fn format(entries: &ArgMatches<'_>) -> Option<Format>
+    ensures { result ≡ asked_format (entries_of entries.now) }
+{
+    match entries.get_str("format") {
+        Some(name) => Format::named(name),
+        None => None,
+    }
+}
+
+// A command has either FILEs or BEFORE and AFTER.
+pub(crate) fn files(alloc: Global, entries: &ArgMatches<'_>) -> Result<Names, AllocError>
+    ensures { IfOk result (λ files. files ≡ files_of (entries_of entries.now)) }
+{
+    let mut paths = Vec::new(alloc);
+    add_values(&mut paths, entries, "file")?;
+    add_values(&mut paths, entries, "before")?;
+    add_values(&mut paths, entries, "after")?;
+    Names::from_strs(alloc, paths.as_slice())
+}
+
+fn add_values<'a>(
+    paths: &mut Vec<&'a str>,
+    entries: &ArgMatches<'a>,
+    id: &str,
+) -> Result<(), AllocError>
+    ensures { OnOk result (texts paths.new.items
+        ≡ texts paths.old.items ++ values_at id.now (entries_of entries.now)) }
+{
+    if let Some(values) = entries.get_strs(id) {
+        paths.extend_from_slice(values)?;
+    }
+    Ok(())
+}

@@ -1,0 +1,134 @@
+//! Worked command lines of tables of functions.
+
+use super::forms::is_refused;
+use super::words::{are, has_files, options_are_defaults, planned};
+use crate::{Plan, PlanFault, TopTable, View};
+use run_options::FunctionOrder;
+use std::alloc::Global;
+use std::process::Abort;
+use std::test::Fail;
+
+// The table where no word sets it.
+const DEFAULTS: TopTable = TopTable {
+    by: FunctionOrder::Own,
+    rows: 10,
+    is_json: false,
+};
+
+// Whether a plan is of such a table, and has no file and no other option.
+fn is_plain_table(plan: &Plan, table: TopTable) -> bool {
+    plan.view == View::Top(table) && options_are_defaults(&plan.options) && has_files(plan, &[])
+}
+
+fn expect_table(
+    rt: &impl Abort,
+    alloc: Global,
+    line: &str,
+    table: TopTable,
+) -> Result<(), PlanFault> {
+    let plan = planned(alloc, line)?;
+    assert!(rt; is_plain_table(&plan, table), "{line}");
+    Ok(())
+}
+
+#[test]
+fn tables_of_functions(rt: HostRuntime) -> Result<(), Fail> {
+    let tables = [
+        ("top", DEFAULTS),
+        (
+            "top -n 3",
+            TopTable {
+                rows: 3,
+                ..DEFAULTS
+            },
+        ),
+        (
+            "top -n1",
+            TopTable {
+                rows: 1,
+                ..DEFAULTS
+            },
+        ),
+        (
+            "top --number 1000000000",
+            TopTable {
+                rows: 1_000_000_000,
+                ..DEFAULTS
+            },
+        ),
+        ("top --by own", DEFAULTS),
+        (
+            "top --by=total",
+            TopTable {
+                by: FunctionOrder::Total,
+                ..DEFAULTS
+            },
+        ),
+        (
+            "top --json",
+            TopTable {
+                is_json: true,
+                ..DEFAULTS
+            },
+        ),
+    ];
+    for (line, table) in tables {
+        expect_table(&rt, rt.alloc(), line, table)?;
+    }
+    Ok(())
+}
+
+// Whether a plan is what the words of the test below ask for.
+fn is_asked_for(plan: &Plan) -> bool {
+    let table = TopTable {
+        by: FunctionOrder::Total,
+        rows: 7,
+        is_json: true,
+    };
+    let filter = &plan.options.filter;
+    plan.view == View::Top(table)
+        && are(&filter.focus, &["f"])
+        && are(&filter.hide, &["g"])
+        && plan.options.ring.get() == 8
+        && has_files(plan, &["a", "b"])
+}
+
+#[test]
+fn options_of_top(rt: HostRuntime) -> Result<(), Fail> {
+    let line = "top a --json --focus f -n 7 b --by total --hide=g --ring 8";
+    let plan = planned(rt.alloc(), line)?;
+    assert!(rt; is_asked_for(&plan));
+    Ok(())
+}
+
+#[test]
+fn refused_tables(rt: HostRuntime) -> Result<(), Fail> {
+    let lines = [
+        "top -n 0",
+        "top -n -1",
+        "top -n ten",
+        "top --number=1000000001",
+        "top -n 1 -n 1",
+        "top --by name",
+        "top --by=",
+        "top --by Own",
+        "top --by own --by own",
+        "top --json=yes",
+        "top --width 5",
+        "top --every 5",
+        "fold -n 5",
+        "fold --by own",
+        "graph --json",
+    ];
+    for line in lines {
+        assert!(rt; is_refused(rt.alloc(), line, "error: "), "{line}");
+    }
+    Ok(())
+}
+
+#[test]
+fn text_of_an_unknown_order(rt: HostRuntime) -> Result<(), Fail> {
+    let told = "error: invalid value for '--by <WEIGHT>'\n  [possible values: own, total]\n";
+    assert!(rt; is_refused(rt.alloc(), "top --by name", told));
+    Ok(())
+}

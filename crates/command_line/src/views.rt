@@ -1,0 +1,133 @@
+//! The view that a command asks for, and what is written of it.
+ghost use Rattle.std.specs.Prelude.{◌≡◌, IfOk, IsSome, Some, codes};
+ghost use Rattle.command_line.specs.Plans.{compared_view, form_of, number_at, order_of, page_of, rows_of, shows_boxes, table_of, title_of, view_of, width_of};
+ghost use Rattle.command_line.specs.checked.Entries.{IsCountAt, IsFlagAt, IsNumberAt, IsRead, entries_of};
+ghost use Rattle.command_line.specs.declared.arguments.TheConstants.{MOST_ROWS};
+ghost use Rattle.run_options.specs.declared.widths.TheConstants.{MAX_WIDTH};
+
+use crate::plans::{Form, PageForm, TopTable, View};
+use clap::ArgMatches;
+use run_options::{FunctionOrder, Width};
+use stack_core::Text;
+use std::alloc::{AllocError, Global};
+
+// The width of an image unless the words set it.
+const DEFAULT_WIDTH: u32 = 1_200;
+
+// The rows of a table unless the words set them.
+const DEFAULT_ROWS: u64 = 10;
+
+pub(crate) fn view(name: &str, entries: &ArgMatches<'_>) -> View
+    requires read { IsRead name.now (entries_of entries.now) }
+    requires known { IsSome (view_of name.now (entries_of entries.now)) }
+    ensures { view_of name.now (entries_of entries.now) ≡ Some result }
+{
+    match name {
+        "fold" => View::Fold,
+        "graph" => View::Graph(width(entries)),
+        "chart" => View::Chart(width(entries)),
+        "compare" => compared_view(entries),
+        "top" => View::Top(table(entries)),
+        _ => unreachable!(),
+    }
+}
+
+fn compared_view(entries: &ArgMatches<'_>) -> View
+    requires width { IsNumberAt (codes "width") MAX_WIDTH (entries_of entries.now) }
+    requires boxes { IsFlagAt (codes "boxes") (entries_of entries.now) }
+    requires page { IsFlagAt (codes "page") (entries_of entries.now) }
+    ensures { result ≡ compared_view (entries_of entries.now) }
+{
+    if shows_boxes(entries) {
+        View::PairBoxes(width(entries))
+    } else {
+        View::Pairs
+    }
+}
+
+// A page shows boxes, whatever else is said.
+fn shows_boxes(entries: &ArgMatches<'_>) -> bool
+    requires boxes { IsFlagAt (codes "boxes") (entries_of entries.now) }
+    requires page { IsFlagAt (codes "page") (entries_of entries.now) }
+    ensures { result ≡ shows_boxes (entries_of entries.now) }
+{
+    entries.get_flag("boxes") || entries.get_flag("page")
+}
+
+fn width(entries: &ArgMatches<'_>) -> Width
+    requires { IsNumberAt (codes "width") MAX_WIDTH (entries_of entries.now) }
+    ensures { result ≡ width_of (entries_of entries.now) }
+{
+    let pixels = entries.get_one::<u32>("width").unwrap_or(DEFAULT_WIDTH);
+    Width::of(pixels).unwrap()
+}
+
+fn table(entries: &ArgMatches<'_>) -> TopTable
+    requires rows { IsNumberAt (codes "number") MOST_ROWS (entries_of entries.now) }
+    requires json { IsFlagAt (codes "json") (entries_of entries.now) }
+    ensures { result ≡ table_of (entries_of entries.now) }
+{
+    TopTable {
+        by: order(entries),
+        rows: rows(entries),
+        is_json: entries.get_flag("json"),
+    }
+}
+
+fn order(entries: &ArgMatches<'_>) -> FunctionOrder
+    ensures { result ≡ order_of (entries_of entries.now) }
+{
+    match entries.get_str("by") {
+        Some(name) => FunctionOrder::named(name).unwrap_or(FunctionOrder::Own),
+        None => FunctionOrder::Own,
+    }
+}
+
+fn rows(entries: &ArgMatches<'_>) -> u64
+    requires { IsNumberAt (codes "number") MOST_ROWS (entries_of entries.now) }
+    ensures { result ≡ rows_of (entries_of entries.now) }
+{
+    match entries.get_one::<u32>("number") {
+        Some(rows) => u64::from(rows),
+        None => DEFAULT_ROWS,
+    }
+}
+
+// What is written of the view.
+pub(crate) fn form(alloc: Global, entries: &ArgMatches<'_>) -> Result<Form, AllocError>
+    requires page { IsFlagAt (codes "page") (entries_of entries.now) }
+    requires least { IsCountAt (codes "least") (entries_of entries.now) }
+    ensures { IfOk result (λ form. form ≡ form_of (entries_of entries.now)) }
+{
+    if entries.get_flag("page") {
+        Ok(Form::Page(page(alloc, entries)?))
+    } else {
+        Ok(Form::Text)
+    }
+}
+
+fn page(alloc: Global, entries: &ArgMatches<'_>) -> Result<PageForm, AllocError>
+    requires { IsCountAt (codes "least") (entries_of entries.now) }
+    ensures { IfOk result (λ page. page ≡ page_of (entries_of entries.now)) }
+{
+    Ok(PageForm {
+        title: title(alloc, entries)?,
+        least: least(entries),
+    })
+}
+
+fn least(entries: &ArgMatches<'_>) -> Option<u64>
+    requires { IsCountAt (codes "least") (entries_of entries.now) }
+    ensures { result ≡ number_at (codes "least") (entries_of entries.now) }
+{
+    entries.get_one::<u64>("least")
+}
+
+fn title(alloc: Global, entries: &ArgMatches<'_>) -> Result<Option<Text>, AllocError>
+    ensures { IfOk result (λ title. title ≡ title_of (entries_of entries.now)) }
+{
+    match entries.get_str("title") {
+        Some(title) => Ok(Some(Text::from_str(alloc, title)?)),
+        None => Ok(None),
+    }
+}

@@ -1,0 +1,114 @@
+//! How far the reading of sources is: on a terminal, a line that is written over while samples arrive. A failure to write it
+//! changes nothing.
+
+ghost use Rattle.std.specs.Prelude.{◌≡◌};
+
+use byte_io::{Outlet, send};
+use itoa::Buffer;
+use stack_core::{Ledger, NoSink, RowSink};
+use std::alloc::{AllocError, Global};
+
+/// After how many samples the line is written again, each time.
+const STRIDE: u64 = 1 << 16;
+
+/// The sink of a run of which the lists alone are wanted, which tells how many samples it took where that is wanted. The messages of
+/// the run go where it tells this.
+#[derive(Drop)]
+pub(crate) struct Progress<'a, E> {
+    taken: NoSink,
+    samples: u64,
+    sources: usize,
+    is_wanted: bool,
+    is_shown: bool,
+    err: &'a mut E,
+}
+
+impl<'a, E: Outlet> Progress<'a, E> {
+    /// Of so many sources, of which nothing is read yet.
+    pub(crate) fn new(err: &'a mut E, sources: usize, is_wanted: bool) -> Progress<'a, E> {
+        Progress {
+            taken: NoSink::new(),
+            samples: 0,
+            sources,
+            is_wanted,
+            is_shown: false,
+            err,
+        }
+    }
+
+    /// Where messages go. The line is cleared before.
+    pub(crate) fn messages(&mut self) -> &mut E {
+        self.clear();
+        self.err
+    }
+
+    /// Counts a sample, and tells how many there are now and then.
+    fn count(&mut self, alloc: Global)
+        ensures { self.new.taken ≡ self.old.taken }
+    {
+        self.samples = self.samples.saturating_add(1);
+        if self.is_wanted && self.samples % STRIDE == 0 {
+            self.show(alloc);
+        }
+    }
+
+    /// Writes the line.
+    fn show(&mut self, alloc: Global)
+        ensures { self.new.taken ≡ self.old.taken }
+    {
+        if let Ok(line) = progress_line(alloc, self.samples, self.sources) {
+            let _ = send(line.as_slice(), self.err);
+            self.is_shown = true;
+        }
+    }
+
+    /// Takes the line away, where it is written.
+    pub(crate) fn clear(&mut self)
+        ensures { self.new.taken ≡ self.old.taken }
+    {
+        if self.is_shown {
+            let _ = send(b"\r\x1b[K", self.err);
+            self.is_shown = false;
+        }
+    }
+}
+
+impl<E: Outlet> RowSink for Progress<'_, E> {
+    ghost taken = { λ progress. progress.taken };
+
+    fn take_row(
+        &mut self,
+        alloc: Global,
+        source: u32,
+        ledger: &Ledger,
+        row: usize,
+        weight: u64,
+    ) -> Result<(), AllocError> {
+        self.taken.take_row(alloc, source, ledger, row, weight)?;
+        self.count(alloc);
+        Ok(())
+    }
+}
+
+/// The line, in the place of what stood there.
+fn progress_line(alloc: Global, samples: u64, sources: usize) -> Result<Vec<u8>, AllocError> {
+    let mut digits = Buffer::new();
+    let mut line = Vec::new(alloc);
+    line.extend_from_slice(b"\r\x1b[Kflamecollect: ")?;
+    append_grouped(&mut line, digits.format(samples))?;
+    line.extend_from_slice(b" samples of ")?;
+    line.extend_from_slice(digits.format(sources).as_bytes())?;
+    line.extend_from_slice(if sources == 1 { " source" } else { " sources" }.as_bytes())?;
+    Ok(line)
+}
+
+/// Appends the digits of a number, with a comma between thousands.
+fn append_grouped(line: &mut Vec<u8>, digits: &str) -> Result<(), AllocError> {
+    for (at, digit) in digits.bytes().enumerate() {
+        if at > 0 && digits.len().saturating_sub(at) % 3 == 0 {
+            line.push(b',')?;
+        }
+        line.push(digit)?;
+    }
+    Ok(())
+}

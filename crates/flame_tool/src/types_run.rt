@@ -1,0 +1,77 @@
+//! The sample types of a profile, shown in place of its samples.
+ghost use Rattle.std.specs.Prelude.{◌≡◌, IfErr, IfSome, IsErrOf, OnOk, length};
+ghost use Rattle.view_texts.specs.Types.{types_text};
+ghost use Rattle.flame_tool.specs.TypeRuns.{known_profile, ShowsTypes};
+ghost use Rattle.flame_tool.specs.checked.Failures.{Flushes, KeepsOutput, Sends};
+ghost use Rattle.flame_tool.specs.checked.TypeFailures.{FailsTypes};
+
+use crate::failures::Failure;
+use crate::messages::report_ending;
+use crate::sent_views::send_text;
+use crate::source_files::named;
+use byte_io::{Files, Outlet};
+use command_line::Plan;
+use profile_tables::{SampleTypes, TableFault, sample_types};
+use stack_core::SourceEnd;
+use std::alloc::Global;
+use view_texts::TypesText;
+
+// Shows the sample types of the one profile of a plan. No sample of it is read.
+pub(crate) fn show_types<F: Files, W: Outlet, E: Outlet>(
+    alloc: Global,
+    plan: &Plan,
+    files: &mut F,
+    out: &mut W,
+    err: &mut E,
+) -> Result<(), Failure>
+    requires one { length plan.now.files ≡ 1 }
+    ensures ok { OnOk result (IfSome (known_profile plan.now (F.known_file files.old))
+        (ShowsTypes (W.contents out.old) (W.contents out.new))) }
+    ensures err { IfErr result (λ failure.
+        IfSome (known_profile plan.now (F.known_file files.old))
+        (FailsTypes (W.contents out.old) (W.contents out.new) failure)) }
+    ensures kept { IfErr result (λ failure.
+        KeepsOutput (W.contents out.old) (W.contents out.new) failure) }
+    ensures few { IsErrOf result Failure.TooManyFiles → ⊥ }
+    ensures flushed { Flushes (W.is_flushed out.new) (W.failures out.old) (W.failures out.new)
+        result }
+{
+    let paths = plan.files.get();
+    let source = named(alloc, files, 0, &paths[0], plan.format)?;
+    show_types_of(alloc, &source.bytes, paths, out, err)
+}
+
+// The same of a profile's bytes.
+fn show_types_of<W: Outlet, E: Outlet>(
+    alloc: Global,
+    profile: &[u8],
+    paths: &[String],
+    out: &mut W,
+    err: &mut E,
+) -> Result<(), Failure>
+    ensures ok { OnOk result (ShowsTypes (W.contents out.old) (W.contents out.new) profile.now) }
+    ensures err { IfErr result (λ failure.
+        FailsTypes (W.contents out.old) (W.contents out.new) failure profile.now) }
+    ensures kept { IfErr result (λ failure.
+        KeepsOutput (W.contents out.old) (W.contents out.new) failure) }
+    ensures few { IsErrOf result Failure.TooManyFiles → ⊥ }
+    ensures flushed { Flushes (W.is_flushed out.new) (W.failures out.old) (W.failures out.new)
+        result }
+{
+    match sample_types(alloc, profile) {
+        Ok(types) => send_types(alloc, &types, out),
+        Err(TableFault::Read(fault)) => {
+            report_ending(err, paths, 0, &SourceEnd::Fault(fault));
+            Err(Failure::Faults)
+        }
+        Err(TableFault::OutOfMemory) => Err(Failure::OutOfMemory),
+    }
+}
+
+fn send_types<W: Outlet>(alloc: Global, types: &SampleTypes, out: &mut W) -> Result<(), Failure>
+    ensures sent { Sends (types_text types.now) (W.contents out.old) (W.contents out.new) result }
+    ensures flushed { Flushes (W.is_flushed out.new) (W.failures out.old) (W.failures out.new)
+        result }
+{
+    send_text(alloc, &TypesText::of(types), out)
+}

@@ -1,0 +1,2 @@
+-- The definitions that the contracts of page_source cite.
+pub mod Source

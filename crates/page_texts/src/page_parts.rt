@@ -1,0 +1,94 @@
+//! The data of a page, in parts.
+ghost use Rattle.std.specs.Prelude.{◌≡◌, ◌++◌, ◌∷◌, List, ℕ, codes, length, map, OnOk};
+ghost use Rattle.serde_json.specs.Data.{string};
+ghost use Rattle.page_texts.specs.Page.{drawing_data, list_data, page_text, source_data};
+ghost use Rattle.page_texts.specs.Drawn.{drawing_of, page_of, source_of};
+ghost use Rattle.page_texts.specs.checked.Kept.{AreAllKept, AreKept};
+ghost use Rattle.page_texts.specs.checked.Parts.{parts_text};
+ghost use Rattle.page_texts.specs.checked.SafeText.{safe_text};
+
+use crate::drawings::{Drawing, push_drawing};
+use crate::kept_boxes::{KeptBoxes, KeptDrawings};
+use crate::page_boxes::PageBox;
+use crate::pages::{Page, Source};
+use crate::parts::{Part, comma_if, push_literal, push_name, push_number, push_text};
+use call_tree::FrameTable;
+use std::alloc::AllocError;
+
+// Adds the data of a page whose boxes were kept.
+pub(crate) fn push_page<'p, 'k, B: PageBox>(
+    parts: &mut Vec<Part<'p, 'k>>,
+    page: &Page<'p, B>,
+    kept: &'k KeptDrawings,
+) -> Result<(), AllocError>
+    requires { AreKept
+        (map (drawing_of B.span B.other B.compared) page.now.drawings.now) kept.now }
+    ensures { OnOk result (parts_text parts.new.items ≡ parts_text parts.old.items
+        ++ page_text (page_of B.span B.other B.compared page.now)) }
+{
+    push_literal(parts, b"{\"drawings\":")?;
+    push_drawings(parts, page.drawings, &kept.drawings)?;
+    push_names(parts, &kept.names)?;
+    push_sources(parts, page.sources)?;
+    push_text(parts, b",\"title\":", page.title)?;
+    push_text(parts, b",\"view\":", page.view)?;
+    push_literal(parts, b"}")
+}
+
+// Adds the list of the drawings.
+fn push_drawings<'k, B: PageBox>(
+    parts: &mut Vec<Part<'_, 'k>>,
+    drawings: &[Drawing<'_, B>],
+    kept: &'k [KeptBoxes],
+) -> Result<(), AllocError>
+    requires { length drawings.now ≡ length kept.now }
+    ensures { OnOk result ((names : List (List ℕ))
+        → AreAllKept names (map (drawing_of B.span B.other B.compared) drawings.now) kept.now
+        → parts_text parts.new.items ≡ parts_text parts.old.items ++ safe_text (list_data
+        (map (drawing_data names) (map (drawing_of B.span B.other B.compared) drawings.now)))) }
+{
+    push_literal(parts, b"[")?;
+    for at in 0..kept.len() {
+        push_literal(parts, comma_if(at > 0))?;
+        push_drawing(parts, &drawings[at], &kept[at])?;
+    }
+    push_literal(parts, b"]")
+}
+
+// Adds the list of the names, after its key.
+fn push_names<'k>(parts: &mut Vec<Part<'_, 'k>>, names: &'k FrameTable) -> Result<(), AllocError>
+    ensures { OnOk result (parts_text parts.new.items ≡ parts_text parts.old.items
+        ++ (codes ",\"names\":" ++ safe_text (list_data (map string names.now)))) }
+{
+    push_literal(parts, b",\"names\":[")?;
+    for number in 0..names.len() {
+        push_name(parts, comma_if(number > 0), names.name(number))?;
+    }
+    push_literal(parts, b"]")
+}
+
+// Adds the list of the sources, after its key.
+fn push_sources<'p>(parts: &mut Vec<Part<'p, '_>>, sources: &[Source<'p>]) -> Result<(), AllocError>
+    ensures { OnOk result (parts_text parts.new.items ≡ parts_text parts.old.items
+        ++ (codes ",\"sources\":" ++ safe_text
+        (list_data (map (λ source. source_data (source_of source)) sources.now)))) }
+{
+    push_literal(parts, b",\"sources\":[")?;
+    for (i, source) in sources.iter().enumerate() {
+        push_literal(parts, comma_if(i > 0))?;
+        push_source(parts, source)?;
+    }
+    push_literal(parts, b"]")
+}
+
+// Adds a source.
+fn push_source<'p>(parts: &mut Vec<Part<'p, '_>>, source: &Source<'p>) -> Result<(), AllocError>
+    ensures { OnOk result (parts_text parts.new.items
+        ≡ parts_text parts.old.items ++ safe_text (source_data (source_of source.now))) }
+{
+    push_text(parts, b"{\"name\":", source.name)?;
+    push_text(parts, b",\"type\":", source.type_name)?;
+    push_text(parts, b",\"unit\":", source.unit)?;
+    push_number(parts, b",\"weight\":", u128::from(source.weight))?;
+    push_literal(parts, b"}")
+}

@@ -1,0 +1,147 @@
+//! The text of a page in parts: few where its boxes are many, and none long.
+ghost use Rattle.std.specs.Prelude.{◌≡◌, ◌++◌, decimal, map, OnOk};
+ghost use Rattle.json.specs.Print.{quoted};
+ghost use Rattle.serde_json.specs.Written.{comma_if};
+ghost use Rattle.page_texts.specs.Page.{whole_number, list_data};
+ghost use Rattle.page_texts.specs.ScriptSafe.{script_safe};
+ghost use Rattle.page_texts.specs.checked.Kept.{number_in};
+ghost use Rattle.page_texts.specs.checked.Parts.{part_text, parts_text};
+ghost use Rattle.page_texts.specs.checked.SafeText.{safe_text};
+
+use crate::kept_boxes::{Column, KeptBox};
+use std::alloc::AllocError;
+
+// How many numbers of a column are a part at most.
+const RUN: usize = 1024;
+
+// Boxes whose numbers in a column are written.
+#[derive(Clone, Copy)]
+pub(crate) struct Run<'a> {
+    pub(crate) column: Column,
+    pub(crate) boxes: &'a [KeptBox],
+    // Whether other numbers stand before theirs.
+    pub(crate) later: bool,
+}
+
+// A part of a text: of what is written on the page, or of what was kept.
+#[derive(Clone, Copy)]
+pub(crate) enum Part<'p, 'k> {
+    Literal(&'static [u8]),
+    Number(u128),
+    Text(&'p str),
+    Name(&'k str),
+    Numbers(Run<'k>),
+}
+
+// What stands before a value of a list.
+pub(crate) fn comma_if(later: bool) -> &'static [u8]
+    ensures { result.now ≡ comma_if later }
+{
+    if later { b"," } else { b"" }
+}
+
+// Adds a part.
+pub(crate) fn push_part<'p, 'k>(
+    parts: &mut Vec<Part<'p, 'k>>,
+    part: Part<'p, 'k>,
+) -> Result<(), AllocError>
+    ensures { OnOk result
+        (parts_text parts.new.items ≡ parts_text parts.old.items ++ part_text part.entry) }
+{
+    parts.push(part)?;
+    Ok(())
+}
+
+// Adds a literal piece.
+pub(crate) fn push_literal(
+    parts: &mut Vec<Part<'_, '_>>,
+    piece: &'static [u8],
+) -> Result<(), AllocError>
+    ensures { OnOk result
+        (parts_text parts.new.items ≡ parts_text parts.old.items ++ piece.now) }
+{
+    push_part(parts, Part::Literal(piece))
+}
+
+// Adds a literal piece and a number.
+pub(crate) fn push_number(
+    parts: &mut Vec<Part<'_, '_>>,
+    piece: &'static [u8],
+    number: u128,
+) -> Result<(), AllocError>
+    ensures { OnOk result
+        (parts_text parts.new.items ≡ parts_text parts.old.items ++ (piece.now ++ decimal number)) }
+{
+    push_literal(parts, piece)?;
+    push_part(parts, Part::Number(number))
+}
+
+// Adds a literal piece and a text in quotes, with its escapes.
+pub(crate) fn push_text<'p>(
+    parts: &mut Vec<Part<'p, '_>>,
+    piece: &'static [u8],
+    text: &'p str,
+) -> Result<(), AllocError>
+    ensures { OnOk result (parts_text parts.new.items
+        ≡ parts_text parts.old.items ++ (piece.now ++ script_safe (quoted text.now))) }
+{
+    push_literal(parts, piece)?;
+    push_part(parts, Part::Text(text))
+}
+
+// Adds a literal piece and a name in quotes, with its escapes.
+pub(crate) fn push_name<'k>(
+    parts: &mut Vec<Part<'_, 'k>>,
+    piece: &'static [u8],
+    name: &'k str,
+) -> Result<(), AllocError>
+    ensures { OnOk result (parts_text parts.new.items
+        ≡ parts_text parts.old.items ++ (piece.now ++ script_safe (quoted name.now))) }
+{
+    push_literal(parts, piece)?;
+    push_part(parts, Part::Name(name))
+}
+
+// Adds a literal piece and a list of numbers.
+pub(crate) fn push_numbers(
+    parts: &mut Vec<Part<'_, '_>>,
+    piece: &'static [u8],
+    numbers: &[u64],
+) -> Result<(), AllocError>
+    ensures { OnOk result (parts_text parts.new.items ≡ parts_text parts.old.items
+        ++ (piece.now ++ safe_text (list_data (map whole_number numbers.now)))) }
+{
+    push_literal(parts, piece)?;
+    push_literal(parts, b"[")?;
+    for (i, number) in numbers.iter().enumerate() {
+        push_number(parts, comma_if(i > 0), u128::from(*number))?;
+    }
+    push_literal(parts, b"]")
+}
+
+// Adds a literal piece and a column.
+pub(crate) fn push_column<'k>(
+    parts: &mut Vec<Part<'_, 'k>>,
+    piece: &'static [u8],
+    column: Column,
+    boxes: &'k [KeptBox],
+) -> Result<(), AllocError>
+    ensures { OnOk result (parts_text parts.new.items ≡ parts_text parts.old.items
+        ++ (piece.now ++ safe_text
+        (list_data (map (λ item. whole_number (number_in column item)) boxes.now)))) }
+{
+    push_literal(parts, piece)?;
+    push_literal(parts, b"[")?;
+    let mut at = 0;
+    while at < boxes.len() {
+        let end = at + RUN.min(boxes.len() - at);
+        let run = Run {
+            column,
+            boxes: &boxes[at..end],
+            later: at > 0,
+        };
+        push_part(parts, Part::Numbers(run))?;
+        at = end;
+    }
+    push_literal(parts, b"]")
+}

@@ -1,0 +1,71 @@
+-- The pages of the views: what they draw of the lists of samples.
+use Rattle.std.specs.Prelude.{ℕ, ◌/◌, List, [], ◌∷◌, map, codes, true, false, Option, Some, None}
+use Rattle.sample_tables.specs.declared.samples.Sample.{Sample}
+use Rattle.merged_stacks.specs.Timeline.{timeline, total_weight}
+use Rattle.merging.specs.Sums.{all_samples}
+use Rattle.flame_layout.specs.declared.boxes.SpanBox.{SpanBox}
+use Rattle.flame_layout.specs.Chart.{chart_of}
+use Rattle.flame_layout.specs.Graph.{graph_of}
+use Rattle.flame_layout.specs.Comparison.{compared_boxes_of}
+use Rattle.page_texts.specs.Page.{PageDrawing, PageSource, Page}
+use Rattle.page_texts.specs.Drawn.{source_of}
+use Rattle.page_views.specs.declared.headings.Heading.{Heading}
+
+-- the least weight of a box that is kept; where none is given, that of a pixel in a drawing of 1,200,000 pixels
+abbrev pub least_of : Option ℕ → ℕ → ℕ
+least_of None total = total / 1200000
+least_of (Some least) total = least
+
+-- what a page says beside its drawings, and the least weight of a box that it keeps, if one is given
+pub record PageHeading : Type 0 where
+  pub title : List ℕ
+  pub sources : List PageSource
+  pub least : Option ℕ
+
+abbrev pub heading_of : Heading → PageHeading
+heading_of heading = record {
+  title = heading.title.now;
+  sources = map source_of heading.sources.now;
+  least = heading.least;
+}
+
+abbrev pub page_with : PageHeading → List ℕ → List PageDrawing → Page
+page_with heading view drawings = record {
+  drawings = drawings;
+  sources = heading.sources;
+  title = heading.title;
+  view = view;
+}
+
+-- a page of these boxes alone
+abbrev pub plain_page : PageHeading → List ℕ → ℕ → List SpanBox → Page
+plain_page heading view total boxes = page_with heading view (record {
+  moment = None;
+  is_compared = false;
+  least = least_of heading.least total;
+  total = total;
+  boxes = map (λ span. record { span = span; other = 0 }) boxes;
+} ∷ [])
+
+-- the flame graph of all samples
+abbrev pub graph_page : PageHeading → List (List Sample) → Page
+graph_page heading lists = plain_page heading (codes "graph") (total_weight (all_samples lists)) (graph_of (all_samples lists))
+
+-- the flame chart of the lists one after another
+abbrev pub chart_page : PageHeading → List (List Sample) → Page
+chart_page heading lists = plain_page heading (codes "chart") (total_weight (timeline lists)) (chart_of (timeline lists))
+
+-- the flame graph of a profile, with the weights of the other
+abbrev pub compared_drawing : Option ℕ → List Sample → List Sample → PageDrawing
+compared_drawing least other samples = record {
+  moment = None;
+  is_compared = true;
+  least = least_of least (total_weight samples);
+  total = total_weight samples;
+  boxes = map (λ compared. record { span = compared.span; other = compared.before }) (compared_boxes_of other samples);
+}
+
+-- the flame graph of the profile before, and then that of the profile after
+abbrev pub comparison_page : PageHeading → List Sample → List Sample → Page
+comparison_page heading before after =
+    page_with heading (codes "compare") (compared_drawing heading.least after before ∷ compared_drawing heading.least before after ∷ [])

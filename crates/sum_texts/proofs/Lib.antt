@@ -1,0 +1,5 @@
+pub mod JsonLaws
+pub mod TableWidths
+pub mod TextPieces
+pub mod TopTexts
+mod WorkedTexts

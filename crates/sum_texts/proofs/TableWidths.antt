@@ -1,0 +1,38 @@
+-- How wide the columns are with one function more.
+use Rattle.std.proofs.Common.{◌≡◌, ℕ, ◌+◌, ◌<◌, max, List, [], ◌∷◌, ◌++◌, length, get_or, map, take, ap, ◌∙◌, arith}
+use Rattle.std.proofs.lemmas.List.{map_more}
+use Rattle.function_sums.specs.declared.sums.FunctionSum.{FunctionSum}
+use Rattle.sum_texts.specs.FunctionTable.{Entries, headings, entries_of, widest, lines_of}
+use Rattle.sum_texts.specs.checked.Widths.{widths_in, widths_of}
+use Rattle.sum_texts.specs.declared.widths.Widths.{Widths}
+
+widest-push : (column : Entries → List ℕ) (lines : List Entries) (line : Entries) → widest column (lines ++ line ∷ []) ≡ max (widest column lines) (length (column line))
+widest-push column [] line = swapped (length (column line))
+  where
+    swapped : (n : ℕ) → max n 0 ≡ max 0 n
+    swapped n = grind arith
+widest-push column (one ∷ lines) line = ap (max (length (column one))) (widest-push column lines line) ∙ regrouped (length (column one)) (widest column lines) (length (column line))
+  where
+    regrouped : (a b c : ℕ) → max a (max b c) ≡ max (max a b) c
+    regrouped a b c = grind arith
+
+-- as wide as needed for a line too
+abbrev pub widened : Widths → Entries → Widths
+widened widths line = record {
+  own = max widths.own (length line.own);
+  own_percent = max widths.own_percent (length line.own_percent);
+  total = max widths.total (length line.total);
+  total_percent = max widths.total_percent (length line.total_percent);
+}
+
+widths_in-push : (lines : List Entries) (line : Entries) → widths_in (lines ++ line ∷ []) ≡ widened (widths_in lines) line
+widths_in-push lines line i = record {
+  own = widest-push (λ entries. entries.own) lines line i;
+  own_percent = widest-push (λ entries. entries.own_percent) lines line i;
+  total = widest-push (λ entries. entries.total) lines line i;
+  total_percent = widest-push (λ entries. entries.total_percent) lines line i;
+}
+
+pub widths_more : (whole : ℕ) (sums : List FunctionSum) (i : ℕ) (d : FunctionSum) → i < length sums → widths_of whole (take (i + 1) sums) ≡ widened (widths_of whole (take i sums)) (entries_of whole (get_or sums i d))
+widths_more whole sums i d within =
+    ap (λ lines. widths_in (headings ∷ lines)) (map_more (entries_of whole) sums i d within) ∙ widths_in-push (lines_of whole (take i sums)) (entries_of whole (get_or sums i d))

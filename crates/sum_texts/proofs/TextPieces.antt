@@ -1,0 +1,93 @@
+-- The pieces of the texts one after another, and each by itself.
+use Rattle.std.proofs.Common.{◌≡◌, ℕ, suc, ◌+◌, ◌<◌, List, [], ◌∷◌, ◌++◌, false, length, get_or, map, codes, decimal, refl, sym, ap, ◌∙◌, arith, append_assoc}
+use Rattle.std.specs.List.{concat, flat_map}
+use Rattle.std.proofs.lemmas.List.{length-map, get_or-map}
+use Rattle.json.specs.Print.{escape_byte}
+use Rattle.serde_json.specs.Data.{Data, string}
+use Rattle.serde_json.specs.Written.{compact_text}
+use Rattle.function_sums.specs.declared.sums.FunctionSum.{FunctionSum}
+use Rattle.view_texts.specs.Json.{list_data}
+use Rattle.view_texts.proofs.JsonLists.{values_text, items_text-items_of}
+use Rattle.view_texts.proofs.TextPieces.{line_pieces-text, length-line_pieces}
+use Rattle.sum_texts.specs.FunctionJson.{function_data, functions_line}
+use Rattle.sum_texts.specs.Pieces.{table_pieces, functions_tail, functions_pieces}
+use Rattle.sum_texts.specs.FunctionTable.{Entries, headings, entries_of, lines_of, table_line, table_text}
+
+-- ---- the table
+
+-- the line of a function
+abbrev pub row_line : List Entries → ℕ → FunctionSum → List ℕ
+row_line lines whole sum = table_line lines (entries_of whole sum) sum.name
+
+rows-text : (lines : List Entries) (whole : ℕ) (sums : List FunctionSum) → concat (map (row_line lines whole) sums) ≡ flat_map (row_line lines whole) sums
+rows-text lines whole [] = refl
+rows-text lines whole (sum ∷ sums) = ap (λ text. row_line lines whole sum ++ text) (rows-text lines whole sums)
+
+pub table-text : (whole : ℕ) (sums : List FunctionSum) → concat (table_pieces whole sums) ≡ table_text whole sums
+unfolding table_text
+table-text whole sums =
+    let lines = lines_of whole sums in
+    ap (λ text. table_line lines headings (codes "name") ++ text) (rows-text lines whole sums)
+
+pub length-table_pieces : (whole : ℕ) (sums : List FunctionSum) → length (table_pieces whole sums) ≡ suc (length sums)
+length-table_pieces whole sums = ap suc (length-map sums (row_line (lines_of whole sums) whole))
+
+-- the piece of a function
+pub row_piece : (whole : ℕ) (sums : List FunctionSum) (at place : ℕ) (sum : FunctionSum) → at ≡ place + 1 → place < length sums
+    → get_or (table_pieces whole sums) at [] ≡ row_line (lines_of whole sums) whole (get_or sums place sum)
+row_piece whole sums at place sum e within =
+    let row = row_line (lines_of whole sums) whole in
+    ap (λ n. get_or (table_pieces whole sums) n []) (e ∙ suc_is place) ∙ get_or-map row sums place sum [] within
+  where
+    suc_is : (n : ℕ) → n + 1 ≡ suc n
+    suc_is n = omega arith
+
+-- ---- the line of JSON
+
+after_value : (key value rest end : List ℕ) → (key ++ (value ++ rest)) ++ end ≡ key ++ (value ++ (rest ++ end))
+after_value key value rest end = simp append_assoc
+
+-- the list's brackets stand with what is round it
+bracketed : (values : List Data) (after : List ℕ) → compact_text (list_data values) ++ after ≡ 91 ∷ (values_text false values ++ 93 ∷ after)
+bracketed values after = ap (λ text. 91 ∷ (text ++ after)) (items_text-items_of false values) ∙ ap (λ text. 91 ∷ text) (append_assoc (values_text false values) (93 ∷ []) after)
+
+abbrev last_member : List ℕ
+last_member = codes ",\"view\":\"top\"}"
+
+line-parts : (whole : ℕ) (sums : List FunctionSum) → functions_line whole sums ≡ codes "{\"functions\":[" ++ (values_text false (map function_data sums) ++ functions_tail whole)
+unfolding functions_line escape_byte
+line-parts whole sums =
+    let values = map function_data sums in
+    after_value (codes "{\"functions\":") (compact_text (list_data values)) (codes ",\"total\":" ++ (decimal whole ++ last_member)) (10 ∷ [])
+    ∙ ap (λ text. codes "{\"functions\":" ++ (compact_text (list_data values) ++ text)) (after_value (codes ",\"total\":") (decimal whole) last_member (10 ∷ []))
+    ∙ ap (λ text. codes "{\"functions\":" ++ text) (bracketed values (codes ",\"total\":" ++ (decimal whole ++ (last_member ++ 10 ∷ []))))
+
+pub functions-text : (whole : ℕ) (sums : List FunctionSum) → concat (functions_pieces whole sums) ≡ functions_line whole sums
+functions-text whole sums =
+    line_pieces-text (codes "{\"functions\":[") (functions_tail whole) (map function_data sums) ∙ sym (line-parts whole sums)
+
+pub length-functions_pieces : (whole : ℕ) (sums : List FunctionSum) → length (functions_pieces whole sums) ≡ length sums + 2
+length-functions_pieces whole sums =
+    length-line_pieces (codes "{\"functions\":[") (functions_tail whole) (map function_data sums) ∙ ap (λ n. n + 2) (length-map sums function_data)
+
+-- ---- a function in JSON
+
+function-text : (sum : FunctionSum) → compact_text (function_data sum)
+    ≡ codes "{\"name\":" ++ (compact_text (string sum.name) ++ (codes ",\"own\":" ++ (decimal sum.own ++ (codes ",\"total\":" ++ (decimal sum.total ++ 125 ∷ [])))))
+unfolding escape_byte
+function-text sum = refl
+
+in_turn : (o k1 v1 k2 v2 k3 v3 end : List ℕ) → (((o ++ (k1 ++ v1)) ++ (k2 ++ v2)) ++ (k3 ++ v3)) ++ end ≡ o ++ (k1 ++ (v1 ++ (k2 ++ (v2 ++ (k3 ++ (v3 ++ end))))))
+in_turn o k1 v1 k2 v2 k3 v3 end = simp append_assoc
+
+-- its members, each appended by one call
+pub function_written : (sum : FunctionSum) (name o o1 o2 o3 o4 : List ℕ) → name ≡ sum.name
+    → o1 ≡ o ++ (codes "{\"name\":" ++ compact_text (string name))
+    → o2 ≡ o1 ++ (codes ",\"own\":" ++ decimal sum.own)
+    → o3 ≡ o2 ++ (codes ",\"total\":" ++ decimal sum.total)
+    → o4 ≡ o3 ++ 125 ∷ []
+    → o4 ≡ o ++ compact_text (function_data sum)
+function_written sum name o o1 o2 o3 o4 n e1 e2 e3 e4 =
+    let pieces = in_turn o (codes "{\"name\":") (compact_text (string sum.name)) (codes ",\"own\":") (decimal sum.own) (codes ",\"total\":") (decimal sum.total) (125 ∷ [])
+    ∙ ap (λ text. o ++ text) (sym (function-text sum)) in
+    cc

@@ -1,0 +1,58 @@
+-- The table of functions: a line of headings, and a line for each function.
+use Rattle.std.specs.Prelude.{ℕ, ◌+◌, ◌-◌, ◌*◌, ◌/◌, ◌%◌, max, List, [], ◌∷◌, ◌++◌, length, map, replicate, codes, decimal}
+use Rattle.std.specs.List.{flat_map}
+use Rattle.function_sums.specs.declared.sums.FunctionSum.{FunctionSum}
+
+-- what part of the whole a weight is, in hundredths of a percent: the nearest number, and of two the greater
+abbrev pub hundredths : ℕ → ℕ → ℕ
+hundredths whole weight = (20000 * weight + whole) / (2 * whole)
+
+-- so many hundredths of a percent, with two decimals
+abbrev pub percent_text : ℕ → List ℕ
+percent_text parts = decimal (parts / 100) ++ (46 ∷ (48 + parts / 10 % 10) ∷ (48 + parts % 10) ∷ 37 ∷ [])
+
+-- what a line has before the name
+pub record Entries : Type 0 where
+  pub own : List ℕ
+  pub own_percent : List ℕ
+  pub total : List ℕ
+  pub total_percent : List ℕ
+
+abbrev pub headings : Entries
+headings = record { own = codes "own"; own_percent = codes "own%"; total = codes "total"; total_percent = codes "total%" }
+
+-- the weights of a function, and what parts of the whole they are
+abbrev pub entries_of : ℕ → FunctionSum → Entries
+entries_of whole sum = record {
+  own = decimal sum.own;
+  own_percent = percent_text (hundredths whole sum.own);
+  total = decimal sum.total;
+  total_percent = percent_text (hundredths whole sum.total);
+}
+
+-- the length of a column's longest entry
+abbrev pub widest : (Entries → List ℕ) → List Entries → ℕ
+widest column [] = 0
+widest column (entries ∷ lines) = max (length (column entries)) (widest column lines)
+
+-- an entry at the right of its column, and two spaces
+abbrev pub at_right : ℕ → List ℕ → List ℕ
+at_right width entry = replicate (width - length entry) 32 ++ (entry ++ 32 ∷ 32 ∷ [])
+
+-- a line of a table that has these lines
+abbrev pub table_line : List Entries → Entries → List ℕ → List ℕ
+table_line lines entries name =
+    at_right (widest (λ line. line.own) lines) entries.own
+    ++ (at_right (widest (λ line. line.own_percent) lines) entries.own_percent
+    ++ (at_right (widest (λ line. line.total) lines) entries.total
+    ++ (at_right (widest (λ line. line.total_percent) lines) entries.total_percent
+    ++ (name ++ 10 ∷ []))))
+
+-- the lines of a table, without their names
+abbrev pub lines_of : ℕ → List FunctionSum → List Entries
+lines_of whole sums = headings ∷ map (entries_of whole) sums
+
+unfoldable pub table_text : ℕ → List FunctionSum → List ℕ
+table_text whole sums =
+    table_line (lines_of whole sums) headings (codes "name")
+    ++ flat_map (λ sum. table_line (lines_of whole sums) (entries_of whole sum) sum.name) sums

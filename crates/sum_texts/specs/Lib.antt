@@ -1,0 +1,6 @@
+-- The definitions that the contracts of sum_texts cite.
+pub mod FunctionJson
+pub mod FunctionTable
+pub mod Pieces
+pub mod TopTexts
+pub mod checked

@@ -1,0 +1,21 @@
+-- The texts of the heaviest functions of some samples.
+use Rattle.std.specs.Prelude.{ℕ, List, take}
+use Rattle.sample_tables.specs.Samples.{total_weight}
+use Rattle.sample_tables.specs.declared.samples.Sample.{Sample}
+use Rattle.function_sums.specs.FunctionList.{functions_of}
+use Rattle.function_sums.specs.declared.sums.FunctionSum.{FunctionSum}
+use Rattle.run_options.specs.declared.orders.FunctionOrder.{FunctionOrder as Order}
+use Rattle.sum_texts.specs.FunctionJson.{functions_line}
+use Rattle.sum_texts.specs.FunctionTable.{table_text}
+
+-- the first functions in the order, so many
+abbrev pub top_functions : Order → ℕ → List Sample → List FunctionSum
+top_functions by rows samples = take rows (functions_of by samples)
+
+-- their table
+abbrev pub top_table : Order → ℕ → List Sample → List ℕ
+top_table by rows samples = table_text (total_weight samples) (top_functions by rows samples)
+
+-- and their line of JSON
+abbrev pub top_line : Order → ℕ → List Sample → List ℕ
+top_line by rows samples = functions_line (total_weight samples) (top_functions by rows samples)

@@ -1,0 +1,117 @@
+//! The line of JSON of functions.
+
+ghost use Rattle.std.specs.Prelude.{◌≡◌, ◌++◌, ◌<◌, ◌^◌, List, length, take, OnOk, OnErr};
+ghost use Rattle.std.specs.Io.{StartsWith};
+ghost use Rattle.std.specs.List.{concat};
+ghost use Rattle.serde_json.specs.Written.{comma_if, compact_text};
+ghost use Rattle.sample_tables.specs.Samples.{total_weight};
+ghost use Rattle.sample_tables.specs.declared.samples.Sample.{Sample};
+ghost use Rattle.function_sums.specs.FunctionSums.{AreFunctionSums};
+ghost use Rattle.run_options.specs.declared.orders.FunctionOrder.{FunctionOrder as Order};
+ghost use Rattle.sum_texts.specs.FunctionJson.{function_data, functions_line};
+ghost use Rattle.sum_texts.specs.Pieces.{functions_pieces, functions_tail};
+ghost use Rattle.sum_texts.specs.TopTexts.{top_line};
+
+use crate::first_sums::first_sums;
+use crate::json_parts::{append_number, append_quoted, comma_if};
+use byte_io::{Pieces, append_pieces};
+use function_sums::FunctionSum;
+use std::alloc::{AllocError, Global};
+
+/// The line of JSON of functions, as `append_sum_line` appends it. What stands before the functions,
+/// each function, and what stands after them is a piece.
+#[derive(Clone, Copy)]
+pub struct SumLine<'a> {
+    whole: u64,
+    sums: &'a [FunctionSum],
+}
+
+impl<'a> SumLine<'a> {
+    /// The line of the first functions of a list, and of no more than so many. The whole is the weight
+    /// of all samples.
+    pub fn of(sums: &'a [FunctionSum], rows: u64, whole: u64) -> SumLine<'a>
+        ensures text { concat (⟦<SumLine<'a> as Pieces>⟧.pieces result)
+            ≡ functions_line whole (take rows sums.now) }
+        ensures top { (by : Order) (samples : List Sample) → AreFunctionSums by samples sums.now
+            → total_weight samples ≡ whole
+            → concat (⟦<SumLine<'a> as Pieces>⟧.pieces result) ≡ top_line by rows samples }
+        ensures few { length (⟦<SumLine<'a> as Pieces>⟧.pieces result) < 2 ^ 64 }
+    {
+        let sums = first_sums(sums, rows);
+        SumLine { whole, sums }
+    }
+}
+
+impl Pieces for SumLine<'_> {
+    ghost pieces = { λ line. functions_pieces line.whole line.sums.now };
+
+    fn count(&self) -> usize {
+        self.sums.len() + 2
+    }
+
+    fn append_piece(&self, alloc: Global, at: usize, out: &mut Vec<u8>) -> Result<(), AllocError> {
+        if at == 0 {
+            out.extend_from_slice(b"{\"functions\":[")
+        } else if at <= self.sums.len() {
+            let place = at - 1;
+            append_function(alloc, out, place > 0, &self.sums[place])
+        } else {
+            append_tail(out, self.whole)
+        }
+    }
+}
+
+/// Appends the line of JSON of the first functions of a list. An `Err` changes nothing.
+pub fn append_sum_line(
+    alloc: Global,
+    out: &mut Vec<u8>,
+    sums: &[FunctionSum],
+    rows: u64,
+    whole: u64,
+) -> Result<(), AllocError>
+    ensures ok { OnOk result
+        (out.new.items ≡ out.old.items ++ functions_line whole (take rows sums.now)) }
+    ensures top { OnOk result ((by : Order) (samples : List Sample)
+        → AreFunctionSums by samples sums.now → total_weight samples ≡ whole
+        → out.new.items ≡ out.old.items ++ top_line by rows samples) }
+    ensures err { OnErr result (out.new.items ≡ out.old.items) }
+{
+    append_pieces(alloc, &SumLine::of(sums, rows, whole), out)
+}
+
+// Appends a function, after a comma where another stands before it, or its front.
+fn append_function(
+    alloc: Global,
+    out: &mut Vec<u8>,
+    later: bool,
+    sum: &FunctionSum,
+) -> Result<(), AllocError>
+    ensures ok { OnOk result (out.new.items
+        ≡ out.old.items ++ (comma_if later ++ compact_text (function_data sum.now))) }
+    ensures front { StartsWith out.new.items out.old.items }
+{
+    out.extend_from_slice(comma_if(later))?;
+    append_members(alloc, out, sum)
+}
+
+// Appends a function as an object, or its front.
+fn append_members(alloc: Global, out: &mut Vec<u8>, sum: &FunctionSum) -> Result<(), AllocError>
+    ensures ok { OnOk result
+        (out.new.items ≡ out.old.items ++ compact_text (function_data sum.now)) }
+    ensures front { StartsWith out.new.items out.old.items }
+{
+    append_quoted(alloc, out, b"{\"name\":", sum.name.get())?;
+    append_number(out, b",\"own\":", sum.own)?;
+    append_number(out, b",\"total\":", sum.total)?;
+    out.push(b'}')?;
+    Ok(())
+}
+
+// Appends what stands after the functions, or its front.
+fn append_tail(out: &mut Vec<u8>, whole: u64) -> Result<(), AllocError>
+    ensures ok { OnOk result (out.new.items ≡ out.old.items ++ functions_tail whole) }
+    ensures front { StartsWith out.new.items out.old.items }
+{
+    append_number(out, b"],\"total\":", whole)?;
+    out.extend_from_slice(b",\"view\":\"top\"}\n")
+}
