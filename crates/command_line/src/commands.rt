@@ -1,15 +1,15 @@
 //! The command line, as `clap` reads it and as its help shows it.
-ghost use Rattle.std.specs.Prelude.{◌≡◌, IfOk};
-ghost use Rattle.clap.specs.Words.{app_of};
-ghost use Rattle.command_line.specs.CommandLine.{chart_command, command_line, compare_command, fold_command, graph_command, top_command, types_command};
-ghost use Rattle.command_line.specs.checked.Apps.{as_app};
+ghost use Rattle.std.specs.Prelude.{◌≡◌, IfOk, map, true};
+ghost use Rattle.clap.specs.Words.{app_of, new_app, rule_of, with_subcommand};
+ghost use Rattle.command_line.specs.CommandLine.{chart_command, command, command_line, compare_command, fold_command, graph_command, top_command, types_command};
+ghost use Rattle.command_line.specs.checked.Apps.{all_simple, program};
 
 use crate::arguments::{
     boxes_flag, by_option, every_option, files, focus_option, format_option, hide_option,
     json_flag, least_option, lines_flag, one_file, page_flag, quiet_flag, ring_option, rows_option,
     title_option, type_option, width_option,
 };
-use clap::Command;
+use clap::{Arg, Command};
 use std::alloc::{AllocError, Global};
 
 // The day of the newest entry in CHANGELOG.md.
@@ -41,124 +41,194 @@ const TYPES_EXAMPLE: &str = "Example: flamecollect types cpu.pprof";
 pub(crate) fn command_line<'a>(alloc: Global) -> Result<Command<'a>, AllocError>
     ensures { IfOk result (λ line. app_of line ≡ command_line) }
 {
-    Command::new(alloc, "flamecollect")
-        .about("Flame graphs and flame charts of recorded stack samples")
+    let line = program(alloc)?;
+    let line = with_fold(alloc, line)?;
+    let line = with_graph(alloc, line)?;
+    let line = with_chart(alloc, line)?;
+    let line = with_compare(alloc, line)?;
+    let line = with_top(alloc, line)?;
+    with_types(alloc, line)
+}
+
+// The line without its commands.
+fn program<'a>(alloc: Global) -> Result<Command<'a>, AllocError>
+    ensures { IfOk result (λ line. app_of line ≡ program) }
+{
+    let about = "Flame graphs and flame charts of recorded stack samples";
+    described(alloc, "flamecollect", about, NOTES)
         .version(VERSION)
-        .after_help(NOTES)
-        .bin_name("flamecollect")?
         .no_binary_name(true)
         .subcommand_required(true)
-        .subcommand(fold_command(alloc)?)?
-        .subcommand(graph_command(alloc)?)?
-        .subcommand(chart_command(alloc)?)?
-        .subcommand(compare_command(alloc)?)?
-        .subcommand(top_command(alloc)?)?
-        .subcommand(types_command(alloc)?)
+        .bin_name("flamecollect")
 }
 
-fn fold_command<'a>(alloc: Global) -> Result<Command<'a>, AllocError>
-    ensures { IfOk result (λ command. app_of command ≡ as_app fold_command) }
+fn with_fold<'a>(alloc: Global, line: Command<'a>) -> Result<Command<'a>, AllocError>
+    ensures { IfOk result (λ new. app_of new ≡ with_subcommand (app_of line.entry) fold_command) }
 {
-    Command::new(alloc, "fold")
-        .about("Write each stack once with the sum of its weights, as folded lines")
-        .after_help(FOLD_EXAMPLE)
-        .arg(type_option(alloc))?
-        .arg(format_option(alloc))?
-        .arg(focus_option(alloc))?
-        .arg(hide_option(alloc))?
-        .arg(ring_option(alloc))?
-        .arg(lines_flag(alloc))?
-        .arg(quiet_flag(alloc))?
-        .arg(files(alloc))
+    let arguments = vec![in alloc;
+        type_option(alloc),
+        format_option(alloc),
+        focus_option(alloc),
+        hide_option(alloc),
+        ring_option(alloc),
+        lines_flag(alloc),
+        quiet_flag(alloc),
+        files(alloc),
+    ]?;
+    with_command(
+        alloc,
+        line,
+        "fold",
+        "Write each stack once with the sum of its weights, as folded lines",
+        FOLD_EXAMPLE,
+        arguments,
+    )
 }
 
-fn graph_command<'a>(alloc: Global) -> Result<Command<'a>, AllocError>
-    ensures { IfOk result (λ command. app_of command ≡ as_app graph_command) }
+fn with_graph<'a>(alloc: Global, line: Command<'a>) -> Result<Command<'a>, AllocError>
+    ensures { IfOk result (λ new. app_of new ≡ with_subcommand (app_of line.entry) graph_command) }
 {
-    Command::new(alloc, "graph")
-        .about("Write the flame graph as a line of JSON")
-        .after_help(GRAPH_EXAMPLE)
-        .arg(width_option(alloc))?
-        .arg(type_option(alloc))?
-        .arg(format_option(alloc))?
-        .arg(focus_option(alloc))?
-        .arg(hide_option(alloc))?
-        .arg(ring_option(alloc))?
-        .arg(every_option(alloc))?
-        .arg(lines_flag(alloc))?
-        .arg(quiet_flag(alloc))?
-        .arg(page_flag(alloc))?
-        .arg(title_option(alloc))?
-        .arg(least_option(alloc))?
-        .arg(files(alloc))
+    let arguments = vec![in alloc;
+        width_option(alloc),
+        type_option(alloc),
+        format_option(alloc),
+        focus_option(alloc),
+        hide_option(alloc),
+        ring_option(alloc),
+        every_option(alloc),
+        lines_flag(alloc),
+        quiet_flag(alloc),
+        page_flag(alloc),
+        title_option(alloc),
+        least_option(alloc),
+        files(alloc),
+    ]?;
+    with_command(
+        alloc,
+        line,
+        "graph",
+        "Write the flame graph as a line of JSON",
+        GRAPH_EXAMPLE,
+        arguments,
+    )
 }
 
-fn chart_command<'a>(alloc: Global) -> Result<Command<'a>, AllocError>
-    ensures { IfOk result (λ command. app_of command ≡ as_app chart_command) }
+fn with_chart<'a>(alloc: Global, line: Command<'a>) -> Result<Command<'a>, AllocError>
+    ensures { IfOk result (λ new. app_of new ≡ with_subcommand (app_of line.entry) chart_command) }
 {
-    Command::new(alloc, "chart")
-        .about("Write the flame chart as a line of JSON")
-        .after_help(CHART_EXAMPLE)
-        .arg(width_option(alloc))?
-        .arg(type_option(alloc))?
-        .arg(format_option(alloc))?
-        .arg(focus_option(alloc))?
-        .arg(hide_option(alloc))?
-        .arg(ring_option(alloc))?
-        .arg(lines_flag(alloc))?
-        .arg(quiet_flag(alloc))?
-        .arg(page_flag(alloc))?
-        .arg(title_option(alloc))?
-        .arg(least_option(alloc))?
-        .arg(files(alloc))
+    let arguments = vec![in alloc;
+        width_option(alloc),
+        type_option(alloc),
+        format_option(alloc),
+        focus_option(alloc),
+        hide_option(alloc),
+        ring_option(alloc),
+        lines_flag(alloc),
+        quiet_flag(alloc),
+        page_flag(alloc),
+        title_option(alloc),
+        least_option(alloc),
+        files(alloc),
+    ]?;
+    with_command(
+        alloc,
+        line,
+        "chart",
+        "Write the flame chart as a line of JSON",
+        CHART_EXAMPLE,
+        arguments,
+    )
 }
 
-fn compare_command<'a>(alloc: Global) -> Result<Command<'a>, AllocError>
-    ensures { IfOk result (λ command. app_of command ≡ as_app compare_command) }
+fn with_compare<'a>(alloc: Global, line: Command<'a>) -> Result<Command<'a>, AllocError>
+    ensures { IfOk result (λ new. app_of new ≡ with_subcommand (app_of line.entry) compare_command) }
 {
-    Command::new(alloc, "compare")
-        .about("Write each stack of two profiles with its weight in both")
-        .after_help(COMPARE_EXAMPLE)
-        .arg(width_option(alloc))?
-        .arg(type_option(alloc))?
-        .arg(format_option(alloc))?
-        .arg(focus_option(alloc))?
-        .arg(hide_option(alloc))?
-        .arg(ring_option(alloc))?
-        .arg(boxes_flag(alloc))?
-        .arg(lines_flag(alloc))?
-        .arg(quiet_flag(alloc))?
-        .arg(page_flag(alloc))?
-        .arg(title_option(alloc))?
-        .arg(least_option(alloc))?
-        .arg(one_file(alloc, "before", "BEFORE", "The profile before"))?
-        .arg(one_file(alloc, "after", "AFTER", "The profile after"))
+    let arguments = vec![in alloc;
+        width_option(alloc),
+        type_option(alloc),
+        format_option(alloc),
+        focus_option(alloc),
+        hide_option(alloc),
+        ring_option(alloc),
+        boxes_flag(alloc),
+        lines_flag(alloc),
+        quiet_flag(alloc),
+        page_flag(alloc),
+        title_option(alloc),
+        least_option(alloc),
+        one_file(alloc, "before", "BEFORE", "The profile before"),
+        one_file(alloc, "after", "AFTER", "The profile after"),
+    ]?;
+    with_command(
+        alloc,
+        line,
+        "compare",
+        "Write each stack of two profiles with its weight in both",
+        COMPARE_EXAMPLE,
+        arguments,
+    )
 }
 
-fn top_command<'a>(alloc: Global) -> Result<Command<'a>, AllocError>
-    ensures { IfOk result (λ command. app_of command ≡ as_app top_command) }
+fn with_top<'a>(alloc: Global, line: Command<'a>) -> Result<Command<'a>, AllocError>
+    ensures { IfOk result (λ new. app_of new ≡ with_subcommand (app_of line.entry) top_command) }
 {
-    Command::new(alloc, "top")
-        .about("Write the functions with the greatest weights")
-        .after_help(TOP_EXAMPLE)
-        .arg(rows_option(alloc))?
-        .arg(by_option(alloc))?
-        .arg(json_flag(alloc))?
-        .arg(type_option(alloc))?
-        .arg(format_option(alloc))?
-        .arg(focus_option(alloc))?
-        .arg(hide_option(alloc))?
-        .arg(ring_option(alloc))?
-        .arg(lines_flag(alloc))?
-        .arg(quiet_flag(alloc))?
-        .arg(files(alloc))
+    let arguments = vec![in alloc;
+        rows_option(alloc),
+        by_option(alloc),
+        json_flag(alloc),
+        type_option(alloc),
+        format_option(alloc),
+        focus_option(alloc),
+        hide_option(alloc),
+        ring_option(alloc),
+        lines_flag(alloc),
+        quiet_flag(alloc),
+        files(alloc),
+    ]?;
+    with_command(
+        alloc,
+        line,
+        "top",
+        "Write the functions with the greatest weights",
+        TOP_EXAMPLE,
+        arguments,
+    )
 }
 
-fn types_command<'a>(alloc: Global) -> Result<Command<'a>, AllocError>
-    ensures { IfOk result (λ command. app_of command ≡ as_app types_command) }
+fn with_types<'a>(alloc: Global, line: Command<'a>) -> Result<Command<'a>, AllocError>
+    ensures { IfOk result (λ new. app_of new ≡ with_subcommand (app_of line.entry) types_command) }
 {
-    Command::new(alloc, "types")
-        .about("Write the sample types of a pprof profile, each with its unit")
-        .after_help(TYPES_EXAMPLE)
-        .arg(one_file(alloc, "file", "FILE", "The profile"))
+    let arguments = vec![in alloc; one_file(alloc, "file", "FILE", "The profile")]?;
+    with_command(
+        alloc,
+        line,
+        "types",
+        "Write the sample types of a pprof profile, each with its unit",
+        TYPES_EXAMPLE,
+        arguments,
+    )
+}
+
+// The line with one more command, which has these arguments.
+fn with_command<'a>(
+    alloc: Global,
+    line: Command<'a>,
+    name: &'a str,
+    about: &'a str,
+    example: &'a str,
+    arguments: Vec<Arg<'a>>,
+) -> Result<Command<'a>, AllocError>
+    ensures { IfOk result (λ new. all_simple (map rule_of arguments.entry.items) ≡ true
+        → app_of new ≡ with_subcommand (app_of line.entry)
+        (command name.entry.now (map rule_of arguments.entry.items))) }
+{
+    let command = described(alloc, name, about, example).args(arguments)?;
+    line.subcommand(command)
+}
+
+// A command without arguments, and what its help says of it.
+fn described<'a>(alloc: Global, name: &'a str, about: &'a str, notes: &'a str) -> Command<'a>
+    ensures { app_of result ≡ new_app name.entry.now }
+{
+    Command::new(alloc, name).about(about).after_help(notes)
 }

@@ -3,5 +3,6 @@ mod examples;
 mod filters;
 mod forms;
 mod help;
+mod refused;
 mod top;
 mod words;

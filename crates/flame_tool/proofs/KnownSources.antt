@@ -26,32 +26,15 @@ use Rattle.ring_collect.specs.Collection.{AreWhole, seen_as_rest}
 use Rattle.merged_stacks.specs.Timeline.{samples_of}
 use Rattle.command_line.specs.declared.plans.Plan.{Plan}
 use Rattle.merging.specs.Sources.{asked_rest, rests_of, read_bytes, source_rest}
-use Rattle.merging.specs.declared.sources.Source.{Source}
-use Rattle.flame_tool.specs.checked.Opening.{IsInput, IsOpened, AreOpened}
+use Rattle.source_lists.specs.declared.sources.Source.{Source}
+use Rattle.opened_sources.specs.Opening.{IsInput, IsOpened, AreOpened}
 use Rattle.flame_tool.specs.Requests.{all_found, rest_of, rest_at, rest_in, rests_at, known_rests}
-use Rattle.flame_tool.specs.Pages.{shown_text}
+use Rattle.sent_views.specs.Pages.{shown_text}
 use Rattle.flame_tool.specs.Runs.{IsClean, IsFault, lists_of, IsTextOf, Shows, HasFault}
-use Rattle.flame_tool.specs.checked.Failures.{has_fault, ends_in_fault, Fails, FailsToShow}
-use Rattle.flame_tool.specs.declared.failures.Failure.{Failure}
-use Rattle.flame_tool.specs.declared.failures.Failure.TheVariants.{TooManyFiles, Unreadable, TooLarge, OutOfMemory, NoThread, Unfinished, Faults, Output}
-
--- ---- opening sources
-
--- the source of one path more
-pub opened_more : {A : Type 0} (asked : Option Format) (bytes : A → List ℕ) (files : List ℕ → Option (List ℕ)) (paths : List A) (at : ℕ) (path : A) (sources : List Source) (source : Source)
-    → at < length paths → path ≡ get_or paths at path → AllZip (IsOpened asked files) (map bytes (take at paths)) sources → IsOpened asked files (bytes path) source
-    → AllZip (IsOpened asked files) (map bytes (take (at + 1) paths)) (sources ++ source ∷ [])
-opened_more asked bytes files paths at path sources source below is opened here =
-    subst (λ ps. AllZip (IsOpened asked files) ps (sources ++ source ∷ []))
-    (sym (ap (map bytes) (take_more paths at path below ∙ ap (λ p. take at paths ++ p ∷ []) (sym is)) ∙ map-append bytes (take at paths) (path ∷ [])))
-    (all_zipped_more (IsOpened asked files) (map bytes (take at paths)) sources (bytes path) source opened here)
-
--- the sources of all paths, of which there is one
-pub opened_whole : {A : Type 0} (asked : Option Format) (bytes : A → List ℕ) (input : Option (List ℕ)) (files : List ℕ → Option (List ℕ)) (paths : List A) (at : ℕ) (sources : List Source)
-    → 0 < length paths → length paths ≤ at → AllZip (IsOpened asked files) (map bytes (take at paths)) sources → AreOpened asked input files (map bytes paths) sources
-opened_whole asked bytes input files [] at sources some all opened = absurd (omega arith)
-opened_whole asked bytes input files (path ∷ paths) at sources some all opened =
-    subst (λ ps. AllZip (IsOpened asked files) (map bytes ps) sources) (take_all at (path ∷ paths) all) opened
+use Rattle.flame_tool.specs.checked.Failures.{Fails, FailsToShow}
+use Rattle.opened_sources.specs.Failures.{has_fault, ends_in_fault}
+use Rattle.opened_sources.specs.declared.failures.Failure.{Failure}
+use Rattle.opened_sources.specs.declared.failures.Failure.TheVariants.{TooManyFiles, Unreadable, TooLarge, OutOfMemory, NoThread, Unfinished, Faults, Output}
 
 -- ---- what is known of opened sources
 

@@ -21,13 +21,14 @@ use Rattle.command_line.specs.declared.plans.View.{View}
 use Rattle.command_line.specs.declared.plans.View.TheVariants.{Fold, Graph, Chart, Pairs, PairBoxes, Top}
 use Rattle.flame_tool.specs.Requests.{AsksForHelp, asked_faults, asked_plan, known_rests}
 use Rattle.command_line.specs.declared.plans.PageForm.{PageForm}
-use Rattle.flame_tool.specs.Pages.{page_text, shown_text, text_in}
-use Rattle.flame_tool.specs.Texts.{IsOrderless, graph_text, view_text}
+use Rattle.sent_views.specs.Pages.{page_text, shown_text, text_in}
+use Rattle.source_views.specs.Texts.{IsOrderless, graph_text, view_text}
 use Rattle.flame_tool.specs.checked.Forms.{IsOfView, IsOrderlessIn}
 use Rattle.flame_tool.specs.Runs.{lists_of, text_of, GainsFront, Shows, ShowsFront, ShowsSamples, HasFault}
-use Rattle.flame_tool.specs.checked.Failures.{Fails, IsHelp, KeepsOutput, status_of}
-use Rattle.flame_tool.specs.declared.failures.Failure.{Failure}
-use Rattle.flame_tool.specs.declared.failures.Failure.TheVariants.{TooManyFiles, Unreadable, TooLarge, OutOfMemory, NoThread, Unfinished, Faults, Output}
+use Rattle.flame_tool.specs.checked.Failures.{Fails, IsHelp, KeepsOutput}
+use Rattle.opened_sources.specs.Failures.{status_of}
+use Rattle.opened_sources.specs.declared.failures.Failure.{Failure}
+use Rattle.opened_sources.specs.declared.failures.Failure.TheVariants.{TooManyFiles, Unreadable, TooLarge, OutOfMemory, NoThread, Unfinished, Faults, Output}
 
 -- ---- a failed run of a plan
 

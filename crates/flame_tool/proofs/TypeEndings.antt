@@ -22,10 +22,11 @@ use Rattle.view_texts.specs.Types.{types_text}
 use Rattle.flame_tool.specs.Requests.{known_rests, rest_of, rests_at}
 use Rattle.flame_tool.specs.Runs.{HasFault, IsFault, Shows, ShowsFront, ShowsSamples}
 use Rattle.flame_tool.specs.TypeRuns.{HasTableFault, ShowsTypes, ShowsTypesFront, known_profile, table_fault}
-use Rattle.flame_tool.specs.checked.Failures.{Fails, KeepsOutput, Sends, status_of}
+use Rattle.flame_tool.specs.checked.Failures.{Fails, KeepsOutput}
+use Rattle.opened_sources.specs.Failures.{Sends, status_of}
 use Rattle.flame_tool.specs.checked.TypeFailures.{FailsTypes}
-use Rattle.flame_tool.specs.declared.failures.Failure.{Failure}
-use Rattle.flame_tool.specs.declared.failures.Failure.TheVariants.{TooManyFiles, Unreadable, TooLarge, OutOfMemory, NoThread, Unfinished, Faults, Output}
+use Rattle.opened_sources.specs.declared.failures.Failure.{Failure}
+use Rattle.opened_sources.specs.declared.failures.Failure.TheVariants.{TooManyFiles, Unreadable, TooLarge, OutOfMemory, NoThread, Unfinished, Faults, Output}
 
 -- ---- a profile with a fault in its tables is read up to that fault
 

@@ -11,7 +11,7 @@ use Rattle.folded_lines.proofs.Computing.{computing}
 use Rattle.merged_stacks.specs.Merged.{merged, stacks_of, sum_at}
 use Rattle.flame_tool.specs.Requests.{asked_plan, known_rests}
 use Rattle.flame_tool.specs.Runs.{lists_of}
-use Rattle.flame_tool.specs.Texts.{view_text}
+use Rattle.source_views.specs.Texts.{view_text}
 
 -- three files, of which one is named as a profile and is none
 abbrev two_files : List ℕ → Option (List ℕ)

@@ -1,11 +1,7 @@
 -- The definitions that the contracts of flame_tool cite. Those of the crates below it are passed on.
-pub mod Pages
 pub mod Requests
 pub mod Runs
-pub mod SumViews
-pub mod Texts
 pub mod TypeRuns
-pub mod Views
 pub mod checked
 pub use Rattle.byte_io.specs.Calls
 pub use Rattle.byte_io.specs.Files
@@ -21,10 +17,15 @@ pub use Rattle.merging.specs.Snapshots
 pub use Rattle.merging.specs.Sources
 pub use Rattle.merging.specs.Sums
 pub use Rattle.merging.specs.TreeSinkState
+pub use Rattle.opened_sources.specs.Names
 pub use Rattle.page_texts.specs.Document
 pub use Rattle.page_texts.specs.Page
 pub use Rattle.run_options.specs.Filters
 pub use Rattle.run_options.specs.Formats
+pub use Rattle.sent_views.specs.Pages
+pub use Rattle.source_views.specs.SumViews
+pub use Rattle.source_views.specs.Texts
+pub use Rattle.source_views.specs.Views
 pub use Rattle.sum_texts.specs.FunctionJson
 pub use Rattle.sum_texts.specs.FunctionTable
 pub use Rattle.sum_texts.specs.TopTexts

@@ -12,7 +12,7 @@ use Rattle.command_line.specs.declared.plans.Form.{Form}
 use Rattle.command_line.specs.declared.plans.Form.TheVariants as form
 use Rattle.command_line.specs.declared.plans.Plan.{Plan}
 use Rattle.view_texts.specs.Fold.{fold_text}
-use Rattle.flame_tool.specs.Pages.{shown_text}
+use Rattle.sent_views.specs.Pages.{shown_text}
 
 -- all of the source was read
 abbrev pub IsClean : SourceEnd → Type 0

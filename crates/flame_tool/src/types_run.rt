@@ -2,16 +2,15 @@
 ghost use Rattle.std.specs.Prelude.{◌≡◌, IfErr, IfSome, IsErrOf, OnOk, length};
 ghost use Rattle.view_texts.specs.Types.{types_text};
 ghost use Rattle.flame_tool.specs.TypeRuns.{known_profile, ShowsTypes};
-ghost use Rattle.flame_tool.specs.checked.Failures.{Flushes, KeepsOutput, Sends};
+ghost use Rattle.flame_tool.specs.checked.Failures.{KeepsOutput};
+ghost use Rattle.opened_sources.specs.Failures.{Flushes, Sends};
 ghost use Rattle.flame_tool.specs.checked.TypeFailures.{FailsTypes};
 
-use crate::failures::Failure;
-use crate::messages::report_ending;
-use crate::sent_views::send_text;
-use crate::source_files::named;
 use byte_io::{Files, Outlet};
 use command_line::Plan;
+use opened_sources::{Failure, named, report_ending};
 use profile_tables::{SampleTypes, TableFault, sample_types};
+use sent_views::send_text;
 use stack_core::SourceEnd;
 use std::alloc::Global;
 use view_texts::TypesText;

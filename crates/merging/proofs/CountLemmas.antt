@@ -1,12 +1,14 @@
 -- How often sources stand in an order.
-use Rattle.std.proofs.Common.{◌≡◌, ◌<◌, ◌≤◌, ◌+◌, ℕ, List, [], ◌∷◌, ◌++◌, length, take, drop, get_or, set, max, sym, ap, ◌∙◌, arith, inl, inr, refl}
+use Rattle.std.proofs.Common.{◌≡◌, ◌<◌, ◌≤◌, ◌+◌, ℕ, List, [], ◌∷◌, ◌++◌, length, take, drop, get_or, set, max, sym, ap, ◌∙◌, arith, inl, inr, refl, Option, Some, None}
+use Rattle.std.specs.Prelude.{IfSome}
 use Rattle.std.proofs.lemmas.Bool.{cases_eq, cases_lt}
 use Rattle.std.proofs.lemmas.List.{ext_get_or, length-set, get_or-set_same, get_or-set_other, get_or_past, take_all, take-take, take-append-drop}
 use Rattle.std.proofs.lemmas.List.FromFn.{length-map-range_with_len, get_or-map-range_with_len}
 use Rattle.std.proofs.lemmas.List.Recursion.{max_push}
 use Rattle.stack_core.specs.Interleaving.{count_of, counts_at, list_of, IsInterleaving}
 use Rattle.sample_tables.specs.declared.samples.Sample.{Sample}
-use Rattle.stack_core.proofs.InterleavingLemmas.{count_of-append, count_of_at, count_of_past}
+use Rattle.stack_core.proofs.InterleavingLemmas.{count_of-append, count_of_past}
+use Rattle.source_lists.proofs.OrderLemmas.{count_of-push}
 use Rattle.merging.specs.Snapshots.{sources_seen, source_counts, first_lists}
 
 pub sources_seen-push : (order : List ℕ) (source : ℕ) → sources_seen (order ++ source ∷ []) ≡ max (sources_seen order) (source + 1)
@@ -17,10 +19,10 @@ count_of_unseen : (order : List ℕ) (source : ℕ) → sources_seen order ≤ s
 count_of_unseen [] source h = refl
 count_of_unseen (first ∷ order) source h = count_of_past source first order (λ e. omega (arith, h, e)) ∙ count_of_unseen order source (omega (arith, h))
 
-pub count_of-push : (order : List ℕ) (source other : ℕ) → ((source ≡ other) → count_of other (order ++ source ∷ []) ≡ count_of other order + 1) × ((source ≡ other → ⊥) → count_of other (order ++ source ∷ []) ≡ count_of other order)
-count_of-push order source other =
-    let both = count_of-append other order (source ∷ []) in
-    ((λ same. omega (arith, both, count_of_at other source [] same)), (λ apart. omega (arith, both, count_of_past other source [] apart)))
+-- no source was counted yet
+pub none_counted : (every : Option ℕ) (counts : List ℕ) → counts ≡ [] → IfSome every (λ every. counts ≡ source_counts [])
+none_counted None counts e = tt
+none_counted (Some every) counts e = e
 
 pub length-source_counts : (order : List ℕ) → length (source_counts order) ≡ sources_seen order
 length-source_counts order = length-map-range_with_len (λ source. count_of source order) 0 (sources_seen order)

@@ -1,41 +1,47 @@
 -- What a run gathered, from what was collected and what its sink holds.
-use Rattle.std.proofs.Common.{◌≡◌, ◌<◌, ◌≤◌, ◌+◌, ◌*◌, ◌^◌, ℕ, zero, suc, Bool, true, false, ◌&&◌, cond, List, [], ◌∷◌, length, get_or, take, map, sum_by, sym, ap, ◌∙◌, subst, arith, refl, Option, All}
+use Rattle.std.proofs.Common.{◌≡◌, ◌<◌, ◌≤◌, ◌+◌, ℕ, zero, suc, Bool, true, false, ◌&&◌, cond, List, [], ◌∷◌, length, get_or, take, map, sum_by, sym, ap, ◌∙◌, subst, arith, refl, Option, All, Some, None}
+use Rattle.std.specs.Option.{option_to_list}
 use Rattle.std.specs.List.{AllByRecursion, range_with_len}
 use Rattle.std.specs.Str.{bytes_eq}
 use Rattle.std.specs.FinMap.{entries}
 use Rattle.std.proofs.lemmas.List.{length-map}
-use Rattle.std.proofs.lemmas.List.Elements.{All-take, All-weaker, All-append}
+use Rattle.std.proofs.lemmas.List.Elements.{All-take, All-weaker}
 use Rattle.std.proofs.lemmas.List.FromFn.{length-map-range_with_len}
-use Rattle.std.proofs.lemmas.List.Sums.{sum_by-append, sum_by-take-le, sum_by-cons}
-use Rattle.std.proofs.lemmas.Option.{get_or_from_slice_get}
+use Rattle.std.proofs.lemmas.List.Sums.{sum_by-take-le, sum_by-cons}
 use Rattle.sample_tables.specs.declared.samples.Sample.{Sample}
-use Rattle.sample_tables.specs.declared.samples.TheConstants.{FRAME_LIMIT, WEIGHT_LIMIT}
-use Rattle.stack_core.specs.Reading.{Rest, IsSourceLimited}
+use Rattle.sample_tables.specs.declared.samples.TheConstants.{FRAME_LIMIT}
+use Rattle.stack_core.specs.Reading.{IsSourceLimited}
 use Rattle.sample_tables.specs.Samples.{IsLimited}
 use Rattle.stack_core.specs.Ledgers.{ListState}
-use Rattle.stack_core.specs.Told.{IsCollected}
 use Rattle.stack_core.specs.Interleaving.{IsInterleaving, interleaved, sources_of, list_of, counts_at}
 use Rattle.stack_core.proofs.InterleavingLemmas.{sources_of-interleaved, IsInterleaving-AreOf}
-use Rattle.ring_collect.specs.Collection.{Collects, seen_as_rest}
-use Rattle.ring_collect.proofs.RunLemmas.{at_index}
 use Rattle.call_tree.specs.CallTree.{Tree}
 use Rattle.call_tree.specs.PathSums.{begins_with, total_of}
 use Rattle.call_tree.proofs.TreeSums.{total_of-cons}
 use Rattle.call_tree.specs.Listing.{named, AreIn}
-use Rattle.merged_stacks.specs.Timeline.{Stack, samples_of, timeline, drawn, total_weight as weight_sum}
+use Rattle.merged_stacks.specs.Timeline.{Stack, samples_of, total_weight as weight_sum}
 use Rattle.std.specs.Cmp.Lexicographic.{pointwise}
 use Rattle.flame_layout.specs.Chart.{begins_alike}
 use Rattle.flame_layout.specs.Paths.{total_at, own_at}
 use Rattle.merged_stacks.specs.Merged.{weighed}
-use Rattle.merged_stacks.proofs.Timelines.{total_weight-drawn}
 use Rattle.flame_layout.proofs.PathWords.{total_at-is, own_at-is}
 use Rattle.flame_layout.proofs.TreeSamples.{entries_named, path_in}
 use Rattle.merging.specs.declared.snapshots.Snapshot.{Snapshot}
 use Rattle.merging.specs.Sums.{all_samples, HasSumsOf, IsDrawable}
 use Rattle.merging.specs.Snapshots.{samples_of_pairs, first_samples, first_lists, snapshot_samples, IsSnapshot, AreSnapshots}
 use Rattle.merging.specs.Gathered.{AreLimited, IsGathered}
+use Rattle.source_lists.proofs.ListLemmas.{AreSmall, depths_small, lists_small, total_fits}
+pub use Rattle.source_lists.proofs.ListLemmas.{timeline_weight}
 use Rattle.merging.specs.TreeSinkState.{TreeSinkState}
 use Rattle.merging.proofs.PairSums.{sum_by-of_lists, sum_by-first}
+
+-- ---- the setting of a sink
+
+pub same_every : (one other : Option ℕ) → option_to_list one ≡ option_to_list other → one ≡ other
+same_every None None e = refl
+same_every None (Some other) e = cc
+same_every (Some one) None e = cc
+same_every (Some one) (Some other) e = ap Some (cc)
 
 -- ---- samples with the same sums
 
@@ -51,54 +57,8 @@ sums-same names tree one other h same =
       stacks = λ path. sym (own path) ∙ h.stacks path;
     }
 
--- ---- the limits of what was collected
+-- ---- the first samples of lists within the limits
 
-limited-stopped : (rest : Rest) (i : ℕ) → IsSourceLimited rest.samples → IsSourceLimited (take i rest.samples)
-limited-stopped rest i h = record {
-  each = All-take IsLimited i rest.samples h.each;
-  total = omega (arith, h.total, sum_by-take-le (λ (sample : Sample). sample.weight) rest.samples i);
-}
-
-limited-collected : (may_stop may_go : ℕ → ℕ → Type 0) (source : ℕ) (rest list : Rest) → IsCollected may_stop may_go source rest list → IsSourceLimited rest.samples → IsSourceLimited list.samples
-limited-collected may_stop may_go source rest list (IsCollected.Whole go is) h = subst (λ (r : Rest). IsSourceLimited r.samples) (sym is) h
-limited-collected may_stop may_go source rest list (IsCollected.StoppedAt i within stop go is) h = subst (λ (r : Rest). IsSourceLimited r.samples) (sym is) (limited-stopped rest i h)
-
-pub collected-limited : (may_stop may_go : ℕ → ℕ → Type 0) (rests : List Rest) (lists : List ListState) → Collects may_stop may_go rests lists → All (λ rest. IsSourceLimited rest.samples) rests → All (λ list. IsSourceLimited list.samples) lists
-collected-limited may_stop may_go rests lists h limits k d l =
-    let many = h.count in
-    let list = at_index lists k l in
-    let rest = at_index rests k (omega arith) in
-    let is = get_or_from_slice_get lists k list.0 d list.1 in
-    let limited = subst (λ (r : Rest). IsSourceLimited r.samples) (get_or_from_slice_get rests k rest.0 rest.0 rest.1) (limits k rest.0 (omega arith)) in
-    subst (λ (s : ListState). IsSourceLimited s.samples) (sym is) (limited-collected may_stop may_go k rest.0 (seen_as_rest list.0) (h.each k rest.0 list.0 rest.1 list.1) limited)
-
--- ---- lists within the limits
-
--- at most 64 lists of samples, each within the limits of a source
-pub record AreSmall (lists : List (List Sample)) : Type 0 where
-  pub few : length lists ≤ 64
-  pub each : AllByRecursion IsSourceLimited lists
-
-total_small : (lists : List (List Sample)) → AllByRecursion IsSourceLimited lists → weight_sum (all_samples lists) ≤ length lists * WEIGHT_LIMIT
-total_small [] h = omega arith
-total_small (list ∷ lists) h = omega (arith, sum_by-append (λ (sample : Sample). sample.weight) list (all_samples lists), h.0.total, total_small lists h.1)
-
-pub total_fits : (lists : List (List Sample)) → AreSmall lists → weight_sum (all_samples lists) < 2 ^ 64
-total_fits lists h = omega (arith, total_small lists h.each, h.few)
-
-pub depths_small : (lists : List (List Sample)) → AllByRecursion IsSourceLimited lists → All (λ sample. length sample.stack ≤ FRAME_LIMIT) (all_samples lists)
-depths_small [] h = λ k d l. absurd (omega (arith, l))
-depths_small (list ∷ lists) h =
-    All-append (λ sample. length sample.stack ≤ FRAME_LIMIT) list (all_samples lists) (All-weaker IsLimited (λ sample. length sample.stack ≤ FRAME_LIMIT) (λ sample limited. limited.depth) list h.0.each) (depths_small lists h.1)
-
-small-lists : (lists : List ListState) → All (λ list. IsSourceLimited list.samples) lists → AllByRecursion IsSourceLimited (samples_of lists)
-small-lists [] h = tt
-small-lists (list ∷ lists) h = (h 0 list (omega arith), small-lists lists (λ k d l. h (suc k) d (omega (arith, l))))
-
-pub lists_small : (lists : List ListState) → AreLimited lists → AreSmall (samples_of lists)
-lists_small lists h = record { few = omega (arith, h.few, length-map lists (λ list. list.samples)); each = small-lists lists h.each }
-
--- the first samples of such lists
 list_small : (lists : List (List Sample)) → AllByRecursion IsSourceLimited lists → (source : ℕ) → IsSourceLimited (list_of lists source)
 list_small [] h source = record { each = λ k d l. absurd (omega (arith, l)); total = omega arith }
 list_small (list ∷ lists) h zero = h.0
@@ -196,12 +156,3 @@ pub snapshots_drawable : (lists : List ListState) (order : List ℕ) (every : Op
 snapshots_drawable lists order every names tree snapshots h =
     All-weaker (IsSnapshot names order (λ m. snapshot_samples m order (samples_of lists))) (λ snapshot. IsDrawable names snapshot.tree)
     (λ snapshot is. drawable names snapshot.tree (first_lists snapshot.at order (samples_of lists)) is.sums (first_small snapshot.at order (samples_of lists) (lists_small lists h.limits))) snapshots h.made.each
-
--- the timeline weighs what the lists do
-pub timeline_weight : (lists : List (List Sample)) → weight_sum (timeline lists) ≡ weight_sum (all_samples lists)
-timeline_weight [] = refl
-timeline_weight (list ∷ lists) =
-    omega (arith, sum_by-append (λ (sample : Sample). sample.weight) (drawn list) (timeline lists), total_weight-drawn list, timeline_weight lists, sum_by-append (λ (sample : Sample). sample.weight) list (all_samples lists))
-
-pub timeline_fits : (lists : List ListState) → AreLimited lists → weight_sum (timeline (samples_of lists)) < 2 ^ 64
-timeline_fits lists h = omega (arith, timeline_weight (samples_of lists), total_fits (samples_of lists) (lists_small lists h))

@@ -1,18 +1,13 @@
 -- What a run gathered.
-use Rattle.std.specs.Prelude.{◌≤◌, ℕ, List, length, All, Option}
+use Rattle.std.specs.Prelude.{ℕ, List, Option}
 use Rattle.stack_core.specs.Interleaving.{IsInterleaving}
 use Rattle.stack_core.specs.Ledgers.{ListState}
-use Rattle.stack_core.specs.Reading.{IsSourceLimited}
 use Rattle.call_tree.specs.CallTree.{Tree}
 use Rattle.merged_stacks.specs.Timeline.{samples_of}
 use Rattle.merging.specs.declared.snapshots.Snapshot.{Snapshot}
 use Rattle.merging.specs.Snapshots.{snapshot_samples, AreSnapshots}
 use Rattle.merging.specs.Sums.{all_samples, HasSumsOf}
-
--- the lists of a run, and the order in which their samples came
-pub record ListsState : Type 0 where
-  pub lists : List ListState
-  pub order : List ℕ
+pub use Rattle.source_lists.specs.Lists.{ListsState, AreLimited, AreOrdered}
 
 -- the lists, the order in which their samples came, and what was merged of them meanwhile
 pub record GatheredState : Type 0 where
@@ -22,16 +17,6 @@ pub record GatheredState : Type 0 where
   pub names : List (List ℕ)
   pub tree : Tree
   pub snapshots : List Snapshot
-
--- at most 64 lists, each within the limits of a source
-pub record AreLimited (lists : List ListState) : Type 0 where
-  pub few : length lists ≤ 64
-  pub each : All (λ list. IsSourceLimited list.samples) lists
-
--- the order is one of the lists, and they are within the limits
-pub record AreOrdered (lists : List ListState) (order : List ℕ) : Type 0 where
-  pub limits : AreLimited lists
-  pub ordered : IsInterleaving order (samples_of lists)
 
 -- the order is one of the lists, the tree has their sums, and the snapshots are those of the order
 pub record IsGathered (lists : List ListState) (order : List ℕ) (every : Option ℕ) (names : List (List ℕ)) (tree : Tree) (snapshots : List Snapshot) : Type 0 where

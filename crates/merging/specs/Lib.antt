@@ -1,8 +1,8 @@
 -- The definitions that the contracts of merging cite.
 pub mod Gathered
 pub mod Snapshots
-pub mod Sources
 pub mod Sums
 pub mod TreeSinkState
-pub mod WholeRuns
 pub mod checked
+pub use Rattle.source_lists.specs.Sources
+pub use Rattle.source_lists.specs.WholeRuns

@@ -1,7 +1,4 @@
 -- What the insides of the crate keep, which the checks prove: no public contract stands on it.
-pub mod Filtering
-pub mod KeptStacks
 pub mod Merging
-pub mod Readers
 pub mod TakenRows
 pub mod Tallies

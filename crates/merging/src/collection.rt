@@ -1,30 +1,24 @@
 //! A run whose samples are merged as they arrive.
 
-ghost use Rattle.std.specs.Prelude.{◌≡◌, ◌≤◌, ◌<◌, ◌++◌, ℕ, [], All, IfOk, IfSome, IsErrOf, length, map};
+ghost use Rattle.std.specs.Prelude.{◌≡◌, ◌≤◌, ◌<◌, ℕ, All, IfOk, IfSome, IsErrOf, length};
 ghost use Rattle.std.specs.Arc.{arc_value};
-ghost use Rattle.std.specs.Option.{option_to_list};
 ghost use Rattle.stack_core.specs.Interleaving.{IsInterleaving, interleaved};
-ghost use Rattle.stack_core.specs.Reading.{IsSourceLimited};
 ghost use Rattle.call_tree.specs.FrameTable.{HasDistinctNames};
 ghost use Rattle.ring_collect.specs.Collection.{Collects, AreWhole};
 ghost use Rattle.merged_stacks.specs.Timeline.{samples_of};
-ghost use Rattle.merging.specs.Sources.{rests_of, whole_rests_of};
-ghost use Rattle.merging.specs.checked.Readers.{filtered_rest, reader_rest, reader_told};
+ghost use Rattle.source_lists.specs.Sources.{rests_of};
 ghost use Rattle.merging.specs.Snapshots.{snapshot_samples, AreSnapshots};
 ghost use Rattle.merging.specs.Sums.{all_samples, HasSumsOf, IsDrawable};
 ghost use Rattle.merging.specs.Gathered.{AreLimited, IsGathered};
 
-use crate::filtered_reader::{FilteredReader, filter_all};
 use crate::snapshots::Snapshot;
-use crate::source_lists::SourceLists;
-use crate::source_reader::SourceReader;
-use crate::sources::Source;
 use crate::tree_sink::TreeSink;
 use call_tree::{CallTree, FrameTable};
-use ring_collect::{CollectFault, Collected, collect};
-use run_options::{Options, RingSize};
+use ring_collect::CollectFault;
+use run_options::Options;
+use source_lists::{Source, SourceLists, read_into};
 use stack_core::{Gate, SourceList};
-use std::alloc::{AllocError, Global};
+use std::alloc::Global;
 use std::marker::Model;
 use std::sync::{Arc, Wait};
 use std::thread::Threads;
@@ -63,13 +57,11 @@ impl Model for Gathered {
 
 impl Gathered {
     /// What a run collected, with the sink that it fed, which held nothing before.
-    fn of(run: Collected, sink: TreeSink) -> Gathered
-        requires limits { AreLimited run.lists.items }
-        requires ordered { IsInterleaving run.order.items (samples_of run.lists.items) }
-        requires taken { sink.taken ≡ interleaved run.order.items (samples_of run.lists.items) }
+    fn of(sources: SourceLists, sink: TreeSink) -> Gathered
+        requires taken { sink.taken ≡ interleaved sources.order (samples_of sources.lists) }
         ensures state { result ≡ record {
-          lists = run.lists.items;
-          order = run.order.items;
+          lists = sources.lists;
+          order = sources.order;
           every = sink.every;
           names = sink.names;
           tree = sink.tree;
@@ -78,11 +70,10 @@ impl Gathered {
         ensures gathered { IsGathered result.lists result.order result.every
             result.names result.tree result.snapshots }
     {
+        let _lists = sources.lists();
+        let _order = sources.order();
         sink.recall_merged();
-        Gathered {
-            sources: SourceLists::of(run),
-            sink,
-        }
+        Gathered { sources, sink }
     }
 
     /// What was collected, without what was merged.
@@ -139,92 +130,6 @@ impl Gathered {
     }
 }
 
-/// A reader for each source, which has told nothing.
-pub(crate) fn readers_of(
-    alloc: Global,
-    sources: Vec<Source>,
-    options: &Options,
-) -> Result<Vec<SourceReader>, AllocError>
-    ensures rests { IfOk result (λ readers.
-        map reader_rest readers.items ≡ whole_rests_of options.now sources.items) }
-    ensures limits { IfOk result (λ readers.
-        All (λ rest. IsSourceLimited rest.samples) (whole_rests_of options.now sources.items)) }
-    ensures told { IfOk result (λ readers.
-        All (λ reader. reader_told reader ≡ record { names = []; stacks = [] }) readers.items) }
-{
-    let mut readers = Vec::with_capacity(alloc, sources.len())?;
-    for source in sources {
-        readers.push(SourceReader::over(alloc, source, options)?)?;
-    }
-    Ok(readers)
-}
-
-/// A reader for each source that gives what the filter keeps.
-fn filtered_readers_of(
-    alloc: Global,
-    sources: Vec<Source>,
-    options: &Options,
-) -> Result<Vec<FilteredReader<SourceReader>>, AllocError>
-    ensures rests { IfOk result (λ readers.
-        map filtered_rest readers.items ≡ rests_of options.now sources.items) }
-    ensures limits { IfOk result (λ readers.
-        All (λ rest. IsSourceLimited rest.samples) (rests_of options.now sources.items)) }
-{
-    let readers = readers_of(alloc, sources, options)?;
-    filter_all(alloc, readers, &options.filter)
-}
-
-/// A reader for each source that gives what the filter keeps, and a sink for all.
-pub(crate) fn prepare(
-    alloc: Global,
-    sources: Vec<Source>,
-    options: &Options,
-    every: Option<u64>,
-) -> Result<(Vec<FilteredReader<SourceReader>>, TreeSink), AllocError>
-    requires { IfSome every (λ every. 1 ≤ every) }
-    ensures rests { IfOk result (λ made.
-        map filtered_rest made.0.items ≡ rests_of options.now sources.items) }
-    ensures limits { IfOk result (λ made.
-        All (λ rest. IsSourceLimited rest.samples) (rests_of options.now sources.items)) }
-    ensures count { IfOk result (λ made. length made.0.items ≡ length sources.items) }
-    ensures taken { IfOk result (λ made. made.1.taken ≡ []) }
-    ensures every { IfOk result (λ made. made.1.every ≡ every) }
-{
-    let readers = filtered_readers_of(alloc, sources, options)?;
-    let sink = TreeSink::new(alloc, every)?;
-    Ok((readers, sink))
-}
-
-/// Collects the samples of the readers, and feeds the sink. It stands alone, since that a reader may go to
-/// another thread is found where there is little else to look through.
-pub(crate) fn run_readers<
-    T: Threads + Wait + Copy + Send + 'static,
-    G: Gate + Send + Sync + Drop + 'static,
->(
-    rt: &T,
-    alloc: Global,
-    readers: Vec<FilteredReader<SourceReader>>,
-    ring: RingSize,
-    gate: Arc<G>,
-    sink: &mut TreeSink,
-) -> Result<Collected, CollectFault>
-    requires { length readers.items ≤ 64 }
-    ensures lists { IfOk result (λ run.
-        Collects (G.may_stop (arc_value gate)) (G.may_go (arc_value gate))
-        (map filtered_rest readers.items) run.lists.items) }
-    ensures whole { ((source index : ℕ) → G.may_stop (arc_value gate) source index → ⊥)
-        → IfOk result (λ run. AreWhole (map filtered_rest readers.items) run.lists.items) }
-    ensures order { IfOk result (λ run.
-        IsInterleaving run.order.items (samples_of run.lists.items)) }
-    ensures sink { IfOk result (λ run. sink.new.taken
-        ≡ sink.old.taken ++ interleaved run.order.items (samples_of run.lists.items)) }
-    ensures unfinished { (source : ℕ) → IsErrOf result (CollectFault.Unfinished source)
-        → source < length readers.items }
-    ensures setting { option_to_list sink.new.every ≡ option_to_list sink.old.every }
-{
-    collect(rt, alloc, readers, ring, gate, sink)
-}
-
 /// Reads and collects all sources at the same time, each in a thread of its own and through a ring of
 /// its own, and merges their samples as they arrive: the lists, the order, the tree and the snapshots of
 /// a run, without boxes. At most 64 sources.
@@ -262,10 +167,7 @@ pub fn gather<T: Threads + Wait + Copy + Send + 'static, G: Gate + Send + Sync +
     ensures refused { (source : ℕ) → IsErrOf result (CollectFault.Unfinished source)
         → source < length sources.items }
 {
-    let Ok((readers, sink)) = prepare(alloc, sources, options, options.every) else {
-        return Err(CollectFault::OutOfMemory);
-    };
-    let mut sink = sink;
-    let run = run_readers(rt, alloc, readers, options.ring, gate, &mut sink)?;
-    Ok(Gathered::of(run, sink))
+    let mut sink = TreeSink::new(alloc, options.every)?;
+    let sources = read_into(rt, alloc, sources, options, gate, &mut sink)?;
+    Ok(Gathered::of(sources, sink))
 }

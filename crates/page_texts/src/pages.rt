@@ -15,7 +15,7 @@ use crate::kept_boxes::KeptDrawings;
 use crate::page_boxes::PageBox;
 use crate::page_parts::push_page;
 use crate::part_texts::PartText;
-use crate::parts::push_literal;
+use crate::parts::push_literals;
 use byte_io::{Outlet, PieceFault, append_pieces, send_pieces};
 use page_source::{head, tail};
 use std::alloc::{AllocError, Global};
@@ -99,9 +99,9 @@ fn document<'p, 'k, B: PageBox>(
     ensures few { IfOk result (λ text. length text.parts.items < 2 ^ 64) }
 {
     let mut parts = Vec::new(alloc);
-    push_literal(&mut parts, head().as_bytes())?;
+    push_literals(&mut parts, head())?;
     push_page(&mut parts, page, kept)?;
-    push_literal(&mut parts, tail().as_bytes())?;
+    push_literals(&mut parts, tail())?;
     let _count = parts.len();
     Ok(PartText { parts })
 }

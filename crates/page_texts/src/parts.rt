@@ -1,5 +1,6 @@
 //! The text of a page in parts: few where its boxes are many, and none long.
 ghost use Rattle.std.specs.Prelude.{◌≡◌, ◌++◌, decimal, map, OnOk};
+ghost use Rattle.std.specs.List.{flat_map};
 ghost use Rattle.json.specs.Print.{quoted};
 ghost use Rattle.serde_json.specs.Written.{comma_if};
 ghost use Rattle.page_texts.specs.Page.{whole_number, list_data};
@@ -61,6 +62,20 @@ pub(crate) fn push_literal(
         (parts_text parts.new.items ≡ parts_text parts.old.items ++ piece.now) }
 {
     push_part(parts, Part::Literal(piece))
+}
+
+// Adds literal pieces, one after another.
+pub(crate) fn push_literals(
+    parts: &mut Vec<Part<'_, '_>>,
+    pieces: &[&'static str],
+) -> Result<(), AllocError>
+    ensures { OnOk result (parts_text parts.new.items
+        ≡ parts_text parts.old.items ++ flat_map (λ piece. piece.now) pieces.now) }
+{
+    for piece in pieces {
+        push_literal(parts, piece.as_bytes())?;
+    }
+    Ok(())
 }
 
 // Adds a literal piece and a number.

@@ -1,19 +1,18 @@
 //! Pages of a comparison: the flame graphs of two profiles, each beside the other.
-ghost use Rattle.std.specs.Prelude.{◌≡◌, ◌≢◌, ◌<◌, ◌^◌, OnOk, OnErr, IfOk, IsErrOf};
+ghost use Rattle.std.specs.Prelude.{◌≡◌, ◌≢◌, ◌<◌, ◌^◌, None, OnOk, OnErr, IsErrOf};
 ghost use Rattle.std.specs.Io.KnownBytes.{Appends};
 ghost use Rattle.byte_io.specs.Calls.{one_more};
 ghost use Rattle.byte_io.specs.Pieces.{AppendsFront};
-ghost use Rattle.flame_layout.specs.Comparison.{compared_boxes_of};
 ghost use Rattle.merged_stacks.specs.Timeline.{total_weight};
 ghost use Rattle.page_texts.specs.Document.{document_text};
 ghost use Rattle.page_views.specs.Pages.{comparison_page, heading_of, least_of};
 
 use crate::headings::{Heading, least_of};
 use byte_io::{Outlet, PieceFault};
-use flame_layout::{ComparedBox, compare, compared_boxes};
+use flame_layout::{ComparedBox, draw_comparison};
 use page_texts::{Drawing, Page, send_page};
 use stack_core::SourceList;
-use std::alloc::{AllocError, Global};
+use std::alloc::Global;
 
 /// Sends the page of the comparison of two profiles, as `send_page` does: the flame graph of the first with
 /// the weights of the second, and then that of the second with the weights of the first.
@@ -36,8 +35,8 @@ pub fn send_comparison_page<W: Outlet>(
         → W.failures out.new ≡ one_more (W.failures out.old) }
     ensures unfailed { result ≢ Err PieceFault.Output → W.failures out.new ≡ W.failures out.old }
 {
-    let first = boxes_beside(alloc, after, before)?;
-    let second = boxes_beside(alloc, before, after)?;
+    let first = draw_comparison(alloc, after, before)?;
+    let second = draw_comparison(alloc, before, after)?;
     let drawings = [
         compared_drawing(&first, before.total() as u64, heading.least),
         compared_drawing(&second, after.total() as u64, heading.least),
@@ -51,22 +50,7 @@ pub fn send_comparison_page<W: Outlet>(
     send_page(alloc, &page, out)
 }
 
-// The boxes of the flame graph of a profile, each with the weight of its path in the other.
-fn boxes_beside(
-    alloc: Global,
-    other: &SourceList,
-    drawn: &SourceList,
-) -> Result<Vec<ComparedBox>, AllocError>
-    requires other { total_weight other.now.samples < 2 ^ 64 }
-    requires drawn { total_weight drawn.now.samples < 2 ^ 64 }
-    ensures { IfOk result (λ boxes.
-        boxes.items ≡ compared_boxes_of other.now.samples drawn.now.samples) }
-{
-    let rows = compare(alloc, other, drawn)?;
-    compared_boxes(alloc, &rows)
-}
-
-// A drawing of such boxes.
+// A drawing of the boxes of a comparison.
 fn compared_drawing(
     boxes: &[ComparedBox],
     total: u64,

@@ -54,7 +54,9 @@ fn collected<T: Threads + Wait + Copy + Send + 'static>(
 
 // Whether a document is the head, these data and the tail.
 fn is_page(rt: &impl Abort, alloc: Global, page: &[u8], data: &str) -> Result<(), AllocError> {
-    let wanted = format!(in alloc; "{}{}{}", head(), data, tail())?;
+    let head = head().concat(alloc)?;
+    let tail = tail().concat(alloc)?;
+    let wanted = format!(in alloc; "{head}{data}{tail}")?;
     assert!(rt; page == wanted.as_bytes());
     Ok(())
 }

@@ -2,6 +2,7 @@
 
 use super::words::{has_files, options_are_defaults, planned, width};
 use crate::{PlanFault, View};
+use std::alloc::Global;
 use std::test::Fail;
 
 #[test]
@@ -13,23 +14,27 @@ fn example_of_the_readme(rt: HostRuntime) -> Result<(), Fail> {
     Ok(())
 }
 
-// A fault is shown as the text that it has.
+// The fault of the words is shown as the text that it has.
+fn is_shown(alloc: Global, line: &str) -> Result<bool, PlanFault> {
+    match planned(alloc, line) {
+        Err(fault) => is_its_text(alloc, &fault),
+        Ok(_) => Ok(false),
+    }
+}
+
+fn is_its_text(alloc: Global, fault: &PlanFault) -> Result<bool, PlanFault> {
+    let shown = fault.to_string(alloc)?;
+    Ok(match fault {
+        PlanFault::Words(text) | PlanFault::Help(text) => shown.as_str() == text.as_str(),
+        PlanFault::OutOfMemory => shown.as_str() == "out of memory",
+    })
+}
+
 #[test]
 fn texts_of_faults(rt: HostRuntime) -> Result<(), Fail> {
     for line in ["graph --width 0", "compare a", "--help", "fold -h"] {
-        match planned(rt.alloc(), line) {
-            Err(fault) => {
-                let shown = fault.to_string(rt.alloc())?;
-                let (PlanFault::Words(text) | PlanFault::Help(text)) = fault else {
-                    assert!(rt; false, "{line}");
-                    continue;
-                };
-                assert_eq!(rt; shown.as_str(), text.as_str(), "{line}");
-            }
-            Ok(_) => assert!(rt; false, "{line}"),
-        }
+        assert!(rt; is_shown(rt.alloc(), line)?, "{line}");
     }
-    let shown = PlanFault::OutOfMemory.to_string(rt.alloc())?;
-    assert_eq!(rt; shown.as_str(), "out of memory");
+    assert!(rt; is_its_text(rt.alloc(), &PlanFault::OutOfMemory)?);
     Ok(())
 }

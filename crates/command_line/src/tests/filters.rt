@@ -1,16 +1,33 @@
 //! Worked command lines with filters.
 
+use super::forms::is_refused;
+use super::help::helps;
 use super::words::{are, planned};
-use crate::PlanFault;
+use crate::{Plan, PlanFault};
+use std::alloc::Global;
+use std::process::Abort;
 use std::test::Fail;
+
+fn is_filtered(plan: &Plan) -> bool {
+    let filter = &plan.options.filter;
+    are(&filter.focus, &["b", "a"]) && are(&filter.hide, &["c"])
+}
+
+fn expect_filtered(rt: &impl Abort, alloc: Global, line: &str) -> Result<(), PlanFault> {
+    let plan = planned(alloc, line)?;
+    assert!(rt; is_filtered(&plan), "{line}");
+    Ok(())
+}
 
 #[test]
 fn filters_of_each_command(rt: HostRuntime) -> Result<(), Fail> {
-    for command in ["fold", "graph", "chart", "compare a b"] {
-        let line = format!(in rt.alloc(); "{command} --focus b --hide=c --focus a")?;
-        let plan = planned(rt.alloc(), line.as_str())?;
-        assert!(rt; are(&plan.options.filter.focus, &["b", "a"]), "{command}");
-        assert!(rt; are(&plan.options.filter.hide, &["c"]), "{command}");
+    for line in [
+        "fold --focus b --hide=c --focus a",
+        "graph --focus b --hide=c --focus a",
+        "chart --focus b --hide=c --focus a",
+        "compare a b --focus b --hide=c --focus a",
+    ] {
+        expect_filtered(&rt, rt.alloc(), line)?;
     }
     Ok(())
 }
@@ -18,21 +35,19 @@ fn filters_of_each_command(rt: HostRuntime) -> Result<(), Fail> {
 #[test]
 fn refused_filters(rt: HostRuntime) -> Result<(), Fail> {
     for line in ["fold --focus", "graph --focus=", "compare a b --hide="] {
-        match planned(rt.alloc(), line) {
-            Err(PlanFault::Words(text)) => assert!(rt; text.as_str().starts_with("error: ")),
-            answer => assert!(rt; false, "{line} gives {answer:?}"),
-        }
+        assert!(rt; is_refused(rt.alloc(), line, "error: "), "{line}");
     }
     Ok(())
 }
 
 #[test]
 fn filters_have_a_heading(rt: HostRuntime) -> Result<(), Fail> {
-    match planned(rt.alloc(), "fold --help") {
-        Err(PlanFault::Help(text)) => {
-            assert!(rt; text.as_str().contains("\nFilters:\n      --focus <NAME> "));
-        }
-        answer => assert!(rt; false, "{answer:?}"),
-    }
+    assert!(rt;
+        helps(
+            rt.alloc(),
+            "fold --help",
+            "\nFilters:\n      --focus <NAME> "
+        )
+    );
     Ok(())
 }

@@ -2,7 +2,16 @@
 
 use super::words::planned;
 use crate::PlanFault;
+use std::alloc::Global;
 use std::test::Fail;
+
+// Help is shown, and has this part.
+pub(crate) fn helps(alloc: Global, line: &str, part: &str) -> bool {
+    match planned(alloc, line) {
+        Err(PlanFault::Help(text)) => text.as_str().contains(part),
+        _ => false,
+    }
+}
 
 #[test]
 fn help_of_each_command(rt: HostRuntime) -> Result<(), Fail> {
@@ -37,44 +46,43 @@ fn help_of_each_command(rt: HostRuntime) -> Result<(), Fail> {
         ),
     ];
     for (line, usage) in usages {
-        match planned(rt.alloc(), line) {
-            Err(PlanFault::Help(text)) => assert!(rt; text.as_str().contains(usage), "{line}"),
-            answer => assert!(rt; false, "{line} gives {answer:?}"),
-        }
+        assert!(rt; helps(rt.alloc(), line, usage), "{line}");
     }
     Ok(())
 }
 
 #[test]
 fn help_lists_the_commands(rt: HostRuntime) -> Result<(), Fail> {
-    match planned(rt.alloc(), "--help") {
-        Err(PlanFault::Help(text)) => {
-            for command in [
-                "\n  fold ",
-                "\n  graph ",
-                "\n  chart ",
-                "\n  compare ",
-                "\n  top ",
-                "\n  types ",
-            ] {
-                assert!(rt; text.as_str().contains(command));
-            }
-        }
-        answer => assert!(rt; false, "{answer:?}"),
+    let commands = [
+        "\n  fold ",
+        "\n  graph ",
+        "\n  chart ",
+        "\n  compare ",
+        "\n  top ",
+        "\n  types ",
+    ];
+    for command in commands {
+        assert!(rt; helps(rt.alloc(), "--help", command));
     }
     Ok(())
+}
+
+// One line is shown, which begins with the program's name and a year.
+fn shows_the_version(alloc: Global, line: &str) -> bool {
+    match planned(alloc, line) {
+        Err(PlanFault::Help(text)) => is_version(text.as_str()),
+        _ => false,
+    }
+}
+
+fn is_version(text: &str) -> bool {
+    text.starts_with("flamecollect 2") && text.lines().count() == 1
 }
 
 #[test]
 fn version(rt: HostRuntime) -> Result<(), Fail> {
     for line in ["--version", "-V"] {
-        match planned(rt.alloc(), line) {
-            Err(PlanFault::Help(text)) => {
-                assert!(rt; text.as_str().starts_with("flamecollect 2"), "{line}");
-                assert_eq!(rt; text.as_str().lines().count(), 1, "{line}");
-            }
-            answer => assert!(rt; false, "{line} gives {answer:?}"),
-        }
+        assert!(rt; shows_the_version(rt.alloc(), line), "{line}");
     }
     Ok(())
 }
@@ -98,10 +106,7 @@ fn help_tells_formats_and_examples(rt: HostRuntime) -> Result<(), Fail> {
         ("compare --help", "\nRarely needed:\n      --ring <N> "),
     ];
     for (line, part) in parts {
-        match planned(rt.alloc(), line) {
-            Err(PlanFault::Help(text)) => assert!(rt; text.as_str().contains(part), "{line}"),
-            answer => assert!(rt; false, "{line} gives {answer:?}"),
-        }
+        assert!(rt; helps(rt.alloc(), line, part), "{line}");
     }
     Ok(())
 }

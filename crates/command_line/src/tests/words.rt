@@ -54,77 +54,163 @@ pub(crate) fn width(rt: &impl Abort, pixels: u32) -> Width {
     Width::of(pixels).expect(rt, "a width")
 }
 
-#[test]
-fn graph_with_a_width(rt: HostRuntime) -> Result<(), Fail> {
-    let plan = planned(rt.alloc(), "graph --width 10 x.folded")?;
-    assert!(rt; plan.view == View::Graph(width(&rt, 10)));
-    assert!(rt; options_are_defaults(&plan.options));
-    assert!(rt; has_files(&plan, &["x.folded"]));
+// Whether a view is this one, at a width that it has.
+fn is_view(view: View, name: &str, pixels: u32) -> bool {
+    match view {
+        View::Fold => name == "fold",
+        View::Graph(width) => name == "graph" && width.get() == pixels,
+        View::Chart(width) => name == "chart" && width.get() == pixels,
+        View::Pairs => name == "pairs",
+        View::PairBoxes(width) => name == "boxes" && width.get() == pixels,
+        View::Top(_) => false,
+    }
+}
+
+fn expect_files(
+    rt: &impl Abort,
+    alloc: Global,
+    line: &str,
+    files: &[&str],
+) -> Result<(), PlanFault> {
+    let plan = planned(alloc, line)?;
+    assert!(rt; has_files(&plan, files), "{line}");
+    Ok(())
+}
+
+fn expect_view(
+    rt: &impl Abort,
+    alloc: Global,
+    line: &str,
+    name: &str,
+    pixels: u32,
+) -> Result<(), PlanFault> {
+    let plan = planned(alloc, line)?;
+    assert!(rt; is_view(plan.view, name, pixels), "{line}");
+    Ok(())
+}
+
+fn is_default(plan: &Plan, name: &str, files: &[&str]) -> bool {
+    is_view(plan.view, name, 1_200) && options_are_defaults(&plan.options) && has_files(plan, files)
+}
+
+fn expect_defaults(
+    rt: &impl Abort,
+    alloc: Global,
+    line: &str,
+    name: &str,
+    files: &[&str],
+) -> Result<(), PlanFault> {
+    let plan = planned(alloc, line)?;
+    assert!(rt; is_default(&plan, name, files), "{line}");
     Ok(())
 }
 
 #[test]
 fn defaults_of_each_command(rt: HostRuntime) -> Result<(), Fail> {
-    let views = [
-        ("fold", View::Fold),
-        ("graph", View::Graph(width(&rt, 1_200))),
-        ("chart", View::Chart(width(&rt, 1_200))),
-    ];
-    for (line, view) in views {
-        let plan = planned(rt.alloc(), line)?;
-        assert!(rt; plan.view == view, "{line}");
-        assert!(rt; options_are_defaults(&plan.options), "{line}");
-        assert!(rt; has_files(&plan, &[]), "{line}");
-    }
-    let plan = planned(rt.alloc(), "compare a b")?;
-    assert!(rt; plan.view == View::Pairs);
-    assert!(rt; options_are_defaults(&plan.options));
-    assert!(rt; has_files(&plan, &["a", "b"]));
+    expect_defaults(&rt, rt.alloc(), "fold", "fold", &[])?;
+    expect_defaults(&rt, rt.alloc(), "graph", "graph", &[])?;
+    expect_defaults(&rt, rt.alloc(), "chart", "chart", &[])?;
+    expect_defaults(&rt, rt.alloc(), "compare a b", "pairs", &["a", "b"])?;
+    Ok(())
+}
+
+#[test]
+fn graph_with_a_width(rt: HostRuntime) -> Result<(), Fail> {
+    expect_view(&rt, rt.alloc(), "graph --width 10 x.folded", "graph", 10)?;
+    expect_files(&rt, rt.alloc(), "graph --width 10 x.folded", &["x.folded"])?;
+    Ok(())
+}
+
+fn expect_options(
+    rt: &impl Abort,
+    alloc: Global,
+    line: &str,
+    ring: u32,
+    name: Option<&str>,
+    naming: Naming,
+    every: Option<u64>,
+) -> Result<(), PlanFault> {
+    let plan = planned(alloc, line)?;
+    assert!(rt;
+        options_are(&plan.options, ring, name, naming, every),
+        "{line}"
+    );
     Ok(())
 }
 
 #[test]
 fn options_of_each_command(rt: HostRuntime) -> Result<(), Fail> {
-    let ten = width(&rt, 10);
-    let fold = planned(rt.alloc(), "fold --type cpu --ring 7 --lines")?;
-    assert!(rt; fold.view == View::Fold);
-    assert!(rt; options_are(&fold.options, 7, Some("cpu"), Naming::Lines, None));
-    let graph = planned(
-        rt.alloc(),
-        "graph --width=10 --type=cpu --ring=7 --every=9 --lines",
-    )?;
-    assert!(rt; graph.view == View::Graph(ten));
-    assert!(rt; options_are(&graph.options, 7, Some("cpu"), Naming::Lines, Some(9)));
-    let chart = planned(rt.alloc(), "chart --width 10 --type cpu --ring 7 --lines")?;
-    assert!(rt; chart.view == View::Chart(ten));
-    assert!(rt; options_are(&chart.options, 7, Some("cpu"), Naming::Lines, None));
-    let boxes = planned(
-        rt.alloc(),
-        "compare --width 10 --type cpu --ring 7 --boxes --lines a b",
-    )?;
-    assert!(rt; boxes.view == View::PairBoxes(ten));
-    assert!(rt; options_are(&boxes.options, 7, Some("cpu"), Naming::Lines, None));
-    let pairs = planned(rt.alloc(), "compare --width 10 b a")?;
-    assert!(rt; pairs.view == View::Pairs);
-    assert!(rt; has_files(&pairs, &["b", "a"]));
+    let lines = [
+        ("fold --type cpu --ring 7 --lines", None),
+        (
+            "graph --width=10 --type=cpu --ring=7 --every=9 --lines",
+            Some(9),
+        ),
+        ("chart --width 10 --type cpu --ring 7 --lines", None),
+        (
+            "compare --width 10 --type cpu --ring 7 --boxes --lines a b",
+            None,
+        ),
+    ];
+    for (line, every) in lines {
+        expect_options(&rt, rt.alloc(), line, 7, Some("cpu"), Naming::Lines, every)?;
+    }
+    Ok(())
+}
+
+#[test]
+fn widths_of_each_command(rt: HostRuntime) -> Result<(), Fail> {
+    let lines = [
+        ("graph --width=10", "graph", 10),
+        ("chart --width 10 --type cpu", "chart", 10),
+        ("chart --width 1", "chart", 1),
+        ("chart --width 65536", "chart", 65_536),
+        ("compare --width 10 --boxes a b", "boxes", 10),
+        ("compare --boxes --width 10 b a", "boxes", 10),
+        ("compare b --boxes --width 10 a", "boxes", 10),
+        ("compare b a --boxes --width 10", "boxes", 10),
+        ("compare --width 10 b a", "pairs", 10),
+    ];
+    for (line, name, pixels) in lines {
+        expect_view(&rt, rt.alloc(), line, name, pixels)?;
+    }
+    Ok(())
+}
+
+fn is_of_format(plan: &Plan, format: Option<Format>) -> bool {
+    plan.format == format && options_are_defaults(&plan.options)
+}
+
+fn expect_format(
+    rt: &impl Abort,
+    alloc: Global,
+    line: &str,
+    format: Option<Format>,
+) -> Result<(), PlanFault> {
+    let plan = planned(alloc, line)?;
+    assert!(rt; is_of_format(&plan, format), "{line}");
     Ok(())
 }
 
 #[test]
 fn format_of_each_command(rt: HostRuntime) -> Result<(), Fail> {
-    for command in ["fold", "graph", "chart x.pb", "compare a b"] {
-        let line = format!(in rt.alloc(); "{command} --format pprof")?;
-        let plan = planned(rt.alloc(), line.as_str())?;
-        assert_eq!(rt; plan.format, Some(Format::Pprof), "{command}");
-        let line = format!(in rt.alloc(); "{command} --format=folded")?;
-        let plan = planned(rt.alloc(), line.as_str())?;
-        assert_eq!(rt; plan.format, Some(Format::Folded), "{command}");
-        let plan = planned(rt.alloc(), command)?;
-        assert!(rt; plan.format.is_none(), "{command}");
-        assert!(rt; options_are_defaults(&plan.options), "{command}");
+    let lines = [
+        ("fold --format pprof", Some(Format::Pprof)),
+        ("fold --format=folded", Some(Format::Folded)),
+        ("fold x --format pprof y", Some(Format::Pprof)),
+        ("graph --format pprof", Some(Format::Pprof)),
+        ("graph --format=folded", Some(Format::Folded)),
+        ("graph", None),
+        ("chart x.pb --format pprof", Some(Format::Pprof)),
+        ("chart x.pb --format=folded", Some(Format::Folded)),
+        ("chart x.pb", None),
+        ("compare a b --format pprof", Some(Format::Pprof)),
+        ("compare a b --format=folded", Some(Format::Folded)),
+        ("compare a b", None),
+    ];
+    for (line, format) in lines {
+        expect_format(&rt, rt.alloc(), line, format)?;
     }
-    let plan = planned(rt.alloc(), "fold x --format pprof y")?;
-    assert!(rt; has_files(&plan, &["x", "y"]));
     Ok(())
 }
 
@@ -136,134 +222,46 @@ fn options_before_between_and_after_files(rt: HostRuntime) -> Result<(), Fail> {
         "graph a b c --ring 7 --every 2",
     ];
     for line in lines {
-        let plan = planned(rt.alloc(), line)?;
-        assert!(rt;
-            options_are(&plan.options, 7, None, Naming::Plain, Some(2)),
-            "{line}"
-        );
-        assert!(rt; has_files(&plan, &["a", "b", "c"]), "{line}");
+        expect_options(&rt, rt.alloc(), line, 7, None, Naming::Plain, Some(2))?;
+        expect_files(&rt, rt.alloc(), line, &["a", "b", "c"])?;
     }
-    let compared = [
+    Ok(())
+}
+
+#[test]
+fn files_in_their_order(rt: HostRuntime) -> Result<(), Fail> {
+    for line in [
+        "compare --width 10 b a",
         "compare --boxes --width 10 b a",
         "compare b --boxes --width 10 a",
         "compare b a --boxes --width 10",
-    ];
-    for line in compared {
-        let plan = planned(rt.alloc(), line)?;
-        assert!(rt; plan.view == View::PairBoxes(width(&rt, 10)), "{line}");
-        assert!(rt; has_files(&plan, &["b", "a"]), "{line}");
+    ] {
+        expect_files(&rt, rt.alloc(), line, &["b", "a"])?;
     }
+    expect_files(&rt, rt.alloc(), "fold x --format pprof y", &["x", "y"])?;
     Ok(())
 }
 
 #[test]
 fn files_of_odd_names(rt: HostRuntime) -> Result<(), Fail> {
-    let dash = planned(rt.alloc(), "fold - -")?;
-    assert!(rt; has_files(&dash, &["-", "-"]));
-    let options = planned(rt.alloc(), "fold --lines -- --ring -x")?;
-    assert!(rt; options_are(&options.options, 1_024, None, Naming::Lines, None));
-    assert!(rt; has_files(&options, &["--ring", "-x"]));
-    let commands = planned(rt.alloc(), "fold help graph")?;
-    assert!(rt; has_files(&commands, &["help", "graph"]));
+    let options = "fold --lines -- --ring -x";
+    expect_files(&rt, rt.alloc(), "fold - -", &["-", "-"])?;
+    expect_options(&rt, rt.alloc(), options, 1_024, None, Naming::Lines, None)?;
+    expect_files(&rt, rt.alloc(), options, &["--ring", "-x"])?;
+    expect_files(&rt, rt.alloc(), "fold help graph", &["help", "graph"])?;
     Ok(())
 }
 
 #[test]
 fn ends_of_each_range(rt: HostRuntime) -> Result<(), Fail> {
-    for (line, ring) in [("fold --ring 1", 1), ("fold --ring 65536", 65_536)] {
-        let plan = planned(rt.alloc(), line)?;
-        assert!(rt;
-            options_are(&plan.options, ring, None, Naming::Plain, None),
-            "{line}"
-        );
-    }
-    for (line, pixels) in [("chart --width 1", 1), ("chart --width 65536", 65_536)] {
-        let plan = planned(rt.alloc(), line)?;
-        assert!(rt; plan.view == View::Chart(width(&rt, pixels)), "{line}");
-    }
-    for (line, every) in [
-        ("graph --every 1", 1),
-        ("graph --every 1000000000", 1_000_000_000),
-    ] {
-        let plan = planned(rt.alloc(), line)?;
-        assert_eq!(rt; plan.options.every, Some(every), "{line}");
-    }
-    Ok(())
-}
-
-#[test]
-fn refused_words(rt: HostRuntime) -> Result<(), Fail> {
     let lines = [
-        "graph --width 0",
-        "graph --width 65537",
-        "graph --width -1",
-        "graph --width ten",
-        "fold --ring 0",
-        "fold --ring=65537",
-        "graph --every 0",
-        "graph --every 1000000001",
-        "graph --every 18446744073709551616",
-        "fold --format svg",
-        "graph --format=",
-        "chart --format PPROF",
-        "compare a b --format",
-        "fold --format pprof --format pprof",
-        "graph --width",
-        "graph --width 1 --width 1",
-        "fold --every 5",
-        "chart --every 5",
-        "fold --width 5",
-        "fold --boxes",
-        "compare a",
-        "compare",
-        "compare a b c",
-        "draw a",
-        "--ring 5 fold",
-        "fold --version",
-        "version",
-        "--",
-        "-- fold",
+        ("fold --ring 1", 1, None),
+        ("fold --ring 65536", 65_536, None),
+        ("graph --every 1", 1_024, Some(1)),
+        ("graph --every 1000000000", 1_024, Some(1_000_000_000)),
     ];
-    for line in lines {
-        match planned(rt.alloc(), line) {
-            Err(PlanFault::Words(text)) => {
-                assert!(rt; text.as_str().starts_with("error: "), "{line}");
-                assert!(rt; text.as_str().ends_with("try '--help'.\n"), "{line}");
-            }
-            answer => assert!(rt; false, "{line} gives {answer:?}"),
-        }
+    for (line, ring, every) in lines {
+        expect_options(&rt, rt.alloc(), line, ring, None, Naming::Plain, every)?;
     }
     Ok(())
-}
-
-#[test]
-fn usage_of_refused_words(rt: HostRuntime) -> Result<(), Fail> {
-    let usages = [
-        (
-            "fold --every 5",
-            "\nUsage: flamecollect fold [OPTIONS] [FILE]...\n",
-        ),
-        (
-            "compare a",
-            "\nUsage: flamecollect compare <BEFORE> <AFTER>\n",
-        ),
-        ("draw a", "\nUsage: flamecollect <COMMAND>\n"),
-        (
-            "fold --format svg",
-            "error: invalid value for '--format <FORMAT>'\n  [possible values: folded, pprof]\n",
-        ),
-    ];
-    for (line, usage) in usages {
-        match planned(rt.alloc(), line) {
-            Err(PlanFault::Words(text)) => assert!(rt; text.as_str().contains(usage), "{line}"),
-            answer => assert!(rt; false, "{line} gives {answer:?}"),
-        }
-    }
-    Ok(())
-}
-
-#[test]
-fn no_words(rt: HostRuntime) {
-    let answer = plan(rt.alloc(), &[]);
-    assert!(rt; matches!(answer, Err(PlanFault::Words(_))));
 }

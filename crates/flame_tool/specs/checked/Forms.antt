@@ -3,7 +3,7 @@ use Rattle.std.specs.Prelude.{ℕ, Option}
 use Rattle.command_line.specs.declared.plans.Form.{Form}
 use Rattle.command_line.specs.declared.plans.Form.TheVariants as form
 use Rattle.command_line.specs.declared.plans.View.{View}
-use Rattle.flame_tool.specs.Texts.{IsOrderless}
+use Rattle.source_views.specs.Texts.{IsOrderless}
 
 -- what is written is the text of the view
 abbrev pub IsOfView : Form → Type 0

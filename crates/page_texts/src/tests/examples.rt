@@ -165,9 +165,10 @@ fn example_of_the_readme(rt: HostRuntime) -> Result<(), Fail> {
 
     let mut out = CountedWriter::new(Vec::new(alloc));
     send_page(alloc, &page, &mut out)?;
-    let document = out.into_inner();
-    assert_eq!(rt; document.len(), head().len() + data.len() + tail().len());
-    assert!(rt; document.starts_with(head().as_bytes()));
-    assert!(rt; document.ends_with(tail().as_bytes()));
+    let head = head().concat(alloc)?;
+    let tail = tail().concat(alloc)?;
+    let data = str::from_utf8(&data)?;
+    let document = format!(in alloc; "{head}{data}{tail}")?;
+    assert!(rt; out.into_inner() == document.into_bytes());
     Ok(())
 }

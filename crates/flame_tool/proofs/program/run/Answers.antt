@@ -71,3 +71,16 @@ returns-clause-accepted g c =
     let some : length c.args.words.items ≡ 0 → ⊥ = search rules in
     let among : IsFaultAmong (fault_of command_line (map string_bytes c.args.words.items)) c.in-Err.fault = search rules in
     λ accepted. inl (asks_if_help string_bytes c.args.words.items c.in-Err.fault some among (c.refuse.ensures.help accepted))
+
+pub returns-then-is_empty-clause-followed : goal.returns-then-is_empty-clause-followed
+returns-then-is_empty-clause-followed g c = λ _. (accepted_none string_bytes c.args.words.items (search rules)).0
+
+pub returns-in-Ok-clause-followed : goal.returns-in-Ok-clause-followed
+returns-in-Ok-clause-followed g c =
+    let some : length c.args.words.items ≡ 0 → ⊥ = search rules in
+    let planned : plan_of (map string_bytes c.args.words.items) ≡ Some c.in-Ok.plan = search rules in
+    let faultless : fault_of command_line (map string_bytes c.args.words.items) ≡ [] = search rules in
+    λ one. (accepted_some string_bytes c.args.words.items c.in-Ok.plan _ some planned faultless c.run_plan-in-Ok.ensures.few (omega (arith, one))).0
+
+pub returns-clause-followed : goal.returns-clause-followed
+returns-clause-followed g c = λ one. absurd (c.refuse.ensures.no_fault one)

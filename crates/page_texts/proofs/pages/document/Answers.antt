@@ -11,7 +11,7 @@ pub returns-clause-text : goal.returns-clause-text
 returns-clause-text g c =
     let page = page_of g.B.FlameBox.span g.B.PageBox.other g.B.PageBox.compared c.args.page.now in
     let none = no_parts in
-    let head : parts_text c.push_literal.new.parts.items ≡ page_head = grind (arith, common_steps, none) in
+    let head : parts_text c.push_literals.new.parts.items ≡ page_head = grind (arith, common_steps, none) in
     let both = c.in_ok-push_page.ensures ∙ ap (λ t. t ++ page_text page) head in
-    c.in_ok-push_literal-2.ensures ∙ ap (λ t. parts_text c.push_page.new.parts.items ++ t) (c.as_bytes-2.ensures.value ∙ c.tail.ensures) ∙ ap (λ t. t ++ page_tail) both
+    c.in_ok-push_literals-2.ensures ∙ ap (λ t. parts_text c.push_page.new.parts.items ++ t) c.tail.ensures ∙ ap (λ t. t ++ page_tail) both
     ∙ append_assoc page_head (page_text page) page_tail

@@ -14,8 +14,8 @@ returns-clause-ok g c =
     let before = c.args.before.now.samples in
     let after = c.args.after.now.samples in
     let least = c.args.heading.now.least in
-    let one = compared_is c.compared_drawing.result least after before (total_weight before) (c.compared_drawing.ensures.boxes ∙ c.deref.ensures.value ∙ c.in_ok-first.ensures) (search rules) (search rules) c.compared_drawing.ensures.moment refl in
-    let two = compared_is c.compared_drawing-2.result least before after (total_weight after) (c.compared_drawing-2.ensures.boxes ∙ c.deref-2.ensures.value ∙ c.in_ok-second.ensures) (search rules) (search rules) c.compared_drawing-2.ensures.moment refl in
+    let one = compared_is c.compared_drawing.result least after before (total_weight before) (c.compared_drawing.ensures.boxes ∙ c.deref.ensures.value ∙ c.in_ok-first.ensures.boxes) (search rules) (search rules) c.compared_drawing.ensures.moment refl in
+    let two = compared_is c.compared_drawing-2.result least before after (total_weight after) (c.compared_drawing-2.ensures.boxes ∙ c.deref-2.ensures.value ∙ c.in_ok-second.ensures.boxes) (search rules) (search rules) c.compared_drawing-2.ensures.moment refl in
     subst (λ (page : Page). OnOk c.send_page.result (Appends (g.W.Outlet.contents c.args.out.now) (g.W.Outlet.contents c.send_page.new.out) (document_text page))) (λ i. page_with (heading_of c.args.heading.now) (codes "compare") (one i ∷ two i ∷ [])) c.send_page.ensures.ok
 
 pub returns-clause-front : goal.returns-clause-front
@@ -23,6 +23,6 @@ returns-clause-front g c =
     let before = c.args.before.now.samples in
     let after = c.args.after.now.samples in
     let least = c.args.heading.now.least in
-    let one = compared_is c.compared_drawing.result least after before (total_weight before) (c.compared_drawing.ensures.boxes ∙ c.deref.ensures.value ∙ c.in_ok-first.ensures) (search rules) (search rules) c.compared_drawing.ensures.moment refl in
-    let two = compared_is c.compared_drawing-2.result least before after (total_weight after) (c.compared_drawing-2.ensures.boxes ∙ c.deref-2.ensures.value ∙ c.in_ok-second.ensures) (search rules) (search rules) c.compared_drawing-2.ensures.moment refl in
+    let one = compared_is c.compared_drawing.result least after before (total_weight before) (c.compared_drawing.ensures.boxes ∙ c.deref.ensures.value ∙ c.in_ok-first.ensures.boxes) (search rules) (search rules) c.compared_drawing.ensures.moment refl in
+    let two = compared_is c.compared_drawing-2.result least before after (total_weight after) (c.compared_drawing-2.ensures.boxes ∙ c.deref-2.ensures.value ∙ c.in_ok-second.ensures.boxes) (search rules) (search rules) c.compared_drawing-2.ensures.moment refl in
     subst (λ (page : Page). OnErr c.send_page.result (AppendsFront (document_text page) (g.W.Outlet.contents c.args.out.now) (g.W.Outlet.contents c.send_page.new.out))) (λ i. page_with (heading_of c.args.heading.now) (codes "compare") (one i ∷ two i ∷ [])) c.send_page.ensures.front

@@ -1,0 +1,45 @@
+use Rattle.std.proofs.Common.{rules, refl, sym}
+use Rattle.merged_stacks.specs.Timeline.{samples_of}
+use Rattle.flame_tool.proofs.KnownSources.{collected_of, ok_shown_as, err_shown_as}
+use Rattle.flame_tool.proofs.RunEndings.{graph_shown, orderless_shown}
+use Rattle.flame_tool.proofs.views_run.show_sources.Goals as goal
+
+pub returns-in_ok-gathered-in-Some-clause-ok : goal.returns-in_ok-gathered-in-Some-clause-ok
+returns-in_ok-gathered-in-Some-clause-ok g c = λ input files opened.
+    let plan = c.args.plan.now in
+    let gathered = c.in_ok-gathered-in-Some.gathered in
+    let text = graph_shown plan _ (samples_of gathered.lists) gathered.order gathered.every c.in-Some.ensures.form c.in-Some.ensures.view in
+    ok_shown_as plan input files c.args.sources.items gathered.lists gathered.order gathered.every
+    (collected_of plan input files _ c.args.sources.items gathered.lists gathered.order gathered.every refl opened
+    (c.in_ok-gathered-in-Some.ensures.whole_lists (search rules)) c.in_ok-gathered-in-Some.ensures.order c.in_ok-gathered-in-Some.ensures.every)
+    c.send_gathered.result _ _ _ (sym text) c.send_gathered.ensures.faultless c.send_gathered.ensures.ok
+
+pub returns-in_ok-gathered-in-Some-clause-err : goal.returns-in_ok-gathered-in-Some-clause-err
+returns-in_ok-gathered-in-Some-clause-err g c = λ input files opened.
+    let plan = c.args.plan.now in
+    let gathered = c.in_ok-gathered-in-Some.gathered in
+    let text = graph_shown plan _ (samples_of gathered.lists) gathered.order gathered.every c.in-Some.ensures.form c.in-Some.ensures.view in
+    err_shown_as plan input files c.args.sources.items gathered.lists gathered.order gathered.every
+    (collected_of plan input files _ c.args.sources.items gathered.lists gathered.order gathered.every refl opened
+    (c.in_ok-gathered-in-Some.ensures.whole_lists (search rules)) c.in_ok-gathered-in-Some.ensures.order c.in_ok-gathered-in-Some.ensures.every)
+    c.send_gathered.result _ _ _ (sym text) c.send_gathered.ensures.err
+
+pub returns-in_ok-run-in-None-clause-ok : goal.returns-in_ok-run-in-None-clause-ok
+returns-in_ok-run-in-None-clause-ok g c = λ input files opened.
+    let plan = c.args.plan.now in
+    let run = c.in_ok-run-in-None.run'.kept in
+    let text = orderless_shown plan (samples_of run.lists) run.order plan.options.every (c.in-None.ensures.none refl) in
+    ok_shown_as plan input files c.args.sources.items run.lists run.order plan.options.every
+    (collected_of plan input files _ c.args.sources.items run.lists run.order plan.options.every refl opened
+    c.in_ok-run-in-None.ensures.whole_lists c.in_ok-run-in-None.ensures.order refl)
+    c.send_lists.result _ _ _ (sym text) c.send_lists.ensures.faultless c.send_lists.ensures.ok
+
+pub returns-in_ok-run-in-None-clause-err : goal.returns-in_ok-run-in-None-clause-err
+returns-in_ok-run-in-None-clause-err g c = λ input files opened.
+    let plan = c.args.plan.now in
+    let run = c.in_ok-run-in-None.run'.kept in
+    let text = orderless_shown plan (samples_of run.lists) run.order plan.options.every (c.in-None.ensures.none refl) in
+    err_shown_as plan input files c.args.sources.items run.lists run.order plan.options.every
+    (collected_of plan input files _ c.args.sources.items run.lists run.order plan.options.every refl opened
+    c.in_ok-run-in-None.ensures.whole_lists c.in_ok-run-in-None.ensures.order refl)
+    c.send_lists.result _ _ _ (sym text) c.send_lists.ensures.err

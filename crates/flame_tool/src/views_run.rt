@@ -1,0 +1,176 @@
+//! The samples of the sources of a plan, collected and shown.
+ghost use Rattle.std.specs.Prelude.{◌≡◌, ◌≢◌, ◌≤◌, ◌<◌, ℕ, [], List, None, Option, false, IfSome, IfErr, IsErrOf, IsNone, OnOk, length, map};
+ghost use Rattle.std.specs.Io.KnownBytes.{Appends};
+ghost use Rattle.merged_stacks.specs.Timeline.{samples_of};
+ghost use Rattle.command_line.specs.Plans.{IsComparison};
+ghost use Rattle.flame_tool.specs.Requests.{known_rests};
+ghost use Rattle.sent_views.specs.Pages.{shown_text};
+ghost use Rattle.source_views.specs.Texts.{IsOrderless, graph_text};
+ghost use Rattle.flame_tool.specs.Runs.{Shows};
+ghost use Rattle.opened_sources.specs.Opening.{AreOpened};
+ghost use Rattle.flame_tool.specs.checked.Failures.{Fails, FailsToShow, KeepsOutput};
+ghost use Rattle.opened_sources.specs.Failures.{has_fault, Flushes};
+ghost use Rattle.flame_tool.specs.checked.Forms.{IsOfView, IsOrderlessIn};
+
+use crate::progress::Progress;
+use byte_io::{Files, Outlet};
+use command_line::{Form, Plan, View};
+use flame_layout::Width;
+use merging::{Gathered, Source, SourceLists, gather, read_whole_sources};
+use opened_sources::{Failure, any_fault, open_sources, report_endings};
+use sent_views::{send_asked_page, send_plain_view, send_snapshots};
+use stack_core::OpenGate;
+use std::alloc::{AllocError, Global};
+use std::sync::{Arc, Wait};
+use std::thread::Threads;
+
+fn open_gate(alloc: Global) -> Result<Arc<OpenGate>, AllocError> {
+    Ok(Arc::new(alloc, OpenGate)?)
+}
+
+// Reads the sources, and shows them.
+pub(crate) fn show_views<T: Threads + Wait + Copy + Send + 'static, F: Files, W: Outlet, E: Outlet>(
+    rt: &T,
+    alloc: Global,
+    plan: &Plan,
+    files: &mut F,
+    out: &mut W,
+    err: &mut E,
+) -> Result<(), Failure>
+    requires pairs { IsComparison plan.now.view → length plan.now.files ≡ 2 }
+    requires every { IfSome plan.now.options.every (λ every. 1 ≤ every) }
+    ensures ok { OnOk result
+        (IfSome (known_rests plan.now (F.known_input files.old) (F.known_file files.old))
+        (Shows plan.now (W.contents out.old) (W.contents out.new))) }
+    ensures err { IfErr result (λ failure.
+        IfSome (known_rests plan.now (F.known_input files.old) (F.known_file files.old))
+        (Fails plan.now (W.contents out.old) (W.contents out.new) failure)) }
+    ensures kept { IfErr result (λ failure.
+        KeepsOutput (W.contents out.old) (W.contents out.new) failure) }
+    ensures many { IsErrOf result Failure.TooManyFiles → 64 < length plan.now.files }
+    ensures few { result ≢ Err Failure.TooManyFiles → length plan.now.files ≤ 64 }
+    ensures flushed { Flushes (W.is_flushed out.new) (W.failures out.old) (W.failures out.new)
+        result }
+{
+    let sources = open_sources(alloc, files, plan.files.get(), plan.format)?;
+    let is_shown = !plan.is_quiet && files.is_error_terminal();
+    let mut progress = Progress::new(err, sources.len(), is_shown);
+    let shown = show_sources(rt, alloc, plan, sources, out, &mut progress);
+    progress.clear();
+    shown
+}
+
+// The width of a graph with snapshots. The text of each other view is the same in whatever order the samples
+// came.
+fn snapshots_width(view: View, every: Option<u64>) -> Option<Width>
+    ensures some { IfSome result (λ width. view ≡ View.Graph width) }
+    ensures none { IsNone result → IsOrderless view every }
+{
+    match view {
+        View::Graph(width) => every.map(|_| width),
+        View::Fold | View::Chart(_) | View::Pairs | View::PairBoxes(_) | View::Top(_) => None,
+    }
+}
+
+// The width of a graph with snapshots that is written as text. A page has none.
+fn asked_snapshots(plan: &Plan) -> Option<Width>
+    ensures view { IfSome result (λ width. plan.now.view ≡ View.Graph width) }
+    ensures form { IfSome result (λ width. IsOfView plan.now.form) }
+    ensures none { IsNone result
+        → IsOrderlessIn plan.now.form plan.now.view plan.now.options.every }
+{
+    match &plan.form {
+        Form::Text | Form::Types => snapshots_width(plan.view, plan.options.every),
+        Form::Page(_) => None,
+    }
+}
+
+// Collects the samples of sources, and sends the view of them. Where it has snapshots, the samples are merged as
+// they arrive, and no progress is told.
+fn show_sources<T: Threads + Wait + Copy + Send + 'static, W: Outlet, E: Outlet>(
+    rt: &T,
+    alloc: Global,
+    plan: &Plan,
+    sources: Vec<Source>,
+    out: &mut W,
+    progress: &mut Progress<'_, E>,
+) -> Result<(), Failure>
+    requires few { length sources.items ≤ 64 }
+    requires pairs { IsComparison plan.now.view → length sources.items ≡ 2 }
+    requires every { IfSome plan.now.options.every (λ every. 1 ≤ every) }
+    ensures ok { (input : Option (List ℕ)) (files : List ℕ → Option (List ℕ))
+        → AreOpened plan.now.format input files plan.now.files sources.items
+        → OnOk result (IfSome (known_rests plan.now input files)
+        (Shows plan.now (W.contents out.old) (W.contents out.new))) }
+    ensures err { (input : Option (List ℕ)) (files : List ℕ → Option (List ℕ))
+        → AreOpened plan.now.format input files plan.now.files sources.items
+        → IfErr result (λ failure. IfSome (known_rests plan.now input files)
+        (Fails plan.now (W.contents out.old) (W.contents out.new) failure)) }
+    ensures kept { IfErr result (λ failure.
+        KeepsOutput (W.contents out.old) (W.contents out.new) failure) }
+    ensures few_files { IsErrOf result Failure.TooManyFiles → ⊥ }
+    ensures flushed { Flushes (W.is_flushed out.new) (W.failures out.old) (W.failures out.new)
+        result }
+{
+    match asked_snapshots(plan) {
+        Some(width) => {
+            let gate = open_gate(alloc)?;
+            let gathered = gather(rt, alloc, sources, &plan.options, gate)?;
+            report_endings(progress.messages(), plan.files.get(), gathered.lists());
+            send_gathered(alloc, &gathered, width, out)
+        }
+        None => {
+            let run = read_whole_sources(rt, alloc, sources, &plan.options, progress)?;
+            report_endings(progress.messages(), plan.files.get(), run.kept.lists());
+            send_lists(alloc, &run.kept, plan, out)
+        }
+    }
+}
+
+// Sends the text of what was collected, unless a source has a fault.
+fn send_gathered<W: Outlet>(
+    alloc: Global,
+    gathered: &Gathered,
+    width: Width,
+    out: &mut W,
+) -> Result<(), Failure>
+    ensures faultless { OnOk result (has_fault gathered.now.lists ≡ false) }
+    ensures ok { OnOk result (Appends (W.contents out.old) (W.contents out.new) (graph_text width
+        (samples_of gathered.now.lists) gathered.now.order gathered.now.every)) }
+    ensures err { IfErr result (FailsToShow gathered.now.lists (graph_text width
+        (samples_of gathered.now.lists) gathered.now.order gathered.now.every)
+        (W.contents out.old) (W.contents out.new)) }
+    ensures flushed { Flushes (W.is_flushed out.new) (W.failures out.old) (W.failures out.new)
+        result }
+{
+    if any_fault(gathered.lists()) {
+        return Err(Failure::Faults);
+    }
+    send_snapshots(alloc, gathered, width, out)
+}
+
+// The same for the lists of a run, without snapshots.
+fn send_lists<W: Outlet>(
+    alloc: Global,
+    run: &SourceLists,
+    plan: &Plan,
+    out: &mut W,
+) -> Result<(), Failure>
+    requires pairs { IsComparison plan.now.view → length run.now.lists ≡ 2 }
+    ensures faultless { OnOk result (has_fault run.now.lists ≡ false) }
+    ensures ok { OnOk result (Appends (W.contents out.old) (W.contents out.new)
+        (shown_text plan.now (samples_of run.now.lists) [] None)) }
+    ensures err { IfErr result (FailsToShow run.now.lists
+        (shown_text plan.now (samples_of run.now.lists) [] None)
+        (W.contents out.old) (W.contents out.new)) }
+    ensures flushed { Flushes (W.is_flushed out.new) (W.failures out.old) (W.failures out.new)
+        result }
+{
+    if any_fault(run.lists()) {
+        return Err(Failure::Faults);
+    }
+    match &plan.form {
+        Form::Text | Form::Types => send_plain_view(alloc, run, plan.view, out),
+        Form::Page(page) => send_asked_page(alloc, run, plan, page, out),
+    }
+}

@@ -1,7 +1,0 @@
-use denote.Param.Send.{sendable}
-use Rattle.merging.proofs.ReaderThreads.{filter_send, source_send}
-use Rattle.merging.proofs.collection.run_readers.Goals as goal
-
--- a reader may go to another thread, since those of both formats may, and a filter
-pub collect-requires-send-R : goal.collect-requires-send-R
-collect-requires-send-R g c = search (sendable, source_send, filter_send) depth 30

@@ -1,0 +1,12 @@
+-- The sources so far are those of the first paths, and the files tell what they told.
+use Rattle.std.proofs.Common.{◌≡◌, length, map, take, string_bytes}
+use Rattle.std.specs.List.{AllZip}
+use Rattle.opened_sources.specs.Opening.{IsOpened}
+use Rattle.opened_sources.proofs.source_files.open_sources.Given as goal
+
+abbrev pub invariant-loop-at : goal.invariant-loop-at
+invariant-loop-at g l = record {
+  count : length l.sources.items ≡ l.at;
+  files : g.F.Files.known_file l.files ≡ g.F.Files.known_file l.initial.files;
+  opened : AllZip (IsOpened l.asked (g.F.Files.known_file l.initial.files)) (map string_bytes (take l.at l.paths)) l.sources.items;
+}

@@ -1,0 +1,4 @@
+-- The definitions that the contracts of opened_sources cite.
+pub mod Failures
+pub mod Names
+pub mod Opening

@@ -1,0 +1,13 @@
+//! The sources of a run: files that are opened and loaded, why that or what follows fails, and what is said of it on
+//! standard error.
+#![tactic(auto)]
+
+mod endings;
+mod failures;
+mod messages;
+mod source_files;
+
+pub use endings::{any_fault, report_endings};
+pub use failures::Failure;
+pub use messages::{path_of, report_awaited_input, report_ending, report_failure};
+pub use source_files::{SOURCE_COUNT, named, open_sources};

@@ -1,0 +1,91 @@
+//! What a run says on standard error, each on a line of its own. It takes no memory, and a failure to
+//! write changes nothing.
+
+ghost use Rattle.std.specs.Prelude.{◌≡◌, map, string_bytes};
+ghost use Rattle.opened_sources.specs.Names.{source_name};
+
+use crate::failures::Failure;
+use byte_io::{Outlet, PieceFault, send};
+use itoa::Buffer;
+use run_options::Format;
+use stack_core::SourceEnd;
+
+// What messages and pages call the standard input.
+const INPUT: &str = "-";
+
+/// What messages and pages call a source of these files: its path, or the standard input where there is no file.
+pub fn path_of(files: &[String], source: usize) -> &str
+    ensures { result.now ≡ source_name (map string_bytes files.now) source }
+{
+    match files.get(source) {
+        Some(path) => path.as_str(),
+        None => INPUT,
+    }
+}
+
+/// Says why a run over these files failed.
+pub fn report_failure<E: Outlet>(err: &mut E, files: &[String], failure: Failure) {
+    match failure {
+        Failure::TooManyFiles => write_line(err, &["too many files"]),
+        Failure::Unreadable { source } => {
+            write_line(err, &[path_of(files, source), ": cannot be read"]);
+        }
+        Failure::TooLarge { source } => write_line(err, &[path_of(files, source), ": too large"]),
+        Failure::OutOfMemory | Failure::Output(PieceFault::OutOfMemory) => {
+            write_line(err, &["out of memory"]);
+        }
+        Failure::NoThread => write_line(err, &["no thread"]),
+        Failure::Unfinished { source } => {
+            write_line(err, &[path_of(files, source as usize), ": unfinished"]);
+        }
+        Failure::Faults => {}
+        Failure::Output(PieceFault::Output) => write_line(err, &["output failed"]),
+    }
+}
+
+/// Says what is awaited where the input is a terminal.
+pub fn report_awaited_input<E: Outlet>(err: &mut E, format: Format) {
+    let awaited = match format {
+        Format::Folded => ": awaits folded lines, which end with Ctrl-D",
+        Format::Pprof => ": awaits a pprof profile",
+    };
+    write_line(err, &[INPUT, awaited, "; see flamecollect --help"]);
+}
+
+/// Says what there is to say of the ending of a source: its fault, or how many lines were ignored, if
+/// any were.
+pub fn report_ending<E: Outlet>(err: &mut E, files: &[String], source: usize, ending: &SourceEnd) {
+    let path = path_of(files, source);
+    match ending {
+        SourceEnd::Clean { ignored } => report_ignored(err, path, *ignored),
+        SourceEnd::Fault(fault) => report_fault(err, path, fault.kind.name(), fault.at),
+        SourceEnd::Stopped { after: _ } => {}
+    }
+}
+
+// Says how many lines of the source were ignored, if any were.
+fn report_ignored<E: Outlet>(err: &mut E, path: &str, ignored: u64) {
+    if ignored > 0 {
+        let mut digits = Buffer::new();
+        write_line(err, &[path, ": ignored ", digits.format(ignored)]);
+    }
+}
+
+// Says what is wrong with the source, and where.
+fn report_fault<E: Outlet>(err: &mut E, path: &str, kind: &str, at: u64) {
+    let mut digits = Buffer::new();
+    write_line(err, &[path, ": ", kind, " at ", digits.format(at)]);
+}
+
+// Writes a line of these parts.
+fn write_line<E: Outlet>(err: &mut E, parts: &[&str]) {
+    if send(b"flamecollect: ", err).is_err() {
+        return;
+    }
+    for part in parts {
+        if send(part.as_bytes(), err).is_err() {
+            return;
+        }
+    }
+    let _ = send(b"\n", err);
+}

@@ -1,0 +1,86 @@
+//! The sources of a run, loaded.
+ghost use Rattle.std.specs.Prelude.{◌≡◌, ◌≢◌, ◌≤◌, [], ◌∷◌, ◌++◌, IfOk, IfErr, IfSome, OnOk, length, map, string_bytes};
+ghost use Rattle.opened_sources.specs.Opening.{AreOpened, IsInput, IsOpened};
+ghost use Rattle.opened_sources.specs.Failures.{IsOpening};
+
+use crate::failures::Failure;
+use byte_io::Files;
+use run_options::{Format, format_of};
+use source_lists::Source;
+use std::alloc::{AllocError, Global};
+
+/// The most sources of a run.
+pub const SOURCE_COUNT: usize = 64;
+
+/// The sources of these paths, in order, or the input where there is none. The first that fails ends
+/// it. All have the format that was asked for, or each that of its name.
+pub fn open_sources<F: Files>(
+    alloc: Global,
+    files: &mut F,
+    paths: &[String],
+    asked: Option<Format>,
+) -> Result<Vec<Source>, Failure>
+    ensures few { IfOk result (λ sources. length sources.items ≤ 64) }
+    ensures count { IfOk result (λ sources.
+        length paths.now ≡ 2 → length sources.items ≡ 2) }
+    ensures opened { IfOk result (λ sources. AreOpened asked (F.known_input files.old)
+        (F.known_file files.old) (map string_bytes paths.now) sources.items) }
+    ensures err { IfErr result (IsOpening (length paths.now)) }
+    ensures within { result ≢ Err Failure.TooManyFiles → length paths.now ≤ 64 }
+{
+    if paths.len() > SOURCE_COUNT {
+        return Err(Failure::TooManyFiles);
+    }
+    let mut sources = Vec::new(alloc);
+    if paths.is_empty() {
+        add_source(&mut sources, input(alloc, files, asked)?)?;
+        return Ok(sources);
+    }
+    for (at, path) in paths.iter().enumerate() {
+        add_source(&mut sources, named(alloc, files, at, path, asked)?)?;
+    }
+    Ok(sources)
+}
+
+fn add_source(sources: &mut Vec<Source>, source: Source) -> Result<(), AllocError>
+    ensures { OnOk result (sources.new.items ≡ sources.old.items ++ source ∷ []) }
+{
+    sources.push(source)?;
+    Ok(())
+}
+
+// The input, which is folded text unless another format was asked for.
+fn input<F: Files>(alloc: Global, files: &mut F, asked: Option<Format>) -> Result<Source, Failure>
+    ensures input { IfOk result (λ source.
+        IfSome (F.known_input files.old) (IsInput asked (source ∷ []))) }
+    ensures err { IfErr result (IsOpening 0) }
+{
+    match files.input(alloc) {
+        Ok(bytes) => Ok(Source {
+            format: asked.unwrap_or(Format::Folded),
+            bytes,
+        }),
+        Err(fault) => Err(Failure::of_load(0, fault)),
+    }
+}
+
+/// The source of a path.
+pub fn named<F: Files>(
+    alloc: Global,
+    files: &mut F,
+    at: usize,
+    path: &str,
+    asked: Option<Format>,
+) -> Result<Source, Failure>
+    ensures opened { IfOk result (IsOpened asked (F.known_file files.old) path.now) }
+    ensures files { F.known_file files.new ≡ F.known_file files.old }
+    ensures err { IfErr result (IsOpening 0) }
+{
+    match files.named(alloc, path) {
+        Ok(bytes) => Ok(Source {
+            format: asked.unwrap_or(format_of(path)),
+            bytes,
+        }),
+        Err(fault) => Err(Failure::of_load(at, fault)),
+    }
+}

@@ -1,0 +1,77 @@
+//! What `page/join` takes of page/page.html. `checks/page_source --write` makes this file.
+
+pub(crate) const TEXT: &str = r##"</style>
+</head>
+<body>
+<header>
+<h1 id="title">flamecollect</h1>
+<p id="summary">The data is being read. If this stays, the document is cut off or JavaScript is turned off.</p>
+<ul id="notices"></ul>
+<details id="sources" hidden><summary>Sources</summary><ul></ul></details>
+</header>
+<div id="tools" role="toolbar" aria-label="Tools" hidden>
+<form id="search" role="search">
+<input id="find" type="search" placeholder="Search" aria-label="Search for" autocomplete="off" spellcheck="false">
+<select id="by" aria-label="What is searched for">
+<option value="text">in names</option>
+<option value="name">whole name</option>
+<option value="regexp">regular expression</option>
+</select>
+<button type="button" id="previous" title="Previous match (Shift+Enter)" aria-label="Previous match">&#x25b2;</button>
+<button type="submit" id="next" title="Next match (Enter)" aria-label="Next match">&#x25bc;</button>
+<output id="matched" for="find by"></output>
+</form>
+<button type="button" id="back" title="Back (Escape)">Back</button>
+<label><input type="checkbox" id="below"> Root below</label>
+<label id="snapshot-label" hidden>Snapshot <input type="range" id="snapshot" min="0" step="1"></label>
+<label id="before-label" hidden><input type="checkbox" id="before"> Show before</label>
+<output id="drawing-name"></output>
+<span class="group">
+<button type="button" id="save-svg">Save SVG</button>
+<button type="button" id="save-png">Save PNG</button>
+<button type="button" id="print">Print</button>
+</span>
+<details id="help"><summary>Keys</summary>
+<dl>
+<dt>Arrow keys</dt><dd>to the caller, to what it calls, to the neighbours</dd>
+<dt>Home, End</dt><dd>to the first and the last box of the row</dd>
+<dt>Enter, click</dt><dd>zoom to the box</dd>
+<dt>Escape</dt><dd>back</dd>
+<dt>/</dt><dd>search; then Enter and Shift+Enter for the next and the previous match</dd>
+</dl>
+</details>
+</div>
+<main hidden>
+<section id="stage" aria-label="Picture">
+<div id="lanes" role="group" aria-label="Sources" hidden></div>
+<div id="picture" tabindex="0" role="tree" aria-label="Boxes" aria-describedby="status">
+<div id="room"><canvas id="canvas" aria-hidden="true"></canvas>
+<div id="ring-0" class="ring" role="treeitem" hidden></div><div id="ring-1" class="ring" role="treeitem" hidden></div></div>
+</div>
+<p id="status"></p>
+<div id="paper" aria-hidden="true"></div>
+</section>
+<aside id="lists" aria-label="Lists">
+<section id="gone" hidden aria-labelledby="gone-title">
+<h2 id="gone-title">Only before</h2>
+<p id="gone-summary"></p>
+<ul id="gone-list"></ul>
+<button type="button" id="gone-more" hidden>Show more</button>
+</section>
+<section id="functions" aria-labelledby="functions-title">
+<h2 id="functions-title">Functions</h2>
+<table aria-labelledby="functions-title">
+<thead><tr>
+<th scope="col" data-key="name"><button type="button">Name</button></th>
+<th scope="col" data-key="own"><button type="button">Own</button></th>
+<th scope="col" data-key="total"><button type="button">Total</button></th>
+<th scope="col" data-key="change" hidden><button type="button">Change</button></th>
+</tr></thead>
+<tbody></tbody>
+</table>
+<button type="button" id="functions-more" hidden>Show more</button>
+</section>
+</aside>
+</main>
+<div id="tip" role="tooltip" hidden></div>
+<script type="application/json" id="data">"##;

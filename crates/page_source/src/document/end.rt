@@ -1,0 +1,7 @@
+//! What `page/join` takes of page/page.html. `checks/page_source --write` makes this file.
+
+pub(crate) const TEXT: &str = r##"})();
+</script>
+</body>
+</html>
+"##;

@@ -1,0 +1,60 @@
+//! What `page/join` takes of page/address.js. `checks/page_source --write` makes this file.
+
+pub(crate) const TEXT: &str = r##"const LONGEST_PATH = 4000;
+function decoded(text) {
+try {
+return decodeURIComponent(text);
+} catch {
+return text;
+}
+}
+function zoomWords(page, drawing, state) {
+if (state.source >= 0) return [`source=${state.source}`];
+if (drawing.count === 0 || drawing.depth[state.box] === 0) return [];
+const path = pathOf(page, drawing, state.box);
+const length = path.reduce((sum, name) => sum + name.length, 0);
+const zoom = length > LONGEST_PATH ? '' : path.map(encodeURIComponent).join('/');
+if (length > LONGEST_PATH || zoom.length > 3 * LONGEST_PATH) return [`box=${state.box}`];
+return page.view === 'chart' ? [`zoom=${zoom}`, `start=${drawing.start[state.box]}`] : [`zoom=${zoom}`];
+}
+function fragmentOf(page, drawing, state) {
+const words = zoomWords(page, drawing, state);
+if (state.find !== '') words.push(`find=${encodeURIComponent(state.find.toWellFormed())}`);
+if (state.find !== '' && state.by !== 'text') words.push(`by=${state.by}`);
+if (state.drawing !== page.drawingCount - 1) words.push(`drawing=${state.drawing}`);
+if (state.below) words.push('root=below');
+return `#${words.join('&')}`;
+}
+function wholeNumber(text, limit) {
+return /^[0-9]{1,15}$/.test(text || '') && Number(text) < limit ? Number(text) : -1;
+}
+function stateOf(page, fragment) {
+const words = new Map();
+for (const word of fragment.replace(/^#/, '').split('&')) {
+const place = word.indexOf('=');
+if (place > 0) words.set(word.slice(0, place), word.slice(place + 1));
+}
+const number = wholeNumber(words.get('drawing'), page.drawingCount);
+const drawing = number >= 0 ? number : page.drawingCount - 1;
+const source = page.view === 'chart' ? wholeNumber(words.get('source'), page.sources.length) : -1;
+const boxes = page.drawing(drawing);
+let box = Math.max(0, wholeNumber(words.get('box'), boxes.count));
+if (words.has('zoom')) box = boxAt(page, boxes, words.get('zoom').split('/').map(decoded), Number(words.get('start') || -1));
+return {
+drawing,
+source: source >= 0 && page.sources[source].weight > 0 ? source : -1,
+box,
+find: decoded(words.get('find') || ''),
+by: ['name', 'regexp'].includes(words.get('by')) ? words.get('by') : 'text',
+below: words.get('root') === 'below',
+};
+}
+function writeAddress(fragment, isStep) {
+const now = history.state?.steps || 0;
+try {
+if (isStep) history.pushState({ steps: now + 1 }, '', fragment);
+else history.replaceState({ steps: now }, '', fragment);
+} catch {
+}
+}
+"##;

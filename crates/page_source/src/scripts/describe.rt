@@ -1,0 +1,79 @@
+//! What `page/join` takes of page/describe.js. `checks/page_source --write` makes this file.
+
+pub(crate) const TEXT: &str = r##"function detailsOf(page, drawing, span, box) {
+const { unit } = page;
+const weight = drawing.weight[box];
+const whole = percentText(weight, drawing.total);
+const isZoomed = span.to - span.from < drawing.total;
+const zoomed = isZoomed ? `, ${percentText(weightInSpan(drawing, box, span), span.to - span.from)} of what is zoomed` : '';
+const details = [`${exactText(weight, unit)}, ${whole} of the whole${zoomed}`, `own ${exactText(drawing.own[box], unit)}`];
+if (drawing.other) {
+const { before, after } = bothWeights(page, drawing, box);
+details.push(`before ${exactText(before, unit)}, after ${exactText(after, unit)}: ${changeText(before, after)}`);
+}
+if (page.view === 'chart') details.push(placeText(page, drawing, box));
+return details;
+}
+function placeText(page, drawing, box) {
+const from = drawing.start[box];
+const to = endOf(drawing, box);
+const names = page.sources
+.filter((source) => source.start < to && source.start + source.weight > from)
+.map((source) => shortened(source.name, 60));
+const shown = names.length > 3 ? `${names.slice(0, 3).join(', ')} and ${names.length - 3} more` : names.join(', ');
+return `from ${weightText(from, page.unit)} to ${weightText(to, page.unit)}, in ${shown}`;
+}
+function lineFor(page, drawing, span, box) {
+return [shortened(page.names[drawing.name[box]], 300) || '(empty name)', ...detailsOf(page, drawing, span, box)].join(' \u00b7 ');
+}
+function summaryText(page, drawing) {
+const kinds = { graph: 'Flame graph', chart: 'Flame chart' };
+const files = page.sources.length === 1 ? '1 source' : `${page.sources.length} sources`;
+const types = [...new Set(page.sources.map((source) => source.type))].filter((type) => type !== '');
+const type = types.length === 1 ? ` of ${visible(types[0])}` : '';
+const boxes = `${separated(drawing.count)} ${drawing.count === 1 ? 'box' : 'boxes'}`;
+if (page.view === 'compare') {
+const [before, after] = page.sources.map((source) => source.weight);
+const weights = `before ${exactText(before, page.unit)}, after ${exactText(after, page.unit)}${type}`;
+return `Comparison: ${weights}, ${changeText(before, after)}; ${boxes}`;
+}
+return `${kinds[page.view]} of ${files}: ${exactText(drawing.total, page.unit)}${type}, ${boxes}`;
+}
+function sourceText(source) {
+const type = source.type === '' ? '' : ` of ${visible(source.type)}`;
+return `${shortened(source.name, 300)}: ${exactText(source.weight, source.unit)}${type}`;
+}
+function unitsNotice(page) {
+const told = page.sources.map(({ name, unit }) => `${shortened(name, 60)} in ${unit === '' ? 'plain numbers' : visible(unit)}`);
+return `The sources have different units, so their sum means little: ${told.join(', ')}.`;
+}
+function typesNotice(page) {
+const told = page.sources.map(({ name, type }) => `${shortened(name, 60)} has ${visible(type)}`);
+return `The sources have different types of samples: ${told.join(', ')}.`;
+}
+function noticesOf(page, drawing) {
+const notices = [];
+if (page.unit === null) notices.push(unitsNotice(page));
+else if (new Set(page.sources.map((source) => source.type)).size > 1) notices.push(typesNotice(page));
+const most = page.sources.reduce((sum, source) => sum + source.weight, 0);
+if (most > Number.MAX_SAFE_INTEGER) {
+const limit = separated(Number.MAX_SAFE_INTEGER);
+notices.push(`Weights above ${limit} are rounded here: JavaScript has no more digits. The data in the document is exact.`);
+}
+const { boxes, weight } = drawing.leftOut;
+if (boxes > 0) {
+const least = weightText(drawing.least, page.unit);
+const many = `${separated(boxes)} ${boxes === 1 ? 'box' : 'boxes'}`;
+notices.push(`Left out: ${many} of together ${exactText(weight, page.unit)}, each lighter than ${least}.`);
+}
+if (drawing.count === 0 && boxes === 0) notices.push('No sample has weight, so there is nothing to draw.');
+return notices;
+}
+function drawingText(page, drawing, number) {
+if (page.view === 'compare') return `${number === 0 ? 'before' : 'after'}: ${shortened(page.sources[number].name, 100)}`;
+if (page.drawingCount === 1) return '';
+if (drawing.at === undefined) return 'all samples';
+const parts = drawing.counts.length > 1 ? ` (${drawing.counts.map(separated).join(' + ')})` : '';
+return `the first ${separated(drawing.at)} samples${parts}`;
+}
+"##;

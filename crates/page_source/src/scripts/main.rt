@@ -1,0 +1,127 @@
+//! What `page/join` takes of page/main.js. `checks/page_source --write` makes this file.
+
+pub(crate) const TEXT: &str = r##"function element(id) {
+return document.getElementById(id);
+}
+function afterPaint(action) {
+requestAnimationFrame(() => setTimeout(action, 0));
+}
+function start(page) {
+const stage = stageOf(page);
+const { picture } = stage;
+const showRing = ringOf(page, picture);
+const showLanes = laneStrip(page, (source) => change({ source, box: 0, focus: 0 }, true));
+const tip = tipOf(page);
+const matching = nameMatcher(page.names);
+const showFunctions = functionTable(page, (name) => change({ find: name, by: 'name' }, true));
+let view = null;
+let hovered = -1;
+function searched(state, drawing) {
+if (state.find === '') return { matches: null, isRefused: false };
+const isSame = view && view.matches && view.drawing === drawing && view.state.find === state.find && view.state.by === state.by;
+if (isSame) return { matches: view.matches, isRefused: false };
+const names = matching(state.find, state.by);
+return { matches: names && matchesOf(drawing, names), isRefused: !names };
+}
+function viewOf(state) {
+const drawing = page.drawing(state.drawing);
+return { state, drawing, span: spanOf(page, drawing, state), ...searched(state, drawing) };
+}
+function showFocus() {
+showRing(view);
+tip.status(view, hovered >= 0 ? hovered : view.state.focus);
+}
+function paint() {
+stage.paint(view);
+showLanes(view);
+showFocus();
+}
+function refresh() {
+if (stage.isStale()) paint();
+}
+function look(state, address) {
+const old = view;
+view = viewOf(state);
+hovered = -1;
+tip.hide();
+showTools(page, view);
+if (!old || old.drawing !== view.drawing) {
+showTop(page, view);
+afterPaint(() => showFunctions(view.drawing));
+}
+stage.makeRoom(view);
+if (state.below !== (old ? old.state.below : false)) picture.scrollTop = state.below ? picture.scrollHeight : 0;
+if (!old || old.state.box !== state.box || old.drawing !== view.drawing) revealFocus();
+paint();
+if (address) writeAddress(fragmentOf(page, view.drawing, state), address.isStep);
+}
+function change(changed, isStep) {
+look({ ...view.state, ...changed }, { isStep });
+}
+function revealFocus() {
+if (view.drawing.count > 0) stage.reveal(view, view.drawing.depth[view.state.focus]);
+}
+function isZoomed() {
+return view.state.box > 0 || view.state.source >= 0;
+}
+function zoomTo(box) {
+if (box === view.state.box && view.state.source < 0) change({ focus: box }, false);
+else change({ box, source: -1, focus: box }, true);
+}
+function goBack() {
+if (!isZoomed()) return;
+if (history.state?.steps > 0) history.back();
+else zoomTo(0);
+}
+function focusOn(box) {
+view = { ...view, state: { ...view.state, focus: box } };
+hovered = -1;
+tip.hide();
+revealFocus();
+refresh();
+showFocus();
+}
+function turnTo(number) {
+const { state, drawing } = view;
+const other = page.drawing(number);
+const same = (box) => (drawing.count && other.count ? boxAt(page, other, pathOf(page, drawing, box), drawing.start[box]) : 0);
+change({ drawing: number, box: same(state.box), focus: same(state.focus) }, false);
+}
+function toMatch(isForward) {
+if (!view.matches) return;
+const box = neighbourMatch(view.matches, view.state.focus, isForward);
+if (box < 0) return;
+if (!isInSpan(view.drawing, box, view.span)) change({ box: 0, source: -1, focus: box }, true);
+focusOn(box);
+}
+function lookAtAddress() {
+const state = stateOf(page, location.hash);
+look({ ...state, focus: state.box }, null);
+}
+const actions = { change, goBack, zoomTo, focusOn, turnTo, toMatch, refresh, view: () => view };
+lookAtAddress();
+if (page.view === 'compare') {
+goneList(page, (box) => change({ drawing: 0, source: -1, box, focus: box }, true));
+}
+listenToTools(page, stage, actions);
+listenToPointer(stage, tip, actions, (box) => { hovered = box; });
+listenToKeys(picture, actions);
+window.addEventListener('popstate', lookAtAddress);
+new ResizeObserver(actions.refresh).observe(picture);
+stage.darkness.addEventListener('change', paint);
+}
+function open() {
+let page;
+try {
+page = readPage();
+} catch (fault) {
+element('summary').textContent = `The data of this page cannot be read: ${fault.message}`;
+return;
+}
+element('tools').hidden = false;
+document.querySelector('main').hidden = false;
+afterPaint(() => performance.mark('painted'));
+start(page);
+}
+open();
+"##;

@@ -1,0 +1,52 @@
+//! What `page/join` takes of page/search.js. `checks/page_source --write` makes this file.
+
+pub(crate) const TEXT: &str = r##"function nameTest(find, by) {
+if (by === 'name') return (name) => name === find;
+const text = by === 'text' ? find.replace(/[\\^$.*+?()[\]{}|/]/g, '\\$&') : find;
+const flags = by === 'text' && find === find.toLowerCase() ? 'iu' : 'u';
+try {
+const expression = new RegExp(text, flags);
+return (name) => expression.test(name);
+} catch {
+return null;
+}
+}
+function nameMatcher(names) {
+let asked = '';
+let matching = null;
+return (find, by) => {
+const key = `${by} ${find}`;
+if (key !== asked) {
+const test = nameTest(find, by);
+asked = key;
+matching = test && Uint8Array.from(names, test);
+}
+return matching;
+};
+}
+function matchesOf(drawing, matching) {
+const boxes = [];
+let weight = 0;
+let covered = 0;
+for (let box = 0; box < drawing.count; box++) {
+if (!matching[drawing.name[box]] || drawing.depth[box] === 0) continue;
+boxes.push(box);
+if (box < covered) continue;
+covered = drawing.end[box];
+weight += drawing.weight[box];
+}
+return {
+boxes,
+weight,
+rows: rowsOf(drawing.depth, drawing.rowCount, boxes),
+isMatch: (box) => drawing.depth[box] > 0 && matching[drawing.name[box]] === 1,
+};
+}
+function neighbourMatch(matches, box, isForward) {
+const { boxes } = matches;
+if (boxes.length === 0) return -1;
+if (isForward) return boxes[firstPlace(0, boxes.length, (place) => boxes[place] > box) % boxes.length];
+const place = firstPlace(0, boxes.length, (each) => boxes[each] >= box);
+return boxes[(place + boxes.length - 1) % boxes.length];
+}
+"##;

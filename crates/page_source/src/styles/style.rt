@@ -1,0 +1,129 @@
+//! What `page/join` takes of page/style.css. `checks/page_source --write` makes this file.
+
+pub(crate) const TEXT: &str = r##":root {
+color-scheme: light dark;
+--paper: #fbfbf9;
+--ink: #23262b;
+--quiet: #5c626b;
+--line: #d5d8dc;
+--panel: #f1f2f0;
+--accent: #2b5fb3;
+--warning: #fff2cf;
+font: 14px/1.4 system-ui, sans-serif;
+}
+@media (prefers-color-scheme: dark) {
+:root {
+--paper: #1b1d20;
+--ink: #e4e6e9;
+--quiet: #a2a8b1;
+--line: #3b3f45;
+--panel: #25282c;
+--accent: #8db4f2;
+--warning: #4a3d12;
+}
+}
+* { box-sizing: border-box; }
+[hidden] { display: none !important; }
+body {
+background: var(--paper);
+color: var(--ink);
+display: flex;
+flex-direction: column;
+height: 100vh;
+margin: 0;
+padding: 0.6rem 0.8rem;
+}
+h1 { font-size: 1.15rem; margin: 0; overflow-wrap: anywhere; max-height: 3em; overflow: auto; unicode-bidi: isolate; }
+h2 { font-size: 1rem; margin: 0.2rem 0; }
+p { margin: 0.1rem 0; }
+#summary, #drawing-name { color: var(--quiet); }
+#sources ul { margin: 0; max-height: 12em; overflow: auto; padding-left: 1.2rem; }
+#sources li { overflow-wrap: anywhere; unicode-bidi: isolate; }
+#notices { list-style: none; margin: 0; max-height: 8em; overflow: auto; padding: 0; }
+#notices li { background: var(--warning); margin: 0.2rem 0; overflow-wrap: anywhere; padding: 0.2rem 0.5rem; }
+#tools { align-items: center; display: flex; flex-wrap: wrap; gap: 0.4rem 0.8rem; padding: 0.4rem 0; position: relative; }
+#search { align-items: center; display: flex; flex-wrap: wrap; gap: 0.3rem; }
+#find { width: 12rem; }
+#find[aria-invalid="true"] { outline: 2px solid #c0392b; }
+#matched { min-width: 7.5rem; }
+#help dl {
+background: var(--panel);
+border: 1px solid var(--line);
+margin: 0;
+padding: 0.5rem 0.8rem;
+position: absolute;
+right: 0;
+z-index: 3;
+}
+#help dt { font-weight: 600; }
+#help dd { margin: 0 0 0.3rem; }
+button, input, select { color: inherit; font: inherit; }
+:focus-visible { outline: 2px solid var(--accent); outline-offset: 1px; }
+main { display: flex; flex: 1; gap: 0.8rem; min-height: 0; }
+#stage { display: flex; flex: 1; flex-direction: column; min-width: 0; }
+#lanes { height: 1.6rem; overflow: hidden; position: relative; }
+#lanes button {
+background: var(--panel);
+border: 1px solid var(--line);
+bottom: 0;
+font-size: 12px;
+overflow: hidden;
+padding: 0 0.3rem;
+position: absolute;
+text-align: left;
+text-overflow: ellipsis;
+top: 0;
+unicode-bidi: isolate;
+white-space: nowrap;
+}
+#picture { cursor: default; flex: 1; min-height: 6rem; overflow-x: hidden; overflow-y: auto; position: relative; }
+#room { min-height: 100%; position: relative; }
+#canvas { display: block; left: 0; position: sticky; top: 0; }
+.ring { outline: 1px solid var(--ink); outline-offset: -1px; pointer-events: none; position: absolute; }
+#picture:focus .ring { box-shadow: 0 0 0 1px var(--paper); outline: 3px solid var(--accent); outline-offset: -3px; }
+#status { color: var(--quiet); height: 1.4em; overflow: hidden; text-overflow: ellipsis; unicode-bidi: isolate; white-space: nowrap; }
+#paper { display: none; }
+#lists { border-left: 1px solid var(--line); overflow-y: auto; padding-left: 0.8rem; width: 27rem; }
+#functions table { border-collapse: collapse; width: 100%; }
+#functions th { background: var(--paper); padding: 0 0 0 0.6rem; position: sticky; text-align: right; top: 0; white-space: nowrap; }
+#functions td { font-variant-numeric: tabular-nums; padding: 0 0 0 0.6rem; text-align: right; white-space: nowrap; }
+#functions th:first-child, #functions td:first-child { max-width: 0; padding: 0; text-align: left; width: 100%; }
+#functions th button, #lists td button, #gone-list button { background: none; border: 0; padding: 0; text-align: inherit; }
+#functions th button { font-weight: 600; }
+#functions th[aria-sort="descending"] button::after { content: " \25be"; }
+#functions th[aria-sort="ascending"] button::after { content: " \25b4"; }
+#lists td button, #gone-list button {
+display: block;
+font: 12px/1.6 ui-monospace, monospace;
+max-width: 100%;
+overflow: hidden;
+text-overflow: ellipsis;
+unicode-bidi: isolate;
+white-space: nowrap;
+}
+#lists td button:hover, #gone-list button:hover { text-decoration: underline; }
+#gone { border-bottom: 1px solid var(--line); margin-bottom: 0.5rem; padding-bottom: 0.5rem; }
+#gone-list { list-style: none; margin: 0; max-height: 40vh; overflow: auto; padding: 0; }
+#tip {
+background: var(--panel);
+border: 1px solid var(--line);
+box-shadow: 0 2px 8px rgb(0 0 0 / 25%);
+left: 0;
+max-height: 60vh;
+max-width: min(40rem, 90vw);
+overflow: hidden;
+padding: 0.3rem 0.6rem;
+pointer-events: none;
+position: fixed;
+top: 0;
+z-index: 4;
+}
+#tip p { overflow-wrap: anywhere; unicode-bidi: isolate; }
+#tip p:first-child { font: 12px/1.4 ui-monospace, monospace; font-weight: 600; }
+@media (max-width: 60rem) {
+body { height: auto; min-height: 100vh; }
+main { flex-direction: column; }
+#picture { height: 70vh; }
+#lists { border-left: 0; padding: 0; width: auto; }
+}
+"##;

@@ -1,0 +1,44 @@
+-- What a page says beside its drawings.
+use Rattle.std.proofs.Common.{◌≡◌, ◌<◌, ◌+◌, ◌++◌, ◌∙◌, ◌∷◌, [], ℕ, List, map, length, codes, refl, ap, sym, arith}
+use Rattle.std.specs.List.{flat_map, join_by, range_with_len}
+use Rattle.std.proofs.lemmas.List.{map_push}
+use Rattle.std.proofs.lemmas.List.FromFn.{map-range_with_len_more}
+use Rattle.sample_tables.specs.declared.samples.Sample.{Sample}
+use Rattle.stack_core.specs.Interleaving.{list_of}
+use Rattle.merged_stacks.specs.Timeline.{total_weight}
+use Rattle.page_texts.specs.Drawn.{source_of}
+use Rattle.page_texts.specs.Page.{PageSource}
+use Rattle.page_texts.specs.declared.pages.Source.{Source}
+use Rattle.sent_views.specs.Pages.{default_title, source_at}
+use Rattle.opened_sources.specs.Names.{source_name}
+
+-- texts joined are their bytes joined
+joined_later : {A : Type 0} (bytes : A → List ℕ) (separator : List ℕ) (texts : List A)
+    → flat_map (λ text. separator ++ bytes text) texts ≡ flat_map (λ text. separator ++ text) (map bytes texts)
+joined_later bytes separator [] = refl
+joined_later bytes separator (text ∷ texts) = ap (λ later. (separator ++ bytes text) ++ later) (joined_later bytes separator texts)
+
+pub joined_title : {A : Type 0} (bytes : A → List ℕ) (files : List A) → 0 < length files → join_by bytes (codes ", ") files ≡ default_title (map bytes files)
+joined_title bytes [] some = absurd (omega arith)
+joined_title bytes (file ∷ files) some = ap (λ later. bytes file ++ later) (joined_later bytes (codes ", ") files)
+
+pub no_title : {A : Type 0} (bytes : A → List ℕ) (files : List A) → length files ≡ 0 → codes "standard input" ≡ default_title (map bytes files)
+no_title bytes [] none = refl
+no_title bytes (file ∷ files) none = absurd (omega arith)
+
+-- a source that is told by its parts
+pub told_source : (source : Source) (files : List (List ℕ)) (lists : List (List Sample)) (at : ℕ)
+    → source.name.now ≡ source_name files at → source.type_name.now ≡ [] → source.unit.now ≡ [] → source.weight ≡ total_weight (list_of lists at)
+    → source_of source ≡ source_at files lists at
+told_source source files lists at named typed counted weighed = λ i. record {
+  name = named i;
+  type_name = typed i;
+  unit = counted i;
+  weight = weighed i;
+}
+
+pub told_more : (files : List (List ℕ)) (lists : List (List Sample)) (at : ℕ) (told more : List Source) (source : Source) → more ≡ told ++ source ∷ []
+    → map source_of told ≡ map (source_at files lists) (range_with_len 0 at) → source_of source ≡ source_at files lists at
+    → map source_of more ≡ map (source_at files lists) (range_with_len 0 (at + 1))
+told_more files lists at told more source pushed so_far here =
+    ap (map source_of) pushed ∙ map_push source_of told source ∙ (λ i. so_far i ++ here i ∷ []) ∙ sym (map-range_with_len_more (source_at files lists) 0 at at (omega arith))

@@ -1,0 +1,32 @@
+-- Worked examples of what a page says beside its drawings, computed on the definitions.
+use Rattle.std.proofs.Common.{◌≡◌, ℕ, List, [], ◌∷◌, codes, refl, Some, None}
+use Rattle.sample_tables.specs.declared.samples.Sample.{Sample}
+use Rattle.command_line.specs.Plans.{default_plan}
+use Rattle.page_texts.specs.Page.{PageSource}
+use Rattle.sent_views.specs.Pages.{asked_heading, default_title, sources_of}
+use Rattle.opened_sources.specs.Names.{source_name}
+
+title_of_the_input : default_title [] ≡ codes "standard input"
+title_of_the_input = refl
+
+title_of_one_file : default_title (codes "a.pb" ∷ []) ≡ codes "a.pb"
+title_of_one_file = refl
+
+title_of_two_files : default_title (codes "a.pb" ∷ codes "b, c" ∷ []) ≡ codes "a.pb, b, c"
+title_of_two_files = refl
+
+abbrev weighing : ℕ → Sample
+weighing weight = record { stack = codes "a" ∷ []; weight = weight }
+
+abbrev named : List ℕ → ℕ → PageSource
+named name weight = record { name = name; type_name = []; unit = []; weight = weight }
+
+sources_of_two_files : sources_of (codes "x" ∷ codes "y" ∷ []) ((weighing 2 ∷ weighing 3 ∷ []) ∷ [] ∷ []) ≡ named (codes "x") 5 ∷ named (codes "y") 0 ∷ []
+sources_of_two_files = refl
+
+source_of_the_input : sources_of [] ((weighing 2 ∷ []) ∷ []) ≡ named (codes "-") 2 ∷ []
+source_of_the_input = refl
+
+-- a title that the words set is taken as it is
+asked_title : (asked_heading default_plan (record { title = Some (codes "t"); least = None }) []).title ≡ codes "t"
+asked_title = refl

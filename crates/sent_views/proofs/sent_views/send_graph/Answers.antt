@@ -1,0 +1,14 @@
+use Rattle.std.proofs.Common.{subst, ap, map, ℕ, List, ◌∙◌}
+use Rattle.flame_layout.specs.Boxes.{span_of}
+use Rattle.merged_stacks.specs.Timeline.{samples_of}
+use Rattle.merging.specs.Sums.{all_samples}
+use Rattle.opened_sources.specs.Failures.{Sends}
+use Rattle.sent_views.proofs.sent_views.send_graph.Goals as goal
+
+pub returns-clause-sent : goal.returns-clause-sent
+returns-clause-sent g c = subst (λ (text : List ℕ). Sends text (g.W.Outlet.contents c.args.out.now) (g.W.Outlet.contents c.send_text.new.out) c.send_text.result) c.drawn_graph.ensures.text c.send_text.ensures.sent
+
+pub drawn_graph-requires : goal.drawn_graph-requires
+drawn_graph-requires g c = record {
+  boxes = ap (map span_of) c.deref.ensures.value ∙ c.in_ok-boxes.ensures.graph (all_samples (samples_of c.args.sources.now.lists)) c.in_ok-merged.ensures;
+}

@@ -1,0 +1,2 @@
+-- The definitions that the contracts of sent_views cite.
+pub mod Pages

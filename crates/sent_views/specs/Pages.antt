@@ -1,0 +1,63 @@
+-- The page that a plan asks for, of the lists of its samples, and the text of a plan whatever its form.
+use Rattle.std.specs.Prelude.{ℕ, List, [], ◌∷◌, codes, length, map, Option, None, unwrap_or}
+use Rattle.std.specs.List.{join_by, range_with_len}
+use Rattle.sample_tables.specs.declared.samples.Sample.{Sample}
+use Rattle.stack_core.specs.Interleaving.{list_of}
+use Rattle.merged_stacks.specs.Timeline.{total_weight}
+use Rattle.command_line.specs.declared.plans.Form.{Form}
+use Rattle.command_line.specs.declared.plans.Form.TheVariants as form
+use Rattle.command_line.specs.declared.plans.PageForm.{PageForm}
+use Rattle.command_line.specs.declared.plans.Plan.{Plan}
+use Rattle.command_line.specs.declared.plans.View.{View}
+use Rattle.command_line.specs.declared.plans.View.TheVariants.{Fold, Graph, Chart, Pairs, PairBoxes, Top}
+use Rattle.page_texts.specs.Document.{document_text}
+use Rattle.page_texts.specs.Page.{PageSource}
+use Rattle.page_views.specs.Pages.{PageHeading, chart_page, comparison_page, graph_page}
+use Rattle.opened_sources.specs.Names.{source_name}
+use Rattle.source_views.specs.Texts.{view_text}
+
+-- a source of a page; the type and the unit of its weights are not told
+abbrev pub source_at : List (List ℕ) → List (List Sample) → ℕ → PageSource
+source_at files lists at = record {
+  name = source_name files at;
+  type_name = [];
+  unit = [];
+  weight = total_weight (list_of lists at);
+}
+
+-- a source for each list, in order
+abbrev pub sources_of : List (List ℕ) → List (List Sample) → List PageSource
+sources_of files lists = map (source_at files lists) (range_with_len 0 (length lists))
+
+-- what a page is called where the words say nothing
+abbrev pub default_title : List (List ℕ) → List ℕ
+default_title [] = codes "standard input"
+default_title (file ∷ files) = join_by (λ name. name) (codes ", ") (file ∷ files)
+
+abbrev pub asked_heading : Plan → PageForm → List (List Sample) → PageHeading
+asked_heading plan page lists = record {
+  title = unwrap_or page.title (default_title plan.files);
+  sources = sources_of plan.files lists;
+  least = page.least;
+}
+
+-- the page of a view with boxes; the others have none, and no words ask for a page of them
+abbrev pub headed_text : PageHeading → View → List (List Sample) → List ℕ
+headed_text heading Fold lists = view_text Fold lists [] None
+headed_text heading (Graph width) lists = document_text (graph_page heading lists)
+headed_text heading (Chart width) lists = document_text (chart_page heading lists)
+headed_text heading Pairs lists = view_text Pairs lists [] None
+headed_text heading (PairBoxes width) lists = document_text (comparison_page heading (list_of lists 0) (list_of lists 1))
+headed_text heading (Top top) lists = view_text (Top top) lists [] None
+
+abbrev pub page_text : Plan → PageForm → List (List Sample) → List ℕ
+page_text plan page lists = headed_text (asked_heading plan page lists) plan.view lists
+
+abbrev pub text_in : Form → Plan → List (List Sample) → List ℕ → Option ℕ → List ℕ
+text_in form.Text plan lists order every = view_text plan.view lists order every
+text_in (form.Page page) plan lists order every = page_text plan page lists
+text_in form.Types plan lists order every = view_text plan.view lists order every
+
+-- the text that a plan asks for: its page, or that of its view
+abbrev pub shown_text : Plan → List (List Sample) → List ℕ → Option ℕ → List ℕ
+shown_text plan lists order every = text_in plan.form plan lists order every

@@ -1,0 +1,8 @@
+//! The texts and the pages of views, sent while they are made.
+#![tactic(auto)]
+
+mod sent_pages;
+mod sent_views;
+
+pub use sent_pages::send_asked_page;
+pub use sent_views::{send_plain_view, send_snapshots, send_text};

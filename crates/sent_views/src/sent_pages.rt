@@ -1,0 +1,175 @@
+//! Pages for browsers of what was collected, sent while they are made.
+ghost use Rattle.std.specs.Prelude.{◌≡◌, ◌<◌, ◌^◌, [], IfOk, length, map, string_bytes, unwrap_or};
+ghost use Rattle.merged_stacks.specs.Timeline.{samples_of, total_weight};
+ghost use Rattle.page_texts.specs.Document.{document_text};
+ghost use Rattle.page_texts.specs.Drawn.{source_of};
+ghost use Rattle.page_views.specs.Pages.{chart_page, comparison_page, graph_page, heading_of};
+ghost use Rattle.command_line.specs.Plans.{IsComparison};
+ghost use Rattle.sent_views.specs.Pages.{default_title, headed_text, page_text, sources_of};
+ghost use Rattle.opened_sources.specs.Failures.{Flushes, Sends};
+
+use crate::sent_views::send_plain_view;
+use byte_io::Outlet;
+use command_line::{PageForm, Plan, View};
+use merging::SourceLists;
+use opened_sources::{Failure, path_of};
+use page_views::{Heading, Source, send_chart_page, send_comparison_page, send_graph_page};
+use stack_core::SourceList;
+use std::alloc::{AllocError, Global};
+
+/// Sends the page that a plan asks for.
+pub fn send_asked_page<W: Outlet>(
+    alloc: Global,
+    sources: &SourceLists,
+    plan: &Plan,
+    page: &PageForm,
+    out: &mut W,
+) -> Result<(), Failure>
+    requires pairs { IsComparison plan.now.view → length sources.now.lists ≡ 2 }
+    ensures sent { Sends (page_text plan.now page.now (samples_of sources.now.lists))
+        (W.contents out.old) (W.contents out.new) result }
+    ensures flushed { Flushes (W.is_flushed out.new) (W.failures out.old) (W.failures out.new)
+        result }
+{
+    let files = plan.files.get();
+    let title = title_of(alloc, page, files)?;
+    let described = described_sources(alloc, files, sources)?;
+    let heading = Heading {
+        title: title.as_str(),
+        sources: &described,
+        least: page.least,
+    };
+    send_headed(alloc, sources, plan.view, &heading, out)
+}
+
+// What a page of these files is called.
+fn title_of(alloc: Global, page: &PageForm, files: &[String]) -> Result<String, AllocError>
+    ensures { IfOk result (λ title. string_bytes title
+        ≡ unwrap_or page.now.title (default_title (map string_bytes files.now))) }
+{
+    match &page.title {
+        Some(title) => String::from_str(alloc, title.get()),
+        None => joined_names(alloc, files),
+    }
+}
+
+// The names of the files, or those words where there is none.
+fn joined_names(alloc: Global, files: &[String]) -> Result<String, AllocError>
+    ensures { IfOk result (λ title. string_bytes title
+        ≡ default_title (map string_bytes files.now)) }
+{
+    if files.is_empty() {
+        String::from_str(alloc, "standard input")
+    } else {
+        files.join(alloc, ", ")
+    }
+}
+
+// The sources of a page, one for each list.
+fn described_sources<'a>(
+    alloc: Global,
+    files: &'a [String],
+    sources: &SourceLists,
+) -> Result<Vec<Source<'a>>, AllocError>
+    ensures { IfOk result (λ described. map source_of described.items
+        ≡ sources_of (map string_bytes files.now) (samples_of sources.now.lists)) }
+{
+    let lists = sources.lists();
+    let mut described = Vec::with_capacity(alloc, lists.len())?;
+    for at in 0..lists.len() {
+        described.push(described_source(path_of(files, at), &lists[at]))?;
+    }
+    Ok(described)
+}
+
+// A source of a page.
+fn described_source<'a>(name: &'a str, list: &SourceList) -> Source<'a>
+    requires { total_weight list.now.samples < 2 ^ 64 }
+    ensures name { result.name.now ≡ name.now }
+    ensures type_name { result.type_name.now ≡ [] }
+    ensures unit { result.unit.now ≡ [] }
+    ensures weight { result.weight ≡ total_weight list.now.samples }
+{
+    Source {
+        name,
+        type_name: "",
+        unit: "",
+        weight: list.total() as u64,
+    }
+}
+
+// Sends the page of a view under a heading, or the text of a view that has no boxes.
+fn send_headed<W: Outlet>(
+    alloc: Global,
+    sources: &SourceLists,
+    view: View,
+    heading: &Heading<'_>,
+    out: &mut W,
+) -> Result<(), Failure>
+    requires pairs { IsComparison view → length sources.now.lists ≡ 2 }
+    ensures sent { Sends (headed_text (heading_of heading.now) view (samples_of sources.now.lists))
+        (W.contents out.old) (W.contents out.new) result }
+    ensures flushed { Flushes (W.is_flushed out.new) (W.failures out.old) (W.failures out.new)
+        result }
+{
+    match view {
+        View::Graph(_) => send_graph(alloc, sources, heading, out),
+        View::Chart(_) => send_chart(alloc, sources, heading, out),
+        View::PairBoxes(_width) => {
+            let lists = sources.lists();
+            send_comparison(alloc, &lists[0], &lists[1], heading, out)
+        }
+        View::Fold | View::Pairs | View::Top(_) => send_plain_view(alloc, sources, view, out),
+    }
+}
+
+// Sends the page of the graph.
+fn send_graph<W: Outlet>(
+    alloc: Global,
+    sources: &SourceLists,
+    heading: &Heading<'_>,
+    out: &mut W,
+) -> Result<(), Failure>
+    ensures sent { Sends (document_text (graph_page (heading_of heading.now)
+        (samples_of sources.now.lists))) (W.contents out.old) (W.contents out.new) result }
+    ensures flushed { Flushes (W.is_flushed out.new) (W.failures out.old) (W.failures out.new)
+        result }
+{
+    send_graph_page(alloc, sources, heading, out)?;
+    Ok(())
+}
+
+// Sends the page of the chart.
+fn send_chart<W: Outlet>(
+    alloc: Global,
+    sources: &SourceLists,
+    heading: &Heading<'_>,
+    out: &mut W,
+) -> Result<(), Failure>
+    ensures sent { Sends (document_text (chart_page (heading_of heading.now)
+        (samples_of sources.now.lists))) (W.contents out.old) (W.contents out.new) result }
+    ensures flushed { Flushes (W.is_flushed out.new) (W.failures out.old) (W.failures out.new)
+        result }
+{
+    send_chart_page(alloc, sources, heading, out)?;
+    Ok(())
+}
+
+// Sends the page of the comparison of two profiles.
+fn send_comparison<W: Outlet>(
+    alloc: Global,
+    before: &SourceList,
+    after: &SourceList,
+    heading: &Heading<'_>,
+    out: &mut W,
+) -> Result<(), Failure>
+    requires before { total_weight before.now.samples < 2 ^ 64 }
+    requires after { total_weight after.now.samples < 2 ^ 64 }
+    ensures sent { Sends (document_text (comparison_page (heading_of heading.now)
+        before.now.samples after.now.samples)) (W.contents out.old) (W.contents out.new) result }
+    ensures flushed { Flushes (W.is_flushed out.new) (W.failures out.old) (W.failures out.new)
+        result }
+{
+    send_comparison_page(alloc, before, after, heading, out)?;
+    Ok(())
+}

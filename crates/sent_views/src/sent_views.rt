@@ -1,0 +1,178 @@
+//! The texts of views, sent while they are made.
+ghost use Rattle.std.specs.Prelude.{◌≡◌, ◌<◌, ◌^◌, [], None, length};
+ghost use Rattle.std.specs.List.{concat};
+ghost use Rattle.merged_stacks.specs.Timeline.{samples_of, total_weight};
+ghost use Rattle.view_texts.specs.Fold.{fold_text};
+ghost use Rattle.view_texts.specs.Pairs.{pairs_text};
+ghost use Rattle.merging.specs.Sums.{all_samples};
+ghost use Rattle.command_line.specs.Plans.{IsComparison};
+ghost use Rattle.source_views.specs.Texts.{chart_text, graph_line, graph_text, pair_boxes_text, top_text, view_text};
+ghost use Rattle.opened_sources.specs.Failures.{Flushes, Sends};
+ghost use Rattle.stack_core.specs.Interleaving.{list_of};
+
+use byte_io::{Outlet, Pieces, send_pieces};
+use command_line::{TopTable, View};
+use flame_layout::{MergedStacks, Width, draw_comparison, draw_merged};
+use merged_stacks::PairedStacks;
+use merging::{Gathered, SourceLists};
+use opened_sources::Failure;
+use source_views::{
+    drawn_chart, drawn_graph, drawn_graph_text, lend_chart, merge, weigh_functions,
+};
+use stack_core::SourceList;
+use std::alloc::Global;
+use sum_texts::{SumLine, SumTable};
+use view_texts::{FoldedText, PairedText, Scale, comparison_line};
+
+/// Sends the text of a view without snapshots, and draws no more than that view needs.
+pub fn send_plain_view<W: Outlet>(
+    alloc: Global,
+    sources: &SourceLists,
+    view: View,
+    out: &mut W,
+) -> Result<(), Failure>
+    requires pairs { IsComparison view → length sources.now.lists ≡ 2 }
+    ensures sent { Sends (view_text view (samples_of sources.now.lists) [] None)
+        (W.contents out.old) (W.contents out.new) result }
+    ensures flushed { Flushes (W.is_flushed out.new) (W.failures out.old) (W.failures out.new)
+        result }
+{
+    match view {
+        View::Fold => send_fold(alloc, sources, out),
+        View::Graph(width) => send_graph(alloc, sources, width, out),
+        View::Chart(width) => send_chart(alloc, sources, width, out),
+        View::Pairs => send_pairs(alloc, sources, out),
+        View::PairBoxes(width) => {
+            let lists = sources.lists();
+            send_compared(alloc, &lists[0], &lists[1], width, out)
+        }
+        View::Top(top) => send_top(alloc, sources, top, out),
+    }
+}
+
+/// Sends the lines of the snapshots, and then that of the graph.
+pub fn send_snapshots<W: Outlet>(
+    alloc: Global,
+    gathered: &Gathered,
+    width: Width,
+    out: &mut W,
+) -> Result<(), Failure>
+    ensures sent { Sends (graph_text width (samples_of gathered.now.lists) gathered.now.order
+        gathered.now.every) (W.contents out.old) (W.contents out.new) result }
+    ensures flushed { Flushes (W.is_flushed out.new) (W.failures out.old) (W.failures out.new)
+        result }
+{
+    let merged = merge(alloc, gathered.sources())?;
+    let boxes = draw_merged(alloc, &merged)?;
+    send_text(alloc, &drawn_graph_text(gathered, &boxes, width), out)
+}
+
+// Sends the fold text of all samples.
+fn send_fold<W: Outlet>(alloc: Global, sources: &SourceLists, out: &mut W) -> Result<(), Failure>
+    ensures sent { Sends (fold_text (all_samples (samples_of sources.now.lists)))
+        (W.contents out.old) (W.contents out.new) result }
+    ensures flushed { Flushes (W.is_flushed out.new) (W.failures out.old) (W.failures out.new)
+        result }
+{
+    let merged = MergedStacks::of(alloc, sources.lists())?;
+    send_text(alloc, &FoldedText::of(&merged), out)
+}
+
+// Sends the line of the graph alone.
+fn send_graph<W: Outlet>(
+    alloc: Global,
+    sources: &SourceLists,
+    width: Width,
+    out: &mut W,
+) -> Result<(), Failure>
+    ensures sent { Sends (graph_line width (all_samples (samples_of sources.now.lists)))
+        (W.contents out.old) (W.contents out.new) result }
+    ensures flushed { Flushes (W.is_flushed out.new) (W.failures out.old) (W.failures out.new)
+        result }
+{
+    let merged = merge(alloc, sources)?;
+    let boxes = draw_merged(alloc, &merged)?;
+    send_text(alloc, &drawn_graph(sources, &boxes, width), out)
+}
+
+// Sends the line of the chart.
+fn send_chart<W: Outlet>(
+    alloc: Global,
+    sources: &SourceLists,
+    width: Width,
+    out: &mut W,
+) -> Result<(), Failure>
+    ensures sent { Sends (chart_text width (samples_of sources.now.lists))
+        (W.contents out.old) (W.contents out.new) result }
+    ensures flushed { Flushes (W.is_flushed out.new) (W.failures out.old) (W.failures out.new)
+        result }
+{
+    let boxes = lend_chart(alloc, sources)?;
+    send_text(alloc, &drawn_chart(sources, &boxes, width), out)
+}
+
+// Sends the two-column text of the first two sources.
+fn send_pairs<W: Outlet>(alloc: Global, sources: &SourceLists, out: &mut W) -> Result<(), Failure>
+    requires { length sources.now.lists ≡ 2 }
+    ensures sent { Sends (pairs_text (list_of (samples_of sources.now.lists) 0)
+        (list_of (samples_of sources.now.lists) 1)) (W.contents out.old) (W.contents out.new) result }
+    ensures flushed { Flushes (W.is_flushed out.new) (W.failures out.old) (W.failures out.new)
+        result }
+{
+    let lists = sources.lists();
+    let stacks = PairedStacks::of(alloc, &lists[0], &lists[1])?;
+    send_text(alloc, &PairedText::of(&stacks), out)
+}
+
+// Sends the flame graph of the second profile, with the weights of the first.
+fn send_compared<W: Outlet>(
+    alloc: Global,
+    before: &SourceList,
+    after: &SourceList,
+    width: Width,
+    out: &mut W,
+) -> Result<(), Failure>
+    requires before { total_weight before.now.samples < 2 ^ 64 }
+    requires after { total_weight after.now.samples < 2 ^ 64 }
+    ensures sent { Sends (pair_boxes_text width before.now.samples after.now.samples)
+        (W.contents out.old) (W.contents out.new) result }
+    ensures flushed { Flushes (W.is_flushed out.new) (W.failures out.old) (W.failures out.new)
+        result }
+{
+    let boxes = draw_comparison(alloc, before, after)?;
+    let total = after.total() as u64;
+    let line = comparison_line(before.total() as u64, &boxes, Scale { total, width });
+    send_text(alloc, &line, out)
+}
+
+// Sends the heaviest functions, as a table or as a line of JSON.
+fn send_top<W: Outlet>(
+    alloc: Global,
+    sources: &SourceLists,
+    top: TopTable,
+    out: &mut W,
+) -> Result<(), Failure>
+    ensures sent { Sends (top_text top (all_samples (samples_of sources.now.lists)))
+        (W.contents out.old) (W.contents out.new) result }
+    ensures flushed { Flushes (W.is_flushed out.new) (W.failures out.old) (W.failures out.new)
+        result }
+{
+    let sums = weigh_functions(alloc, sources, top.by)?;
+    let whole = sources.total();
+    if top.is_json {
+        send_text(alloc, &SumLine::of(&sums, top.rows, whole), out)
+    } else {
+        send_text(alloc, &SumTable::of(&sums, top.rows, whole), out)
+    }
+}
+
+/// Sends a text while it is made.
+pub fn send_text<P: Pieces, W: Outlet>(alloc: Global, text: &P, out: &mut W) -> Result<(), Failure>
+    requires { length (P.pieces text.now) < 2 ^ 64 }
+    ensures sent { Sends (concat (P.pieces text.now)) (W.contents out.old) (W.contents out.new) result }
+    ensures flushed { Flushes (W.is_flushed out.new) (W.failures out.old) (W.failures out.new)
+        result }
+{
+    send_pieces(alloc, text, out)?;
+    Ok(())
+}

@@ -1,0 +1,229 @@
+-- What a filter keeps of lists, by the numbers of names and stacks.
+use Rattle.std.proofs.Common.{◌≡◌, ◌∙◌, ◌<◌, ◌≤◌, ◌+◌, ◌||◌, ◌&&◌, ℕ, zero, suc, Bool, true, false, cond, not, refl, sym, ap, subst, arith, List, [], ◌∷◌, ◌++◌, length, take, drop, map, get_or, set, All, inl, inr}
+use Rattle.std.specs.List.{filter, list_any}
+use Rattle.std.specs.Prelude.{Option, Some, None, nat_eq}
+use Rattle.std.proofs.lemmas.Bool.{cases_eq, cases_lt}
+use Rattle.std.proofs.lemmas.List.{map_push, get_or-map, get_or_past, get_or-set_same, get_or-set_other, take_all, take_more, take-append-drop, length-map, length-take-le, append-nil}
+use Rattle.std.proofs.lemmas.List.Elements.{All-head, All-tail, All-map, filter-append}
+use Rattle.std.proofs.lemmas.List.Filters.{length-filter_more}
+use Rattle.std.proofs.lemmas.List.Sums.{count_by-le-length}
+use Rattle.std.proofs.lemmas.Simd.{map-map}
+use Rattle.sample_tables.specs.declared.samples.Sample.{Sample}
+use Rattle.sample_tables.specs.Rows.{AreNamed, Row, name_at, named, row_at, row_by, sample_at, stack_at}
+use Rattle.stack_core.specs.Interleaving.{IsInterleaving, count_of, list_of}
+use Rattle.stack_core.specs.Ledgers.{ListState}
+use Rattle.stack_core.specs.Reading.{IsSourceLimited, Rest}
+use Rattle.stack_core.specs.declared.endings.Close.{Close}
+use Rattle.stack_core.specs.declared.endings.Close.TheVariants.{NoMemory, Read}
+use Rattle.stack_core.specs.declared.endings.SourceEnd.{SourceEnd}
+use Rattle.stack_core.proofs.InterleavingLemmas.{count_of-append}
+use Rattle.run_options.specs.Filters.{has_match, has_text, is_everything, is_none, keeps, kept_rest, kept_samples}
+use Rattle.run_options.proofs.FilterLemmas.{all_is_kept, limited_kept}
+use Rattle.run_options.specs.declared.filters.Filter.{Filter}
+use Rattle.merged_stacks.specs.Timeline.{samples_of}
+use Rattle.ring_collect.specs.Collection.{seen_as_rest}
+use Rattle.source_lists.specs.Lists.{AreLimited}
+use Rattle.source_lists.specs.checked.KeptStacks.{all_are_kept, are_kept, are_matched, is_marked}
+use Rattle.source_lists.proofs.OrderLemmas.{count_of-push}
+
+-- ---- names and stacks
+
+or_false : (b : Bool) → (b || false) ≡ b
+or_false true = refl
+or_false false = refl
+
+-- one name more
+pub matched_more : (texts told : List (List ℕ)) (n : ℕ) (marks : List Bool) (b : Bool) → n < length told → marks ≡ are_matched texts (take n told) → b ≡ has_match texts (name_at told n ∷ []) → marks ++ b ∷ [] ≡ are_matched texts (take (n + 1) told)
+matched_more texts told n marks b within so_far one =
+    (λ i. so_far i ++ one i ∷ [])
+    ∙ (sym (map_push (λ name. has_match texts (name ∷ [])) (take n told) (name_at told n)) ∙ ap (are_matched texts) (sym (take_more told n [] within)))
+
+-- the mark of a name says whether it is matched
+marked : (texts told : List (List ℕ)) (k : ℕ) → k < length told → is_marked (are_matched texts told) k ≡ list_any (λ text. has_text text (name_at told k)) texts
+marked texts told k within =
+    get_or-map (λ name. has_match texts (name ∷ [])) told k [] false within
+    ∙ or_false (list_any (λ text. has_text text (name_at told k)) texts)
+
+-- a stack is matched where one of its numbers is marked
+pub any_marked : (texts told : List (List ℕ)) (frames : List ℕ) → All (λ k. k < length told) frames → list_any (is_marked (are_matched texts told)) frames ≡ has_match texts (map (name_at told) frames)
+any_marked texts told [] h = refl
+any_marked texts told (k ∷ frames) h =
+    λ i. marked texts told k (All-head (λ k. k < length told) k frames h) i || any_marked texts told frames (All-tail (λ k. k < length told) k frames h) i
+
+not_not : (b : Bool) → not (not b) ≡ b
+not_not true = refl
+not_not false = refl
+
+pub keeps_by_marks : (asked : Filter) (told : List (List ℕ)) (frames : List ℕ) → All (λ k. k < length told) frames
+    → ((not (not (is_none asked.focus)) || list_any (is_marked (are_matched asked.focus told)) frames) && not (list_any (is_marked (are_matched asked.hide told)) frames))
+    ≡ keeps asked (map (name_at told) frames)
+keeps_by_marks asked told frames h =
+    λ i. (not_not (is_none asked.focus) i || any_marked asked.focus told frames h i) && not (any_marked asked.hide told frames h i)
+
+-- ---- samples
+
+pub sample_named : (told : List (List ℕ)) (rows : List Row) (samples : List Sample) (i : ℕ) → AreNamed told rows samples → i < length samples → sample_at samples i ≡ named told (row_at rows i)
+sample_named told rows samples i h within =
+    let within_rows : i < length rows = omega (arith, within, ap length h.samples_named, length-map rows (named told)) in
+    ap (λ samples. sample_at samples i) h.samples_named ∙ get_or-map (named told) rows i (record { frames = []; weight = 0 }) (record { stack = []; weight = 0 }) within_rows
+
+-- the mark of a sample's stack says whether it is kept
+pub kept_by_stack : (asked : Filter) (list : ListState) (i n : ℕ) → AreNamed list.told list.rows list.samples → i < length list.samples → n < length list.stacks → stack_at list.stacks n ≡ (row_at list.rows i).frames
+    → is_marked (are_kept asked list) n ≡ keeps asked (sample_at list.samples i).stack
+kept_by_stack asked list i n h within kept same =
+    get_or-map (λ frames. keeps asked (map (name_at list.told) frames)) list.stacks n [] false kept
+    ∙ (ap (λ frames. keeps asked (map (name_at list.told) frames)) same
+    ∙ ap (λ (sample : Sample). keeps asked sample.stack) (sym (sample_named list.told list.rows list.samples i h within)))
+
+-- a sample that is taken again by its stack
+pub taken_again : (list : ListState) (i n w : ℕ) → AreNamed list.told list.rows list.samples → i < length list.samples → stack_at list.stacks n ≡ (row_at list.rows i).frames → w ≡ (sample_at list.samples i).weight
+    → named list.told (row_by list.stacks (record { stack = n; weight = w })) ≡ sample_at list.samples i
+taken_again list i n w h within same weight =
+    let is = sample_named list.told list.rows list.samples i h within in
+    (λ j. record { stack = map (name_at list.told) (same j); weight = weight j })
+    ∙ ap (λ (sample : Sample). record { stack = sample.stack; weight = (sample_at list.samples i).weight }) (sym is)
+
+-- one sample more
+pub kept_more : (asked : Filter) (samples : List Sample) (i : ℕ) → i < length samples
+    → kept_samples asked (take i samples) ++ kept_samples asked (sample_at samples i ∷ []) ≡ kept_samples asked (take (i + 1) samples)
+kept_more asked samples i within =
+    sym (filter-append (λ (sample : Sample). keeps asked sample.stack) (take i samples) (sample_at samples i ∷ []))
+    ∙ ap (kept_samples asked) (sym (take_more samples i (record { stack = []; weight = 0 }) within))
+
+-- ---- the order
+
+-- of each source as many are left as are kept of those that came
+pub record IsKeptOrder (asked : Filter) (lists : List (List Sample)) (before left : List ℕ) : Type 0 where
+  pub kept : (source : ℕ) → count_of source left ≡ length (kept_samples asked (take (count_of source before) (list_of lists source)))
+
+-- the next sample of a source stands in its list
+pub next_within : (order : List ℕ) (lists : List (List Sample)) (p source : ℕ) → IsInterleaving order lists → p < length order → source ≡ get_or order p 0
+    → (source < length lists) × (count_of source (take p order) < length (list_of lists source))
+next_within order lists p source h within is =
+    let one_more : count_of source (take (p + 1) order) ≡ count_of source (take p order) + 1 =
+    ap (count_of source) (take_more order p 0 within) ∙ (count_of-push (take p order) (get_or order p 0) source).0 (sym is) in
+    let all : count_of source order ≡ count_of source (take (p + 1) order) + count_of source (drop (p + 1) order) =
+    ap (count_of source) (sym (take-append-drop (p + 1) order)) ∙ count_of-append source (take (p + 1) order) (drop (p + 1) order) in
+    let within_list : count_of source (take p order) < length (list_of lists source) = omega (arith, one_more, all, h.as_often source) in
+    let is_source : source < length lists = elim (cases_lt source (length lists)) [
+      | inl below ↦ below
+      | inr past ↦ absurd (omega (arith, within_list, ap length (get_or_past lists source [] past)))
+    ] in
+    (is_source, within_list)
+
+-- a source counts less than all that came
+pub count_at_most : (order : List ℕ) (p source : ℕ) → p ≤ length order → count_of source (take p order) ≤ p
+count_at_most order p source within = omega (arith, count_by-le-length (λ entry. nat_eq entry source) (take p order), length-take-le p order within)
+
+-- one more of a source came
+pub counted_more : (before came : List ℕ) (source n : ℕ) → source < length came → get_or came source 0 ≡ count_of source before → n ≡ count_of source before + 1
+    → (other : ℕ) → get_or came other 0 ≡ count_of other before → get_or (set came source n) other 0 ≡ count_of other (before ++ source ∷ [])
+counted_more before came source n within counted is other known = elim (cases_eq source other) [
+  | inl same ↦ ap (λ k. get_or (set came source n) k 0) (sym same) ∙ (get_or-set_same came source n 0 within ∙ (is ∙ sym (subst (λ k. count_of k (before ++ source ∷ []) ≡ count_of source before + 1) same ((count_of-push before source source).0 refl))))
+  | inr apart ↦ get_or-set_other came source other n 0 (λ e. apart (sym e)) ∙ (known ∙ sym ((count_of-push before source other).1 apart))
+]
+
+pub kept_order_more : (asked : Filter) (lists : List (List Sample)) (before left : List ℕ) (source i : ℕ) (b : Bool) → IsKeptOrder asked lists before left → i ≡ count_of source before
+    → i < length (list_of lists source) → b ≡ keeps asked (sample_at (list_of lists source) i).stack
+    → IsKeptOrder asked lists (before ++ source ∷ []) (left ++ cond b (source ∷ []) [])
+kept_order_more asked lists before left source i b h counted in_list is = record {
+  kept = λ other. elim (cases_eq source other) [
+    | inl same ↦ here other same
+    | inr apart ↦ there other apart
+  ];
+}
+  where
+    passes : Sample → Bool
+    passes sample = keeps asked sample.stack
+
+    left_here : (b : Bool) → count_of source (left ++ cond b (source ∷ []) []) ≡ count_of source left + cond b 1 0
+    left_here true = omega (arith, (count_of-push left source source).0 refl)
+    left_here false = ap (count_of source) (append-nil left) ∙ omega arith
+
+    left_there : (other : ℕ) → (source ≡ other → ⊥) → (b : Bool) → count_of other (left ++ cond b (source ∷ []) []) ≡ count_of other left
+    left_there other apart true = (count_of-push left source other).1 apart
+    left_there other apart false = ap (count_of other) (append-nil left)
+
+    at_source : count_of source (left ++ cond b (source ∷ []) []) ≡ length (kept_samples asked (take (count_of source (before ++ source ∷ [])) (list_of lists source)))
+    at_source =
+        let list = list_of lists source in
+        let more = length-filter_more passes list i (record { stack = []; weight = 0 }) in_list in
+        let next : count_of source (before ++ source ∷ []) ≡ i + 1 = omega (arith, counted, (count_of-push before source source).0 refl) in
+        let old : count_of source left ≡ length (filter passes (take i list)) = h.kept source ∙ ap (λ n. length (filter passes (take n list))) (sym counted) in
+        left_here b ∙ ((λ j. old j + cond (is j) 1 0) ∙ (sym more ∙ ap (λ n. length (filter passes (take n list))) (sym next)))
+
+    here : (other : ℕ) → source ≡ other → count_of other (left ++ cond b (source ∷ []) []) ≡ length (kept_samples asked (take (count_of other (before ++ source ∷ [])) (list_of lists other)))
+    here other same = subst (λ n. count_of n (left ++ cond b (source ∷ []) []) ≡ length (kept_samples asked (take (count_of n (before ++ source ∷ [])) (list_of lists n)))) same at_source
+
+    there : (other : ℕ) → (source ≡ other → ⊥) → count_of other (left ++ cond b (source ∷ []) []) ≡ length (kept_samples asked (take (count_of other (before ++ source ∷ [])) (list_of lists other)))
+    there other apart =
+        left_there other apart b ∙ (h.kept other ∙ ap (λ n. length (kept_samples asked (take n (list_of lists other)))) (sym ((count_of-push before source other).1 apart)))
+
+list_of_kept : (asked : Filter) (lists : List (List Sample)) (source : ℕ) → list_of (map (kept_samples asked) lists) source ≡ kept_samples asked (list_of lists source)
+list_of_kept asked [] source = refl
+list_of_kept asked (list ∷ lists) zero = refl
+list_of_kept asked (list ∷ lists) (suc source) = list_of_kept asked lists source
+
+pub kept_order_all : (asked : Filter) (lists : List (List Sample)) (order left : List ℕ) → IsInterleaving order lists → IsKeptOrder asked lists order left → IsInterleaving left (map (kept_samples asked) lists)
+kept_order_all asked lists order left ordered h = record {
+  as_often = λ source.
+      h.kept source
+      ∙ (ap (λ samples. length (kept_samples asked samples)) (take_all (count_of source order) (list_of lists source) (omega (arith, ordered.as_often source)))
+      ∙ ap length (sym (list_of_kept asked lists source)));
+}
+
+-- ---- lists and their marks
+
+pub list_at : (lists : List ListState) (k : ℕ) (list : ListState) → k < length lists → list ≡ get_or lists k list → list_of (samples_of lists) k ≡ list.samples
+list_at lists k list within is = get_or-map (λ (list : ListState). list.samples) lists k list [] within ∙ ap (λ (list : ListState). list.samples) (sym is)
+
+pub marks_at : {X : Type 0} (items : X → List Bool) (asked : Filter) (lists : List ListState) (kept : List X) (k : ℕ) (marks : X) (list : ListState) → map items kept ≡ all_are_kept asked lists → k < length kept → k < length lists
+    → marks ≡ get_or kept k marks → list ≡ get_or lists k list → items marks ≡ are_kept asked list
+marks_at items asked lists kept k marks list flags in_kept in_lists marks_is list_is =
+    ap items marks_is
+    ∙ (sym (get_or-map items kept k marks [] in_kept)
+    ∙ (ap (λ l. get_or l k []) flags
+    ∙ (get_or-map (are_kept asked) lists k list [] in_lists ∙ ap (are_kept asked) (sym list_is))))
+
+read_ending : SourceEnd → Option Close → SourceEnd
+read_ending other (Some (Read ending)) = ending
+read_ending other (Some NoMemory) = other
+read_ending other None = other
+
+pub same_ending : (one other : SourceEnd) → Some (Read one) ≡ Some (Read other) → one ≡ other
+unfolding read_ending
+same_ending one other e = ap (read_ending one) e
+
+-- the samples of lists that were read as rests
+pub samples_of_rests : (lists : List ListState) (rests : List Rest) → map seen_as_rest lists ≡ rests → samples_of lists ≡ map (λ rest. rest.samples) rests
+samples_of_rests lists rests same =
+    sym (map-map (λ (rest : Rest). rest.samples) seen_as_rest lists) ∙ ap (map (λ (rest : Rest). rest.samples)) same
+
+pub samples_kept : (asked : Filter) (lists left : List ListState) → map seen_as_rest left ≡ map (kept_rest asked) (map seen_as_rest lists) → map (kept_samples asked) (samples_of lists) ≡ samples_of left
+samples_kept asked lists left same =
+    map-map (kept_samples asked) (λ (list : ListState). list.samples) lists
+    ∙ (sym (map-map (λ (rest : Rest). rest.samples) (λ list. kept_rest asked (seen_as_rest list)) lists)
+    ∙ (ap (map (λ (rest : Rest). rest.samples)) (sym (map-map (kept_rest asked) seen_as_rest lists))
+    ∙ sym (samples_of_rests left (map (kept_rest asked) (map seen_as_rest lists)) same)))
+
+-- lists that were read as rests within the limits
+pub limited_lists : (lists : List ListState) (rests : List Rest) → map seen_as_rest lists ≡ rests → All (λ rest. IsSourceLimited rest.samples) rests → length rests ≤ 64 → AreLimited lists
+limited_lists lists rests same limits few = record {
+  few = omega (arith, few, ap length same, length-map lists seen_as_rest);
+  each = λ k d within.
+      subst (λ (rest : Rest). IsSourceLimited rest.samples) (get_or-map seen_as_rest lists k d (seen_as_rest d) within)
+      (subst (λ (rests : List Rest). All (λ rest. IsSourceLimited rest.samples) rests) (sym same) limits k (seen_as_rest d) (omega (arith, within, length-map lists seen_as_rest)));
+}
+
+pub limited_kept_lists : (asked : Filter) (lists left : List ListState) → map seen_as_rest left ≡ map (kept_rest asked) (map seen_as_rest lists) → AreLimited lists → AreLimited left
+limited_kept_lists asked lists left same limits =
+    limited_lists left (map (kept_rest asked) (map seen_as_rest lists)) same
+    (All-map (λ (rest : Rest). IsSourceLimited rest.samples) (kept_rest asked) (map seen_as_rest lists)
+    (All-map (λ (rest : Rest). IsSourceLimited (kept_samples asked rest.samples)) seen_as_rest lists
+    (λ k d within. limited_kept asked _ (limits.each k d within))))
+    (omega (arith, limits.few, length-map (map seen_as_rest lists) (kept_rest asked), length-map lists seen_as_rest))
+
+-- where all is kept nothing changes
+pub kept_everything : (asked : Filter) → is_everything asked ≡ true → (rests : List Rest) → rests ≡ map (kept_rest asked) rests
+kept_everything asked e [] = refl
+kept_everything asked e (rest ∷ rests) = λ i. sym (all_is_kept asked e rest) i ∷ kept_everything asked e rests i

@@ -1,0 +1,6 @@
+pub mod BackLemmas
+mod FilteredSources
+mod KeptLemmas
+pub mod ListLemmas
+pub mod OrderLemmas
+pub mod ReaderThreads

@@ -1,0 +1,63 @@
+-- The readers of both formats may go to other threads.
+use denote.Param.Send.{AllSend, IsSend, recorded_send, sendable, struct_send, view_send}
+use denote.Struct.Declared.{shape}
+use Rattle.std.proofs.Crossing.{crosses}
+use Rattle.std.proofs.MapsCrossing as maps
+use Rattle.call_tree.specs.contracts.frame_table.FrameTable as table
+use Rattle.call_tree.specs.contracts.spellings.SpellingCache as cache
+use Rattle.call_tree.specs.contracts.histories.StackHistory as history
+use Rattle.folded_lines.specs.contracts.telling.Telling as telling
+use Rattle.folded_lines.specs.contracts.reader.FoldedReader as folded
+use Rattle.folded_lines.specs.contracts.reader.FoldedReader.TheInside as folded_inside
+use Rattle.profile_tables.specs.contracts.outline.Outline as outline
+use Rattle.profile_tables.specs.contracts.tellers.Teller as teller
+use Rattle.profile_tables.specs.contracts.reader.PprofReader as pprof
+use Rattle.profile_tables.specs.contracts.reader.PprofReader.TheInside as pprof_inside
+use Rattle.sample_tables.specs.contracts.values.Names as names
+use Rattle.run_options.specs.contracts.filters.Filter as filter
+use Rattle.source_lists.specs.contracts.source_reader.SourceReader as source
+
+table_send : IsSend table.the_row
+table_send = search (sendable, crosses, maps.crosses) depth 30
+
+cache_send : IsSend cache.the_row
+cache_send = search (sendable, crosses, maps.crosses) depth 30
+
+history_send : IsSend history.the_row
+history_send = search (sendable, crosses, maps.crosses) depth 30
+
+telling_send : IsSend (telling.the_field).row
+telling_send = search (sendable, crosses, maps.crosses, table_send, cache_send, history_send) depth 30
+
+folded_fields_send : AllSend (shape folded_inside.the_type).fields
+folded_fields_send = (search (sendable, crosses) depth 20, (search (sendable, crosses) depth 20, (search sendable depth 90 fits 30000, (telling_send, tt))))
+
+folded_inside_send : IsSend folded_inside.the_row
+folded_inside_send = recorded_send _ _ _ (folded_inside.the_type).to_one (struct_send (shape folded_inside.the_type) folded_fields_send)
+
+pub folded_send : IsSend folded.the_row
+folded_send = search (view_send, folded_inside_send)
+
+teller_send : IsSend teller.the_row
+teller_send = search (sendable, crosses, maps.crosses, table_send, cache_send, history_send) depth 30
+
+outline_send : IsSend outline.the_row
+outline_send = search (sendable, crosses, maps.crosses) depth 30
+
+pprof_fields_send : AllSend (shape pprof_inside.the_type).fields
+pprof_fields_send = (search (sendable, crosses) depth 20, (search (sendable, crosses, maps.crosses) depth 20, (search (sendable, crosses) depth 20, (search (sendable, outline_send) depth 20, (search (sendable) depth 20, (search (sendable) depth 20, (search sendable depth 90 fits 30000, (search (sendable, teller_send) depth 20, tt))))))))
+
+pprof_inside_send : IsSend pprof_inside.the_row
+pprof_inside_send = recorded_send _ _ _ (pprof_inside.the_type).to_one (struct_send (shape pprof_inside.the_type) pprof_fields_send)
+
+pub pprof_send : IsSend pprof.the_row
+pprof_send = search (view_send, pprof_inside_send)
+
+names_send : IsSend names.the_row
+names_send = search (sendable, crosses) depth 30
+
+pub filter_send : IsSend (filter.the_field).row
+filter_send = search (sendable, names_send) depth 30
+
+pub source_send : IsSend (source.the_field).row
+source_send = search (sendable, folded_send, pprof_send) depth 30

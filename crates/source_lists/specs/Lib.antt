@@ -1,0 +1,5 @@
+-- The definitions that the contracts of source_lists cite.
+pub mod Lists
+pub mod Sources
+pub mod WholeRuns
+pub mod checked

@@ -1,0 +1,5 @@
+-- What the insides of the crate keep, which the checks prove: no public contract stands on it.
+pub mod Filtering
+pub mod KeptStacks
+pub mod Readers
+pub mod UnkeptSamples

@@ -1,0 +1,104 @@
+//! What a filter keeps of lists that were collected.
+
+ghost use Rattle.std.specs.Prelude.{◌≡◌, ◌<◌, ◌++◌, ◌∷◌, [], None, IfOk, OnOk, length, map};
+ghost use Rattle.sample_tables.specs.Rows.{sample_at};
+ghost use Rattle.ring_collect.specs.Collection.{seen_as_rest};
+ghost use Rattle.run_options.specs.Filters.{kept_rest, kept_samples};
+ghost use Rattle.run_options.specs.declared.filters.Filter.{Filter as Asked};
+ghost use Rattle.source_lists.specs.checked.KeptStacks.{all_are_kept, are_kept};
+
+use crate::kept_stacks::is_kept;
+use stack_core::{Close, Ledger, SourceList, Text};
+use std::alloc::{AllocError, Global};
+
+/// A ledger that was told the names of the list, and nothing else.
+fn ledger_of_names(alloc: Global, list: &SourceList) -> Result<Ledger, AllocError>
+    ensures { IfOk result (λ ledger. ledger ≡ record {
+      samples = [];
+      close = None;
+      told = list.now.told;
+      rows = [];
+      stacks = [];
+      entries = [];
+    }) }
+{
+    let mut ledger = Ledger::new(alloc);
+    for number in 0..list.told() {
+        ledger.tell(Text::from_str(alloc, list.told_name(number))?)?;
+    }
+    Ok(ledger)
+}
+
+/// The same with the stacks of the list.
+fn ledger_of_stacks(alloc: Global, list: &SourceList) -> Result<Ledger, AllocError>
+    ensures { IfOk result (λ ledger. ledger ≡ record {
+      samples = [];
+      close = None;
+      told = list.now.told;
+      rows = [];
+      stacks = list.now.stacks;
+      entries = [];
+    }) }
+{
+    let mut ledger = ledger_of_names(alloc, list)?;
+    for number in 0..list.stack_count() {
+        ledger.keep(list.stack(number))?;
+    }
+    Ok(ledger)
+}
+
+/// Takes sample `i` of the list, unless its stack is left out.
+fn take_if_kept(
+    ledger: &mut Ledger,
+    list: &SourceList,
+    kept: &[bool],
+    i: usize,
+) -> Result<(), AllocError>
+    requires open { ledger.old.close ≡ None }
+    requires told { ledger.old.told ≡ list.now.told }
+    requires stacks { ledger.old.stacks ≡ list.now.stacks }
+    requires within { i < length list.now.samples }
+    ensures open { OnOk result (ledger.new.close ≡ None) }
+    ensures told { OnOk result (ledger.new.told ≡ list.now.told) }
+    ensures stacks { OnOk result (ledger.new.stacks ≡ list.now.stacks) }
+    ensures samples { OnOk result ((asked : Asked) → kept.now ≡ are_kept asked list.now
+        → ledger.new.samples ≡ ledger.old.samples
+        ++ kept_samples asked (sample_at list.now.samples i ∷ [])) }
+{
+    if is_kept(list, kept, i) {
+        ledger.take_again(list.stack_number(i), list.weight(i))?;
+    }
+    Ok(())
+}
+
+/// What is kept of a list.
+fn kept_list(alloc: Global, list: &SourceList, kept: &[bool]) -> Result<SourceList, AllocError>
+    ensures { IfOk result (λ left. (asked : Asked) → kept.now ≡ are_kept asked list.now
+        → seen_as_rest left ≡ kept_rest asked (seen_as_rest list.now)) }
+{
+    let mut ledger = ledger_of_stacks(alloc, list)?;
+    for i in 0..list.len() {
+        take_if_kept(&mut ledger, list, kept, i)?;
+    }
+    ledger.close(Close::Read(*list.ending()));
+    Ok(ledger.into_list())
+}
+
+/// What is kept of all lists.
+pub(crate) fn kept_lists(
+    alloc: Global,
+    lists: &[SourceList],
+    kept: &[Vec<bool>],
+) -> Result<Vec<SourceList>, AllocError>
+    requires { length kept.now ≡ length lists.now }
+    ensures { IfOk result (λ left. (asked : Asked)
+        → map (λ marks. marks.items) kept.now ≡ all_are_kept asked lists.now
+        → map seen_as_rest left.items ≡ map (kept_rest asked) (map seen_as_rest lists.now)) }
+{
+    let count = lists.len();
+    let mut left = Vec::with_capacity(alloc, count)?;
+    for number in 0..count {
+        left.push(kept_list(alloc, &lists[number], &kept[number])?)?;
+    }
+    Ok(left)
+}

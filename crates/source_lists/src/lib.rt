@@ -1,0 +1,21 @@
+//! Sources, read into lists: a reader for each, what a filter keeps, and the order in which the samples came.
+#![tactic(auto)]
+
+mod filtered_reader;
+mod kept_lists;
+mod kept_order;
+mod kept_stacks;
+pub mod laws;
+mod reader_runs;
+mod reading;
+mod source_lists;
+mod source_reader;
+mod source_readers;
+mod sources;
+mod unkept_samples;
+mod whole_runs;
+
+pub use reading::{read_into, read_sources};
+pub use source_lists::SourceLists;
+pub use sources::Source;
+pub use whole_runs::{WholeRun, read_whole_sources};

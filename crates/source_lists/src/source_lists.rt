@@ -1,0 +1,91 @@
+//! What a run collected of its sources.
+
+ghost use Rattle.std.specs.Prelude.{◌≡◌, ◌<◌, ◌^◌, IfOk, map};
+ghost use Rattle.stack_core.specs.Interleaving.{IsInterleaving};
+ghost use Rattle.merged_stacks.specs.Merged.{all_samples};
+ghost use Rattle.merged_stacks.specs.Timeline.{samples_of, timeline, total_weight};
+ghost use Rattle.ring_collect.specs.Collection.{seen_as_rest};
+ghost use Rattle.run_options.specs.Filters.{kept_rest};
+ghost use Rattle.source_lists.specs.Lists.{AreLimited};
+
+use crate::kept_lists::kept_lists;
+use crate::kept_order::kept_order;
+use crate::kept_stacks::all_kept_stacks;
+use merged_stacks::total_weight;
+use ring_collect::Collected;
+use run_options::Filter;
+use stack_core::SourceList;
+use std::alloc::{AllocError, Global};
+use std::marker::Model;
+
+/// The lists of a run, one for each source, and the order in which their samples came. No call takes memory.
+#[derive(Drop)]
+pub struct SourceLists {
+    lists: Vec<SourceList>,
+    order: Vec<u32>,
+}
+
+impl Model for SourceLists {
+    ghost use Rattle.source_lists.specs.Lists.{ListsState, AreOrdered};
+
+    ghost Value = { ListsState };
+
+    ghost view = { λ s. record { lists = s.lists.items; order = s.order.items } };
+
+    ghost invariant = { λ s. AreOrdered s.lists.items s.order.items };
+}
+
+impl SourceLists {
+    /// What a run collected.
+    pub(crate) fn of(run: Collected) -> SourceLists
+        requires limits { AreLimited run.lists.items }
+        requires ordered { IsInterleaving run.order.items (samples_of run.lists.items) }
+        ensures { result ≡ record { lists = run.lists.items; order = run.order.items } }
+    {
+        SourceLists {
+            lists: run.lists,
+            order: run.order,
+        }
+    }
+
+    /// What a filter keeps of the samples.
+    pub(crate) fn kept(self, alloc: Global, filter: &Filter) -> Result<SourceLists, AllocError>
+        ensures { IfOk result (λ left. map seen_as_rest left.lists
+            ≡ map (kept_rest filter.now) (map seen_as_rest self.lists)) }
+    {
+        if filter.is_everything() {
+            return Ok(self);
+        }
+        let SourceLists { lists, order } = self;
+        let kept = all_kept_stacks(alloc, &lists, filter)?;
+        let order = kept_order(alloc, &order, &lists, &kept)?;
+        let lists = kept_lists(alloc, &lists, &kept)?;
+        Ok(SourceLists { lists, order })
+    }
+
+    /// One list for each source, in their order.
+    pub fn lists(&self) -> &[SourceList]
+        ensures lists { result.now ≡ self.now.lists }
+        ensures limits { AreLimited self.now.lists }
+        ensures total { total_weight (all_samples (samples_of self.now.lists)) < 2 ^ 64 }
+        ensures timeline { total_weight (timeline (samples_of self.now.lists)) < 2 ^ 64 }
+    {
+        &self.lists
+    }
+
+    /// The source of each sample, in the order in which the samples came out of the rings.
+    pub fn order(&self) -> &[u32]
+        ensures order { result.now ≡ self.now.order }
+        ensures ordered { IsInterleaving self.now.order (samples_of self.now.lists) }
+    {
+        &self.order
+    }
+
+    /// The sum of all weights.
+    pub fn total(&self) -> u64
+        ensures total { result ≡ total_weight (all_samples (samples_of self.now.lists)) }
+        ensures timeline { result ≡ total_weight (timeline (samples_of self.now.lists)) }
+    {
+        total_weight(self.lists())
+    }
+}

@@ -1,0 +1,47 @@
+//! The readers of the sources of a run.
+
+ghost use Rattle.std.specs.Prelude.{◌≡◌, [], All, IfOk, map};
+ghost use Rattle.stack_core.specs.Reading.{IsSourceLimited};
+ghost use Rattle.source_lists.specs.Sources.{rests_of, whole_rests_of};
+ghost use Rattle.source_lists.specs.checked.Readers.{filtered_rest, reader_rest, reader_told};
+
+use crate::filtered_reader::{FilteredReader, filter_all};
+use crate::source_reader::SourceReader;
+use crate::sources::Source;
+use run_options::Options;
+use std::alloc::{AllocError, Global};
+
+/// A reader for each source, which has told nothing.
+pub(crate) fn readers_of(
+    alloc: Global,
+    sources: Vec<Source>,
+    options: &Options,
+) -> Result<Vec<SourceReader>, AllocError>
+    ensures rests { IfOk result (λ readers.
+        map reader_rest readers.items ≡ whole_rests_of options.now sources.items) }
+    ensures limits { IfOk result (λ readers.
+        All (λ rest. IsSourceLimited rest.samples) (whole_rests_of options.now sources.items)) }
+    ensures told { IfOk result (λ readers.
+        All (λ reader. reader_told reader ≡ record { names = []; stacks = [] }) readers.items) }
+{
+    let mut readers = Vec::with_capacity(alloc, sources.len())?;
+    for source in sources {
+        readers.push(SourceReader::over(alloc, source, options)?)?;
+    }
+    Ok(readers)
+}
+
+/// A reader for each source that gives what the filter keeps.
+pub(crate) fn filtered_readers_of(
+    alloc: Global,
+    sources: Vec<Source>,
+    options: &Options,
+) -> Result<Vec<FilteredReader<SourceReader>>, AllocError>
+    ensures rests { IfOk result (λ readers.
+        map filtered_rest readers.items ≡ rests_of options.now sources.items) }
+    ensures limits { IfOk result (λ readers.
+        All (λ rest. IsSourceLimited rest.samples) (rests_of options.now sources.items)) }
+{
+    let readers = readers_of(alloc, sources, options)?;
+    filter_all(alloc, readers, &options.filter)
+}

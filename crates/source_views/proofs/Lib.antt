@@ -1,0 +1,3 @@
+pub mod FoldedSources
+pub mod TextLemmas
+mod WorkedSnapshots

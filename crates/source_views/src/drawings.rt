@@ -1,0 +1,47 @@
+//! The boxes of what was collected.
+ghost use Rattle.std.specs.Prelude.{◌≡◌, IfOk, map};
+ghost use Rattle.flame_layout.specs.Boxes.{span_of};
+ghost use Rattle.flame_layout.specs.Chart.{chart_of};
+ghost use Rattle.flame_layout.specs.Graph.{graph_of};
+ghost use Rattle.flame_layout.specs.Paths.{SameOwn};
+ghost use Rattle.merged_stacks.specs.Timeline.{samples_of, timeline};
+ghost use Rattle.merging.specs.Sums.{all_samples};
+
+use flame_layout::{DrawnBox, MergedStacks, SpanBox, chart_boxes, merged_boxes};
+use merging::SourceLists;
+use std::alloc::{AllocError, Global};
+
+// The flame graph of all samples.
+pub(crate) fn draw_graph(alloc: Global, sources: &SourceLists) -> Result<Vec<SpanBox>, AllocError>
+    ensures { IfOk result (λ boxes.
+        boxes.items ≡ graph_of (all_samples (samples_of sources.now.lists))) }
+{
+    let merged = merge(alloc, sources)?;
+    merged_boxes(alloc, &merged)
+}
+
+/// The stacks of all samples, each once.
+pub fn merge(alloc: Global, sources: &SourceLists) -> Result<MergedStacks, AllocError>
+    ensures { IfOk result (SameOwn (all_samples (samples_of sources.now.lists))) }
+{
+    MergedStacks::of(alloc, sources.lists())
+}
+
+// The flame chart of the sources one after another.
+pub(crate) fn draw_chart(alloc: Global, sources: &SourceLists) -> Result<Vec<SpanBox>, AllocError>
+    ensures { IfOk result (λ boxes.
+        boxes.items ≡ chart_of (timeline (samples_of sources.now.lists))) }
+{
+    chart_boxes(alloc, sources.lists())
+}
+
+/// The same boxes, with names that the sources lend.
+pub fn lend_chart<'a>(
+    alloc: Global,
+    sources: &'a SourceLists,
+) -> Result<Vec<DrawnBox<'a>>, AllocError>
+    ensures { IfOk result (λ boxes.
+        map span_of boxes.items ≡ chart_of (timeline (samples_of sources.now.lists))) }
+{
+    flame_layout::draw_chart(alloc, sources.lists())
+}

@@ -1,0 +1,19 @@
+//! What is seen of the sources of a run: boxes and texts.
+#![tactic(auto)]
+
+mod drawings;
+mod drawn_texts;
+mod functions;
+mod graph_texts;
+pub mod laws;
+mod view_set;
+mod view_text;
+mod whole_run;
+
+pub use drawings::{lend_chart, merge};
+pub use drawn_texts::{DrawnText, drawn_chart, drawn_graph, drawn_graph_text};
+pub use functions::weigh_functions;
+pub use graph_texts::SnapshotLines;
+pub use view_set::Views;
+pub use view_text::render;
+pub use whole_run::views;
