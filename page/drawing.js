@@ -98,6 +98,10 @@ function readPage() {
         names: data.names,
         sources,
         unit: commonUnit(sources),
+        whole: data.whole,
+        kept: start,
+        // Sums above 2^53 are rounded, and a rounded sum is no filter's doing.
+        isFiltered: data.whole > start + data.whole * 2 ** -50,
         drawingCount: data.drawings.length,
         drawing(number) {
             if (!made[number]) {

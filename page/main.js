@@ -19,6 +19,7 @@ function start(page) {
     const showFunctions = functionTable(page, (name) => change({ find: name, by: 'name' }, true));
     let view = null;
     let hovered = -1;
+    let wished = null;
 
     // The matches of the state's search, or null where there is none or the words are no regular expression.
     function searched(state, drawing) {
@@ -100,12 +101,21 @@ function start(page) {
         showFocus();
     }
 
-    // The same path in another drawing.
+    // The same path in another drawing. A snapshot may have the first part of it only: the others show all of it again.
     function turnTo(number) {
         const { state, drawing } = view;
         const other = page.drawing(number);
-        const same = (box) => (drawing.count && other.count ? boxAt(page, other, pathOf(page, drawing, box), drawing.start[box]) : 0);
-        change({ drawing: number, box: same(state.box), focus: same(state.focus) }, false);
+        const isWished = wished && wished.drawing === state.drawing && wished.box === state.box;
+        const zoomed = isWished ? wished.path : pathTo(drawing, state.box);
+        const find = (path, start) => (other.count ? boxAt(page, other, path, start) : 0);
+        const box = find(zoomed, drawing.start[state.box]);
+        const focus = state.focus === state.box ? box : find(pathTo(drawing, state.focus), drawing.start[state.focus]);
+        wished = { drawing: number, box, path: zoomed };
+        change({ drawing: number, box, focus }, false);
+    }
+
+    function pathTo(drawing, box) {
+        return drawing.count ? pathOf(page, drawing, box) : [];
     }
 
     function toMatch(isForward) {

@@ -18,10 +18,10 @@ function showItems(list, texts) {
     }));
 }
 
-function matchedText(view) {
+function matchedText(page, view) {
     if (view.isRefused) return 'not a regular expression';
     if (!view.matches) return '';
-    return `${separated(view.matches.boxes.length)} matched, ${percentText(view.matches.weight, view.drawing.total)}`;
+    return `${separated(view.matches.boxes.length)} matched, ${percentText(view.matches.weight, view.drawing.total)}${page.isFiltered ? ' of what is kept' : ''}`;
 }
 
 // The tools as they have to stand in a view. What is being typed is left alone.
@@ -30,7 +30,7 @@ function showTools(page, view) {
     if (element('find').value !== state.find) element('find').value = state.find;
     element('by').value = state.by;
     element('find').setAttribute('aria-invalid', String(view.isRefused));
-    element('matched').textContent = matchedText(view);
+    element('matched').textContent = matchedText(page, view);
     element('next').disabled = !view.matches;
     element('previous').disabled = !view.matches;
     element('back').disabled = state.box === 0 && state.source < 0;

@@ -70,12 +70,14 @@ def data_of(program, words):
         lines = lines_of(program, [command, *kept, *files])
     places = {}
     drawings = [drawing(line, int(options.get('--least', 0)), places) for line in lines]
+    sources = [source(program, path, options) for path in files]
     return {
         'drawings': drawings,
         'names': list(places),
-        'sources': [source(program, path, options) for path in files],
+        'sources': sources,
         'title': options.get('--title', ', '.join(files)),
         'view': command,
+        'whole': sum(each['weight'] for each in sources),
     }
 
 

@@ -1,5 +1,5 @@
 """Tests of what is drawn: the first paint, widths, zoom, keys, snapshots, lanes and differences."""
-from looking import ROW, Picture, contains, data_in, fragment, near, same, table
+from looking import ROW, Picture, contains, data_in, fragment, near, same, search, table
 
 # The boxes of examples/parse.folded, by hand: depth, name, start, weight.
 PARSE = [(0, 'all', 0, 57), (1, 'main', 0, 57), (2, 'layout', 0, 7), (3, 'measure', 3, 4), (2, 'parse', 7, 50), (3, 'read', 7, 19),
@@ -157,6 +157,26 @@ def snapshots(check):
     check.screenshot('snapshot')
 
 
+def snapshots_of_sources(check):
+    browser = check.browser
+    check.show('graph', '--every', '1', check.write('one.folded', 'main;load 3\n'), check.write('two.folded', 'main;work;walk 5\nmain 1\n'))
+    picture = Picture(browser)
+    same(search(browser, 'walk'), '1 matched, 55.6%', 'search in all samples')
+    picture.click(3, 0.7)
+    same(fragment(browser), '#zoom=main/work/walk&find=walk', 'what is zoomed at first')
+    browser.value("document.getElementById('snapshot').focus()")
+    told = []
+    for key in ('Home', 'ArrowRight', 'End'):
+        browser.press(key)
+        told.append([browser.text('#drawing-name'), browser.text('#matched'), fragment(browser)])
+    same(told, [['the first sample: 1 of one.folded, 0 of two.folded', '0 matched, 0%', '#zoom=main&find=walk&drawing=0'],
+                ['the first 2 samples: 1 of one.folded, 1 of two.folded', '1 matched, 62.5%', '#zoom=main/work/walk&find=walk&drawing=1'],
+                ['all samples', '1 matched, 55.6%', '#zoom=main/work/walk&find=walk']], 'the zoom and the search stay')
+    browser.press('ArrowLeft')
+    same(browser.value("document.getElementById('snapshot').getAttribute('aria-valuetext')"),
+         'the first 3 samples: 1 of one.folded, 2 of two.folded', 'what a screen reader hears of the slider')
+
+
 def lanes(check):
     browser = check.browser
     check.show('chart', 'parse.folded', 'faster.folded')
@@ -231,4 +251,4 @@ def deep(check):
     same(picture.name(4096, 0.5), 'f4095', 'the last row')
 
 
-TESTS = [first_paint, widths, broken, root_below, zoom, keys, snapshots, lanes, differences, deep]
+TESTS = [first_paint, widths, broken, root_below, zoom, keys, snapshots, snapshots_of_sources, lanes, differences, deep]

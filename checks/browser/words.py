@@ -119,6 +119,29 @@ def notices(check):
     same([browser.text('#title'), browser.value('document.title')], ['A run on Monday'] * 2, 'title')
 
 
+def whole(check):
+    browser = check.browser
+    data = documents.data_of(check.program, ['graph', 'parse.folded'])
+    browser.open(check.place(documents.joined(data)))
+    same(browser.text('#notices'), '', 'without a filter')
+    browser.open(check.place(documents.joined(data | {'whole': 76})))
+    picture = Picture(browser)
+    same(browser.text('#notices'), 'A filter keeps 75% of the whole: 57 of 76.', 'what a filter keeps')
+    same(picture.told(2, 0.5)[1], '50, 87.7% of what is kept, 65.8% of the whole', 'tip')
+    picture.click(2, 0.5)
+    contains(picture.heard(), 'parse · 50, 87.7% of what is kept, 65.8% of the whole, 100% of what is zoomed', 'the focused box')
+    same(search(browser, 'read'), '1 matched, 33.3% of what is kept', 'search')
+    browser.open(check.place(documents.joined(data | {'whole': 58_000_000})))
+    contains(browser.text('#notices'), 'A filter keeps 0.000098% of the whole', 'hardly anything is kept')
+    large = data | {'whole': 10 ** 15 + 1, 'sources': [data['sources'][0] | {'weight': 10 ** 15}]}
+    browser.open(check.place(documents.joined(large)))
+    contains(browser.text('#notices'), 'A filter keeps more than 99.9% of the whole', 'hardly anything is left out')
+    data = documents.data_of(check.program, ['compare', 'parse.folded', 'faster.folded'])
+    browser.open(check.place(documents.joined(data | {'whole': 190})))
+    contains(browser.text('#notices'), 'A filter keeps 50% of the whole of both profiles: 95 of 190.', 'a comparison')
+    same(Picture(browser).told(1, 0.5)[1], '38, 100% of what is kept', 'tip of a comparison')
+
+
 def links(check):
     browser = check.browser
     document = check.show('graph', 'parse.folded', fragment='#zoom=main/parse&find=read&root=below')
@@ -141,4 +164,4 @@ def links(check):
     same(picture.name(2, 0.9), 'b', 'what is zoomed')
 
 
-TESTS = [data, searching, functions, units, notices, links]
+TESTS = [data, searching, functions, units, notices, whole, links]

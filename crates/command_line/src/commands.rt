@@ -4,10 +4,9 @@ ghost use Rattle.clap.specs.Words.{app_of, new_app, rule_of, with_subcommand};
 ghost use Rattle.command_line.specs.CommandLine.{chart_command, command, command_line, compare_command, fold_command, graph_command, top_command, types_command};
 ghost use Rattle.command_line.specs.checked.Apps.{all_simple, program};
 
-use crate::arguments::{
-    boxes_flag, by_option, every_option, files, focus_option, format_option, hide_option,
-    json_flag, least_option, lines_flag, one_file, page_flag, quiet_flag, ring_option, rows_option,
-    title_option, type_option, width_option,
+use crate::argument_lists::{
+    chart_arguments, compare_arguments, fold_arguments, graph_arguments, top_arguments,
+    types_arguments,
 };
 use clap::{Arg, Command};
 use std::alloc::{AllocError, Global};
@@ -65,16 +64,7 @@ fn program<'a>(alloc: Global) -> Result<Command<'a>, AllocError>
 fn with_fold<'a>(alloc: Global, line: Command<'a>) -> Result<Command<'a>, AllocError>
     ensures { IfOk result (λ new. app_of new ≡ with_subcommand (app_of line.entry) fold_command) }
 {
-    let arguments = vec![in alloc;
-        type_option(alloc),
-        format_option(alloc),
-        focus_option(alloc),
-        hide_option(alloc),
-        ring_option(alloc),
-        lines_flag(alloc),
-        quiet_flag(alloc),
-        files(alloc),
-    ]?;
+    let arguments = fold_arguments(alloc)?;
     with_command(
         alloc,
         line,
@@ -88,21 +78,7 @@ fn with_fold<'a>(alloc: Global, line: Command<'a>) -> Result<Command<'a>, AllocE
 fn with_graph<'a>(alloc: Global, line: Command<'a>) -> Result<Command<'a>, AllocError>
     ensures { IfOk result (λ new. app_of new ≡ with_subcommand (app_of line.entry) graph_command) }
 {
-    let arguments = vec![in alloc;
-        width_option(alloc),
-        type_option(alloc),
-        format_option(alloc),
-        focus_option(alloc),
-        hide_option(alloc),
-        ring_option(alloc),
-        every_option(alloc),
-        lines_flag(alloc),
-        quiet_flag(alloc),
-        page_flag(alloc),
-        title_option(alloc),
-        least_option(alloc),
-        files(alloc),
-    ]?;
+    let arguments = graph_arguments(alloc)?;
     with_command(
         alloc,
         line,
@@ -116,20 +92,7 @@ fn with_graph<'a>(alloc: Global, line: Command<'a>) -> Result<Command<'a>, Alloc
 fn with_chart<'a>(alloc: Global, line: Command<'a>) -> Result<Command<'a>, AllocError>
     ensures { IfOk result (λ new. app_of new ≡ with_subcommand (app_of line.entry) chart_command) }
 {
-    let arguments = vec![in alloc;
-        width_option(alloc),
-        type_option(alloc),
-        format_option(alloc),
-        focus_option(alloc),
-        hide_option(alloc),
-        ring_option(alloc),
-        lines_flag(alloc),
-        quiet_flag(alloc),
-        page_flag(alloc),
-        title_option(alloc),
-        least_option(alloc),
-        files(alloc),
-    ]?;
+    let arguments = chart_arguments(alloc)?;
     with_command(
         alloc,
         line,
@@ -143,22 +106,7 @@ fn with_chart<'a>(alloc: Global, line: Command<'a>) -> Result<Command<'a>, Alloc
 fn with_compare<'a>(alloc: Global, line: Command<'a>) -> Result<Command<'a>, AllocError>
     ensures { IfOk result (λ new. app_of new ≡ with_subcommand (app_of line.entry) compare_command) }
 {
-    let arguments = vec![in alloc;
-        width_option(alloc),
-        type_option(alloc),
-        format_option(alloc),
-        focus_option(alloc),
-        hide_option(alloc),
-        ring_option(alloc),
-        boxes_flag(alloc),
-        lines_flag(alloc),
-        quiet_flag(alloc),
-        page_flag(alloc),
-        title_option(alloc),
-        least_option(alloc),
-        one_file(alloc, "before", "BEFORE", "The profile before"),
-        one_file(alloc, "after", "AFTER", "The profile after"),
-    ]?;
+    let arguments = compare_arguments(alloc)?;
     with_command(
         alloc,
         line,
@@ -172,19 +120,7 @@ fn with_compare<'a>(alloc: Global, line: Command<'a>) -> Result<Command<'a>, All
 fn with_top<'a>(alloc: Global, line: Command<'a>) -> Result<Command<'a>, AllocError>
     ensures { IfOk result (λ new. app_of new ≡ with_subcommand (app_of line.entry) top_command) }
 {
-    let arguments = vec![in alloc;
-        rows_option(alloc),
-        by_option(alloc),
-        json_flag(alloc),
-        type_option(alloc),
-        format_option(alloc),
-        focus_option(alloc),
-        hide_option(alloc),
-        ring_option(alloc),
-        lines_flag(alloc),
-        quiet_flag(alloc),
-        files(alloc),
-    ]?;
+    let arguments = top_arguments(alloc)?;
     with_command(
         alloc,
         line,
@@ -198,7 +134,7 @@ fn with_top<'a>(alloc: Global, line: Command<'a>) -> Result<Command<'a>, AllocEr
 fn with_types<'a>(alloc: Global, line: Command<'a>) -> Result<Command<'a>, AllocError>
     ensures { IfOk result (λ new. app_of new ≡ with_subcommand (app_of line.entry) types_command) }
 {
-    let arguments = vec![in alloc; one_file(alloc, "file", "FILE", "The profile")]?;
+    let arguments = types_arguments(alloc)?;
     with_command(
         alloc,
         line,

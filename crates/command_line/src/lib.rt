@@ -1,6 +1,7 @@
 //! The command line: from words to the plan of a run.
 #![tactic(auto)]
 
+mod argument_lists;
 mod arguments;
 mod commands;
 mod entered;

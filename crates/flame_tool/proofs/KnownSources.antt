@@ -1,13 +1,12 @@
 -- What is collected of sources whose bytes are known, where no gate stops them, is what their bytes stand for.
-use Rattle.std.proofs.Common.{◌≡◌, ◌≢◌, ℕ, List, [], ◌∷◌, map, Option, Some, None, Result, Ok, Err, IfSome, IfErr, OnOk, ap, sym, ◌∙◌, subst, refl, true, false, ◌||◌, All, ◌<◌, ◌≤◌, ◌+◌, ◌++◌, length, take, get_or, arith}
+use Rattle.std.proofs.Common.{◌≡◌, ◌≢◌, ℕ, List, [], ◌∷◌, map, Option, Some, None, Result, Ok, Err, IfSome, IfErr, OnOk, ap, sym, ◌∙◌, subst, refl, true, false, ◌||◌, All}
 use Rattle.std.proofs.lemmas.Bool.{true≢false, false≢true}
 use Rattle.std.proofs.lemmas.List.Elements.{All-nil, All-cons}
 use Rattle.std.proofs.lemmas.List.Folds.{Any-from_list_any}
-use Rattle.std.proofs.lemmas.List.{map-append, take_more, take_all}
-use Rattle.std.proofs.lemmas.Slice.Zip.{all_zipped_more}
 use Rattle.std.specs.Prelude.{Bool, option_and_then, option_map, unwrap_or}
 use Rattle.std.specs.List.{list_any, AllZip}
 use Rattle.std.specs.Io.KnownBytes.{Appends}
+use Rattle.byte_io.specs.Pieces.{AppendsFront}
 use Rattle.stack_core.specs.Interleaving.{IsInterleaving}
 use Rattle.stack_core.specs.Ledgers.{ListState}
 use Rattle.stack_core.specs.Reading.{Rest}
@@ -28,6 +27,12 @@ use Rattle.command_line.specs.declared.plans.Plan.{Plan}
 use Rattle.merging.specs.Sources.{asked_rest, rests_of, read_bytes, source_rest}
 use Rattle.source_lists.specs.declared.sources.Source.{Source}
 use Rattle.opened_sources.specs.Opening.{IsInput, IsOpened, AreOpened}
+use Rattle.sample_tables.specs.Samples.{total_weight}
+use Rattle.merging.specs.Sums.{all_samples}
+use Rattle.source_lists.specs.Sources.{whole_rest, whole_rests_of, weight_of_sources}
+use Rattle.source_lists.specs.Types.{source_type}
+use Rattle.sent_views.specs.declared.run_facts.RunFacts.{RunFacts}
+use Rattle.flame_tool.specs.KnownFacts.{bytes_at, bytes_in, bytes_of, facts_of, known_facts, types_of, whole_weight}
 use Rattle.flame_tool.specs.Requests.{all_found, rest_of, rest_at, rest_in, rests_at, known_rests}
 use Rattle.sent_views.specs.Pages.{shown_text}
 use Rattle.flame_tool.specs.Runs.{IsClean, IsFault, lists_of, IsTextOf, Shows, HasFault}
@@ -65,6 +70,90 @@ opened_rests : (options : Options) (asked : Option Format) (input : Option (List
     → IfSome (rests_at options asked paths input files) (λ rests. rests_of options sources ≡ rests)
 opened_rests options asked input files [] sources opened = opened_input options asked input sources opened
 opened_rests options asked input files (path ∷ paths) sources opened = opened_files options asked files (path ∷ paths) sources opened
+
+-- the formats and the bytes of sources
+abbrev pub loaded : List Source → List (Format × List ℕ)
+loaded sources = map (λ (source : Source). (source.format, source.bytes.items)) sources
+
+loaded_first : (format : Format) (known : Option (List ℕ)) (found : Option (List (Format × List ℕ))) (source : Source) (sources : List Source)
+    → source.format ≡ format → IfSome known (λ bytes. source.bytes.items ≡ bytes) → IfSome found (λ all. loaded sources ≡ all)
+    → IfSome (option_and_then (λ one. option_map (λ more. one ∷ more) found) (option_map (λ bytes. (format, bytes)) known)) (λ all. loaded (source ∷ sources) ≡ all)
+loaded_first format None found source sources formed same more = tt
+loaded_first format (Some bytes) None source sources formed same more = tt
+loaded_first format (Some bytes) (Some all) source sources formed same more = λ i. (formed i, same i) ∷ more i
+
+loaded_files : (asked : Option Format) (files : List ℕ → Option (List ℕ)) (paths : List (List ℕ)) (sources : List Source) → AllZip (IsOpened asked files) paths sources
+    → IfSome (all_found (bytes_at asked files) paths) (λ all. loaded sources ≡ all)
+loaded_files asked files [] [] opened = refl
+loaded_files asked files [] (source ∷ sources) opened = absurd opened
+loaded_files asked files (path ∷ paths) [] opened = absurd opened
+loaded_files asked files (path ∷ paths) (source ∷ sources) ((formed, same), more) =
+    loaded_first (unwrap_or asked (format_at path)) (files path) (all_found (bytes_at asked files) paths) source sources formed same (loaded_files asked files paths sources more)
+
+loaded_input : (asked : Option Format) (input : Option (List ℕ)) (sources : List Source) → IfSome input (IsInput asked sources)
+    → IfSome (option_map (λ source. source ∷ []) (bytes_in asked input)) (λ all. loaded sources ≡ all)
+loaded_input asked None sources opened = tt
+loaded_input asked (Some bytes) [] opened = absurd opened
+loaded_input asked (Some bytes) (source ∷ []) (folded, same) = λ i. (folded i, same i) ∷ []
+loaded_input asked (Some bytes) (source ∷ other ∷ more) opened = absurd opened
+
+loaded_bytes : (asked : Option Format) (input : Option (List ℕ)) (files : List ℕ → Option (List ℕ)) (paths : List (List ℕ)) (sources : List Source) → AreOpened asked input files paths sources
+    → IfSome (bytes_of asked paths input files) (λ all. loaded sources ≡ all)
+loaded_bytes asked input files [] sources opened = loaded_input asked input sources opened
+loaded_bytes asked input files (path ∷ paths) sources opened = loaded_files asked files (path ∷ paths) sources opened
+
+whole_samples : (options : Options) (sources : List Source) → map (λ (rest : Rest). rest.samples) (whole_rests_of options sources)
+    ≡ map (λ (source : Format × List ℕ). (read_bytes source.0 source.1 options.pick options.naming).samples) (loaded sources)
+whole_samples options [] = refl
+whole_samples options (source ∷ sources) = ap (λ more. (whole_rest options source).samples ∷ more) (whole_samples options sources)
+
+-- the weight and the types of sources are those of their bytes
+pub loaded_weight : (options : Options) (sources : List Source) → weight_of_sources options sources ≡ whole_weight options (loaded sources)
+loaded_weight options sources = ap (λ samples. total_weight (all_samples samples)) (whole_samples options sources)
+
+pub loaded_types : (options : Options) (sources : List Source) → map (source_type options) sources ≡ types_of options (loaded sources)
+loaded_types options [] = refl
+loaded_types options (source ∷ sources) = ap (λ more. source_type options source ∷ more) (loaded_types options sources)
+
+-- something is found
+abbrev pub IsKnown : {A : Type 0} → Option A → Type 0
+IsKnown None = ⊥
+IsKnown (Some x) = Unit {0}
+
+-- where the samples are known, so are the facts
+both_found : {X A B : Type 0} (one : X → Option A) (other : X → Option B) → ((x : X) → IfSome (one x) (λ _. IsKnown (other x))) → (xs : List X) → IfSome (all_found one xs) (λ _. IsKnown (all_found other xs))
+both_found one other h [] = tt
+both_found {X} {A} {B} one other h (x ∷ xs) = go (one x) (other x) (all_found one xs) (all_found other xs) (h x) (both_found one other h xs)
+  where
+    go : (a : Option A) (b : Option B) (found : Option (List A)) (others : Option (List B)) → IfSome a (λ _. IsKnown b) → IfSome found (λ _. IsKnown others)
+        → IfSome (option_and_then (λ first. option_map (λ more. first ∷ more) found) a) (λ _. IsKnown (option_and_then (λ first. option_map (λ more. first ∷ more) others) b))
+    go None b found others some more = tt
+    go (Some a) None found others some more = absurd some
+    go (Some a) (Some b) None others some more = tt
+    go (Some a) (Some b) (Some found) None some more = absurd more
+    go (Some a) (Some b) (Some found) (Some others) some more = tt
+
+both_mapped : {X A B : Type 0} (one : X → A) (other : X → B) (known : Option X) → IfSome (option_map one known) (λ _. IsKnown (option_map other known))
+both_mapped one other None = tt
+both_mapped one other (Some x) = tt
+
+if_mapped : {A B C : Type 0} (f : B → C) (one : Option A) (other : Option B) → IfSome one (λ _. IsKnown other) → IfSome one (λ _. IsKnown (option_map f other))
+if_mapped f None other some = tt
+if_mapped f (Some x) None some = absurd some
+if_mapped f (Some x) (Some y) some = tt
+
+pub facts_are_known : (plan : Plan) (input : Option (List ℕ)) (files : List ℕ → Option (List ℕ)) → IfSome (known_rests plan input files) (λ _. IsKnown (known_facts plan input files))
+facts_are_known plan input files =
+    if_mapped (facts_of plan.options) (known_rests plan input files) (bytes_of plan.format plan.files input files) (of_paths plan.files)
+  where
+    of_paths : (paths : List (List ℕ)) → IfSome (rests_at plan.options plan.format paths input files) (λ _. IsKnown (bytes_of plan.format paths input files))
+    of_paths [] = elim input as (λ known. IfSome (rests_at plan.options plan.format [] known files) (λ _. IsKnown (bytes_of plan.format [] known files))) [
+      | None ↦ tt
+      | Some bytes ↦ tt
+    ]
+    of_paths (path ∷ paths) =
+        both_found (rest_at plan.options plan.format files) (bytes_at plan.format files)
+        (λ path. both_mapped (asked_rest plan.options (unwrap_or plan.format (format_at path))) (λ bytes. (unwrap_or plan.format (format_at path), bytes)) (files path)) (path ∷ paths)
 
 -- ---- what no gate stopped is clean or has a fault
 
@@ -125,8 +214,11 @@ collected_of plan input files paths sources lists order every same opened whole 
     record { opened = subst (λ paths. AreOpened plan.format input files paths sources) same opened; whole = whole; ordered = ordered; every_is = every_is }
 
 module _ (plan : Plan) (input : Option (List ℕ)) (files : List ℕ → Option (List ℕ)) (sources : List Source) (lists : List ListState) (order : List ℕ) (every : Option ℕ) (collected : AreCollected plan input files sources lists order every) where
+  abbrev facts : RunFacts
+  facts = facts_of plan.options (loaded sources)
+
   abbrev text : List ℕ
-  text = shown_text plan (samples_of lists) order every
+  text = shown_text plan facts (samples_of lists) order every
 
   same_samples : samples_of lists ≡ lists_of (rests_of plan.options sources)
   same_samples = samples_of_rests lists ∙ ap lists_of collected.whole
@@ -134,12 +226,12 @@ module _ (plan : Plan) (input : Option (List ℕ)) (files : List ℕ → Option 
   same_faults : has_fault lists ≡ list_any (λ (rest : Rest). ends_in_fault rest.ending) (rests_of plan.options sources)
   same_faults = faults_of_rests lists ∙ ap (λ rests. list_any (λ (rest : Rest). ends_in_fault rest.ending) rests) collected.whole
 
-  is_text : has_fault lists ≡ false → IsTextOf plan (rests_of plan.options sources) text
+  is_text : has_fault lists ≡ false → IsTextOf plan facts (rests_of plan.options sources) text
   is_text faultless = record {
     clean = clean_rests plan.options sources (sym same_faults ∙ faultless);
     order = order;
     ordered = subst (λ (samples : List (List Sample)). IsInterleaving order samples) same_samples collected.ordered;
-    text_is = λ i. shown_text plan (same_samples i) order (collected.every_is i);
+    text_is = λ i. shown_text plan facts (same_samples i) order (collected.every_is i);
   }
 
   -- what holds of the sources that were collected holds of those that are known
@@ -150,17 +242,25 @@ module _ (plan : Plan) (input : Option (List ℕ)) (files : List ℕ → Option 
         | Some rests ↦ λ same. subst P same holds
       ] (opened_rests plan.options plan.format input files plan.files sources collected.opened)
 
+  -- what holds of the facts of the sources holds of those that are known
+  if_facts : (P : RunFacts → Type 0) → P facts → IfSome (known_facts plan input files) P
+  if_facts P holds =
+      elim (bytes_of plan.format plan.files input files) as (λ known. IfSome known (λ all. loaded sources ≡ all) → IfSome (option_map (facts_of plan.options) known) P) [
+        | None ↦ λ _. tt
+        | Some all ↦ λ same. subst (λ all. P (facts_of plan.options all)) same holds
+      ] (loaded_bytes plan.format input files plan.files sources collected.opened)
+
   pub ok_shown : {T E : Type 0} (result : Result T E) (old new : Option (List ℕ)) → OnOk result (has_fault lists ≡ false) → OnOk result (Appends old new text)
-      → OnOk result (IfSome (known_rests plan input files) (Shows plan old new))
-  ok_shown (Ok done) old new faultless appends = if_known (Shows plan old new) (λ _. (text, is_text faultless, appends))
+      → OnOk result (IfSome (known_rests plan input files) (Shows plan (known_facts plan input files) old new))
+  ok_shown (Ok done) old new faultless appends = if_known (Shows plan (known_facts plan input files) old new) (λ _. if_facts (λ facts. (text : List ℕ) × IsTextOf plan facts (rests_of plan.options sources) text × Appends old new text) (text, is_text faultless, appends))
   ok_shown (Err error) old new faultless appends = tt
 
   -- the same of a text that is said in other words
   pub ok_shown_as : {T E : Type 0} (result : Result T E) (old new : Option (List ℕ)) (other : List ℕ) → other ≡ text → OnOk result (has_fault lists ≡ false) → OnOk result (Appends old new other)
-      → OnOk result (IfSome (known_rests plan input files) (Shows plan old new))
+      → OnOk result (IfSome (known_rests plan input files) (Shows plan (known_facts plan input files) old new))
   ok_shown_as result old new other same faultless appends = ok_shown result old new faultless (subst (λ said. OnOk result (Appends old new said)) same appends)
 
-  not_shown : (old new : Option (List ℕ)) (failure : Failure) → FailsToShow lists text old new failure → Fails plan old new failure (rests_of plan.options sources)
+  not_shown : (old new : Option (List ℕ)) (failure : Failure) → FailsToShow lists text old new failure → Fails plan (known_facts plan input files) old new failure (rests_of plan.options sources)
   not_shown old new TooManyFiles fails = tt
   not_shown old new (Unreadable source) fails = tt
   not_shown old new (TooLarge source) fails = tt
@@ -168,13 +268,13 @@ module _ (plan : Plan) (input : Option (List ℕ)) (files : List ℕ → Option 
   not_shown old new NoThread fails = tt
   not_shown old new (Unfinished source) fails = tt
   not_shown old new Faults fails = faulty_rests (rests_of plan.options sources) (sym same_faults ∙ fails.0)
-  not_shown old new (Output fault) fails = λ _. (text, is_text fails.0, fails.1)
+  not_shown old new (Output fault) fails = λ _. if_facts (λ facts. (text : List ℕ) × IsTextOf plan facts (rests_of plan.options sources) text × AppendsFront text old new) (text, is_text fails.0, fails.1)
 
   pub err_shown : {T : Type 0} (result : Result T Failure) (old new : Option (List ℕ)) → IfErr result (FailsToShow lists text old new)
-      → IfErr result (λ failure. IfSome (known_rests plan input files) (Fails plan old new failure))
+      → IfErr result (λ failure. IfSome (known_rests plan input files) (Fails plan (known_facts plan input files) old new failure))
   err_shown (Ok done) old new fails = tt
-  err_shown (Err failure) old new fails = if_known (Fails plan old new failure) (not_shown old new failure fails)
+  err_shown (Err failure) old new fails = if_known (Fails plan (known_facts plan input files) old new failure) (not_shown old new failure fails)
 
   pub err_shown_as : {T : Type 0} (result : Result T Failure) (old new : Option (List ℕ)) (other : List ℕ) → other ≡ text → IfErr result (FailsToShow lists other old new)
-      → IfErr result (λ failure. IfSome (known_rests plan input files) (Fails plan old new failure))
+      → IfErr result (λ failure. IfSome (known_rests plan input files) (Fails plan (known_facts plan input files) old new failure))
   err_shown_as result old new other same fails = err_shown result old new (subst (λ said. IfErr result (FailsToShow lists said old new)) same fails)

@@ -1,5 +1,5 @@
 -- How a run ends, by its words and by its plan.
-use Rattle.std.proofs.Common.{◌≡◌, ◌≢◌, ◌≤◌, ◌⊎◌, inl, inr, ℕ, List, [], ◌∷◌, map, length, Option, Some, None, IfSome, ap, sym, ◌∙◌, subst, refl, arith, take, append-nil}
+use Rattle.std.proofs.Common.{◌≡◌, ◌≢◌, ◌≤◌, ◌⊎◌, inl, inr, ℕ, List, [], ◌∷◌, map, length, Option, Some, None, IfSome, cond, false, ap, sym, ◌∙◌, subst, refl, arith, take, append-nil}
 use Rattle.std.specs.Prelude.{IsSomeAnd}
 use Rattle.std.specs.Io.KnownBytes.{Appends, Keeps}
 use Rattle.clap.specs.Walk.{Text}
@@ -7,7 +7,7 @@ use Rattle.stack_core.specs.Reading.{Rest}
 use Rattle.sample_tables.specs.declared.samples.Sample.{Sample}
 use Rattle.command_line.specs.CommandLine.{command_line}
 use Rattle.folded_lines.specs.Reading.{read_folded}
-use Rattle.run_options.specs.Filters.{everything, kept_rest}
+use Rattle.run_options.specs.Filters.{everything, is_everything, kept_rest}
 use Rattle.run_options.proofs.FilterLemmas.{all_is_kept}
 use Rattle.merging.specs.Sums.{all_samples}
 use Rattle.view_texts.specs.Fold.{fold_text}
@@ -19,12 +19,17 @@ use Rattle.command_line.specs.declared.plans.Form.TheVariants as form
 use Rattle.command_line.specs.declared.plans.Plan.{Plan}
 use Rattle.command_line.specs.declared.plans.View.{View}
 use Rattle.command_line.specs.declared.plans.View.TheVariants.{Fold, Graph, Chart, Pairs, PairBoxes, Top}
+use Rattle.command_line.specs.declared.plans.TopTable.{TopTable}
+use Rattle.sent_views.specs.Facts.{told_whole}
+use Rattle.sent_views.specs.declared.run_facts.RunFacts.{RunFacts}
+use Rattle.flame_tool.specs.KnownFacts.{known_facts}
+use Rattle.flame_tool.proofs.KnownSources.{IsKnown, facts_are_known}
 use Rattle.flame_tool.specs.Requests.{AsksForHelp, asked_faults, asked_plan, known_rests}
 use Rattle.command_line.specs.declared.plans.PageForm.{PageForm}
 use Rattle.sent_views.specs.Pages.{page_text, shown_text, text_in}
-use Rattle.source_views.specs.Texts.{IsOrderless, graph_text, view_text}
+use Rattle.source_views.specs.Texts.{IsOrderless, graph_text, told_text, top_text, view_text}
 use Rattle.flame_tool.specs.checked.Forms.{IsOfView, IsOrderlessIn}
-use Rattle.flame_tool.specs.Runs.{lists_of, text_of, GainsFront, Shows, ShowsFront, ShowsSamples, HasFault}
+use Rattle.flame_tool.specs.Runs.{lists_of, text_of, GainsFront, Shows, ShowsFront, ShowsSamples, HasFault, TellsNoWhole}
 use Rattle.flame_tool.specs.checked.Failures.{Fails, IsHelp, KeepsOutput}
 use Rattle.opened_sources.specs.Failures.{status_of}
 use Rattle.opened_sources.specs.declared.failures.Failure.{Failure}
@@ -32,8 +37,8 @@ use Rattle.opened_sources.specs.declared.failures.Failure.TheVariants.{TooManyFi
 
 -- ---- a failed run of a plan
 
-module _ (plan : Plan) (known : Option (List Rest)) (old new : Option (List ℕ)) where
-  pub failed_faulty : (failure : Failure) → status_of failure ≡ 1 → IfSome known (Fails plan old new failure) → IfSome known HasFault
+module _ (plan : Plan) (told : Option RunFacts) (known : Option (List Rest)) (old new : Option (List ℕ)) where
+  pub failed_faulty : (failure : Failure) → status_of failure ≡ 1 → IfSome known (Fails plan told old new failure) → IfSome known HasFault
   failed_faulty TooManyFiles one fails = absurd (omega arith)
   failed_faulty (Unreadable source) one fails = absurd (omega arith)
   failed_faulty (TooLarge source) one fails = absurd (omega arith)
@@ -43,8 +48,8 @@ module _ (plan : Plan) (known : Option (List Rest)) (old new : Option (List ℕ)
   failed_faulty Faults one fails = fails
   failed_faulty (Output fault) one fails = absurd (omega arith)
 
-  pub failed_front : (failure : Failure) → status_of failure ≡ 3 → KeepsOutput old new failure → IfSome known (Fails plan old new failure)
-      → Keeps old new ⊎ IfSome known (ShowsFront plan old new)
+  pub failed_front : (failure : Failure) → status_of failure ≡ 3 → KeepsOutput old new failure → IfSome known (Fails plan told old new failure)
+      → Keeps old new ⊎ IfSome known (ShowsFront plan told old new)
   failed_front TooManyFiles three kept fails = inl kept
   failed_front (Unreadable source) three kept fails = inl kept
   failed_front (TooLarge source) three kept fails = inl kept
@@ -56,44 +61,92 @@ module _ (plan : Plan) (known : Option (List Rest)) (old new : Option (List ℕ)
 
 -- ---- a text without snapshots
 
-pub orderless_text : (view : View) (lists : List (List Sample)) (order : List ℕ) (every : Option ℕ) → IsOrderless view every → view_text view lists order every ≡ view_text view lists [] None
-orderless_text Fold lists order every orderless = refl
-orderless_text (Graph width) lists order every orderless = ap (view_text (Graph width) lists order) orderless
-orderless_text (Chart width) lists order every orderless = refl
-orderless_text Pairs lists order every orderless = refl
-orderless_text (PairBoxes width) lists order every orderless = refl
-orderless_text (Top top) lists order every orderless = refl
+orderless_text : (all : Option ℕ) (view : View) (lists : List (List Sample)) (order : List ℕ) (every : Option ℕ) → IsOrderless view every → told_text all view lists order every ≡ told_text all view lists [] None
+orderless_text all Fold lists order every orderless = refl
+orderless_text all (Graph width) lists order every orderless = ap (view_text (Graph width) lists order) orderless
+orderless_text all (Chart width) lists order every orderless = refl
+orderless_text all Pairs lists order every orderless = refl
+orderless_text all (PairBoxes width) lists order every orderless = refl
+orderless_text all (Top top) lists order every orderless = refl
 
-orderless_in : (written : Form) (plan : Plan) (lists : List (List Sample)) (order : List ℕ) (every : Option ℕ) → IsOrderlessIn written plan.view every → text_in written plan lists order every ≡ text_in written plan lists [] None
-orderless_in form.Text plan lists order every orderless = orderless_text plan.view lists order every orderless
-orderless_in (form.Page page) plan lists order every orderless = refl
-orderless_in form.Types plan lists order every orderless = orderless_text plan.view lists order every orderless
+module _ (plan : Plan) (facts : RunFacts) (lists : List (List Sample)) (order : List ℕ) (every : Option ℕ) where
+  orderless_in : (written : Form) → IsOrderlessIn written plan.view every → text_in written plan facts lists order every ≡ text_in written plan facts lists [] None
+  orderless_in form.Text orderless = orderless_text (told_whole plan facts) plan.view lists order every orderless
+  orderless_in (form.Page page) orderless = refl
+  orderless_in form.Types orderless = orderless_text (told_whole plan facts) plan.view lists order every orderless
 
-pub orderless_shown : (plan : Plan) (lists : List (List Sample)) (order : List ℕ) (every : Option ℕ) → IsOrderlessIn plan.form plan.view every → shown_text plan lists order every ≡ shown_text plan lists [] None
-orderless_shown plan = orderless_in plan.form plan
+  pub orderless_shown : IsOrderlessIn plan.form plan.view every → shown_text plan facts lists order every ≡ shown_text plan facts lists [] None
+  orderless_shown = orderless_in plan.form
 
--- the text of a graph, where no page is written
-graph_in : (written : Form) (plan : Plan) (width : ℕ) (lists : List (List Sample)) (order : List ℕ) (every : Option ℕ) → IsOfView written → plan.view ≡ Graph width → text_in written plan lists order every ≡ graph_text width lists order every
-graph_in form.Text plan width lists order every of_view is = ap (λ (view : View). view_text view lists order every) is
-graph_in (form.Page page) plan width lists order every of_view is = absurd of_view
-graph_in form.Types plan width lists order every of_view is = ap (λ (view : View). view_text view lists order every) is
+  -- the text of a graph, where no page is written
+  graph_in : (written : Form) (width : ℕ) → IsOfView written → plan.view ≡ Graph width → text_in written plan facts lists order every ≡ graph_text width lists order every
+  graph_in form.Text width of_view is = ap (λ (view : View). told_text (told_whole plan facts) view lists order every) is
+  graph_in (form.Page page) width of_view is = absurd of_view
+  graph_in form.Types width of_view is = ap (λ (view : View). told_text (told_whole plan facts) view lists order every) is
 
-pub graph_shown : (plan : Plan) (width : ℕ) (lists : List (List Sample)) (order : List ℕ) (every : Option ℕ) → IsOfView plan.form → plan.view ≡ Graph width → shown_text plan lists order every ≡ graph_text width lists order every
-graph_shown plan = graph_in plan.form plan
+  pub graph_shown : (width : ℕ) → IsOfView plan.form → plan.view ≡ Graph width → shown_text plan facts lists order every ≡ graph_text width lists order every
+  graph_shown = graph_in plan.form
 
-pub exactly : (plan : Plan) (known : Option (List Rest)) (old new : Option (List ℕ)) → IfSome known (Shows plan old new) → plan.form ≡ form.Text → IsOrderless plan.view plan.options.every
-    → IfSome known (λ rests. Appends old new (view_text plan.view (lists_of rests) [] None))
-exactly plan None old new shows as_text orderless = tt
-exactly plan (Some rests) old new shows as_text orderless =
-    let shown = shows (subst ShowsSamples (sym as_text) tt) in
-    subst (Appends old new) (shown.1.text_is ∙ ap (λ (written : Form). text_in written plan (lists_of rests) shown.1.order plan.options.every) as_text ∙ orderless_text plan.view (lists_of rests) shown.1.order plan.options.every orderless) shown.2
+  -- a text that says nothing of what a filter left out
+  plainly : (view : View) → IsOrderless view every → TellsNoWhole plan.options.filter view → told_text (told_whole plan facts) view lists order every ≡ view_text view lists [] None
+  plainly Fold orderless tells = refl
+  plainly (Graph width) orderless tells = ap (view_text (Graph width) lists order) orderless
+  plainly (Chart width) orderless tells = refl
+  plainly Pairs orderless tells = refl
+  plainly (PairBoxes width) orderless tells = refl
+  plainly (Top top) orderless tells = ap (λ kept. top_text (cond kept None (Some facts.whole)) top (all_samples lists)) tells
 
-pub page_exactly : (plan : Plan) (known : Option (List Rest)) (old new : Option (List ℕ)) → IfSome known (Shows plan old new) → (page : PageForm) → plan.form ≡ form.Page page
-    → IfSome known (λ rests. Appends old new (page_text plan page (lists_of rests)))
-page_exactly plan None old new shows page as_page = tt
-page_exactly plan (Some rests) old new shows page as_page =
-    let shown = shows (subst ShowsSamples (sym as_page) tt) in
-    subst (Appends old new) (shown.1.text_is ∙ ap (λ (written : Form). text_in written plan (lists_of rests) shown.1.order plan.options.every) as_page) shown.2
+  -- one that says what all samples weigh
+  with_all : (view : View) (top : TopTable) → view ≡ Top top → is_everything plan.options.filter ≡ false → told_text (told_whole plan facts) view lists order every ≡ top_text (Some facts.whole) top (all_samples lists)
+  with_all view top is filtered = λ i. told_text (cond (filtered i) None (Some facts.whole)) (is i) lists order every
+
+-- what was shown, of facts that are known
+module _ (plan : Plan) (old new : Option (List ℕ)) where
+  of_shown : (written : Form) (facts : RunFacts) (rests : List Rest) (wanted : List ℕ) → plan.form ≡ written → ShowsSamples written
+      → ((order : List ℕ) → text_in written plan facts (lists_of rests) order plan.options.every ≡ wanted)
+      → Shows plan (Some facts) old new rests → Appends old new wanted
+  of_shown written facts rests wanted is samples same shows =
+      let shown = shows (subst ShowsSamples (sym is) samples) in
+      subst (Appends old new) (shown.1.text_is ∙ ap (λ (form : Form). text_in form plan facts (lists_of rests) shown.1.order plan.options.every) is ∙ same shown.1.order) shown.2
+
+  pub exactly : (told : Option RunFacts) (known : Option (List Rest)) → IfSome known (λ _. IsKnown told) → IfSome known (Shows plan told old new)
+      → plan.form ≡ form.Text → IsOrderless plan.view plan.options.every → TellsNoWhole plan.options.filter plan.view
+      → IfSome known (λ rests. Appends old new (view_text plan.view (lists_of rests) [] None))
+  exactly told None some shows as_text orderless tells = tt
+  exactly None (Some rests) some shows as_text orderless tells = absurd some
+  exactly (Some facts) (Some rests) some shows as_text orderless tells =
+      of_shown form.Text facts rests (view_text plan.view (lists_of rests) [] None) as_text tt
+      (λ order. plainly plan facts (lists_of rests) order plan.options.every plan.view orderless tells) shows
+
+  pub with_whole : (told : Option RunFacts) (known : Option (List Rest)) → IfSome known (Shows plan told old new)
+      → (top : TopTable) → plan.form ≡ form.Text → plan.view ≡ Top top → is_everything plan.options.filter ≡ false
+      → IfSome told (λ facts. IfSome known (λ rests. Appends old new (top_text (Some facts.whole) top (all_samples (lists_of rests)))))
+  with_whole None known shows top as_text is filtered = tt
+  with_whole (Some facts) None shows top as_text is filtered = tt
+  with_whole (Some facts) (Some rests) shows top as_text is filtered =
+      of_shown form.Text facts rests (top_text (Some facts.whole) top (all_samples (lists_of rests))) as_text tt
+      (λ order. with_all plan facts (lists_of rests) order plan.options.every plan.view top is filtered) shows
+
+  pub page_exactly : (told : Option RunFacts) (known : Option (List Rest)) → IfSome known (Shows plan told old new)
+      → (page : PageForm) → plan.form ≡ form.Page page
+      → IfSome told (λ facts. IfSome known (λ rests. Appends old new (page_text plan facts page (lists_of rests))))
+  page_exactly None known shows page as_page = tt
+  page_exactly (Some facts) None shows page as_page = tt
+  page_exactly (Some facts) (Some rests) shows page as_page =
+      of_shown (form.Page page) facts rests (page_text plan facts page (lists_of rests)) as_page tt (λ order. refl) shows
+
+-- pages alone tell the types
+pub same_shown : (plan : Plan) (one other : RunFacts) (lists : List (List Sample)) (order : List ℕ) (every : Option ℕ) → one.whole ≡ other.whole
+    → ((page : PageForm) → plan.form ≡ form.Page page → one.types ≡ other.types) → shown_text plan one lists order every ≡ shown_text plan other lists order every
+same_shown plan one other lists order every weighed typed = go plan.form refl
+  where
+    told : told_text (told_whole plan one) plan.view lists order every ≡ told_text (told_whole plan other) plan.view lists order every
+    told = ap (λ whole. told_text (cond (is_everything plan.options.filter) None (Some whole)) plan.view lists order every) weighed
+
+    go : (written : Form) → plan.form ≡ written → text_in written plan one lists order every ≡ text_in written plan other lists order every
+    go form.Text is = told
+    go (form.Page page) is = λ i. page_text plan (record { whole = weighed i; types = typed page is i }) page lists
+    go form.Types is = told
 
 -- ---- without words
 
@@ -104,10 +157,10 @@ whole_input bytes =
     ∙ ap fold_text (append-nil (read_folded bytes).samples)
 
 module _ (input : Option (List ℕ)) (files : List ℕ → Option (List ℕ)) (old new : Option (List ℕ)) where
-  pub input_text : (plan : Plan) → plan ≡ default_plan → IfSome (known_rests plan input files) (Shows plan old new) → IfSome input (λ bytes. Appends old new (text_of bytes))
-  input_text plan is shows = go input (subst (λ (p : Plan). IfSome (known_rests p input files) (Shows p old new)) is shows)
+  pub input_text : (plan : Plan) → plan ≡ default_plan → IfSome (known_rests plan input files) (Shows plan (known_facts plan input files) old new) → IfSome input (λ bytes. Appends old new (text_of bytes))
+  input_text plan is shows = go input (subst (λ (p : Plan). IfSome (known_rests p input files) (Shows p (known_facts p input files) old new)) is shows)
     where
-      go : (known : Option (List ℕ)) → IfSome (known_rests default_plan known files) (Shows default_plan old new) → IfSome known (λ bytes. Appends old new (text_of bytes))
+      go : (known : Option (List ℕ)) → IfSome (known_rests default_plan known files) (Shows default_plan (known_facts default_plan known files) old new) → IfSome known (λ bytes. Appends old new (text_of bytes))
       go None shows = tt
       go (Some bytes) shows =
           let shown = shows tt in
@@ -118,16 +171,16 @@ module _ (input : Option (List ℕ)) (files : List ℕ → Option (List ℕ)) (o
   unchanged (Some xs) None kept = kept
   unchanged (Some xs) (Some ys) kept = kept ∙ sym (append-nil xs)
 
-  pub input_front : (plan : Plan) → plan ≡ default_plan → Keeps old new ⊎ IfSome (known_rests plan input files) (ShowsFront plan old new)
+  pub input_front : (plan : Plan) → plan ≡ default_plan → Keeps old new ⊎ IfSome (known_rests plan input files) (ShowsFront plan (known_facts plan input files) old new)
       → IfSome input (λ bytes. GainsFront bytes old new)
   input_front plan is (inl kept) = go input
     where
       go : (known : Option (List ℕ)) → IfSome known (λ bytes. GainsFront bytes old new)
       go None = tt
       go (Some bytes) = (0, unchanged old new kept)
-  input_front plan is (inr shows) = go input (subst (λ (p : Plan). IfSome (known_rests p input files) (ShowsFront p old new)) is shows)
+  input_front plan is (inr shows) = go input (subst (λ (p : Plan). IfSome (known_rests p input files) (ShowsFront p (known_facts p input files) old new)) is shows)
     where
-      go : (known : Option (List ℕ)) → IfSome (known_rests default_plan known files) (ShowsFront default_plan old new) → IfSome known (λ bytes. GainsFront bytes old new)
+      go : (known : Option (List ℕ)) → IfSome (known_rests default_plan known files) (ShowsFront default_plan (known_facts default_plan known files) old new) → IfSome known (λ bytes. GainsFront bytes old new)
       go None shows = tt
       go (Some bytes) shows =
           let shown = shows tt in
@@ -138,21 +191,27 @@ module _ (input : Option (List ℕ)) (files : List ℕ → Option (List ℕ)) (o
 pub words_have : (words : List Text) (plan : Plan) (P : Plan → Type 0) → asked_plan words ≡ Some plan → P plan → IsSomeAnd (asked_plan words) P
 words_have words plan P asked holds = subst (λ asked. IsSomeAnd asked P) (sym asked) holds
 
-pub asked_exactly : (words : List Text) (plan : Plan) (input : Option (List ℕ)) (files : List ℕ → Option (List ℕ)) (old new : Option (List ℕ)) → asked_plan words ≡ Some plan
-    → IfSome (known_rests plan input files) (Shows plan old new)
-    → IsSomeAnd (asked_plan words) (λ plan. plan.form ≡ form.Text → IsOrderless plan.view plan.options.every
-    → IfSome (known_rests plan input files) (λ rests. Appends old new (view_text plan.view (lists_of rests) [] None)))
-asked_exactly words plan input files old new asked shows =
-    words_have words plan (λ plan. plan.form ≡ form.Text → IsOrderless plan.view plan.options.every → IfSome (known_rests plan input files) (λ rests. Appends old new (view_text plan.view (lists_of rests) [] None)))
-    asked (exactly plan (known_rests plan input files) old new shows)
+module _ (words : List Text) (plan : Plan) (input : Option (List ℕ)) (files : List ℕ → Option (List ℕ)) (old new : Option (List ℕ)) (asked : asked_plan words ≡ Some plan)
+    (shows : IfSome (known_rests plan input files) (Shows plan (known_facts plan input files) old new)) where
+  pub asked_exactly : IsSomeAnd (asked_plan words) (λ plan. plan.form ≡ form.Text → IsOrderless plan.view plan.options.every → TellsNoWhole plan.options.filter plan.view
+      → IfSome (known_rests plan input files) (λ rests. Appends old new (view_text plan.view (lists_of rests) [] None)))
+  asked_exactly =
+      words_have words plan (λ plan. plan.form ≡ form.Text → IsOrderless plan.view plan.options.every → TellsNoWhole plan.options.filter plan.view → IfSome (known_rests plan input files) (λ rests. Appends old new (view_text plan.view (lists_of rests) [] None)))
+      asked (exactly plan old new (known_facts plan input files) (known_rests plan input files) (facts_are_known plan input files) shows)
 
-pub asked_page : (words : List Text) (plan : Plan) (input : Option (List ℕ)) (files : List ℕ → Option (List ℕ)) (old new : Option (List ℕ)) → asked_plan words ≡ Some plan
-    → IfSome (known_rests plan input files) (Shows plan old new)
-    → IsSomeAnd (asked_plan words) (λ plan. (page : PageForm) → plan.form ≡ form.Page page
-    → IfSome (known_rests plan input files) (λ rests. Appends old new (page_text plan page (lists_of rests))))
-asked_page words plan input files old new asked shows =
-    words_have words plan (λ plan. (page : PageForm) → plan.form ≡ form.Page page → IfSome (known_rests plan input files) (λ rests. Appends old new (page_text plan page (lists_of rests))))
-    asked (page_exactly plan (known_rests plan input files) old new shows)
+  pub asked_whole : IsSomeAnd (asked_plan words) (λ plan. (top : TopTable) → plan.form ≡ form.Text → plan.view ≡ Top top → is_everything plan.options.filter ≡ false
+      → IfSome (known_facts plan input files) (λ facts. IfSome (known_rests plan input files) (λ rests. Appends old new (top_text (Some facts.whole) top (all_samples (lists_of rests))))))
+  asked_whole =
+      words_have words plan (λ plan. (top : TopTable) → plan.form ≡ form.Text → plan.view ≡ Top top → is_everything plan.options.filter ≡ false
+      → IfSome (known_facts plan input files) (λ facts. IfSome (known_rests plan input files) (λ rests. Appends old new (top_text (Some facts.whole) top (all_samples (lists_of rests))))))
+      asked (with_whole plan old new (known_facts plan input files) (known_rests plan input files) shows)
+
+  pub asked_page : IsSomeAnd (asked_plan words) (λ plan. (page : PageForm) → plan.form ≡ form.Page page
+      → IfSome (known_facts plan input files) (λ facts. IfSome (known_rests plan input files) (λ rests. Appends old new (page_text plan facts page (lists_of rests)))))
+  asked_page =
+      words_have words plan (λ plan. (page : PageForm) → plan.form ≡ form.Page page
+      → IfSome (known_facts plan input files) (λ facts. IfSome (known_rests plan input files) (λ rests. Appends old new (page_text plan facts page (lists_of rests)))))
+      asked (page_exactly plan old new (known_facts plan input files) (known_rests plan input files) shows)
 
 pub some_asked : {A : Type 0} (bytes : A → List ℕ) (words : List A) (plan : Plan) → (length words ≡ 0 → ⊥) → plan_of (map bytes words) ≡ Some plan → asked_plan (map bytes words) ≡ Some plan
 some_asked bytes [] plan some planned = absurd (some refl)
@@ -184,3 +243,19 @@ pub accepted_some : {A : Type 0} (bytes : A → List ℕ) (words : List A) (plan
 accepted_some bytes [] plan status some planned faultless few accepted = absurd (some refl)
 accepted_some bytes (word ∷ words) plan status some planned faultless few accepted =
     (faultless, words_have (map bytes (word ∷ words)) plan (λ plan. length plan.files ≤ 64) planned (few (λ two. omega arith)))
+
+-- what is left of a text at the end of a run comes of words that have no fault
+pub partly_by_plan : (words : List Text) (plan : Plan) (input : Option (List ℕ)) (files : List ℕ → Option (List ℕ)) (old new : Option (List ℕ)) → asked_plan words ≡ Some plan → asked_faults words ≡ []
+    → Keeps old new ⊎ IfSome (known_rests plan input files) (ShowsFront plan (known_facts plan input files) old new)
+    → Keeps old new ⊎ (AsksForHelp words ⊎ ((asked_faults words ≡ []) × IsSomeAnd (asked_plan words) (λ plan. IfSome (known_rests plan input files) (ShowsFront plan (known_facts plan input files) old new))))
+partly_by_plan words plan input files old new asked faultless (inl kept) = inl kept
+partly_by_plan words plan input files old new asked faultless (inr shown) =
+    inr (inr (faultless, words_have words plan (λ plan. IfSome (known_rests plan input files) (ShowsFront plan (known_facts plan input files) old new)) asked shown))
+
+pub none_asked : {A : Type 0} (bytes : A → List ℕ) (words : List A) (plan : Plan) → length words ≡ 0 → plan ≡ default_plan → asked_plan (map bytes words) ≡ Some plan
+none_asked bytes [] plan none is = ap Some (sym is)
+none_asked bytes (word ∷ words) plan none is = absurd (omega arith)
+
+pub some_faultless : {A : Type 0} (bytes : A → List ℕ) (words : List A) → (length words ≡ 0 → ⊥) → fault_of command_line (map bytes words) ≡ [] → asked_faults (map bytes words) ≡ []
+some_faultless bytes [] some faultless = refl
+some_faultless bytes (word ∷ words) some faultless = faultless

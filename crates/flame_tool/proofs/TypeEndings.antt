@@ -5,7 +5,6 @@ use Rattle.std.specs.Io.KnownBytes.{Appends, Keeps}
 use Rattle.stack_core.specs.Reading.{Rest}
 use Rattle.run_options.specs.declared.choices.Pick.{Pick}
 use Rattle.run_options.specs.declared.choices.Pick.TheVariants.{Preferred}
-use Rattle.run_options.specs.declared.choices.Naming.{Naming}
 use Rattle.run_options.specs.declared.formats.Format.{Format}
 use Rattle.run_options.specs.declared.formats.Format.TheVariants.{Pprof}
 use Rattle.run_options.specs.declared.options.Options.{Options}
@@ -19,6 +18,7 @@ use Rattle.command_line.specs.Plans.{IsOfOneProfile}
 use Rattle.command_line.specs.declared.plans.Form.TheVariants as form
 use Rattle.command_line.specs.declared.plans.Plan.{Plan}
 use Rattle.view_texts.specs.Types.{types_text}
+use Rattle.sent_views.specs.declared.run_facts.RunFacts.{RunFacts}
 use Rattle.flame_tool.specs.Requests.{known_rests, rest_of, rests_at}
 use Rattle.flame_tool.specs.Runs.{HasFault, IsFault, Shows, ShowsFront, ShowsSamples}
 use Rattle.flame_tool.specs.TypeRuns.{HasTableFault, ShowsTypes, ShowsTypesFront, known_profile, table_fault}
@@ -48,16 +48,16 @@ fault_of_paths options input files (path ∷ another ∷ more) one preferred fau
 
 -- ---- a plan that asks for no samples
 
-module _ (plan : Plan) (old new : Option (List ℕ)) (types : plan.form ≡ form.Types) where
-  unseen : (known : Option (List Rest)) → IfSome known (Shows plan old new)
+module _ (plan : Plan) (told : Option RunFacts) (old new : Option (List ℕ)) (types : plan.form ≡ form.Types) where
+  unseen : (known : Option (List Rest)) → IfSome known (Shows plan told old new)
   unseen None = tt
   unseen (Some rests) = λ shows. absurd (subst ShowsSamples types shows)
 
-  unseen_front : (known : Option (List Rest)) → IfSome known (ShowsFront plan old new)
+  unseen_front : (known : Option (List Rest)) → IfSome known (ShowsFront plan told old new)
   unseen_front None = tt
   unseen_front (Some rests) = λ shows. absurd (subst ShowsSamples types shows)
 
-  pub unseen_ok : {T E : Type 0} (known : Option (List Rest)) (result : Result T E) → OnOk result (IfSome known (Shows plan old new))
+  pub unseen_ok : {T E : Type 0} (known : Option (List Rest)) (result : Result T E) → OnOk result (IfSome known (Shows plan told old new))
   unseen_ok known (Ok done) = unseen known
   unseen_ok known (Err error) = tt
 
@@ -66,7 +66,7 @@ module _ (plan : Plan) (old new : Option (List ℕ)) (types : plan.form ≡ form
   unsaid (Some rests) = tt
 
   unseen_fails : (input : Option (List ℕ)) (files : List ℕ → Option (List ℕ)) (failure : Failure) → IsOfOneProfile plan
-      → IfSome (known_profile plan files) (FailsTypes old new failure) → IfSome (known_rests plan input files) (Fails plan old new failure)
+      → IfSome (known_profile plan files) (FailsTypes old new failure) → IfSome (known_rests plan input files) (Fails plan told old new failure)
   unseen_fails input files TooManyFiles one fails = unsaid (known_rests plan input files)
   unseen_fails input files (Unreadable source) one fails = unsaid (known_rests plan input files)
   unseen_fails input files (TooLarge source) one fails = unsaid (known_rests plan input files)
@@ -80,7 +80,7 @@ module _ (plan : Plan) (old new : Option (List ℕ)) (types : plan.form ≡ form
 
   pub unseen_err : {T : Type 0} (input : Option (List ℕ)) (files : List ℕ → Option (List ℕ)) (result : Result T Failure) → IsOfOneProfile plan
       → IfErr result (λ failure. IfSome (known_profile plan files) (FailsTypes old new failure))
-      → IfErr result (λ failure. IfSome (known_rests plan input files) (Fails plan old new failure))
+      → IfErr result (λ failure. IfSome (known_rests plan input files) (Fails plan told old new failure))
   unseen_err input files (Ok done) one fails = tt
   unseen_err input files (Err failure) one fails = unseen_fails input files failure one fails
 

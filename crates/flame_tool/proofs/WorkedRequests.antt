@@ -9,6 +9,8 @@ use Rattle.clap.specs.Walk.{Text}
 use Rattle.stack_core.specs.Reading.{Rest}
 use Rattle.folded_lines.proofs.Computing.{computing}
 use Rattle.merged_stacks.specs.Merged.{merged, stacks_of, sum_at}
+use Rattle.sent_views.specs.Facts.{told_whole}
+use Rattle.flame_tool.specs.KnownFacts.{known_facts}
 use Rattle.flame_tool.specs.Requests.{asked_plan, known_rests}
 use Rattle.flame_tool.specs.Runs.{lists_of}
 use Rattle.source_views.specs.Texts.{view_text}
@@ -27,6 +29,20 @@ rests_asked words input = option_and_then (λ plan. known_rests plan input two_f
 abbrev text_asked : List Text → Option (List ℕ) → Option (List ℕ)
 text_asked words input =
     option_and_then (λ plan. option_map (λ rests. view_text plan.view (lists_of rests) [] None) (known_rests plan input two_files)) (asked_plan words)
+
+-- what the words let a text tell of the weight of all samples
+abbrev whole_asked : List Text → Option (List ℕ) → Option ℕ
+whole_asked words input =
+    option_and_then (λ plan. option_and_then (told_whole plan) (known_facts plan input two_files)) (asked_plan words)
+
+-- it is that of all samples, whatever a filter keeps
+whole_of_the_focus : whole_asked (codes "top" ∷ codes "--focus" ∷ codes "b" ∷ codes "y" ∷ codes "x" ∷ []) None ≡ Some 7
+unfolding clap_on_literals computing digits
+whole_of_the_focus = refl
+
+whole_of_everything : whole_asked (codes "top" ∷ codes "y" ∷ []) None ≡ None
+unfolding clap_on_literals computing digits
+whole_of_everything = refl
 
 fold_of_two : text_asked (codes "fold" ∷ codes "y" ∷ codes "x" ∷ []) None ≡ Some (codes "a 3\nb 4\n")
 unfolding clap_on_literals merged stacks_of sum_at computing digits

@@ -1,4 +1,5 @@
 -- The definitions that the contracts of flame_tool cite. Those of the crates below it are passed on.
+pub mod KnownFacts
 pub mod Requests
 pub mod Runs
 pub mod TypeRuns
@@ -22,6 +23,7 @@ pub use Rattle.page_texts.specs.Document
 pub use Rattle.page_texts.specs.Page
 pub use Rattle.run_options.specs.Filters
 pub use Rattle.run_options.specs.Formats
+pub use Rattle.sent_views.specs.Facts
 pub use Rattle.sent_views.specs.Pages
 pub use Rattle.source_views.specs.SumViews
 pub use Rattle.source_views.specs.Texts

@@ -1,5 +1,5 @@
 -- What a run leaves on its output, and what that says of its sources.
-use Rattle.std.specs.Prelude.{◌≡◌, ℕ, List, Option, take, map, All, Any}
+use Rattle.std.specs.Prelude.{◌≡◌, ℕ, List, Option, IfSome, true, take, map, All, Any}
 use Rattle.std.specs.Io.KnownBytes.{Appends}
 use Rattle.byte_io.specs.Pieces.{AppendsFront}
 use Rattle.stack_core.specs.Interleaving.{IsInterleaving}
@@ -11,8 +11,13 @@ use Rattle.folded_lines.specs.Reading.{read_folded}
 use Rattle.command_line.specs.declared.plans.Form.{Form}
 use Rattle.command_line.specs.declared.plans.Form.TheVariants as form
 use Rattle.command_line.specs.declared.plans.Plan.{Plan}
+use Rattle.command_line.specs.declared.plans.View.{View}
+use Rattle.command_line.specs.declared.plans.View.TheVariants.{Fold, Graph, Chart, Pairs, PairBoxes, Top}
+use Rattle.run_options.specs.Filters.{is_everything}
+use Rattle.run_options.specs.declared.filters.Filter.{Filter}
 use Rattle.view_texts.specs.Fold.{fold_text}
 use Rattle.sent_views.specs.Pages.{shown_text}
+use Rattle.sent_views.specs.declared.run_facts.RunFacts.{RunFacts}
 
 -- all of the source was read
 abbrev pub IsClean : SourceEnd → Type 0
@@ -46,21 +51,30 @@ ShowsSamples form.Types = ⊥
 
 -- a text that the plan asks for: all of each source was read, and it is the view of their samples, or its page, in an order in
 -- which they may come
-pub record IsTextOf (plan : Plan) (rests : List Rest) (text : List ℕ) : Type 0 where
+pub record IsTextOf (plan : Plan) (facts : RunFacts) (rests : List Rest) (text : List ℕ) : Type 0 where
   pub clean : All (λ rest. IsClean rest.ending) rests
   pub order : List ℕ
   pub ordered : IsInterleaving order (lists_of rests)
-  pub text_is : text ≡ shown_text plan (lists_of rests) order plan.options.every
+  pub text_is : text ≡ shown_text plan facts (lists_of rests) order plan.options.every
 
--- the output gained what the plan asks for, if that shows samples
-abbrev pub Shows : Plan → Option (List ℕ) → Option (List ℕ) → List Rest → Type 0
-Shows plan old new rests =
-    ShowsSamples plan.form → (text : List ℕ) × IsTextOf plan rests text × Appends old new text
+-- the output gained what the plan asks for, if that shows samples; the facts are known where the samples are
+abbrev pub Shows : Plan → Option RunFacts → Option (List ℕ) → Option (List ℕ) → List Rest → Type 0
+Shows plan known old new rests =
+    ShowsSamples plan.form → IfSome known (λ facts. (text : List ℕ) × IsTextOf plan facts rests text × Appends old new text)
 
 -- the output gained a part of that from its front, or nothing
-abbrev pub ShowsFront : Plan → Option (List ℕ) → Option (List ℕ) → List Rest → Type 0
-ShowsFront plan old new rests =
-    ShowsSamples plan.form → (text : List ℕ) × IsTextOf plan rests text × AppendsFront text old new
+abbrev pub ShowsFront : Plan → Option RunFacts → Option (List ℕ) → Option (List ℕ) → List Rest → Type 0
+ShowsFront plan known old new rests =
+    ShowsSamples plan.form → IfSome known (λ facts. (text : List ℕ) × IsTextOf plan facts rests text × AppendsFront text old new)
+
+-- the text of the view says nothing of samples that a filter leaves out
+abbrev pub TellsNoWhole : Filter → View → Type 0
+TellsNoWhole filter Fold = Unit {0}
+TellsNoWhole filter (Graph width) = Unit {0}
+TellsNoWhole filter (Chart width) = Unit {0}
+TellsNoWhole filter Pairs = Unit {0}
+TellsNoWhole filter (PairBoxes width) = Unit {0}
+TellsNoWhole filter (Top top) = is_everything filter ≡ true
 
 -- a source was read up to a fault
 abbrev pub HasFault : List Rest → Type 0

@@ -1,13 +1,18 @@
 //! A run of the program.
-ghost use Rattle.std.specs.Prelude.{◌≡◌, ◌≢◌, ◌≤◌, ◌<◌, ◌⊎◌, [], None, IfSome, IfErr, IsErrOf, IsSomeAnd, OnOk, vec_len, length, map, string_bytes};
+ghost use Rattle.std.specs.Prelude.{◌≡◌, ◌≢◌, ◌≤◌, ◌<◌, ◌⊎◌, [], None, Some, false, IfSome, IfErr, IsErrOf, IsSomeAnd, OnOk, vec_len, length, map, string_bytes};
 ghost use Rattle.std.specs.Io.KnownBytes.{Appends, Keeps};
 ghost use Rattle.folded_lines.specs.Reading.{read_folded};
 ghost use Rattle.command_line.specs.Plans.{IsComparison, IsOfOneProfile};
 ghost use Rattle.command_line.specs.declared.plans.PageForm.{PageForm};
+ghost use Rattle.command_line.specs.declared.plans.TopTable.{TopTable};
+ghost use Rattle.command_line.specs.declared.plans.View.{View};
+ghost use Rattle.merging.specs.Sums.{all_samples};
+ghost use Rattle.run_options.specs.Filters.{is_everything};
+ghost use Rattle.flame_tool.specs.KnownFacts.{known_facts};
 ghost use Rattle.flame_tool.specs.Requests.{AreRefused, AsksForHelp, asked_faults, asked_plan, known_rests};
 ghost use Rattle.sent_views.specs.Pages.{page_text};
-ghost use Rattle.source_views.specs.Texts.{IsOrderless, view_text};
-ghost use Rattle.flame_tool.specs.Runs.{IsClean, IsFault, text_of, lists_of, GainsFront, Shows, ShowsFront, HasFault};
+ghost use Rattle.source_views.specs.Texts.{IsOrderless, top_text, view_text};
+ghost use Rattle.flame_tool.specs.Runs.{IsClean, IsFault, text_of, lists_of, GainsFront, Shows, ShowsFront, HasFault, TellsNoWhole};
 ghost use Rattle.flame_tool.specs.TypeRuns.{known_profile, HasTableFault, ShowsTypes, ShowsTypesFront};
 ghost use Rattle.flame_tool.specs.checked.TypeFailures.{FailsTypes};
 ghost use Rattle.flame_tool.specs.checked.Failures.{Fails, IsHelp, IsWords, KeepsOutput};
@@ -65,21 +70,34 @@ pub fn run<T: Threads + Wait + Copy + Send + 'static, F: Files, W: Outlet, E: Ou
     ensures shown { result ≡ 0 → AsksForHelp (map string_bytes words.items)
         ⊎ IsSomeAnd (asked_plan (map string_bytes words.items)) (λ plan.
         IfSome (known_rests plan (F.known_input files.old) (F.known_file files.old))
-        (Shows plan (W.contents out.old) (W.contents out.new))) }
+        (Shows plan (known_facts plan (F.known_input files.old) (F.known_file files.old))
+        (W.contents out.old) (W.contents out.new))) }
     ensures shown_exactly { result ≡ 0 → AsksForHelp (map string_bytes words.items)
         ⊎ IsSomeAnd (asked_plan (map string_bytes words.items)) (λ plan.
         plan.form ≡ Form.Text → IsOrderless plan.view plan.options.every
+        → TellsNoWhole plan.options.filter plan.view
         → IfSome (known_rests plan (F.known_input files.old) (F.known_file files.old)) (λ rests.
         Appends (W.contents out.old) (W.contents out.new)
         (view_text plan.view (lists_of rests) [] None))) }
+
+    // Of functions under a filter, the text also says what all samples weigh.
+    ensures shown_with_whole { result ≡ 0 → AsksForHelp (map string_bytes words.items)
+        ⊎ IsSomeAnd (asked_plan (map string_bytes words.items)) (λ plan.
+        (top : TopTable) → plan.form ≡ Form.Text → plan.view ≡ View.Top top
+        → is_everything plan.options.filter ≡ false
+        → IfSome (known_facts plan (F.known_input files.old) (F.known_file files.old)) (λ facts.
+        IfSome (known_rests plan (F.known_input files.old) (F.known_file files.old)) (λ rests.
+        Appends (W.contents out.old) (W.contents out.new)
+        (top_text (Some facts.whole) top (all_samples (lists_of rests)))))) }
 
     // Of a page no order of the samples is left.
     ensures shown_page { result ≡ 0 → AsksForHelp (map string_bytes words.items)
         ⊎ IsSomeAnd (asked_plan (map string_bytes words.items)) (λ plan.
         (page : PageForm) → plan.form ≡ Form.Page page
-        → IfSome (known_rests plan (F.known_input files.old) (F.known_file files.old)) (λ rests.
+        → IfSome (known_facts plan (F.known_input files.old) (F.known_file files.old)) (λ facts.
+        IfSome (known_rests plan (F.known_input files.old) (F.known_file files.old)) (λ rests.
         Appends (W.contents out.old) (W.contents out.new)
-        (page_text plan page (lists_of rests)))) }
+        (page_text plan facts page (lists_of rests))))) }
 
     // 1 is a fault of a source, 2 are words that are refused or more than 64 files, and 3 leaves nothing
     // or a part of the text from its front.
@@ -99,7 +117,17 @@ pub fn run<T: Threads + Wait + Copy + Send + 'static, F: Files, W: Outlet, E: Ou
         ⊎ (AsksForHelp (map string_bytes words.items)
         ⊎ IsSomeAnd (asked_plan (map string_bytes words.items)) (λ plan.
         IfSome (known_rests plan (F.known_input files.old) (F.known_file files.old))
-        (ShowsFront plan (W.contents out.old) (W.contents out.new)))) }
+        (ShowsFront plan (known_facts plan (F.known_input files.old) (F.known_file files.old))
+        (W.contents out.old) (W.contents out.new)))) }
+
+    // Nor is anything written at 3 for words with a fault, if they don't ask for help.
+    ensures partly_followed { result ≡ 3 → Keeps (W.contents out.old) (W.contents out.new)
+        ⊎ (AsksForHelp (map string_bytes words.items)
+        ⊎ ((asked_faults (map string_bytes words.items) ≡ [])
+        × IsSomeAnd (asked_plan (map string_bytes words.items)) (λ plan.
+        IfSome (known_rests plan (F.known_input files.old) (F.known_file files.old))
+        (ShowsFront plan (known_facts plan (F.known_input files.old) (F.known_file files.old))
+        (W.contents out.old) (W.contents out.new))))) }
 
     // The same of the sample types of a profile: 0 is their text, 1 is a fault of the profile before its
     // samples, and 3 leaves nothing or a part of the text from its front.
@@ -170,14 +198,16 @@ fn run_plan<T: Threads + Wait + Copy + Send + 'static, F: Files, W: Outlet, E: O
     ensures status { result ≤ 3 }
     ensures shown { result ≡ 0
         → IfSome (known_rests plan (F.known_input files.old) (F.known_file files.old))
-        (Shows plan (W.contents out.old) (W.contents out.new)) }
+        (Shows plan (known_facts plan (F.known_input files.old) (F.known_file files.old))
+        (W.contents out.old) (W.contents out.new)) }
     ensures faulty { result ≡ 1
         → IfSome (known_rests plan (F.known_input files.old) (F.known_file files.old)) HasFault }
     ensures many { result ≡ 2 → 64 < length plan.files }
     ensures few { result ≢ 2 → length plan.files ≤ 64 }
     ensures front { result ≡ 3 → Keeps (W.contents out.old) (W.contents out.new)
         ⊎ IfSome (known_rests plan (F.known_input files.old) (F.known_file files.old))
-        (ShowsFront plan (W.contents out.old) (W.contents out.new)) }
+        (ShowsFront plan (known_facts plan (F.known_input files.old) (F.known_file files.old))
+        (W.contents out.old) (W.contents out.new)) }
     ensures types { result ≡ 0 → plan.form ≡ Form.Types
         → IfSome (known_profile plan (F.known_file files.old))
         (ShowsTypes (W.contents out.old) (W.contents out.new)) }
@@ -217,10 +247,12 @@ fn show_plan<T: Threads + Wait + Copy + Send + 'static, F: Files, W: Outlet, E: 
     requires profile { plan.now.form ≡ Form.Types → IsOfOneProfile plan.now }
     ensures ok { OnOk result
         (IfSome (known_rests plan.now (F.known_input files.old) (F.known_file files.old))
-        (Shows plan.now (W.contents out.old) (W.contents out.new))) }
+        (Shows plan.now (known_facts plan.now (F.known_input files.old) (F.known_file files.old))
+        (W.contents out.old) (W.contents out.new))) }
     ensures err { IfErr result (λ failure.
         IfSome (known_rests plan.now (F.known_input files.old) (F.known_file files.old))
-        (Fails plan.now (W.contents out.old) (W.contents out.new) failure)) }
+        (Fails plan.now (known_facts plan.now (F.known_input files.old) (F.known_file files.old))
+        (W.contents out.old) (W.contents out.new) failure)) }
     ensures types { OnOk result (plan.now.form ≡ Form.Types
         → IfSome (known_profile plan.now (F.known_file files.old))
         (ShowsTypes (W.contents out.old) (W.contents out.new))) }

@@ -5,14 +5,15 @@ ghost use Rattle.std.specs.Prelude.{◌≡◌};
 
 use byte_io::{Outlet, send};
 use itoa::Buffer;
+use merging::Observer;
 use stack_core::{Ledger, NoSink, RowSink};
 use std::alloc::{AllocError, Global};
 
 /// After how many samples the line is written again, each time.
 const STRIDE: u64 = 1 << 16;
 
-/// The sink of a run of which the lists alone are wanted, which tells how many samples it took where that is wanted. The messages of
-/// the run go where it tells this.
+/// Tells how many samples of a run arrived, where that is wanted: as the sink of a run of which the lists alone are wanted, or as the
+/// observer of one that merges them. The messages of the run go where it tells this.
 #[derive(Drop)]
 pub(crate) struct Progress<'a, E> {
     taken: NoSink,
@@ -87,6 +88,12 @@ impl<E: Outlet> RowSink for Progress<'_, E> {
         self.taken.take_row(alloc, source, ledger, row, weight)?;
         self.count(alloc);
         Ok(())
+    }
+}
+
+impl<E: Outlet> Observer for Progress<'_, E> {
+    fn saw(&mut self, alloc: Global) {
+        self.count(alloc);
     }
 }
 

@@ -8,7 +8,7 @@ ghost use Rattle.flame_tool.specs.checked.TypeFailures.{FailsTypes};
 
 use byte_io::{Files, Outlet};
 use command_line::Plan;
-use opened_sources::{Failure, named, report_ending};
+use opened_sources::{Failure, open_named, report_ending};
 use profile_tables::{SampleTypes, TableFault, sample_types};
 use sent_views::send_text;
 use stack_core::SourceEnd;
@@ -36,7 +36,7 @@ pub(crate) fn show_types<F: Files, W: Outlet, E: Outlet>(
         result }
 {
     let paths = plan.files.get();
-    let source = named(alloc, files, 0, &paths[0], plan.format)?;
+    let source = open_named(alloc, files, 0, &paths[0], plan.format)?;
     show_types_of(alloc, &source.bytes, paths, out, err)
 }
 

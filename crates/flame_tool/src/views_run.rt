@@ -1,8 +1,11 @@
 //! The samples of the sources of a plan, collected and shown.
-ghost use Rattle.std.specs.Prelude.{◌≡◌, ◌≢◌, ◌≤◌, ◌<◌, ℕ, [], List, None, Option, false, IfSome, IfErr, IsErrOf, IsNone, OnOk, length, map};
+ghost use Rattle.std.specs.Prelude.{◌≡◌, ◌≢◌, ◌≤◌, ◌<◌, ℕ, [], List, None, Option, false, IfOk, IfSome, IfErr, IsErrOf, IsNone, OnOk, length, map};
 ghost use Rattle.std.specs.Io.KnownBytes.{Appends};
 ghost use Rattle.merged_stacks.specs.Timeline.{samples_of};
 ghost use Rattle.command_line.specs.Plans.{IsComparison};
+ghost use Rattle.command_line.specs.declared.plans.PageForm.{PageForm};
+ghost use Rattle.source_lists.specs.Types.{source_type};
+ghost use Rattle.flame_tool.specs.KnownFacts.{known_facts};
 ghost use Rattle.flame_tool.specs.Requests.{known_rests};
 ghost use Rattle.sent_views.specs.Pages.{shown_text};
 ghost use Rattle.source_views.specs.Texts.{IsOrderless, graph_text};
@@ -16,10 +19,12 @@ use crate::progress::Progress;
 use byte_io::{Files, Outlet};
 use command_line::{Form, Plan, View};
 use flame_layout::Width;
-use merging::{Gathered, Source, SourceLists, gather, read_whole_sources};
+use merging::{Gathered, Source, SourceLists, gather_observed, read_whole_sources};
 use opened_sources::{Failure, any_fault, open_sources, report_endings};
-use sent_views::{send_asked_page, send_plain_view, send_snapshots};
-use stack_core::OpenGate;
+use profile_messages::SampleType;
+use sent_views::{RunFacts, send_asked_page, send_asked_view, send_snapshots};
+use source_lists::chosen_types;
+use stack_core::{Listed, OpenGate};
 use std::alloc::{AllocError, Global};
 use std::sync::{Arc, Wait};
 use std::thread::Threads;
@@ -41,10 +46,12 @@ pub(crate) fn show_views<T: Threads + Wait + Copy + Send + 'static, F: Files, W:
     requires every { IfSome plan.now.options.every (λ every. 1 ≤ every) }
     ensures ok { OnOk result
         (IfSome (known_rests plan.now (F.known_input files.old) (F.known_file files.old))
-        (Shows plan.now (W.contents out.old) (W.contents out.new))) }
+        (Shows plan.now (known_facts plan.now (F.known_input files.old) (F.known_file files.old))
+        (W.contents out.old) (W.contents out.new))) }
     ensures err { IfErr result (λ failure.
         IfSome (known_rests plan.now (F.known_input files.old) (F.known_file files.old))
-        (Fails plan.now (W.contents out.old) (W.contents out.new) failure)) }
+        (Fails plan.now (known_facts plan.now (F.known_input files.old) (F.known_file files.old))
+        (W.contents out.old) (W.contents out.new) failure)) }
     ensures kept { IfErr result (λ failure.
         KeepsOutput (W.contents out.old) (W.contents out.new) failure) }
     ensures many { IsErrOf result Failure.TooManyFiles → 64 < length plan.now.files }
@@ -86,7 +93,7 @@ fn asked_snapshots(plan: &Plan) -> Option<Width>
 }
 
 // Collects the samples of sources, and sends the view of them. Where it has snapshots, the samples are merged as
-// they arrive, and no progress is told.
+// they arrive.
 fn show_sources<T: Threads + Wait + Copy + Send + 'static, W: Outlet, E: Outlet>(
     rt: &T,
     alloc: Global,
@@ -101,11 +108,12 @@ fn show_sources<T: Threads + Wait + Copy + Send + 'static, W: Outlet, E: Outlet>
     ensures ok { (input : Option (List ℕ)) (files : List ℕ → Option (List ℕ))
         → AreOpened plan.now.format input files plan.now.files sources.items
         → OnOk result (IfSome (known_rests plan.now input files)
-        (Shows plan.now (W.contents out.old) (W.contents out.new))) }
+        (Shows plan.now (known_facts plan.now input files)
+        (W.contents out.old) (W.contents out.new))) }
     ensures err { (input : Option (List ℕ)) (files : List ℕ → Option (List ℕ))
         → AreOpened plan.now.format input files plan.now.files sources.items
         → IfErr result (λ failure. IfSome (known_rests plan.now input files)
-        (Fails plan.now (W.contents out.old) (W.contents out.new) failure)) }
+        (Fails plan.now (known_facts plan.now input files) (W.contents out.old) (W.contents out.new) failure)) }
     ensures kept { IfErr result (λ failure.
         KeepsOutput (W.contents out.old) (W.contents out.new) failure) }
     ensures few_files { IsErrOf result Failure.TooManyFiles → ⊥ }
@@ -115,15 +123,31 @@ fn show_sources<T: Threads + Wait + Copy + Send + 'static, W: Outlet, E: Outlet>
     match asked_snapshots(plan) {
         Some(width) => {
             let gate = open_gate(alloc)?;
-            let gathered = gather(rt, alloc, sources, &plan.options, gate)?;
+            let gathered = gather_observed(rt, alloc, sources, &plan.options, gate, progress)?;
             report_endings(progress.messages(), plan.files.get(), gathered.lists());
             send_gathered(alloc, &gathered, width, out)
         }
         None => {
+            let types = told_types(alloc, plan, &sources)?;
             let run = read_whole_sources(rt, alloc, sources, &plan.options, progress)?;
             report_endings(progress.messages(), plan.files.get(), run.kept.lists());
-            send_lists(alloc, &run.kept, plan, out)
+            let facts = RunFacts {
+                whole: run.whole_weight,
+                types: Listed::of(types),
+            };
+            send_lists(alloc, &run.kept, plan, &facts, out)
         }
+    }
+}
+
+// The sample types of the weights of sources, which pages alone tell.
+fn told_types(alloc: Global, plan: &Plan, sources: &[Source]) -> Result<Vec<SampleType>, AllocError>
+    ensures { IfOk result (λ types. (page : PageForm) → plan.now.form ≡ Form.Page page
+        → types.items ≡ map (source_type plan.now.options) sources.now) }
+{
+    match plan.form {
+        Form::Page(_) => chosen_types(alloc, sources, &plan.options),
+        Form::Text | Form::Types => Ok(Vec::new(alloc)),
     }
 }
 
@@ -154,14 +178,15 @@ fn send_lists<W: Outlet>(
     alloc: Global,
     run: &SourceLists,
     plan: &Plan,
+    facts: &RunFacts,
     out: &mut W,
 ) -> Result<(), Failure>
     requires pairs { IsComparison plan.now.view → length run.now.lists ≡ 2 }
     ensures faultless { OnOk result (has_fault run.now.lists ≡ false) }
     ensures ok { OnOk result (Appends (W.contents out.old) (W.contents out.new)
-        (shown_text plan.now (samples_of run.now.lists) [] None)) }
+        (shown_text plan.now facts.now (samples_of run.now.lists) [] None)) }
     ensures err { IfErr result (FailsToShow run.now.lists
-        (shown_text plan.now (samples_of run.now.lists) [] None)
+        (shown_text plan.now facts.now (samples_of run.now.lists) [] None)
         (W.contents out.old) (W.contents out.new)) }
     ensures flushed { Flushes (W.is_flushed out.new) (W.failures out.old) (W.failures out.new)
         result }
@@ -170,7 +195,7 @@ fn send_lists<W: Outlet>(
         return Err(Failure::Faults);
     }
     match &plan.form {
-        Form::Text | Form::Types => send_plain_view(alloc, run, plan.view, out),
-        Form::Page(page) => send_asked_page(alloc, run, plan, page, out),
+        Form::Text | Form::Types => send_asked_view(alloc, run, plan, facts, out),
+        Form::Page(page) => send_asked_page(alloc, run, plan, facts, page, out),
     }
 }

@@ -11,6 +11,7 @@ ghost use Rattle.merging.specs.Snapshots.{snapshot_samples, AreSnapshots};
 ghost use Rattle.merging.specs.Sums.{all_samples, HasSumsOf, IsDrawable};
 ghost use Rattle.merging.specs.Gathered.{AreLimited, IsGathered};
 
+use crate::observers::{ObservedSink, Observer, Unobserved};
 use crate::snapshots::Snapshot;
 use crate::tree_sink::TreeSink;
 use call_tree::{CallTree, FrameTable};
@@ -167,7 +168,48 @@ pub fn gather<T: Threads + Wait + Copy + Send + 'static, G: Gate + Send + Sync +
     ensures refused { (source : ℕ) → IsErrOf result (CollectFault.Unfinished source)
         → source < length sources.items }
 {
-    let mut sink = TreeSink::new(alloc, options.every)?;
-    let sources = read_into(rt, alloc, sources, options, gate, &mut sink)?;
-    Ok(Gathered::of(sources, sink))
+    gather_observed(rt, alloc, sources, options, gate, &mut Unobserved)
+}
+
+/// As `gather`, and the observer is told of each sample when it was merged.
+pub fn gather_observed<
+    T: Threads + Wait + Copy + Send + 'static,
+    G: Gate + Send + Sync + Drop + 'static,
+    O: Observer,
+>(
+    rt: &T,
+    alloc: Global,
+    sources: Vec<Source>,
+    options: &Options,
+    gate: Arc<G>,
+    observer: &mut O,
+) -> Result<Gathered, CollectFault>
+    requires sources { length sources.items ≤ 64 }
+    requires every { IfSome options.now.every (λ every. 1 ≤ every) }
+
+    // Each list is the samples that the source's bytes stand for: all of them, or the first ones
+    // where the gate stopped the source.
+    ensures collected_lists { IfOk result (λ gathered.
+        Collects (G.may_stop (arc_value gate)) (G.may_go (arc_value gate))
+        (rests_of options.now sources.items) gathered.lists) }
+    ensures whole_lists { ((source index : ℕ) → G.may_stop (arc_value gate) source index → ⊥)
+        → IfOk result (λ gathered. AreWhole (rests_of options.now sources.items) gathered.lists) }
+
+    // What was merged is their samples, and each snapshot the first of them.
+    ensures merged_totals { IfOk result (λ gathered.
+        HasSumsOf gathered.names gathered.tree (all_samples (samples_of gathered.lists))) }
+    ensures order { IfOk result (λ gathered.
+        IsInterleaving gathered.order (samples_of gathered.lists)) }
+    ensures snapshots { IfOk result (λ gathered.
+        AreSnapshots options.now.every gathered.names gathered.order
+        (λ m. snapshot_samples m gathered.order (samples_of gathered.lists)) gathered.snapshots) }
+    ensures every { IfOk result (λ gathered. gathered.every ≡ options.now.every) }
+
+    ensures refused { (source : ℕ) → IsErrOf result (CollectFault.Unfinished source)
+        → source < length sources.items }
+{
+    let sink = TreeSink::new(alloc, options.every)?;
+    let mut observed = ObservedSink { sink, observer };
+    let sources = read_into(rt, alloc, sources, options, gate, &mut observed)?;
+    Ok(Gathered::of(sources, observed.sink))
 }

@@ -3,12 +3,14 @@
 
 mod collection;
 pub mod laws;
+mod observers;
 mod snapshots;
 mod taken_rows;
 mod tally;
 mod tree_sink;
 
-pub use collection::{Gathered, gather};
+pub use collection::{Gathered, gather, gather_observed};
+pub use observers::Observer;
 pub use snapshots::Snapshot;
 pub use source_lists::{Source, SourceLists, WholeRun, read_sources, read_whole_sources};
 pub use tree_sink::TreeSink;

@@ -1,5 +1,5 @@
 -- What each failure of a run says of its output, and the exit status that it has.
-use Rattle.std.specs.Prelude.{◌≡◌, ℕ, ◌<◌, List, Bool, true, false, Option, Result, MatchResult}
+use Rattle.std.specs.Prelude.{◌≡◌, ◌⊎◌, ℕ, ◌<◌, List, Bool, true, false, Option, Result, MatchResult}
 use Rattle.std.specs.List.{list_any}
 use Rattle.std.specs.Io.KnownBytes.{Appends, Keeps}
 use Rattle.stack_core.specs.Ledgers.{ListState}
@@ -55,11 +55,16 @@ CountsFailure old new (Output piece.Output) = new ≡ one_more old
 abbrev pub Flushes : {T : Type 0} → Type 0 → ℕ → ℕ → Result T Failure → Type 0
 Flushes flushed old new result = MatchResult result (λ _. flushed × (new ≡ old)) (CountsFailure old new)
 
--- the failure came before anything was collected, and so many files are too many only above 64
+-- the source is one of so many files, or the input where there is no file
+abbrev pub IsAsked : ℕ → ℕ → Type 0
+IsAsked count source = (source < count) ⊎ ((count ≡ 0) × (source ≡ 0))
+
+-- the failure came before anything was collected: a source that was asked for was not loaded, and so many files are too many
+-- only above 64
 abbrev pub IsOpening : ℕ → Failure → Type 0
 IsOpening count TooManyFiles = 64 < count
-IsOpening count (Unreadable source) = Unit {0}
-IsOpening count (TooLarge source) = Unit {0}
+IsOpening count (Unreadable source) = IsAsked count source
+IsOpening count (TooLarge source) = IsAsked count source
 IsOpening count OutOfMemory = Unit {0}
 IsOpening count NoThread = ⊥
 IsOpening count (Unfinished source) = ⊥
@@ -82,6 +87,10 @@ abbrev pub failure_of_load : ℕ → LoadFault → Failure
 failure_of_load source load.Io = Unreadable source
 failure_of_load source load.TooLarge = TooLarge source
 failure_of_load source load.OutOfMemory = OutOfMemory
+
+-- the failure is that of a run for which this source, and no other one, could not be loaded
+abbrev pub IsOfLoad : ℕ → Failure → Type 0
+IsOfLoad source failure = (fault : LoadFault) × (failure ≡ failure_of_load source fault)
 
 -- the failure of a run whose sources could not be collected
 abbrev pub failure_of_collect : CollectFault → Failure

@@ -1,7 +1,7 @@
 //! The sources of a run, loaded.
 ghost use Rattle.std.specs.Prelude.{◌≡◌, ◌≢◌, ◌≤◌, [], ◌∷◌, ◌++◌, IfOk, IfErr, IfSome, OnOk, length, map, string_bytes};
 ghost use Rattle.opened_sources.specs.Opening.{AreOpened, IsInput, IsOpened};
-ghost use Rattle.opened_sources.specs.Failures.{IsOpening};
+ghost use Rattle.opened_sources.specs.Failures.{IsOfLoad, IsOpening};
 
 use crate::failures::Failure;
 use byte_io::Files;
@@ -36,10 +36,29 @@ pub fn open_sources<F: Files>(
         add_source(&mut sources, input(alloc, files, asked)?)?;
         return Ok(sources);
     }
-    for (at, path) in paths.iter().enumerate() {
-        add_source(&mut sources, named(alloc, files, at, path, asked)?)?;
+    for path in paths {
+        add_named(alloc, files, path, asked, &mut sources)?;
     }
     Ok(sources)
+}
+
+// Adds the source of the path after those that were opened. Where it is not loaded, it is blamed, by its place.
+fn add_named<F: Files>(
+    alloc: Global,
+    files: &mut F,
+    path: &str,
+    asked: Option<Format>,
+    sources: &mut Vec<Source>,
+) -> Result<(), Failure>
+    ensures opened { OnOk result ((source : Source)
+        × (sources.new.items ≡ sources.old.items ++ source ∷ [])
+        × IsOpened asked (F.known_file files.old) path.now source) }
+    ensures files { F.known_file files.new ≡ F.known_file files.old }
+    ensures err { IfErr result (IsOfLoad (length sources.old.items)) }
+{
+    let source = open_named(alloc, files, sources.len(), path, asked)?;
+    add_source(sources, source)?;
+    Ok(())
 }
 
 fn add_source(sources: &mut Vec<Source>, source: Source) -> Result<(), AllocError>
@@ -53,7 +72,7 @@ fn add_source(sources: &mut Vec<Source>, source: Source) -> Result<(), AllocErro
 fn input<F: Files>(alloc: Global, files: &mut F, asked: Option<Format>) -> Result<Source, Failure>
     ensures input { IfOk result (λ source.
         IfSome (F.known_input files.old) (IsInput asked (source ∷ []))) }
-    ensures err { IfErr result (IsOpening 0) }
+    ensures err { IfErr result (IsOfLoad 0) }
 {
     match files.input(alloc) {
         Ok(bytes) => Ok(Source {
@@ -64,8 +83,8 @@ fn input<F: Files>(alloc: Global, files: &mut F, asked: Option<Format>) -> Resul
     }
 }
 
-/// The source of a path.
-pub fn named<F: Files>(
+/// The source of a path. Where it is not loaded, the failure is that of its load, of the source at this place.
+pub fn open_named<F: Files>(
     alloc: Global,
     files: &mut F,
     at: usize,
@@ -74,7 +93,7 @@ pub fn named<F: Files>(
 ) -> Result<Source, Failure>
     ensures opened { IfOk result (IsOpened asked (F.known_file files.old) path.now) }
     ensures files { F.known_file files.new ≡ F.known_file files.old }
-    ensures err { IfErr result (IsOpening 0) }
+    ensures err { IfErr result (IsOfLoad at) }
 {
     match files.named(alloc, path) {
         Ok(bytes) => Ok(Source {

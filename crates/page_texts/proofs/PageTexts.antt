@@ -57,31 +57,31 @@ list_end o key values items out1 out2 out3 e1 e2 e3 i = let parts = list_end_par
 
 -- ---- the whole
 
-seven : (o a b c d e f g : List ℕ) → ((((((o ++ a) ++ b) ++ c) ++ d) ++ e) ++ f) ++ g ≡ o ++ (a ++ (b ++ (c ++ (d ++ (e ++ (f ++ g))))))
-seven o a b c d e f g = simp append_assoc
+eight : (o a b c d e f g h : List ℕ) → (((((((o ++ a) ++ b) ++ c) ++ d) ++ e) ++ f) ++ g) ++ h ≡ o ++ (a ++ (b ++ (c ++ (d ++ (e ++ (f ++ (g ++ h)))))))
+eight o a b c d e f g h = simp append_assoc
 
-pub seven_in_turn : (o a b c d e f g whole o1 o2 o3 o4 o5 o6 o7 : List ℕ) → o1 ≡ o ++ a → o2 ≡ o1 ++ b → o3 ≡ o2 ++ c → o4 ≡ o3 ++ d → o5 ≡ o4 ++ e → o6 ≡ o5 ++ f → o7 ≡ o6 ++ g
-    → whole ≡ a ++ (b ++ (c ++ (d ++ (e ++ (f ++ g))))) → o7 ≡ o ++ whole
-seven_in_turn o a b c d e f g whole o1 o2 o3 o4 o5 o6 o7 e1 e2 e3 e4 e5 e6 e7 w = let parts = seven o a b c d e f g in cc
+pub eight_in_turn : (o a b c d e f g h whole o1 o2 o3 o4 o5 o6 o7 o8 : List ℕ) → o1 ≡ o ++ a → o2 ≡ o1 ++ b → o3 ≡ o2 ++ c → o4 ≡ o3 ++ d → o5 ≡ o4 ++ e → o6 ≡ o5 ++ f → o7 ≡ o6 ++ g → o8 ≡ o7 ++ h
+    → whole ≡ a ++ (b ++ (c ++ (d ++ (e ++ (f ++ (g ++ h)))))) → o8 ≡ o ++ whole
+eight_in_turn o a b c d e f g h whole o1 o2 o3 o4 o5 o6 o7 o8 e1 e2 e3 e4 e5 e6 e7 e8 w = let parts = eight o a b c d e f g h in cc
 
 abbrev pub list_after : List ℕ → List Data → List ℕ
 list_after key values = key ++ safe_text (list_data values)
 
-page_shape : (drawings names sources : List Data) (title view : List ℕ)
-    → safe_text (object (member (codes "drawings") (list_data drawings) (member (codes "names") (list_data names) (member (codes "sources") (list_data sources) (member (codes "title") (string title) (member (codes "view") (string view) no_members))))))
-    ≡ codes "{\"drawings\":" ++ (safe_text (list_data drawings) ++ (list_after (codes ",\"names\":") names ++ (list_after (codes ",\"sources\":") sources ++ (text_after (codes ",\"title\":") title ++ (text_after (codes ",\"view\":") view ++ 125 ∷ [])))))
+page_shape : (drawings names sources : List Data) (title view : List ℕ) (whole : ℕ)
+    → safe_text (object (member (codes "drawings") (list_data drawings) (member (codes "names") (list_data names) (member (codes "sources") (list_data sources) (member (codes "title") (string title) (member (codes "view") (string view) (member (codes "whole") (whole_number whole) no_members)))))))
+    ≡ codes "{\"drawings\":" ++ (safe_text (list_data drawings) ++ (list_after (codes ",\"names\":") names ++ (list_after (codes ",\"sources\":") sources ++ (text_after (codes ",\"title\":") title ++ (text_after (codes ",\"view\":") view ++ (number_text (codes ",\"whole\":") whole ++ 125 ∷ []))))))
 unfolding script_safe escape_byte
-page_shape drawings names sources title view = refl
+page_shape drawings names sources title view whole = refl
 
 pub page_parts : (page : Page) (names : List (List ℕ)) → names ≡ page_names page.drawings → page_text page
     ≡ codes "{\"drawings\":" ++ (safe_text (list_data (map (drawing_data names) page.drawings)) ++ (list_after (codes ",\"names\":") (map string names) ++ (list_after (codes ",\"sources\":") (map source_data page.sources)
-    ++ (text_after (codes ",\"title\":") page.title ++ (text_after (codes ",\"view\":") page.view ++ 125 ∷ [])))))
+    ++ (text_after (codes ",\"title\":") page.title ++ (text_after (codes ",\"view\":") page.view ++ (number_text (codes ",\"whole\":") page.whole ++ 125 ∷ []))))))
 unfolding page_text
 page_parts page names are =
     safe-value (page_value page)
-    ∙ page_shape (map (drawing_data (page_names page.drawings)) page.drawings) (map string (page_names page.drawings)) (map source_data page.sources) page.title page.view
+    ∙ page_shape (map (drawing_data (page_names page.drawings)) page.drawings) (map string (page_names page.drawings)) (map source_data page.sources) page.title page.view page.whole
     ∙ sym (ap (λ ns. codes "{\"drawings\":" ++ (safe_text (list_data (map (drawing_data ns) page.drawings)) ++ (list_after (codes ",\"names\":") (map string ns) ++ (list_after (codes ",\"sources\":") (map source_data page.sources)
-    ++ (text_after (codes ",\"title\":") page.title ++ (text_after (codes ",\"view\":") page.view ++ 125 ∷ [])))))) are)
+    ++ (text_after (codes ",\"title\":") page.title ++ (text_after (codes ",\"view\":") page.view ++ (number_text (codes ",\"whole\":") page.whole ++ 125 ∷ []))))))) are)
 
 pub sources_same : (sources : List Source) → map (λ source. source_data (source_of source)) sources ≡ map source_data (map source_of sources)
 sources_same [] = refl

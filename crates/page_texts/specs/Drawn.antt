@@ -34,4 +34,5 @@ page_of span other is_compared page = record {
   sources = map source_of page.sources.now;
   title = page.title.now;
   view = page.view.now;
+  whole = page.whole;
 }

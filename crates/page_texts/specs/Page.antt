@@ -39,11 +39,13 @@ pub record PageSource : Type 0 where
   pub unit : List ℕ
   pub weight : ℕ
 
+-- what a page shows; `whole` is the weight of all samples of all sources, also of those that a filter leaves out
 pub record Page : Type 0 where
   pub drawings : List PageDrawing
   pub sources : List PageSource
   pub title : List ℕ
   pub view : List ℕ
+  pub whole : ℕ
 
 -- ---- boxes
 
@@ -147,7 +149,8 @@ page_value page =
     (member (codes "sources") (list_data (map source_data page.sources))
     (member (codes "title") (string page.title)
     (member (codes "view") (string page.view)
-    no_members)))))
+    (member (codes "whole") (whole_number page.whole)
+    no_members))))))
 
 -- the data of a page
 unfoldable pub page_text : Page → List ℕ

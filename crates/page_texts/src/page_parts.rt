@@ -32,6 +32,7 @@ pub(crate) fn push_page<'p, 'k, B: PageBox>(
     push_sources(parts, page.sources)?;
     push_text(parts, b",\"title\":", page.title)?;
     push_text(parts, b",\"view\":", page.view)?;
+    push_number(parts, b",\"whole\":", page.whole)?;
     push_literal(parts, b"}")
 }
 

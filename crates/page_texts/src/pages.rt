@@ -44,6 +44,8 @@ pub struct Page<'a, B> {
     pub title: &'a str,
     /// `graph`, `chart` or `compare`.
     pub view: &'a str,
+    /// The weight of all samples of all sources, also of those that a filter leaves out.
+    pub whole: u128,
 }
 
 /// Sends a page: the document that a browser opens. No name and no title can be read as markup in it. It

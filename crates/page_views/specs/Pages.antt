@@ -1,13 +1,15 @@
 -- The pages of the views: what they draw of the lists of samples.
-use Rattle.std.specs.Prelude.{ℕ, ◌/◌, List, [], ◌∷◌, map, codes, true, false, Option, Some, None}
+use Rattle.std.specs.Prelude.{ℕ, ◌/◌, List, [], ◌∷◌, ◌++◌, length, map, codes, true, false, Option, Some, None}
 use Rattle.sample_tables.specs.declared.samples.Sample.{Sample}
 use Rattle.merged_stacks.specs.Timeline.{timeline, total_weight}
+use Rattle.merging.specs.Snapshots.{snapshot_places, snapshot_samples}
 use Rattle.merging.specs.Sums.{all_samples}
 use Rattle.flame_layout.specs.declared.boxes.SpanBox.{SpanBox}
 use Rattle.flame_layout.specs.Chart.{chart_of}
 use Rattle.flame_layout.specs.Graph.{graph_of}
 use Rattle.flame_layout.specs.Comparison.{compared_boxes_of}
-use Rattle.page_texts.specs.Page.{PageDrawing, PageSource, Page}
+use Rattle.source_views.specs.Texts.{all_counts}
+use Rattle.page_texts.specs.Page.{Moment, PageDrawing, PageSource, Page}
 use Rattle.page_texts.specs.Drawn.{source_of}
 use Rattle.page_views.specs.declared.headings.Heading.{Heading}
 
@@ -16,17 +18,20 @@ abbrev pub least_of : Option ℕ → ℕ → ℕ
 least_of None total = total / 1200000
 least_of (Some least) total = least
 
--- what a page says beside its drawings, and the least weight of a box that it keeps, if one is given
+-- what a page says beside its drawings, the least weight of a box that it keeps, if one is given, and the weight of
+-- all samples of all sources, also of those that a filter leaves out
 pub record PageHeading : Type 0 where
   pub title : List ℕ
   pub sources : List PageSource
   pub least : Option ℕ
+  pub whole : ℕ
 
 abbrev pub heading_of : Heading → PageHeading
 heading_of heading = record {
   title = heading.title.now;
   sources = map source_of heading.sources.now;
   least = heading.least;
+  whole = heading.whole;
 }
 
 abbrev pub page_with : PageHeading → List ℕ → List PageDrawing → Page
@@ -35,21 +40,39 @@ page_with heading view drawings = record {
   sources = heading.sources;
   title = heading.title;
   view = view;
+  whole = heading.whole;
+}
+
+-- these boxes, of samples with this total, and in a snapshot its moment
+abbrev pub plain_drawing : Option ℕ → Option Moment → ℕ → List SpanBox → PageDrawing
+plain_drawing least moment total boxes = record {
+  moment = moment;
+  is_compared = false;
+  least = least_of least total;
+  total = total;
+  boxes = map (λ span. record { span = span; other = 0 }) boxes;
 }
 
 -- a page of these boxes alone
 abbrev pub plain_page : PageHeading → List ℕ → ℕ → List SpanBox → Page
-plain_page heading view total boxes = page_with heading view (record {
-  moment = None;
-  is_compared = false;
-  least = least_of heading.least total;
-  total = total;
-  boxes = map (λ span. record { span = span; other = 0 }) boxes;
-} ∷ [])
+plain_page heading view total boxes = page_with heading view (plain_drawing heading.least None total boxes ∷ [])
 
 -- the flame graph of all samples
 abbrev pub graph_page : PageHeading → List (List Sample) → Page
 graph_page heading lists = plain_page heading (codes "graph") (total_weight (all_samples lists)) (graph_of (all_samples lists))
+
+-- the flame graph of each source's first samples, as many as stand among the first m of the order
+abbrev pub snapshot_drawing : Option ℕ → List (List Sample) → List ℕ → ℕ → PageDrawing
+snapshot_drawing least lists order m =
+    let samples = snapshot_samples m order lists in
+    plain_drawing least (Some (record { at = m; counts = all_counts m order lists })) (total_weight samples) (graph_of samples)
+
+-- a drawing for each snapshot, and then the flame graph of all samples
+abbrev pub snapshots_page : PageHeading → List (List Sample) → List ℕ → Option ℕ → Page
+snapshots_page heading lists order every =
+    page_with heading (codes "graph")
+    (map (snapshot_drawing heading.least lists order) (snapshot_places every (length order))
+    ++ plain_drawing heading.least None (total_weight (all_samples lists)) (graph_of (all_samples lists)) ∷ [])
 
 -- the flame chart of the lists one after another
 abbrev pub chart_page : PageHeading → List (List Sample) → Page

@@ -46,6 +46,7 @@ pub fn send_comparison_page<W: Outlet>(
         sources: heading.sources,
         title: heading.title,
         view: "compare",
+        whole: heading.whole,
     };
     send_page(alloc, &page, out)
 }

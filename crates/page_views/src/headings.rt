@@ -18,6 +18,8 @@ pub struct Heading<'a> {
     /// The least weight of a box that is kept. With 0 all are. Where none is given, a box is kept if it is at
     /// least a pixel wide in a drawing of 1,200,000 pixels.
     pub least: Option<u64>,
+    /// The weight of all samples of all sources, also of those that a filter leaves out.
+    pub whole: u128,
 }
 
 // The least weight of a box that a drawing with this total keeps.

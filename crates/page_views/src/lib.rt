@@ -1,14 +1,17 @@
-//! Pages for browsers of what was collected: its flame graph, its flame chart, or the comparison of two lists.
+//! Pages for browsers of what was collected: its flame graph, alone or with its snapshots, its flame chart, or the
+//! comparison of two lists.
 #![tactic(auto)]
 
 mod comparison_pages;
 mod headings;
 mod plain_pages;
+mod snapshot_pages;
 
 pub use comparison_pages::send_comparison_page;
 pub use headings::Heading;
 pub use page_texts::Source;
 pub use plain_pages::{send_chart_page, send_graph_page};
+pub use snapshot_pages::send_snapshots_page;
 
 #[cfg(test)]
 mod tests;

@@ -88,6 +88,7 @@ fn send_plain_page<W: Outlet>(
         sources: heading.sources,
         title: heading.title,
         view,
+        whole: heading.whole,
     };
     send_page(alloc, &page, out)
 }

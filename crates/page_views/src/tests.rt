@@ -23,6 +23,7 @@ const HEADING: Heading<'static> = Heading {
     title: "small.folded",
     sources: &[SOURCE],
     least: None,
+    whole: 3,
 };
 
 // What was collected of two folded texts.
@@ -71,7 +72,7 @@ fn graph_of_two_lines(rt: HostRuntime) -> Result<(), Fail> {
         &rt,
         alloc,
         &out.into_inner(),
-        "{\"drawings\":[{\"depth\":[0,1,2],\"least\":0,\"left_out\":{\"boxes\":0,\"weight\":0},\"name\":[0,1,2],\"own\":[0,1,2],\"start\":[0,0,1],\"total\":3,\"weight\":[3,3,2]}],\"names\":[\"all\",\"main\",\"read\\u003cint\\u003e\"],\"sources\":[{\"name\":\"small.folded\",\"type\":\"\",\"unit\":\"\",\"weight\":3}],\"title\":\"small.folded\",\"view\":\"graph\"}",
+        "{\"drawings\":[{\"depth\":[0,1,2],\"least\":0,\"left_out\":{\"boxes\":0,\"weight\":0},\"name\":[0,1,2],\"own\":[0,1,2],\"start\":[0,0,1],\"total\":3,\"weight\":[3,3,2]}],\"names\":[\"all\",\"main\",\"read\\u003cint\\u003e\"],\"sources\":[{\"name\":\"small.folded\",\"type\":\"\",\"unit\":\"\",\"weight\":3}],\"title\":\"small.folded\",\"view\":\"graph\",\"whole\":3}",
     )?;
     Ok(())
 }
@@ -86,7 +87,7 @@ fn chart_of_two_lines(rt: HostRuntime) -> Result<(), Fail> {
         &rt,
         alloc,
         &out.into_inner(),
-        "{\"drawings\":[{\"depth\":[0,1,2],\"least\":0,\"left_out\":{\"boxes\":0,\"weight\":0},\"name\":[0,1,2],\"own\":[0,1,2],\"start\":[0,0,0],\"total\":3,\"weight\":[3,3,2]}],\"names\":[\"all\",\"main\",\"read\"],\"sources\":[{\"name\":\"small.folded\",\"type\":\"\",\"unit\":\"\",\"weight\":3}],\"title\":\"small.folded\",\"view\":\"chart\"}",
+        "{\"drawings\":[{\"depth\":[0,1,2],\"least\":0,\"left_out\":{\"boxes\":0,\"weight\":0},\"name\":[0,1,2],\"own\":[0,1,2],\"start\":[0,0,0],\"total\":3,\"weight\":[3,3,2]}],\"names\":[\"all\",\"main\",\"read\"],\"sources\":[{\"name\":\"small.folded\",\"type\":\"\",\"unit\":\"\",\"weight\":3}],\"title\":\"small.folded\",\"view\":\"chart\",\"whole\":3}",
     )?;
     Ok(())
 }
@@ -116,7 +117,7 @@ fn comparison_of_two_lines(rt: HostRuntime) -> Result<(), Fail> {
         &rt,
         alloc,
         &page,
-        "{\"drawings\":[{\"depth\":[0,1,2],\"least\":0,\"left_out\":{\"boxes\":0,\"weight\":0},\"name\":[0,1,2],\"other\":[1,1,0],\"own\":[0,0,3],\"start\":[0,0,0],\"total\":3,\"weight\":[3,3,3]},{\"depth\":[0,1],\"least\":0,\"left_out\":{\"boxes\":0,\"weight\":0},\"name\":[0,1],\"other\":[3,3],\"own\":[0,1],\"start\":[0,0],\"total\":1,\"weight\":[1,1]}],\"names\":[\"all\",\"a\",\"b\"],\"sources\":[{\"name\":\"small.folded\",\"type\":\"\",\"unit\":\"\",\"weight\":3}],\"title\":\"small.folded\",\"view\":\"compare\"}",
+        "{\"drawings\":[{\"depth\":[0,1,2],\"least\":0,\"left_out\":{\"boxes\":0,\"weight\":0},\"name\":[0,1,2],\"other\":[1,1,0],\"own\":[0,0,3],\"start\":[0,0,0],\"total\":3,\"weight\":[3,3,3]},{\"depth\":[0,1],\"least\":0,\"left_out\":{\"boxes\":0,\"weight\":0},\"name\":[0,1],\"other\":[3,3],\"own\":[0,1],\"start\":[0,0],\"total\":1,\"weight\":[1,1]}],\"names\":[\"all\",\"a\",\"b\"],\"sources\":[{\"name\":\"small.folded\",\"type\":\"\",\"unit\":\"\",\"weight\":3}],\"title\":\"small.folded\",\"view\":\"compare\",\"whole\":3}",
     )?;
     Ok(())
 }

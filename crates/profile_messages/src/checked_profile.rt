@@ -1,11 +1,10 @@
 //! A profile without a fault before its samples.
 
-ghost use Rattle.std.specs.Prelude.{◌≡◌, ℕ, List, None, IfOk, IfErr};
+ghost use Rattle.std.specs.Prelude.{◌≡◌, None, IfOk, IfErr};
 ghost use Rattle.profile_messages.specs.Message.{first};
 ghost use Rattle.profile_messages.specs.Records.{function_id};
 ghost use Rattle.profile_messages.specs.Choosing.{chosen_value};
 ghost use Rattle.profile_messages.specs.FileFaults.{is_gzip, file_faults};
-ghost use Rattle.profile_messages.specs.SampleTypes.{chosen_type};
 ghost use Rattle.profile_messages.specs.Faults.{IsFirstOf};
 ghost use Rattle.profile_messages.specs.SeenIndex.{code_location_id, IsIndexOf};
 ghost use Rattle.profile_messages.specs.SeenProfile.{IsProfileOf};

@@ -25,4 +25,4 @@ pub use messages::{Function, Line, Location, PlacedNumber, Span, ValueType};
 pub use numbers::{Numbers, numbers_of};
 pub use profile::Profile;
 pub use strings::string_at;
-pub use types::{SampleType, SampleTypes, sample_types, type_at};
+pub use types::{SampleType, SampleTypes, chosen_type, sample_types, type_at};

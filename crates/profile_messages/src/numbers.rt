@@ -1,6 +1,6 @@
 //! The repeated numbers of a sample's message.
 
-ghost use Rattle.std.specs.Prelude.{◌≡◌, ◌++◌, IfOk};
+ghost use Rattle.std.specs.Prelude.{IfOk};
 ghost use Rattle.wire_fields.specs.Field.{seen_value};
 ghost use Rattle.profile_messages.specs.checked.Gathered.{IsGathered, IsRunGathered};
 ghost use Rattle.profile_messages.specs.SeenNumbers.{AreNumbersOf};

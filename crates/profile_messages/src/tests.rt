@@ -72,16 +72,28 @@ fn types_without_samples(rt: HostRuntime) -> Result<(), Fail> {
 fn chosen_by(
     rt: &(impl Abort + AllocGlobal),
     name: &str,
-) -> Result<Option<SampleType>, AllocError> {
+) -> Result<Result<Option<SampleType>, TableFault>, AllocError> {
     let pick = Pick::Named(Text::from_str(rt.alloc(), name)?);
-    let checked = CheckedProfile::of(rt.alloc(), TWO_TYPES, &pick).expect(rt, "a profile");
-    type_at(rt.alloc(), &checked.profile, checked.chosen)
+    Ok(chosen_type(rt.alloc(), TWO_TYPES, &pick))
 }
 
 #[test]
 fn chosen_types(rt: HostRuntime) -> Result<(), Fail> {
-    let found = chosen_by(&rt, "n")?.expect(&rt, "the type");
-    is_type(&rt, &found, "n", "ms");
+    let found = chosen_by(&rt, "n")?.expect(&rt, "a profile");
+    is_type(&rt, &found.expect(&rt, "the type"), "n", "ms");
+    let found = chosen_type(rt.alloc(), TWO_TYPES, &Pick::Preferred).expect(&rt, "a profile");
+    is_type(&rt, &found.expect(&rt, "the type"), ";\u{fffd}", "");
+    let none = chosen_type(rt.alloc(), b"\x0a\x00", &Pick::Preferred).expect(&rt, "a profile");
+    assert!(rt; none.is_none());
+    Ok(())
+}
+
+#[test]
+fn faults_before_a_chosen_type(rt: HostRuntime) -> Result<(), Fail> {
+    let kind = ReadKind::UnknownSampleType;
+    let at = TWO_TYPES.len() as u64;
+    let refused = chosen_by(&rt, "other")?.err();
+    assert_eq!(rt; refused, Some(TableFault::Read(ReadFault { kind, at })));
     Ok(())
 }
 

@@ -8,7 +8,7 @@ ghost use Rattle.profile_messages.specs.Message.{first};
 ghost use Rattle.profile_messages.specs.FileFaults.{file_faults};
 ghost use Rattle.profile_messages.specs.Faults.{IsFirstOf};
 ghost use Rattle.profile_messages.specs.Tables.{string_at as string_of};
-ghost use Rattle.profile_messages.specs.SampleTypes.{lossy_text, type_of, all_types};
+ghost use Rattle.profile_messages.specs.SampleTypes.{lossy_text, type_of, all_types, chosen_type as type_chosen};
 ghost use Rattle.profile_messages.specs.SeenProfile.{texts_of};
 
 use crate::checked_profile::CheckedProfile;
@@ -114,4 +114,20 @@ pub fn sample_types(alloc: Global, bytes: &[u8]) -> Result<SampleTypes, TableFau
         types: Listed::of(types),
         default: checked.chosen,
     })
+}
+
+/// The sample type of the chosen value, of a profile that is not compressed. None where the file has no sample. A file is refused for
+/// what its tables are refused for.
+pub fn chosen_type(
+    alloc: Global,
+    bytes: &[u8],
+    pick: &Pick,
+) -> Result<Option<SampleType>, TableFault>
+    ensures faultless { IfOk result (λ _. first (file_faults bytes.now pick.now) ≡ None) }
+    ensures chosen { IfOk result (λ found. found ≡ type_chosen bytes.now pick.now) }
+    ensures fault { IfErr result (IsFirstOf (file_faults bytes.now pick.now)) }
+{
+    let checked = CheckedProfile::of(alloc, bytes, pick)?;
+    let found = type_at(alloc, &checked.profile, checked.chosen)?;
+    Ok(found)
 }

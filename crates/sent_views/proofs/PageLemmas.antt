@@ -1,5 +1,6 @@
 -- What a page says beside its drawings.
 use Rattle.std.proofs.Common.{◌≡◌, ◌<◌, ◌+◌, ◌++◌, ◌∙◌, ◌∷◌, [], ℕ, List, map, length, codes, refl, ap, sym, arith}
+use Rattle.std.specs.Prelude.{slice_get}
 use Rattle.std.specs.List.{flat_map, join_by, range_with_len}
 use Rattle.std.proofs.lemmas.List.{map_push}
 use Rattle.std.proofs.lemmas.List.FromFn.{map-range_with_len_more}
@@ -9,6 +10,8 @@ use Rattle.merged_stacks.specs.Timeline.{total_weight}
 use Rattle.page_texts.specs.Drawn.{source_of}
 use Rattle.page_texts.specs.Page.{PageSource}
 use Rattle.page_texts.specs.declared.pages.Source.{Source}
+use Rattle.profile_messages.specs.declared.types.SampleType.{SampleType}
+use Rattle.source_lists.specs.Types.{type_or_none}
 use Rattle.sent_views.specs.Pages.{default_title, source_at}
 use Rattle.opened_sources.specs.Names.{source_name}
 
@@ -27,18 +30,18 @@ no_title bytes [] none = refl
 no_title bytes (file ∷ files) none = absurd (omega arith)
 
 -- a source that is told by its parts
-pub told_source : (source : Source) (files : List (List ℕ)) (lists : List (List Sample)) (at : ℕ)
-    → source.name.now ≡ source_name files at → source.type_name.now ≡ [] → source.unit.now ≡ [] → source.weight ≡ total_weight (list_of lists at)
-    → source_of source ≡ source_at files lists at
-told_source source files lists at named typed counted weighed = λ i. record {
+pub told_source : (source : Source) (files : List (List ℕ)) (types : List SampleType) (lists : List (List Sample)) (at : ℕ)
+    → source.name.now ≡ source_name files at → source.type_name.now ≡ (type_or_none (slice_get types at)).name → source.unit.now ≡ (type_or_none (slice_get types at)).unit → source.weight ≡ total_weight (list_of lists at)
+    → source_of source ≡ source_at files types lists at
+told_source source files types lists at named typed counted weighed = λ i. record {
   name = named i;
   type_name = typed i;
   unit = counted i;
   weight = weighed i;
 }
 
-pub told_more : (files : List (List ℕ)) (lists : List (List Sample)) (at : ℕ) (told more : List Source) (source : Source) → more ≡ told ++ source ∷ []
-    → map source_of told ≡ map (source_at files lists) (range_with_len 0 at) → source_of source ≡ source_at files lists at
-    → map source_of more ≡ map (source_at files lists) (range_with_len 0 (at + 1))
-told_more files lists at told more source pushed so_far here =
-    ap (map source_of) pushed ∙ map_push source_of told source ∙ (λ i. so_far i ++ here i ∷ []) ∙ sym (map-range_with_len_more (source_at files lists) 0 at at (omega arith))
+pub told_more : (files : List (List ℕ)) (types : List SampleType) (lists : List (List Sample)) (at : ℕ) (told more : List Source) (source : Source) → more ≡ told ++ source ∷ []
+    → map source_of told ≡ map (source_at files types lists) (range_with_len 0 at) → source_of source ≡ source_at files types lists at
+    → map source_of more ≡ map (source_at files types lists) (range_with_len 0 (at + 1))
+told_more files types lists at told more source pushed so_far here =
+    ap (map source_of) pushed ∙ map_push source_of told source ∙ (λ i. so_far i ++ here i ∷ []) ∙ sym (map-range_with_len_more (source_at files types lists) 0 at at (omega arith))

@@ -3,6 +3,7 @@ use Rattle.std.proofs.Common.{◌≡◌, ℕ, List, [], ◌∷◌, codes, refl, 
 use Rattle.sample_tables.specs.declared.samples.Sample.{Sample}
 use Rattle.command_line.specs.Plans.{default_plan}
 use Rattle.page_texts.specs.Page.{PageSource}
+use Rattle.profile_messages.specs.declared.types.SampleType.{SampleType}
 use Rattle.sent_views.specs.Pages.{asked_heading, default_title, sources_of}
 use Rattle.opened_sources.specs.Names.{source_name}
 
@@ -21,12 +22,16 @@ weighing weight = record { stack = codes "a" ∷ []; weight = weight }
 abbrev named : List ℕ → ℕ → PageSource
 named name weight = record { name = name; type_name = []; unit = []; weight = weight }
 
-sources_of_two_files : sources_of (codes "x" ∷ codes "y" ∷ []) ((weighing 2 ∷ weighing 3 ∷ []) ∷ [] ∷ []) ≡ named (codes "x") 5 ∷ named (codes "y") 0 ∷ []
+abbrev counting : SampleType
+counting = record { name = codes "cpu"; unit = codes "ns" }
+
+-- a source without a type has neither name nor unit
+sources_of_two_files : sources_of (codes "x" ∷ codes "y" ∷ []) (counting ∷ []) ((weighing 2 ∷ weighing 3 ∷ []) ∷ [] ∷ []) ≡ record { name = codes "x"; type_name = codes "cpu"; unit = codes "ns"; weight = 5 } ∷ named (codes "y") 0 ∷ []
 sources_of_two_files = refl
 
-source_of_the_input : sources_of [] ((weighing 2 ∷ []) ∷ []) ≡ named (codes "-") 2 ∷ []
+source_of_the_input : sources_of [] [] ((weighing 2 ∷ []) ∷ []) ≡ named (codes "-") 2 ∷ []
 source_of_the_input = refl
 
 -- a title that the words set is taken as it is
-asked_title : (asked_heading default_plan (record { title = Some (codes "t"); least = None }) []).title ≡ codes "t"
+asked_title : (asked_heading default_plan (record { whole = 0; types = [] }) (record { title = Some (codes "t"); least = None }) []).title ≡ codes "t"
 asked_title = refl

@@ -1,2 +1,3 @@
 -- The definitions that the contracts of sent_views cite.
+pub mod Facts
 pub mod Pages

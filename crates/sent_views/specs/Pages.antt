@@ -1,5 +1,5 @@
 -- The page that a plan asks for, of the lists of its samples, and the text of a plan whatever its form.
-use Rattle.std.specs.Prelude.{ℕ, List, [], ◌∷◌, codes, length, map, Option, None, unwrap_or}
+use Rattle.std.specs.Prelude.{ℕ, List, [], ◌∷◌, codes, length, map, Option, None, slice_get, unwrap_or}
 use Rattle.std.specs.List.{join_by, range_with_len}
 use Rattle.sample_tables.specs.declared.samples.Sample.{Sample}
 use Rattle.stack_core.specs.Interleaving.{list_of}
@@ -14,31 +14,36 @@ use Rattle.page_texts.specs.Document.{document_text}
 use Rattle.page_texts.specs.Page.{PageSource}
 use Rattle.page_views.specs.Pages.{PageHeading, chart_page, comparison_page, graph_page}
 use Rattle.opened_sources.specs.Names.{source_name}
-use Rattle.source_views.specs.Texts.{view_text}
+use Rattle.profile_messages.specs.declared.types.SampleType.{SampleType}
+use Rattle.source_lists.specs.Types.{type_or_none}
+use Rattle.sent_views.specs.Facts.{told_whole}
+use Rattle.sent_views.specs.declared.run_facts.RunFacts.{RunFacts}
+use Rattle.source_views.specs.Texts.{told_text, view_text}
 
--- a source of a page; the type and the unit of its weights are not told
-abbrev pub source_at : List (List ℕ) → List (List Sample) → ℕ → PageSource
-source_at files lists at = record {
+-- a source of a page, with the sample type of its weights
+abbrev pub source_at : List (List ℕ) → List SampleType → List (List Sample) → ℕ → PageSource
+source_at files types lists at = record {
   name = source_name files at;
-  type_name = [];
-  unit = [];
+  type_name = (type_or_none (slice_get types at)).name;
+  unit = (type_or_none (slice_get types at)).unit;
   weight = total_weight (list_of lists at);
 }
 
 -- a source for each list, in order
-abbrev pub sources_of : List (List ℕ) → List (List Sample) → List PageSource
-sources_of files lists = map (source_at files lists) (range_with_len 0 (length lists))
+abbrev pub sources_of : List (List ℕ) → List SampleType → List (List Sample) → List PageSource
+sources_of files types lists = map (source_at files types lists) (range_with_len 0 (length lists))
 
 -- what a page is called where the words say nothing
 abbrev pub default_title : List (List ℕ) → List ℕ
 default_title [] = codes "standard input"
 default_title (file ∷ files) = join_by (λ name. name) (codes ", ") (file ∷ files)
 
-abbrev pub asked_heading : Plan → PageForm → List (List Sample) → PageHeading
-asked_heading plan page lists = record {
+abbrev pub asked_heading : Plan → RunFacts → PageForm → List (List Sample) → PageHeading
+asked_heading plan facts page lists = record {
   title = unwrap_or page.title (default_title plan.files);
-  sources = sources_of plan.files lists;
+  sources = sources_of plan.files facts.types lists;
   least = page.least;
+  whole = facts.whole;
 }
 
 -- the page of a view with boxes; the others have none, and no words ask for a page of them
@@ -50,14 +55,18 @@ headed_text heading Pairs lists = view_text Pairs lists [] None
 headed_text heading (PairBoxes width) lists = document_text (comparison_page heading (list_of lists 0) (list_of lists 1))
 headed_text heading (Top top) lists = view_text (Top top) lists [] None
 
-abbrev pub page_text : Plan → PageForm → List (List Sample) → List ℕ
-page_text plan page lists = headed_text (asked_heading plan page lists) plan.view lists
+abbrev pub page_text : Plan → RunFacts → PageForm → List (List Sample) → List ℕ
+page_text plan facts page lists = headed_text (asked_heading plan facts page lists) plan.view lists
 
-abbrev pub text_in : Form → Plan → List (List Sample) → List ℕ → Option ℕ → List ℕ
-text_in form.Text plan lists order every = view_text plan.view lists order every
-text_in (form.Page page) plan lists order every = page_text plan page lists
-text_in form.Types plan lists order every = view_text plan.view lists order every
+-- the text of a plan's view
+abbrev pub asked_text : Plan → RunFacts → List (List Sample) → List ℕ → Option ℕ → List ℕ
+asked_text plan facts lists order every = told_text (told_whole plan facts) plan.view lists order every
+
+abbrev pub text_in : Form → Plan → RunFacts → List (List Sample) → List ℕ → Option ℕ → List ℕ
+text_in form.Text plan facts lists order every = asked_text plan facts lists order every
+text_in (form.Page page) plan facts lists order every = page_text plan facts page lists
+text_in form.Types plan facts lists order every = asked_text plan facts lists order every
 
 -- the text that a plan asks for: its page, or that of its view
-abbrev pub shown_text : Plan → List (List Sample) → List ℕ → Option ℕ → List ℕ
-shown_text plan lists order every = text_in plan.form plan lists order every
+abbrev pub shown_text : Plan → RunFacts → List (List Sample) → List ℕ → Option ℕ → List ℕ
+shown_text plan facts lists order every = text_in plan.form plan facts lists order every

@@ -1,8 +1,10 @@
 //! The texts and the pages of views, sent while they are made.
 #![tactic(auto)]
 
+mod run_facts;
 mod sent_pages;
 mod sent_views;
 
+pub use run_facts::RunFacts;
 pub use sent_pages::send_asked_page;
-pub use sent_views::{send_plain_view, send_snapshots, send_text};
+pub use sent_views::{send_asked_view, send_snapshots, send_text};

@@ -1,19 +1,22 @@
 //! Pages for browsers of what was collected, sent while they are made.
-ghost use Rattle.std.specs.Prelude.{◌≡◌, ◌<◌, ◌^◌, [], IfOk, length, map, string_bytes, unwrap_or};
+ghost use Rattle.std.specs.Prelude.{◌≡◌, ◌<◌, ◌^◌, IfOk, length, map, slice_get, string_bytes, unwrap_or};
 ghost use Rattle.merged_stacks.specs.Timeline.{samples_of, total_weight};
 ghost use Rattle.page_texts.specs.Document.{document_text};
 ghost use Rattle.page_texts.specs.Drawn.{source_of};
 ghost use Rattle.page_views.specs.Pages.{chart_page, comparison_page, graph_page, heading_of};
 ghost use Rattle.command_line.specs.Plans.{IsComparison};
+ghost use Rattle.source_lists.specs.Types.{type_or_none};
 ghost use Rattle.sent_views.specs.Pages.{default_title, headed_text, page_text, sources_of};
 ghost use Rattle.opened_sources.specs.Failures.{Flushes, Sends};
 
+use crate::run_facts::RunFacts;
 use crate::sent_views::send_plain_view;
 use byte_io::Outlet;
 use command_line::{PageForm, Plan, View};
 use merging::SourceLists;
 use opened_sources::{Failure, path_of};
 use page_views::{Heading, Source, send_chart_page, send_comparison_page, send_graph_page};
+use profile_messages::SampleType;
 use stack_core::SourceList;
 use std::alloc::{AllocError, Global};
 
@@ -22,22 +25,24 @@ pub fn send_asked_page<W: Outlet>(
     alloc: Global,
     sources: &SourceLists,
     plan: &Plan,
+    facts: &RunFacts,
     page: &PageForm,
     out: &mut W,
 ) -> Result<(), Failure>
     requires pairs { IsComparison plan.now.view → length sources.now.lists ≡ 2 }
-    ensures sent { Sends (page_text plan.now page.now (samples_of sources.now.lists))
+    ensures sent { Sends (page_text plan.now facts.now page.now (samples_of sources.now.lists))
         (W.contents out.old) (W.contents out.new) result }
     ensures flushed { Flushes (W.is_flushed out.new) (W.failures out.old) (W.failures out.new)
         result }
 {
     let files = plan.files.get();
     let title = title_of(alloc, page, files)?;
-    let described = described_sources(alloc, files, sources)?;
+    let described = described_sources(alloc, files, facts.types.get(), sources)?;
     let heading = Heading {
         title: title.as_str(),
         sources: &described,
         least: page.least,
+        whole: u128::from(facts.whole),
     };
     send_headed(alloc, sources, plan.view, &heading, out)
 }
@@ -69,31 +74,43 @@ fn joined_names(alloc: Global, files: &[String]) -> Result<String, AllocError>
 fn described_sources<'a>(
     alloc: Global,
     files: &'a [String],
+    types: &'a [SampleType],
     sources: &SourceLists,
 ) -> Result<Vec<Source<'a>>, AllocError>
     ensures { IfOk result (λ described. map source_of described.items
-        ≡ sources_of (map string_bytes files.now) (samples_of sources.now.lists)) }
+        ≡ sources_of (map string_bytes files.now) types.now (samples_of sources.now.lists)) }
 {
     let lists = sources.lists();
     let mut described = Vec::with_capacity(alloc, lists.len())?;
     for at in 0..lists.len() {
-        described.push(described_source(path_of(files, at), &lists[at]))?;
+        described.push(described_source(path_of(files, at), types, at, &lists[at]))?;
     }
     Ok(described)
 }
 
-// A source of a page.
-fn described_source<'a>(name: &'a str, list: &SourceList) -> Source<'a>
+// A source of a page, with its own of the types.
+fn described_source<'a>(
+    name: &'a str,
+    types: &'a [SampleType],
+    at: usize,
+    list: &SourceList,
+) -> Source<'a>
     requires { total_weight list.now.samples < 2 ^ 64 }
     ensures name { result.name.now ≡ name.now }
-    ensures type_name { result.type_name.now ≡ [] }
-    ensures unit { result.unit.now ≡ [] }
+    ensures type_name { result.type_name.now
+        ≡ (type_or_none (slice_get types.now at)).name }
+    ensures unit { result.unit.now
+        ≡ (type_or_none (slice_get types.now at)).unit }
     ensures weight { result.weight ≡ total_weight list.now.samples }
 {
+    let (type_name, unit) = match types.get(at) {
+        Some(found) => (found.name.get(), found.unit.get()),
+        None => ("", ""),
+    };
     Source {
         name,
-        type_name: "",
-        unit: "",
+        type_name,
+        unit,
         weight: list.total() as u64,
     }
 }
@@ -119,7 +136,7 @@ fn send_headed<W: Outlet>(
             let lists = sources.lists();
             send_comparison(alloc, &lists[0], &lists[1], heading, out)
         }
-        View::Fold | View::Pairs | View::Top(_) => send_plain_view(alloc, sources, view, out),
+        View::Fold | View::Pairs | View::Top(_) => send_plain_view(alloc, sources, view, None, out),
     }
 }
 

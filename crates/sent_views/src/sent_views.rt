@@ -6,12 +6,14 @@ ghost use Rattle.view_texts.specs.Fold.{fold_text};
 ghost use Rattle.view_texts.specs.Pairs.{pairs_text};
 ghost use Rattle.merging.specs.Sums.{all_samples};
 ghost use Rattle.command_line.specs.Plans.{IsComparison};
-ghost use Rattle.source_views.specs.Texts.{chart_text, graph_line, graph_text, pair_boxes_text, top_text, view_text};
+ghost use Rattle.source_views.specs.Texts.{chart_text, graph_line, graph_text, pair_boxes_text, told_text, top_text};
+ghost use Rattle.sent_views.specs.Pages.{asked_text};
 ghost use Rattle.opened_sources.specs.Failures.{Flushes, Sends};
 ghost use Rattle.stack_core.specs.Interleaving.{list_of};
 
+use crate::run_facts::{RunFacts, told_whole};
 use byte_io::{Outlet, Pieces, send_pieces};
-use command_line::{TopTable, View};
+use command_line::{Plan, TopTable, View};
 use flame_layout::{MergedStacks, Width, draw_comparison, draw_merged};
 use merged_stacks::PairedStacks;
 use merging::{Gathered, SourceLists};
@@ -24,15 +26,33 @@ use std::alloc::Global;
 use sum_texts::{SumLine, SumTable};
 use view_texts::{FoldedText, PairedText, Scale, comparison_line};
 
-/// Sends the text of a view without snapshots, and draws no more than that view needs.
-pub fn send_plain_view<W: Outlet>(
+/// Sends the text of a plan's view without snapshots, and draws no more than that view needs.
+pub fn send_asked_view<W: Outlet>(
+    alloc: Global,
+    sources: &SourceLists,
+    plan: &Plan,
+    facts: &RunFacts,
+    out: &mut W,
+) -> Result<(), Failure>
+    requires pairs { IsComparison plan.now.view → length sources.now.lists ≡ 2 }
+    ensures sent { Sends (asked_text plan.now facts.now (samples_of sources.now.lists) [] None)
+        (W.contents out.old) (W.contents out.new) result }
+    ensures flushed { Flushes (W.is_flushed out.new) (W.failures out.old) (W.failures out.new)
+        result }
+{
+    send_plain_view(alloc, sources, plan.view, told_whole(plan, facts), out)
+}
+
+// Sends the text of a view without snapshots. It may say what all samples weigh.
+pub(crate) fn send_plain_view<W: Outlet>(
     alloc: Global,
     sources: &SourceLists,
     view: View,
+    all: Option<u64>,
     out: &mut W,
 ) -> Result<(), Failure>
     requires pairs { IsComparison view → length sources.now.lists ≡ 2 }
-    ensures sent { Sends (view_text view (samples_of sources.now.lists) [] None)
+    ensures sent { Sends (told_text all view (samples_of sources.now.lists) [] None)
         (W.contents out.old) (W.contents out.new) result }
     ensures flushed { Flushes (W.is_flushed out.new) (W.failures out.old) (W.failures out.new)
         result }
@@ -46,7 +66,7 @@ pub fn send_plain_view<W: Outlet>(
             let lists = sources.lists();
             send_compared(alloc, &lists[0], &lists[1], width, out)
         }
-        View::Top(top) => send_top(alloc, sources, top, out),
+        View::Top(top) => send_top(alloc, sources, top, all, out),
     }
 }
 
@@ -150,9 +170,10 @@ fn send_top<W: Outlet>(
     alloc: Global,
     sources: &SourceLists,
     top: TopTable,
+    all: Option<u64>,
     out: &mut W,
 ) -> Result<(), Failure>
-    ensures sent { Sends (top_text top (all_samples (samples_of sources.now.lists)))
+    ensures sent { Sends (top_text all top (all_samples (samples_of sources.now.lists)))
         (W.contents out.old) (W.contents out.new) result }
     ensures flushed { Flushes (W.is_flushed out.new) (W.failures out.old) (W.failures out.new)
         result }
@@ -160,9 +181,9 @@ fn send_top<W: Outlet>(
     let sums = weigh_functions(alloc, sources, top.by)?;
     let whole = sources.total();
     if top.is_json {
-        send_text(alloc, &SumLine::of(&sums, top.rows, whole), out)
+        send_text(alloc, &SumLine::of(&sums, top.rows, whole, all), out)
     } else {
-        send_text(alloc, &SumTable::of(&sums, top.rows, whole), out)
+        send_text(alloc, &SumTable::of(&sums, top.rows, whole, all), out)
     }
 }
 

@@ -1,28 +1,30 @@
 -- What a filter keeps of lists, by the numbers of names and stacks.
 use Rattle.std.proofs.Common.{◌≡◌, ◌∙◌, ◌<◌, ◌≤◌, ◌+◌, ◌||◌, ◌&&◌, ℕ, zero, suc, Bool, true, false, cond, not, refl, sym, ap, subst, arith, List, [], ◌∷◌, ◌++◌, length, take, drop, map, get_or, set, All, inl, inr}
-use Rattle.std.specs.List.{filter, list_any}
+use Rattle.std.specs.List.{filter, list_any, slice_get}
+use Rattle.std.specs.Option.{option_map}
 use Rattle.std.specs.Prelude.{Option, Some, None, nat_eq}
 use Rattle.std.proofs.lemmas.Bool.{cases_eq, cases_lt}
-use Rattle.std.proofs.lemmas.List.{map_push, get_or-map, get_or_past, get_or-set_same, get_or-set_other, take_all, take_more, take-append-drop, length-map, length-take-le, append-nil}
-use Rattle.std.proofs.lemmas.List.Elements.{All-head, All-tail, All-map, filter-append}
-use Rattle.std.proofs.lemmas.List.Filters.{length-filter_more}
+use Rattle.std.proofs.lemmas.List.{map_push, get_or-map, get_or_past, get_or-set_same, get_or-set_other, take_all, take_more, take-append-drop, length-map, length-take-le, map-append}
+use Rattle.std.proofs.lemmas.List.Elements.{All-head, All-tail, All-map, filter-append, filter_more}
 use Rattle.std.proofs.lemmas.List.Sums.{count_by-le-length}
+use Rattle.std.proofs.lemmas.Option.{get_or_from_slice_get, slice_get-get_or}
 use Rattle.std.proofs.lemmas.Simd.{map-map}
 use Rattle.sample_tables.specs.declared.samples.Sample.{Sample}
 use Rattle.sample_tables.specs.Rows.{AreNamed, Row, name_at, named, row_at, row_by, sample_at, stack_at}
-use Rattle.stack_core.specs.Interleaving.{IsInterleaving, count_of, list_of}
+use Rattle.stack_core.specs.Interleaving.{AreOf, IsInterleaving, count_of, interleaved, list_of, of_source, sources_of}
 use Rattle.stack_core.specs.Ledgers.{ListState}
 use Rattle.stack_core.specs.Reading.{IsSourceLimited, Rest}
 use Rattle.stack_core.specs.declared.endings.Close.{Close}
 use Rattle.stack_core.specs.declared.endings.Close.TheVariants.{NoMemory, Read}
 use Rattle.stack_core.specs.declared.endings.SourceEnd.{SourceEnd}
-use Rattle.stack_core.proofs.InterleavingLemmas.{count_of-append}
+use Rattle.stack_core.proofs.InterleavingLemmas.{AreOf-interleaved, AreOf-IsInterleaving, IsInterleaving-AreOf, count_of-append, slice_get-interleaved, sources_of-interleaved}
 use Rattle.run_options.specs.Filters.{has_match, has_text, is_everything, is_none, keeps, kept_rest, kept_samples}
-use Rattle.run_options.proofs.FilterLemmas.{all_is_kept, limited_kept}
+use Rattle.run_options.proofs.FilterLemmas.{all_is_kept, keeps_each, limited_kept}
 use Rattle.run_options.specs.declared.filters.Filter.{Filter}
 use Rattle.merged_stacks.specs.Timeline.{samples_of}
 use Rattle.ring_collect.specs.Collection.{seen_as_rest}
 use Rattle.source_lists.specs.Lists.{AreLimited}
+use Rattle.source_lists.specs.WholeRuns.{kept_pairs}
 use Rattle.source_lists.specs.checked.KeptStacks.{all_are_kept, are_kept, are_matched, is_marked}
 use Rattle.source_lists.proofs.OrderLemmas.{count_of-push}
 
@@ -92,9 +94,13 @@ kept_more asked samples i within =
 
 -- ---- the order
 
--- of each source as many are left as are kept of those that came
-pub record IsKeptOrder (asked : Filter) (lists : List (List Sample)) (before left : List ℕ) : Type 0 where
-  pub kept : (source : ℕ) → count_of source left ≡ length (kept_samples asked (take (count_of source before) (list_of lists source)))
+-- what stands at no place
+abbrev no_pair : ℕ × Sample
+no_pair = (0, record { stack = []; weight = 0 })
+
+-- the sources of the pairs that are kept
+abbrev pub kept_sources : Filter → List (ℕ × Sample) → List ℕ
+kept_sources asked pairs = sources_of (kept_pairs asked pairs)
 
 -- the next sample of a source stands in its list
 pub next_within : (order : List ℕ) (lists : List (List Sample)) (p source : ℕ) → IsInterleaving order lists → p < length order → source ≡ get_or order p 0
@@ -123,54 +129,105 @@ counted_more before came source n within counted is other known = elim (cases_eq
   | inr apart ↦ get_or-set_other came source other n 0 (λ e. apart (sym e)) ∙ (known ∙ sym ((count_of-push before source other).1 apart))
 ]
 
-pub kept_order_more : (asked : Filter) (lists : List (List Sample)) (before left : List ℕ) (source i : ℕ) (b : Bool) → IsKeptOrder asked lists before left → i ≡ count_of source before
-    → i < length (list_of lists source) → b ≡ keeps asked (sample_at (list_of lists source) i).stack
-    → IsKeptOrder asked lists (before ++ source ∷ []) (left ++ cond b (source ∷ []) [])
-kept_order_more asked lists before left source i b h counted in_list is = record {
-  kept = λ other. elim (cases_eq source other) [
-    | inl same ↦ here other same
-    | inr apart ↦ there other apart
-  ];
-}
-  where
-    passes : Sample → Bool
-    passes sample = keeps asked sample.stack
+-- what an order stands for at a place: the next sample of its source
+pair_at : (lists : List (List Sample)) (order : List ℕ) (p source at : ℕ) → IsInterleaving order lists → p < length order → source ≡ get_or order p 0 → at ≡ count_of source (take p order)
+    → at < length (list_of lists source) → get_or (interleaved order lists) p no_pair ≡ (source, sample_at (list_of lists source) at)
+pair_at lists order p source at ordered within is counted in_list =
+    let list = list_of lists source in
+    get_or_from_slice_get (interleaved order lists) p (source, sample_at list at) no_pair
+    (slice_get-interleaved order lists ordered p source (slice_get-get_or order p 0 within ∙ ap Some (sym is))
+    ∙ ap (λ (found : Option Sample). option_map (λ (sample : Sample). (source, sample)) found)
+    (ap (slice_get list) (sym counted) ∙ slice_get-get_or list at (record { stack = []; weight = 0 }) in_list))
 
-    left_here : (b : Bool) → count_of source (left ++ cond b (source ∷ []) []) ≡ count_of source left + cond b 1 0
-    left_here true = omega (arith, (count_of-push left source source).0 refl)
-    left_here false = ap (count_of source) (append-nil left) ∙ omega arith
+length-interleaved : (lists : List (List Sample)) (order : List ℕ) → IsInterleaving order lists → length (interleaved order lists) ≡ length order
+length-interleaved lists order ordered =
+    sym (length-map (interleaved order lists) (λ (pair : ℕ × Sample). pair.0)) ∙ ap length (sources_of-interleaved order lists ordered)
 
-    left_there : (other : ℕ) → (source ≡ other → ⊥) → (b : Bool) → count_of other (left ++ cond b (source ∷ []) []) ≡ count_of other left
-    left_there other apart true = (count_of-push left source other).1 apart
-    left_there other apart false = ap (count_of other) (append-nil left)
+sources_of_one : (b : Bool) (pair : ℕ × Sample) → sources_of (cond b (pair ∷ []) []) ≡ cond b (pair.0 ∷ []) []
+sources_of_one true pair = refl
+sources_of_one false pair = refl
 
-    at_source : count_of source (left ++ cond b (source ∷ []) []) ≡ length (kept_samples asked (take (count_of source (before ++ source ∷ [])) (list_of lists source)))
-    at_source =
-        let list = list_of lists source in
-        let more = length-filter_more passes list i (record { stack = []; weight = 0 }) in_list in
-        let next : count_of source (before ++ source ∷ []) ≡ i + 1 = omega (arith, counted, (count_of-push before source source).0 refl) in
-        let old : count_of source left ≡ length (filter passes (take i list)) = h.kept source ∙ ap (λ n. length (filter passes (take n list))) (sym counted) in
-        left_here b ∙ ((λ j. old j + cond (is j) 1 0) ∙ (sym more ∙ ap (λ n. length (filter passes (take n list))) (sym next)))
-
-    here : (other : ℕ) → source ≡ other → count_of other (left ++ cond b (source ∷ []) []) ≡ length (kept_samples asked (take (count_of other (before ++ source ∷ [])) (list_of lists other)))
-    here other same = subst (λ n. count_of n (left ++ cond b (source ∷ []) []) ≡ length (kept_samples asked (take (count_of n (before ++ source ∷ [])) (list_of lists n)))) same at_source
-
-    there : (other : ℕ) → (source ≡ other → ⊥) → count_of other (left ++ cond b (source ∷ []) []) ≡ length (kept_samples asked (take (count_of other (before ++ source ∷ [])) (list_of lists other)))
-    there other apart =
-        left_there other apart b ∙ (h.kept other ∙ ap (λ n. length (kept_samples asked (take n (list_of lists other)))) (sym ((count_of-push before source other).1 apart)))
+-- one more came, which is left where it is kept
+pub kept_order_more : (asked : Filter) (lists : List (List Sample)) (order left : List ℕ) (p source at : ℕ) (b : Bool) → IsInterleaving order lists → p < length order → source ≡ get_or order p 0
+    → at ≡ count_of source (take p order) → at < length (list_of lists source) → b ≡ keeps asked (sample_at (list_of lists source) at).stack → left ≡ kept_sources asked (take p (interleaved order lists))
+    → left ++ cond b (source ∷ []) [] ≡ kept_sources asked (take (p + 1) (interleaved order lists))
+kept_order_more asked lists order left p source at b ordered within is counted in_list kept left_is =
+    let pairs = interleaved order lists in
+    let passes : ℕ × Sample → Bool = λ pair. keeps asked pair.1.stack in
+    let here = pair_at lists order p source at ordered within is counted in_list in
+    sym
+    (ap sources_of (filter_more passes pairs p no_pair (omega (arith, within, length-interleaved lists order ordered)))
+    ∙ (map-append (λ (pair : ℕ × Sample). pair.0) (filter passes (take p pairs)) (cond (passes (get_or pairs p no_pair)) (get_or pairs p no_pair ∷ []) [])
+    ∙ ((λ j. sym left_is j ++ sources_of (cond (passes (here j)) (here j ∷ []) []))
+    ∙ (ap (λ more. left ++ more) (sources_of_one (keeps asked (sample_at (list_of lists source) at).stack) (source, sample_at (list_of lists source) at))
+    ∙ ap (λ b. left ++ cond b (source ∷ []) []) (sym kept)))))
 
 list_of_kept : (asked : Filter) (lists : List (List Sample)) (source : ℕ) → list_of (map (kept_samples asked) lists) source ≡ kept_samples asked (list_of lists source)
 list_of_kept asked [] source = refl
 list_of_kept asked (list ∷ lists) zero = refl
 list_of_kept asked (list ∷ lists) (suc source) = list_of_kept asked lists source
 
-pub kept_order_all : (asked : Filter) (lists : List (List Sample)) (order left : List ℕ) → IsInterleaving order lists → IsKeptOrder asked lists order left → IsInterleaving left (map (kept_samples asked) lists)
-kept_order_all asked lists order left ordered h = record {
-  as_often = λ source.
-      h.kept source
-      ∙ (ap (λ samples. length (kept_samples asked samples)) (take_all (count_of source order) (list_of lists source) (omega (arith, ordered.as_often source)))
-      ∙ ap length (sym (list_of_kept asked lists source)));
+-- two tests of one item, in either order
+swapped : {X : Type 0} (a b : Bool) (x : X) (xs : List X) → cond a (cond b (x ∷ xs) xs) xs ≡ cond b (cond a (x ∷ xs) xs) xs
+swapped true true x xs = refl
+swapped true false x xs = refl
+swapped false true x xs = refl
+swapped false false x xs = refl
+
+filter-cond : {X : Type 0} (p : X → Bool) (b : Bool) (x : X) (xs : List X) → filter p (cond b (x ∷ xs) xs) ≡ cond b (cond (p x) (x ∷ filter p xs) (filter p xs)) (filter p xs)
+filter-cond p true x xs = refl
+filter-cond p false x xs = refl
+
+filter-filter : {X : Type 0} (p q : X → Bool) (xs : List X) → filter p (filter q xs) ≡ filter q (filter p xs)
+filter-filter p q [] = refl
+filter-filter p q (x ∷ xs) =
+    let later = filter-filter p q xs in
+    filter-cond p (q x) x (filter q xs)
+    ∙ ((λ i. cond (q x) (cond (p x) (x ∷ later i) (later i)) (later i))
+    ∙ (swapped (q x) (p x) x (filter q (filter p xs)) ∙ sym (filter-cond q (p x) x (filter p xs))))
+
+map-cond : {X Y : Type 0} (f : X → Y) (b : Bool) (x : X) (xs : List X) → map f (cond b (x ∷ xs) xs) ≡ cond b (f x ∷ map f xs) (map f xs)
+map-cond f true x xs = refl
+map-cond f false x xs = refl
+
+map-filter : {X Y : Type 0} (f : X → Y) (p : Y → Bool) (xs : List X) → map f (filter (λ x. p (f x)) xs) ≡ filter p (map f xs)
+map-filter f p [] = refl
+map-filter f p (x ∷ xs) =
+    map-cond f (p (f x)) x (filter (λ x. p (f x)) xs)
+    ∙ (λ i. cond (p (f x)) (f x ∷ map-filter f p xs i) (map-filter f p xs i))
+
+kept_of_source : (asked : Filter) (source : ℕ) (pairs : List (ℕ × Sample)) → of_source source (kept_pairs asked pairs) ≡ kept_samples asked (of_source source pairs)
+kept_of_source asked source pairs =
+    let is_of : ℕ × Sample → Bool = λ pair. nat_eq pair.0 source in
+    ap (map (λ (pair : ℕ × Sample). pair.1)) (filter-filter is_of (λ pair. keeps asked pair.1.stack) pairs)
+    ∙ map-filter (λ (pair : ℕ × Sample). pair.1) (λ (sample : Sample). keeps asked sample.stack) (filter is_of pairs)
+
+kept_are_of : (asked : Filter) (lists : List (List Sample)) (order : List ℕ) → IsInterleaving order lists → AreOf (kept_pairs asked (interleaved order lists)) (map (kept_samples asked) lists)
+kept_are_of asked lists order ordered = record {
+  by_source = λ source.
+      kept_of_source asked source (interleaved order lists)
+      ∙ (ap (kept_samples asked) ((IsInterleaving-AreOf order lists ordered).by_source source) ∙ sym (list_of_kept asked lists source));
 }
+
+-- the order of all that are kept, and what it stands for
+pub kept_order_all : (asked : Filter) (lists : List (List Sample)) (order left : List ℕ) (p : ℕ) → IsInterleaving order lists → length order ≤ p → left ≡ kept_sources asked (take p (interleaved order lists))
+    → IsInterleaving left (map (kept_samples asked) lists) × (kept_pairs asked (interleaved order lists) ≡ interleaved left (map (kept_samples asked) lists))
+kept_order_all asked lists order left p ordered past left_is =
+    let is : left ≡ kept_sources asked (interleaved order lists) =
+    left_is ∙ ap (kept_sources asked) (take_all p (interleaved order lists) (omega (arith, past, length-interleaved lists order ordered))) in
+    let pairs = kept_pairs asked (interleaved order lists) in
+    let lists_left = map (kept_samples asked) lists in
+    let of = kept_are_of asked lists order ordered in (
+      subst (λ (order : List ℕ). IsInterleaving order lists_left) (sym is) (AreOf-IsInterleaving pairs lists_left of),
+      sym (ap (λ (order : List ℕ). interleaved order lists_left) is ∙ AreOf-interleaved pairs lists_left of),
+    )
+
+-- where all is kept all pairs are
+pub all_pairs_kept : (asked : Filter) → is_everything asked ≡ true → (pairs : List (ℕ × Sample)) → kept_pairs asked pairs ≡ pairs
+all_pairs_kept asked e [] = refl
+all_pairs_kept asked e (pair ∷ pairs) =
+    ap (λ b. cond b (pair ∷ kept_pairs asked pairs) (kept_pairs asked pairs)) (keeps_each asked e pair.1.stack)
+    ∙ ap (λ later. pair ∷ later) (all_pairs_kept asked e pairs)
 
 -- ---- lists and their marks
 

@@ -47,26 +47,26 @@ fn ledger_of_stacks(alloc: Global, list: &SourceList) -> Result<Ledger, AllocErr
     Ok(ledger)
 }
 
-/// Takes sample `i` of the list, unless its stack is left out.
+/// Takes the sample at a place of the list, unless its stack is left out.
 fn take_if_kept(
     ledger: &mut Ledger,
     list: &SourceList,
     kept: &[bool],
-    i: usize,
+    at: usize,
 ) -> Result<(), AllocError>
     requires open { ledger.old.close ≡ None }
     requires told { ledger.old.told ≡ list.now.told }
     requires stacks { ledger.old.stacks ≡ list.now.stacks }
-    requires within { i < length list.now.samples }
+    requires within { at < length list.now.samples }
     ensures open { OnOk result (ledger.new.close ≡ None) }
     ensures told { OnOk result (ledger.new.told ≡ list.now.told) }
     ensures stacks { OnOk result (ledger.new.stacks ≡ list.now.stacks) }
     ensures samples { OnOk result ((asked : Asked) → kept.now ≡ are_kept asked list.now
         → ledger.new.samples ≡ ledger.old.samples
-        ++ kept_samples asked (sample_at list.now.samples i ∷ [])) }
+        ++ kept_samples asked (sample_at list.now.samples at ∷ [])) }
 {
-    if is_kept(list, kept, i) {
-        ledger.take_again(list.stack_number(i), list.weight(i))?;
+    if is_kept(list, kept, at) {
+        ledger.take_again(list.stack_number(at), list.weight(at))?;
     }
     Ok(())
 }
@@ -77,8 +77,8 @@ fn kept_list(alloc: Global, list: &SourceList, kept: &[bool]) -> Result<SourceLi
         → seen_as_rest left ≡ kept_rest asked (seen_as_rest list.now)) }
 {
     let mut ledger = ledger_of_stacks(alloc, list)?;
-    for i in 0..list.len() {
-        take_if_kept(&mut ledger, list, kept, i)?;
+    for at in 0..list.len() {
+        take_if_kept(&mut ledger, list, kept, at)?;
     }
     ledger.close(Close::Read(*list.ending()));
     Ok(ledger.into_list())

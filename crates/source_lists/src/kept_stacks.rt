@@ -66,15 +66,15 @@ fn is_set(marks: &[bool], number: usize) -> bool
     number < marks.len() && marks[number]
 }
 
-/// Whether sample `i` of the list has a stack that is kept.
-pub(crate) fn is_kept(list: &SourceList, kept: &[bool], i: usize) -> bool
-    requires { i < length list.now.samples }
+/// Whether the sample at a place of the list has a stack that is kept.
+pub(crate) fn is_kept(list: &SourceList, kept: &[bool], at: usize) -> bool
+    requires { at < length list.now.samples }
     ensures kept { (asked : Asked) → kept.now ≡ are_kept asked list.now
-        → result ≡ keeps asked (sample_at list.now.samples i).stack }
+        → result ≡ keeps asked (sample_at list.now.samples at).stack }
     ensures named { AreNamed list.now.told list.now.rows list.now.samples }
 {
     let count = list.len();
-    i < count && is_set(kept, list.stack_number(i))
+    at < count && is_set(kept, list.stack_number(at))
 }
 
 /// For each stack of the list whether the filter keeps it.

@@ -11,11 +11,15 @@ mod reading;
 mod source_lists;
 mod source_reader;
 mod source_readers;
+mod source_types;
 mod sources;
+#[cfg(test)]
+mod tests;
 mod unkept_samples;
 mod whole_runs;
 
 pub use reading::{read_into, read_sources};
 pub use source_lists::SourceLists;
+pub use source_types::chosen_types;
 pub use sources::Source;
 pub use whole_runs::{WholeRun, read_whole_sources};

@@ -13,7 +13,7 @@ use std::alloc::{AllocError, Global};
 
 /// The reader of a source.
 #[derive(Drop)]
-pub enum SourceReader {
+pub(crate) enum SourceReader {
     Folded(FoldedReader),
     Pprof(PprofReader),
 }
@@ -22,7 +22,7 @@ impl SourceReader {
     ghost use Rattle.source_lists.specs.checked.Readers.{reader_rest, reader_told};
 
     /// A reader of the source from its beginning, which has told nothing.
-    pub fn over(
+    pub(crate) fn over(
         alloc: Global,
         source: Source,
         options: &Options,

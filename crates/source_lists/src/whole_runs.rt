@@ -1,11 +1,11 @@
 //! A run of sources that are read to their ends.
 
-ghost use Rattle.std.specs.Prelude.{◌≡◌, ◌≤◌, ◌<◌, ◌++◌, ℕ, IfOk, IsErrOf, length, map};
+ghost use Rattle.std.specs.Prelude.{◌≡◌, ◌≤◌, ◌<◌, ◌++◌, ℕ, IfOk, IsErrOf, length};
 ghost use Rattle.stack_core.specs.Interleaving.{IsInterleaving, interleaved};
 ghost use Rattle.merged_stacks.specs.Timeline.{samples_of};
 ghost use Rattle.ring_collect.specs.Collection.{AreWhole};
 ghost use Rattle.source_lists.specs.Sources.{rests_of, weight_of_sources, whole_rests_of};
-ghost use Rattle.source_lists.specs.WholeRuns.{GainsAll};
+ghost use Rattle.source_lists.specs.WholeRuns.{GainsAll, GainsInOrder};
 
 use crate::reader_runs::run_rows;
 use crate::source_lists::SourceLists;
@@ -40,6 +40,8 @@ fn collect_all<T: Threads + Wait + Copy + Send + 'static, S: RowSink>(
         AreWhole (whole_rests_of options.now sources.items) run.lists) }
     ensures fed { IfOk result (λ run.
         GainsAll (whole_rests_of options.now sources.items) (S.taken sink.old) (S.taken sink.new)) }
+    ensures in_order { IfOk result (λ run. S.taken sink.new ≡ S.taken sink.old
+        ++ interleaved run.order (samples_of run.lists)) }
     ensures refused { (source : ℕ) → IsErrOf result (CollectFault.Unfinished source)
         → source < length sources.items }
     ensures setting { S.setting sink.new ≡ S.setting sink.old }
@@ -78,6 +80,10 @@ pub fn read_whole_sources<T: Threads + Wait + Copy + Send + 'static, S: RowSink>
 
     ensures fed { IfOk result (λ run.
         GainsAll (whole_rests_of options.now sources.items) (S.taken sink.old) (S.taken sink.new)) }
+    // The order is that in which the sink was fed, without what the filter drops.
+    ensures in_order { IfOk result (λ run.
+        GainsInOrder options.now.filter run.kept.order (samples_of run.kept.lists)
+        (S.taken sink.old) (S.taken sink.new)) }
     ensures setting { S.setting sink.new ≡ S.setting sink.old }
     ensures refused { (source : ℕ) → IsErrOf result (CollectFault.Unfinished source)
         → source < length sources.items }

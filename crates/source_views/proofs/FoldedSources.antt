@@ -40,11 +40,11 @@ same_at [] source foldable = λ q. refl
 same_at (list ∷ lists) zero foldable = λ q. sym (refolded-sums list (All-head IsFoldable list lists foldable) q)
 same_at (list ∷ lists) (suc source) foldable = same_at lists source (All-tail IsFoldable list lists foldable)
 
-same_top : (top : TopTable) (xs ys : List Sample) → SameSums xs ys → top_text top xs ≡ top_text top ys
+same_top : (top : TopTable) (xs ys : List Sample) → SameSums xs ys → top_text None top xs ≡ top_text None top ys
 same_top top xs ys same =
     let functions = same_functions top.by xs ys same in
     let weight = same_weights xs ys same in
-    λ i. cond top.is_json (functions_line (weight i) (take top.rows (functions i))) (table_text (weight i) (take top.rows (functions i)))
+    λ i. cond top.is_json (functions_line None (weight i) (take top.rows (functions i))) (table_text None (weight i) (take top.rows (functions i)))
 
 pub same_views : (view : View) (lists : List (List Sample)) → SeesSums view → All IsFoldable lists → view_text view (map refolded lists) [] None ≡ view_text view lists [] None
 same_views Fold lists sees foldable = same_folds (all_samples (map refolded lists)) (all_samples lists) (same_all lists foldable)

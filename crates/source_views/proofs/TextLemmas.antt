@@ -20,7 +20,7 @@ use Rattle.std.specs.List.{concat, range_with_len}
 use Rattle.std.proofs.lemmas.List.FromFn.{map-range_with_len_more}
 use Rattle.stack_core.specs.Interleaving.{counts_at, list_of}
 use Rattle.stack_core.specs.Ledgers.{ListState}
-use Rattle.source_views.specs.checked.Filling.{filled}
+use Rattle.source_views.specs.Filling.{filled}
 use Rattle.source_views.specs.SnapshotPieces.{snapshot_pieces}
 use Rattle.view_texts.specs.Json.{snapshot_line, boxes_line}
 use Rattle.merging.specs.Snapshots.{snapshot_counts, snapshot_samples, snapshot_places, IsSnapshot, AreSnapshots}

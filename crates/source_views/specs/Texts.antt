@@ -53,10 +53,11 @@ abbrev pub pair_boxes_text : ℕ → List Sample → List Sample → List ℕ
 pair_boxes_text width before after =
     pair_boxes_line (total_weight before) (total_weight after) width (compared_boxes_of before after)
 
--- the heaviest functions: their table, or their line of JSON
-abbrev pub top_text : TopTable → List Sample → List ℕ
-top_text top samples =
-    if top.is_json then top_line top.by top.rows samples else top_table top.by top.rows samples
+-- the heaviest functions: their table, or their line of JSON. Where `all` is given it is what these samples and those that a
+-- filter leaves out weigh together, and the text says what part of it the functions are
+abbrev pub top_text : Option ℕ → TopTable → List Sample → List ℕ
+top_text all top samples =
+    if top.is_json then top_line all top.by top.rows samples else top_table all top.by top.rows samples
 
 abbrev pub view_text : View → List (List Sample) → List ℕ → Option ℕ → List ℕ
 view_text Fold lists order every = fold_text (all_samples lists)
@@ -64,7 +65,16 @@ view_text (Graph width) lists order every = graph_text width lists order every
 view_text (Chart width) lists order every = chart_text width lists
 view_text Pairs lists order every = pairs_text (list_of lists 0) (list_of lists 1)
 view_text (PairBoxes width) lists order every = pair_boxes_text width (list_of lists 0) (list_of lists 1)
-view_text (Top top) lists order every = top_text top (all_samples lists)
+view_text (Top top) lists order every = top_text None top (all_samples lists)
+
+-- the same, where `all` may say what all samples weigh: the table of functions is the one text that tells it
+abbrev pub told_text : Option ℕ → View → List (List Sample) → List ℕ → Option ℕ → List ℕ
+told_text all Fold lists order every = view_text Fold lists order every
+told_text all (Graph width) lists order every = view_text (Graph width) lists order every
+told_text all (Chart width) lists order every = view_text (Chart width) lists order every
+told_text all Pairs lists order every = view_text Pairs lists order every
+told_text all (PairBoxes width) lists order every = view_text (PairBoxes width) lists order every
+told_text all (Top top) lists order every = top_text all top (all_samples lists)
 
 -- the text is the same in whatever order the samples come, since it has no snapshots
 abbrev pub IsOrderless : View → Option ℕ → Type 0

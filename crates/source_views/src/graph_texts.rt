@@ -10,7 +10,7 @@ ghost use Rattle.view_texts.specs.Json.{snapshot_line};
 ghost use Rattle.merging.specs.Sums.{all_samples, IsDrawable};
 ghost use Rattle.source_views.specs.Texts.{chart_text, graph_line, graph_text, snapshot_line_at, places_of};
 ghost use Rattle.source_views.specs.SnapshotPieces.{snapshot_pieces};
-ghost use Rattle.source_views.specs.checked.Filling.{filled};
+ghost use Rattle.source_views.specs.Filling.{filled};
 
 use byte_io::{Chain, Pieces};
 use call_tree::FrameTable;
@@ -142,8 +142,8 @@ fn append_drawn(
     append_snapshot_line(alloc, out, snapshot.at, &counts, &boxes, &scale)
 }
 
-// A count for each source, 0 where there is none.
-fn filled_counts(alloc: Global, counts: &[u64], sources: usize) -> Result<Vec<u64>, AllocError>
+/// A count for each source, 0 where there is none.
+pub fn filled_counts(alloc: Global, counts: &[u64], sources: usize) -> Result<Vec<u64>, AllocError>
     ensures { IfOk result (λ filling. filling.items ≡ filled sources counts.now) }
 {
     let mut filling = Vec::with_capacity(alloc, sources)?;

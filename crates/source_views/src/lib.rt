@@ -13,7 +13,7 @@ mod whole_run;
 pub use drawings::{lend_chart, merge};
 pub use drawn_texts::{DrawnText, drawn_chart, drawn_graph, drawn_graph_text};
 pub use functions::weigh_functions;
-pub use graph_texts::SnapshotLines;
+pub use graph_texts::{SnapshotLines, filled_counts};
 pub use view_set::Views;
 pub use view_text::render;
 pub use whole_run::views;

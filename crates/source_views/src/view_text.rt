@@ -1,5 +1,5 @@
 //! The text of a view of what was collected.
-ghost use Rattle.std.specs.Prelude.{◌≡◌, ◌++◌, ◌<◌, ◌^◌, OnOk, OnErr, length};
+ghost use Rattle.std.specs.Prelude.{◌≡◌, ◌++◌, ◌<◌, ◌^◌, None, OnOk, OnErr, length};
 ghost use Rattle.merged_stacks.specs.Timeline.{samples_of, total_weight};
 ghost use Rattle.view_texts.specs.Fold.{fold_text};
 ghost use Rattle.view_texts.specs.Pairs.{pairs_text};
@@ -113,14 +113,14 @@ fn append_top(
     top: TopTable,
 ) -> Result<(), AllocError>
     ensures ok { OnOk result (out.new.items ≡ out.old.items
-        ++ top_text top (all_samples (samples_of sources.now.lists))) }
+        ++ top_text None top (all_samples (samples_of sources.now.lists))) }
     ensures err { OnErr result (out.new.items ≡ out.old.items) }
 {
     let sums = weigh_functions(alloc, sources, top.by)?;
     let whole = sources.total();
     if top.is_json {
-        append_sum_line(alloc, out, &sums, top.rows, whole)
+        append_sum_line(alloc, out, &sums, top.rows, whole, None)
     } else {
-        append_sum_table(alloc, out, &sums, top.rows, whole)
+        append_sum_table(alloc, out, &sums, top.rows, whole, None)
     }
 }

@@ -1,5 +1,5 @@
 -- How wide the columns are with one function more.
-use Rattle.std.proofs.Common.{◌≡◌, ℕ, ◌+◌, ◌<◌, max, List, [], ◌∷◌, ◌++◌, length, get_or, map, take, ap, ◌∙◌, arith}
+use Rattle.std.proofs.Common.{◌≡◌, ℕ, ◌+◌, ◌<◌, max, List, [], ◌∷◌, ◌++◌, length, get_or, take, ap, ◌∙◌, arith, Option, unwrap_or}
 use Rattle.std.proofs.lemmas.List.{map_more}
 use Rattle.function_sums.specs.declared.sums.FunctionSum.{FunctionSum}
 use Rattle.sum_texts.specs.FunctionTable.{Entries, headings, entries_of, widest, lines_of}
@@ -23,6 +23,7 @@ widened widths line = record {
   own_percent = max widths.own_percent (length line.own_percent);
   total = max widths.total (length line.total);
   total_percent = max widths.total_percent (length line.total_percent);
+  whole_percent = max widths.whole_percent (length (unwrap_or line.whole_percent []));
 }
 
 widths_in-push : (lines : List Entries) (line : Entries) → widths_in (lines ++ line ∷ []) ≡ widened (widths_in lines) line
@@ -31,8 +32,9 @@ widths_in-push lines line i = record {
   own_percent = widest-push (λ entries. entries.own_percent) lines line i;
   total = widest-push (λ entries. entries.total) lines line i;
   total_percent = widest-push (λ entries. entries.total_percent) lines line i;
+  whole_percent = widest-push (λ entries. unwrap_or entries.whole_percent []) lines line i;
 }
 
-pub widths_more : (whole : ℕ) (sums : List FunctionSum) (i : ℕ) (d : FunctionSum) → i < length sums → widths_of whole (take (i + 1) sums) ≡ widened (widths_of whole (take i sums)) (entries_of whole (get_or sums i d))
-widths_more whole sums i d within =
-    ap (λ lines. widths_in (headings ∷ lines)) (map_more (entries_of whole) sums i d within) ∙ widths_in-push (lines_of whole (take i sums)) (entries_of whole (get_or sums i d))
+pub widths_more : (all : Option ℕ) (whole : ℕ) (sums : List FunctionSum) (i : ℕ) (d : FunctionSum) → i < length sums → widths_of all whole (take (i + 1) sums) ≡ widened (widths_of all whole (take i sums)) (entries_of all whole (get_or sums i d))
+widths_more all whole sums i d within =
+    ap (λ lines. widths_in (headings all ∷ lines)) (map_more (entries_of all whole) sums i d within) ∙ widths_in-push (lines_of all whole (take i sums)) (entries_of all whole (get_or sums i d))

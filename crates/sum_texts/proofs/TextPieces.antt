@@ -1,5 +1,5 @@
 -- The pieces of the texts one after another, and each by itself.
-use Rattle.std.proofs.Common.{◌≡◌, ℕ, suc, ◌+◌, ◌<◌, List, [], ◌∷◌, ◌++◌, false, length, get_or, map, codes, decimal, refl, sym, ap, ◌∙◌, arith, append_assoc}
+use Rattle.std.proofs.Common.{◌≡◌, ℕ, Option, None, Some, suc, ◌+◌, ◌<◌, List, [], ◌∷◌, ◌++◌, false, length, get_or, map, codes, decimal, refl, sym, ap, ◌∙◌, arith, append_assoc}
 use Rattle.std.specs.List.{concat, flat_map}
 use Rattle.std.proofs.lemmas.List.{length-map, get_or-map}
 use Rattle.json.specs.Print.{escape_byte}
@@ -10,34 +10,34 @@ use Rattle.view_texts.specs.Json.{list_data}
 use Rattle.view_texts.proofs.JsonLists.{values_text, items_text-items_of}
 use Rattle.view_texts.proofs.TextPieces.{line_pieces-text, length-line_pieces}
 use Rattle.sum_texts.specs.FunctionJson.{function_data, functions_line}
-use Rattle.sum_texts.specs.Pieces.{table_pieces, functions_tail, functions_pieces}
+use Rattle.sum_texts.specs.Pieces.{table_pieces, functions_end, functions_tail, functions_pieces}
 use Rattle.sum_texts.specs.FunctionTable.{Entries, headings, entries_of, lines_of, table_line, table_text}
 
 -- ---- the table
 
 -- the line of a function
-abbrev pub row_line : List Entries → ℕ → FunctionSum → List ℕ
-row_line lines whole sum = table_line lines (entries_of whole sum) sum.name
+abbrev pub row_line : List Entries → Option ℕ → ℕ → FunctionSum → List ℕ
+row_line lines all whole sum = table_line lines (entries_of all whole sum) sum.name
 
-rows-text : (lines : List Entries) (whole : ℕ) (sums : List FunctionSum) → concat (map (row_line lines whole) sums) ≡ flat_map (row_line lines whole) sums
-rows-text lines whole [] = refl
-rows-text lines whole (sum ∷ sums) = ap (λ text. row_line lines whole sum ++ text) (rows-text lines whole sums)
+rows-text : (lines : List Entries) (all : Option ℕ) (whole : ℕ) (sums : List FunctionSum) → concat (map (row_line lines all whole) sums) ≡ flat_map (row_line lines all whole) sums
+rows-text lines all whole [] = refl
+rows-text lines all whole (sum ∷ sums) = ap (λ text. row_line lines all whole sum ++ text) (rows-text lines all whole sums)
 
-pub table-text : (whole : ℕ) (sums : List FunctionSum) → concat (table_pieces whole sums) ≡ table_text whole sums
+pub table-text : (all : Option ℕ) (whole : ℕ) (sums : List FunctionSum) → concat (table_pieces all whole sums) ≡ table_text all whole sums
 unfolding table_text
-table-text whole sums =
-    let lines = lines_of whole sums in
-    ap (λ text. table_line lines headings (codes "name") ++ text) (rows-text lines whole sums)
+table-text all whole sums =
+    let lines = lines_of all whole sums in
+    ap (λ text. table_line lines (headings all) (codes "name") ++ text) (rows-text lines all whole sums)
 
-pub length-table_pieces : (whole : ℕ) (sums : List FunctionSum) → length (table_pieces whole sums) ≡ suc (length sums)
-length-table_pieces whole sums = ap suc (length-map sums (row_line (lines_of whole sums) whole))
+pub length-table_pieces : (all : Option ℕ) (whole : ℕ) (sums : List FunctionSum) → length (table_pieces all whole sums) ≡ suc (length sums)
+length-table_pieces all whole sums = ap suc (length-map sums (row_line (lines_of all whole sums) all whole))
 
 -- the piece of a function
-pub row_piece : (whole : ℕ) (sums : List FunctionSum) (at place : ℕ) (sum : FunctionSum) → at ≡ place + 1 → place < length sums
-    → get_or (table_pieces whole sums) at [] ≡ row_line (lines_of whole sums) whole (get_or sums place sum)
-row_piece whole sums at place sum e within =
-    let row = row_line (lines_of whole sums) whole in
-    ap (λ n. get_or (table_pieces whole sums) n []) (e ∙ suc_is place) ∙ get_or-map row sums place sum [] within
+pub row_piece : (all : Option ℕ) (whole : ℕ) (sums : List FunctionSum) (at place : ℕ) (sum : FunctionSum) → at ≡ place + 1 → place < length sums
+    → get_or (table_pieces all whole sums) at [] ≡ row_line (lines_of all whole sums) all whole (get_or sums place sum)
+row_piece all whole sums at place sum e within =
+    let row = row_line (lines_of all whole sums) all whole in
+    ap (λ n. get_or (table_pieces all whole sums) n []) (e ∙ suc_is place) ∙ get_or-map row sums place sum [] within
   where
     suc_is : (n : ℕ) → n + 1 ≡ suc n
     suc_is n = omega arith
@@ -51,24 +51,35 @@ after_value key value rest end = simp append_assoc
 bracketed : (values : List Data) (after : List ℕ) → compact_text (list_data values) ++ after ≡ 91 ∷ (values_text false values ++ 93 ∷ after)
 bracketed values after = ap (λ text. 91 ∷ (text ++ after)) (items_text-items_of false values) ∙ ap (λ text. 91 ∷ text) (append_assoc (values_text false values) (93 ∷ []) after)
 
-abbrev last_member : List ℕ
-last_member = codes ",\"view\":\"top\"}"
+-- the members after the weight of the samples
+abbrev last_members : Option ℕ → List ℕ
+last_members None = codes ",\"view\":\"top\"}"
+last_members (Some all) = codes ",\"view\":\"top\",\"whole\":" ++ (decimal all ++ codes "}")
 
-line-parts : (whole : ℕ) (sums : List FunctionSum) → functions_line whole sums ≡ codes "{\"functions\":[" ++ (values_text false (map function_data sums) ++ functions_tail whole)
+last-line : (all : Option ℕ) → last_members all ++ 10 ∷ [] ≡ codes ",\"view\":\"top\"" ++ functions_end all
+last-line None = refl
+last-line (Some all) = after_value (codes ",\"view\":\"top\",\"whole\":") (decimal all) (codes "}") (10 ∷ [])
+
+line-ends : (all : Option ℕ) (whole : ℕ) (values : List Data) → (codes "{\"functions\":" ++ (compact_text (list_data values) ++ (codes ",\"total\":" ++ (decimal whole ++ last_members all)))) ++ 10 ∷ []
+    ≡ codes "{\"functions\":[" ++ (values_text false values ++ functions_tail all whole)
+line-ends all whole values =
+    after_value (codes "{\"functions\":") (compact_text (list_data values)) (codes ",\"total\":" ++ (decimal whole ++ last_members all)) (10 ∷ [])
+    ∙ ap (λ text. codes "{\"functions\":" ++ (compact_text (list_data values) ++ text)) (after_value (codes ",\"total\":") (decimal whole) (last_members all) (10 ∷ []))
+    ∙ ap (λ text. codes "{\"functions\":" ++ text) (bracketed values (codes ",\"total\":" ++ (decimal whole ++ (last_members all ++ 10 ∷ []))))
+    ∙ ap (λ text. codes "{\"functions\":[" ++ (values_text false values ++ (codes "],\"total\":" ++ (decimal whole ++ text)))) (last-line all)
+
+line-parts : (all : Option ℕ) (whole : ℕ) (sums : List FunctionSum) → functions_line all whole sums ≡ codes "{\"functions\":[" ++ (values_text false (map function_data sums) ++ functions_tail all whole)
 unfolding functions_line escape_byte
-line-parts whole sums =
-    let values = map function_data sums in
-    after_value (codes "{\"functions\":") (compact_text (list_data values)) (codes ",\"total\":" ++ (decimal whole ++ last_member)) (10 ∷ [])
-    ∙ ap (λ text. codes "{\"functions\":" ++ (compact_text (list_data values) ++ text)) (after_value (codes ",\"total\":") (decimal whole) last_member (10 ∷ []))
-    ∙ ap (λ text. codes "{\"functions\":" ++ text) (bracketed values (codes ",\"total\":" ++ (decimal whole ++ (last_member ++ 10 ∷ []))))
+line-parts None whole sums = line-ends None whole (map function_data sums)
+line-parts (Some all) whole sums = line-ends (Some all) whole (map function_data sums)
 
-pub functions-text : (whole : ℕ) (sums : List FunctionSum) → concat (functions_pieces whole sums) ≡ functions_line whole sums
-functions-text whole sums =
-    line_pieces-text (codes "{\"functions\":[") (functions_tail whole) (map function_data sums) ∙ sym (line-parts whole sums)
+pub functions-text : (all : Option ℕ) (whole : ℕ) (sums : List FunctionSum) → concat (functions_pieces all whole sums) ≡ functions_line all whole sums
+functions-text all whole sums =
+    line_pieces-text (codes "{\"functions\":[") (functions_tail all whole) (map function_data sums) ∙ sym (line-parts all whole sums)
 
-pub length-functions_pieces : (whole : ℕ) (sums : List FunctionSum) → length (functions_pieces whole sums) ≡ length sums + 2
-length-functions_pieces whole sums =
-    length-line_pieces (codes "{\"functions\":[") (functions_tail whole) (map function_data sums) ∙ ap (λ n. n + 2) (length-map sums function_data)
+pub length-functions_pieces : (all : Option ℕ) (whole : ℕ) (sums : List FunctionSum) → length (functions_pieces all whole sums) ≡ length sums + 2
+length-functions_pieces all whole sums =
+    length-line_pieces (codes "{\"functions\":[") (functions_tail all whole) (map function_data sums) ∙ ap (λ n. n + 2) (length-map sums function_data)
 
 -- ---- a function in JSON
 

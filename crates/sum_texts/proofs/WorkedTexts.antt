@@ -1,5 +1,5 @@
 -- Worked examples, computed on the definitions.
-use Rattle.std.proofs.Common.{◌≡◌, ℕ, List, [], ◌∷◌, ◌++◌, codes, refl}
+use Rattle.std.proofs.Common.{◌≡◌, ℕ, List, [], ◌∷◌, ◌++◌, None, Some, codes, refl}
 use Rattle.std.specs.Fmt.{digits}
 use Rattle.json.specs.Print.{escape_byte}
 use Rattle.function_sums.specs.declared.sums.FunctionSum.{FunctionSum}
@@ -24,18 +24,38 @@ the_whole : percent_text (hundredths 7 7) ≡ codes "100.00%"
 unfolding digits
 the_whole = refl
 
-table : table_text 8 (sum (codes "read") 7 7 ∷ sum (codes "main") 1 8 ∷ [])
+table : table_text None 8 (sum (codes "read") 7 7 ∷ sum (codes "main") 1 8 ∷ [])
     ≡ codes "own    own%  total   total%  name\n"
     ++ (codes "  7  87.50%      7   87.50%  read\n"
     ++ codes "  1  12.50%      8  100.00%  main\n")
 unfolding table_text digits
 table = refl
 
-empty_table : table_text 0 [] ≡ codes "own  own%  total  total%  name\n"
+empty_table : table_text None 0 [] ≡ codes "own  own%  total  total%  name\n"
 unfolding table_text digits
 empty_table = refl
 
-line : functions_line 8 (sum (codes "read") 7 7 ∷ sum (codes "main") 1 8 ∷ [])
+-- 8 of 32 are kept by a filter
+kept_table : table_text (Some 32) 8 (sum (codes "read") 7 7 ∷ sum (codes "main") 1 8 ∷ [])
+    ≡ codes "own    own%  total   total%  whole%  name\n"
+    ++ (codes "  7  87.50%      7   87.50%  21.88%  read\n"
+    ++ codes "  1  12.50%      8  100.00%  25.00%  main\n")
+unfolding table_text digits
+kept_table = refl
+
+-- of nothing each is nothing
+kept_of_nothing : table_text (Some 0) 0 (sum (codes "a") 0 0 ∷ [])
+    ≡ codes "own   own%  total  total%  whole%  name\n"
+    ++ codes "  0  0.00%      0   0.00%   0.00%  a\n"
+unfolding table_text digits
+kept_of_nothing = refl
+
+line : functions_line None 8 (sum (codes "read") 7 7 ∷ sum (codes "main") 1 8 ∷ [])
     ≡ codes "{\"functions\":[{\"name\":\"read\",\"own\":7,\"total\":7},{\"name\":\"main\",\"own\":1,\"total\":8}],\"total\":8,\"view\":\"top\"}\n"
 unfolding functions_line escape_byte digits
 line = refl
+
+kept_line : functions_line (Some 32) 8 (sum (codes "main") 1 8 ∷ [])
+    ≡ codes "{\"functions\":[{\"name\":\"main\",\"own\":1,\"total\":8}],\"total\":8,\"view\":\"top\",\"whole\":32}\n"
+unfolding functions_line escape_byte digits
+kept_line = refl

@@ -1,6 +1,6 @@
 -- The line of JSON of functions: the compact text of one value, whose keys are in byte order, and a line feed.
-use Rattle.std.specs.Prelude.{ℕ, List, map, codes}
-use Rattle.serde_json.specs.Data.{Data, string, object, no_members, member}
+use Rattle.std.specs.Prelude.{ℕ, List, map, codes, Option, None, Some}
+use Rattle.serde_json.specs.Data.{Data, Members, string, object, no_members, member}
 use Rattle.view_texts.specs.Json.{whole_number, list_data, json_line}
 use Rattle.function_sums.specs.declared.sums.FunctionSum.{FunctionSum}
 
@@ -13,14 +13,19 @@ function_data sum =
     (member (codes "total") (whole_number sum.total)
     no_members)))
 
--- the functions, and the weight of the samples
-abbrev pub functions_data : ℕ → List FunctionSum → Data
-functions_data whole sums =
+-- what all samples weigh, with those that a filter leaves out, where that is known
+abbrev pub whole_member : Option ℕ → Members
+whole_member None = no_members
+whole_member (Some all) = member (codes "whole") (whole_number all) no_members
+
+-- the functions, the weight of the samples, and that of all samples
+abbrev pub functions_data : Option ℕ → ℕ → List FunctionSum → Data
+functions_data all whole sums =
     object
     (member (codes "functions") (list_data (map function_data sums))
     (member (codes "total") (whole_number whole)
     (member (codes "view") (string (codes "top"))
-    no_members)))
+    (whole_member all))))
 
-unfoldable pub functions_line : ℕ → List FunctionSum → List ℕ
-functions_line whole sums = json_line (functions_data whole sums)
+unfoldable pub functions_line : Option ℕ → ℕ → List FunctionSum → List ℕ
+functions_line all whole sums = json_line (functions_data all whole sums)

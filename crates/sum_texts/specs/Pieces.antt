@@ -1,20 +1,25 @@
 -- The pieces of the texts, of which each text is made.
-use Rattle.std.specs.Prelude.{ℕ, List, [], ◌∷◌, ◌++◌, map, codes, decimal}
+use Rattle.std.specs.Prelude.{ℕ, List, ◌∷◌, ◌++◌, map, codes, decimal, Option, None, Some}
 use Rattle.function_sums.specs.declared.sums.FunctionSum.{FunctionSum}
 use Rattle.view_texts.specs.Pieces.{line_pieces}
 use Rattle.sum_texts.specs.FunctionJson.{function_data}
 use Rattle.sum_texts.specs.FunctionTable.{headings, entries_of, lines_of, table_line}
 
 -- the line of headings, and a line for each function
-abbrev pub table_pieces : ℕ → List FunctionSum → List (List ℕ)
-table_pieces whole sums =
-    table_line (lines_of whole sums) headings (codes "name")
-    ∷ map (λ sum. table_line (lines_of whole sums) (entries_of whole sum) sum.name) sums
+abbrev pub table_pieces : Option ℕ → ℕ → List FunctionSum → List (List ℕ)
+table_pieces all whole sums =
+    table_line (lines_of all whole sums) (headings all) (codes "name")
+    ∷ map (λ sum. table_line (lines_of all whole sums) (entries_of all whole sum) sum.name) sums
 
 -- what stands after the functions in their line
-abbrev pub functions_tail : ℕ → List ℕ
-functions_tail whole = codes "],\"total\":" ++ (decimal whole ++ codes ",\"view\":\"top\"}\n")
+abbrev pub functions_end : Option ℕ → List ℕ
+functions_end None = codes "}\n"
+functions_end (Some all) = codes ",\"whole\":" ++ (decimal all ++ codes "}\n")
+
+abbrev pub functions_tail : Option ℕ → ℕ → List ℕ
+functions_tail all whole = codes "],\"total\":" ++ (decimal whole ++ (codes ",\"view\":\"top\"" ++ functions_end all))
 
 -- what stands before the functions, each function, and what stands after them
-abbrev pub functions_pieces : ℕ → List FunctionSum → List (List ℕ)
-functions_pieces whole sums = line_pieces (codes "{\"functions\":[") (map function_data sums) (functions_tail whole)
+abbrev pub functions_pieces : Option ℕ → ℕ → List FunctionSum → List (List ℕ)
+functions_pieces all whole sums =
+    line_pieces (codes "{\"functions\":[") (map function_data sums) (functions_tail all whole)

@@ -1,6 +1,6 @@
 //! What the definitions of the texts mean.
 
-ghost use Rattle.std.specs.Prelude.{ℕ, ◌≡◌, ◌+◌, ◌*◌, ◌<◌, ◌≤◌, ◌^◌, List, All};
+ghost use Rattle.std.specs.Prelude.{ℕ, ◌≡◌, ◌+◌, ◌*◌, ◌<◌, ◌≤◌, ◌^◌, List, All, IfSome, Option};
 ghost use Rattle.view_texts.specs.JsonLaws.{IsJsonLine};
 ghost use Rattle.function_sums.specs.declared.sums.FunctionSum.{FunctionSum};
 ghost use Rattle.sum_texts.specs.FunctionJson.{functions_data, functions_line};
@@ -19,7 +19,8 @@ pub fn percentages_are_rounded()
 /// The line of JSON is the text of one value, which reads back from it, and a line feed that is its
 /// only one. The keys of each object rise. It holds where the numbers have 64 bits.
 pub fn function_lines_read_back()
-    ensures { (whole : ℕ) (sums : List FunctionSum) → whole < 2 ^ 64
+    ensures { (all : Option ℕ) (whole : ℕ) (sums : List FunctionSum) → whole < 2 ^ 64
+        → IfSome all (λ weight. weight < 2 ^ 64)
         → All (λ sum. (sum.own < 2 ^ 64) × (sum.total < 2 ^ 64)) sums
-        → IsJsonLine (functions_line whole sums) (functions_data whole sums) }
+        → IsJsonLine (functions_line all whole sums) (functions_data all whole sums) }
 {}

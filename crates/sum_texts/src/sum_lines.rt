@@ -9,7 +9,7 @@ ghost use Rattle.sample_tables.specs.declared.samples.Sample.{Sample};
 ghost use Rattle.function_sums.specs.FunctionSums.{AreFunctionSums};
 ghost use Rattle.run_options.specs.declared.orders.FunctionOrder.{FunctionOrder as Order};
 ghost use Rattle.sum_texts.specs.FunctionJson.{function_data, functions_line};
-ghost use Rattle.sum_texts.specs.Pieces.{functions_pieces, functions_tail};
+ghost use Rattle.sum_texts.specs.Pieces.{functions_end, functions_pieces, functions_tail};
 ghost use Rattle.sum_texts.specs.TopTexts.{top_line};
 
 use crate::first_sums::first_sums;
@@ -22,28 +22,29 @@ use std::alloc::{AllocError, Global};
 /// each function, and what stands after them is a piece.
 #[derive(Clone, Copy)]
 pub struct SumLine<'a> {
+    all: Option<u64>,
     whole: u64,
     sums: &'a [FunctionSum],
 }
 
 impl<'a> SumLine<'a> {
     /// The line of the first functions of a list, and of no more than so many. The whole is the weight
-    /// of all samples.
-    pub fn of(sums: &'a [FunctionSum], rows: u64, whole: u64) -> SumLine<'a>
+    /// of the samples, and `all` what they weigh with those that a filter leaves out, where that is told.
+    pub fn of(sums: &'a [FunctionSum], rows: u64, whole: u64, all: Option<u64>) -> SumLine<'a>
         ensures text { concat (⟦<SumLine<'a> as Pieces>⟧.pieces result)
-            ≡ functions_line whole (take rows sums.now) }
+            ≡ functions_line all whole (take rows sums.now) }
         ensures top { (by : Order) (samples : List Sample) → AreFunctionSums by samples sums.now
             → total_weight samples ≡ whole
-            → concat (⟦<SumLine<'a> as Pieces>⟧.pieces result) ≡ top_line by rows samples }
+            → concat (⟦<SumLine<'a> as Pieces>⟧.pieces result) ≡ top_line all by rows samples }
         ensures few { length (⟦<SumLine<'a> as Pieces>⟧.pieces result) < 2 ^ 64 }
     {
         let sums = first_sums(sums, rows);
-        SumLine { whole, sums }
+        SumLine { all, whole, sums }
     }
 }
 
 impl Pieces for SumLine<'_> {
-    ghost pieces = { λ line. functions_pieces line.whole line.sums.now };
+    ghost pieces = { λ line. functions_pieces line.all line.whole line.sums.now };
 
     fn count(&self) -> usize {
         self.sums.len() + 2
@@ -56,27 +57,29 @@ impl Pieces for SumLine<'_> {
             let place = at - 1;
             append_function(alloc, out, place > 0, &self.sums[place])
         } else {
-            append_tail(out, self.whole)
+            append_tail(out, self.all, self.whole)
         }
     }
 }
 
-/// Appends the line of JSON of the first functions of a list. An `Err` changes nothing.
+/// Appends the line of JSON of the first functions of a list, as `SumLine::of` has it. An `Err` changes
+/// nothing.
 pub fn append_sum_line(
     alloc: Global,
     out: &mut Vec<u8>,
     sums: &[FunctionSum],
     rows: u64,
     whole: u64,
+    all: Option<u64>,
 ) -> Result<(), AllocError>
     ensures ok { OnOk result
-        (out.new.items ≡ out.old.items ++ functions_line whole (take rows sums.now)) }
+        (out.new.items ≡ out.old.items ++ functions_line all whole (take rows sums.now)) }
     ensures top { OnOk result ((by : Order) (samples : List Sample)
         → AreFunctionSums by samples sums.now → total_weight samples ≡ whole
-        → out.new.items ≡ out.old.items ++ top_line by rows samples) }
+        → out.new.items ≡ out.old.items ++ top_line all by rows samples) }
     ensures err { OnErr result (out.new.items ≡ out.old.items) }
 {
-    append_pieces(alloc, &SumLine::of(sums, rows, whole), out)
+    append_pieces(alloc, &SumLine::of(sums, rows, whole, all), out)
 }
 
 // Appends a function, after a comma where another stands before it, or its front.
@@ -108,10 +111,22 @@ fn append_members(alloc: Global, out: &mut Vec<u8>, sum: &FunctionSum) -> Result
 }
 
 // Appends what stands after the functions, or its front.
-fn append_tail(out: &mut Vec<u8>, whole: u64) -> Result<(), AllocError>
-    ensures ok { OnOk result (out.new.items ≡ out.old.items ++ functions_tail whole) }
+fn append_tail(out: &mut Vec<u8>, all: Option<u64>, whole: u64) -> Result<(), AllocError>
+    ensures ok { OnOk result (out.new.items ≡ out.old.items ++ functions_tail all whole) }
     ensures front { StartsWith out.new.items out.old.items }
 {
     append_number(out, b"],\"total\":", whole)?;
-    out.extend_from_slice(b",\"view\":\"top\"}\n")
+    out.extend_from_slice(b",\"view\":\"top\"")?;
+    append_end(out, all)
+}
+
+// Appends the weight of all samples, where it is told, and the end of the line, or a front of that.
+fn append_end(out: &mut Vec<u8>, all: Option<u64>) -> Result<(), AllocError>
+    ensures ok { OnOk result (out.new.items ≡ out.old.items ++ functions_end all) }
+    ensures front { StartsWith out.new.items out.old.items }
+{
+    if let Some(weight) = all {
+        append_number(out, b",\"whole\":", weight)?;
+    }
+    out.extend_from_slice(b"}\n")
 }

@@ -30,7 +30,7 @@ fn assert_table(
     wanted: &str,
 ) -> Result<(), AllocError> {
     let mut out = Vec::from_slice(alloc, b"before\n")?;
-    append_sum_table(alloc, &mut out, &sums(alloc, rows)?, count, whole)?;
+    append_sum_table(alloc, &mut out, &sums(alloc, rows)?, count, whole, None)?;
     assert_eq!(rt; &out[..7], b"before\n".as_slice());
     assert_eq!(rt; &out[7..], wanted.as_bytes());
     Ok(())
@@ -46,7 +46,7 @@ fn assert_line(
     wanted: &str,
 ) -> Result<(), AllocError> {
     let mut out = Vec::from_slice(alloc, b"before\n")?;
-    append_sum_line(alloc, &mut out, &sums(alloc, rows)?, count, whole)?;
+    append_sum_line(alloc, &mut out, &sums(alloc, rows)?, count, whole, None)?;
     assert_eq!(rt; &out[..7], b"before\n".as_slice());
     assert_eq!(rt; &out[7..], wanted.as_bytes());
     Ok(())
@@ -57,12 +57,12 @@ fn example_of_the_readme(rt: HostRuntime) -> Result<(), Fail> {
     let alloc = rt.alloc();
     let sums = sums(alloc, &[("read", 7, 7), ("main", 1, 8)])?;
     let mut out = Vec::new(alloc);
-    append_sum_table(alloc, &mut out, &sums, 10, 8)?;
-    append_sum_line(alloc, &mut out, &sums, 1, 8)?;
-    let wanted = "own    own%  total   total%  name
-  7  87.50%      7   87.50%  read
-  1  12.50%      8  100.00%  main
-{\"functions\":[{\"name\":\"read\",\"own\":7,\"total\":7}],\"total\":8,\"view\":\"top\"}
+    append_sum_table(alloc, &mut out, &sums, 10, 8, Some(32))?;
+    append_sum_line(alloc, &mut out, &sums, 1, 8, Some(32))?;
+    let wanted = "own    own%  total   total%  whole%  name
+  7  87.50%      7   87.50%  21.88%  read
+  1  12.50%      8  100.00%  25.00%  main
+{\"functions\":[{\"name\":\"read\",\"own\":7,\"total\":7}],\"total\":8,\"view\":\"top\",\"whole\":32}
 ";
     assert_eq!(rt; out.as_slice(), wanted.as_bytes());
     Ok(())
@@ -146,6 +146,26 @@ fn no_functions(rt: HostRuntime) -> Result<(), Fail> {
 fn a_whole_of_nothing(rt: HostRuntime) -> Result<(), Fail> {
     let wanted = "own   own%  total  total%  name\n  1  0.00%      2   0.00%  a\n";
     assert_table(&rt, rt.alloc(), &[("a", 1, 2)], 1, 0, wanted)?;
+    Ok(())
+}
+
+#[test]
+fn the_column_of_the_whole_is_as_wide_as_needed(rt: HostRuntime) -> Result<(), Fail> {
+    let alloc = rt.alloc();
+    let sums = sums(alloc, &[("a", 3, 3), ("b", 0, 1)])?;
+    let mut out = Vec::new(alloc);
+    append_sum_table(alloc, &mut out, &sums, 2, 3, Some(3))?;
+    append_sum_table(alloc, &mut out, &sums, 1, 3, Some(u64::MAX))?;
+    append_sum_table(alloc, &mut out, &sums, 1, 0, Some(0))?;
+    let wanted = "own     own%  total   total%   whole%  name
+  3  100.00%      3  100.00%  100.00%  a
+  0    0.00%      1   33.33%   33.33%  b
+own     own%  total   total%  whole%  name
+  3  100.00%      3  100.00%   0.00%  a
+own   own%  total  total%  whole%  name
+  3  0.00%      3   0.00%   0.00%  a
+";
+    assert_eq!(rt; out.as_slice(), wanted.as_bytes());
     Ok(())
 }
 

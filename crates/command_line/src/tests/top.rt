@@ -8,13 +8,6 @@ use std::alloc::Global;
 use std::process::Abort;
 use std::test::Fail;
 
-// The table where no word sets it.
-const DEFAULTS: TopTable = TopTable {
-    by: FunctionOrder::Own,
-    rows: 10,
-    is_json: false,
-};
-
 // Whether a plan is of such a table, and has no file and no other option.
 fn is_plain_table(plan: &Plan, table: TopTable) -> bool {
     plan.view == View::Top(table) && options_are_defaults(&plan.options) && has_files(plan, &[])
@@ -34,45 +27,21 @@ fn expect_table(
 #[test]
 fn tables_of_functions(rt: HostRuntime) -> Result<(), Fail> {
     let tables = [
-        ("top", DEFAULTS),
-        (
-            "top -n 3",
-            TopTable {
-                rows: 3,
-                ..DEFAULTS
-            },
-        ),
-        (
-            "top -n1",
-            TopTable {
-                rows: 1,
-                ..DEFAULTS
-            },
-        ),
+        ("top", FunctionOrder::Own, 10, false),
+        ("top -n 3", FunctionOrder::Own, 3, false),
+        ("top -n1", FunctionOrder::Own, 1, false),
         (
             "top --number 1000000000",
-            TopTable {
-                rows: 1_000_000_000,
-                ..DEFAULTS
-            },
+            FunctionOrder::Own,
+            1_000_000_000,
+            false,
         ),
-        ("top --by own", DEFAULTS),
-        (
-            "top --by=total",
-            TopTable {
-                by: FunctionOrder::Total,
-                ..DEFAULTS
-            },
-        ),
-        (
-            "top --json",
-            TopTable {
-                is_json: true,
-                ..DEFAULTS
-            },
-        ),
+        ("top --by own", FunctionOrder::Own, 10, false),
+        ("top --by=total", FunctionOrder::Total, 10, false),
+        ("top --json", FunctionOrder::Own, 10, true),
     ];
-    for (line, table) in tables {
+    for (line, by, rows, is_json) in tables {
+        let table = TopTable { by, rows, is_json };
         expect_table(&rt, rt.alloc(), line, table)?;
     }
     Ok(())

@@ -10,6 +10,7 @@ use Rattle.byte_io.specs.Pieces.{AppendsFront}
 use Rattle.opened_sources.specs.Failures.{has_fault}
 use Rattle.opened_sources.specs.declared.failures.Failure.{Failure}
 use Rattle.opened_sources.specs.declared.failures.Failure.TheVariants.{TooManyFiles, Unreadable, TooLarge, OutOfMemory, NoThread, Unfinished, Faults, Output}
+use Rattle.sent_views.specs.declared.run_facts.RunFacts.{RunFacts}
 use Rattle.flame_tool.specs.Runs.{HasFault, ShowsFront}
 
 -- the output is as it was, unless a text was not sent whole
@@ -24,15 +25,15 @@ KeepsOutput old new Faults = Keeps old new
 KeepsOutput old new (Output fault) = Unit {0}
 
 -- what a failed run of the plan says of the sources and of the output
-abbrev pub Fails : Plan → Option (List ℕ) → Option (List ℕ) → Failure → List Rest → Type 0
-Fails plan old new TooManyFiles rests = Unit {0}
-Fails plan old new (Unreadable source) rests = Unit {0}
-Fails plan old new (TooLarge source) rests = Unit {0}
-Fails plan old new OutOfMemory rests = Unit {0}
-Fails plan old new NoThread rests = Unit {0}
-Fails plan old new (Unfinished source) rests = Unit {0}
-Fails plan old new Faults rests = HasFault rests
-Fails plan old new (Output fault) rests = ShowsFront plan old new rests
+abbrev pub Fails : Plan → Option RunFacts → Option (List ℕ) → Option (List ℕ) → Failure → List Rest → Type 0
+Fails plan known old new TooManyFiles rests = Unit {0}
+Fails plan known old new (Unreadable source) rests = Unit {0}
+Fails plan known old new (TooLarge source) rests = Unit {0}
+Fails plan known old new OutOfMemory rests = Unit {0}
+Fails plan known old new NoThread rests = Unit {0}
+Fails plan known old new (Unfinished source) rests = Unit {0}
+Fails plan known old new Faults rests = HasFault rests
+Fails plan known old new (Output fault) rests = ShowsFront plan known old new rests
 
 -- a text of lists was not sent whole: for want of memory, for a fault in a list, or since its sending failed
 abbrev pub FailsToShow : List ListState → List ℕ → Option (List ℕ) → Option (List ℕ) → Failure → Type 0

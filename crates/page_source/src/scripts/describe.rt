@@ -3,16 +3,21 @@
 pub(crate) const TEXT: &str = r##"function detailsOf(page, drawing, span, box) {
 const { unit } = page;
 const weight = drawing.weight[box];
-const whole = percentText(weight, drawing.total);
 const isZoomed = span.to - span.from < drawing.total;
 const zoomed = isZoomed ? `, ${percentText(weightInSpan(drawing, box, span), span.to - span.from)} of what is zoomed` : '';
-const details = [`${exactText(weight, unit)}, ${whole} of the whole${zoomed}`, `own ${exactText(drawing.own[box], unit)}`];
+const details = [`${exactText(weight, unit)}, ${sharesText(page, drawing, weight)}${zoomed}`, `own ${exactText(drawing.own[box], unit)}`];
 if (drawing.other) {
 const { before, after } = bothWeights(page, drawing, box);
 details.push(`before ${exactText(before, unit)}, after ${exactText(after, unit)}: ${changeText(before, after)}`);
 }
 if (page.view === 'chart') details.push(placeText(page, drawing, box));
 return details;
+}
+function sharesText(page, drawing, weight) {
+const share = percentText(weight, drawing.total);
+if (!page.isFiltered) return `${share} of the whole`;
+const hasWhole = page.view !== 'compare' && drawing.at === undefined;
+return `${share} of what is kept${hasWhole ? `, ${percentText(weight, page.whole)} of the whole` : ''}`;
 }
 function placeText(page, drawing, box) {
 const from = drawing.start[box];
@@ -51,12 +56,18 @@ function typesNotice(page) {
 const told = page.sources.map(({ name, type }) => `${shortened(name, 60)} has ${visible(type)}`);
 return `The sources have different types of samples: ${told.join(', ')}.`;
 }
+function filterNotice(page) {
+const share = percentText(page.kept, page.whole);
+const kept = share === '100%' ? 'more than 99.9%' : share;
+const whole = page.view === 'compare' ? 'the whole of both profiles' : 'the whole';
+return `A filter keeps ${kept} of ${whole}: ${exactText(page.kept, page.unit)} of ${exactText(page.whole, page.unit)}.`;
+}
 function noticesOf(page, drawing) {
 const notices = [];
 if (page.unit === null) notices.push(unitsNotice(page));
 else if (new Set(page.sources.map((source) => source.type)).size > 1) notices.push(typesNotice(page));
-const most = page.sources.reduce((sum, source) => sum + source.weight, 0);
-if (most > Number.MAX_SAFE_INTEGER) {
+if (page.isFiltered) notices.push(filterNotice(page));
+if (Math.max(page.kept, page.whole) > Number.MAX_SAFE_INTEGER) {
 const limit = separated(Number.MAX_SAFE_INTEGER);
 notices.push(`Weights above ${limit} are rounded here: JavaScript has no more digits. The data in the document is exact.`);
 }
@@ -69,11 +80,17 @@ notices.push(`Left out: ${many} of together ${exactText(weight, page.unit)}, eac
 if (drawing.count === 0 && boxes === 0) notices.push('No sample has weight, so there is nothing to draw.');
 return notices;
 }
+function countsText(page, counts) {
+const most = 8;
+const told = page.sources.slice(0, most).map(({ name }, source) => `${separated(counts[source])} of ${shortened(name, 60)}`);
+const others = counts.slice(most).reduce((sum, count) => sum + count, 0);
+return told.join(', ') + (counts.length > most ? ` and ${separated(others)} of ${counts.length - most} more sources` : '');
+}
 function drawingText(page, drawing, number) {
 if (page.view === 'compare') return `${number === 0 ? 'before' : 'after'}: ${shortened(page.sources[number].name, 100)}`;
 if (page.drawingCount === 1) return '';
 if (drawing.at === undefined) return 'all samples';
-const parts = drawing.counts.length > 1 ? ` (${drawing.counts.map(separated).join(' + ')})` : '';
-return `the first ${separated(drawing.at)} samples${parts}`;
+const first = drawing.at === 1 ? 'the first sample' : `the first ${separated(drawing.at)} samples`;
+return page.sources.length > 1 ? `${first}: ${countsText(page, drawing.counts)}` : first;
 }
 "##;

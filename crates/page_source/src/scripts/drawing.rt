@@ -86,6 +86,9 @@ title: data.title,
 names: data.names,
 sources,
 unit: commonUnit(sources),
+whole: data.whole,
+kept: start,
+isFiltered: data.whole > start + data.whole * 2 ** -50,
 drawingCount: data.drawings.length,
 drawing(number) {
 if (!made[number]) {

@@ -16,6 +16,7 @@ const matching = nameMatcher(page.names);
 const showFunctions = functionTable(page, (name) => change({ find: name, by: 'name' }, true));
 let view = null;
 let hovered = -1;
+let wished = null;
 function searched(state, drawing) {
 if (state.find === '') return { matches: null, isRefused: false };
 const isSame = view && view.matches && view.drawing === drawing && view.state.find === state.find && view.state.by === state.by;
@@ -84,8 +85,16 @@ showFocus();
 function turnTo(number) {
 const { state, drawing } = view;
 const other = page.drawing(number);
-const same = (box) => (drawing.count && other.count ? boxAt(page, other, pathOf(page, drawing, box), drawing.start[box]) : 0);
-change({ drawing: number, box: same(state.box), focus: same(state.focus) }, false);
+const isWished = wished && wished.drawing === state.drawing && wished.box === state.box;
+const zoomed = isWished ? wished.path : pathTo(drawing, state.box);
+const find = (path, start) => (other.count ? boxAt(page, other, path, start) : 0);
+const box = find(zoomed, drawing.start[state.box]);
+const focus = state.focus === state.box ? box : find(pathTo(drawing, state.focus), drawing.start[state.focus]);
+wished = { drawing: number, box, path: zoomed };
+change({ drawing: number, box, focus }, false);
+}
+function pathTo(drawing, box) {
+return drawing.count ? pathOf(page, drawing, box) : [];
 }
 function toMatch(isForward) {
 if (!view.matches) return;

@@ -57,6 +57,7 @@ fn data_of(
         sources: &[source],
         title,
         view: "graph",
+        whole: 5,
     };
     let mut out = Vec::new(alloc);
     append_page_data(alloc, &mut out, &page)?;
@@ -68,7 +69,7 @@ fn example_of_the_page(rt: HostRuntime) -> Result<(), Fail> {
     let data = data_of(rt.alloc(), 0, None, "small.folded")?;
     assert_eq!(rt;
         data.as_slice(),
-        b"{\"drawings\":[{\"depth\":[0,1,2],\"least\":0,\"left_out\":{\"boxes\":0,\"weight\":0},\"name\":[0,1,2],\"own\":[0,1,2],\"start\":[0,0,1],\"total\":3,\"weight\":[3,3,2]}],\"names\":[\"all\",\"main\",\"read\\u003cint\\u003e\"],\"sources\":[{\"name\":\"small.folded\",\"type\":\"\",\"unit\":\"\",\"weight\":3}],\"title\":\"small.folded\",\"view\":\"graph\"}".as_slice()
+        b"{\"drawings\":[{\"depth\":[0,1,2],\"least\":0,\"left_out\":{\"boxes\":0,\"weight\":0},\"name\":[0,1,2],\"own\":[0,1,2],\"start\":[0,0,1],\"total\":3,\"weight\":[3,3,2]}],\"names\":[\"all\",\"main\",\"read\\u003cint\\u003e\"],\"sources\":[{\"name\":\"small.folded\",\"type\":\"\",\"unit\":\"\",\"weight\":3}],\"title\":\"small.folded\",\"view\":\"graph\",\"whole\":5}".as_slice()
     );
     Ok(())
 }
@@ -82,7 +83,7 @@ fn narrow_boxes_are_told(rt: HostRuntime) -> Result<(), Fail> {
     let data = data_of(rt.alloc(), 3, Some(moment), "</script>&\u{2028}\u{2029}")?;
     assert_eq!(rt;
         data.as_slice(),
-        b"{\"drawings\":[{\"at\":2,\"counts\":[2],\"depth\":[0,1],\"least\":3,\"left_out\":{\"boxes\":1,\"weight\":2},\"name\":[0,1],\"own\":[0,1],\"start\":[0,0],\"total\":3,\"weight\":[3,3]}],\"names\":[\"all\",\"main\"],\"sources\":[{\"name\":\"small.folded\",\"type\":\"\",\"unit\":\"\",\"weight\":3}],\"title\":\"\\u003c/script\\u003e\\u0026\\u2028\\u2029\",\"view\":\"graph\"}".as_slice()
+        b"{\"drawings\":[{\"at\":2,\"counts\":[2],\"depth\":[0,1],\"least\":3,\"left_out\":{\"boxes\":1,\"weight\":2},\"name\":[0,1],\"own\":[0,1],\"start\":[0,0],\"total\":3,\"weight\":[3,3]}],\"names\":[\"all\",\"main\"],\"sources\":[{\"name\":\"small.folded\",\"type\":\"\",\"unit\":\"\",\"weight\":3}],\"title\":\"\\u003c/script\\u003e\\u0026\\u2028\\u2029\",\"view\":\"graph\",\"whole\":5}".as_slice()
     );
     Ok(())
 }
@@ -105,12 +106,13 @@ fn comparison_has_the_other_weights(rt: HostRuntime) -> Result<(), Fail> {
         sources: &[],
         title: "",
         view: "compare",
+        whole: 5,
     };
     let mut out = Vec::new(alloc);
     append_page_data(alloc, &mut out, &page)?;
     assert_eq!(rt;
         out.as_slice(),
-        b"{\"drawings\":[{\"depth\":[0,1,2],\"least\":0,\"left_out\":{\"boxes\":0,\"weight\":0},\"name\":[0,1,2],\"other\":[7,5,0],\"own\":[0,1,2],\"start\":[0,0,1],\"total\":3,\"weight\":[3,3,2]}],\"names\":[\"all\",\"main\",\"read\\u003cint\\u003e\"],\"sources\":[],\"title\":\"\",\"view\":\"compare\"}".as_slice()
+        b"{\"drawings\":[{\"depth\":[0,1,2],\"least\":0,\"left_out\":{\"boxes\":0,\"weight\":0},\"name\":[0,1,2],\"other\":[7,5,0],\"own\":[0,1,2],\"start\":[0,0,1],\"total\":3,\"weight\":[3,3,2]}],\"names\":[\"all\",\"main\",\"read\\u003cint\\u003e\"],\"sources\":[],\"title\":\"\",\"view\":\"compare\",\"whole\":5}".as_slice()
     );
     Ok(())
 }
@@ -135,11 +137,12 @@ fn long_columns_are_whole(rt: HostRuntime) -> Result<(), Fail> {
         sources: &[],
         title: "",
         view: "chart",
+        whole: 5,
     };
     let mut out = Vec::new(alloc);
     append_page_data(alloc, &mut out, &page)?;
     // Five columns of 2500 digits with 2499 commas, and what stands round them.
-    assert_eq!(rt; out.len(), 5 * (2500 + 2499) + 181);
+    assert_eq!(rt; out.len(), 5 * (2500 + 2499) + 191);
     Ok(())
 }
 
@@ -158,6 +161,7 @@ fn example_of_the_readme(rt: HostRuntime) -> Result<(), Fail> {
         sources: &[],
         title: "<small>",
         view: "graph",
+        whole: 3,
     };
     let mut data = Vec::new(alloc);
     append_page_data(alloc, &mut data, &page)?;

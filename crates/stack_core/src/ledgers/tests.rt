@@ -1,4 +1,4 @@
-ghost use Rattle.std.specs.Prelude.{◌≡◌, None, length, IfOk};
+ghost use Rattle.std.specs.Prelude.{◌≡◌, ◌+◌, None, length, IfOk, OnOk};
 
 use super::*;
 use crate::endings::SourceEnd;
@@ -7,18 +7,27 @@ use std::test::Fail;
 
 mod asked_again;
 
-use asked_again::{numbers, take_again, take_row_again, tell_again};
+use asked_again::{numbers, take_again, take_row, take_row_again, tell_again};
 
 const CLEAN: SourceEnd = SourceEnd::Clean { ignored: 0 };
 
-/// A ledger that was told `a` and `b`.
-fn of_two_names(alloc: Global) -> Result<Ledger, AllocError>
+/// Tells a name.
+fn tell(alloc: Global, ledger: &mut Ledger, name: &str) -> Result<(), AllocError>
+    requires { ledger.old.close ≡ None }
+    ensures open { ledger.new.close ≡ None }
+    ensures told { OnOk result (length ledger.new.told ≡ length ledger.old.told + 1) }
+{
+    ledger.tell(Text::from_str(alloc, name)?)
+}
+
+/// A ledger that was told these names.
+fn of_two_names(alloc: Global, first: &str, second: &str) -> Result<Ledger, AllocError>
     ensures open { IfOk result (λ ledger. ledger.close ≡ None) }
     ensures told { IfOk result (λ ledger. length ledger.told ≡ 2) }
 {
     let mut ledger = Ledger::new(alloc);
-    ledger.tell(Text::from_str(alloc, "a")?)?;
-    ledger.tell(Text::from_str(alloc, "b")?)?;
+    tell(alloc, &mut ledger, first)?;
+    tell(alloc, &mut ledger, second)?;
     Ok(ledger)
 }
 
@@ -80,7 +89,7 @@ fn told_name_of(ledger: &Ledger, k: usize) -> Option<&str> {
 fn of_two_stacks(alloc: Global) -> Result<Ledger, AllocError>
     ensures { IfOk result (λ ledger. ledger.close ≡ None) }
 {
-    let mut ledger = of_two_names(alloc)?;
+    let mut ledger = of_two_names(alloc, "a", "b")?;
     ledger.take_row(Listed::of(vec![in alloc; 0, 1]?), 2)?;
     ledger.keep([1].as_slice())?;
     ledger.take_again(1, 5)?;
@@ -119,37 +128,29 @@ fn samples_of_a_stack_taken_again(rt: HostRuntime) -> Result<(), Fail> {
     Ok(())
 }
 
+/// A row of both names, and one of the first.
+fn of_two_rows(alloc: Global, first: &str, second: &str) -> Result<Ledger, AllocError>
+    ensures { IfOk result (λ ledger. ledger.close ≡ None) }
+{
+    let mut ledger = of_two_names(alloc, first, second)?;
+    ledger.take_row(Listed::of(vec![in alloc; 0, 1]?), 2)?;
+    take_row(alloc, &mut ledger, 1)?;
+    Ok(ledger)
+}
+
 // The example of README.md.
 #[test]
 fn example_of_the_page(rt: HostRuntime) -> Result<(), Fail> {
-    let alloc = rt.alloc();
-    let mut ledger = Ledger::new(alloc);
-    ledger.tell(Text::from_str(alloc, "main")?)?;
-    ledger.tell(Text::from_str(alloc, "parse")?)?;
-    ledger.take_row(Listed::of(vec![in alloc; 0, 1]?), 5)?;
-    ledger.take_row(Listed::of(vec![in alloc; 0]?), 2)?;
-    ledger.close(Close::Read(SourceEnd::Clean { ignored: 0 }));
-
-    let list = ledger.into_list();
+    let list = list_of(of_two_rows(rt.alloc(), "main", "parse")?);
     assert_eq!(rt; list.len(), 2);
-    assert_eq!(rt; list.name(0, 1), "parse");
-    assert_eq!(rt; list.total(), 7);
+    assert_eq!(rt; name_of(&list, 0, 1), Some("parse"));
+    assert_eq!(rt; list.total(), 3);
     Ok(())
-}
-
-/// A row of both names, and one of the first.
-fn of_two_rows(alloc: Global) -> Result<Ledger, AllocError>
-    ensures { IfOk result (λ ledger. ledger.close ≡ None) }
-{
-    let mut ledger = of_two_names(alloc)?;
-    ledger.take_row(Listed::of(vec![in alloc; 0, 1]?), 2)?;
-    ledger.take_row(Listed::of(vec![in alloc; 0]?), 1)?;
-    Ok(ledger)
 }
 
 #[test]
 fn names_told_once(rt: HostRuntime) -> Result<(), Fail> {
-    let ledger = of_two_rows(rt.alloc())?;
+    let ledger = of_two_rows(rt.alloc(), "a", "b")?;
     assert_eq!(rt; ledger.told(), 2);
     assert_eq!(rt; told_name_of(&ledger, 1), Some("b"));
     assert_eq!(rt; ledger.count(), 2);
@@ -159,7 +160,7 @@ fn names_told_once(rt: HostRuntime) -> Result<(), Fail> {
 
 #[test]
 fn list_of_names_told_once(rt: HostRuntime) -> Result<(), Fail> {
-    let list = list_of(of_two_rows(rt.alloc())?);
+    let list = list_of(of_two_rows(rt.alloc(), "a", "b")?);
     assert_eq!(rt; list.len(), 2);
     assert!(rt; has_sample(&list, 0, [0, 1].as_slice(), 2));
     assert!(rt; has_sample(&list, 1, [0].as_slice(), 1));
@@ -170,7 +171,7 @@ fn list_of_names_told_once(rt: HostRuntime) -> Result<(), Fail> {
 
 #[test]
 fn names_of_a_list(rt: HostRuntime) -> Result<(), Fail> {
-    let list = list_of(of_two_rows(rt.alloc())?);
+    let list = list_of(of_two_rows(rt.alloc(), "a", "b")?);
     assert_eq!(rt; name_of(&list, 0, 1), Some("b"));
     assert_eq!(rt; number_of(&list, 1, 0), Some(0));
     assert_eq!(rt; list.told(), 2);

@@ -1,5 +1,5 @@
 -- How wide the columns of a table are.
-use Rattle.std.specs.Prelude.{ℕ, List}
+use Rattle.std.specs.Prelude.{ℕ, List, [], Option, unwrap_or}
 use Rattle.function_sums.specs.declared.sums.FunctionSum.{FunctionSum}
 use Rattle.sum_texts.specs.FunctionTable.{Entries, widest, lines_of}
 use Rattle.sum_texts.specs.declared.widths.Widths.{Widths}
@@ -10,7 +10,8 @@ widths_in lines = record {
   own_percent = widest (λ line. line.own_percent) lines;
   total = widest (λ line. line.total) lines;
   total_percent = widest (λ line. line.total_percent) lines;
+  whole_percent = widest (λ line. unwrap_or line.whole_percent []) lines;
 }
 
-abbrev pub widths_of : ℕ → List FunctionSum → Widths
-widths_of whole sums = widths_in (lines_of whole sums)
+abbrev pub widths_of : Option ℕ → ℕ → List FunctionSum → Widths
+widths_of all whole sums = widths_in (lines_of all whole sums)

@@ -1,7 +1,7 @@
 use Rattle.std.proofs.Common.{arith, rules, ◌≡◌, inl, inr, [], length, map, string_bytes, Some}
 use Rattle.command_line.specs.CommandLine.{command_line}
 use Rattle.command_line.specs.Plans.{IsFaultAmong, fault_of, plan_of}
-use Rattle.flame_tool.proofs.RunEndings.{accepted_none, accepted_some, asked_exactly, asked_page, asks_if_help, input_front, input_text, partly_help, some_asked}
+use Rattle.flame_tool.proofs.RunEndings.{accepted_none, accepted_some, asked_exactly, asked_page, asked_whole, asks_if_help, input_front, input_text, none_asked, partly_by_plan, partly_help, some_asked, some_faultless}
 use Rattle.flame_tool.proofs.program.run.Goals as goal
 
 pub returns-in-Ok-clause-shown_exactly : goal.returns-in-Ok-clause-shown_exactly
@@ -9,6 +9,12 @@ returns-in-Ok-clause-shown_exactly g c =
     let some : length c.args.words.items ≡ 0 → ⊥ = search rules in
     let planned : plan_of (map string_bytes c.args.words.items) ≡ Some c.in-Ok.plan = search rules in
     λ zero. inr (asked_exactly (map string_bytes c.args.words.items) c.in-Ok.plan (g.F.Files.known_input c.args.files.now) (g.F.Files.known_file c.args.files.now) _ _ (some_asked string_bytes c.args.words.items c.in-Ok.plan some planned) (c.run_plan-in-Ok.ensures.shown zero))
+
+pub returns-in-Ok-clause-shown_with_whole : goal.returns-in-Ok-clause-shown_with_whole
+returns-in-Ok-clause-shown_with_whole g c =
+    let some : length c.args.words.items ≡ 0 → ⊥ = search rules in
+    let planned : plan_of (map string_bytes c.args.words.items) ≡ Some c.in-Ok.plan = search rules in
+    λ zero. inr (asked_whole (map string_bytes c.args.words.items) c.in-Ok.plan (g.F.Files.known_input c.args.files.now) (g.F.Files.known_file c.args.files.now) _ _ (some_asked string_bytes c.args.words.items c.in-Ok.plan some planned) (c.run_plan-in-Ok.ensures.shown zero))
 
 pub returns-in-Ok-clause-shown_page : goal.returns-in-Ok-clause-shown_page
 returns-in-Ok-clause-shown_page g c =
@@ -49,6 +55,12 @@ returns-clause-shown_exactly g c =
     let among : IsFaultAmong (fault_of command_line (map string_bytes c.args.words.items)) c.in-Err.fault = search rules in
     λ zero. inl (asks_if_help string_bytes c.args.words.items c.in-Err.fault some among (c.refuse.ensures.help (omega (arith, zero))))
 
+pub returns-clause-shown_with_whole : goal.returns-clause-shown_with_whole
+returns-clause-shown_with_whole g c =
+    let some : length c.args.words.items ≡ 0 → ⊥ = search rules in
+    let among : IsFaultAmong (fault_of command_line (map string_bytes c.args.words.items)) c.in-Err.fault = search rules in
+    λ zero. inl (asks_if_help string_bytes c.args.words.items c.in-Err.fault some among (c.refuse.ensures.help (omega (arith, zero))))
+
 pub returns-clause-shown_page : goal.returns-clause-shown_page
 returns-clause-shown_page g c =
     let some : length c.args.words.items ≡ 0 → ⊥ = search rules in
@@ -84,3 +96,21 @@ returns-in-Ok-clause-followed g c =
 
 pub returns-clause-followed : goal.returns-clause-followed
 returns-clause-followed g c = λ one. absurd (c.refuse.ensures.no_fault one)
+
+pub returns-then-is_empty-clause-partly_followed : goal.returns-then-is_empty-clause-partly_followed
+returns-then-is_empty-clause-partly_followed g c =
+    let none : length c.args.words.items ≡ 0 = search rules in
+    λ three. partly_by_plan (map string_bytes c.args.words.items) c.plan_without_words.result (g.F.Files.known_input c.args.files.now) (g.F.Files.known_file c.args.files.now) _ _ (none_asked string_bytes c.args.words.items c.plan_without_words.result none c.plan_without_words.ensures.plan) (accepted_none string_bytes c.args.words.items none).0 (c.run_plan.ensures.front three)
+
+pub returns-in-Ok-clause-partly_followed : goal.returns-in-Ok-clause-partly_followed
+returns-in-Ok-clause-partly_followed g c =
+    let some : length c.args.words.items ≡ 0 → ⊥ = search rules in
+    let planned : plan_of (map string_bytes c.args.words.items) ≡ Some c.in-Ok.plan = search rules in
+    let faultless : fault_of command_line (map string_bytes c.args.words.items) ≡ [] = search rules in
+    λ three. partly_by_plan (map string_bytes c.args.words.items) c.in-Ok.plan (g.F.Files.known_input c.args.files.now) (g.F.Files.known_file c.args.files.now) _ _ (some_asked string_bytes c.args.words.items c.in-Ok.plan some planned) (some_faultless string_bytes c.args.words.items some faultless) (c.run_plan-in-Ok.ensures.front three)
+
+pub returns-clause-partly_followed : goal.returns-clause-partly_followed
+returns-clause-partly_followed g c =
+    let some : length c.args.words.items ≡ 0 → ⊥ = search rules in
+    let among : IsFaultAmong (fault_of command_line (map string_bytes c.args.words.items)) c.in-Err.fault = search rules in
+    λ three. partly_help string_bytes c.args.words.items c.in-Err.fault _ _ some among (c.refuse.ensures.front three)

@@ -1,4 +1,4 @@
-use Rattle.std.proofs.Common.{◌≡◌, ℕ, List, Option, IfSome, IfErr, OnOk, subst, rules, map, get_or, string_bytes}
+use Rattle.std.proofs.Common.{◌≡◌, ℕ, List, IfSome, IfErr, OnOk, subst, rules, map, get_or, string_bytes}
 use Rattle.std.specs.Prelude.{option_and_then, slice_get}
 use Rattle.flame_tool.specs.TypeRuns.{ShowsTypes}
 use Rattle.flame_tool.specs.checked.TypeFailures.{FailsTypes}

@@ -1,14 +1,17 @@
-use Rattle.std.proofs.Common.{rules, refl, sym}
+use Rattle.std.proofs.Common.{◌∙◌, ap, map, rules, refl, sym}
 use Rattle.merged_stacks.specs.Timeline.{samples_of}
-use Rattle.flame_tool.proofs.KnownSources.{collected_of, ok_shown_as, err_shown_as}
-use Rattle.flame_tool.proofs.RunEndings.{graph_shown, orderless_shown}
+use Rattle.source_lists.specs.Types.{source_type}
+use Rattle.sent_views.specs.declared.run_facts.RunFacts.{RunFacts}
+use Rattle.flame_tool.specs.KnownFacts.{facts_of}
+use Rattle.flame_tool.proofs.KnownSources.{collected_of, loaded, loaded_types, loaded_weight, ok_shown_as, err_shown_as}
+use Rattle.flame_tool.proofs.RunEndings.{graph_shown, orderless_shown, same_shown}
 use Rattle.flame_tool.proofs.views_run.show_sources.Goals as goal
 
 pub returns-in_ok-gathered-in-Some-clause-ok : goal.returns-in_ok-gathered-in-Some-clause-ok
 returns-in_ok-gathered-in-Some-clause-ok g c = λ input files opened.
     let plan = c.args.plan.now in
     let gathered = c.in_ok-gathered-in-Some.gathered in
-    let text = graph_shown plan _ (samples_of gathered.lists) gathered.order gathered.every c.in-Some.ensures.form c.in-Some.ensures.view in
+    let text = graph_shown plan (facts_of plan.options (loaded c.args.sources.items)) (samples_of gathered.lists) gathered.order gathered.every _ c.in-Some.ensures.form c.in-Some.ensures.view in
     ok_shown_as plan input files c.args.sources.items gathered.lists gathered.order gathered.every
     (collected_of plan input files _ c.args.sources.items gathered.lists gathered.order gathered.every refl opened
     (c.in_ok-gathered-in-Some.ensures.whole_lists (search rules)) c.in_ok-gathered-in-Some.ensures.order c.in_ok-gathered-in-Some.ensures.every)
@@ -18,7 +21,7 @@ pub returns-in_ok-gathered-in-Some-clause-err : goal.returns-in_ok-gathered-in-S
 returns-in_ok-gathered-in-Some-clause-err g c = λ input files opened.
     let plan = c.args.plan.now in
     let gathered = c.in_ok-gathered-in-Some.gathered in
-    let text = graph_shown plan _ (samples_of gathered.lists) gathered.order gathered.every c.in-Some.ensures.form c.in-Some.ensures.view in
+    let text = graph_shown plan (facts_of plan.options (loaded c.args.sources.items)) (samples_of gathered.lists) gathered.order gathered.every _ c.in-Some.ensures.form c.in-Some.ensures.view in
     err_shown_as plan input files c.args.sources.items gathered.lists gathered.order gathered.every
     (collected_of plan input files _ c.args.sources.items gathered.lists gathered.order gathered.every refl opened
     (c.in_ok-gathered-in-Some.ensures.whole_lists (search rules)) c.in_ok-gathered-in-Some.ensures.order c.in_ok-gathered-in-Some.ensures.every)
@@ -28,7 +31,11 @@ pub returns-in_ok-run-in-None-clause-ok : goal.returns-in_ok-run-in-None-clause-
 returns-in_ok-run-in-None-clause-ok g c = λ input files opened.
     let plan = c.args.plan.now in
     let run = c.in_ok-run-in-None.run'.kept in
-    let text = orderless_shown plan (samples_of run.lists) run.order plan.options.every (c.in-None.ensures.none refl) in
+    let sources = c.args.sources.items in
+    let facts : RunFacts = record { whole = c.in_ok-run-in-None.run'.whole_weight; types = c.of.result } in
+    let weighed = c.in_ok-run-in-None.ensures.whole_weight ∙ loaded_weight plan.options sources in
+    let told = ap (map (source_type plan.options)) c.deref.ensures.value ∙ loaded_types plan.options sources in
+    let text = same_shown plan (facts_of plan.options (loaded sources)) facts (samples_of run.lists) run.order plan.options.every (sym weighed) (λ page is. sym (c.of.ensures ∙ c.in_ok-types-in-None.ensures page is ∙ told)) ∙ orderless_shown plan facts (samples_of run.lists) run.order plan.options.every (c.in-None.ensures.none refl) in
     ok_shown_as plan input files c.args.sources.items run.lists run.order plan.options.every
     (collected_of plan input files _ c.args.sources.items run.lists run.order plan.options.every refl opened
     c.in_ok-run-in-None.ensures.whole_lists c.in_ok-run-in-None.ensures.order refl)
@@ -38,7 +45,11 @@ pub returns-in_ok-run-in-None-clause-err : goal.returns-in_ok-run-in-None-clause
 returns-in_ok-run-in-None-clause-err g c = λ input files opened.
     let plan = c.args.plan.now in
     let run = c.in_ok-run-in-None.run'.kept in
-    let text = orderless_shown plan (samples_of run.lists) run.order plan.options.every (c.in-None.ensures.none refl) in
+    let sources = c.args.sources.items in
+    let facts : RunFacts = record { whole = c.in_ok-run-in-None.run'.whole_weight; types = c.of.result } in
+    let weighed = c.in_ok-run-in-None.ensures.whole_weight ∙ loaded_weight plan.options sources in
+    let told = ap (map (source_type plan.options)) c.deref.ensures.value ∙ loaded_types plan.options sources in
+    let text = same_shown plan (facts_of plan.options (loaded sources)) facts (samples_of run.lists) run.order plan.options.every (sym weighed) (λ page is. sym (c.of.ensures ∙ c.in_ok-types-in-None.ensures page is ∙ told)) ∙ orderless_shown plan facts (samples_of run.lists) run.order plan.options.every (c.in-None.ensures.none refl) in
     err_shown_as plan input files c.args.sources.items run.lists run.order plan.options.every
     (collected_of plan input files _ c.args.sources.items run.lists run.order plan.options.every refl opened
     c.in_ok-run-in-None.ensures.whole_lists c.in_ok-run-in-None.ensures.order refl)

@@ -4,9 +4,9 @@ use Rattle.std.specs.List.{AllZip}
 use Rattle.opened_sources.specs.Opening.{IsOpened}
 use Rattle.opened_sources.proofs.source_files.open_sources.Given as goal
 
-abbrev pub invariant-loop-at : goal.invariant-loop-at
-invariant-loop-at g l = record {
-  count : length l.sources.items ≡ l.at;
+abbrev pub invariant-loop-path : goal.invariant-loop-path
+invariant-loop-path g l = record {
+  count : length l.sources.items ≡ l.path-index;
   files : g.F.Files.known_file l.files ≡ g.F.Files.known_file l.initial.files;
-  opened : AllZip (IsOpened l.asked (g.F.Files.known_file l.initial.files)) (map string_bytes (take l.at l.paths)) l.sources.items;
+  opened : AllZip (IsOpened l.asked (g.F.Files.known_file l.initial.files)) (map string_bytes (take l.path-index l.paths)) l.sources.items;
 }

@@ -7,18 +7,18 @@ use Rattle.run_options.specs.Filters.{kept_samples}
 use Rattle.source_lists.proofs.KeptLemmas.{kept_more, same_ending}
 use Rattle.source_lists.proofs.kept_lists.kept_list.Goals as goal
 
-pub loop-i-preserved : goal.loop-i-preserved
-loop-i-preserved c =
+pub loop-at-preserved : goal.loop-at-preserved
+loop-at-preserved c =
     let samples = c.args.list.now.samples in
-    let i = c.loop-i.i in
-    let within : i < length samples = omega (arith, c.len-i-end.ensures.count) in
+    let at = c.loop-at.at in
+    let within : at < length samples = omega (arith, c.len-at-end.ensures.count) in
     record {
       open_ = c.in_ok-take_if_kept.ensures.open;
       told = c.in_ok-take_if_kept.ensures.told;
       stacks = c.in_ok-take_if_kept.ensures.stacks;
       samples = λ asked flags.
           c.in_ok-take_if_kept.ensures.samples asked flags
-          ∙ (ap (λ (front : List Sample). front ++ kept_samples asked (sample_at samples i ∷ [])) (c.loop-i.invariant.samples asked flags) ∙ kept_more asked samples i within);
+          ∙ (ap (λ (front : List Sample). front ++ kept_samples asked (sample_at samples at ∷ [])) (c.loop-at.invariant.samples asked flags) ∙ kept_more asked samples at within);
     }
 
 pub into_list-requires : goal.into_list-requires
@@ -30,7 +30,7 @@ returns c = λ asked flags.
     let all =
     c.into_list.ensures.samples
     ∙ (ap (λ (ledger : LedgerState). ledger.samples) c.close.ensures
-    ∙ (c.loop-i.invariant.samples asked flags ∙ ap (kept_samples asked) (take_all c.loop-i.i samples (omega (arith, c.len-i-end.ensures.count))))) in
+    ∙ (c.loop-at.invariant.samples asked flags ∙ ap (kept_samples asked) (take_all c.loop-at.at samples (omega (arith, c.len-at-end.ensures.count))))) in
     let ending =
     same_ending c.into_list.result.ending c.ending.result.now (sym c.into_list.ensures.close ∙ ap (λ (ledger : LedgerState). ledger.close) c.close.ensures)
     ∙ c.ending.ensures in

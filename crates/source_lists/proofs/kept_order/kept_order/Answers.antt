@@ -1,31 +1,31 @@
-use Rattle.std.proofs.Common.{◌≡◌, ◌∙◌, ◌<◌, ◌+◌, ◌++◌, ◌∷◌, [], List, ap, arith, cond, get_or, length, refl, subst, sym, take}
-use Rattle.std.proofs.lemmas.List.{append-nil, get_or_default, length-map, length-set, take_all, take_more}
+use Rattle.std.proofs.Common.{◌≡◌, ◌∙◌, ◌<◌, ◌+◌, ◌++◌, ◌∷◌, [], List, ap, arith, cond, get_or, length, refl, sym, take}
+use Rattle.std.proofs.lemmas.List.{append-nil, get_or_default, length-map, length-set, take_more}
 use Rattle.sample_tables.specs.Rows.{sample_at}
 use Rattle.sample_tables.specs.declared.samples.Sample.{Sample}
 use Rattle.stack_core.specs.Interleaving.{count_of}
 use Rattle.stack_core.specs.Ledgers.{ListState}
 use Rattle.merged_stacks.specs.Timeline.{samples_of}
 use Rattle.run_options.specs.Filters.{keeps}
-use Rattle.source_lists.proofs.KeptLemmas.{IsKeptOrder, count_at_most, counted_more, kept_order_all, kept_order_more, list_at, marks_at, next_within}
+use Rattle.source_lists.proofs.KeptLemmas.{count_at_most, counted_more, kept_order_all, kept_order_more, list_at, marks_at, next_within}
 use Rattle.source_lists.proofs.kept_order.kept_order.Goals.{then-is_kept+in_ok-push, else-is_kept}
 use Rattle.source_lists.proofs.kept_order.kept_order.Goals as goal
 
-pub index-i-requires : goal.index-i-requires
-index-i-requires c =
+pub index-at-requires : goal.index-at-requires
+index-at-requires c =
     let lists = c.args.lists.now in
     let next = next_within c.args.order.now (samples_of lists) c.loop-source.source-index (get_or c.args.order.now c.loop-source.source-index 0) c.requires.ordered (omega arith) refl in
     omega (arith, next.0, length-map lists (λ (list : ListState). list.samples), c.loop-source.invariant.count, c.loop-source.came.ok.0)
 
-pub overflow_add-i : goal.overflow_add-i
-overflow_add-i c =
+pub overflow_add-at : goal.overflow_add-at
+overflow_add-at c =
     let order = c.args.order.now in
     let lists = c.args.lists.now in
     let p = c.loop-source.source-index in
     let source = get_or order p 0 in
     let next = next_within order (samples_of lists) p source c.requires.ordered (omega arith) refl in
     let below : source < length lists = omega (arith, next.0, length-map lists (λ (list : ListState). list.samples)) in
-    let i = c.index-i.ensures ∙ get_or_default c.loop-source.came.items source c.index-i.result.now 0 (omega (arith, below, c.loop-source.invariant.count)) in
-    omega (arith, i, c.loop-source.invariant.counted source below, count_at_most order p source (omega arith))
+    let at = c.index-at.ensures ∙ get_or_default c.loop-source.came.items source c.index-at.result.now 0 (omega (arith, below, c.loop-source.invariant.count)) in
+    omega (arith, at, c.loop-source.invariant.counted source below, count_at_most order p source (omega arith))
 
 pub index_mut-requires : goal.index_mut-requires
 index_mut-requires c =
@@ -53,8 +53,8 @@ is_kept-requires c =
     let source = get_or order p 0 in
     let next = next_within order (samples_of lists) p source c.requires.ordered (omega arith) refl in
     let below : source < length lists = omega (arith, next.0, length-map lists (λ (list : ListState). list.samples)) in
-    let i = c.index-i.ensures ∙ get_or_default c.loop-source.came.items source c.index-i.result.now 0 (omega (arith, below, c.loop-source.invariant.count)) in
-    omega (arith, i, c.loop-source.invariant.counted source below, next.1, ap length (list_at lists source c.index-lists-number.result below c.index-lists-number.is))
+    let at = c.index-at.ensures ∙ get_or_default c.loop-source.came.items source c.index-at.result.now 0 (omega (arith, below, c.loop-source.invariant.count)) in
+    omega (arith, at, c.loop-source.invariant.counted source below, next.1, ap length (list_at lists source c.index-lists-number.result below c.index-lists-number.is))
 
 pub loop-source-preserved : goal.loop-source-preserved
 loop-source-preserved c =
@@ -65,13 +65,13 @@ loop-source-preserved c =
     let source = get_or order p 0 in
     let came = c.loop-source.came.items in
     let left = c.loop-source.left.items in
-    let i = c.index-i.result.now in
+    let at = c.index-at.result.now in
     let list = c.index-lists-number.result in
     let within : p < length order = omega arith in
     let next = next_within order samples p source c.requires.ordered within refl in
     let below : source < length lists = omega (arith, next.0, length-map lists (λ (list : ListState). list.samples)) in
     let below_came : source < length came = omega (arith, below, c.loop-source.invariant.count) in
-    let i_is : i ≡ get_or came source 0 = c.index-i.ensures ∙ get_or_default came source i 0 below_came in
+    let at_is : at ≡ get_or came source 0 = c.index-at.ensures ∙ get_or_default came source at 0 below_came in
     let counted = c.loop-source.invariant.counted source below in
     let list_is = list_at lists source list below c.index-lists-number.is in
     let more = take_more order p 0 within in
@@ -81,20 +81,21 @@ loop-source-preserved c =
       | else-is_kept w ↦ ap (λ left. left.items) w.left-is ∙ (sym (append-nil left) ∙ ap (λ b. left ++ cond b (source ∷ []) []) (sym w.if-is_kept.false))
     ] in
     record {
-      count = length-set came source (i + 1) ∙ c.loop-source.invariant.count;
+      count = length-set came source (at + 1) ∙ c.loop-source.invariant.count;
       counted = λ other within_lists.
-          counted_more (take p order) came source (i + 1) below_came counted (ap (λ n. n + 1) (i_is ∙ counted)) other (c.loop-source.invariant.counted other within_lists)
+          counted_more (take p order) came source (at + 1) below_came counted (ap (λ n. n + 1) (at_is ∙ counted)) other (c.loop-source.invariant.counted other within_lists)
           ∙ ap (count_of other) (sym more);
       kept = λ asked flags.
           let marks = c.deref.ensures.value ∙ marks_at (λ marks. marks.items) asked lists c.args.kept.now source c.index-kept-number.result list flags (omega (arith, below, c.requires.count)) below c.index-kept-number.is c.index-lists-number.is in
-          let keeps_it = c.is_kept.ensures.kept asked marks ∙ ap (λ (samples : List Sample). keeps asked (sample_at samples i).stack) (sym list_is) in
-          subst (λ before. IsKeptOrder asked samples before c.if-is_kept.left.items) (sym more)
-          (subst (λ left. IsKeptOrder asked samples (take p order ++ source ∷ []) left) (sym new_left)
-          (kept_order_more asked samples (take p order) left source i c.is_kept.result (c.loop-source.invariant.kept asked flags) (i_is ∙ counted)
-          (omega (arith, i_is, counted, next.1)) keeps_it));
+          let keeps_it = c.is_kept.ensures.kept asked marks ∙ ap (λ (samples : List Sample). keeps asked (sample_at samples at).stack) (sym list_is) in
+          new_left
+          ∙ kept_order_more asked samples order left p source at c.is_kept.result c.requires.ordered within refl (at_is ∙ counted) (omega (arith, at_is, counted, next.1)) keeps_it (c.loop-source.invariant.kept asked flags);
     }
 
-pub returns : goal.returns
-returns c = λ asked flags.
-    kept_order_all asked (samples_of c.args.lists.now) c.args.order.now c.loop-source.left.items c.requires.ordered
-    (subst (λ before. IsKeptOrder asked (samples_of c.args.lists.now) before c.loop-source.left.items) (take_all c.loop-source.source-index c.args.order.now (omega arith)) (c.loop-source.invariant.kept asked flags))
+pub returns-clause-ordered : goal.returns-clause-ordered
+returns-clause-ordered c = λ asked flags.
+    (kept_order_all asked (samples_of c.args.lists.now) c.args.order.now c.loop-source.left.items c.loop-source.source-index c.requires.ordered (omega arith) (c.loop-source.invariant.kept asked flags)).0
+
+pub returns-clause-in_order : goal.returns-clause-in_order
+returns-clause-in_order c = λ asked flags.
+    (kept_order_all asked (samples_of c.args.lists.now) c.args.order.now c.loop-source.left.items c.loop-source.source-index c.requires.ordered (omega arith) (c.loop-source.invariant.kept asked flags)).1

@@ -2,7 +2,9 @@ use Rattle.std.proofs.Common.{◌∙◌, List, ap, map}
 use Rattle.std.proofs.lemmas.Simd.{map-map}
 use Rattle.sample_tables.specs.Samples.{total_weight}
 use Rattle.sample_tables.specs.declared.samples.Sample.{Sample}
+use Rattle.stack_core.specs.Interleaving.{interleaved}
 use Rattle.merged_stacks.specs.Merged.{all_samples}
+use Rattle.merged_stacks.specs.Timeline.{samples_of}
 use Rattle.run_options.specs.Filters.{kept_rest}
 use Rattle.source_lists.specs.Sources.{whole_rest, whole_rests_of}
 use Rattle.source_lists.proofs.KeptLemmas.{samples_of_rests}
@@ -11,7 +13,7 @@ use Rattle.source_lists.proofs.whole_runs.read_whole_sources.Goals as goal
 pub returns-clause-whole_lists : goal.returns-clause-whole_lists
 returns-clause-whole_lists g c =
     let options = c.args.options.now in
-    c.in_ok-kept.ensures
+    c.in_ok-kept.ensures.lists
     ∙ (ap (map (kept_rest options.filter)) c.in_ok-whole.ensures.whole
     ∙ map-map (kept_rest options.filter) (whole_rest options) c.args.sources.items)
 
@@ -20,3 +22,10 @@ returns-clause-whole_weight g c =
     c.total-whole_weight.ensures.total
     ∙ ap (λ (samples : List (List Sample)). total_weight (all_samples samples))
     (samples_of_rests c.in_ok-whole.whole.lists (whole_rests_of c.args.options.now c.args.sources.items) c.in_ok-whole.ensures.whole)
+
+pub returns-clause-in_order : goal.returns-clause-in_order
+returns-clause-in_order g c = record {
+  pairs = interleaved c.in_ok-whole.whole.order (samples_of c.in_ok-whole.whole.lists);
+  gained = c.in_ok-whole.ensures.in_order;
+  kept = c.in_ok-kept.ensures.in_order;
+}

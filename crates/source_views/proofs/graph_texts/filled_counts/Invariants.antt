@@ -1,5 +1,5 @@
 use Rattle.std.proofs.Common.{◌≡◌}
-use Rattle.source_views.specs.checked.Filling.{filled}
+use Rattle.source_views.specs.Filling.{filled}
 use Rattle.source_views.proofs.graph_texts.filled_counts.Given as goal
 
 abbrev pub invariant-loop-source : goal.invariant-loop-source

@@ -20,7 +20,8 @@ fn tell(alloc: Global, ledger: &mut Ledger) -> Result<(), AllocError>
     ledger.tell(Text::from_str(alloc, "a")?)
 }
 
-fn take_row(alloc: Global, ledger: &mut Ledger, weight: u64) -> Result<(), AllocError>
+/// Takes a row of the first name.
+pub fn take_row(alloc: Global, ledger: &mut Ledger, weight: u64) -> Result<(), AllocError>
     requires open { ledger.old.close ≡ None }
     requires told { 0 < length ledger.old.told }
     requires light { weight < 9 }

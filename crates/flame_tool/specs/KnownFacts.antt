@@ -1,0 +1,42 @@
+-- What is known of the sources of a run beside the samples that it shows.
+use Rattle.std.specs.Prelude.{ℕ, List, [], ◌∷◌, Option, option_map, unwrap_or, map}
+use Rattle.run_options.specs.Formats.{format_at}
+use Rattle.run_options.specs.declared.formats.Format.{Format}
+use Rattle.run_options.specs.declared.formats.Format.TheVariants.{Folded}
+use Rattle.run_options.specs.declared.options.Options.{Options}
+use Rattle.sample_tables.specs.Samples.{total_weight}
+use Rattle.merging.specs.Sources.{read_bytes}
+use Rattle.profile_messages.specs.declared.types.SampleType.{SampleType}
+use Rattle.source_lists.specs.Types.{type_of_bytes}
+use Rattle.merging.specs.Sums.{all_samples}
+use Rattle.command_line.specs.declared.plans.Plan.{Plan}
+use Rattle.sent_views.specs.declared.run_facts.RunFacts.{RunFacts}
+use Rattle.flame_tool.specs.Requests.{all_found}
+
+-- the format and the bytes of a file, whose name says its format unless one was asked for
+abbrev pub bytes_at : Option Format → (List ℕ → Option (List ℕ)) → List ℕ → Option (Format × List ℕ)
+bytes_at asked files path = option_map (λ bytes. (unwrap_or asked (format_at path), bytes)) (files path)
+
+-- the same of the input, which is folded unless another format was asked for
+abbrev pub bytes_in : Option Format → Option (List ℕ) → Option (Format × List ℕ)
+bytes_in asked input = option_map (λ bytes. (unwrap_or asked Folded, bytes)) input
+
+-- those of the files of paths, in order, or of the input where there is no path
+abbrev pub bytes_of : Option Format → List (List ℕ) → Option (List ℕ) → (List ℕ → Option (List ℕ)) → Option (List (Format × List ℕ))
+bytes_of asked [] input files = option_map (λ source. source ∷ []) (bytes_in asked input)
+bytes_of asked (path ∷ paths) input files = all_found (bytes_at asked files) (path ∷ paths)
+
+-- what all samples of sources weigh, whatever the filter
+abbrev pub whole_weight : Options → List (Format × List ℕ) → ℕ
+whole_weight options sources =
+    total_weight (all_samples (map (λ source. (read_bytes source.0 source.1 options.pick options.naming).samples) sources))
+
+-- the sample type of the weights of each
+abbrev pub types_of : Options → List (Format × List ℕ) → List SampleType
+types_of options sources = map (λ source. type_of_bytes source.0 source.1 options.pick) sources
+
+abbrev pub facts_of : Options → List (Format × List ℕ) → RunFacts
+facts_of options sources = record { whole = whole_weight options sources; types = types_of options sources }
+
+abbrev pub known_facts : Plan → Option (List ℕ) → (List ℕ → Option (List ℕ)) → Option RunFacts
+known_facts plan input files = option_map (facts_of plan.options) (bytes_of plan.format plan.files input files)

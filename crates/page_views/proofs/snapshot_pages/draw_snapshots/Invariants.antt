@@ -1,0 +1,12 @@
+-- the snapshots so far
+use Rattle.std.proofs.Common.{◌≡◌, ℕ, Option, map, take}
+use Rattle.merged_stacks.specs.Timeline.{samples_of}
+use Rattle.source_views.specs.Texts.{places_of}
+use Rattle.page_views.specs.Pages.{snapshot_drawing}
+use Rattle.page_views.specs.checked.DrawnSnapshots.{drawing_in}
+use Rattle.page_views.proofs.snapshot_pages.draw_snapshots.Given as goal
+
+abbrev pub invariant-loop-place : goal.invariant-loop-place
+invariant-loop-place l =
+    (least : Option ℕ) → map (drawing_in least) l.drawn.items
+    ≡ map (snapshot_drawing least (samples_of l.gathered.lists) l.gathered.order) (take l.place (places_of l.gathered.snapshots))

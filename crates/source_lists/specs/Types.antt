@@ -1,0 +1,33 @@
+-- The sample type whose values are the weights of a source.
+use Rattle.std.specs.Prelude.{ℕ, List, [], Option, Some, None}
+use Rattle.run_options.specs.declared.choices.Pick.{Pick}
+use Rattle.run_options.specs.declared.formats.Format.{Format}
+use Rattle.run_options.specs.declared.formats.Format.TheVariants.{Folded, Pprof}
+use Rattle.run_options.specs.declared.options.Options.{Options}
+use Rattle.stack_core.specs.declared.endings.ReadFault.{ReadFault}
+use Rattle.profile_messages.specs.declared.types.SampleType.{SampleType}
+use Rattle.profile_messages.specs.Message.{first}
+use Rattle.profile_messages.specs.FileFaults.{file_faults}
+use Rattle.profile_messages.specs.SampleTypes.{chosen_type}
+use Rattle.source_lists.specs.declared.sources.Source.{Source}
+
+-- the type of a source that has none
+abbrev pub no_type : SampleType
+no_type = record { name = []; unit = [] }
+
+abbrev pub type_or_none : Option SampleType → SampleType
+type_or_none (Some found) = found
+type_or_none None = no_type
+
+-- a profile with a fault before its samples has none
+abbrev pub type_without : Option ReadFault → Option SampleType → SampleType
+type_without (Some fault) chosen = no_type
+type_without None chosen = type_or_none chosen
+
+-- folded text has none
+abbrev pub type_of_bytes : Format → List ℕ → Pick → SampleType
+type_of_bytes Folded bytes pick = no_type
+type_of_bytes Pprof bytes pick = type_without (first (file_faults bytes pick)) (chosen_type bytes pick)
+
+abbrev pub source_type : Options → Source → SampleType
+source_type options source = type_of_bytes source.format source.bytes.items options.pick

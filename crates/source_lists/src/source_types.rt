@@ -1,0 +1,63 @@
+//! The sample types whose values are the weights of sources.
+
+ghost use Rattle.std.specs.Prelude.{◌≡◌, IfOk, map};
+ghost use Rattle.run_options.specs.declared.formats.Format.TheVariants.{Pprof as IsPprof};
+ghost use Rattle.source_lists.specs.Types.{no_type, source_type, type_of_bytes};
+
+use crate::sources::Source;
+use profile_messages::{SampleType, TableFault, chosen_type};
+use run_options::{Format, Options, Pick};
+use stack_core::Text;
+use std::alloc::{AllocError, Global};
+
+/// The type of a source that has none.
+fn no_type(alloc: Global) -> SampleType
+    ensures { result ≡ no_type }
+{
+    SampleType {
+        name: Text::of(String::new(alloc)),
+        unit: Text::of(String::new(alloc)),
+    }
+}
+
+/// The sample type of a profile's weights.
+fn type_of_profile(alloc: Global, bytes: &[u8], pick: &Pick) -> Result<SampleType, AllocError>
+    ensures { IfOk result (λ found. found ≡ type_of_bytes IsPprof bytes.now pick.now) }
+{
+    match chosen_type(alloc, bytes, pick) {
+        Ok(Some(found)) => Ok(found),
+        Ok(None) | Err(TableFault::Read(_)) => Ok(no_type(alloc)),
+        Err(TableFault::OutOfMemory) => Err(AllocError),
+    }
+}
+
+/// The sample type of a source's weights.
+fn type_of_source(
+    alloc: Global,
+    source: &Source,
+    options: &Options,
+) -> Result<SampleType, AllocError>
+    ensures { IfOk result (λ found. found ≡ source_type options.now source.now) }
+{
+    match source.format {
+        Format::Folded => Ok(no_type(alloc)),
+        Format::Pprof => type_of_profile(alloc, &source.bytes, &options.pick),
+    }
+}
+
+/// For each source the sample type whose values are its weights, as the options pick it. Name and unit are empty for folded text, for
+/// a profile without samples, and for one with a fault before its samples, which reading the source tells. It fails for want of memory
+/// alone.
+pub fn chosen_types(
+    alloc: Global,
+    sources: &[Source],
+    options: &Options,
+) -> Result<Vec<SampleType>, AllocError>
+    ensures { IfOk result (λ types. types.items ≡ map (source_type options.now) sources.now) }
+{
+    let mut types = Vec::with_capacity(alloc, sources.len())?;
+    for source in sources {
+        types.push(type_of_source(alloc, source, options)?)?;
+    }
+    Ok(types)
+}
