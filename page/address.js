@@ -34,13 +34,32 @@ function wholeNumber(text, limit) {
     return /^[0-9]{1,15}$/.test(text || '') && Number(text) < limit ? Number(text) : -1;
 }
 
-// The state that a fragment stands for. What is not understood is left out.
-function stateOf(page, fragment) {
+function wordsOf(fragment) {
     const words = new Map();
     for (const word of fragment.replace(/^#/, '').split('&')) {
         const place = word.indexOf('=');
         if (place > 0) words.set(word.slice(0, place), word.slice(place + 1));
     }
+    return words;
+}
+
+// The words of a step to which the browser's history goes. What was set without a step of its own stays as it is now: a search that was
+// typed, the drawing, and where the root is. `made` is the fragment that the step before began with.
+function wordsOfStep(fragment, made, now) {
+    const words = wordsOf(fragment);
+    [made, now] = [wordsOf(made), wordsOf(now)];
+    for (const key of ['find', 'by', 'drawing', 'root']) {
+        if (made.get(key) === now.get(key)) continue;
+        // A number of a box is one of its own drawing.
+        if (key === 'drawing') words.delete('box');
+        if (now.has(key)) words.set(key, now.get(key));
+        else words.delete(key);
+    }
+    return words;
+}
+
+// The state that the words of a fragment stand for. What is not understood is left out.
+function stateOf(page, words) {
     const number = wholeNumber(words.get('drawing'), page.drawingCount);
     const drawing = number >= 0 ? number : page.drawingCount - 1;
     const source = page.view === 'chart' ? wholeNumber(words.get('source'), page.sources.length) : -1;
@@ -60,9 +79,10 @@ function stateOf(page, fragment) {
 // Writes the fragment, as a new step of the browser's history or in place of the last. `steps` counts those that this page made.
 function writeAddress(fragment, isStep) {
     const now = history.state?.steps || 0;
+    const address = fragment === '#' && location.hash === '' ? '' : fragment;
     try {
-        if (isStep) history.pushState({ steps: now + 1 }, '', fragment);
-        else history.replaceState({ steps: now }, '', fragment);
+        if (isStep) history.pushState({ steps: now + 1 }, '', address);
+        else history.replaceState({ steps: now }, '', address);
     } catch {
         // A document without an address of its own has no fragment. It works without a history.
     }

@@ -57,7 +57,7 @@ function weightCell(weight, whole, unit) {
 function functionRow(page, drawing, rows, name, onChoose) {
     const row = document.createElement('tr');
     const first = document.createElement('td');
-    const button = nameButton(shortened(page.names[name], 200) || '(empty name)', () => onChoose(page.names[name]));
+    const button = nameButton(nameText(page.names[name]), () => onChoose(page.names[name], rows.total[name] > 0));
     button.title = described(page.names[name]);
     first.append(button);
     row.append(first, weightCell(rows.own[name], drawing.total, page.unit), weightCell(rows.total[name], drawing.total, page.unit));
@@ -70,7 +70,8 @@ function functionRow(page, drawing, rows, name, onChoose) {
     return row;
 }
 
-// Fills the table, and again when another drawing is looked at. `onChoose` is told the name that is clicked.
+// Fills the table, and again when another drawing is looked at. `onChoose` is told the name that is clicked, and whether the
+// drawing has it.
 function functionTable(page, onChoose) {
     const section = document.getElementById('functions');
     const body = section.querySelector('tbody');

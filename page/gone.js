@@ -34,10 +34,19 @@ function goneList(page, onChoose) {
     const vanished = roots.reduce((sum, box) => sum + before.weight[box], 0);
     const much = `${exactText(vanished, page.unit)}, ${percentText(vanished, before.total)} of the profile before`;
 
+    function part(text) {
+        const span = document.createElement('span');
+        span.textContent = text;
+        return span;
+    }
+
+    // The weight, the callers, which are cut where there is no room, and the name.
     function item(box) {
         const path = pathOf(page, before, box);
         const weight = before.weight[box];
-        const button = nameButton(`${weightText(weight, page.unit)}  ${joined(path) || 'all'}`, () => onChoose(box));
+        const callers = path.slice(0, -1).map((name) => `${nameText(name)} › `);
+        const button = nameButton('', () => onChoose(box));
+        button.append(part(`${weightText(weight, page.unit)}  `), part(callers.join('')), part(nameText(page.names[before.name[box]])));
         button.title = `${exactText(weight, page.unit)}, own ${exactText(before.own[box], page.unit)}: ${described(path.join(' › '))}`;
         const entry = document.createElement('li');
         entry.append(button);

@@ -16,10 +16,18 @@ function start(page) {
     const showLanes = laneStrip(page, (source) => change({ source, box: 0, focus: 0 }, true));
     const tip = tipOf(page);
     const matching = nameMatcher(page.names);
-    const showFunctions = functionTable(page, (name) => change({ find: name, by: 'name' }, true));
+    const showFunctions = functionTable(page, searchFunction);
     let view = null;
     let hovered = -1;
     let wished = null;
+    // The address with which the last step of the browser's history began.
+    let made = '';
+
+    // A function that only the other profile has is shown there.
+    function searchFunction(find, isHere) {
+        const there = isHere ? {} : { drawing: 1 - view.state.drawing, box: 0, focus: 0 };
+        change({ find, by: 'name', ...there }, true);
+    }
 
     // The matches of the state's search, or null where there is none or the words are no regular expression.
     function searched(state, drawing) {
@@ -50,8 +58,7 @@ function start(page) {
         if (stage.isStale()) paint();
     }
 
-    // Looks at a new state. `isStep` says that the browser's history gets a new step.
-    function look(state, address) {
+    function look(state) {
         const old = view;
         view = viewOf(state);
         hovered = -1;
@@ -65,11 +72,17 @@ function start(page) {
         if (state.below !== (old ? old.state.below : false)) picture.scrollTop = state.below ? picture.scrollHeight : 0;
         if (!old || old.state.box !== state.box || old.drawing !== view.drawing) revealFocus();
         paint();
-        if (address) writeAddress(fragmentOf(page, view.drawing, state), address.isStep);
     }
 
+    function address() {
+        return fragmentOf(page, view.drawing, view.state);
+    }
+
+    // Looks at another state. `isStep` says that the browser's history gets a new step.
     function change(changed, isStep) {
-        look({ ...view.state, ...changed }, { isStep });
+        look({ ...view.state, ...changed });
+        if (isStep) made = address();
+        writeAddress(address(), isStep);
     }
 
     function revealFocus() {
@@ -126,20 +139,30 @@ function start(page) {
         focusOn(box);
     }
 
-    function lookAtAddress() {
-        const state = stateOf(page, location.hash);
-        look({ ...state, focus: state.box }, null);
+    // Looks at what an address says. The focus stays where it was, if that is inside of what is zoomed.
+    function arrive(words) {
+        const state = stateOf(page, words);
+        const drawing = page.drawing(state.drawing);
+        const isInside = view && view.drawing === drawing && view.state.focus >= state.box && view.state.focus < drawing.end[state.box];
+        look({ ...state, focus: isInside ? view.state.focus : state.box });
+        made = address();
+        writeAddress(made, false);
+    }
+
+    // An address that was written by hand, or of another page's link, has no state of the history.
+    function goTo(event) {
+        arrive(event.state ? wordsOfStep(location.hash, made, address()) : wordsOf(location.hash));
     }
 
     const actions = { change, goBack, zoomTo, focusOn, turnTo, toMatch, refresh, view: () => view };
-    lookAtAddress();
+    arrive(wordsOf(location.hash));
     if (page.view === 'compare') {
         goneList(page, (box) => change({ drawing: 0, source: -1, box, focus: box }, true));
     }
     listenToTools(page, stage, actions);
     listenToPointer(stage, tip, actions, (box) => { hovered = box; });
     listenToKeys(picture, actions);
-    window.addEventListener('popstate', lookAtAddress);
+    window.addEventListener('popstate', goTo);
     new ResizeObserver(actions.refresh).observe(picture);
     stage.darkness.addEventListener('change', paint);
 }

@@ -33,9 +33,9 @@ function described(text) {
     return `${shortened(text, most)} (${text.length.toLocaleString('en')} characters)`;
 }
 
-// What is shown of a path: its names, root first.
-function joined(path) {
-    return path.map((name) => shortened(name, 200)).join(' › ');
+// What is shown of a name in a list.
+function nameText(text) {
+    return shortened(text, 200) || '(empty name)';
 }
 
 // A number from the name, the same on each page: FNV-1a over its UTF-16 units.

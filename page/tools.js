@@ -64,10 +64,13 @@ function listenToSearch(actions) {
     });
     element('previous').addEventListener('click', () => actions.toMatch(false));
     element('find').addEventListener('keydown', (event) => {
-        if (event.key !== 'Enter' || !event.shiftKey) return;
+        const isPrevious = event.key === 'Enter' && event.shiftKey;
+        const isCleared = event.key === 'Escape' && element('find').value !== '';
+        if (!isPrevious && !isCleared) return;
         event.preventDefault();
+        if (isCleared) element('find').value = '';
         search();
-        actions.toMatch(false);
+        if (isPrevious) actions.toMatch(false);
     });
 }
 
@@ -131,7 +134,7 @@ function listenToKeys(picture, actions) {
     });
     document.addEventListener('keydown', (event) => {
         const isTyping = event.target.matches('input[type="search"], select');
-        if (event.key === 'Escape' && !(isTyping && element('find').value !== '')) actions.goBack();
+        if (event.key === 'Escape' && !event.defaultPrevented && !event.target.matches('select')) actions.goBack();
         if (event.key !== '/' || isTyping || event.ctrlKey || event.metaKey || event.altKey) return;
         event.preventDefault();
         element('find').focus();

@@ -5,8 +5,9 @@ const BYTES = { bytes: 1, kilobytes: 1024, megabytes: 1024 ** 2, gigabytes: 1024
 const TIME_STEPS = [[1, 's'], [1e-3, 'ms'], [1e-6, 'µs'], [1e-9, 'ns']];
 const BYTE_STEPS = [[1024 ** 4, 'TiB'], [1024 ** 3, 'GiB'], [1024 ** 2, 'MiB'], [1024, 'KiB'], [1, 'B']];
 
+// Three digits, and of larger numbers all before the point.
 function threeDigits(number) {
-    return number.toLocaleString('en', { maximumSignificantDigits: Math.abs(number) < 1000 ? 3 : 21, maximumFractionDigits: 2 });
+    return number.toLocaleString('en', number < 999.5 ? { maximumSignificantDigits: 3 } : { maximumFractionDigits: 0 });
 }
 
 function separated(number) {
@@ -18,9 +19,14 @@ function inSteps(value, steps) {
     return `${threeDigits(value / size)} ${sign}`;
 }
 
+// The sources that have weight: an empty one has no unit, and changes nothing.
+function weighty(sources) {
+    return sources.filter((source) => source.weight > 0);
+}
+
 // The one unit of all sources, empty where a weight is a plain number, or null where they have different ones.
 function commonUnit(sources) {
-    const units = new Set(sources.map((source) => source.unit));
+    const units = new Set(weighty(sources).map((source) => source.unit));
     return units.size > 1 ? null : [...units].join('');
 }
 

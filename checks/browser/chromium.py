@@ -21,6 +21,10 @@ class DidNotStart(Exception):
     """The browser gave no answer when it was started."""
 
 
+class Lost(Exception):
+    """The browser ended, or gives no answer any more."""
+
+
 class Fault(Exception):
     """The browser refused a command, or an expression threw."""
 
@@ -29,11 +33,20 @@ def program():
     """The browser's path. Installs Debian's package where it is missing; None where it can't be had."""
     found = shutil.which('chromium')
     if found is None and shutil.which('apt-get'):
-        quiet = {**os.environ, 'DEBIAN_FRONTEND': 'noninteractive'}
         for words in (['update'], ['install', '-y', '--no-install-recommends', 'chromium']):
-            subprocess.run(['apt-get', '-q', *words], stdout=sys.stderr, env=quiet, check=False)
+            apt_get(words)
         found = shutil.which('chromium')
     return found
+
+
+def apt_get(words):
+    """Whether it succeeds is seen by what is there then."""
+    patience = ['-o', 'Acquire::Retries=3', '-o', 'Acquire::http::Timeout=20', '-o', 'DPkg::Lock::Timeout=120']
+    quiet = {**os.environ, 'DEBIAN_FRONTEND': 'noninteractive'}
+    try:
+        subprocess.run(['apt-get', '-q', *patience, *words], stdin=subprocess.DEVNULL, stdout=sys.stderr, env=quiet, check=False, timeout=600)
+    except subprocess.TimeoutExpired as fault:
+        print(fault, file=sys.stderr)
 
 
 class Browser:
@@ -66,18 +79,19 @@ class Browser:
         with open(self.folder / 'log', 'wb') as log:
             self.process = subprocess.Popen(
                 [path, *FLAGS, f'--user-data-dir={self.folder}/profile', f'--window-size={width},{height}', 'about:blank'],
-                preexec_fn=place_pipes, close_fds=False, stdout=log, stderr=log, start_new_session=True)
+                preexec_fn=place_pipes, close_fds=False, stdin=subprocess.DEVNULL, stdout=log, stderr=log,
+                start_new_session=True)
         os.close(read_end)
         os.close(write_end)
         self.session = None
         try:
-            target = self.send('Target.getTargets', deadline=20)['targetInfos']
+            target = self.send('Target.getTargets')['targetInfos']
             page = next(each for each in target if each['type'] == 'page')
             self.session = self.send('Target.attachToTarget', targetId=page['targetId'], flatten=True)['sessionId']
             for domain in ('Page', 'Runtime', 'Network', 'Log'):
                 self.send(f'{domain}.enable')
             self.resize(width, height)
-        except (OSError, StopIteration, TimeoutError) as fault:
+        except (Fault, Lost, StopIteration) as fault:
             self.close()
             raise DidNotStart(repr(fault)) from fault
 
@@ -103,10 +117,10 @@ class Browser:
         while b'\0' not in self.rest:
             ready, _, _ = select.select([self.reading], [], [], max(0, deadline - time.monotonic()))
             if not ready:
-                raise TimeoutError('no answer')
+                raise Lost('no answer')
             read = os.read(self.reading, 1 << 20)
             if not read:
-                raise OSError('the browser ended')
+                raise Lost('the browser ended')
             self.rest += read
         text, _, self.rest = self.rest.partition(b'\0')
         return json.loads(text)
@@ -118,8 +132,11 @@ class Browser:
         if self.session:
             command['sessionId'] = self.session
         data = json.dumps(command).encode() + b'\0'
-        while data:
-            data = data[os.write(self.writing, data):]
+        try:
+            while data:
+                data = data[os.write(self.writing, data):]
+        except BrokenPipeError as fault:
+            raise Lost('the browser ended') from fault
         until = time.monotonic() + deadline
         while True:
             message = self.message(until)
@@ -154,7 +171,7 @@ class Browser:
         self.wait_for("performance.getEntriesByName('painted').length > 0 && document.readyState === 'complete'")
         self.settle()
 
-    def wait_for(self, expression, seconds=30):
+    def wait_for(self, expression, seconds=60):
         until = time.monotonic() + seconds
         while not self.value(expression):
             if time.monotonic() > until:

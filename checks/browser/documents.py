@@ -1,10 +1,10 @@
-"""Pages from command lines: `page(program, words)` answers the document that the program writes for `graph --page ..` and the like.
-
-This stands in for the program's own `--page`: it takes the lines of JSON that the program writes without it, and makes the data of
-docs/PAGE-DATA.md of them. Nothing else in the checks knows this.
+"""Pages of the built program, and what their data has to be: `data_of` makes the data of docs/PAGE-DATA.md of the lines of JSON that the
+program writes without `--page`.
 """
+import functools
 import json
 import pathlib
+import re
 import subprocess
 
 import profiles
@@ -12,9 +12,21 @@ import profiles
 TOP = pathlib.Path(__file__).resolve().parents[2]
 
 
+# With `checks/page --edited` the head and the tail of each page are those that page/join makes now, whatever the program has.
+edited = False
+
+
 def page(program, words):
-    """The bytes of the document."""
-    return written_by_hand(program, words)
+    """The bytes of the document that the program writes."""
+    document = output_of(program, words)
+    return with_data(raw_data_in(document)) if edited else document
+
+
+def raw_data_in(document):
+    """The bytes of a document's data, found without the page's own script."""
+    found = re.fullmatch(rb'.*<script type="application/json" id="data">([^<]*)</script>.*', document, re.DOTALL)
+    assert found, 'the document has no data, or a "<" in it'
+    return found[1]
 
 
 def split_words(words):
@@ -31,11 +43,15 @@ def split_words(words):
     return words[0], options, files
 
 
-def lines_of(program, words):
-    answer = subprocess.run([program, *words], capture_output=True, check=False)
+def output_of(program, words):
+    answer = subprocess.run([program, *words], stdin=subprocess.DEVNULL, capture_output=True, check=False)
     if answer.returncode != 0:
         raise RuntimeError(f'{words}: status {answer.returncode}: {answer.stderr.decode()}')
-    return [json.loads(line) for line in answer.stdout.splitlines()]
+    return answer.stdout
+
+
+def lines_of(program, words):
+    return [json.loads(line) for line in output_of(program, words).splitlines()]
 
 
 def source(program, path, options):
@@ -90,10 +106,16 @@ def text_of(data):
 
 def joined(data):
     """The document with these data."""
+    return with_data(text_of(data))
+
+
+def with_data(text):
+    head, tail = join()
+    return head + text + tail
+
+
+@functools.cache
+def join():
+    """The head and the tail of the files in page/."""
     files = subprocess.run([TOP / 'page' / 'join', '--split'], capture_output=True, check=True).stdout
-    head, tail = files.split(b'\0')
-    return head + text_of(data) + tail
-
-
-def written_by_hand(program, words):
-    return joined(data_of(program, words))
+    return files.split(b'\0')

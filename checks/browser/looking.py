@@ -1,16 +1,10 @@
 """What the tests look at on an open page: rows of pixels, boxes under the pointer, the focused box."""
 import json
-import re
+
+from documents import raw_data_in
 
 ROW = 18
 PAPER = [(251, 251, 249), (27, 29, 32)]
-
-
-def raw_data_in(document):
-    """The bytes of a document's data, found without the page's own script."""
-    found = re.fullmatch(rb'.*<script type="application/json" id="data">([^<]*)</script>.*', document, re.DOTALL)
-    assert found, 'the document has no data, or a "<" in it'
-    return found[1]
 
 
 def data_in(document):

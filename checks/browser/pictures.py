@@ -1,4 +1,5 @@
 """Tests of what is drawn: the first paint, widths, zoom, keys, snapshots, lanes and differences."""
+import documents
 from looking import ROW, Picture, contains, data_in, fragment, near, same, search, table
 
 # The boxes of examples/parse.folded, by hand: depth, name, start, weight.
@@ -159,7 +160,12 @@ def snapshots(check):
 
 def snapshots_of_sources(check):
     browser = check.browser
-    check.show('graph', '--every', '1', check.write('one.folded', 'main;load 3\n'), check.write('two.folded', 'main;work;walk 5\nmain 1\n'))
+    # Of two sources the program may take the samples in another order in each run.
+    data = documents.data_of(check.program, ['graph', '--every', '1', check.write('order.folded', 'main;load 3\nmain;work;walk 5\nmain 1\n')])
+    for drawing, counts in zip(data['drawings'], [[1, 0], [1, 1], [1, 2]]):
+        drawing['counts'] = counts
+    data['sources'] = [data['sources'][0] | {'name': name, 'weight': weight} for name, weight in (('one.folded', 3), ('two.folded', 6))]
+    browser.open(check.place(documents.joined(data)))
     picture = Picture(browser)
     same(search(browser, 'walk'), '1 matched, 55.6%', 'search in all samples')
     picture.click(3, 0.7)
@@ -226,12 +232,33 @@ def differences(check):
     contains(rows, ['more', '20', '20', '+300%'], 'functions')
     contains(rows, ['old', '0', '0', 'gone'], 'functions')
     check.screenshot('comparison')
+    browser.click_on('th[data-key="change"] button')
+    same([row[0] for row in table(browser)], ['more', 'new', 'same', 'also', 'main', 'part', 'old', 'less'], 'by change, the most growth first')
     browser.click_on('#gone-list li:nth-child(2) button')
     same(browser.text('#drawing-name'), f'before: {before}', 'a path that is gone is shown in the profile before')
     same(fragment(browser), '#zoom=main/old/part&drawing=0', 'fragment')
     same(picture.told(3, 0.5)[3], 'before 6, after 0: gone', 'tip of what is gone')
     browser.click_on('#before')
     same(browser.text('#drawing-name'), f'after: {after}', 'back to the profile after')
+    browser.value("[...document.querySelectorAll('#functions td button')].find((each) => each.textContent === 'old').click()")
+    browser.settle()
+    same([browser.text('#drawing-name'), browser.text('#matched')], [f'before: {before}', '1 matched, 18.2%'], 'a function that is gone')
+
+
+def gone_from_the_depth(check):
+    """Of a long path the name is read, and the callers are cut."""
+    browser = check.browser
+    callers = ';'.join(f'a_caller_with_a_name_{number}' for number in range(20))
+    before = check.write('long-before.folded', f'{callers};vanished_function 5\n{callers};;leaf 2\nstays 1\n')
+    check.show('compare', before, check.write('long-after.folded', f'{callers} 1\nstays 1\n'))
+    parts = browser.value('''[...document.querySelectorAll('#gone-list button')].map((button) =>
+        [...button.children].map((part) => [part.textContent, part.scrollWidth > part.clientWidth]))''')
+    same([part[0] for part in parts], [['5  ', False], ['2  ', False], ['2  ', False]], 'weights')
+    same([part[2] for part in parts], [['vanished_function', False], ['(empty name)', False], ['leaf', False]], 'names')
+    for _, (text, is_cut), _ in parts:
+        same([text.split(' › ')[0], is_cut], ['a_caller_with_a_name_0', True], 'callers')
+    left, _, width, _ = browser.area('#picture')
+    assert browser.area('#gone')[0] >= left + width, 'the list stands beside the picture'
 
 
 def deep(check):
@@ -251,4 +278,5 @@ def deep(check):
     same(picture.name(4096, 0.5), 'f4095', 'the last row')
 
 
-TESTS = [first_paint, widths, broken, root_below, zoom, keys, snapshots, snapshots_of_sources, lanes, differences, deep]
+TESTS = [first_paint, widths, broken, root_below, zoom, keys, snapshots, snapshots_of_sources, lanes, differences,
+         gone_from_the_depth, deep]

@@ -1,4 +1,4 @@
-"""Tests of what must not happen: names that run, requests that go out; and of what leaves the page: print and save."""
+"""Tests of what must not happen: names that run, requests that go out, letters that nobody can read."""
 import colorsys
 import html.parser
 import http.server
@@ -7,7 +7,8 @@ import socketserver
 import threading
 import xml.etree.ElementTree
 
-from looking import Picture, contains, data_in, near, same, search
+from looking import Picture, contains, data_in, same, search
+from saving import saved
 
 RUN = 'window.hostile=1'
 HOSTILE = [
@@ -117,70 +118,15 @@ def offline(check):
         add('style', {{ textContent: '@import url({base}/import); body {{ opacity: 0.5 }}' }});
         add('object', {{ data: '{base}/object' }});
         add('video', {{ src: '{base}/video' }});
-        await new Promise((done) => setTimeout(done, 400));
     }})()''')
+    wanted = {'connect-src', 'img-src', 'script-src-elem', 'style-src-elem', 'frame-src', 'object-src', 'media-src'}
+    check.wait(lambda: wanted <= set(browser.value('refused')), 'each request is refused')
     server.shutdown()
     same(Counting.count, 0, 'requests that went out')
-    refused = set(browser.value('refused'))
-    wanted = {'connect-src', 'img-src', 'script-src-elem', 'style-src-elem', 'frame-src', 'object-src', 'media-src'}
-    same(wanted - refused, set(), 'what the policy has not refused')
     same(browser.value('typeof window.inline'), 'undefined', 'an inline script that was added')
     same(browser.value("getComputedStyle(document.body).opacity"), '1', 'an inline style that was added')
     ran = browser.value("(() => { try { return eval('1'); } catch { return 'refused'; } })()", allowUnsafeEvalBlockedByCSP=False)
     same(ran, 'refused', 'eval')
-
-
-def saved(check, kind):
-    """The bytes of what the button saves."""
-    folder = check.folder / 'saved'
-    folder.mkdir(exist_ok=True)
-    for old in folder.iterdir():
-        old.unlink()
-    check.browser.send('Page.setDownloadBehavior', behavior='allow', downloadPath=str(folder))
-    check.browser.click_on(f'#save-{kind}')
-    check.wait(lambda: [path for path in folder.iterdir() if path.suffix == f'.{kind}' and path.stat().st_size > 0], f'a saved {kind}')
-    return next(folder.glob(f'*.{kind}')).read_bytes()
-
-
-def saving(check):
-    browser = check.browser
-    check.show('graph', 'parse.folded')
-    picture = Picture(browser)
-    picture.click(2, 0.5)
-    root = xml.etree.ElementTree.fromstring(saved(check, 'svg'))
-    space = '{http://www.w3.org/2000/svg}'
-    near(float(root.get('width')), picture.width, 'width of the SVG')
-    boxes = {}
-    elements = [element for element in root.iter() if element.tag in (f'{space}rect', f'{space}text')]
-    for box, text in zip(elements, elements[1:]):
-        if text.tag == f'{space}text':
-            boxes[text.text] = (float(box.get('x')), float(box.get('width')))
-    same(sorted(boxes), ['all', 'main', 'parse', 'read', 'tokenize'], 'boxes of the SVG')
-    near(boxes['read'][1], 19 * picture.width / 50, 'width of read in the SVG', 1.5)
-    near(boxes['tokenize'][0], 19 * picture.width / 50, 'left edge of tokenize in the SVG')
-    png = saved(check, 'png')
-    same(png[:8], b'\x89PNG\r\n\x1a\n', 'the beginning of the PNG')
-    size = [int.from_bytes(png[16:20], 'big'), int.from_bytes(png[20:24], 'big')]
-    same(size, [2 * picture.width, 2 * picture.height], 'size of the PNG')
-
-
-def printing(check):
-    browser = check.browser
-    check.show('graph', 'parse.folded')
-    browser.prefer('dark')
-    browser.value("window.dispatchEvent(new Event('beforeprint'))")
-    browser.prefer('dark', media='print')
-    same(browser.value("getComputedStyle(document.getElementById('tools')).display"), 'none', 'the tools on paper')
-    names = browser.value("[...document.querySelectorAll('#paper svg text')].map((text) => text.textContent)")
-    same(names[:4] + names[5:], ['all', 'main', 'layout', 'parse', 'read', 'tokenize'], 'names on paper')
-    assert names[4][-1] == '…' and 'measure'.startswith(names[4][:-1]), f'measure is cut to {names[4]}'
-    same(browser.value("document.querySelector('#paper svg rect').getAttribute('fill')"), '#fbfbf9', 'paper is light')
-    assert browser.area('#paper svg')[2] > 100, 'the picture on paper is seen'
-    browser.value("window.dispatchEvent(new Event('afterprint'))")
-    same(browser.value("document.getElementById('paper').children.length"), 0, 'the picture on paper goes')
-    browser.prefer('light')
-    pages = browser.send('Page.printToPDF', landscape=True)
-    same(pages['data'][:5], 'JVBER', 'the beginning of the PDF')
 
 
 def brightness(colour):
@@ -241,4 +187,4 @@ def colours(check):
     browser.prefer('light')
 
 
-TESTS = [hostile, offline, saving, printing, colours]
+TESTS = [hostile, offline, colours]

@@ -2,10 +2,12 @@
 import json
 import pathlib
 import re
+import subprocess
 
 import documents
 import profiles
-from looking import Picture, contains, data_in, fragment, raw_data_in, same, search, table
+from documents import raw_data_in
+from looking import Picture, contains, data_in, fragment, same, search, table
 
 NESTED = 'main;walk;walk;leaf 5\nmain;walk;other 3\nmain;leaf 2\n'
 
@@ -93,13 +95,29 @@ def units(check):
     same(Picture(browser).told(1, 0.5)[2], 'own 1.5 KiB (1,536 bytes)', 'fewer bytes')
     check.show('graph', check.write('numbers.folded', 'main 1234567\n'))
     contains(browser.text('#summary'), ': 1,234,567, ', 'plain numbers')
-    check.show('graph', time, space, 'parse.folded')
+    check.show('graph', '--least', '0', time, space, 'parse.folded')
     same(browser.text('#notices'), f'The sources have different units, so their sum means little: {time} in nanoseconds, {space} in bytes,'
          ' parse.folded in plain numbers.', 'different units')
     contains(browser.text('#summary'), ': 1,242,312,363, ', 'their sum')
     same(browser.value("[...document.querySelectorAll('#sources li')].map((item) => item.textContent)"),
          ['time.pb: 1.24 s (1,237,067,890 nanoseconds) of cpu', 'space.pb: 5 MiB (5,244,416 bytes) of inuse_space', 'parse.folded: 57'],
          'sources')
+
+
+def more_units(check):
+    browser = check.browser
+    hours = check.write('hours.pb', profiles.profile([('cpu', 'nanoseconds')], [(['main', 'work'], [9_876_543_210_987]), (['main'], [1_500])]))
+    empty = check.write('empty.pb', profiles.profile([('cpu', 'nanoseconds')], []))
+    check.show('graph', '--least', '0', hours, empty)
+    contains(browser.text('#summary'), ': 9,877 s (9,876,543,212,487 nanoseconds) of cpu, ', 'many seconds')
+    same(browser.text('#notices'), '', 'a source without samples has no other unit')
+    same(Picture(browser).told(1, 0.5)[2], 'own 1.5 µs (1,500 nanoseconds)', 'microseconds')
+    check.show('compare', '--least', '0', hours, 'parse.folded')
+    same(browser.text('#notices'), f'The sources have different units, so comparing them means little: {hours} in nanoseconds, parse.folded in'
+         ' plain numbers.', 'different units of two profiles')
+    contains(browser.text('#summary'), 'before 9,876,543,212,487, after 57, ', 'their weights')
+    check.show('compare', check.write('seven.folded', 'a 7\n'), check.write('hundred.folded', 'a 93\n'))
+    same(Picture(browser).told(1, 0.5)[3], 'before 7, after 93: +1,229%', 'a large change')
 
 
 def notices(check):
@@ -110,8 +128,13 @@ def notices(check):
     contains(browser.text('#summary'), 'about 72,057,594,037,927,9', 'a rounded sum')
     same(data_in(document)['drawings'][0]['weight'], [most, most, most - 3, 3], 'the data is exact')
     check.show('graph', '--least', '5', 'parse.folded')
-    same(browser.text('#notices'), 'Left out: 1 box of together 4, each lighter than 5.', 'what is left out')
+    same(browser.text('#notices'), 'Left out: 1 box of together 4, each lighter than 5. Neither the search nor the lists count them.',
+         'what is left out')
     same(Picture(browser).name(3, 5 / 57), None, 'where measure was')
+    check.show('compare', '--least', '12', 'parse.folded', 'faster.folded')
+    told = browser.value("[...document.querySelectorAll('#notices li')].map((item) => item.textContent.split(', each')[0])")
+    same(told, ['Left out of the profile before: 2 boxes of together 7', 'Left out of the profile after: 2 boxes of together 7'],
+         'what is left out of both')
     check.show('graph', check.write('empty.folded', ''))
     contains(browser.text('#notices'), 'nothing to draw', 'no samples')
     same(browser.happened('Runtime.exceptionThrown'), [], 'faults without samples')
@@ -121,6 +144,10 @@ def notices(check):
 
 def whole(check):
     browser = check.browser
+    check.show('graph', '--focus', 'parse', 'parse.folded')
+    same(browser.text('#notices'), 'A filter keeps 87.7% of the whole: 50 of 57.', 'what --focus keeps')
+    check.show('compare', '--hide', 'layout', 'parse.folded', 'faster.folded')
+    same(browser.text('#notices'), 'A filter keeps 85.3% of the whole of both profiles: 81 of 95.', 'what --hide keeps')
     data = documents.data_of(check.program, ['graph', 'parse.folded'])
     browser.open(check.place(documents.joined(data)))
     same(browser.text('#notices'), '', 'without a filter')
@@ -164,4 +191,12 @@ def links(check):
     same(picture.name(2, 0.9), 'b', 'what is zoomed')
 
 
-TESTS = [data, searching, functions, units, notices, whole, links]
+def failing_outputs(check):
+    """A page whose output fails on the way ends with status 3."""
+    for words in (['graph', 'parse.folded'], ['chart', 'parse.folded'], ['compare', 'parse.folded', 'faster.folded']):
+        with open('/dev/full', 'wb') as full:
+            answer = subprocess.run([check.program, words[0], '--page', *words[1:]], stdout=full, stderr=subprocess.PIPE, check=False)
+        same([answer.returncode, answer.stderr], [3, b'flamecollect: output failed\n'], f'{words[0]} to a full device')
+
+
+TESTS = [data, searching, functions, units, more_units, notices, whole, links, failing_outputs]

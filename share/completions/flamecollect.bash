@@ -2,6 +2,8 @@
 _flamecollect() {
     local word=${COMP_WORDS[COMP_CWORD]} before=${COMP_WORDS[COMP_CWORD-1]} options
     COMPREPLY=()
+    # After an option a value may stand behind `=`, which is a word of its own.
+    if [ "$word" = = ]; then word=; elif [ "$before" = = ]; then before=${COMP_WORDS[COMP_CWORD-2]}; fi
     case $before in
         --by) COMPREPLY=($(compgen -W 'own total' -- "$word")); return ;;
         --format) COMPREPLY=($(compgen -W 'folded pprof' -- "$word")); return ;;
@@ -23,7 +25,7 @@ _flamecollect() {
     esac
     case $word in
         -*) COMPREPLY=($(compgen -W "$options" -- "$word")) ;;
-        *) compopt -o filenames; COMPREPLY=($(compgen -f -- "$word")) ;;
+        *) compopt -o filenames; mapfile -t COMPREPLY < <(compgen -f -- "$word") ;;
     esac
 }
 complete -F _flamecollect flamecollect

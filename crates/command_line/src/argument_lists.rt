@@ -112,6 +112,13 @@ pub(crate) fn top_arguments<'a>(alloc: Global) -> Result<Vec<Arg<'a>>, AllocErro
 pub(crate) fn types_arguments<'a>(alloc: Global) -> Result<Vec<Arg<'a>>, AllocError>
     ensures { IfOk result (λ arguments. map rule_of arguments.items ≡ types_command.rules) }
 {
-    let arguments = vec![in alloc; one_file(alloc, "file", "FILE", "The profile")]?;
+    let arguments = vec![in alloc;
+        one_file(
+            alloc,
+            "file",
+            "FILE",
+            "The pprof profile, whatever its name"
+        ),
+    ]?;
     Ok(arguments)
 }

@@ -89,7 +89,7 @@ pub(crate) fn focus_option<'a>(alloc: Global) -> Arg<'a>
     filter_option(
         alloc,
         "focus",
-        "Keep only samples with a frame whose name has this text",
+        "Keep only samples with a frame whose name has this text [repeatable]",
     )
 }
 
@@ -99,7 +99,7 @@ pub(crate) fn hide_option<'a>(alloc: Global) -> Arg<'a>
     filter_option(
         alloc,
         "hide",
-        "Leave out samples with a frame whose name has this text",
+        "Leave out samples with a frame whose name has this text [repeatable]",
     )
 }
 

@@ -12,7 +12,7 @@ use clap::{Arg, Command};
 use std::alloc::{AllocError, Global};
 
 // The day of the newest entry in CHANGELOG.md.
-const VERSION: &str = "2026-11-23";
+const VERSION: &str = "2026-11-24";
 
 const NOTES: &str = "\
 Formats:

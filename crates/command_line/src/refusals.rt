@@ -1,5 +1,6 @@
 //! Why words are refused, and the entries that `clap` takes and that mean nothing.
 ghost use Rattle.std.specs.Prelude.{◌≡◌, [], IfErr, IfOk, OnOk, codes};
+ghost use Rattle.clap.specs.declared.error.kind.ErrorKind.TheVariants.{InvalidValue};
 ghost use Rattle.clap.specs.Words.{kind_of};
 ghost use Rattle.command_line.specs.Plans.{IsFaultAmong, entries_fault, has_its_page, knows_format, knows_order};
 ghost use Rattle.command_line.specs.checked.Entries.{IsFaultOf, IsFlagAt, entries_of};
@@ -11,12 +12,7 @@ use clap::{ArgMatches, Error};
 use run_options::{Format, FunctionOrder};
 use std::alloc::{AllocError, Global};
 
-// What is said of a format that there is not, of such an order of functions, and of a title without a page.
-const UNKNOWN_FORMAT: &str =
-    "invalid value for '--format <FORMAT>'\n  [possible values: folded, pprof]";
-
-const UNKNOWN_ORDER: &str = "invalid value for '--by <WEIGHT>'\n  [possible values: own, total]";
-
+// What is said of a title without a page.
 const MISSING_PAGE: &str = "the following required arguments were not provided:\n  --page";
 
 // What the error is for the caller.
@@ -43,10 +39,12 @@ pub(crate) fn check_entries(alloc: Global, entries: &ArgMatches<'_>) -> Result<(
     ensures refused { IfErr result (IsFaultAmong (entries_fault (entries_of entries.now))) }
 {
     if !knows_format(entries) {
-        return Err(refused(alloc, ErrorKind::InvalidValue, UNKNOWN_FORMAT));
+        let given = entries.get_str("format").unwrap_or("");
+        return Err(refused_value(alloc, given, "--format <FORMAT>", "folded, pprof"));
     }
     if !knows_order(entries) {
-        return Err(refused(alloc, ErrorKind::InvalidValue, UNKNOWN_ORDER));
+        let given = entries.get_str("by").unwrap_or("");
+        return Err(refused_value(alloc, given, "--by <WEIGHT>", "own, total"));
     }
     if !has_its_page(entries) {
         return Err(refused(alloc, ErrorKind::MissingRequiredArgument, MISSING_PAGE));
@@ -82,6 +80,18 @@ fn has_its_page(entries: &ArgMatches<'_>) -> bool
         false
     } else {
         !entries.contains_id("least")
+    }
+}
+
+// The refusal of a value that the option can't have, with those that it can.
+fn refused_value(alloc: Global, given: &str, option: &str, possible: &str) -> PlanFault
+    ensures { IsFaultOf InvalidValue result }
+{
+    match format!(in alloc;
+        "invalid value '{given}' for '{option}'\n  [possible values: {possible}]"
+    ) {
+        Ok(message) => refused(alloc, ErrorKind::InvalidValue, message.as_str()),
+        Err(_) => PlanFault::OutOfMemory,
     }
 }
 

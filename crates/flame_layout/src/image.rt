@@ -68,5 +68,9 @@ fn edge(at: u64, total: u64, width: Width) -> u32
     requires positive { 0 < total }
     ensures { result ≡ at * width / total }
 {
-    (u128::from(at) * u128::from(width.get()) / u128::from(total)) as u32
+    // Few products need more than 64 bits, and a division of 128 bits is slow.
+    match at.checked_mul(u64::from(width.get())) {
+        Some(product) => (product / total) as u32,
+        None => (u128::from(at) * u128::from(width.get()) / u128::from(total)) as u32,
+    }
 }

@@ -1,3 +1,4 @@
+mod ExitStatuses
 mod KnownSources
 mod RunEndings
 mod TypeEndings

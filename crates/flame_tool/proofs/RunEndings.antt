@@ -26,7 +26,8 @@ use Rattle.flame_tool.specs.KnownFacts.{known_facts}
 use Rattle.flame_tool.proofs.KnownSources.{IsKnown, facts_are_known}
 use Rattle.flame_tool.specs.Requests.{AsksForHelp, asked_faults, asked_plan, known_rests}
 use Rattle.command_line.specs.declared.plans.PageForm.{PageForm}
-use Rattle.sent_views.specs.Pages.{page_text, shown_text, text_in}
+use Rattle.sent_views.specs.Pages.{asked_heading, asked_text, page_text, shown_text, text_in}
+use Rattle.sent_views.proofs.PageLemmas.{orderless_page}
 use Rattle.source_views.specs.Texts.{IsOrderless, graph_text, told_text, top_text, view_text}
 use Rattle.flame_tool.specs.checked.Forms.{IsOfView, IsOrderlessIn}
 use Rattle.flame_tool.specs.Runs.{lists_of, text_of, GainsFront, Shows, ShowsFront, ShowsSamples, HasFault, TellsNoWhole}
@@ -70,13 +71,14 @@ orderless_text all (PairBoxes width) lists order every orderless = refl
 orderless_text all (Top top) lists order every orderless = refl
 
 module _ (plan : Plan) (facts : RunFacts) (lists : List (List Sample)) (order : List ℕ) (every : Option ℕ) where
-  orderless_in : (written : Form) → IsOrderlessIn written plan.view every → text_in written plan facts lists order every ≡ text_in written plan facts lists [] None
-  orderless_in form.Text orderless = orderless_text (told_whole plan facts) plan.view lists order every orderless
-  orderless_in (form.Page page) orderless = refl
-  orderless_in form.Types orderless = orderless_text (told_whole plan facts) plan.view lists order every orderless
+  -- the text of a view, where no page is written
+  of_view_in : (written : Form) → IsOfView written → IsOrderlessIn written plan.view every → asked_text plan facts lists [] None ≡ text_in written plan facts lists order every
+  of_view_in form.Text of_view orderless = sym (orderless_text (told_whole plan facts) plan.view lists order every orderless)
+  of_view_in (form.Page page) of_view orderless = absurd of_view
+  of_view_in form.Types of_view orderless = sym (orderless_text (told_whole plan facts) plan.view lists order every orderless)
 
-  pub orderless_shown : IsOrderlessIn plan.form plan.view every → shown_text plan facts lists order every ≡ shown_text plan facts lists [] None
-  orderless_shown = orderless_in plan.form
+  pub orderless_shown : IsOfView plan.form → IsOrderlessIn plan.form plan.view every → asked_text plan facts lists [] None ≡ shown_text plan facts lists order every
+  orderless_shown = of_view_in plan.form
 
   -- the text of a graph, where no page is written
   graph_in : (written : Form) (width : ℕ) → IsOfView written → plan.view ≡ Graph width → text_in written plan facts lists order every ≡ graph_text width lists order every
@@ -128,12 +130,13 @@ module _ (plan : Plan) (old new : Option (List ℕ)) where
       (λ order. with_all plan facts (lists_of rests) order plan.options.every plan.view top is filtered) shows
 
   pub page_exactly : (told : Option RunFacts) (known : Option (List Rest)) → IfSome known (Shows plan told old new)
-      → (page : PageForm) → plan.form ≡ form.Page page
-      → IfSome told (λ facts. IfSome known (λ rests. Appends old new (page_text plan facts page (lists_of rests))))
-  page_exactly None known shows page as_page = tt
-  page_exactly (Some facts) None shows page as_page = tt
-  page_exactly (Some facts) (Some rests) shows page as_page =
-      of_shown (form.Page page) facts rests (page_text plan facts page (lists_of rests)) as_page tt (λ order. refl) shows
+      → (page : PageForm) → plan.form ≡ form.Page page → IsOrderless plan.view plan.options.every
+      → IfSome told (λ facts. IfSome known (λ rests. Appends old new (page_text plan facts page (lists_of rests) [] None)))
+  page_exactly None known shows page as_page orderless = tt
+  page_exactly (Some facts) None shows page as_page orderless = tt
+  page_exactly (Some facts) (Some rests) shows page as_page orderless =
+      of_shown (form.Page page) facts rests (page_text plan facts page (lists_of rests) [] None) as_page tt
+      (λ order. sym (orderless_page (asked_heading plan facts page (lists_of rests)) plan.view (lists_of rests) order plan.options.every orderless)) shows
 
 -- pages alone tell the types
 pub same_shown : (plan : Plan) (one other : RunFacts) (lists : List (List Sample)) (order : List ℕ) (every : Option ℕ) → one.whole ≡ other.whole
@@ -145,7 +148,7 @@ same_shown plan one other lists order every weighed typed = go plan.form refl
 
     go : (written : Form) → plan.form ≡ written → text_in written plan one lists order every ≡ text_in written plan other lists order every
     go form.Text is = told
-    go (form.Page page) is = λ i. page_text plan (record { whole = weighed i; types = typed page is i }) page lists
+    go (form.Page page) is = λ i. page_text plan (record { whole = weighed i; types = typed page is i }) page lists order every
     go form.Types is = told
 
 -- ---- without words
@@ -206,11 +209,11 @@ module _ (words : List Text) (plan : Plan) (input : Option (List ℕ)) (files : 
       → IfSome (known_facts plan input files) (λ facts. IfSome (known_rests plan input files) (λ rests. Appends old new (top_text (Some facts.whole) top (all_samples (lists_of rests))))))
       asked (with_whole plan old new (known_facts plan input files) (known_rests plan input files) shows)
 
-  pub asked_page : IsSomeAnd (asked_plan words) (λ plan. (page : PageForm) → plan.form ≡ form.Page page
-      → IfSome (known_facts plan input files) (λ facts. IfSome (known_rests plan input files) (λ rests. Appends old new (page_text plan facts page (lists_of rests)))))
+  pub asked_page : IsSomeAnd (asked_plan words) (λ plan. (page : PageForm) → plan.form ≡ form.Page page → IsOrderless plan.view plan.options.every
+      → IfSome (known_facts plan input files) (λ facts. IfSome (known_rests plan input files) (λ rests. Appends old new (page_text plan facts page (lists_of rests) [] None))))
   asked_page =
-      words_have words plan (λ plan. (page : PageForm) → plan.form ≡ form.Page page
-      → IfSome (known_facts plan input files) (λ facts. IfSome (known_rests plan input files) (λ rests. Appends old new (page_text plan facts page (lists_of rests)))))
+      words_have words plan (λ plan. (page : PageForm) → plan.form ≡ form.Page page → IsOrderless plan.view plan.options.every
+      → IfSome (known_facts plan input files) (λ facts. IfSome (known_rests plan input files) (λ rests. Appends old new (page_text plan facts page (lists_of rests) [] None))))
       asked (page_exactly plan old new (known_facts plan input files) (known_rests plan input files) shows)
 
 pub some_asked : {A : Type 0} (bytes : A → List ℕ) (words : List A) (plan : Plan) → (length words ≡ 0 → ⊥) → plan_of (map bytes words) ≡ Some plan → asked_plan (map bytes words) ≡ Some plan

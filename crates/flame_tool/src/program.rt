@@ -2,7 +2,7 @@
 ghost use Rattle.std.specs.Prelude.{◌≡◌, ◌≢◌, ◌≤◌, ◌<◌, ◌⊎◌, [], None, Some, false, IfSome, IfErr, IsErrOf, IsSomeAnd, OnOk, vec_len, length, map, string_bytes};
 ghost use Rattle.std.specs.Io.KnownBytes.{Appends, Keeps};
 ghost use Rattle.folded_lines.specs.Reading.{read_folded};
-ghost use Rattle.command_line.specs.Plans.{IsComparison, IsOfOneProfile};
+ghost use Rattle.command_line.specs.Plans.{IsComparison, IsOfOneProfile, fault_text};
 ghost use Rattle.command_line.specs.declared.plans.PageForm.{PageForm};
 ghost use Rattle.command_line.specs.declared.plans.TopTable.{TopTable};
 ghost use Rattle.command_line.specs.declared.plans.View.{View};
@@ -15,7 +15,7 @@ ghost use Rattle.source_views.specs.Texts.{IsOrderless, top_text, view_text};
 ghost use Rattle.flame_tool.specs.Runs.{IsClean, IsFault, text_of, lists_of, GainsFront, Shows, ShowsFront, HasFault, TellsNoWhole};
 ghost use Rattle.flame_tool.specs.TypeRuns.{known_profile, HasTableFault, ShowsTypes, ShowsTypesFront};
 ghost use Rattle.flame_tool.specs.checked.TypeFailures.{FailsTypes};
-ghost use Rattle.flame_tool.specs.checked.Failures.{Fails, IsHelp, IsWords, KeepsOutput};
+ghost use Rattle.flame_tool.specs.checked.Failures.{Fails, IsHelp, IsWords, KeepsOutput, exit_status};
 ghost use Rattle.opened_sources.specs.Failures.{Flushes};
 
 use crate::types_run::show_types;
@@ -90,14 +90,15 @@ pub fn run<T: Threads + Wait + Copy + Send + 'static, F: Files, W: Outlet, E: Ou
         Appends (W.contents out.old) (W.contents out.new)
         (top_text (Some facts.whole) top (all_samples (lists_of rests)))))) }
 
-    // Of a page no order of the samples is left.
+    // Of a page without snapshots no order of the samples is left.
     ensures shown_page { result ≡ 0 → AsksForHelp (map string_bytes words.items)
         ⊎ IsSomeAnd (asked_plan (map string_bytes words.items)) (λ plan.
         (page : PageForm) → plan.form ≡ Form.Page page
+        → IsOrderless plan.view plan.options.every
         → IfSome (known_facts plan (F.known_input files.old) (F.known_file files.old)) (λ facts.
         IfSome (known_rests plan (F.known_input files.old) (F.known_file files.old)) (λ rests.
         Appends (W.contents out.old) (W.contents out.new)
-        (page_text plan facts page (lists_of rests))))) }
+        (page_text plan facts page (lists_of rests) [] None)))) }
 
     // 1 is a fault of a source, 2 are words that are refused or more than 64 files, and 3 leaves nothing
     // or a part of the text from its front.
@@ -159,6 +160,9 @@ fn refuse<W: Outlet, E: Outlet>(fault: PlanFault, out: &mut W, err: &mut E) -> u
     ensures help { result ≤ 1 → IsHelp fault }
     ensures no_fault { result ≢ 1 }
     ensures words { result ≡ 2 → IsWords fault }
+    ensures answered { IsWords fault → result ≡ 2 }
+    ensures told { result ≡ 0
+        → Appends (W.contents out.old) (W.contents out.new) (fault_text fault) }
     ensures refused { result ≡ 2 → Keeps (W.contents out.old) (W.contents out.new) }
     ensures front { result ≡ 3 → Keeps (W.contents out.old) (W.contents out.new) ⊎ IsHelp fault }
     ensures flushed { result ≡ 0 → W.is_flushed out.new }
@@ -224,10 +228,18 @@ fn run_plan<T: Threads + Wait + Copy + Send + 'static, F: Files, W: Outlet, E: O
     if plan.files.get().is_empty() && files.is_input_terminal() {
         report_awaited_input(err, plan.format.unwrap_or(Format::Folded));
     }
-    match show_plan(rt, alloc, &plan, files, out, err) {
+    let shown = show_plan(rt, alloc, &plan, files, out, err);
+    end_run(err, plan.files.get(), shown)
+}
+
+// Says why a run over these files failed, if it did, and answers its exit status.
+fn end_run<E: Outlet>(err: &mut E, files: &[String], shown: Result<(), Failure>) -> u8
+    ensures { result ≡ exit_status shown }
+{
+    match shown {
         Ok(()) => 0,
         Err(failure) => {
-            report_failure(err, plan.files.get(), failure);
+            report_failure(err, files, failure);
             failure.status()
         }
     }

@@ -1,28 +1,30 @@
 //! The samples of the sources of a plan, collected and shown.
-ghost use Rattle.std.specs.Prelude.{◌≡◌, ◌≢◌, ◌≤◌, ◌<◌, ℕ, [], List, None, Option, false, IfOk, IfSome, IfErr, IsErrOf, IsNone, OnOk, length, map};
+ghost use Rattle.std.specs.Prelude.{◌≡◌, ◌≢◌, ◌≤◌, ◌<◌, ℕ, List, Option, false, IfOk, IfSome, IfErr, IsErrOf, IsNone, OnOk, length, map};
 ghost use Rattle.std.specs.Io.KnownBytes.{Appends};
 ghost use Rattle.merged_stacks.specs.Timeline.{samples_of};
 ghost use Rattle.command_line.specs.Plans.{IsComparison};
-ghost use Rattle.command_line.specs.declared.plans.PageForm.{PageForm};
+ghost use Rattle.command_line.specs.declared.plans.PageForm.{PageForm as AskedPage};
 ghost use Rattle.source_lists.specs.Types.{source_type};
 ghost use Rattle.flame_tool.specs.KnownFacts.{known_facts};
 ghost use Rattle.flame_tool.specs.Requests.{known_rests};
-ghost use Rattle.sent_views.specs.Pages.{shown_text};
+ghost use Rattle.sent_views.specs.Pages.{page_text, shown_text};
 ghost use Rattle.source_views.specs.Texts.{IsOrderless, graph_text};
 ghost use Rattle.flame_tool.specs.Runs.{Shows};
 ghost use Rattle.opened_sources.specs.Opening.{AreOpened};
 ghost use Rattle.flame_tool.specs.checked.Failures.{Fails, FailsToShow, KeepsOutput};
-ghost use Rattle.opened_sources.specs.Failures.{has_fault, Flushes};
+ghost use Rattle.opened_sources.specs.Failures.{has_fault, Flushes, Sends};
 ghost use Rattle.flame_tool.specs.checked.Forms.{IsOfView, IsOrderlessIn};
 
 use crate::progress::Progress;
 use byte_io::{Files, Outlet};
-use command_line::{Form, Plan, View};
+use command_line::{Form, PageForm, Plan, View};
 use flame_layout::Width;
 use merging::{Gathered, Source, SourceLists, gather_observed, read_whole_sources};
 use opened_sources::{Failure, any_fault, open_sources, report_endings};
 use profile_messages::SampleType;
-use sent_views::{RunFacts, send_asked_page, send_asked_view, send_snapshots};
+use sent_views::{
+    RunFacts, send_asked_page, send_asked_view, send_graph_with_snapshots, send_snapshots,
+};
 use source_lists::chosen_types;
 use stack_core::{Listed, OpenGate};
 use std::alloc::{AllocError, Global};
@@ -61,7 +63,7 @@ pub(crate) fn show_views<T: Threads + Wait + Copy + Send + 'static, F: Files, W:
 {
     let sources = open_sources(alloc, files, plan.files.get(), plan.format)?;
     let is_shown = !plan.is_quiet && files.is_error_terminal();
-    let mut progress = Progress::new(err, sources.len(), is_shown);
+    let mut progress = Progress::new(err, plan.files.get(), is_shown);
     let shown = show_sources(rt, alloc, plan, sources, out, &mut progress);
     progress.clear();
     shown
@@ -79,7 +81,8 @@ fn snapshots_width(view: View, every: Option<u64>) -> Option<Width>
     }
 }
 
-// The width of a graph with snapshots that is written as text. A page has none.
+// The width of a graph with snapshots that is written as text. Those of a page are made of the lists, once all
+// samples are read.
 fn asked_snapshots(plan: &Plan) -> Option<Width>
     ensures view { IfSome result (λ width. plan.now.view ≡ View.Graph width) }
     ensures form { IfSome result (λ width. IsOfView plan.now.form) }
@@ -135,14 +138,14 @@ fn show_sources<T: Threads + Wait + Copy + Send + 'static, W: Outlet, E: Outlet>
                 whole: run.whole_weight,
                 types: Listed::of(types),
             };
-            send_lists(alloc, &run.kept, plan, &facts, out)
+            send_lists(alloc, run.kept, plan, &facts, out)
         }
     }
 }
 
 // The sample types of the weights of sources, which pages alone tell.
 fn told_types(alloc: Global, plan: &Plan, sources: &[Source]) -> Result<Vec<SampleType>, AllocError>
-    ensures { IfOk result (λ types. (page : PageForm) → plan.now.form ≡ Form.Page page
+    ensures { IfOk result (λ types. (page : AskedPage) → plan.now.form ≡ Form.Page page
         → types.items ≡ map (source_type plan.now.options) sources.now) }
 {
     match plan.form {
@@ -173,20 +176,22 @@ fn send_gathered<W: Outlet>(
     send_snapshots(alloc, gathered, width, out)
 }
 
-// The same for the lists of a run, without snapshots.
+// The same for the lists of a run, whose text has no snapshots.
 fn send_lists<W: Outlet>(
     alloc: Global,
-    run: &SourceLists,
+    run: SourceLists,
     plan: &Plan,
     facts: &RunFacts,
     out: &mut W,
 ) -> Result<(), Failure>
-    requires pairs { IsComparison plan.now.view → length run.now.lists ≡ 2 }
-    ensures faultless { OnOk result (has_fault run.now.lists ≡ false) }
+    requires pairs { IsComparison plan.now.view → length run.lists ≡ 2 }
+    requires every { IfSome plan.now.options.every (λ every. 1 ≤ every) }
+    requires orderless { IsOrderlessIn plan.now.form plan.now.view plan.now.options.every }
+    ensures faultless { OnOk result (has_fault run.lists ≡ false) }
     ensures ok { OnOk result (Appends (W.contents out.old) (W.contents out.new)
-        (shown_text plan.now facts.now (samples_of run.now.lists) [] None)) }
-    ensures err { IfErr result (FailsToShow run.now.lists
-        (shown_text plan.now facts.now (samples_of run.now.lists) [] None)
+        (shown_text plan.now facts.now (samples_of run.lists) run.order plan.now.options.every)) }
+    ensures err { IfErr result (FailsToShow run.lists
+        (shown_text plan.now facts.now (samples_of run.lists) run.order plan.now.options.every)
         (W.contents out.old) (W.contents out.new)) }
     ensures flushed { Flushes (W.is_flushed out.new) (W.failures out.old) (W.failures out.new)
         result }
@@ -195,7 +200,51 @@ fn send_lists<W: Outlet>(
         return Err(Failure::Faults);
     }
     match &plan.form {
-        Form::Text | Form::Types => send_asked_view(alloc, run, plan, facts, out),
-        Form::Page(page) => send_asked_page(alloc, run, plan, facts, page, out),
+        Form::Text | Form::Types => send_view(alloc, &run, plan, facts, out),
+        Form::Page(page) => send_page(alloc, run, plan, facts, page, out),
+    }
+}
+
+// Sends the text of a view that has no snapshots.
+fn send_view<W: Outlet>(
+    alloc: Global,
+    run: &SourceLists,
+    plan: &Plan,
+    facts: &RunFacts,
+    out: &mut W,
+) -> Result<(), Failure>
+    requires pairs { IsComparison plan.now.view → length run.now.lists ≡ 2 }
+    requires of_view { IsOfView plan.now.form }
+    requires orderless { IsOrderlessIn plan.now.form plan.now.view plan.now.options.every }
+    ensures sent { Sends (shown_text plan.now facts.now (samples_of run.now.lists) run.now.order
+        plan.now.options.every) (W.contents out.old) (W.contents out.new) result }
+    ensures flushed { Flushes (W.is_flushed out.new) (W.failures out.old) (W.failures out.new)
+        result }
+{
+    send_asked_view(alloc, run, plan, facts, out)
+}
+
+// Sends the page of the lists of a run, with the snapshots of its graph where they are asked for.
+fn send_page<W: Outlet>(
+    alloc: Global,
+    run: SourceLists,
+    plan: &Plan,
+    facts: &RunFacts,
+    page: &PageForm,
+    out: &mut W,
+) -> Result<(), Failure>
+    requires pairs { IsComparison plan.now.view → length run.lists ≡ 2 }
+    requires every { IfSome plan.now.options.every (λ every. 1 ≤ every) }
+    ensures sent { Sends (page_text plan.now facts.now page.now (samples_of run.lists) run.order
+        plan.now.options.every) (W.contents out.old) (W.contents out.new) result }
+    ensures flushed { Flushes (W.is_flushed out.new) (W.failures out.old) (W.failures out.new)
+        result }
+{
+    match snapshots_width(plan.view, plan.options.every) {
+        Some(_) => {
+            let gathered = Gathered::of_lists(alloc, run, plan.options.every)?;
+            send_graph_with_snapshots(alloc, &gathered, plan, facts, page, out)
+        }
+        None => send_asked_page(alloc, &run, plan, facts, page, out),
     }
 }

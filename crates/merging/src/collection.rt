@@ -11,6 +11,7 @@ ghost use Rattle.merging.specs.Snapshots.{snapshot_samples, AreSnapshots};
 ghost use Rattle.merging.specs.Sums.{all_samples, HasSumsOf, IsDrawable};
 ghost use Rattle.merging.specs.Gathered.{AreLimited, IsGathered};
 
+use crate::list_samples::feed_lists;
 use crate::observers::{ObservedSink, Observer, Unobserved};
 use crate::snapshots::Snapshot;
 use crate::tree_sink::TreeSink;
@@ -19,7 +20,7 @@ use ring_collect::CollectFault;
 use run_options::Options;
 use source_lists::{Source, SourceLists, read_into};
 use stack_core::{Gate, SourceList};
-use std::alloc::Global;
+use std::alloc::{AllocError, Global};
 use std::marker::Model;
 use std::sync::{Arc, Wait};
 use std::thread::Threads;
@@ -75,6 +76,28 @@ impl Gathered {
         let _order = sources.order();
         sink.recall_merged();
         Gathered { sources, sink }
+    }
+
+    /// Merges what a run collected, in the order in which its samples came: the tree and the snapshots are those
+    /// that they would have if the samples had been merged as they arrived.
+    pub fn of_lists(
+        alloc: Global,
+        sources: SourceLists,
+        every: Option<u64>,
+    ) -> Result<Gathered, AllocError>
+        requires { IfSome every (λ every. 1 ≤ every) }
+        ensures lists { IfOk result (λ gathered. gathered.lists ≡ sources.lists) }
+        ensures order { IfOk result (λ gathered. gathered.order ≡ sources.order) }
+        ensures every { IfOk result (λ gathered. gathered.every ≡ every) }
+        ensures snapshots { IfOk result (λ gathered.
+            AreSnapshots every gathered.names sources.order
+            (λ m. snapshot_samples m sources.order (samples_of sources.lists)) gathered.snapshots) }
+        ensures merged_totals { IfOk result (λ gathered.
+            HasSumsOf gathered.names gathered.tree (all_samples (samples_of sources.lists))) }
+    {
+        let mut sink = TreeSink::new(alloc, every)?;
+        feed_lists(alloc, sources.lists(), sources.order(), &mut sink)?;
+        Ok(Gathered::of(sources, sink))
     }
 
     /// What was collected, without what was merged.

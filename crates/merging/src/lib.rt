@@ -3,6 +3,7 @@
 
 mod collection;
 pub mod laws;
+mod list_samples;
 mod observers;
 mod snapshots;
 mod taken_rows;

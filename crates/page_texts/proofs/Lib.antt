@@ -4,8 +4,12 @@ pub mod KeptParts
 pub mod Lists
 pub mod Names
 pub mod NoMarkup
+pub mod PageReading
 pub mod PageTexts
 pub mod PartLists
+pub mod SafeReading
+pub mod SafeStrings
 pub mod SafeText
 pub mod Seams
 mod WorkedPages
+mod WorkedReading

@@ -1,21 +1,17 @@
 -- The text of a page round its drawings.
-use Rattle.std.proofs.Common.{◌≡◌, ℕ, List, [], ◌∷◌, ◌++◌, length, map, false, codes, refl, sym, ap, ap₂, ◌∙◌, subst, append_assoc, append-nil}
-use Rattle.std.specs.List.{AllByRecursion, flat_map}
-use Rattle.std.proofs.lemmas.List.{map-append, length-map}
-use Rattle.std.specs.Prelude.{nat_lt}
-use Rattle.serde_json.specs.Written.{comma_if}
+use Rattle.std.proofs.Common.{◌≡◌, ℕ, List, [], ◌∷◌, ◌++◌, map, codes, refl, sym, ap, ◌∙◌, append_assoc, append-nil}
+use Rattle.std.specs.List.{flat_map}
 use Rattle.json.specs.Print.{escape_byte, quoted}
 use Rattle.serde_json.specs.Data.{Data, string, object, member, no_members}
 use Rattle.stack_core.specs.NamesInOrder.{with_name, with_stack}
-use Rattle.page_texts.specs.Page.{PageBox, PageDrawing, PageSource, Page, page_text, page_value, kept, left_out, left_out_data, moment_members, other_members, last_members, kept_names, page_names, place_of, column, whole_number, list_data, drawing_data, source_data}
+use Rattle.page_texts.specs.Page.{PageDrawing, PageSource, Page, page_text, page_value, kept_names, page_names, whole_number, list_data, drawing_data, source_data}
 use Rattle.page_texts.specs.ScriptSafe.{script_safe}
 use Rattle.page_texts.specs.Drawn.{source_of}
 use Rattle.page_texts.specs.declared.pages.Source.{Source}
-use Rattle.page_texts.specs.checked.Kept.{AreNamed, number_text}
-use Rattle.page_texts.specs.checked.SafeText.{safe_text, values_text}
+use Rattle.page_texts.specs.checked.Kept.{number_text}
+use Rattle.page_texts.specs.checked.SafeText.{safe_text}
 use Rattle.page_texts.proofs.SafeText.{safe-value}
-use Rattle.page_texts.proofs.Lists.{values_text-push}
-use Rattle.page_texts.proofs.Names.{grown, place_stays, still_named, with_stack-append}
+use Rattle.page_texts.proofs.Names.{grown}
 
 abbrev pub text_after : List ℕ → List ℕ → List ℕ
 text_after key text = key ++ script_safe (quoted text)

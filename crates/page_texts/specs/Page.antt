@@ -2,17 +2,11 @@
 use Rattle.std.specs.Prelude.{ℕ, Bool, List, [], length, map, filter, sum_by, nat_le, not, Option, Some, None, codes, if◌then◌else◌}
 use Rattle.std.specs.List.{flat_map, position_or_len}
 use Rattle.std.specs.Str.{bytes_eq}
-use Rattle.serde_json.specs.Data.{Data, number, unsigned, string, array, object, Members, no_members, member}
-use Rattle.serde_json.specs.View.{items_of}
+use Rattle.serde_json.specs.Data.{Data, string, object, Members, no_members, member}
 use Rattle.stack_core.specs.NamesInOrder.{with_stack}
 use Rattle.flame_layout.specs.declared.boxes.SpanBox.{SpanBox}
+pub use Rattle.view_texts.specs.Json.{whole_number, list_data}
 use Rattle.page_texts.specs.ScriptSafe.{page_data_text}
-
-abbrev pub whole_number : ℕ → Data
-whole_number n = number (unsigned n)
-
-abbrev pub list_data : List Data → Data
-list_data values = array (items_of values)
 
 -- a box, and in a comparison the weight of its path in the other profile
 pub record PageBox : Type 0 where

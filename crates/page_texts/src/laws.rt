@@ -1,11 +1,15 @@
 //! Laws over the definitions, for all values. Each function does nothing, and takes no memory.
-ghost use Rattle.std.specs.Prelude.{◌≡◌, ◌↔◌, ◌+◌, ◌<◌, ◌≤◌, ◌++◌, ℕ, List, [], length, Contains};
-ghost use Rattle.serde_json.specs.Data.{Data};
+ghost use Rattle.std.specs.Prelude.{◌≡◌, ◌↔◌, ◌+◌, ◌<◌, ◌≤◌, ◌++◌, ℕ, List, [], length, Contains, Some};
+ghost use Rattle.json.specs.Tree.{HasNumbers};
+ghost use Rattle.serde_json.specs.Data.{Data, string};
+ghost use Rattle.serde_json.specs.Read.{read};
+ghost use Rattle.serde_json.specs.Written.{compact_text, outline};
 ghost use Rattle.page_source.specs.Source.{page_head, page_tail};
 ghost use Rattle.page_texts.specs.Document.{document_text};
-ghost use Rattle.page_texts.specs.Page.{Page, PageBox, kept, left_out, own_weight};
-ghost use Rattle.page_texts.specs.PageLaws.{HasNoMarkup, HasNoSeparator};
+ghost use Rattle.page_texts.specs.Page.{Page, PageBox, kept, left_out, own_weight, page_value, page_text};
+ghost use Rattle.page_texts.specs.PageLaws.{HasNoMarkup, HasNoSeparator, IsSmallPage};
 ghost use Rattle.page_texts.specs.ScriptSafe.{page_data_text};
+ghost use Rattle.view_texts.specs.JsonLaws.{HasRisingKeys};
 
 /// No name and no title can end the element that the data stands in: the text of every value holds
 /// no `<`, no `>` and no `&`, and neither U+2028 nor U+2029.
@@ -20,6 +24,19 @@ pub fn markup_is_constant()
     ensures { (page : Page) → (between : List ℕ)
         × (document_text page ≡ page_head ++ (between ++ page_tail))
         × HasNoMarkup between × HasNoSeparator between }
+{}
+
+/// The data of a page reads back as JSON. The escapes change nothing of what a text is read as: each
+/// name and title is read as itself, whatever its bytes are, and each value as from its text without
+/// them, where each number has a text. So the data of a page is read as the value that it stands for,
+/// where its numbers have 64 bits. The keys of each object in it rise, so none stands twice.
+pub fn data_reads_back()
+    ensures texts { (text : List ℕ) → read (page_data_text (string text)) ≡ Some (string text) }
+    ensures values { (value : Data) → HasNumbers (outline value)
+        → read (page_data_text value) ≡ read (compact_text value) }
+    ensures pages { (page : Page) → IsSmallPage page
+        → read (page_text page) ≡ Some (page_value page) }
+    ensures rising { (page : Page) → HasRisingKeys (page_value page) }
 {}
 
 /// A drawing keeps exactly the boxes that weigh at least the limit, in their order, and with the

@@ -8,3 +8,4 @@ pub mod PickLemmas
 pub mod TableLemmas
 pub mod TypeLemmas
 pub mod OffsetLemmas
+pub mod WorkedTypes

@@ -1,6 +1,6 @@
 -- The place of a sample type by its name.
 use Rattle.std.proofs.Common.{◌≡◌, [], ◌∷◌, ℕ, suc, List, ◌<◌, ◌≤◌, length, Bool, Some, None, true, false, refl, sym, ◌∙◌, ap, get_or, map, arith}
-use Rattle.std.specs.Prelude.{bytes_eq, nat_lt, ◌==◌, ◌||◌, if◌then◌else◌}
+use Rattle.std.specs.Prelude.{bytes_eq, nat_lt, ◌==◌, if◌then◌else◌}
 use Rattle.std.specs.List.{position_or_len}
 use Rattle.std.proofs.lemmas.List.{get_or-map, get_or_past, length-map}
 use Rattle.std.proofs.lemmas.List.Sums.{position_or_len_is}
@@ -11,9 +11,9 @@ use Rattle.profile_messages.specs.declared.messages.PlacedNumber.{PlacedNumber}
 use Rattle.profile_messages.specs.declared.messages.ValueType.{ValueType}
 use Rattle.profile_messages.specs.Message.{Content}
 use Rattle.profile_messages.specs.Tables.{string_at, strings_of, samples_of, sample_types_of, default_of}
-use Rattle.profile_messages.specs.Choosing.{type_names, position_of, place_picked, chosen_value}
+use Rattle.profile_messages.specs.Choosing.{type_names, position_of, place_picked, picked_type, chosen_value}
 use Rattle.profile_messages.specs.SeenProfile.{texts_of, IsProfileOf}
-use Rattle.profile_messages.specs.checked.Choosing.{names_of_types, chosen_of}
+use Rattle.profile_messages.specs.checked.Choosing.{names_of_types, picked_of, chosen_of}
 use Rattle.profile_messages.specs.Offsets.{offset_of}
 
 pub place-found : (name : List ℕ) (names : List (List ℕ)) (i : ℕ) → i < length names → ((k : ℕ) → k < i → bytes_eq (get_or names k []) name ≡ false) → bytes_eq (get_or names i []) name ≡ true → position_of name names ≡ Some i
@@ -53,17 +53,22 @@ names-are file profile is =
     ap (λ (table : List ValueType). map (λ (value_type : ValueType). string_at (texts_of profile.strings.items) value_type.type_) table) is.sample_types
     ∙ ap (λ (texts : List Content). map (λ (value_type : ValueType). string_at (map (λ (text : Content). text.bytes) texts) value_type.type_) (sample_types_of file)) is.strings
 
+-- the place of a file's picked type
+pub picked-is : (file : List ℕ) (profile : Profile) (pick : Pick) → IsProfileOf file profile → picked_of profile pick ≡ picked_type file pick
+picked-is file profile pick is =
+    let types : length profile.sample_types.items ≡ length (sample_types_of file) = ap (λ (list : List ValueType). length list) is.sample_types in
+    let default : string_at (texts_of profile.strings.items) profile.default.number ≡ string_at (strings_of file) (default_of file).number =
+    ap (λ (texts : List Content). string_at (map (λ (text : Content). text.bytes) texts) profile.default.number) is.strings ∙ ap (λ (n : PlacedNumber). string_at (strings_of file) n.number) is.default in
+    ap (λ n. if n == 0 then None else place_picked pick (string_at (texts_of profile.strings.items) profile.default.number) (names_of_types profile)) types
+    ∙ ap (λ name. if length (sample_types_of file) == 0 then None else place_picked pick name (names_of_types profile)) default
+    ∙ ap (λ names. if length (sample_types_of file) == 0 then None else place_picked pick (string_at (strings_of file) (default_of file).number) names) (names-are file profile is)
+
 -- the place of a file's chosen value
 pub chosen-is : (file : List ℕ) (profile : Profile) (pick : Pick) → IsProfileOf file profile → chosen_of profile pick ≡ chosen_value file pick
 chosen-is file profile pick is =
     let samples : length profile.samples.items ≡ length (samples_of file) = ap (λ (list : List ℕ). length list) is.samples ∙ length-map (samples_of file) offset_of in
-    let types : length profile.sample_types.items ≡ length (sample_types_of file) = ap (λ (list : List ValueType). length list) is.sample_types in
-    let default : string_at (texts_of profile.strings.items) profile.default.number ≡ string_at (strings_of file) (default_of file).number =
-    ap (λ (texts : List Content). string_at (map (λ (text : Content). text.bytes) texts) profile.default.number) is.strings ∙ ap (λ (n : PlacedNumber). string_at (strings_of file) n.number) is.default in
-    ap (λ n. if n == 0 || length profile.sample_types.items == 0 then None else place_picked pick (string_at (texts_of profile.strings.items) profile.default.number) (names_of_types profile)) samples
-    ∙ ap (λ n. if length (samples_of file) == 0 || n == 0 then None else place_picked pick (string_at (texts_of profile.strings.items) profile.default.number) (names_of_types profile)) types
-    ∙ ap (λ name. if length (samples_of file) == 0 || length (sample_types_of file) == 0 then None else place_picked pick name (names_of_types profile)) default
-    ∙ ap (λ names. if length (samples_of file) == 0 || length (sample_types_of file) == 0 then None else place_picked pick (string_at (strings_of file) (default_of file).number) names) (names-are file profile is)
+    ap (λ n. if n == 0 then None else picked_of profile pick) samples
+    ∙ ap (λ place. if length (samples_of file) == 0 then None else place) (picked-is file profile pick is)
 
 -- ---- the strings that are the name
 

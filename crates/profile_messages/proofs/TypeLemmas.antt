@@ -12,7 +12,7 @@ use Rattle.profile_messages.specs.declared.types.SampleType.{SampleType}
 use Rattle.profile_messages.specs.declared.types.SampleTypes.{SampleTypes}
 use Rattle.profile_messages.specs.Message.{Content}
 use Rattle.profile_messages.specs.Tables.{sample_types_of}
-use Rattle.profile_messages.specs.Choosing.{chosen_value}
+use Rattle.profile_messages.specs.Choosing.{picked_type, chosen_value}
 use Rattle.profile_messages.specs.SampleTypes.{type_of, types_of, chosen_type, all_types}
 use Rattle.profile_messages.specs.SeenProfile.{texts_of, IsProfileOf}
 
@@ -34,7 +34,7 @@ chosen-type file pick profile chosen found is chosen_is found_is =
     ∙ ap (option_and_then (slice_get (types_of file))) chosen_is
 
 -- all types, and the default one
-pub all-types : (file : List ℕ) (profile : Profile) (types : List SampleType) (default : Option ℕ) → IsProfileOf file profile → types ≡ map (type_of (texts_of profile.strings.items)) profile.sample_types.items → default ≡ chosen_value file Preferred → (let all : SampleTypes = record { types = types; default = default } in all) ≡ all_types file
+pub all-types : (file : List ℕ) (profile : Profile) (types : List SampleType) (default : Option ℕ) → IsProfileOf file profile → types ≡ map (type_of (texts_of profile.strings.items)) profile.sample_types.items → default ≡ picked_type file Preferred → (let all : SampleTypes = record { types = types; default = default } in all) ≡ all_types file
 all-types file profile types default is types_are default_is =
     let same : types ≡ types_of file = types_are ∙ types-are file profile is in
     λ i. record { types = same i; default = default_is i }

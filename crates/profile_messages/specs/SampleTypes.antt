@@ -9,7 +9,7 @@ use Rattle.profile_messages.specs.declared.messages.ValueType.{ValueType}
 use Rattle.profile_messages.specs.declared.types.SampleType.{SampleType}
 use Rattle.profile_messages.specs.declared.types.SampleTypes.{SampleTypes}
 use Rattle.profile_messages.specs.Tables.{sample_types_of, strings_of, string_at}
-use Rattle.profile_messages.specs.Choosing.{chosen_value}
+use Rattle.profile_messages.specs.Choosing.{picked_type, chosen_value}
 
 -- the bytes as text, with U+FFFD for what is none
 abbrev pub lossy_text : List ℕ → List ℕ
@@ -29,6 +29,6 @@ types_of file = map (type_of (strings_of file)) (sample_types_of file)
 abbrev pub chosen_type : List ℕ → Pick → Option SampleType
 chosen_type file pick = option_and_then (slice_get (types_of file)) (chosen_value file pick)
 
--- all of them, and the place of the default one
+-- all of them, and the place of the default one, which a file without samples has too
 abbrev pub all_types : List ℕ → SampleTypes
-all_types file = record { types = types_of file; default = chosen_value file Preferred }
+all_types file = record { types = types_of file; default = picked_type file Preferred }

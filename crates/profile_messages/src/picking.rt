@@ -5,7 +5,7 @@ ghost use Rattle.profile_messages.specs.Message.{first};
 ghost use Rattle.profile_messages.specs.Tables.{string_at as string_of};
 ghost use Rattle.profile_messages.specs.Choosing.{position_of as position_in, chosen_value as value_chosen, type_faults};
 ghost use Rattle.profile_messages.specs.SeenProfile.{texts_of, IsProfileOf};
-ghost use Rattle.profile_messages.specs.checked.Choosing.{names_of_types, chosen_of};
+ghost use Rattle.profile_messages.specs.checked.Choosing.{names_of_types, picked_of, chosen_of};
 
 use crate::message::Content;
 use crate::profile::Profile;
@@ -63,8 +63,22 @@ pub(crate) fn chosen_value(
 ) -> Result<Option<usize>, AllocError>
     ensures { IfOk result (λ place. place ≡ chosen_of profile.now pick.now) }
 {
+    if profile.samples.is_empty() {
+        return Ok(None);
+    }
+    picked_type(alloc, profile, pick)
+}
+
+/// The place of the picked sample type, where there are any.
+pub(crate) fn picked_type(
+    alloc: Global,
+    profile: &Profile<'_>,
+    pick: &Pick,
+) -> Result<Option<usize>, AllocError>
+    ensures { IfOk result (λ place. place ≡ picked_of profile.now pick.now) }
+{
     let types = profile.sample_types.len();
-    if profile.samples.is_empty() || types == 0 {
+    if types == 0 {
         return Ok(None);
     }
     match pick {

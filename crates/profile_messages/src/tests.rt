@@ -63,8 +63,16 @@ fn types_without_samples(rt: HostRuntime) -> Result<(), Fail> {
         Some(TableFault::Read(ReadFault { kind, at: 0 }))
     );
     let found = sample_types(rt.alloc(), b"\x0a\x00").expect(&rt, "the types");
-    assert_eq!(rt; found.default, None);
+    assert_eq!(rt; found.default, Some(0));
     assert_eq!(rt; found.types.get().len(), 1);
+    let found = sample_types(rt.alloc(), b"").expect(&rt, "the types");
+    assert_eq!(rt; found.default, None);
+    // The same two without their sample, and with the first as the default.
+    let mut file = TWO_TYPES[..10].to_vec(rt.alloc())?;
+    file.extend_from_slice(&TWO_TYPES[14..])?;
+    types_of_two(&rt, &file, 1);
+    file.extend_from_slice(b"\x70\x01")?;
+    types_of_two(&rt, &file, 0);
     Ok(())
 }
 

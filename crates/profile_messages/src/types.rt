@@ -15,6 +15,7 @@ use crate::checked_profile::CheckedProfile;
 use crate::faults::TableFault;
 use crate::message::Content;
 use crate::messages::ValueType;
+use crate::picking::picked_type;
 use crate::profile::Profile;
 use crate::strings::string_at;
 use bstr::ByteSlice;
@@ -36,7 +37,7 @@ pub struct SampleType {
 pub struct SampleTypes {
     /// In file order, which is that of a sample's values.
     pub types: Listed<SampleType>,
-    /// The place of the one that [`Pick::Preferred`] chooses. None where the file has no sample.
+    /// The place of the one that [`Pick::Preferred`] chooses, also where the file has no sample. None where it has no type.
     pub default: Option<usize>,
 }
 
@@ -110,9 +111,10 @@ pub fn sample_types(alloc: Global, bytes: &[u8]) -> Result<SampleTypes, TableFau
     let checked = CheckedProfile::of(alloc, bytes, &Pick::Preferred)?;
     let profile = &checked.profile;
     let types = types_of(alloc, &profile.strings, &profile.sample_types)?;
+    let default = picked_type(alloc, profile, &Pick::Preferred)?;
     Ok(SampleTypes {
         types: Listed::of(types),
-        default: checked.chosen,
+        default,
     })
 }
 

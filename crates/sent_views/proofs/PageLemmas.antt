@@ -1,6 +1,6 @@
--- What a page says beside its drawings.
+-- What a page says beside its drawings, and which pages have an order in them.
 use Rattle.std.proofs.Common.{◌≡◌, ◌<◌, ◌+◌, ◌++◌, ◌∙◌, ◌∷◌, [], ℕ, List, map, length, codes, refl, ap, sym, arith}
-use Rattle.std.specs.Prelude.{slice_get}
+use Rattle.std.specs.Prelude.{Option, None, slice_get}
 use Rattle.std.specs.List.{flat_map, join_by, range_with_len}
 use Rattle.std.proofs.lemmas.List.{map_push}
 use Rattle.std.proofs.lemmas.List.FromFn.{map-range_with_len_more}
@@ -12,7 +12,15 @@ use Rattle.page_texts.specs.Page.{PageSource}
 use Rattle.page_texts.specs.declared.pages.Source.{Source}
 use Rattle.profile_messages.specs.declared.types.SampleType.{SampleType}
 use Rattle.source_lists.specs.Types.{type_or_none}
-use Rattle.sent_views.specs.Pages.{default_title, source_at}
+use Rattle.command_line.specs.declared.plans.PageForm.{PageForm}
+use Rattle.command_line.specs.declared.plans.Plan.{Plan}
+use Rattle.command_line.specs.declared.plans.View.{View}
+use Rattle.command_line.specs.declared.plans.View.TheVariants.{Fold, Graph, Chart, Pairs, PairBoxes, Top}
+use Rattle.page_texts.specs.Document.{document_text}
+use Rattle.page_views.specs.Pages.{PageHeading, snapshots_page}
+use Rattle.source_views.specs.Texts.{IsOrderless}
+use Rattle.sent_views.specs.declared.run_facts.RunFacts.{RunFacts}
+use Rattle.sent_views.specs.Pages.{asked_heading, default_title, headed_text, page_text, source_at}
 use Rattle.opened_sources.specs.Names.{source_name}
 
 -- texts joined are their bytes joined
@@ -45,3 +53,17 @@ pub told_more : (files : List (List ℕ)) (types : List SampleType) (lists : Lis
     → map source_of more ≡ map (source_at files types lists) (range_with_len 0 (at + 1))
 told_more files types lists at told more source pushed so_far here =
     ap (map source_of) pushed ∙ map_push source_of told source ∙ (λ i. so_far i ++ here i ∷ []) ∙ sym (map-range_with_len_more (source_at files types lists) 0 at at (omega arith))
+
+-- a page without snapshots is the same in whatever order the samples come
+pub orderless_page : (heading : PageHeading) (view : View) (lists : List (List Sample)) (order : List ℕ) (every : Option ℕ) → IsOrderless view every → headed_text heading view lists [] None ≡ headed_text heading view lists order every
+orderless_page heading Fold lists order every orderless = refl
+orderless_page heading (Graph width) lists order every orderless = ap (λ moments. document_text (snapshots_page heading lists order moments)) (sym orderless)
+orderless_page heading (Chart width) lists order every orderless = refl
+orderless_page heading Pairs lists order every orderless = refl
+orderless_page heading (PairBoxes width) lists order every orderless = refl
+orderless_page heading (Top top) lists order every orderless = refl
+
+-- the page of a graph with its snapshots is the one that a plan for a graph asks for
+pub gathered_page : (plan : Plan) (facts : RunFacts) (page : PageForm) (lists : List (List Sample)) (order : List ℕ) (every : Option ℕ) (width : ℕ) → plan.view ≡ Graph width
+    → document_text (snapshots_page (asked_heading plan facts page lists) lists order every) ≡ page_text plan facts page lists order every
+gathered_page plan facts page lists order every width is = ap (λ (view : View). headed_text (asked_heading plan facts page lists) view lists order every) (sym is)

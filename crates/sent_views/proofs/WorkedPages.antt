@@ -4,7 +4,10 @@ use Rattle.sample_tables.specs.declared.samples.Sample.{Sample}
 use Rattle.command_line.specs.Plans.{default_plan}
 use Rattle.page_texts.specs.Page.{PageSource}
 use Rattle.profile_messages.specs.declared.types.SampleType.{SampleType}
-use Rattle.sent_views.specs.Pages.{asked_heading, default_title, sources_of}
+use Rattle.command_line.specs.declared.plans.View.TheVariants.{Graph}
+use Rattle.page_texts.specs.Document.{document_text}
+use Rattle.page_views.specs.Pages.{PageHeading, graph_page}
+use Rattle.sent_views.specs.Pages.{asked_heading, default_title, headed_text, sources_of}
 use Rattle.opened_sources.specs.Names.{source_name}
 
 title_of_the_input : default_title [] ≡ codes "standard input"
@@ -35,3 +38,7 @@ source_of_the_input = refl
 -- a title that the words set is taken as it is
 asked_title : (asked_heading default_plan (record { whole = 0; types = [] }) (record { title = Some (codes "t"); least = None }) []).title ≡ codes "t"
 asked_title = refl
+
+-- without snapshots a graph has the page of the graph alone, whatever the order
+page_without_snapshots : (heading : PageHeading) (width : ℕ) (lists : List (List Sample)) (order : List ℕ) → headed_text heading (Graph width) lists order None ≡ document_text (graph_page heading lists)
+page_without_snapshots heading width lists order = refl

@@ -12,7 +12,7 @@ use Rattle.command_line.specs.declared.plans.View.{View}
 use Rattle.command_line.specs.declared.plans.View.TheVariants.{Fold, Graph, Chart, Pairs, PairBoxes, Top}
 use Rattle.page_texts.specs.Document.{document_text}
 use Rattle.page_texts.specs.Page.{PageSource}
-use Rattle.page_views.specs.Pages.{PageHeading, chart_page, comparison_page, graph_page}
+use Rattle.page_views.specs.Pages.{PageHeading, chart_page, comparison_page, snapshots_page}
 use Rattle.opened_sources.specs.Names.{source_name}
 use Rattle.profile_messages.specs.declared.types.SampleType.{SampleType}
 use Rattle.source_lists.specs.Types.{type_or_none}
@@ -46,17 +46,18 @@ asked_heading plan facts page lists = record {
   whole = facts.whole;
 }
 
--- the page of a view with boxes; the others have none, and no words ask for a page of them
-abbrev pub headed_text : PageHeading → View → List (List Sample) → List ℕ
-headed_text heading Fold lists = view_text Fold lists [] None
-headed_text heading (Graph width) lists = document_text (graph_page heading lists)
-headed_text heading (Chart width) lists = document_text (chart_page heading lists)
-headed_text heading Pairs lists = view_text Pairs lists [] None
-headed_text heading (PairBoxes width) lists = document_text (comparison_page heading (list_of lists 0) (list_of lists 1))
-headed_text heading (Top top) lists = view_text (Top top) lists [] None
+-- the page of a view with boxes, and of a graph with a drawing for each snapshot; the others have none, and no words ask for a page
+-- of them
+abbrev pub headed_text : PageHeading → View → List (List Sample) → List ℕ → Option ℕ → List ℕ
+headed_text heading Fold lists order every = view_text Fold lists [] None
+headed_text heading (Graph width) lists order every = document_text (snapshots_page heading lists order every)
+headed_text heading (Chart width) lists order every = document_text (chart_page heading lists)
+headed_text heading Pairs lists order every = view_text Pairs lists [] None
+headed_text heading (PairBoxes width) lists order every = document_text (comparison_page heading (list_of lists 0) (list_of lists 1))
+headed_text heading (Top top) lists order every = view_text (Top top) lists [] None
 
-abbrev pub page_text : Plan → RunFacts → PageForm → List (List Sample) → List ℕ
-page_text plan facts page lists = headed_text (asked_heading plan facts page lists) plan.view lists
+abbrev pub page_text : Plan → RunFacts → PageForm → List (List Sample) → List ℕ → Option ℕ → List ℕ
+page_text plan facts page lists order every = headed_text (asked_heading plan facts page lists) plan.view lists order every
 
 -- the text of a plan's view
 abbrev pub asked_text : Plan → RunFacts → List (List Sample) → List ℕ → Option ℕ → List ℕ
@@ -64,7 +65,7 @@ asked_text plan facts lists order every = told_text (told_whole plan facts) plan
 
 abbrev pub text_in : Form → Plan → RunFacts → List (List Sample) → List ℕ → Option ℕ → List ℕ
 text_in form.Text plan facts lists order every = asked_text plan facts lists order every
-text_in (form.Page page) plan facts lists order every = page_text plan facts page lists
+text_in (form.Page page) plan facts lists order every = page_text plan facts page lists order every
 text_in form.Types plan facts lists order every = asked_text plan facts lists order every
 
 -- the text that a plan asks for: its page, or that of its view

@@ -6,5 +6,5 @@ mod sent_pages;
 mod sent_views;
 
 pub use run_facts::RunFacts;
-pub use sent_pages::send_asked_page;
+pub use sent_pages::{send_asked_page, send_graph_with_snapshots};
 pub use sent_views::{send_asked_view, send_snapshots, send_text};

@@ -1,26 +1,28 @@
 //! Pages for browsers of what was collected, sent while they are made.
-ghost use Rattle.std.specs.Prelude.{◌≡◌, ◌<◌, ◌^◌, IfOk, length, map, slice_get, string_bytes, unwrap_or};
+ghost use Rattle.std.specs.Prelude.{◌≡◌, ◌<◌, ◌^◌, [], None, IfOk, length, map, slice_get, string_bytes, unwrap_or};
 ghost use Rattle.merged_stacks.specs.Timeline.{samples_of, total_weight};
 ghost use Rattle.page_texts.specs.Document.{document_text};
 ghost use Rattle.page_texts.specs.Drawn.{source_of};
-ghost use Rattle.page_views.specs.Pages.{chart_page, comparison_page, graph_page, heading_of};
+ghost use Rattle.page_views.specs.Pages.{chart_page, comparison_page, graph_page, heading_of, snapshots_page};
 ghost use Rattle.command_line.specs.Plans.{IsComparison};
 ghost use Rattle.source_lists.specs.Types.{type_or_none};
-ghost use Rattle.sent_views.specs.Pages.{default_title, headed_text, page_text, sources_of};
+ghost use Rattle.sent_views.specs.Pages.{asked_heading, default_title, headed_text, page_text, sources_of};
 ghost use Rattle.opened_sources.specs.Failures.{Flushes, Sends};
 
 use crate::run_facts::RunFacts;
 use crate::sent_views::send_plain_view;
 use byte_io::Outlet;
 use command_line::{PageForm, Plan, View};
-use merging::SourceLists;
+use merging::{Gathered, SourceLists};
 use opened_sources::{Failure, path_of};
-use page_views::{Heading, Source, send_chart_page, send_comparison_page, send_graph_page};
+use page_views::{
+    Heading, Source, send_chart_page, send_comparison_page, send_graph_page, send_snapshots_page,
+};
 use profile_messages::SampleType;
 use stack_core::SourceList;
 use std::alloc::{AllocError, Global};
 
-/// Sends the page that a plan asks for.
+/// Sends the page that a plan asks for, without snapshots.
 pub fn send_asked_page<W: Outlet>(
     alloc: Global,
     sources: &SourceLists,
@@ -30,7 +32,7 @@ pub fn send_asked_page<W: Outlet>(
     out: &mut W,
 ) -> Result<(), Failure>
     requires pairs { IsComparison plan.now.view → length sources.now.lists ≡ 2 }
-    ensures sent { Sends (page_text plan.now facts.now page.now (samples_of sources.now.lists))
+    ensures sent { Sends (page_text plan.now facts.now page.now (samples_of sources.now.lists) [] None)
         (W.contents out.old) (W.contents out.new) result }
     ensures flushed { Flushes (W.is_flushed out.new) (W.failures out.old) (W.failures out.new)
         result }
@@ -38,13 +40,53 @@ pub fn send_asked_page<W: Outlet>(
     let files = plan.files.get();
     let title = title_of(alloc, page, files)?;
     let described = described_sources(alloc, files, facts.types.get(), sources)?;
-    let heading = Heading {
-        title: title.as_str(),
-        sources: &described,
+    let heading = heading_with(&title, &described, facts, page);
+    send_headed(alloc, sources, plan.view, &heading, out)
+}
+
+/// Sends the page of the graph of what was collected, with its snapshots, under the heading that a plan asks for.
+pub fn send_graph_with_snapshots<W: Outlet>(
+    alloc: Global,
+    gathered: &Gathered,
+    plan: &Plan,
+    facts: &RunFacts,
+    page: &PageForm,
+    out: &mut W,
+) -> Result<(), Failure>
+    ensures sent { Sends (document_text (snapshots_page
+        (asked_heading plan.now facts.now page.now (samples_of gathered.now.lists))
+        (samples_of gathered.now.lists) gathered.now.order gathered.now.every))
+        (W.contents out.old) (W.contents out.new) result }
+    ensures flushed { Flushes (W.is_flushed out.new) (W.failures out.old) (W.failures out.new)
+        result }
+{
+    let files = plan.files.get();
+    let title = title_of(alloc, page, files)?;
+    let described = described_sources(alloc, files, facts.types.get(), gathered.sources())?;
+    let heading = heading_with(&title, &described, facts, page);
+    send_moments(alloc, gathered, &heading, out)
+}
+
+// What a page with this title and these sources says beside its drawings.
+fn heading_with<'a>(
+    title: &'a str,
+    described: &'a [Source<'a>],
+    facts: &RunFacts,
+    page: &PageForm,
+) -> Heading<'a>
+    ensures { heading_of result ≡ record {
+      title = title.now;
+      sources = map source_of described.now;
+      least = page.now.least;
+      whole = facts.now.whole;
+    } }
+{
+    Heading {
+        title,
+        sources: described,
         least: page.least,
         whole: u128::from(facts.whole),
-    };
-    send_headed(alloc, sources, plan.view, &heading, out)
+    }
 }
 
 // What a page of these files is called.
@@ -124,7 +166,7 @@ fn send_headed<W: Outlet>(
     out: &mut W,
 ) -> Result<(), Failure>
     requires pairs { IsComparison view → length sources.now.lists ≡ 2 }
-    ensures sent { Sends (headed_text (heading_of heading.now) view (samples_of sources.now.lists))
+    ensures sent { Sends (headed_text (heading_of heading.now) view (samples_of sources.now.lists) [] None)
         (W.contents out.old) (W.contents out.new) result }
     ensures flushed { Flushes (W.is_flushed out.new) (W.failures out.old) (W.failures out.new)
         result }
@@ -153,6 +195,23 @@ fn send_graph<W: Outlet>(
         result }
 {
     send_graph_page(alloc, sources, heading, out)?;
+    Ok(())
+}
+
+// Sends the page of the graph and its snapshots.
+fn send_moments<W: Outlet>(
+    alloc: Global,
+    gathered: &Gathered,
+    heading: &Heading<'_>,
+    out: &mut W,
+) -> Result<(), Failure>
+    ensures sent { Sends (document_text (snapshots_page (heading_of heading.now)
+        (samples_of gathered.now.lists) gathered.now.order gathered.now.every))
+        (W.contents out.old) (W.contents out.new) result }
+    ensures flushed { Flushes (W.is_flushed out.new) (W.failures out.old) (W.failures out.new)
+        result }
+{
+    send_snapshots_page(alloc, gathered, heading, out)?;
     Ok(())
 }
 

@@ -26,7 +26,7 @@ use Rattle.ring_collect.specs.Collection.{seen_as_rest}
 use Rattle.source_lists.specs.Lists.{AreLimited}
 use Rattle.source_lists.specs.WholeRuns.{kept_pairs}
 use Rattle.source_lists.specs.checked.KeptStacks.{all_are_kept, are_kept, are_matched, is_marked}
-use Rattle.source_lists.proofs.OrderLemmas.{count_of-push}
+use Rattle.source_lists.proofs.OrderLemmas.{length-interleaved, no_pair, pair_at}
 
 -- ---- names and stacks
 
@@ -94,54 +94,9 @@ kept_more asked samples i within =
 
 -- ---- the order
 
--- what stands at no place
-abbrev no_pair : ℕ × Sample
-no_pair = (0, record { stack = []; weight = 0 })
-
 -- the sources of the pairs that are kept
 abbrev pub kept_sources : Filter → List (ℕ × Sample) → List ℕ
 kept_sources asked pairs = sources_of (kept_pairs asked pairs)
-
--- the next sample of a source stands in its list
-pub next_within : (order : List ℕ) (lists : List (List Sample)) (p source : ℕ) → IsInterleaving order lists → p < length order → source ≡ get_or order p 0
-    → (source < length lists) × (count_of source (take p order) < length (list_of lists source))
-next_within order lists p source h within is =
-    let one_more : count_of source (take (p + 1) order) ≡ count_of source (take p order) + 1 =
-    ap (count_of source) (take_more order p 0 within) ∙ (count_of-push (take p order) (get_or order p 0) source).0 (sym is) in
-    let all : count_of source order ≡ count_of source (take (p + 1) order) + count_of source (drop (p + 1) order) =
-    ap (count_of source) (sym (take-append-drop (p + 1) order)) ∙ count_of-append source (take (p + 1) order) (drop (p + 1) order) in
-    let within_list : count_of source (take p order) < length (list_of lists source) = omega (arith, one_more, all, h.as_often source) in
-    let is_source : source < length lists = elim (cases_lt source (length lists)) [
-      | inl below ↦ below
-      | inr past ↦ absurd (omega (arith, within_list, ap length (get_or_past lists source [] past)))
-    ] in
-    (is_source, within_list)
-
--- a source counts less than all that came
-pub count_at_most : (order : List ℕ) (p source : ℕ) → p ≤ length order → count_of source (take p order) ≤ p
-count_at_most order p source within = omega (arith, count_by-le-length (λ entry. nat_eq entry source) (take p order), length-take-le p order within)
-
--- one more of a source came
-pub counted_more : (before came : List ℕ) (source n : ℕ) → source < length came → get_or came source 0 ≡ count_of source before → n ≡ count_of source before + 1
-    → (other : ℕ) → get_or came other 0 ≡ count_of other before → get_or (set came source n) other 0 ≡ count_of other (before ++ source ∷ [])
-counted_more before came source n within counted is other known = elim (cases_eq source other) [
-  | inl same ↦ ap (λ k. get_or (set came source n) k 0) (sym same) ∙ (get_or-set_same came source n 0 within ∙ (is ∙ sym (subst (λ k. count_of k (before ++ source ∷ []) ≡ count_of source before + 1) same ((count_of-push before source source).0 refl))))
-  | inr apart ↦ get_or-set_other came source other n 0 (λ e. apart (sym e)) ∙ (known ∙ sym ((count_of-push before source other).1 apart))
-]
-
--- what an order stands for at a place: the next sample of its source
-pair_at : (lists : List (List Sample)) (order : List ℕ) (p source at : ℕ) → IsInterleaving order lists → p < length order → source ≡ get_or order p 0 → at ≡ count_of source (take p order)
-    → at < length (list_of lists source) → get_or (interleaved order lists) p no_pair ≡ (source, sample_at (list_of lists source) at)
-pair_at lists order p source at ordered within is counted in_list =
-    let list = list_of lists source in
-    get_or_from_slice_get (interleaved order lists) p (source, sample_at list at) no_pair
-    (slice_get-interleaved order lists ordered p source (slice_get-get_or order p 0 within ∙ ap Some (sym is))
-    ∙ ap (λ (found : Option Sample). option_map (λ (sample : Sample). (source, sample)) found)
-    (ap (slice_get list) (sym counted) ∙ slice_get-get_or list at (record { stack = []; weight = 0 }) in_list))
-
-length-interleaved : (lists : List (List Sample)) (order : List ℕ) → IsInterleaving order lists → length (interleaved order lists) ≡ length order
-length-interleaved lists order ordered =
-    sym (length-map (interleaved order lists) (λ (pair : ℕ × Sample). pair.0)) ∙ ap length (sources_of-interleaved order lists ordered)
 
 sources_of_one : (b : Bool) (pair : ℕ × Sample) → sources_of (cond b (pair ∷ []) []) ≡ cond b (pair.0 ∷ []) []
 sources_of_one true pair = refl
@@ -230,9 +185,6 @@ all_pairs_kept asked e (pair ∷ pairs) =
     ∙ ap (λ later. pair ∷ later) (all_pairs_kept asked e pairs)
 
 -- ---- lists and their marks
-
-pub list_at : (lists : List ListState) (k : ℕ) (list : ListState) → k < length lists → list ≡ get_or lists k list → list_of (samples_of lists) k ≡ list.samples
-list_at lists k list within is = get_or-map (λ (list : ListState). list.samples) lists k list [] within ∙ ap (λ (list : ListState). list.samples) (sym is)
 
 pub marks_at : {X : Type 0} (items : X → List Bool) (asked : Filter) (lists : List ListState) (kept : List X) (k : ℕ) (marks : X) (list : ListState) → map items kept ≡ all_are_kept asked lists → k < length kept → k < length lists
     → marks ≡ get_or kept k marks → list ≡ get_or lists k list → items marks ≡ are_kept asked list

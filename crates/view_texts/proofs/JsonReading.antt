@@ -45,7 +45,7 @@ abbrev mutual
 -- ---- its tokens
 
 mutual
-  HasNumbers-outline : (d : Data) → HasWholeNumbers d → tree.HasNumbers (outline d)
+  pub HasNumbers-outline : (d : Data) → HasWholeNumbers d → tree.HasNumbers (outline d)
   HasNumbers-outline null h = tt
   HasNumbers-outline (boolean b) h = tt
   HasNumbers-outline (number (unsigned n)) h = IsNumber-decimal n h

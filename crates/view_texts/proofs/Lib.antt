@@ -8,6 +8,7 @@ pub mod JsonValues
 pub mod MergedLines
 pub mod PairRows
 pub mod PartFolds
+pub mod PlainTexts
 pub mod StackPairs
 pub mod SumViews
 pub mod TextPieces

@@ -1,10 +1,11 @@
 //! Numbers, texts and lists of numbers in JSON.
 
-ghost use Rattle.std.specs.Prelude.{◌≡◌, ◌++◌, map, decimal, OnOk};
+ghost use Rattle.std.specs.Prelude.{◌≡◌, ◌++◌, map, decimal, All, OnOk, IsTrue, ◌↔◌};
 ghost use Rattle.std.specs.Io.{StartsWith};
 ghost use Rattle.serde_json.specs.Data.{string};
 ghost use Rattle.serde_json.specs.Written.{comma_if, compact_text};
 ghost use Rattle.view_texts.specs.Json.{whole_number, list_data};
+ghost use Rattle.view_texts.specs.checked.PlainTexts.{IsPlainByte};
 
 use itoa::Buffer;
 use std::alloc::{AllocError, Global};
@@ -16,7 +17,8 @@ pub(crate) fn comma_if(later: bool) -> &'static [u8]
     if later { b"," } else { b"" }
 }
 
-// Appends a literal piece and a number.
+// Appends a literal piece and a number. It is inlined so that the length of the piece is known.
+#[inline(always)]
 pub(crate) fn append_number(out: &mut Vec<u8>, piece: &[u8], number: u64) -> Result<(), AllocError>
     ensures ok { OnOk result (out.new.items ≡ out.old.items ++ (piece.now ++ decimal number)) }
     ensures front { StartsWith out.new.items out.old.items }
@@ -38,11 +40,25 @@ pub(crate) fn append_text(
     ensures front { StartsWith out.new.items out.old.items }
 {
     out.extend_from_slice(piece)?;
+    if is_plain(text.as_bytes()) {
+        out.push(b'"')?;
+        out.extend_from_slice(text.as_bytes())?;
+        out.push(b'"')?;
+        return Ok(());
+    }
     match serde_json::to_vec(alloc, &text) {
         Ok(quoted) => out.extend_from_slice(&quoted),
         // A text is refused for want of memory alone.
         Err(_) => Err(AllocError),
     }
+}
+
+// Whether a text stands in quotes as it is, without an escape.
+fn is_plain(text: &[u8]) -> bool
+    ensures { IsTrue result ↔ All IsPlainByte text.now }
+{
+    text.iter()
+        .all(|byte| *byte >= b' ' && *byte != b'"' && *byte != b'\\')
 }
 
 // Appends a literal piece and a list of numbers.

@@ -67,7 +67,7 @@ fn usage_of_refused_words(rt: HostRuntime) -> Result<(), Fail> {
         ("draw a", "\nUsage: flamecollect <COMMAND>\n"),
         (
             "fold --format svg",
-            "error: invalid value for '--format <FORMAT>'\n  [possible values: folded, pprof]\n",
+            "error: invalid value 'svg' for '--format <FORMAT>'\n  [possible values: folded, pprof]\n",
         ),
     ];
     for (line, usage) in usages {

@@ -97,7 +97,7 @@ fn refused_tables(rt: HostRuntime) -> Result<(), Fail> {
 
 #[test]
 fn text_of_an_unknown_order(rt: HostRuntime) -> Result<(), Fail> {
-    let told = "error: invalid value for '--by <WEIGHT>'\n  [possible values: own, total]\n";
+    let told = "error: invalid value 'name' for '--by <WEIGHT>'\n  [possible values: own, total]\n";
     assert!(rt; is_refused(rt.alloc(), "top --by name", told));
     Ok(())
 }

@@ -1,5 +1,5 @@
 -- What a failed run says of the sources and of the output, by its plan.
-use Rattle.std.specs.Prelude.{◌≡◌, ℕ, List, true, false, Option}
+use Rattle.std.specs.Prelude.{◌≡◌, ℕ, List, true, false, Option, Result, Ok, Err}
 use Rattle.std.specs.Io.KnownBytes.{Keeps}
 use Rattle.stack_core.specs.Ledgers.{ListState}
 use Rattle.stack_core.specs.Reading.{Rest}
@@ -7,11 +7,16 @@ use Rattle.command_line.specs.declared.plans.Plan.{Plan}
 use Rattle.command_line.specs.declared.plans.PlanFault.{PlanFault}
 use Rattle.command_line.specs.declared.plans.PlanFault.TheVariants as fault
 use Rattle.byte_io.specs.Pieces.{AppendsFront}
-use Rattle.opened_sources.specs.Failures.{has_fault}
+use Rattle.opened_sources.specs.Failures.{has_fault, status_of}
 use Rattle.opened_sources.specs.declared.failures.Failure.{Failure}
 use Rattle.opened_sources.specs.declared.failures.Failure.TheVariants.{TooManyFiles, Unreadable, TooLarge, OutOfMemory, NoThread, Unfinished, Faults, Output}
 use Rattle.sent_views.specs.declared.run_facts.RunFacts.{RunFacts}
 use Rattle.flame_tool.specs.Runs.{HasFault, ShowsFront}
+
+-- the exit status of a run that showed what was asked for, or failed
+abbrev pub exit_status : {T : Type 0} → Result T Failure → ℕ
+exit_status (Ok done) = 0
+exit_status (Err failure) = status_of failure
 
 -- the output is as it was, unless a text was not sent whole
 abbrev pub KeepsOutput : Option (List ℕ) → Option (List ℕ) → Failure → Type 0

@@ -1,4 +1,4 @@
--- Which forms have snapshots, and which texts have no order in them.
+-- Which forms are texts of the view, and which of these have no order in them.
 use Rattle.std.specs.Prelude.{ℕ, Option}
 use Rattle.command_line.specs.declared.plans.Form.{Form}
 use Rattle.command_line.specs.declared.plans.Form.TheVariants as form
@@ -11,7 +11,7 @@ IsOfView form.Text = Unit {0}
 IsOfView (form.Page page) = ⊥
 IsOfView form.Types = Unit {0}
 
--- what is written is the same in whatever order the samples come
+-- a text of the view is the same in whatever order the samples come
 abbrev pub IsOrderlessIn : Form → View → Option ℕ → Type 0
 IsOrderlessIn form.Text view every = IsOrderless view every
 IsOrderlessIn (form.Page page) view every = Unit {0}

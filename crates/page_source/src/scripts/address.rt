@@ -28,12 +28,26 @@ return `#${words.join('&')}`;
 function wholeNumber(text, limit) {
 return /^[0-9]{1,15}$/.test(text || '') && Number(text) < limit ? Number(text) : -1;
 }
-function stateOf(page, fragment) {
+function wordsOf(fragment) {
 const words = new Map();
 for (const word of fragment.replace(/^#/, '').split('&')) {
 const place = word.indexOf('=');
 if (place > 0) words.set(word.slice(0, place), word.slice(place + 1));
 }
+return words;
+}
+function wordsOfStep(fragment, made, now) {
+const words = wordsOf(fragment);
+[made, now] = [wordsOf(made), wordsOf(now)];
+for (const key of ['find', 'by', 'drawing', 'root']) {
+if (made.get(key) === now.get(key)) continue;
+if (key === 'drawing') words.delete('box');
+if (now.has(key)) words.set(key, now.get(key));
+else words.delete(key);
+}
+return words;
+}
+function stateOf(page, words) {
 const number = wholeNumber(words.get('drawing'), page.drawingCount);
 const drawing = number >= 0 ? number : page.drawingCount - 1;
 const source = page.view === 'chart' ? wholeNumber(words.get('source'), page.sources.length) : -1;
@@ -51,9 +65,10 @@ below: words.get('root') === 'below',
 }
 function writeAddress(fragment, isStep) {
 const now = history.state?.steps || 0;
+const address = fragment === '#' && location.hash === '' ? '' : fragment;
 try {
-if (isStep) history.pushState({ steps: now + 1 }, '', fragment);
-else history.replaceState({ steps: now }, '', fragment);
+if (isStep) history.pushState({ steps: now + 1 }, '', address);
+else history.replaceState({ steps: now }, '', address);
 } catch {
 }
 }

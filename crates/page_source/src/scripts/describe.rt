@@ -34,8 +34,8 @@ return [shortened(page.names[drawing.name[box]], 300) || '(empty name)', ...deta
 function summaryText(page, drawing) {
 const kinds = { graph: 'Flame graph', chart: 'Flame chart' };
 const files = page.sources.length === 1 ? '1 source' : `${page.sources.length} sources`;
-const types = [...new Set(page.sources.map((source) => source.type))].filter((type) => type !== '');
-const type = types.length === 1 ? ` of ${visible(types[0])}` : '';
+const types = [...new Set(weighty(page.sources).map((source) => source.type))];
+const type = types.length === 1 && types[0] !== '' ? ` of ${visible(types[0])}` : '';
 const boxes = `${separated(drawing.count)} ${drawing.count === 1 ? 'box' : 'boxes'}`;
 if (page.view === 'compare') {
 const [before, after] = page.sources.map((source) => source.weight);
@@ -49,11 +49,12 @@ const type = source.type === '' ? '' : ` of ${visible(source.type)}`;
 return `${shortened(source.name, 300)}: ${exactText(source.weight, source.unit)}${type}`;
 }
 function unitsNotice(page) {
-const told = page.sources.map(({ name, unit }) => `${shortened(name, 60)} in ${unit === '' ? 'plain numbers' : visible(unit)}`);
-return `The sources have different units, so their sum means little: ${told.join(', ')}.`;
+const told = weighty(page.sources).map(({ name, unit }) => `${shortened(name, 60)} in ${unit === '' ? 'plain numbers' : visible(unit)}`);
+const little = page.view === 'compare' ? 'comparing them' : 'their sum';
+return `The sources have different units, so ${little} means little: ${told.join(', ')}.`;
 }
 function typesNotice(page) {
-const told = page.sources.map(({ name, type }) => `${shortened(name, 60)} has ${visible(type)}`);
+const told = weighty(page.sources).map(({ name, type }) => `${shortened(name, 60)} has ${type === '' ? 'none' : visible(type)}`);
 return `The sources have different types of samples: ${told.join(', ')}.`;
 }
 function filterNotice(page) {
@@ -62,22 +63,27 @@ const kept = share === '100%' ? 'more than 99.9%' : share;
 const whole = page.view === 'compare' ? 'the whole of both profiles' : 'the whole';
 return `A filter keeps ${kept} of ${whole}: ${exactText(page.kept, page.unit)} of ${exactText(page.whole, page.unit)}.`;
 }
+function leftOutNotice(page, drawing, of) {
+const { boxes, weight } = drawing.leftOut;
+if (boxes === 0) return '';
+const many = `${separated(boxes)} ${boxes === 1 ? 'box' : 'boxes'} of together ${exactText(weight, page.unit)}`;
+return `Left out${of}: ${many}, each lighter than ${weightText(drawing.least, page.unit)}. Neither the search nor the lists count them.`;
+}
+function leftOutNotices(page, drawing) {
+if (page.view !== 'compare') return [leftOutNotice(page, drawing, '')];
+return [leftOutNotice(page, page.drawing(0), ' of the profile before'), leftOutNotice(page, page.drawing(1), ' of the profile after')];
+}
 function noticesOf(page, drawing) {
 const notices = [];
 if (page.unit === null) notices.push(unitsNotice(page));
-else if (new Set(page.sources.map((source) => source.type)).size > 1) notices.push(typesNotice(page));
+else if (new Set(weighty(page.sources).map((source) => source.type)).size > 1) notices.push(typesNotice(page));
 if (page.isFiltered) notices.push(filterNotice(page));
 if (Math.max(page.kept, page.whole) > Number.MAX_SAFE_INTEGER) {
 const limit = separated(Number.MAX_SAFE_INTEGER);
 notices.push(`Weights above ${limit} are rounded here: JavaScript has no more digits. The data in the document is exact.`);
 }
-const { boxes, weight } = drawing.leftOut;
-if (boxes > 0) {
-const least = weightText(drawing.least, page.unit);
-const many = `${separated(boxes)} ${boxes === 1 ? 'box' : 'boxes'}`;
-notices.push(`Left out: ${many} of together ${exactText(weight, page.unit)}, each lighter than ${least}.`);
-}
-if (drawing.count === 0 && boxes === 0) notices.push('No sample has weight, so there is nothing to draw.');
+notices.push(...leftOutNotices(page, drawing).filter((notice) => notice !== ''));
+if (drawing.count === 0 && drawing.leftOut.boxes === 0) notices.push('No sample has weight, so there is nothing to draw.');
 return notices;
 }
 function countsText(page, counts) {

@@ -48,7 +48,7 @@ return cell;
 function functionRow(page, drawing, rows, name, onChoose) {
 const row = document.createElement('tr');
 const first = document.createElement('td');
-const button = nameButton(shortened(page.names[name], 200) || '(empty name)', () => onChoose(page.names[name]));
+const button = nameButton(nameText(page.names[name]), () => onChoose(page.names[name], rows.total[name] > 0));
 button.title = described(page.names[name]);
 first.append(button);
 row.append(first, weightCell(rows.own[name], drawing.total, page.unit), weightCell(rows.total[name], drawing.total, page.unit));

@@ -13,10 +13,15 @@ const showRing = ringOf(page, picture);
 const showLanes = laneStrip(page, (source) => change({ source, box: 0, focus: 0 }, true));
 const tip = tipOf(page);
 const matching = nameMatcher(page.names);
-const showFunctions = functionTable(page, (name) => change({ find: name, by: 'name' }, true));
+const showFunctions = functionTable(page, searchFunction);
 let view = null;
 let hovered = -1;
 let wished = null;
+let made = '';
+function searchFunction(find, isHere) {
+const there = isHere ? {} : { drawing: 1 - view.state.drawing, box: 0, focus: 0 };
+change({ find, by: 'name', ...there }, true);
+}
 function searched(state, drawing) {
 if (state.find === '') return { matches: null, isRefused: false };
 const isSame = view && view.matches && view.drawing === drawing && view.state.find === state.find && view.state.by === state.by;
@@ -40,7 +45,7 @@ showFocus();
 function refresh() {
 if (stage.isStale()) paint();
 }
-function look(state, address) {
+function look(state) {
 const old = view;
 view = viewOf(state);
 hovered = -1;
@@ -54,10 +59,14 @@ stage.makeRoom(view);
 if (state.below !== (old ? old.state.below : false)) picture.scrollTop = state.below ? picture.scrollHeight : 0;
 if (!old || old.state.box !== state.box || old.drawing !== view.drawing) revealFocus();
 paint();
-if (address) writeAddress(fragmentOf(page, view.drawing, state), address.isStep);
+}
+function address() {
+return fragmentOf(page, view.drawing, view.state);
 }
 function change(changed, isStep) {
-look({ ...view.state, ...changed }, { isStep });
+look({ ...view.state, ...changed });
+if (isStep) made = address();
+writeAddress(address(), isStep);
 }
 function revealFocus() {
 if (view.drawing.count > 0) stage.reveal(view, view.drawing.depth[view.state.focus]);
@@ -103,19 +112,26 @@ if (box < 0) return;
 if (!isInSpan(view.drawing, box, view.span)) change({ box: 0, source: -1, focus: box }, true);
 focusOn(box);
 }
-function lookAtAddress() {
-const state = stateOf(page, location.hash);
-look({ ...state, focus: state.box }, null);
+function arrive(words) {
+const state = stateOf(page, words);
+const drawing = page.drawing(state.drawing);
+const isInside = view && view.drawing === drawing && view.state.focus >= state.box && view.state.focus < drawing.end[state.box];
+look({ ...state, focus: isInside ? view.state.focus : state.box });
+made = address();
+writeAddress(made, false);
+}
+function goTo(event) {
+arrive(event.state ? wordsOfStep(location.hash, made, address()) : wordsOf(location.hash));
 }
 const actions = { change, goBack, zoomTo, focusOn, turnTo, toMatch, refresh, view: () => view };
-lookAtAddress();
+arrive(wordsOf(location.hash));
 if (page.view === 'compare') {
 goneList(page, (box) => change({ drawing: 0, source: -1, box, focus: box }, true));
 }
 listenToTools(page, stage, actions);
 listenToPointer(stage, tip, actions, (box) => { hovered = box; });
 listenToKeys(picture, actions);
-window.addEventListener('popstate', lookAtAddress);
+window.addEventListener('popstate', goTo);
 new ResizeObserver(actions.refresh).observe(picture);
 stage.darkness.addEventListener('change', paint);
 }

@@ -23,8 +23,8 @@ if (text === '') return '(empty name)';
 if (text.length <= most) return visible(text);
 return `${shortened(text, most)} (${text.length.toLocaleString('en')} characters)`;
 }
-function joined(path) {
-return path.map((name) => shortened(name, 200)).join(' \u203a ');
+function nameText(text) {
+return shortened(text, 200) || '(empty name)';
 }
 function hashOf(text) {
 let hash = 0x811c9dc5;

@@ -58,10 +58,13 @@ actions.toMatch(true);
 });
 element('previous').addEventListener('click', () => actions.toMatch(false));
 element('find').addEventListener('keydown', (event) => {
-if (event.key !== 'Enter' || !event.shiftKey) return;
+const isPrevious = event.key === 'Enter' && event.shiftKey;
+const isCleared = event.key === 'Escape' && element('find').value !== '';
+if (!isPrevious && !isCleared) return;
 event.preventDefault();
+if (isCleared) element('find').value = '';
 search();
-actions.toMatch(false);
+if (isPrevious) actions.toMatch(false);
 });
 }
 function listenToPrint(stage, actions) {
@@ -120,7 +123,7 @@ event.preventDefault();
 });
 document.addEventListener('keydown', (event) => {
 const isTyping = event.target.matches('input[type="search"], select');
-if (event.key === 'Escape' && !(isTyping && element('find').value !== '')) actions.goBack();
+if (event.key === 'Escape' && !event.defaultPrevented && !event.target.matches('select')) actions.goBack();
 if (event.key !== '/' || isTyping || event.ctrlKey || event.metaKey || event.altKey) return;
 event.preventDefault();
 element('find').focus();

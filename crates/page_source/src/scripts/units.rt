@@ -6,7 +6,7 @@ const BYTES = { bytes: 1, kilobytes: 1024, megabytes: 1024 ** 2, gigabytes: 1024
 const TIME_STEPS = [[1, 's'], [1e-3, 'ms'], [1e-6, '\u00b5s'], [1e-9, 'ns']];
 const BYTE_STEPS = [[1024 ** 4, 'TiB'], [1024 ** 3, 'GiB'], [1024 ** 2, 'MiB'], [1024, 'KiB'], [1, 'B']];
 function threeDigits(number) {
-return number.toLocaleString('en', { maximumSignificantDigits: Math.abs(number) < 1000 ? 3 : 21, maximumFractionDigits: 2 });
+return number.toLocaleString('en', number < 999.5 ? { maximumSignificantDigits: 3 } : { maximumFractionDigits: 0 });
 }
 function separated(number) {
 return number.toLocaleString('en', { maximumFractionDigits: 0 });
@@ -15,8 +15,11 @@ function inSteps(value, steps) {
 const [size, sign] = steps.find(([step]) => value >= step * 0.9995) || steps[steps.length - 1];
 return `${threeDigits(value / size)} ${sign}`;
 }
+function weighty(sources) {
+return sources.filter((source) => source.weight > 0);
+}
 function commonUnit(sources) {
-const units = new Set(sources.map((source) => source.unit));
+const units = new Set(weighty(sources).map((source) => source.unit));
 return units.size > 1 ? null : [...units].join('');
 }
 function weightText(weight, unit) {

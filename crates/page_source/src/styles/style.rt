@@ -83,7 +83,7 @@ white-space: nowrap;
 #picture:focus .ring { box-shadow: 0 0 0 1px var(--paper); outline: 3px solid var(--accent); outline-offset: -3px; }
 #status { color: var(--quiet); height: 1.4em; overflow: hidden; text-overflow: ellipsis; unicode-bidi: isolate; white-space: nowrap; }
 #paper { display: none; }
-#lists { border-left: 1px solid var(--line); overflow-y: auto; padding-left: 0.8rem; width: 27rem; }
+#lists { border-left: 1px solid var(--line); overflow-y: auto; padding-left: 0.8rem; width: max(27rem, 24vw); }
 #functions table { border-collapse: collapse; width: 100%; }
 #functions th { background: var(--paper); padding: 0 0 0 0.6rem; position: sticky; text-align: right; top: 0; white-space: nowrap; }
 #functions td { font-variant-numeric: tabular-nums; padding: 0 0 0 0.6rem; text-align: right; white-space: nowrap; }
@@ -101,6 +101,10 @@ text-overflow: ellipsis;
 unicode-bidi: isolate;
 white-space: nowrap;
 }
+#gone-list button { display: flex; white-space: pre; }
+#gone-list span { flex: 0 0 auto; overflow: hidden; text-overflow: ellipsis; unicode-bidi: isolate; }
+#gone-list span:nth-child(2) { flex-shrink: 1; }
+#gone-list span:last-child { max-width: 75%; }
 #lists td button:hover, #gone-list button:hover { text-decoration: underline; }
 #gone { border-bottom: 1px solid var(--line); margin-bottom: 0.5rem; padding-bottom: 0.5rem; }
 #gone-list { list-style: none; margin: 0; max-height: 40vh; overflow: auto; padding: 0; }
@@ -123,6 +127,7 @@ z-index: 4;
 @media (max-width: 60rem) {
 body { height: auto; min-height: 100vh; }
 main { flex-direction: column; }
+#find { width: 9.5rem; }
 #picture { height: 70vh; }
 #lists { border-left: 0; padding: 0; width: auto; }
 }

@@ -8,17 +8,17 @@ use Rattle.command_line.proofs.refusals.check_entries.Goals as goal
 pub returns-then-not-knows_format-clause-refused : goal.returns-then-not-knows_format-clause-refused
 returns-then-not-knows_format-clause-refused c =
     let format : knows_format (entries_of c.args.entries.now) ≡ false = search rules in
-    refused_for (entries_of c.args.entries.now) kind.InvalidValue _ (refused_format (entries_of c.args.entries.now) format) c.refused.ensures
+    refused_for (entries_of c.args.entries.now) kind.InvalidValue _ (refused_format (entries_of c.args.entries.now) format) c.refused_value.ensures
 
 pub returns-then-not-knows_order-clause-refused : goal.returns-then-not-knows_order-clause-refused
 returns-then-not-knows_order-clause-refused c =
     let format : knows_format (entries_of c.args.entries.now) ≡ true = search rules in
     let order : knows_order (entries_of c.args.entries.now) ≡ false = search rules in
-    refused_for (entries_of c.args.entries.now) kind.InvalidValue _ (refused_order (entries_of c.args.entries.now) format order) c.refused-then-not-knows_order.ensures
+    refused_for (entries_of c.args.entries.now) kind.InvalidValue _ (refused_order (entries_of c.args.entries.now) format order) c.refused_value-then-not-knows_order.ensures
 
 pub returns-then-not-has_its_page-clause-refused : goal.returns-then-not-has_its_page-clause-refused
 returns-then-not-has_its_page-clause-refused c =
     let format : knows_format (entries_of c.args.entries.now) ≡ true = search rules in
     let order : knows_order (entries_of c.args.entries.now) ≡ true = search rules in
     let page : has_its_page (entries_of c.args.entries.now) ≡ false = search rules in
-    refused_for (entries_of c.args.entries.now) kind.MissingRequiredArgument _ (refused_page (entries_of c.args.entries.now) format order page) c.refused-then-not-has_its_page.ensures
+    refused_for (entries_of c.args.entries.now) kind.MissingRequiredArgument _ (refused_page (entries_of c.args.entries.now) format order page) c.refused.ensures

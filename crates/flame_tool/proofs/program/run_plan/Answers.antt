@@ -1,20 +1,42 @@
-use Rattle.std.proofs.Common.{rules, sym, ◌∙◌}
-use Rattle.flame_tool.proofs.RunEndings.{failed_faulty, failed_front}
-use Rattle.flame_tool.proofs.TypeEndings.{types_faulty, types_front}
+use Rattle.std.proofs.Common.{◌≤◌, arith, subst, sym, ◌∙◌}
+use Rattle.flame_tool.proofs.ExitStatuses.{at_zero, faulty_at_one, few_but_at_two, flushed_at_zero, front_at_three, kept_but_at_three, many_at_two, status_within, types_faulty_at_one, types_front_at_three, unfailed_but_at_three}
 use Rattle.flame_tool.proofs.program.run_plan.Goals as goal
 
+pub returns-clause-status : goal.returns-clause-status
+returns-clause-status g c = subst (λ status. status ≤ 3) (sym c.end_run.ensures) (status_within c.show_plan-shown.result)
+
+pub returns-clause-shown : goal.returns-clause-shown
+returns-clause-shown g c = λ zero. at_zero c.show_plan-shown.result (sym c.end_run.ensures ∙ zero) c.show_plan-shown.ensures.ok
+
 pub returns-clause-faulty : goal.returns-clause-faulty
-returns-clause-faulty g c =
-    λ one. failed_faulty c.args.plan _ _ _ _ c.in-Err.failure (sym c.status.ensures ∙ one) c.in-Err.ensures.err
+returns-clause-faulty g c = λ one. faulty_at_one c.args.plan _ _ _ _ c.show_plan-shown.result (sym c.end_run.ensures ∙ one) c.show_plan-shown.ensures.err
+
+pub returns-clause-many : goal.returns-clause-many
+returns-clause-many g c = λ two. many_at_two c.show_plan-shown.result (sym c.end_run.ensures ∙ two) c.show_plan-shown.ensures.many
+
+pub returns-clause-few : goal.returns-clause-few
+returns-clause-few g c = λ other. few_but_at_two c.show_plan-shown.result (λ two. other (c.end_run.ensures ∙ two)) c.show_plan-shown.ensures.few
 
 pub returns-clause-front : goal.returns-clause-front
-returns-clause-front g c =
-    λ three. failed_front c.args.plan _ _ _ _ c.in-Err.failure (sym c.status.ensures ∙ three) (search rules) c.in-Err.ensures.err
+returns-clause-front g c = λ three. front_at_three c.args.plan _ _ _ _ c.show_plan-shown.result (sym c.end_run.ensures ∙ three) c.show_plan-shown.ensures.kept c.show_plan-shown.ensures.err
+
+pub returns-clause-types : goal.returns-clause-types
+returns-clause-types g c = λ zero. at_zero c.show_plan-shown.result (sym c.end_run.ensures ∙ zero) c.show_plan-shown.ensures.types
 
 pub returns-clause-types_faulty : goal.returns-clause-types_faulty
-returns-clause-types_faulty g c =
-    λ one. types_faulty _ _ _ _ c.in-Err.failure (sym c.status.ensures ∙ one) c.in-Err.ensures.types_err
+returns-clause-types_faulty g c = λ one. types_faulty_at_one _ _ _ _ c.show_plan-shown.result (sym c.end_run.ensures ∙ one) c.show_plan-shown.ensures.types_err
 
 pub returns-clause-types_front : goal.returns-clause-types_front
-returns-clause-types_front g c =
-    λ three. types_front _ _ _ _ c.in-Err.failure (sym c.status.ensures ∙ three) (search rules) c.in-Err.ensures.types_err
+returns-clause-types_front g c = λ three. types_front_at_three _ _ _ _ c.show_plan-shown.result (sym c.end_run.ensures ∙ three) c.show_plan-shown.ensures.kept c.show_plan-shown.ensures.types_err
+
+pub returns-clause-unwritten : goal.returns-clause-unwritten
+returns-clause-unwritten g c = λ one. kept_but_at_three _ _ c.show_plan-shown.result (λ zero. omega (arith, c.end_run.ensures, one, zero)) (λ three. omega (arith, c.end_run.ensures, one, three)) c.show_plan-shown.ensures.kept
+
+pub returns-clause-refused : goal.returns-clause-refused
+returns-clause-refused g c = λ two. kept_but_at_three _ _ c.show_plan-shown.result (λ zero. omega (arith, c.end_run.ensures, two, zero)) (λ three. omega (arith, c.end_run.ensures, two, three)) c.show_plan-shown.ensures.kept
+
+pub returns-clause-flushed : goal.returns-clause-flushed
+returns-clause-flushed g c = λ zero. flushed_at_zero _ _ c.show_plan-shown.result (sym c.end_run.ensures ∙ zero) c.show_plan-shown.ensures.flushed
+
+pub returns-clause-unfailed : goal.returns-clause-unfailed
+returns-clause-unfailed g c = λ other. unfailed_but_at_three _ _ _ c.show_plan-shown.result (λ three. other (c.end_run.ensures ∙ three)) c.show_plan-shown.ensures.flushed

@@ -4,7 +4,7 @@ use Rattle.source_lists.specs.Types.{source_type}
 use Rattle.sent_views.specs.declared.run_facts.RunFacts.{RunFacts}
 use Rattle.flame_tool.specs.KnownFacts.{facts_of}
 use Rattle.flame_tool.proofs.KnownSources.{collected_of, loaded, loaded_types, loaded_weight, ok_shown_as, err_shown_as}
-use Rattle.flame_tool.proofs.RunEndings.{graph_shown, orderless_shown, same_shown}
+use Rattle.flame_tool.proofs.RunEndings.{graph_shown, same_shown}
 use Rattle.flame_tool.proofs.views_run.show_sources.Goals as goal
 
 pub returns-in_ok-gathered-in-Some-clause-ok : goal.returns-in_ok-gathered-in-Some-clause-ok
@@ -35,7 +35,7 @@ returns-in_ok-run-in-None-clause-ok g c = λ input files opened.
     let facts : RunFacts = record { whole = c.in_ok-run-in-None.run'.whole_weight; types = c.of.result } in
     let weighed = c.in_ok-run-in-None.ensures.whole_weight ∙ loaded_weight plan.options sources in
     let told = ap (map (source_type plan.options)) c.deref.ensures.value ∙ loaded_types plan.options sources in
-    let text = same_shown plan (facts_of plan.options (loaded sources)) facts (samples_of run.lists) run.order plan.options.every (sym weighed) (λ page is. sym (c.of.ensures ∙ c.in_ok-types-in-None.ensures page is ∙ told)) ∙ orderless_shown plan facts (samples_of run.lists) run.order plan.options.every (c.in-None.ensures.none refl) in
+    let text = same_shown plan (facts_of plan.options (loaded sources)) facts (samples_of run.lists) run.order plan.options.every (sym weighed) (λ page is. sym (c.of.ensures ∙ c.in_ok-types-in-None.ensures page is ∙ told)) in
     ok_shown_as plan input files c.args.sources.items run.lists run.order plan.options.every
     (collected_of plan input files _ c.args.sources.items run.lists run.order plan.options.every refl opened
     c.in_ok-run-in-None.ensures.whole_lists c.in_ok-run-in-None.ensures.order refl)
@@ -49,7 +49,7 @@ returns-in_ok-run-in-None-clause-err g c = λ input files opened.
     let facts : RunFacts = record { whole = c.in_ok-run-in-None.run'.whole_weight; types = c.of.result } in
     let weighed = c.in_ok-run-in-None.ensures.whole_weight ∙ loaded_weight plan.options sources in
     let told = ap (map (source_type plan.options)) c.deref.ensures.value ∙ loaded_types plan.options sources in
-    let text = same_shown plan (facts_of plan.options (loaded sources)) facts (samples_of run.lists) run.order plan.options.every (sym weighed) (λ page is. sym (c.of.ensures ∙ c.in_ok-types-in-None.ensures page is ∙ told)) ∙ orderless_shown plan facts (samples_of run.lists) run.order plan.options.every (c.in-None.ensures.none refl) in
+    let text = same_shown plan (facts_of plan.options (loaded sources)) facts (samples_of run.lists) run.order plan.options.every (sym weighed) (λ page is. sym (c.of.ensures ∙ c.in_ok-types-in-None.ensures page is ∙ told)) in
     err_shown_as plan input files c.args.sources.items run.lists run.order plan.options.every
     (collected_of plan input files _ c.args.sources.items run.lists run.order plan.options.every refl opened
     c.in_ok-run-in-None.ensures.whole_lists c.in_ok-run-in-None.ensures.order refl)

@@ -2,14 +2,16 @@ use Rattle.std.proofs.Common.{List, ◌∙◌, ap, map}
 use Rattle.profile_messages.specs.declared.message.Content.{Content}
 use Rattle.profile_messages.specs.SampleTypes.{type_of}
 use Rattle.profile_messages.specs.SeenProfile.{texts_of}
+use Rattle.run_options.specs.declared.choices.Pick.TheVariants.{Preferred}
+use Rattle.profile_messages.proofs.PickLemmas.{picked-is}
 use Rattle.profile_messages.proofs.TypeLemmas.{all-types}
 use Rattle.profile_messages.proofs.types.sample_types.Goals as goal
 
 pub returns-clause-types : goal.returns-clause-types
 returns-clause-types c =
     let profile = c.in_ok-checked.checked.profile in
-    all-types c.args.bytes.now profile c.of-2.result c.in_ok-checked.checked.chosen c.in_ok-checked.ensures.profile
+    all-types c.args.bytes.now profile c.of-2.result c.in_ok-default.default c.in_ok-checked.ensures.profile
     (c.of-2.ensures ∙ c.in_ok-types.ensures
     ∙ ap (λ (strings : List Content). map (type_of (texts_of strings)) c.deref-2.result.now) c.deref.ensures.value
     ∙ ap (map (type_of (texts_of profile.strings.items))) c.deref-2.ensures.value)
-    c.in_ok-checked.ensures.chosen
+    (c.in_ok-default.ensures ∙ picked-is c.args.bytes.now profile Preferred c.in_ok-checked.ensures.profile)

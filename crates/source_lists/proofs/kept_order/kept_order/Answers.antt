@@ -6,7 +6,8 @@ use Rattle.stack_core.specs.Interleaving.{count_of}
 use Rattle.stack_core.specs.Ledgers.{ListState}
 use Rattle.merged_stacks.specs.Timeline.{samples_of}
 use Rattle.run_options.specs.Filters.{keeps}
-use Rattle.source_lists.proofs.KeptLemmas.{count_at_most, counted_more, kept_order_all, kept_order_more, list_at, marks_at, next_within}
+use Rattle.source_lists.proofs.KeptLemmas.{kept_order_all, kept_order_more, marks_at}
+use Rattle.source_lists.proofs.OrderLemmas.{count_at_most, counted_more, list_at, next_within}
 use Rattle.source_lists.proofs.kept_order.kept_order.Goals.{then-is_kept+in_ok-push, else-is_kept}
 use Rattle.source_lists.proofs.kept_order.kept_order.Goals as goal
 

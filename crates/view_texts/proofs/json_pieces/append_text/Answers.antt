@@ -1,7 +1,13 @@
 use Rattle.std.proofs.Common.{arith}
 use Rattle.std.proofs.lemmas.Grind.{common_steps}
 use Rattle.serde_json.proofs.FreeTexts.{text_of_str}
+use Rattle.view_texts.proofs.PlainTexts.{quoted-plain}
 use Rattle.view_texts.proofs.json_pieces.append_text.Goals as goal
+
+pub returns-then-is_plain-clause-ok : goal.returns-then-is_plain-clause-ok
+returns-then-is_plain-clause-ok c =
+    let plain = quoted-plain c.as_bytes.result.now (c.is_plain.ensures.0 c.if-is_plain.true) in
+    grind (arith, common_steps, plain)
 
 pub returns-in-Ok-clause-ok : goal.returns-in-Ok-clause-ok
 returns-in-Ok-clause-ok c =

@@ -1,0 +1,181 @@
+"""Tests of the way through a page: back and forth in the browser's history, by keys alone, and on a phone."""
+import json
+
+import documents
+from looking import Picture, contains, fragment, near, same, search
+
+FOCUS = '''(() => { const at = document.activeElement; const style = getComputedStyle(at);
+    return [at.id || at.closest('[id]').id, at.textContent.trim().slice(0, 20), style.outlineStyle, parseFloat(style.outlineWidth)]; })()'''
+
+
+def wait_for_fragment(browser, wanted):
+    browser.wait_for(f'[{json.dumps(wanted)}, {json.dumps(wanted if wanted != "#" else "")}].includes(location.hash)')
+    browser.settle()
+
+
+def going_back(check):
+    """What was set on the way stays; what a step brought goes with it."""
+    browser = check.browser
+    check.show('graph', 'parse.folded')
+    picture = Picture(browser)
+    picture.click(2, 0.5)
+    same(search(browser, 'read'), '1 matched, 33.3%', 'a search while zoomed')
+    browser.click_on('#below')
+    same(fragment(browser), '#zoom=main/parse&find=read&root=below', 'fragment')
+    browser.click_on('#back')
+    wait_for_fragment(browser, '#find=read&root=below')
+    same(browser.text('#matched'), '1 matched, 33.3%', 'the search stays')
+    same([picture.name(depth, 0.3, rows=4) for depth in (0, 2)], ['all', 'parse'], 'the root stays below')
+    browser.value('history.forward()')
+    wait_for_fragment(browser, '#zoom=main/parse&find=read&root=below')
+    browser.value('history.back()')
+    wait_for_fragment(browser, '#find=read&root=below')
+    browser.click_on('#functions tbody tr:nth-child(1) button')
+    same(fragment(browser), '#find=tokenize&by=name&root=below', 'a function is a step')
+    browser.click_on('#below')
+    browser.value('history.back()')
+    wait_for_fragment(browser, '#find=read')
+    same(browser.text('#matched'), '1 matched, 33.3%', 'the search before the step')
+    same(picture.name(0, 0.5), 'all', 'the root is above, as it was set')
+    same(search(browser, 'parse'), '1 matched, 87.7%', 'another search')
+    browser.value("location.hash = '#zoom=main/layout'")
+    wait_for_fragment(browser, '#zoom=main/layout')
+    same([browser.text('#matched'), picture.name(2, 0.5)], ['', 'layout'], 'an address that was written by hand')
+
+
+def back_from_a_link(check):
+    browser = check.browser
+    check.show('graph', 'parse.folded', fragment='#zoom=main/parse/read')
+    picture = Picture(browser)
+    browser.value("document.getElementById('picture').focus()")
+    browser.press('Escape')
+    wait_for_fragment(browser, '#')
+    same([len(picture.runs(depth)) for depth in range(4)], [1, 1, 2, 3], 'boxes after Escape')
+    browser.press('ArrowDown')
+    browser.press('ArrowDown')
+    browser.press('Enter')
+    wait_for_fragment(browser, '#zoom=main/parse')
+    browser.press('ArrowDown')
+    browser.press('Escape')
+    wait_for_fragment(browser, '#')
+    same(picture.focused(), 'tokenize', 'the focus stays where it was')
+    browser.press('/')
+    same(browser.value('document.activeElement.id'), 'find', 'a slash leads to the search')
+    same(search(browser, 'read'), '1 matched, 33.3%', 'a search')
+    browser.press('Enter')
+    browser.press('Escape')
+    same([browser.value("document.getElementById('find').value"), browser.text('#matched')], ['', ''], 'Escape ends the search first')
+
+
+def back_to_a_snapshot(check):
+    browser = check.browser
+    check.show('graph', '--every', '2', 'parse.folded')
+    Picture(browser).click(2, 0.5)
+    browser.value("document.getElementById('snapshot').focus()")
+    browser.press('ArrowLeft')
+    same(fragment(browser), '#zoom=main/parse&drawing=1', 'a snapshot, zoomed')
+    browser.click_on('#back')
+    wait_for_fragment(browser, '#drawing=1')
+    same(browser.text('#drawing-name'), 'the first 4 samples', 'the snapshot stays')
+
+
+def matches_in_turn(check):
+    browser = check.browser
+    check.show('graph', check.write('turns.folded', 'main;leaf 2\nmain;walk;walk;leaf 5\nmain;walk;other 3\nmain;work;leaf 10\n'))
+    picture = Picture(browser)
+    search(browser, 'leaf')
+    found = []
+    for button in ('next', 'previous', 'previous', 'next', 'next'):
+        browser.click_on(f'#{button}')
+        found.append(picture.heard().split(' of the whole')[0])
+    first, second, third = 'leaf · 2, 10%', 'leaf · 5, 25%', 'leaf · 10, 50%'
+    same(found, [first, third, second, third, first], 'the buttons for the next and the previous')
+    picture.click(2, 0.5)
+    same(fragment(browser), '#zoom=main/walk&find=leaf', 'zoomed to where one match is')
+    for _ in range(3):
+        browser.click_on('#next')
+    same([picture.heard().split(' of the whole')[0], fragment(browser)], [first, '#find=leaf'], 'a match outside of what is zoomed')
+
+
+def keys_alone(check):
+    """All that can be done is done by keys, and where the focus is can be seen."""
+    browser = check.browser
+    check.show('chart', 'parse.folded', 'faster.folded')
+    reached = {}
+    for _ in range(30):
+        browser.press('Tab')
+        place, text, style, width = browser.value(FOCUS)
+        if place == 'picture':
+            style = browser.value("getComputedStyle(document.querySelector('.ring:not([hidden])')).outlineStyle")
+            width = browser.value("parseFloat(getComputedStyle(document.querySelector('.ring:not([hidden])')).outlineWidth)")
+        assert style not in ('none', 'hidden') and width >= 2, f'the focus at {place} {text} is not seen: {style} {width}'
+        reached[place, text] = True
+        if (place, text) == ('lanes', 'faster.folded'):
+            browser.press('Enter')
+            same(fragment(browser), '#source=1', 'Enter on a lane')
+            browser.press('Escape')
+            wait_for_fragment(browser, '#')
+        elif place == 'below':
+            browser.press(' ')
+            same(fragment(browser), '#root=below', 'a space on the switch')
+            browser.press(' ')
+        elif (place, text) == ('functions', 'tokenize'):
+            browser.press('Enter')
+            same(browser.text('#matched').split(',')[0], '2 matched', 'Enter on a function')
+            break
+    places = [place for place, _ in reached]
+    wanted = ['sources', 'find', 'by', 'below', 'save-svg', 'save-png', 'print', 'help', 'lanes', 'picture', 'functions']
+    same([place for place in wanted if place not in places], [], 'what keys do not reach')
+
+
+def on_a_phone(check):
+    browser = check.browser
+    browser.send('Emulation.setDeviceMetricsOverride', width=390, height=844, deviceScaleFactor=3, mobile=True)
+    browser.send('Emulation.setTouchEmulationEnabled', enabled=True)
+    try:
+        for words in (('graph', 'parse.folded'), ('chart', 'parse.folded', 'faster.folded'), ('compare', 'parse.folded', 'faster.folded')):
+            check.show(*words)
+            same(browser.value('[document.documentElement.scrollWidth, innerWidth]'), [390, 390], f'width of {words}')
+            picture = Picture(browser)
+            assert picture.width > 350, f'the picture has {picture.width} of 390'
+            same(browser.value("document.getElementById('canvas').width"), 3 * picture.width, 'the canvas has each dot')
+            lists = browser.area('#lists')
+            assert lists[1] >= picture.top + picture.height, 'the lists stand below the picture'
+            check.screenshot(f'phone-{words[0]}')
+        x, y = picture.point(2, 0.9)
+        browser.send('Input.dispatchTouchEvent', type='touchStart', touchPoints=[{'x': x, 'y': y}])
+        browser.send('Input.dispatchTouchEvent', type='touchEnd', touchPoints=[])
+        browser.wait_for("location.hash === '#zoom=main/parse'")
+    finally:
+        browser.send('Emulation.setTouchEmulationEnabled', enabled=False)
+        browser.resize(*browser.size)
+
+
+def in_wide_windows(check):
+    browser = check.browser
+    try:
+        browser.resize(2560, 1300)
+        check.show('compare', 'parse.folded', 'faster.folded')
+        picture = Picture(browser)
+        assert picture.width > 1800, f'the picture has {picture.width} of 2560'
+        near(picture.runs(3)[-1][1], picture.width, 'right edge of tokenize', 1.5)
+        assert browser.area('#gone')[0] >= picture.left + picture.width, 'what is gone stands beside the picture'
+    finally:
+        browser.resize(*browser.size)
+
+
+def first_run(check):
+    """The command of README makes the page that its picture shows, and it opens."""
+    text = (documents.TOP / 'README.md').read_text(encoding='utf-8')
+    contains(text, '(docs/page.png)', 'README')
+    same((documents.TOP / 'docs' / 'page.png').read_bytes()[:8], b'\x89PNG\r\n\x1a\n', 'the picture')
+    example = 'examples/parse.folded'
+    commands = [line.split() for line in text.splitlines() if ' graph --page ' in line and example in line]
+    assert commands, f'README makes no page of {example}'
+    words = commands[0][commands[0].index('graph'):commands[0].index('>')]
+    document = documents.page(check.program, [str(documents.TOP / example) if word == example else word for word in words])
+    check.browser.open(check.place(document))
+    same(Picture(check.browser).name(3, 0.9), 'tokenize', 'a box of the example')
+
+
+TESTS = [going_back, back_from_a_link, back_to_a_snapshot, matches_in_turn, keys_alone, on_a_phone, in_wide_windows, first_run]

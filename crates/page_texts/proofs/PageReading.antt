@@ -1,0 +1,154 @@
+-- The value of a page: its keys rise, and where its numbers have 64 bits, it reads back.
+use Rattle.std.proofs.Common.{◌≡◌, ℕ, ◌^◌, ◌<◌, ◌≤◌, Bool, true, false, List, [], ◌∷◌, length, map, Option, Some, None, All, IfSome, ◌∙◌, arith, rules}
+use Rattle.std.proofs.lemmas.List.Sums.{prefix_len-le-length}
+use Rattle.std.specs.List.{AllByRecursion}
+use Rattle.std.specs.List.Sorted.{IsStrictlySortedBy}
+use Rattle.serde_json.specs.Data.{Data, string, Members, depth, members_depth}
+use Rattle.serde_json.specs.Read.{read, max_depth}
+use Rattle.view_texts.specs.JsonLaws.{HasRisingKeys}
+use Rattle.view_texts.proofs.JsonReading.{HasWholeNumbers, MembersHaveWholeNumbers, HasNumbers-outline, text_reads_back}
+use Rattle.view_texts.proofs.JsonValues.{each_of, whole_items, rising_items, items_depth-le}
+use Rattle.page_texts.specs.Page.{PageBox, Moment, PageDrawing, PageSource, Page, whole_number, list_data, kept, left_out, page_names, place_of, column, moment_members, other_members, last_members, box_members, drawing_data, source_data, page_value, page_text}
+use Rattle.page_texts.specs.PageLaws.{IsSmallBox, IsSmallMoment, IsSmallDrawing, IsSmallPage}
+use Rattle.page_texts.specs.ScriptSafe.{page_data_text}
+use Rattle.page_texts.proofs.SafeReading.{reads_as_plain}
+
+-- ---- values
+
+pub value_reads_back : (d : Data) → HasWholeNumbers d → HasRisingKeys d → depth d ≤ max_depth → read (page_data_text d) ≡ Some d
+value_reads_back d w h shallow = reads_as_plain d (HasNumbers-outline d w) ∙ text_reads_back d w h shallow
+
+pub string_reads_back : (text : List ℕ) → read (page_data_text (string text)) ≡ Some (string text)
+string_reads_back text = value_reads_back (string text) tt tt (omega arith)
+
+-- ---- columns
+
+module _ (number_of : PageBox → ℕ) (boxes : List PageBox) where
+  rising_column : HasRisingKeys (column number_of boxes)
+  rising_column = rising_items (λ box. whole_number (number_of box)) (λ box. tt) boxes
+
+  shallow_column : depth (column number_of boxes) ≤ 1
+  shallow_column = omega (arith, items_depth-le (λ box. whole_number (number_of box)) 0 (λ box. omega arith) boxes)
+
+  whole_column : ((box : PageBox) → IsSmallBox box → number_of box < 2 ^ 64) → All IsSmallBox boxes → HasWholeNumbers (column number_of boxes)
+  whole_column small h = whole_items (λ box. whole_number (number_of box)) boxes (each_of IsSmallBox (λ box. number_of box < 2 ^ 64) boxes small h)
+
+-- the place of a name is at most their number
+place-le : (names : List (List ℕ)) (name : List ℕ) → place_of names name ≤ length names
+place-le names name = prefix_len-le-length _ names
+
+-- ---- drawings
+
+abbrev drawing_with : Option Moment → Bool → ℕ → ℕ → List PageBox → PageDrawing
+drawing_with moment is_compared least total boxes = record { moment = moment; is_compared = is_compared; least = least; total = total; boxes = boxes }
+
+rising_counts : (counts : List ℕ) → HasRisingKeys (list_data (map whole_number counts))
+rising_counts counts = rising_items whole_number (λ count. tt) counts
+
+module _ (names : List (List ℕ)) (least total : ℕ) (boxes : List PageBox) where
+  rising_with : (moment : Option Moment) (is_compared : Bool) → HasRisingKeys (drawing_data names (drawing_with moment is_compared least total boxes))
+  unfolding IsStrictlySortedBy
+  rising_with None false =
+      let numbers = λ (number_of : PageBox → ℕ). rising_column number_of (kept least boxes) in
+      search (rules, numbers)
+  rising_with None true =
+      let numbers = λ (number_of : PageBox → ℕ). rising_column number_of (kept least boxes) in
+      search (rules, numbers)
+  rising_with (Some moment) false =
+      let numbers = λ (number_of : PageBox → ℕ). rising_column number_of (kept least boxes) in
+      let counts = rising_counts moment.counts in
+      search (rules, numbers, counts)
+  rising_with (Some moment) true =
+      let numbers = λ (number_of : PageBox → ℕ). rising_column number_of (kept least boxes) in
+      let counts = rising_counts moment.counts in
+      search (rules, numbers, counts)
+
+rising_drawing : (names : List (List ℕ)) (drawing : PageDrawing) → HasRisingKeys (drawing_data names drawing)
+rising_drawing names drawing = rising_with names drawing.least drawing.total drawing.boxes drawing.moment drawing.is_compared
+
+rising_source : (source : PageSource) → HasRisingKeys (source_data source)
+unfolding IsStrictlySortedBy
+rising_source source = search rules
+
+pub rising_page : (page : Page) → HasRisingKeys (page_value page)
+unfolding IsStrictlySortedBy
+rising_page page =
+    let names = page_names page.drawings in
+    let drawings = rising_items (drawing_data names) (rising_drawing names) page.drawings in
+    let texts = rising_items string (λ name. tt) names in
+    let sources = rising_items source_data rising_source page.sources in
+    search (rules, drawings, texts, sources)
+
+-- ---- depths
+
+shallow_last : (boxes : List PageBox) (total : ℕ) → members_depth (last_members boxes total) ≤ 1
+shallow_last boxes total =
+    omega (arith, shallow_column (λ box. box.span.own) boxes, shallow_column (λ box. box.span.start) boxes, shallow_column (λ box. box.span.weight) boxes)
+
+shallow_others : (is_compared : Bool) (boxes : List PageBox) (later : Members) → members_depth later ≤ 1 → members_depth (other_members is_compared boxes later) ≤ 1
+shallow_others true boxes later h = omega (arith, h, shallow_column (λ box. box.other) boxes)
+shallow_others false boxes later h = h
+
+shallow_moment : (moment : Option Moment) (later : Members) → members_depth later ≤ 1 → members_depth (moment_members moment later) ≤ 1
+shallow_moment None later h = h
+shallow_moment (Some moment) later h = omega (arith, h, items_depth-le whole_number 0 (λ count. omega arith) moment.counts)
+
+shallow_boxes : (names : List (List ℕ)) (drawing : PageDrawing) (boxes others : List PageBox) → members_depth (box_members names drawing boxes others) ≤ 1
+shallow_boxes names drawing boxes others =
+    omega (arith, shallow_column (λ box. box.span.depth) boxes, shallow_column (λ box. place_of names box.span.name) boxes, shallow_others drawing.is_compared boxes (last_members boxes drawing.total) (shallow_last boxes drawing.total))
+
+shallow_drawing : (names : List (List ℕ)) (drawing : PageDrawing) → depth (drawing_data names drawing) ≤ 2
+shallow_drawing names drawing =
+    let boxes = kept drawing.least drawing.boxes in
+    let others = left_out drawing.least drawing.boxes in
+    omega (arith, shallow_moment drawing.moment (box_members names drawing boxes others) (shallow_boxes names drawing boxes others))
+
+shallow_page : (page : Page) → depth (page_value page) ≤ max_depth
+shallow_page page =
+    let names = page_names page.drawings in
+    omega (
+      arith,
+      items_depth-le (drawing_data names) 2 (shallow_drawing names) page.drawings,
+      items_depth-le string 0 (λ name. omega arith) names,
+      items_depth-le source_data 1 (λ source. omega arith) page.sources,
+    )
+
+-- ---- numbers
+
+whole_last : (boxes : List PageBox) (total : ℕ) → All IsSmallBox boxes → total < 2 ^ 64 → MembersHaveWholeNumbers (last_members boxes total)
+whole_last boxes total h t =
+    (whole_column (λ box. box.span.own) boxes (λ box b. b.own) h, (whole_column (λ box. box.span.start) boxes (λ box b. b.start) h, (t, (whole_column (λ box. box.span.weight) boxes (λ box b. b.weight) h, tt))))
+
+whole_others : (is_compared : Bool) (boxes : List PageBox) (later : Members) → All IsSmallBox boxes → MembersHaveWholeNumbers later → MembersHaveWholeNumbers (other_members is_compared boxes later)
+whole_others true boxes later h more = (whole_column (λ box. box.other) boxes (λ box b. b.other) h, more)
+whole_others false boxes later h more = more
+
+whole_moment : (moment : Option Moment) (later : Members) → IfSome moment IsSmallMoment → MembersHaveWholeNumbers later → MembersHaveWholeNumbers (moment_members moment later)
+whole_moment None later h more = more
+whole_moment (Some moment) later h more =
+    let each = each_of (λ count. count < 2 ^ 64) (λ count. HasWholeNumbers (whole_number count)) moment.counts (λ count small. small) h.counts in
+    (h.at, (whole_items whole_number moment.counts each, more))
+
+whole_drawing : (names : List (List ℕ)) → length names < 2 ^ 64 → (drawing : PageDrawing) → IsSmallDrawing drawing → HasWholeNumbers (drawing_data names drawing)
+whole_drawing names few drawing h =
+    let boxes = kept drawing.least drawing.boxes in
+    let depths = whole_column (λ box. box.span.depth) boxes (λ box b. b.depth) h.boxes in
+    let places = whole_column (λ box. place_of names box.span.name) boxes (λ box b. omega (arith, few, place-le names box.span.name)) h.boxes in
+    let later = whole_others drawing.is_compared boxes (last_members boxes drawing.total) h.boxes (whole_last boxes drawing.total h.boxes h.total) in
+    whole_moment drawing.moment (box_members names drawing boxes (left_out drawing.least drawing.boxes)) h.moment (depths, (h.least, ((h.left_boxes, (h.left_weight, tt)), (places, later))))
+
+whole_page : (page : Page) → IsSmallPage page → HasWholeNumbers (page_value page)
+whole_page page h =
+    let names = page_names page.drawings in
+    let drawings = whole_items (drawing_data names) page.drawings (each_of IsSmallDrawing (λ drawing. HasWholeNumbers (drawing_data names drawing)) page.drawings (whole_drawing names h.names) h.drawings) in
+    let texts = whole_items string names (every_text names) in
+    let sources = whole_items source_data page.sources (each_of (λ source. source.weight < 2 ^ 64) (λ source. HasWholeNumbers (source_data source)) page.sources (λ source small. (tt, (tt, (tt, (small, tt))))) h.sources) in
+    (drawings, (texts, (sources, (tt, (tt, (h.whole, tt))))))
+  where
+    every_text : (names : List (List ℕ)) → AllByRecursion (λ name. HasWholeNumbers (string name)) names
+    every_text [] = tt
+    every_text (name ∷ names) = (tt, every_text names)
+
+pub page_reads_back : (page : Page) → IsSmallPage page → read (page_text page) ≡ Some (page_value page)
+unfolding page_text
+page_reads_back page h = value_reads_back (page_value page) (whole_page page h) (rising_page page) (shallow_page page)
