@@ -14,6 +14,7 @@ pub use byte_io::{
 pub use command_line::{Form, PageForm, Plan, PlanFault, TopTable, View, plan};
 pub use merging::{Gathered, Snapshot, Source, TreeSink, gather};
 pub use opened_sources::SOURCE_COUNT;
+pub use page_views::{Heading, PageView, Source as PageSource, render_page_data};
 pub use program::run;
 pub use run_options::{Filter, Format, FunctionOrder, Options, format_of};
 pub use source_views::{Views, laws, render, views};

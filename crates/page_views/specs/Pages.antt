@@ -11,7 +11,10 @@ use Rattle.flame_layout.specs.Comparison.{compared_boxes_of}
 use Rattle.source_views.specs.Texts.{all_counts}
 use Rattle.page_texts.specs.Page.{Moment, PageDrawing, PageSource, Page}
 use Rattle.page_texts.specs.Drawn.{source_of}
+use Rattle.stack_core.specs.Interleaving.{list_of}
 use Rattle.page_views.specs.declared.headings.Heading.{Heading}
+use Rattle.page_views.specs.declared.page_data.PageView.{PageView}
+use Rattle.page_views.specs.declared.page_data.PageView.TheVariants.{Graph, Chart, Compare}
 
 -- the least weight of a box that is kept; where none is given, that of a pixel in a drawing of 1,200,000 pixels
 abbrev pub least_of : Option ℕ → ℕ → ℕ
@@ -92,3 +95,9 @@ compared_drawing least other samples = record {
 abbrev pub comparison_page : PageHeading → List Sample → List Sample → Page
 comparison_page heading before after =
     page_with heading (codes "compare") (compared_drawing heading.least after before ∷ compared_drawing heading.least before after ∷ [])
+
+-- the page of a view of what was collected; a comparison is of the first two lists
+abbrev pub view_page : PageHeading → PageView → List (List Sample) → List ℕ → Option ℕ → Page
+view_page heading Graph lists order every = snapshots_page heading lists order every
+view_page heading Chart lists order every = chart_page heading lists
+view_page heading Compare lists order every = comparison_page heading (list_of lists 0) (list_of lists 1)

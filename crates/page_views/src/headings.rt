@@ -1,8 +1,9 @@
 //! What all pages have beside their drawings.
-ghost use Rattle.std.specs.Prelude.{◌≡◌};
-ghost use Rattle.page_views.specs.Pages.{least_of};
+ghost use Rattle.std.specs.Prelude.{◌≡◌, map, option_map};
+ghost use Rattle.page_texts.specs.Drawn.{drawing_of, moment_of, page_of, shown};
+ghost use Rattle.page_views.specs.Pages.{heading_of, least_of, page_with};
 
-use page_texts::Source;
+use page_texts::{Drawing, Moment, Page, PageBox, Source};
 
 // Of how many parts of its width a drawing leaves out the narrower boxes: they are narrower than a pixel
 // where a drawing of 1,200 pixels is looked at a thousand times as wide.
@@ -22,8 +23,52 @@ pub struct Heading<'a> {
     pub whole: u128,
 }
 
+impl Heading<'_> {
+    // A drawing of boxes of samples with this total.
+    pub(crate) fn drawing<'b, B: PageBox>(
+        &self,
+        boxes: &'b [B],
+        total: u64,
+        moment: Option<Moment<'b>>,
+    ) -> Drawing<'b, B>
+        ensures { drawing_of B.span B.other B.compared result ≡ record {
+          moment = option_map moment_of moment.entry;
+          is_compared = B.compared;
+          least = least_of self.now.least total;
+          total = total;
+          boxes = map (shown B.span B.other) boxes.now;
+        } }
+    {
+        Drawing {
+            boxes,
+            least: least_of(self.least, total),
+            total,
+            moment,
+        }
+    }
+
+    // The page of these drawings.
+    pub(crate) fn page<'b, B: PageBox>(
+        &'b self,
+        view: &'b str,
+        drawings: &'b [Drawing<'b, B>],
+    ) -> Page<'b, B>
+        ensures { page_of B.span B.other B.compared result
+            ≡ page_with (heading_of self.now) view.now
+            (map (drawing_of B.span B.other B.compared) drawings.now) }
+    {
+        Page {
+            drawings,
+            sources: self.sources,
+            title: self.title,
+            view,
+            whole: self.whole,
+        }
+    }
+}
+
 // The least weight of a box that a drawing with this total keeps.
-pub(crate) fn least_of(least: Option<u64>, total: u64) -> u64
+fn least_of(least: Option<u64>, total: u64) -> u64
     ensures { result ≡ least_of least total }
 {
     match least {

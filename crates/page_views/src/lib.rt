@@ -3,12 +3,17 @@
 #![tactic(auto)]
 
 mod comparison_pages;
+mod drawn_profiles;
+mod drawn_runs;
 mod headings;
+mod merged_runs;
+mod page_data;
 mod plain_pages;
 mod snapshot_pages;
 
 pub use comparison_pages::send_comparison_page;
 pub use headings::Heading;
+pub use page_data::{PageView, render_page_data};
 pub use page_texts::Source;
 pub use plain_pages::{send_chart_page, send_graph_page};
 pub use snapshot_pages::send_snapshots_page;

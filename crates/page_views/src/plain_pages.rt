@@ -8,11 +8,11 @@ ghost use Rattle.merged_stacks.specs.Timeline.{samples_of};
 ghost use Rattle.page_texts.specs.Document.{document_text};
 ghost use Rattle.page_views.specs.Pages.{chart_page, graph_page, heading_of, plain_page};
 
-use crate::headings::{Heading, least_of};
+use crate::headings::Heading;
 use byte_io::{Outlet, PieceFault};
 use flame_layout::{DrawnBox, MergedStacks, draw_chart, draw_merged};
 use merging::SourceLists;
-use page_texts::{Drawing, Page, send_page};
+use page_texts::send_page;
 use std::alloc::Global;
 
 /// Sends the page of the flame graph of all samples, as `send_page` does.
@@ -77,18 +77,6 @@ fn send_plain_page<W: Outlet>(
         → W.failures out.new ≡ one_more (W.failures out.old) }
     ensures unfailed { result ≢ Err PieceFault.Output → W.failures out.new ≡ W.failures out.old }
 {
-    let drawing = Drawing {
-        boxes,
-        least: least_of(heading.least, total),
-        total,
-        moment: None,
-    };
-    let page = Page {
-        drawings: &[drawing],
-        sources: heading.sources,
-        title: heading.title,
-        view,
-        whole: heading.whole,
-    };
-    send_page(alloc, &page, out)
+    let drawing = heading.drawing(boxes, total, None);
+    send_page(alloc, &heading.page(view, &[drawing]), out)
 }

@@ -1,5 +1,7 @@
 //! Pages of small sources, with the data of docs/PAGE-DATA.md.
 
+mod data;
+
 use crate::{Heading, send_chart_page, send_comparison_page, send_graph_page};
 use byte_io::CountedWriter;
 use merging::{Source, SourceLists, read_sources};

@@ -8,7 +8,7 @@ use Rattle.stack_core.specs.Ledgers.{ListState}
 use Rattle.merged_stacks.specs.Timeline.{samples_of, timeline}
 use Rattle.flame_layout.specs.Boxes.{span_of}
 use Rattle.flame_layout.specs.Chart.{chart_of}
-use Rattle.page_views.specs.Pages.{chart_page, heading_of, plain_page}
+use Rattle.page_views.specs.Pages.{heading_of, plain_page}
 use Rattle.page_views.proofs.plain_pages.send_chart_page.Goals as goal
 
 pub returns-clause-ok : goal.returns-clause-ok

@@ -12,7 +12,7 @@ use Rattle.flame_layout.specs.Boxes.{span_of}
 use Rattle.flame_layout.specs.Graph.{graph_of}
 use Rattle.flame_layout.specs.Paths.{SameOwn}
 use Rattle.flame_layout.proofs.MergedSums.{merged_own}
-use Rattle.page_views.specs.Pages.{graph_page, heading_of, plain_page}
+use Rattle.page_views.specs.Pages.{heading_of, plain_page}
 use Rattle.page_views.proofs.plain_pages.send_graph_page.Goals as goal
 
 pub returns-clause-ok : goal.returns-clause-ok

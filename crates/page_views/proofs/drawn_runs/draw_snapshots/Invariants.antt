@@ -3,10 +3,11 @@ use Rattle.std.proofs.Common.{◌≡◌, ℕ, Option, map, take}
 use Rattle.merged_stacks.specs.Timeline.{samples_of}
 use Rattle.source_views.specs.Texts.{places_of}
 use Rattle.page_views.specs.Pages.{snapshot_drawing}
-use Rattle.page_views.specs.checked.DrawnSnapshots.{drawing_in}
-use Rattle.page_views.proofs.snapshot_pages.draw_snapshots.Given as goal
+use Rattle.page_views.specs.checked.DrawnRuns.{drawing_in}
+use Rattle.page_views.proofs.drawn_runs.draw_snapshots.Given as goal
 
 abbrev pub invariant-loop-place : goal.invariant-loop-place
-invariant-loop-place l =
+invariant-loop-place g l =
+    let run = g.R.MergedRun in
     (least : Option ℕ) → map (drawing_in least) l.drawn.items
-    ≡ map (snapshot_drawing least (samples_of l.gathered.lists) l.gathered.order) (take l.place (places_of l.gathered.snapshots))
+    ≡ map (snapshot_drawing least (samples_of (run.lists l.run)) (run.order l.run)) (take l.place (places_of (run.snapshots l.run)))

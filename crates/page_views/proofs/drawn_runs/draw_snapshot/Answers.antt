@@ -1,0 +1,20 @@
+use Rattle.std.proofs.Common.{◌≡◌, length, map, rules, sym}
+use Rattle.std.proofs.lemmas.List.{length-map}
+use Rattle.stack_core.specs.Ledgers.{ListState}
+use Rattle.flame_layout.specs.Boxes.{span_of}
+use Rattle.merged_stacks.specs.Timeline.{samples_of}
+use Rattle.source_views.specs.Filling.{filled}
+use Rattle.page_views.proofs.Drawings.{snapshot_drawn}
+use Rattle.page_views.proofs.drawn_runs.draw_snapshot.Goals as goal
+
+pub returns : goal.returns
+returns g c =
+    let trait = g.R.MergedRun in
+    let run = c.args.run.now in
+    let snapshot = c.index-moments-place.result in
+    let graph = c.in_ok-draw_graph.field-0 in
+    let lists = trait.lists run in
+    let counted : c.in_ok-counts.counts.items ≡ filled (length lists) snapshot.counts = search rules in
+    snapshot_drawn c.args.place (length lists) graph.total (trait.every run) (trait.order run) (samples_of lists) (trait.names run) c.frame_table.result.now (trait.snapshots run) snapshot c.in_ok-counts.counts.items (map span_of graph.boxes.items)
+    c.frame_table.ensures c.requires (search rules) (sym (length-map lists (λ (list : ListState). list.samples))) c.moments.ensures.made
+    counted c.in_ok-draw_graph.ensures.total c.in_ok-draw_graph.ensures.boxes

@@ -1,9 +1,0 @@
--- the snapshots so far
-use Rattle.std.proofs.Common.{◌≡◌, map, take, false}
-use Rattle.flame_layout.specs.Boxes.{span_of}
-use Rattle.page_texts.specs.Drawn.{drawing_of}
-use Rattle.page_views.specs.checked.DrawnSnapshots.{drawing_in}
-use Rattle.page_views.proofs.snapshot_pages.page_drawings.Given as goal
-
-abbrev pub invariant-loop-snapshot : goal.invariant-loop-snapshot
-invariant-loop-snapshot l = map (drawing_of span_of (λ _. 0) false) l.drawings.items ≡ map (drawing_in l.least) (take l.snapshot-index l.snapshots)

@@ -1,0 +1,157 @@
+//! The graph of a run, with those of its snapshots.
+ghost use Rattle.std.specs.Prelude.{◌≡◌, ◌<◌, ℕ, List, length, map, false, Option, None, option_map, IfOk};
+ghost use Rattle.std.specs.List.{slice_index_or};
+ghost use Rattle.sample_tables.specs.declared.samples.Sample.{Sample};
+ghost use Rattle.flame_layout.specs.Boxes.{span_of};
+ghost use Rattle.flame_layout.specs.Graph.{graph_of};
+ghost use Rattle.flame_layout.specs.Paths.{SameOwn, tree_samples};
+ghost use Rattle.merged_stacks.specs.Timeline.{samples_of, total_weight};
+ghost use Rattle.merging.specs.Snapshots.{snapshot_places};
+ghost use Rattle.merging.specs.Sums.{IsDrawable};
+ghost use Rattle.source_views.specs.Filling.{filled};
+ghost use Rattle.source_views.specs.Texts.{places_of};
+ghost use Rattle.page_texts.specs.Drawn.{drawing_of, moment_of};
+ghost use Rattle.page_views.specs.Pages.{plain_drawing, snapshot_drawing};
+ghost use Rattle.page_views.specs.checked.DrawnRuns.{drawing_in, drawings_in, drawings_of};
+
+use crate::headings::Heading;
+use crate::merged_runs::MergedRun;
+use call_tree::{CallTree, FrameTable};
+use flame_layout::{DrawnBox, draw_tree};
+use page_texts::{Drawing, Moment};
+use source_views::filled_counts;
+use std::alloc::{AllocError, Global};
+
+// The graph of a run, and those of its snapshots.
+#[derive(Drop)]
+pub(crate) struct DrawnRun<'a> {
+    pub(crate) snapshots: Vec<DrawnSnapshot<'a>>,
+    pub(crate) graph: DrawnGraph<'a>,
+}
+
+// A snapshot, with the boxes of its graph.
+#[derive(Drop)]
+pub(crate) struct DrawnSnapshot<'a> {
+    pub(crate) at: u64,
+    pub(crate) counts: Vec<u64>,
+    pub(crate) graph: DrawnGraph<'a>,
+}
+
+// The boxes of a graph, and the sum of the weights of its samples.
+#[derive(Drop)]
+pub(crate) struct DrawnGraph<'a> {
+    pub(crate) total: u64,
+    pub(crate) boxes: Vec<DrawnBox<'a>>,
+}
+
+// The boxes of the graph of a run, and those of its snapshots.
+pub(crate) fn draw_run<R: MergedRun>(alloc: Global, run: &R) -> Result<DrawnRun<'_>, AllocError>
+    ensures { IfOk result (λ drawn. (least : Option ℕ) → drawings_in least drawn
+        ≡ drawings_of least (samples_of (R.lists run.now)) (R.order run.now) (R.every run.now)) }
+{
+    let snapshots = draw_snapshots(alloc, run)?;
+    let graph = draw_graph(alloc, run.merged_tree(), run.frame_table())?;
+    Ok(DrawnRun { snapshots, graph })
+}
+
+// The snapshots of a run, each with the boxes of its graph.
+fn draw_snapshots<R: MergedRun>(
+    alloc: Global,
+    run: &R,
+) -> Result<Vec<DrawnSnapshot<'_>>, AllocError>
+    ensures { IfOk result (λ drawn. (least : Option ℕ) → map (drawing_in least) drawn.items
+        ≡ map (snapshot_drawing least (samples_of (R.lists run.now)) (R.order run.now))
+        (snapshot_places (R.every run.now) (length (R.order run.now)))) }
+{
+    let mut drawn = Vec::new(alloc);
+    for place in 0..run.moments().len() {
+        drawn.push(draw_snapshot(alloc, run, place)?)?;
+    }
+    Ok(drawn)
+}
+
+// A snapshot of a run, with the boxes of its graph.
+fn draw_snapshot<R: MergedRun>(
+    alloc: Global,
+    run: &R,
+    place: usize,
+) -> Result<DrawnSnapshot<'_>, AllocError>
+    requires { place < length (R.snapshots run.now) }
+    ensures { IfOk result (λ drawn. (least : Option ℕ) → drawing_in least drawn
+        ≡ snapshot_drawing least (samples_of (R.lists run.now)) (R.order run.now)
+        (slice_index_or (places_of (R.snapshots run.now)) place 0)) }
+{
+    let snapshot = &run.moments()[place];
+    let counts = filled_counts(alloc, snapshot.counts.get(), run.source_count())?;
+    Ok(DrawnSnapshot {
+        at: snapshot.at,
+        counts,
+        graph: draw_graph(alloc, &snapshot.tree, run.frame_table())?,
+    })
+}
+
+// The boxes of a tree's graph.
+fn draw_graph<'a>(
+    alloc: Global,
+    tree: &CallTree,
+    table: &'a FrameTable,
+) -> Result<DrawnGraph<'a>, AllocError>
+    requires { IsDrawable table.now tree.now }
+    ensures total { IfOk result (λ graph. (samples : List Sample)
+        → SameOwn samples (tree_samples table.now tree.now)
+        → graph.total ≡ total_weight samples) }
+    ensures boxes { IfOk result (λ graph. (samples : List Sample)
+        → SameOwn samples (tree_samples table.now tree.now)
+        → map span_of graph.boxes.items ≡ graph_of samples) }
+{
+    let boxes = draw_tree(alloc, tree, table)?;
+    let total = tree.total(&[]) as u64;
+    Ok(DrawnGraph { total, boxes })
+}
+
+// The drawings of the snapshots, and then that of the graph of all samples.
+pub(crate) fn run_drawings<'a, 'n>(
+    alloc: Global,
+    run: &'a DrawnRun<'n>,
+    heading: &Heading<'_>,
+) -> Result<Vec<Drawing<'a, DrawnBox<'n>>>, AllocError>
+    ensures { IfOk result (λ drawings. map (drawing_of span_of (λ _. 0) false) drawings.items
+        ≡ drawings_in heading.now.least run.now) }
+{
+    let mut drawings = snapshot_drawings(alloc, &run.snapshots, heading)?;
+    drawings.push(plain_drawing(&run.graph, None, heading))?;
+    Ok(drawings)
+}
+
+// The drawings of snapshots.
+fn snapshot_drawings<'a, 'n>(
+    alloc: Global,
+    snapshots: &'a [DrawnSnapshot<'n>],
+    heading: &Heading<'_>,
+) -> Result<Vec<Drawing<'a, DrawnBox<'n>>>, AllocError>
+    ensures { IfOk result (λ drawings. map (drawing_of span_of (λ _. 0) false) drawings.items
+        ≡ map (drawing_in heading.now.least) snapshots.now) }
+{
+    let mut drawings = Vec::new(alloc);
+    for snapshot in snapshots {
+        let moment = Moment {
+            at: snapshot.at,
+            counts: &snapshot.counts,
+        };
+        drawings.push(plain_drawing(&snapshot.graph, Some(moment), heading))?;
+    }
+    Ok(drawings)
+}
+
+// The drawing of a graph.
+fn plain_drawing<'a, 'n>(
+    graph: &'a DrawnGraph<'n>,
+    moment: Option<Moment<'a>>,
+    heading: &Heading<'_>,
+) -> Drawing<'a, DrawnBox<'n>>
+    ensures { drawing_of span_of (λ _. 0) false result
+        ≡ plain_drawing heading.now.least (option_map moment_of moment.entry) graph.now.total
+        (map span_of graph.now.boxes.items) }
+{
+    heading.drawing(&graph.boxes, graph.total, moment)
+}
