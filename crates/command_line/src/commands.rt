@@ -22,19 +22,29 @@ Formats:
 
 Without a command, folds the standard input.";
 
-const FOLD_EXAMPLE: &str = "Example: flamecollect fold --type samples cpu.pprof > cpu.folded";
+const FOLD_EXAMPLE: &str = "\
+Example: flamecollect fold --type samples cpu.pprof > cpu.folded
+Compressed: gzip -dc cpu.pb.gz | flamecollect fold --format pprof > cpu.folded";
 
-const GRAPH_EXAMPLE: &str =
-    "Example: flamecollect graph --width 1600 worker1.pb worker2.pb > graph.json";
+const GRAPH_EXAMPLE: &str = "\
+Example: flamecollect graph --page worker1.pb worker2.pb > graph.html
+Compressed: gzip -dc cpu.pb.gz | flamecollect graph --page --format pprof > graph.html";
 
-const CHART_EXAMPLE: &str = "Example: flamecollect chart trace.folded > chart.json";
+const CHART_EXAMPLE: &str = "\
+Example: flamecollect chart --page trace.folded > chart.html
+Compressed: gzip -dc cpu.pb.gz | flamecollect chart --page --format pprof > chart.html";
 
-const COMPARE_EXAMPLE: &str =
-    "Example: flamecollect compare --boxes before.pb after.pb > difference.json";
+const COMPARE_EXAMPLE: &str = "\
+Example: flamecollect compare --page before.pb after.pb > difference.html
+Compressed: gzip -dk before.pb.gz after.pb.gz makes before.pb and after.pb, which can be compared";
 
-const TOP_EXAMPLE: &str = "Example: flamecollect top -n 20 --by total cpu.pprof";
+const TOP_EXAMPLE: &str = "\
+Example: flamecollect top -n 20 --by total cpu.pprof
+Compressed: gzip -dc cpu.pb.gz | flamecollect top --format pprof";
 
-const TYPES_EXAMPLE: &str = "Example: flamecollect types cpu.pprof";
+const TYPES_EXAMPLE: &str = "\
+Example: flamecollect types cpu.pprof
+Compressed: gzip -dk cpu.pb.gz makes cpu.pb, whose types can be told";
 
 // The whole command line. Its words begin after the program's name.
 pub(crate) fn command_line<'a>(alloc: Global) -> Result<Command<'a>, AllocError>
