@@ -17,7 +17,7 @@ use Rattle.opened_sources.specs.declared.failures.Failure.TheVariants.{TooManyFi
 
 -- ---- of any failure
 
-not_zero : (failure : Failure) → status_of failure ≡ 0 → ⊥
+pub not_zero : (failure : Failure) → status_of failure ≡ 0 → ⊥
 not_zero TooManyFiles zero = omega arith
 not_zero (Unreadable source) zero = omega arith
 not_zero (TooLarge source) zero = omega arith

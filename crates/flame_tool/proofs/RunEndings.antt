@@ -30,7 +30,7 @@ use Rattle.sent_views.specs.Pages.{asked_heading, asked_text, page_text, shown_t
 use Rattle.sent_views.proofs.PageLemmas.{orderless_page}
 use Rattle.source_views.specs.Texts.{IsOrderless, graph_text, told_text, top_text, view_text}
 use Rattle.flame_tool.specs.checked.Forms.{IsOfView, IsOrderlessIn}
-use Rattle.flame_tool.specs.Runs.{lists_of, text_of, GainsFront, Shows, ShowsFront, ShowsSamples, HasFault, TellsNoWhole}
+use Rattle.flame_tool.specs.Runs.{lists_of, text_of, GainsFront, IsClean, Shows, ShowsFront, ShowsSamples, HasFault, TellsNoWhole}
 use Rattle.flame_tool.specs.checked.Failures.{Fails, IsHelp, KeepsOutput}
 use Rattle.opened_sources.specs.Failures.{status_of}
 use Rattle.opened_sources.specs.declared.failures.Failure.{Failure}
@@ -168,6 +168,15 @@ module _ (input : Option (List ℕ)) (files : List ℕ → Option (List ℕ)) (o
       go (Some bytes) shows =
           let shown = shows tt in
           subst (Appends old new) (shown.1.text_is ∙ whole_input bytes) shown.2
+
+  pub input_clean : (plan : Plan) → plan ≡ default_plan → IfSome (known_rests plan input files) (Shows plan (known_facts plan input files) old new) → IfSome input (λ bytes. IsClean (read_folded bytes).ending)
+  input_clean plan is shows = go input (subst (λ (p : Plan). IfSome (known_rests p input files) (Shows p (known_facts p input files) old new)) is shows)
+    where
+      go : (known : Option (List ℕ)) → IfSome (known_rests default_plan known files) (Shows default_plan (known_facts default_plan known files) old new) → IfSome known (λ bytes. IsClean (read_folded bytes).ending)
+      go None shows = tt
+      go (Some bytes) shows =
+          let shown = shows tt in
+          shown.1.clean 0 (read_folded bytes) (omega arith)
 
   unchanged : (before after : Option (List ℕ)) → Keeps before after → Appends before after []
   unchanged None after kept = tt

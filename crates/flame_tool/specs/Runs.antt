@@ -1,6 +1,6 @@
 -- What a run leaves on its output, and what that says of its sources.
-use Rattle.std.specs.Prelude.{◌≡◌, ℕ, List, Option, IfSome, true, take, map, All, Any}
-use Rattle.std.specs.Io.KnownBytes.{Appends}
+use Rattle.std.specs.Prelude.{◌≡◌, ◌≢◌, ℕ, List, Option, IfSome, true, take, map, All, Any}
+use Rattle.std.specs.Io.KnownBytes.{Appends, Keeps}
 use Rattle.byte_io.specs.Pieces.{AppendsFront}
 use Rattle.stack_core.specs.Interleaving.{IsInterleaving}
 use Rattle.stack_core.specs.Reading.{Rest}
@@ -79,3 +79,7 @@ TellsNoWhole filter (Top top) = is_everything filter ≡ true
 -- a source was read up to a fault
 abbrev pub HasFault : List Rest → Type 0
 HasFault rests = Any (λ rest. IsFault rest.ending) rests
+
+-- the run failed and left the output alone: nothing was written, and no call of it failed
+abbrev pub FailsUntouched : ℕ → Option (List ℕ) → Option (List ℕ) → ℕ → ℕ → Type 0
+FailsUntouched status old new before after = (status ≢ 0) × Keeps old new × (after ≡ before)

@@ -2,6 +2,7 @@
 //! collected and merged, laid out as boxes, and rendered as text.
 #![tactic(auto)]
 
+mod exits;
 mod program;
 mod progress;
 mod types_run;

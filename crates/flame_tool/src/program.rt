@@ -2,7 +2,7 @@
 ghost use Rattle.std.specs.Prelude.{◌≡◌, ◌≢◌, ◌≤◌, ◌<◌, ◌⊎◌, [], None, Some, false, IfSome, IfErr, IsErrOf, IsSomeAnd, OnOk, vec_len, length, map, string_bytes};
 ghost use Rattle.std.specs.Io.KnownBytes.{Appends, Keeps};
 ghost use Rattle.folded_lines.specs.Reading.{read_folded};
-ghost use Rattle.command_line.specs.Plans.{IsComparison, IsOfOneProfile, fault_text};
+ghost use Rattle.command_line.specs.Plans.{IsComparison, IsOfOneProfile};
 ghost use Rattle.command_line.specs.declared.plans.PageForm.{PageForm};
 ghost use Rattle.command_line.specs.declared.plans.TopTable.{TopTable};
 ghost use Rattle.command_line.specs.declared.plans.View.{View};
@@ -12,17 +12,18 @@ ghost use Rattle.flame_tool.specs.KnownFacts.{known_facts};
 ghost use Rattle.flame_tool.specs.Requests.{AreRefused, AsksForHelp, asked_faults, asked_plan, known_rests};
 ghost use Rattle.sent_views.specs.Pages.{page_text};
 ghost use Rattle.source_views.specs.Texts.{IsOrderless, top_text, view_text};
-ghost use Rattle.flame_tool.specs.Runs.{IsClean, IsFault, text_of, lists_of, GainsFront, Shows, ShowsFront, HasFault, TellsNoWhole};
+ghost use Rattle.flame_tool.specs.Runs.{IsClean, IsFault, text_of, lists_of, FailsUntouched, GainsFront, Shows, ShowsFront, ShowsSamples, HasFault, TellsNoWhole};
 ghost use Rattle.flame_tool.specs.TypeRuns.{known_profile, HasTableFault, ShowsTypes, ShowsTypesFront};
 ghost use Rattle.flame_tool.specs.checked.TypeFailures.{FailsTypes};
-ghost use Rattle.flame_tool.specs.checked.Failures.{Fails, IsHelp, IsWords, KeepsOutput, exit_status};
+ghost use Rattle.flame_tool.specs.checked.Failures.{Fails, KeepsOutput};
 ghost use Rattle.opened_sources.specs.Failures.{Flushes};
 
+use crate::exits::{end_run, refuse};
 use crate::types_run::show_types;
 use crate::views_run::show_views;
-use byte_io::{Files, Outlet, PieceFault, send};
-use command_line::{Form, Plan, PlanFault, plan, plan_without_words};
-use opened_sources::{Failure, report_awaited_input, report_failure};
+use byte_io::{Files, Outlet};
+use command_line::{Form, Plan, plan, plan_without_words};
+use opened_sources::{Failure, report_awaited_input};
 use run_options::Format;
 use std::alloc::Global;
 use std::sync::Wait;
@@ -130,6 +131,14 @@ pub fn run<T: Threads + Wait + Copy + Send + 'static, F: Files, W: Outlet, E: Ou
         (ShowsFront plan (known_facts plan (F.known_input files.old) (F.known_file files.old))
         (W.contents out.old) (W.contents out.new))))) }
 
+    // A fault of a source ends the run before the output is touched: with 1, or with 3 where the run failed
+    // before it was collected.
+    ensures untouched { asked_faults (map string_bytes words.items) ≡ []
+        → IfSome (asked_plan (map string_bytes words.items)) (λ plan. ShowsSamples plan.form
+        → IfSome (known_rests plan (F.known_input files.old) (F.known_file files.old)) (λ rests.
+        HasFault rests → FailsUntouched result (W.contents out.old) (W.contents out.new)
+        (W.failures out.old) (W.failures out.new))) }
+
     // The same of the sample types of a profile: 0 is their text, 1 is a fault of the profile before its
     // samples, and 3 leaves nothing or a part of the text from its front.
     ensures types { result ≡ 0 → AsksForHelp (map string_bytes words.items)
@@ -144,6 +153,11 @@ pub fn run<T: Threads + Wait + Copy + Send + 'static, F: Files, W: Outlet, E: Ou
         ⊎ IsSomeAnd (asked_plan (map string_bytes words.items)) (λ plan. plan.form ≡ Form.Types
         → IfSome (known_profile plan (F.known_file files.old))
         (ShowsTypesFront (W.contents out.old) (W.contents out.new)))) }
+    ensures types_untouched { asked_faults (map string_bytes words.items) ≡ []
+        → IfSome (asked_plan (map string_bytes words.items)) (λ plan. plan.form ≡ Form.Types
+        → IfSome (known_profile plan (F.known_file files.old)) (λ profile. HasTableFault profile
+        → FailsUntouched result (W.contents out.old) (W.contents out.new)
+        (W.failures out.old) (W.failures out.new))) }
 {
     if words.is_empty() {
         return run_plan(rt, alloc, plan_without_words(alloc), files, out, err);
@@ -151,39 +165,6 @@ pub fn run<T: Threads + Wait + Copy + Send + 'static, F: Files, W: Outlet, E: Ou
     match plan(alloc, words.as_slice()) {
         Ok(plan) => run_plan(rt, alloc, plan, files, out, err),
         Err(fault) => refuse(fault, out, err),
-    }
-}
-
-// Says what is wrong with the words, or the help that they ask for.
-fn refuse<W: Outlet, E: Outlet>(fault: PlanFault, out: &mut W, err: &mut E) -> u8
-    ensures status { result ≤ 3 }
-    ensures help { result ≤ 1 → IsHelp fault }
-    ensures no_fault { result ≢ 1 }
-    ensures words { result ≡ 2 → IsWords fault }
-    ensures answered { IsWords fault → result ≡ 2 }
-    ensures told { result ≡ 0
-        → Appends (W.contents out.old) (W.contents out.new) (fault_text fault) }
-    ensures refused { result ≡ 2 → Keeps (W.contents out.old) (W.contents out.new) }
-    ensures front { result ≡ 3 → Keeps (W.contents out.old) (W.contents out.new) ⊎ IsHelp fault }
-    ensures flushed { result ≡ 0 → W.is_flushed out.new }
-    ensures unfailed { result ≢ 3 → W.failures out.new ≡ W.failures out.old }
-{
-    match fault {
-        PlanFault::Words(text) => {
-            let _ = send(text.as_bytes(), err);
-            2
-        }
-        PlanFault::Help(text) => match send(text.as_bytes(), out) {
-            Ok(()) => 0,
-            Err(_) => {
-                report_failure(err, &[], Failure::Output(PieceFault::Output));
-                3
-            }
-        },
-        PlanFault::OutOfMemory => {
-            report_failure(err, &[], Failure::OutOfMemory);
-            3
-        }
     }
 }
 
@@ -220,6 +201,14 @@ fn run_plan<T: Threads + Wait + Copy + Send + 'static, F: Files, W: Outlet, E: O
     ensures types_front { result ≡ 3 → Keeps (W.contents out.old) (W.contents out.new)
         ⊎ (plan.form ≡ Form.Types → IfSome (known_profile plan (F.known_file files.old))
         (ShowsTypesFront (W.contents out.old) (W.contents out.new))) }
+    ensures untouched { ShowsSamples plan.form
+        → IfSome (known_rests plan (F.known_input files.old) (F.known_file files.old)) (λ rests.
+        HasFault rests → FailsUntouched result (W.contents out.old) (W.contents out.new)
+        (W.failures out.old) (W.failures out.new)) }
+    ensures types_untouched { plan.form ≡ Form.Types
+        → IfSome (known_profile plan (F.known_file files.old)) (λ profile. HasTableFault profile
+        → FailsUntouched result (W.contents out.old) (W.contents out.new)
+        (W.failures out.old) (W.failures out.new)) }
     ensures unwritten { result ≡ 1 → Keeps (W.contents out.old) (W.contents out.new) }
     ensures refused { result ≡ 2 → Keeps (W.contents out.old) (W.contents out.new) }
     ensures flushed { result ≡ 0 → W.is_flushed out.new }
@@ -230,19 +219,6 @@ fn run_plan<T: Threads + Wait + Copy + Send + 'static, F: Files, W: Outlet, E: O
     }
     let shown = show_plan(rt, alloc, &plan, files, out, err);
     end_run(err, plan.files.get(), shown)
-}
-
-// Says why a run over these files failed, if it did, and answers its exit status.
-fn end_run<E: Outlet>(err: &mut E, files: &[String], shown: Result<(), Failure>) -> u8
-    ensures { result ≡ exit_status shown }
-{
-    match shown {
-        Ok(()) => 0,
-        Err(failure) => {
-            report_failure(err, files, failure);
-            failure.status()
-        }
-    }
 }
 
 // Shows the samples of the sources, or the sample types of the one profile.

@@ -1,5 +1,5 @@
 //! The samples of the sources of a plan, collected and shown.
-ghost use Rattle.std.specs.Prelude.{◌≡◌, ◌≢◌, ◌≤◌, ◌<◌, ℕ, List, Option, false, IfOk, IfSome, IfErr, IsErrOf, IsNone, OnOk, length, map};
+ghost use Rattle.std.specs.Prelude.{◌≡◌, ◌≢◌, ◌≤◌, ◌<◌, ℕ, List, Option, false, IfOk, IfSome, IfErr, IsErrOf, IsNone, OnOk, length, map, true};
 ghost use Rattle.std.specs.Io.KnownBytes.{Appends};
 ghost use Rattle.merged_stacks.specs.Timeline.{samples_of};
 ghost use Rattle.command_line.specs.Plans.{IsComparison};
@@ -161,6 +161,7 @@ fn send_gathered<W: Outlet>(
     width: Width,
     out: &mut W,
 ) -> Result<(), Failure>
+    ensures faulty { has_fault gathered.now.lists ≡ true → result ≡ Err Failure.Faults }
     ensures faultless { OnOk result (has_fault gathered.now.lists ≡ false) }
     ensures ok { OnOk result (Appends (W.contents out.old) (W.contents out.new) (graph_text width
         (samples_of gathered.now.lists) gathered.now.order gathered.now.every)) }
@@ -187,6 +188,7 @@ fn send_lists<W: Outlet>(
     requires pairs { IsComparison plan.now.view → length run.lists ≡ 2 }
     requires every { IfSome plan.now.options.every (λ every. 1 ≤ every) }
     requires orderless { IsOrderlessIn plan.now.form plan.now.view plan.now.options.every }
+    ensures faulty { has_fault run.lists ≡ true → result ≡ Err Failure.Faults }
     ensures faultless { OnOk result (has_fault run.lists ≡ false) }
     ensures ok { OnOk result (Appends (W.contents out.old) (W.contents out.new)
         (shown_text plan.now facts.now (samples_of run.lists) run.order plan.now.options.every)) }

@@ -1,7 +1,8 @@
 use Rattle.std.proofs.Common.{arith, rules, ◌≡◌, inl, inr, [], length, map, string_bytes, Some}
 use Rattle.command_line.specs.CommandLine.{command_line}
 use Rattle.command_line.specs.Plans.{IsFaultAmong, fault_of, plan_of}
-use Rattle.flame_tool.proofs.RunEndings.{accepted_none, accepted_some, asked_exactly, asked_page, asked_whole, asks_if_help, input_front, input_text, none_asked, partly_by_plan, partly_help, some_asked, some_faultless}
+use Rattle.flame_tool.proofs.RunEndings.{accepted_none, accepted_some, asked_exactly, asked_page, asked_whole, asks_if_help, input_clean, input_front, input_text, none_asked, partly_by_plan, partly_help, some_asked, some_faultless}
+use Rattle.flame_tool.proofs.UntouchedOutputs.{no_help, whatever_is_read, whatever_types_are_read}
 use Rattle.flame_tool.proofs.program.run.Goals as goal
 
 pub returns-in-Ok-clause-shown_exactly : goal.returns-in-Ok-clause-shown_exactly
@@ -39,12 +40,22 @@ pub returns-then-is_empty-clause-text : goal.returns-then-is_empty-clause-text
 returns-then-is_empty-clause-text g c = λ _ zero.
     input_text (g.F.Files.known_input c.args.files.now) (g.F.Files.known_file c.args.files.now) _ _ c.plan_without_words.result c.plan_without_words.ensures.plan (c.run_plan.ensures.shown zero)
 
+pub returns-then-is_empty-clause-clean : goal.returns-then-is_empty-clause-clean
+returns-then-is_empty-clause-clean g c = λ _ zero.
+    input_clean (g.F.Files.known_input c.args.files.now) (g.F.Files.known_file c.args.files.now) _ _ c.plan_without_words.result c.plan_without_words.ensures.plan (c.run_plan.ensures.shown zero)
+
 pub returns-then-is_empty-clause-front : goal.returns-then-is_empty-clause-front
 returns-then-is_empty-clause-front g c = λ _ three.
     input_front (g.F.Files.known_input c.args.files.now) (g.F.Files.known_file c.args.files.now) _ _ c.plan_without_words.result c.plan_without_words.ensures.plan (c.run_plan.ensures.front three)
 
 pub returns-clause-shown : goal.returns-clause-shown
 returns-clause-shown g c =
+    let some : length c.args.words.items ≡ 0 → ⊥ = search rules in
+    let among : IsFaultAmong (fault_of command_line (map string_bytes c.args.words.items)) c.in-Err.fault = search rules in
+    λ zero. inl (asks_if_help string_bytes c.args.words.items c.in-Err.fault some among (c.refuse.ensures.help (omega (arith, zero))))
+
+pub returns-clause-types : goal.returns-clause-types
+returns-clause-types g c =
     let some : length c.args.words.items ≡ 0 → ⊥ = search rules in
     let among : IsFaultAmong (fault_of command_line (map string_bytes c.args.words.items)) c.in-Err.fault = search rules in
     λ zero. inl (asks_if_help string_bytes c.args.words.items c.in-Err.fault some among (c.refuse.ensures.help (omega (arith, zero))))
@@ -114,3 +125,18 @@ returns-clause-partly_followed g c =
     let some : length c.args.words.items ≡ 0 → ⊥ = search rules in
     let among : IsFaultAmong (fault_of command_line (map string_bytes c.args.words.items)) c.in-Err.fault = search rules in
     λ three. partly_help string_bytes c.args.words.items c.in-Err.fault _ _ some among (c.refuse.ensures.front three)
+
+-- words that are not followed have a fault, or there was no memory for their plan
+pub returns-clause-untouched : goal.returns-clause-untouched
+returns-clause-untouched g c =
+    let some : length c.args.words.items ≡ 0 → ⊥ = search rules in
+    let among : IsFaultAmong (fault_of command_line (map string_bytes c.args.words.items)) c.in-Err.fault = search rules in
+    λ faultless. whatever_is_read _ (map string_bytes c.args.words.items) (g.F.Files.known_file c.args.files.now)
+    (c.refuse.ensures.untouched (no_help string_bytes c.args.words.items c.in-Err.fault some among faultless)) (g.F.Files.known_input c.args.files.now)
+
+pub returns-clause-types_untouched : goal.returns-clause-types_untouched
+returns-clause-types_untouched g c =
+    let some : length c.args.words.items ≡ 0 → ⊥ = search rules in
+    let among : IsFaultAmong (fault_of command_line (map string_bytes c.args.words.items)) c.in-Err.fault = search rules in
+    λ faultless. whatever_types_are_read _ (map string_bytes c.args.words.items) (g.F.Files.known_file c.args.files.now)
+    (c.refuse.ensures.untouched (no_help string_bytes c.args.words.items c.in-Err.fault some among faultless))

@@ -1,0 +1,58 @@
+//! How a run ends: the exit status, and what is said of it.
+ghost use Rattle.std.specs.Prelude.{◌≡◌, ◌≢◌, ◌≤◌, ◌⊎◌};
+ghost use Rattle.std.specs.Io.KnownBytes.{Appends, Keeps};
+ghost use Rattle.command_line.specs.Plans.{fault_text};
+ghost use Rattle.flame_tool.specs.Runs.{FailsUntouched};
+ghost use Rattle.flame_tool.specs.checked.Failures.{IsHelp, IsWords, exit_status};
+
+use byte_io::{Outlet, PieceFault, send};
+use command_line::PlanFault;
+use opened_sources::{Failure, report_failure};
+
+// Says what is wrong with the words, or the help that they ask for.
+pub(crate) fn refuse<W: Outlet, E: Outlet>(fault: PlanFault, out: &mut W, err: &mut E) -> u8
+    ensures status { result ≤ 3 }
+    ensures help { result ≤ 1 → IsHelp fault }
+    ensures no_fault { result ≢ 1 }
+    ensures words { result ≡ 2 → IsWords fault }
+    ensures answered { IsWords fault → result ≡ 2 }
+    ensures told { result ≡ 0
+        → Appends (W.contents out.old) (W.contents out.new) (fault_text fault) }
+    ensures refused { result ≡ 2 → Keeps (W.contents out.old) (W.contents out.new) }
+    ensures front { result ≡ 3 → Keeps (W.contents out.old) (W.contents out.new) ⊎ IsHelp fault }
+    ensures untouched { (IsHelp fault → ⊥) → FailsUntouched result (W.contents out.old)
+        (W.contents out.new) (W.failures out.old) (W.failures out.new) }
+    ensures flushed { result ≡ 0 → W.is_flushed out.new }
+    ensures unfailed { result ≢ 3 → W.failures out.new ≡ W.failures out.old }
+{
+    match fault {
+        PlanFault::Words(text) => {
+            let _ = send(text.as_bytes(), err);
+            2
+        }
+        PlanFault::Help(text) => match send(text.as_bytes(), out) {
+            Ok(()) => 0,
+            Err(_) => {
+                report_failure(err, &[], Failure::Output(PieceFault::Output));
+                3
+            }
+        },
+        PlanFault::OutOfMemory => {
+            report_failure(err, &[], Failure::OutOfMemory);
+            3
+        }
+    }
+}
+
+// Says why a run over these files failed, if it did, and answers its exit status.
+pub(crate) fn end_run<E: Outlet>(err: &mut E, files: &[String], shown: Result<(), Failure>) -> u8
+    ensures { result ≡ exit_status shown }
+{
+    match shown {
+        Ok(()) => 0,
+        Err(failure) => {
+            report_failure(err, files, failure);
+            failure.status()
+        }
+    }
+}
