@@ -2,6 +2,7 @@ pub mod Begins
 pub mod ByName
 pub mod Depths
 pub mod Found
+pub mod FoundNames
 pub mod Frames
 pub mod Listed
 pub mod NameOrder
@@ -9,6 +10,7 @@ pub mod NameNumbers
 pub mod Names
 pub mod Numbers
 pub mod Paths
+pub mod PlaceWalks
 pub mod Links
 pub mod RowOrder
 mod Rows

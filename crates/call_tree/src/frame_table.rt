@@ -1,26 +1,39 @@
 //! Frame names, each under a number of its own.
-ghost use Rattle.std.specs.Prelude.{◌≡◌, ◌↔◌, IsTrue, ℕ, ◌<◌, List, [], ◌∷◌, length, OnOk, OnErr, IfOk, map, slice_get, Some};
+ghost use Rattle.std.specs.Prelude.{◌≡◌, ◌↔◌, IsTrue, ℕ, ◌<◌, List, [], ◌∷◌, length, MatchOption, OnOk, OnErr, IfOk, map, slice_get, Some};
 ghost use Rattle.std.specs.List.{slice_index_or};
 ghost use Rattle.std.specs.String.{string_bytes};
 ghost use Rattle.call_tree.specs.FrameTable.{with_name, HasDistinctNames};
+ghost use Rattle.call_tree.specs.checked.NamePlaces.{hash_of_name};
 
-use indexmap::IndexSet;
+use crate::name_places::{has_name, hash_of, make_room, take_place};
+use crate::places::Places;
 use std::alloc::{AllocError, Global};
+use std::collections::BTreeMap;
 use std::marker::Model;
 
 /// Frame names, numbered from 0 in the order in which they were first asked for.
 #[derive(Drop)]
 pub struct FrameTable {
     alloc: Global,
-    names: IndexSet<String>,
+    names: Vec<String>,
+    places: Places,
+    /// The numbers of names with hashes that collide.
+    crowded: BTreeMap<String, usize>,
 }
 
 impl Model for FrameTable {
+    ghost use Rattle.std.specs.BTreeMap.{get_by_text};
+    ghost use Rattle.std.specs.Prelude.{ℕ, List, map, vec_capacity};
+    ghost use Rattle.std.specs.String.{string_bytes};
+    ghost use Rattle.call_tree.specs.FrameTable.{HasDistinctNames};
+    ghost use Rattle.call_tree.specs.checked.NamePlaces.{HasPlaces};
+
     ghost Value = { List (List ℕ) };
 
-    ghost view = { λ t. map string_bytes t.names.keys };
+    ghost view = { λ t. map string_bytes t.names.items };
 
-    ghost invariant = { λ t. HasDistinctNames (map string_bytes t.names.keys) };
+    ghost invariant = { λ t. HasDistinctNames (map string_bytes t.names.items)
+        × HasPlaces (map string_bytes t.names.items) t.places.slots t.places.cells.items (vec_capacity t.places.cells) (get_by_text t.crowded) };
 }
 
 impl FrameTable {
@@ -30,7 +43,9 @@ impl FrameTable {
     {
         FrameTable {
             alloc,
-            names: IndexSet::new(alloc),
+            names: Vec::new(alloc),
+            places: Places::new(alloc),
+            crowded: BTreeMap::new(alloc),
         }
     }
 
@@ -42,12 +57,45 @@ impl FrameTable {
         ensures distinct { HasDistinctNames self.new }
         ensures err { OnErr result (self.new ≡ self.old) }
     {
-        if let Some(number) = self.names.get_index_of(name) {
+        let hash = hash_of(name);
+        if let Some(number) = self.find(name, hash) {
             return Ok(number);
         }
         let owned = String::from_str(self.alloc, name)?;
-        let (number, _) = self.names.insert_full(owned)?;
+        let number = self.len();
+        make_room(
+            self.alloc,
+            self.names.as_slice(),
+            &mut self.places,
+            &self.crowded,
+        )?;
+        let place = take_place(self.alloc, name, number, &self.places, &mut self.crowded)?;
+        self.names.push(owned)?;
+        self.places.push(hash, place, number);
         Ok(number)
+    }
+
+    /// The number of a name, by its hash.
+    fn find(&self, name: &str, hash: u64) -> Option<usize>
+        requires { hash ≡ hash_of_name name.now }
+        ensures { MatchOption result
+            ((n : ℕ) → n < length self.now → slice_index_or self.now n [] ≡ name.now → ⊥)
+            (λ n. (n < length self.now) × (slice_index_or self.now n [] ≡ name.now)) }
+    {
+        let mut place = self.places.home(hash);
+        let mut bits = hash;
+        while let Some(number) = self.places.number_at(place) {
+            if has_name(self.names.as_slice(), number, name) {
+                return Some(number);
+            }
+            place = self.places.below(number, bits);
+            bits /= 2;
+        }
+        let number = *self.crowded.get(name)?;
+        if has_name(self.names.as_slice(), number, name) {
+            return Some(number);
+        }
+        None
     }
 
     /// The name of a number.
@@ -55,10 +103,7 @@ impl FrameTable {
         requires { number < length self.now }
         ensures { result.now ≡ slice_index_or self.now number [] }
     {
-        match self.names.get_index(number) {
-            Some(name) => name.as_str(),
-            None => unreachable!(),
-        }
+        self.names[number].as_str()
     }
 
     /// How many names there are. No two are the same.

@@ -1,18 +1,17 @@
-use Rattle.std.proofs.Common.{◌≡◌, [], ◌∷◌, ◌++◌, map, false, Some, sym, ap, subst, ◌∙◌}
+use Rattle.std.proofs.Common.{◌≡◌, ◌<◌, ℕ, [], ◌∷◌, ◌++◌, map, false, Some, sym, ap, subst, ◌∙◌, arith, length, get_or, slice_get, vec_capacity}
+use Rattle.std.specs.BTreeMap.{get_by_text}
+use Rattle.call_tree.specs.checked.NamePlaces.{HasPlaces}
 use Rattle.std.specs.List.{list_any}
-use Rattle.std.specs.Option.{option_map}
 use Rattle.std.specs.String.{string_bytes}
 use Rattle.std.specs.Str.{bytes_eq}
-use Rattle.std.proofs.lemmas.Option.{slice_get-map}
-use Rattle.std.proofs.lemmas.Slice.Eq.{bytes_eq-Decides}
+use Rattle.std.proofs.lemmas.List.{map-append, length-map}
 use Rattle.call_tree.specs.FrameTable.{with_name, HasDistinctNames}
-use Rattle.call_tree.proofs.Names.{IsAt, IsAt-position, slice_get-IsAt, with_name_known, with_name_new, position-map, list_any-map, strings_inserted, HasDistinctNames_push}
+use Rattle.call_tree.proofs.Names.{IsAt, IsAt_push, slice_get-IsAt, with_name_known, with_name_new, HasDistinctNames_push}
+use Rattle.call_tree.proofs.FoundNames.{none_among, places_push, places_keep}
 use Rattle.call_tree.proofs.frame_table.FrameTable.intern.Goals as goal
 
 found_at : (c : goal.In-Some) → IsAt c.args.self.now c.args.name.now c.in-Some.number
-found_at c =
-    subst (λ names. IsAt names c.args.name.now c.in-Some.number) c.self.view_is
-    (IsAt-position _ _ _ (position-map (bytes_eq c.args.name.now) string_bytes c.self.inside.names.keys ∙ sym c.in-Some.ensures.index))
+found_at c = record { below = c.in-Some.ensures.0; is = c.in-Some.ensures.1 }
 
 pub returns-in-Some-clause-names : goal.returns-in-Some-clause-names
 returns-in-Some-clause-names c = sym (with_name_known _ _ _ (found_at c))
@@ -20,17 +19,41 @@ returns-in-Some-clause-names c = sym (with_name_known _ _ _ (found_at c))
 pub returns-in-Some-clause-number : goal.returns-in-Some-clause-number
 returns-in-Some-clause-number c = slice_get-IsAt _ _ _ (found_at c)
 
-none_before : (c : goal.In_ok-number) → list_any (bytes_eq c.args.name.now) (map string_bytes c.self.inside.names.keys) ≡ false
-none_before c = list_any-map (bytes_eq c.args.name.now) string_bytes c.self.inside.names.keys ∙ sym c.in_default.ensures.found
+none_of : (c : goal.After-push-2) → (n : ℕ) → n < length (map string_bytes c.self.inside.names.items) → get_or (map string_bytes c.self.inside.names.items) n [] ≡ c.args.name.now → ⊥
+none_of c = subst (λ names. (n : ℕ) → n < length names → get_or names n [] ≡ c.args.name.now → ⊥) (sym c.self.view_is) c.in_default.ensures
 
-names_after : (c : goal.In_ok-number) → map string_bytes c.insert_full.new.self.keys ≡ map string_bytes c.self.inside.names.keys ++ c.args.name.now ∷ []
-names_after c = strings_inserted _ _ c.in_ok-owned.owned _ c.in_ok-owned.ensures.ok (sym c.in_default.ensures.found) c.in_ok-number.ensures.keys
+none_before : (c : goal.After-push-2) → list_any (bytes_eq c.args.name.now) (map string_bytes c.self.inside.names.items) ≡ false
+none_before c = none_among (map string_bytes c.self.inside.names.items) c.args.name.now (none_of c)
 
-distinct_after : (c : goal.In_ok-number) → HasDistinctNames (map string_bytes c.insert_full.new.self.keys)
-distinct_after c = subst HasDistinctNames (sym (names_after c)) (HasDistinctNames_push _ _ c.self.invariant (none_before c))
+names_after : (c : goal.After-push-2) → map string_bytes c.push.new.self.items ≡ map string_bytes c.self.inside.names.items ++ c.args.name.now ∷ []
+names_after c =
+    ap (map string_bytes) c.in_ok-push.ensures.items ∙ map-append string_bytes c.self.inside.names.items (c.in_ok-owned.owned ∷ [])
+    ∙ ap (λ n. map string_bytes c.self.inside.names.items ++ n ∷ []) c.in_ok-owned.ensures.ok
+
+distinct_after : (c : goal.After-push-2) → HasDistinctNames (map string_bytes c.push.new.self.items)
+distinct_after c = subst HasDistinctNames (sym (names_after c)) (HasDistinctNames_push _ _ c.self.invariant.0 (none_before c))
+
+number_is : (c : goal.After-push-2) → c.len-number.result ≡ length (map string_bytes c.self.inside.names.items)
+number_is c = c.len-number.ensures.count ∙ sym (ap length c.self.view_is)
+
+room_for : (c : goal.After-push-2) → length (map string_bytes c.self.inside.names.items) < c.make_room.new.places.slots
+room_for c =
+    subst (λ ns. length (map string_bytes ns) < c.make_room.new.places.slots) c.as_slice.ensures.value
+    (omega (arith, c.in_ok-make_room.ensures.room, length-map c.as_slice.result.now string_bytes))
+
+places_after : (c : goal.After-push-2) → HasPlaces (map string_bytes c.push.new.self.items) c.push-2.new.self.slots c.push-2.new.self.cells.items (vec_capacity c.push-2.new.self.cells) (get_by_text c.take_place.new.crowded)
+places_after c =
+    let before = subst (λ ns. HasPlaces (map string_bytes ns) c.make_room.new.places.slots c.make_room.new.places.cells.items (vec_capacity c.make_room.new.places.cells) (get_by_text c.self.inside.crowded))
+    c.as_slice.ensures.value c.in_ok-make_room.ensures.places in
+    let taken = rw (number_is c) at c.in_ok-place.ensures.ok in
+    let sound = rw c.push-2.ensures.slots at c.push-2.ensures.sound in
+    let len = rw (c.push-2.ensures.slots, number_is c) at c.push-2.ensures.len in
+    let placed = rw (c.push-2.ensures.slots, number_is c) at c.push-2.ensures.placed in
+    rw (names_after c, c.push-2.ensures.slots)
+    (places_push c.args.name.now c.in_ok-place.place before c.hash_of-hash.ensures taken c.in_ok-place.ensures.others (none_of c) sound len (room_for c) c.push-2.ensures.keeps placed)
 
 pub invariant_of-self-2 : goal.invariant_of-self-2
-invariant_of-self-2 c = distinct_after c
+invariant_of-self-2 c = (distinct_after c, places_after c)
 
 pub returns-clause-names : goal.returns-clause-names
 returns-clause-names c =
@@ -38,9 +61,8 @@ returns-clause-names c =
 
 pub returns-clause-number : goal.returns-clause-number
 returns-clause-number c =
-    let stored = c.in_ok-number.ensures.stored in
-    slice_get-map string_bytes c.insert_full.new.self.keys c.in_ok-number.number ∙ ap (option_map string_bytes) stored.1
-    ∙ ap Some (sym ((bytes_eq-Decides (string_bytes c.in_ok-owned.owned) (string_bytes stored.0)).0 stored.2) ∙ c.in_ok-owned.ensures.ok)
+    ap (λ names. slice_get names c.len-number.result) (names_after c) ∙ ap (slice_get (map string_bytes c.self.inside.names.items ++ c.args.name.now ∷ [])) (number_is c)
+    ∙ slice_get-IsAt _ _ _ (IsAt_push (map string_bytes c.self.inside.names.items) c.args.name.now)
 
 pub returns-clause-distinct : goal.returns-clause-distinct
 returns-clause-distinct c = distinct_after c
