@@ -19,6 +19,8 @@ pub use spellings::SpellingCache;
 pub use tree::CallTree;
 
 #[cfg(test)]
+mod name_tests;
+#[cfg(test)]
 mod spelling_tests;
 #[cfg(test)]
 mod tests;
