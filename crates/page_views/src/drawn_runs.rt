@@ -15,9 +15,9 @@ ghost use Rattle.page_views.specs.Pages.{plain_drawing, snapshot_drawing};
 ghost use Rattle.page_views.specs.checked.DrawnRuns.{drawing_in, drawings_in, drawings_of};
 
 use crate::headings::Heading;
-use crate::merged_runs::MergedRun;
 use call_tree::{CallTree, FrameTable};
 use flame_layout::{DrawnBox, draw_tree};
+use merging::Gathered;
 use page_texts::{Drawing, Moment};
 use source_views::filled_counts;
 use std::alloc::{AllocError, Global};
@@ -45,48 +45,45 @@ pub(crate) struct DrawnGraph<'a> {
 }
 
 // The boxes of the graph of a run, and those of its snapshots.
-pub(crate) fn draw_run<R: MergedRun>(alloc: Global, run: &R) -> Result<DrawnRun<'_>, AllocError>
+pub(crate) fn draw_run(alloc: Global, run: &Gathered) -> Result<DrawnRun<'_>, AllocError>
     ensures { IfOk result (λ drawn. (least : Option ℕ) → drawings_in least drawn
-        ≡ drawings_of least (samples_of (R.lists run.now)) (R.order run.now) (R.every run.now)) }
+        ≡ drawings_of least (samples_of run.now.lists) run.now.order run.now.every) }
 {
     let snapshots = draw_snapshots(alloc, run)?;
-    let graph = draw_graph(alloc, run.merged_tree(), run.frame_table())?;
+    let graph = draw_graph(alloc, run.tree(), run.table())?;
     Ok(DrawnRun { snapshots, graph })
 }
 
 // The snapshots of a run, each with the boxes of its graph.
-fn draw_snapshots<R: MergedRun>(
-    alloc: Global,
-    run: &R,
-) -> Result<Vec<DrawnSnapshot<'_>>, AllocError>
+fn draw_snapshots(alloc: Global, run: &Gathered) -> Result<Vec<DrawnSnapshot<'_>>, AllocError>
     ensures { IfOk result (λ drawn. (least : Option ℕ) → map (drawing_in least) drawn.items
-        ≡ map (snapshot_drawing least (samples_of (R.lists run.now)) (R.order run.now))
-        (snapshot_places (R.every run.now) (length (R.order run.now)))) }
+        ≡ map (snapshot_drawing least (samples_of run.now.lists) run.now.order)
+        (snapshot_places run.now.every (length run.now.order))) }
 {
     let mut drawn = Vec::new(alloc);
-    for place in 0..run.moments().len() {
+    for place in 0..run.snapshots().len() {
         drawn.push(draw_snapshot(alloc, run, place)?)?;
     }
     Ok(drawn)
 }
 
 // A snapshot of a run, with the boxes of its graph.
-fn draw_snapshot<R: MergedRun>(
+fn draw_snapshot(
     alloc: Global,
-    run: &R,
+    run: &Gathered,
     place: usize,
 ) -> Result<DrawnSnapshot<'_>, AllocError>
-    requires { place < length (R.snapshots run.now) }
+    requires { place < length run.now.snapshots }
     ensures { IfOk result (λ drawn. (least : Option ℕ) → drawing_in least drawn
-        ≡ snapshot_drawing least (samples_of (R.lists run.now)) (R.order run.now)
-        (slice_index_or (places_of (R.snapshots run.now)) place 0)) }
+        ≡ snapshot_drawing least (samples_of run.now.lists) run.now.order
+        (slice_index_or (places_of run.now.snapshots) place 0)) }
 {
-    let snapshot = &run.moments()[place];
-    let counts = filled_counts(alloc, snapshot.counts.get(), run.source_count())?;
+    let snapshot = &run.snapshots()[place];
+    let counts = filled_counts(alloc, snapshot.counts.get(), run.lists().len())?;
     Ok(DrawnSnapshot {
         at: snapshot.at,
         counts,
-        graph: draw_graph(alloc, &snapshot.tree, run.frame_table())?,
+        graph: draw_graph(alloc, &snapshot.tree, run.table())?,
     })
 }
 

@@ -6,7 +6,6 @@ mod comparison_pages;
 mod drawn_profiles;
 mod drawn_runs;
 mod headings;
-mod merged_runs;
 mod page_data;
 mod plain_pages;
 mod snapshot_pages;

@@ -61,7 +61,7 @@ fn append_graph(
         (samples_of views.now.lists) views.now.order views.now.every)) }
     ensures err { OnErr result (out.new.items ≡ out.old.items) }
 {
-    let drawn = draw_run(alloc, views)?;
+    let drawn = draw_run(alloc, views.gathered())?;
     let drawings = run_drawings(alloc, &drawn, heading)?;
     append_page_data(alloc, out, &heading.page("graph", &drawings))
 }

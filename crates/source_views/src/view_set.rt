@@ -73,8 +73,8 @@ impl Views {
         })
     }
 
-    // What was gathered.
-    pub(crate) fn gathered(&self) -> &Gathered
+    /// What was gathered, without boxes.
+    pub fn gathered(&self) -> &Gathered
         ensures { result.now ≡ record {
           lists = self.now.lists;
           order = self.now.order;

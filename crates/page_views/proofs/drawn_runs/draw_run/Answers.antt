@@ -6,9 +6,8 @@ use Rattle.page_views.specs.Pages.{plain_drawing}
 use Rattle.page_views.proofs.drawn_runs.draw_run.Goals as goal
 
 pub returns : goal.returns
-returns g c =
-    let trait = g.R.MergedRun in
+returns c =
     let run = c.args.run.now in
-    let samples = all_samples (samples_of (trait.lists run)) in
-    let same = lent_stacks (trait.names run) c.frame_table.result.now (trait.tree run) c.merged_tree.result.now samples c.frame_table.ensures c.merged_tree.ensures.tree c.merged_tree.ensures.stacks in
+    let samples = all_samples (samples_of run.lists) in
+    let same = lent_stacks run.names c.table.result.now run.tree c.tree.result.now samples c.table.ensures.names c.tree.ensures.tree c.tree.ensures.sums.stacks in
     λ least. (λ i. c.in_ok-snapshots.ensures least i ++ plain_drawing least None (c.in_ok-graph.ensures.total samples same i) (c.in_ok-graph.ensures.boxes samples same i) ∷ [])

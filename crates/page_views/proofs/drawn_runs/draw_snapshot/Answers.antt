@@ -8,13 +8,12 @@ use Rattle.page_views.proofs.Drawings.{snapshot_drawn}
 use Rattle.page_views.proofs.drawn_runs.draw_snapshot.Goals as goal
 
 pub returns : goal.returns
-returns g c =
-    let trait = g.R.MergedRun in
+returns c =
     let run = c.args.run.now in
-    let snapshot = c.index-moments-place.result in
+    let snapshot = c.index-snapshots-place.result in
     let graph = c.in_ok-draw_graph.field-0 in
-    let lists = trait.lists run in
+    let lists = run.lists in
     let counted : c.in_ok-counts.counts.items ≡ filled (length lists) snapshot.counts = search rules in
-    snapshot_drawn c.args.place (length lists) graph.total (trait.every run) (trait.order run) (samples_of lists) (trait.names run) c.frame_table.result.now (trait.snapshots run) snapshot c.in_ok-counts.counts.items (map span_of graph.boxes.items)
-    c.frame_table.ensures c.requires (search rules) (sym (length-map lists (λ (list : ListState). list.samples))) c.moments.ensures.made
+    snapshot_drawn c.args.place (length lists) graph.total run.every run.order (samples_of lists) run.names c.table.result.now run.snapshots snapshot c.in_ok-counts.counts.items (map span_of graph.boxes.items)
+    c.table.ensures.names c.requires (search rules) (sym (length-map lists (λ (list : ListState). list.samples))) c.snapshots.ensures.made
     counted c.in_ok-draw_graph.ensures.total c.in_ok-draw_graph.ensures.boxes

@@ -7,7 +7,6 @@ use Rattle.page_views.specs.checked.DrawnRuns.{drawing_in}
 use Rattle.page_views.proofs.drawn_runs.draw_snapshots.Given as goal
 
 abbrev pub invariant-loop-place : goal.invariant-loop-place
-invariant-loop-place g l =
-    let run = g.R.MergedRun in
+invariant-loop-place l =
     (least : Option ℕ) → map (drawing_in least) l.drawn.items
-    ≡ map (snapshot_drawing least (samples_of (run.lists l.run)) (run.order l.run)) (take l.place (places_of (run.snapshots l.run)))
+    ≡ map (snapshot_drawing least (samples_of l.run.lists) l.run.order) (take l.place (places_of l.run.snapshots))
