@@ -6,6 +6,7 @@ mod faults;
 mod feeds;
 mod intakes;
 mod numbering;
+mod pauses;
 mod reader_threads;
 mod rings;
 mod room;

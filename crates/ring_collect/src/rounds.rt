@@ -1,4 +1,4 @@
-//! The collecting thread's rounds: in each it looks once into every ring that is not closed.
+//! The collecting thread's rounds: in each it visits every ring that is not closed.
 
 ghost use Rattle.std.specs.Prelude.{◌≡◌, ◌<◌, ℕ, List, IsSome, IfSome, false, length, map, slice_get};
 ghost use Rattle.ring_collect.specs.checked.Rounds.{HasGained};
@@ -6,11 +6,14 @@ ghost use Rattle.sample_tables.specs.declared.samples.Sample.{Sample as TakenSam
 
 use crate::feeds::Feed;
 use crate::intakes::Look;
+use crate::pauses::Pause;
 use crate::running_sources::RunningSource;
 use stack_core::{Gate, RowReader};
 use std::alloc::Global;
 use std::sync::Wait;
-use std::thread;
+
+/// The most records that are taken from a ring before the next ring's turn.
+const VISIT: u32 = 64;
 
 /// What the collecting thread has of a run.
 #[derive(Drop)]
@@ -58,7 +61,41 @@ impl<R: RowReader, G: Gate> Collector<R, G> {
         look
     }
 
-    /// Looks once into every ring that is not closed.
+    /// Looks into the ring of the source with this number until nothing is there or it is closed, `VISIT` times at most.
+    fn visit<S, F: Feed<S>>(
+        &mut self,
+        alloc: Global,
+        source: usize,
+        feed: &mut F,
+        sink: &mut S,
+    ) -> Look
+        requires { source < length self.old.sources.items }
+        ensures handles { map (λ running. running.handle) self.new.sources.items
+            ≡ map (λ running. running.handle) self.old.sources.items }
+        ensures gained { (start : List (ℕ × TakenSample))
+            → HasGained start (map (λ running. running.intake) self.old.sources.items)
+            (F.taken sink.old) self.old.order.items self.old.refused
+            → HasGained start (map (λ running. running.intake) self.new.sources.items)
+            (F.taken sink.new) self.new.order.items self.new.refused }
+        ensures refused { self.new.refused ≡ false → self.old.refused ≡ false }
+        ensures closed { result ≡ Look.Closed → (self.new.sources.items ≡ self.old.sources.items)
+            × IfSome (slice_get self.old.sources.items source)
+            (λ running. IsSome running.intake.close) }
+        ensures setting { F.setting sink.new ≡ F.setting sink.old }
+    {
+        let first = self.look_at(alloc, source, feed, sink);
+        if first != Look::Moved {
+            return first;
+        }
+        for _ in 1..VISIT {
+            if self.look_at(alloc, source, feed, sink) != Look::Moved {
+                return first;
+            }
+        }
+        first
+    }
+
+    /// Visits every ring that is not closed.
     fn look_round<S, F: Feed<S>>(&mut self, alloc: Global, feed: &mut F, sink: &mut S) -> Look
         ensures handles { map (λ running. running.handle) self.new.sources.items
             ≡ map (λ running. running.handle) self.old.sources.items }
@@ -76,13 +113,13 @@ impl<R: RowReader, G: Gate> Collector<R, G> {
     {
         let mut round = Look::Closed;
         for source in 0..self.sources.len() {
-            let look = self.look_at(alloc, source, feed, sink);
+            let look = self.visit(alloc, source, feed, sink);
             round = round.and(look);
         }
         round
     }
 
-    /// Looks into the rings until all are closed. A round in which nothing came gives the processor away.
+    /// Looks into the rings until all are closed. It waits after a round in which nothing came.
     pub fn drain<W: Wait, S, F: Feed<S>>(
         &mut self,
         rt: &W,
@@ -103,11 +140,12 @@ impl<R: RowReader, G: Gate> Collector<R, G> {
             (λ running. IsSome running.intake.close) }
         ensures setting { F.setting sink.new ≡ F.setting sink.old }
     {
+        let mut pause = Pause::new();
         for _ in rt.forever() {
             match self.look_round(alloc, feed, sink) {
                 Look::Closed => return,
-                Look::Idle => thread::yield_now(),
-                Look::Moved => (),
+                Look::Idle => pause.wait(rt, 1),
+                Look::Moved => pause.end(),
             }
         }
         unreachable!()

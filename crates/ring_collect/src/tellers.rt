@@ -7,34 +7,28 @@ ghost use Rattle.ring_collect.specs.checked.Tellers.{SentAll, ending_of, records
 ghost use Rattle.stack_core.specs.RowReading.{IsLimitedStep};
 ghost use Rattle.std.specs.Arc.{arc_value};
 
+use crate::pauses::Pause;
 use crate::rings::{LeftOfRing, RecordProducer};
 use rtrb::PushError;
 use stack_core::{Close, Gate, Listed, RingRecord, RowReader, RowStep, SourceEnd, Text, Turn};
 use std::alloc::Global;
 use std::sync::{Arc, Wait};
-use std::thread;
 
-/// Gives the processor away half as many times as the ring holds records, so that the ring's ends seldom look at one another's
-/// work; but at most 64 times, so that the reader of a large ring comes back to it.
-fn give_time(producer: &RecordProducer) {
-    for _ in 0..(producer.capacity() / 2).clamp(1, 64) {
-        thread::yield_now();
-    }
-}
-
-/// Waits until the record is in the ring.
+/// Waits until the record is in the ring. A wait is half as many turns as the ring holds records, so that the ring's ends seldom
+/// look at one another's work; but at most 64, so that the reader of a large ring comes back to it.
 fn push_waiting<W: Wait>(rt: &W, producer: &mut RecordProducer, item: RingRecord)
     requires { IsLimitedRecord item }
     ensures ring { SameProducer producer.old producer.new }
     ensures sent { sent producer.new ≡ sent producer.old ++ item ∷ [] }
 {
     let mut item = item;
+    let mut pause = Pause::new();
     for _ in rt.forever() {
         match producer.push(item) {
             Ok(()) => return,
             Err(PushError::Full(back)) => item = back,
         }
-        give_time(producer);
+        pause.wait(rt, (producer.capacity() / 2).clamp(1, 64));
     }
     unreachable!()
 }
