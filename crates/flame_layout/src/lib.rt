@@ -9,8 +9,6 @@ mod flame_boxes;
 mod graphs;
 mod image;
 pub mod laws;
-#[cfg(test)]
-mod tests;
 mod walks;
 
 pub use boxes::{ComparedBox, DrawnBox, PairRow, PlacedBox, SpanBox};

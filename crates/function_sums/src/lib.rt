@@ -6,8 +6,6 @@ pub mod laws;
 mod rows;
 mod sums;
 mod tables;
-#[cfg(test)]
-mod tests;
 
 pub use run_options::FunctionOrder as Order;
 pub use sums::FunctionSum;

@@ -8,8 +8,6 @@ mod paired_sides;
 mod ranked_rows;
 mod stack_rows;
 mod sweeps;
-#[cfg(test)]
-mod tests;
 mod totals;
 
 pub use merged::MergedStacks;

@@ -1,0 +1,5 @@
+//! Tests of merged stacks, of boxes, and of the weights of functions.
+#![tactic(auto)]
+
+#[cfg(test)]
+mod tests;

@@ -1,0 +1,115 @@
+//! Graphs of trees.
+
+ghost use Rattle.std.specs.Prelude.{◌≡◌, ◌<◌, ◌^◌, [], List, IfOk, OnOk, length};
+ghost use Rattle.sample_tables.specs.Rows.{sample_at};
+ghost use Rattle.call_tree.specs.FrameTable.{HasDistinctNames};
+ghost use Rattle.call_tree.specs.Listing.{named, AreIn};
+ghost use Rattle.merged_stacks.specs.Timeline.{total_weight};
+ghost use Rattle.merged_stacks.specs.checked.Ranks.{Grows};
+ghost use Rattle.flame_layout.specs.checked.Held.{Holds};
+
+use super::is_shown_placed;
+use crate::tests::sources::list;
+use call_tree::{CallTree, FrameTable};
+use flame_layout::{PlacedBox, Width, graph_boxes, place};
+use stack_core::SourceList;
+use std::alloc::{AllocError, Global};
+use std::process::Abort;
+use std::test::Fail;
+
+/// Adds the samples of a list to an empty tree.
+fn add_list(
+    alloc: Global,
+    table: &mut FrameTable,
+    tree: &mut CallTree,
+    list: &SourceList,
+) -> Result<(), AllocError>
+    requires empty { Holds table.old tree.old [] }
+    requires room { total_weight list.now.samples < 2 ^ 128 }
+    requires distinct { HasDistinctNames table.old }
+    ensures { OnOk result (Holds table.new tree.new list.now.samples) }
+{
+    for at in 0..list.len() {
+        let numbers = frame_numbers(alloc, table, list, at)?;
+        tree.add(&numbers, list.weight(at))?;
+    }
+    Ok(())
+}
+
+/// The numbers of the frames of a sample. New names are put into the table.
+fn frame_numbers(
+    alloc: Global,
+    table: &mut FrameTable,
+    list: &SourceList,
+    at: usize,
+) -> Result<Vec<usize>, AllocError>
+    requires at { at < length list.now.samples }
+    requires distinct { HasDistinctNames table.old }
+    ensures names { IfOk result (λ numbers.
+        named table.new numbers.items ≡ (sample_at list.now.samples at).stack) }
+    ensures known { IfOk result (λ numbers. AreIn table.new numbers.items) }
+    ensures grows { OnOk result (Grows table.old table.new) }
+    ensures distinct { OnOk result (HasDistinctNames table.new) }
+{
+    let mut numbers = Vec::new(alloc);
+    for frame in 0..list.depth(at) {
+        numbers.push(table.intern(list.name(at, frame))?)?;
+    }
+    Ok(numbers)
+}
+
+/// The graph of one source, in an image.
+fn placed_graph(
+    rt: &impl Abort,
+    alloc: Global,
+    source: &SourceList,
+    width: Width,
+) -> Result<Vec<PlacedBox>, AllocError> {
+    // The samples are within the limits: the count tells it.
+    let _count = source.len();
+    let total = source.total();
+    assert!(rt; total < 1_000);
+    let mut table = FrameTable::new(alloc);
+    let mut tree = CallTree::new(alloc)?;
+    add_list(alloc, &mut table, &mut tree, source)?;
+    let boxes = graph_boxes(alloc, &tree, &table)?;
+    place(alloc, boxes, total as u64, width)
+}
+
+fn draws_graph(
+    rt: &impl Abort,
+    alloc: Global,
+    source: &SourceList,
+    width: Width,
+    text: &str,
+) -> Result<(), Fail> {
+    let boxes = placed_graph(rt, alloc, source, width)?;
+    is_shown_placed(rt, alloc, &boxes, text)
+}
+
+#[test]
+fn graph_of_the_runs(rt: HostRuntime) -> Result<(), Fail> {
+    let lines: [(&[&str], u64); 3] = [(&["a", "b"], 1), (&["a", "c"], 1), (&["a", "b"], 1)];
+    let width = Width::of(3).ok_or("no width")?;
+    let source = list(&rt, rt.alloc(), &lines)?;
+    let text = "(0 all 0 3 0 0 3)(1 a 0 3 0 0 3)(2 b 0 2 2 0 2)(2 c 2 1 1 2 3)";
+    draws_graph(&rt, rt.alloc(), &source, width, text)
+}
+
+#[test]
+fn graph_of_three_lines(rt: HostRuntime) -> Result<(), Fail> {
+    let lines: [(&[&str], u64); 3] = [(&["a"], 1), (&["c"], 0), (&["b"], 2)];
+    let width = Width::of(10).ok_or("no width")?;
+    let source = list(&rt, rt.alloc(), &lines)?;
+    let text = "(0 all 0 3 0 0 10)(1 a 0 1 1 0 3)(1 b 1 2 2 3 10)";
+    draws_graph(&rt, rt.alloc(), &source, width, text)
+}
+
+#[test]
+fn empty_graph(rt: HostRuntime) -> Result<(), Fail> {
+    let alloc = rt.alloc();
+    let tree = CallTree::new(alloc)?;
+    let table = FrameTable::new(alloc);
+    assert_eq!(rt; graph_boxes(alloc, &tree, &table)?.len(), 0);
+    Ok(())
+}
