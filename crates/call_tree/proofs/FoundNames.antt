@@ -1,5 +1,5 @@
 -- Names that are found: what more numbers change, and what a look-up that finds none says.
-use Rattle.std.proofs.Common.{◌≡◌, ℕ, zero, suc, ◌+◌, ◌*◌, ◌/◌, ◌<◌, ◌⊎◌, inl, inr, Bool, true, false, ◌||◌, List, [], ◌∷◌, length, get_or, Option, Some, None, refl, sym, ap, subst, ◌∙◌, arith, MatchOption, ◌++◌, length-append, ◌≤◌}
+use Rattle.std.proofs.Common.{◌≡◌, ℕ, ◌+◌, ◌*◌, ◌<◌, ◌⊎◌, inl, inr, false, List, [], ◌∷◌, length, get_or, Option, Some, None, sym, ap, subst, ◌∙◌, arith, MatchOption, ◌++◌, length-append}
 use Rattle.std.specs.List.{list_any}
 use Rattle.std.specs.Option.{IfSome}
 use Rattle.std.specs.Str.{bytes_eq}
@@ -7,11 +7,11 @@ use Rattle.std.proofs.lemmas.Bool.{false_from_ne_true}
 use Rattle.std.proofs.lemmas.List.Folds.{Any-from_list_any}
 use Rattle.std.proofs.lemmas.List.{get_or_default, get_or_append_left}
 use Rattle.std.proofs.lemmas.Slice.Eq.{bytes_eq-Decides}
-use Rattle.call_tree.specs.checked.Places.{home_of, below_of, IsMet, IsPlaced, IsFree, KeepsNumbers, AreSound}
+use Rattle.call_tree.specs.checked.Places.{IsPlaced, IsFree, KeepsNumbers, AreSound}
 use Rattle.call_tree.specs.checked.NamePlaces.{hash_of_name, IsFound, HasPlaces}
 use Rattle.call_tree.proofs.Names.{IsAt_push}
 use Rattle.call_tree.proofs.Steps.{last_or_before}
-use Rattle.call_tree.proofs.PlaceWalks.{met_keeps, met_on, empty_meets_none}
+use Rattle.call_tree.proofs.PlaceWalks.{met_keeps}
 
 pub found_keeps : (cells new : List ℕ) (slots number : ℕ) (crowded : List ℕ → Option ℕ) (name : List ℕ) → KeepsNumbers cells new → IsFound slots cells crowded name number → IsFound slots new crowded name number
 found_keeps cells new slots number crowded name keeps (inl placed) = inl (met_keeps keeps placed)
@@ -28,33 +28,16 @@ none_among names name none = false_from_ne_true _ (λ any.
     let at = Any-from_list_any (bytes_eq name) names any in
     none at.0 at.2 (get_or_default names at.0 [] at.1 at.2 ∙ at.3 ∙ sym ((bytes_eq-Decides name at.1).0 at.4)))
 
--- what is ahead of a walk to a name: the name's number, where it has one
-abbrev pub IsAheadOf : List (List ℕ) → List ℕ → ℕ → (List ℕ → Option ℕ) → List ℕ → ℕ → ℕ → Type 0
-IsAheadOf names cells slots crowded name place bits =
-    (n : ℕ) → n < length names → get_or names n [] ≡ name → IsMet cells slots n place bits ⊎ (crowded name ≡ Some n)
-
-module _ (names : List (List ℕ)) (cells : List ℕ) (slots : ℕ) (crowded : List ℕ → Option ℕ) (name : List ℕ) where
-  pub met_first : {capacity : ℕ} → HasPlaces names slots cells capacity crowded → (hash : ℕ) → hash ≡ hash_of_name name → IsAheadOf names cells slots crowded name (home_of slots hash) hash
-  met_first places hash is n lt at = by (places.found n lt)
-    where
-      by : IsFound slots cells crowded (get_or names n []) n → IsMet cells slots n (home_of slots hash) hash ⊎ (crowded name ≡ Some n)
-      by (inl met) = inl (subst (λ h. IsMet cells slots n (home_of slots h) h) (ap hash_of_name at ∙ sym is) met)
-      by (inr kept) = inr (ap crowded (sym at) ∙ kept)
-
-  pub met_next : (place bits on : ℕ) → get_or cells place 0 ≡ on + 1 → ((on < length names) × (get_or names on [] ≡ name) → ⊥)
-      → IsAheadOf names cells slots crowded name place bits → IsAheadOf names cells slots crowded name (below_of slots on bits) (bits / 2)
-  met_next place bits on here other ahead n lt at = by (ahead n lt at)
-    where
-      by : IsMet cells slots n place bits ⊎ (crowded name ≡ Some n) → IsMet cells slots n (below_of slots on bits) (bits / 2) ⊎ (crowded name ≡ Some n)
-      by (inl met) = inl (met_on on here (λ same. other (subst (λ m. (m < length names) × (get_or names m [] ≡ name)) (sym same) (lt, at))) met)
-      by (inr kept) = inr kept
-
-  pub met_end : (place bits : ℕ) → get_or cells place 0 ≡ 0 → IsAheadOf names cells slots crowded name place bits → (n : ℕ) → n < length names → get_or names n [] ≡ name → crowded name ≡ Some n
-  met_end place bits empty ahead n lt at = by (ahead n lt at)
-    where
-      by : IsMet cells slots n place bits ⊎ (crowded name ≡ Some n) → crowded name ≡ Some n
-      by (inl met) = absurd (empty_meets_none empty met)
-      by (inr kept) = kept
+-- a name that the walk of its hash does not meet has the number that it has among the crowded, if any
+pub kept_if_not_met : (names : List (List ℕ)) (cells : List ℕ) (slots capacity : ℕ) (crowded : List ℕ → Option ℕ) (name : List ℕ) (hash : ℕ)
+    → HasPlaces names slots cells capacity crowded → hash ≡ hash_of_name name
+    → ((n : ℕ) → IsPlaced cells slots hash n → (n < length names) × (get_or names n [] ≡ name) → ⊥)
+    → (n : ℕ) → n < length names → get_or names n [] ≡ name → crowded name ≡ Some n
+kept_if_not_met names cells slots capacity crowded name hash places is not_met n lt at = by (places.found n lt)
+  where
+    by : IsFound slots cells crowded (get_or names n []) n → crowded name ≡ Some n
+    by (inl met) = absurd (not_met n (subst (λ h. IsPlaced cells slots h n) (ap hash_of_name at ∙ sym is) met) (lt, at))
+    by (inr kept) = ap crowded (sym at) ∙ kept
 
 pub places_push : {names : List (List ℕ)} {cells new : List ℕ} {slots capacity more hash : ℕ} {crowded after : List ℕ → Option ℕ} (name : List ℕ) (place : Option ℕ)
     → HasPlaces names slots cells capacity crowded → hash ≡ hash_of_name name

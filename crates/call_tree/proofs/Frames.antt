@@ -8,9 +8,9 @@ use Rattle.std.proofs.lemmas.List.Sums.{sum_by-cons}
 use Rattle.std.proofs.lemmas.List.Folds.{list_any_at, Any-from_list_any}
 use Rattle.std.proofs.lemmas.List.Sorted.{IsNonDecreasingBy-from_sort, sum_by-IsPermutation, list_any-IsPermutation}
 use borrow.Author.Tests.{eqb-true}
-use Rattle.call_tree.specs.declared.nodes.Link.{Link}
+use Rattle.call_tree.specs.declared.links.Link.{Link}
 use Rattle.call_tree.specs.checked.Nodes.{path_of, HasShape, HasChild, frames_below}
-use Rattle.call_tree.proofs.Links.{same_link, same_link_is, same_link_equal}
+use Rattle.call_tree.proofs.SameLinks.{same_link, same_link_is, same_link_equal}
 use Rattle.call_tree.proofs.Shape.{origin}
 use Rattle.call_tree.proofs.Paths.{path_of_child}
 
@@ -79,7 +79,7 @@ any_has n xs e =
 child_any : (node n : ℕ) (links : List Link) → HasChild links node n → list_any (same_link (record { parent = node; frame = n })) links ≡ true
 child_any node n links has = list_any_at (same_link (record { parent = node; frame = n })) links has.0 (record { parent = node; frame = n }) has.1 (same_link_equal _ _ (sym has.2))
 
-pub any_child : (node n : ℕ) (links : List Link) → list_any (same_link (record { parent = node; frame = n })) links ≡ true → HasChild links node n
+any_child : (node n : ℕ) (links : List Link) → list_any (same_link (record { parent = node; frame = n })) links ≡ true → HasChild links node n
 any_child node n links e =
     let at = Any-from_list_any (same_link (record { parent = node; frame = n })) links e in
     (at.0, at.2, get_or_default links at.0 _ at.1 at.2 ∙ at.3 ∙ sym (same_link_is _ at.1 at.4))

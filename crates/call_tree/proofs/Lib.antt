@@ -2,6 +2,7 @@ pub mod Begins
 pub mod ByName
 pub mod Depths
 pub mod Found
+pub mod FoundLinks
 pub mod FoundNames
 pub mod Frames
 pub mod Listed
@@ -11,7 +12,7 @@ pub mod Names
 pub mod Numbers
 pub mod Paths
 pub mod PlaceWalks
-pub mod Links
+pub mod SameLinks
 pub mod RowOrder
 mod Rows
 pub mod Shape

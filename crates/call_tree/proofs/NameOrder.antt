@@ -3,7 +3,7 @@ use Rattle.std.proofs.Common.{ℕ, ◌+◌, ◌<◌, inl, inr, List, [], ◌∷�
 use Rattle.std.specs.Ordering.{nat_cmp}
 use Rattle.std.specs.Cmp.{IsTotalOrder}
 use Rattle.std.specs.Cmp.Lexicographic.{slice_cmp, nat_list_cmp_total, lists_total}
-use Rattle.call_tree.specs.declared.nodes.Link.{Link}
+use Rattle.call_tree.specs.declared.links.Link.{Link}
 use Rattle.call_tree.specs.Listing.{AreIn}
 use Rattle.call_tree.specs.checked.Nodes.{path_of, HasShape}
 use Rattle.call_tree.proofs.Paths.{path_of_root}

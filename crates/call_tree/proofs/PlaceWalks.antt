@@ -5,7 +5,7 @@ use Rattle.std.proofs.lemmas.List.{get_or-set_other, get_or-set_same, length-set
 use Rattle.call_tree.specs.checked.Places.{home_of, below_of, IsAhead, IsMet, IsPlaced, KeepsNumbers, LeadsTo, IsFree, IsLonger, AreSound}
 
 -- two numbers are one or apart
-same_or_apart : (a b : ℕ) → (a ≡ b) ⊎ (a ≢ b)
+pub same_or_apart : (a b : ℕ) → (a ≡ b) ⊎ (a ≢ b)
 same_or_apart zero zero = inl refl
 same_or_apart zero (suc b) = inr (omega arith)
 same_or_apart (suc a) zero = inr (omega arith)
@@ -117,6 +117,30 @@ met_on {cells} {slots} {number} {place} {bits} on here apart met = by met.steps 
     by (suc steps) (other, is, rest) =
         let same : other ≡ on = (let h = sym is ∙ here in omega (arith, h)) in
         record { steps = steps; ahead = subst (λ n. IsAhead cells slots number steps (below_of slots n bits) (bits / 2)) same rest }
+
+-- what a walk still has to find: a number that the walk of the hash meets is ahead, or was passed and is not it
+abbrev pub IsLeft : (ℕ → Type 0) → List ℕ → ℕ → ℕ → ℕ → ℕ → Type 0
+IsLeft missed cells slots hash place bits = (number : ℕ) → IsPlaced cells slots hash number → IsMet cells slots number place bits ⊎ missed number
+
+pub left_on : (missed : ℕ → Type 0) (cells : List ℕ) (slots hash place bits on : ℕ) → get_or cells place 0 ≡ on + 1 → missed on
+    → IsLeft missed cells slots hash place bits → IsLeft missed cells slots hash (below_of slots on bits) (bits / 2)
+left_on missed cells slots hash place bits on here passed left number placed = by (left number placed)
+  where
+    apart : (on ≡ number) ⊎ (on ≢ number) → IsMet cells slots number place bits → IsMet cells slots number (below_of slots on bits) (bits / 2) ⊎ missed number
+    apart (inl same) met = inr (subst missed same passed)
+    apart (inr other) met = inl (met_on on here other met)
+
+    by : IsMet cells slots number place bits ⊎ missed number → IsMet cells slots number (below_of slots on bits) (bits / 2) ⊎ missed number
+    by (inl met) = apart (same_or_apart on number) met
+    by (inr gone) = inr gone
+
+pub left_none : (missed : ℕ → Type 0) (cells : List ℕ) (slots hash place bits : ℕ) → get_or cells place 0 ≡ 0
+    → IsLeft missed cells slots hash place bits → (number : ℕ) → IsPlaced cells slots hash number → missed number
+left_none missed cells slots hash place bits empty left number placed = by (left number placed)
+  where
+    by : IsMet cells slots number place bits ⊎ missed number → missed number
+    by (inl met) = absurd (empty_meets_none empty met)
+    by (inr gone) = gone
 
 -- a push for which there is room
 pub pushed : {T E : Type 0} (r : Result T E) (old new : List ℕ) (capacity len : ℕ) → OnErr r (capacity ≤ len) → len < capacity

@@ -10,7 +10,7 @@ use Rattle.std.proofs.lemmas.Cmp.{nat_list_cmp_total, ranked}
 use Rattle.std.proofs.lemmas.List.{get_or_default}
 use Rattle.std.proofs.lemmas.List.Sorted.{IsPermutation-sym, Contains-permutation, sum_by-IsPermutation, length_permutation}
 use borrow.Author.Tests.{eqb-true}
-use Rattle.call_tree.specs.declared.nodes.Link.{Link}
+use Rattle.call_tree.specs.declared.links.Link.{Link}
 use Rattle.call_tree.specs.FrameTable.{HasDistinctNames}
 use Rattle.call_tree.specs.checked.NodeOrder.{HasFramesOf, Row, IsRowOf, StandsBefore, AreRows}
 use Rattle.call_tree.specs.checked.Nodes.{path_of, HasShape}

@@ -1,12 +1,11 @@
 -- Where the nodes of a tree stand: each below its parent, and with each path the fronts of it.
 use Rattle.std.proofs.Common.{◌≡◌, ℕ, ◌+◌, ◌<◌, ◌≤◌, ◌⊎◌, inl, inr, true, false, List, [], ◌∷◌, ◌++◌, length, get_or, reverse, sym, ap, ◌∙◌, arith, append_assoc, nat_eq}
 use Rattle.std.proofs.lemmas.List.{append-nil, reverse-append, reverse-reverse, get_or_default}
-use Rattle.call_tree.specs.declared.nodes.Link.{Link}
+use Rattle.call_tree.specs.declared.links.Link.{Link}
 use Rattle.call_tree.specs.PathSums.{begins_with}
+use Rattle.call_tree.specs.checked.Links.{IsNoLink}
 use Rattle.call_tree.specs.checked.Nodes.{path_of, HasShape}
-use Rattle.std.specs.List.{list_any}
 use Rattle.call_tree.proofs.Begins.{begins_with_rest, begins_with-append, same_ends, no_push_empty}
-use Rattle.call_tree.proofs.Links.{same_link, not_at}
 use Rattle.call_tree.proofs.Steps.{zero_or_more}
 use Rattle.call_tree.proofs.Weights.{not_true}
 use Rattle.call_tree.proofs.Paths.{path_of_root, path_of_child}
@@ -73,7 +72,7 @@ module _ (links : List Link) (owns totals : List ℕ) (s : HasShape links owns t
 
   -- no node's path goes on from `node` by f, where the link under it is missing
   pub no_node : (node : ℕ) (front : List ℕ) (f : ℕ) (rest : List ℕ) → node < length links + 1 → path_of links node ≡ front
-      → list_any (same_link (record { parent = node; frame = f })) links ≡ false
+      → IsNoLink links (record { parent = node; frame = f })
       → (i : ℕ) → i < length links + 1 → begins_with nat_eq ((front ++ f ∷ []) ++ rest) (path_of links i) ≡ false
   no_node node front f rest lt is none i li =
       not_true _ (λ t.
@@ -82,7 +81,7 @@ module _ (links : List Link) (owns totals : List ℕ) (s : HasShape links owns t
       let up = front_node i (front ++ f ∷ []) li (ap (begins_with nat_eq (front ++ f ∷ [])) onward ∙ begins_with-append (front ++ f ∷ []) (rest ++ more.0)) in
       let st = stands up.0 front f up.1 up.2 in
       let here = child_link up.0 node front f st lt is up.2 in
-      not_at links (record { parent = node; frame = f }) none st.at st.within (get_or_default links st.at _ origin st.within ∙ here))
+      none st.at st.within (get_or_default links st.at _ origin st.within ∙ here))
 
   -- the path of the node at a known link
   pub path_at : (at node : ℕ) (front : List ℕ) (f : ℕ) → at < length links → get_or links at (record { parent = node; frame = f }) ≡ record { parent = node; frame = f }

@@ -8,7 +8,7 @@ use Rattle.std.specs.declared.cmp.Ordering.{Ordering}
 use Rattle.std.specs.declared.cmp.Ordering.TheVariants.{Less, Equal, Greater}
 use Rattle.std.proofs.lemmas.Cmp.{nat_list_cmp_total}
 use Rattle.std.proofs.lemmas.List.{append-nil, map-append}
-use Rattle.call_tree.specs.declared.nodes.Link.{Link}
+use Rattle.call_tree.specs.declared.links.Link.{Link}
 use Rattle.call_tree.specs.FrameTable.{HasDistinctNames}
 use Rattle.call_tree.specs.Listing.{named, AreIn}
 use Rattle.call_tree.specs.checked.NodeOrder.{HasFramesOf, Row, IsRowOf, StandsBefore}

@@ -1,21 +1,19 @@
 -- What a walk leaves that makes a new node.
 use Rattle.std.proofs.Common.{◌≡◌, ℕ, ◌+◌, ◌<◌, ◌≤◌, ◌⊎◌, inl, inr, Bool, false, List, [], ◌∷◌, ◌++◌, length, get_or, nat_eq, sym, ap, subst, ◌∙◌, arith, true≢false, zero-add, if◌then◌else◌}
-use Rattle.std.specs.List.{sum_by, list_any, zip}
+use Rattle.std.specs.List.{sum_by, zip}
 use Rattle.std.specs.Cmp.Lexicographic.{pointwise}
 use Rattle.std.proofs.lemmas.List.{length-append, get_or_append_left, append-nil}
 use Rattle.std.proofs.Math.Seq.{get_or-append_seam}
-use Rattle.call_tree.specs.declared.nodes.Link.{Link}
+use Rattle.call_tree.specs.declared.links.Link.{Link}
 use Rattle.call_tree.specs.PathSums.{begins_with, total_of, own_of}
 use Rattle.call_tree.specs.CallTree.{tree_of}
 use Rattle.call_tree.specs.checked.Nodes.{paths_of, path_of, samples_of, IsNodeOf}
 use Rattle.call_tree.proofs.Begins.{begins_with_push, begins_with-itself}
-use Rattle.call_tree.proofs.Frames.{any_child}
 use Rattle.call_tree.proofs.Paths.{length-paths_of, paths_of_push, path_of_kept, path_of_last}
-use Rattle.call_tree.proofs.Links.{same_link}
 use Rattle.call_tree.proofs.Shape.{no_node}
 use Rattle.call_tree.proofs.TreeSums.{tree_of_same}
 use Rattle.call_tree.proofs.Walk.{IsWalked, unequal_paths, or_false}
-use Rattle.call_tree.proofs.Weights.{weight_where, not_true, sum_none, sum_push}
+use Rattle.call_tree.proofs.Weights.{weight_where, sum_none, sum_push}
 
 module _ (links : List Link) (owns totals : List ℕ) (front : List ℕ) (w node f : ℕ) (k : IsWalked links owns totals front w) (is : IsNodeOf links front node)
     (absent : (i : ℕ) → i < length links → get_or links i (record { parent = node; frame = f }) ≡ record { parent = node; frame = f } → ⊥) where
@@ -28,14 +26,11 @@ module _ (links : List Link) (owns totals : List ℕ) (front : List ℕ) (w node
   abbrev grown_totals : List ℕ
   grown_totals = totals ++ w ∷ []
 
-  none : list_any (same_link (record { parent = node; frame = f })) links ≡ false
-  none = not_true _ (λ t. let has = any_child node f links t in absent has.0 has.1 has.2)
-
   -- no node's path begins with the new one
   apart : (i : ℕ) → i < length links + 1 → begins_with nat_eq (front ++ f ∷ []) (path_of links i) ≡ false
   apart i li =
       ap (λ q. begins_with nat_eq q (path_of links i)) (sym (append-nil (front ++ f ∷ [])))
-      ∙ no_node links owns totals k.shape node front f [] is.0 is.1 none i li
+      ∙ no_node links owns totals k.shape node front f [] is.0 is.1 absent i li
 
   not_new : (i : ℕ) → i < length links + 1 → path_of links i ≡ front ++ f ∷ [] → ⊥
   not_new i li e = true≢false (sym (ap (begins_with nat_eq (front ++ f ∷ [])) e ∙ begins_with-itself (front ++ f ∷ [])) ∙ apart i li)

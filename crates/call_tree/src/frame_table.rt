@@ -82,17 +82,15 @@ impl FrameTable {
             ((n : ℕ) → n < length self.now → slice_index_or self.now n [] ≡ name.now → ⊥)
             (λ n. (n < length self.now) × (slice_index_or self.now n [] ≡ name.now)) }
     {
-        let mut place = self.places.home(hash);
-        let mut bits = hash;
-        while let Some(number) = self.places.number_at(place) {
-            if has_name(self.names.as_slice(), number, name) {
-                return Some(number);
-            }
-            place = self.places.below(number, bits);
-            bits /= 2;
+        let names = self.names.as_slice();
+        if let Ok(number) = self
+            .places
+            .walk(hash, |number| has_name(names, number, name))
+        {
+            return Some(number);
         }
         let number = *self.crowded.get(name)?;
-        if has_name(self.names.as_slice(), number, name) {
+        if has_name(names, number, name) {
             return Some(number);
         }
         None

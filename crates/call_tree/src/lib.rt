@@ -4,6 +4,7 @@
 mod frame_table;
 mod histories;
 pub mod laws;
+mod links;
 mod listing;
 mod name_places;
 mod nodes;

@@ -97,10 +97,7 @@ fn kept_place(
     {
         return None;
     }
-    match places.free_place(hash, usize::MAX) {
-        Some(place) => Some(place),
-        None => unreachable!(),
-    }
+    Some(places.end_of_walk(hash))
 }
 
 /// The place of a new name. Where there is none for it, its number is kept among the crowded.

@@ -2,26 +2,18 @@
 ghost use Rattle.std.specs.FinMap as map;
 ghost use Rattle.std.specs.Prelude.{◌≡◌, ◌+◌, ◌<◌, ◌≤◌, ◌^◌, ◌⊎◌, ℕ, [], length, nat_eq, MatchOption, OnOk, OnErr, IfOk, vec_len, vec_capacity, false};
 ghost use Rattle.std.specs.List.{slice_index, slice_index_or};
-ghost use Rattle.indexmap.specs.IndexSet.{spare};
 ghost use Rattle.call_tree.specs.PathSums.{begins_with};
 ghost use Rattle.call_tree.specs.CallTree.{own_weight, total_weight, with_weight, IsChildren, IsNodeCount};
 ghost use Rattle.call_tree.specs.checked.Nodes.{path_of, weights_of, IsTree, IsNodeOf, frames_below as below, EntersChild, MakesChild};
 
-use indexmap::IndexSet;
+use crate::links::{Link, Links};
 use std::alloc::{AllocError, Global};
 use std::marker::Model;
-
-/// How a node hangs in the tree: below which node, and under which frame number.
-#[derive(Clone, Copy, PartialEq, Eq, Hash)]
-pub struct Link {
-    pub parent: usize,
-    pub frame: usize,
-}
 
 /// The root is node 0, and node n + 1 has the n-th link.
 #[derive(Drop)]
 pub struct Nodes {
-    links: IndexSet<Link>,
+    links: Links,
     owns: Vec<u128>,
     totals: Vec<u128>,
 }
@@ -42,7 +34,7 @@ impl Nodes {
         ensures { IfOk result (λ nodes. weights_of nodes ≡ map.empty) }
     {
         Ok(Nodes {
-            links: IndexSet::new(alloc),
+            links: Links::new(alloc),
             owns: vec![in alloc; 0]?,
             totals: vec![in alloc; 0]?,
         })
@@ -54,7 +46,7 @@ impl Nodes {
         ensures count { IsNodeCount (weights_of self.now) result }
         ensures tree { IsTree self.now.links self.now.owns self.now.totals }
     {
-        self.links.len() + 1
+        self.links.as_slice().len() + 1
     }
 
     /// The link at an index: that of the node `index + 1`.
@@ -62,10 +54,7 @@ impl Nodes {
         requires { index < length self.now.links }
         ensures { slice_index_or self.now.links index result ≡ result }
     {
-        match self.links.get_index(index) {
-            Some(link) => *link,
-            None => unreachable!(),
-        }
+        self.links.as_slice()[index]
     }
 
     /// A node's own weight.
@@ -99,7 +88,7 @@ impl Nodes {
                 parent: node,
                 frame: *frame,
             };
-            let index = self.links.get_index_of(&link)?;
+            let index = self.links.find(link)?;
             node = index + 1;
         }
         Some(node)
@@ -141,7 +130,7 @@ impl Nodes {
         ensures { IfOk result (λ frames.
             IsChildren (weights_of self.now) (path_of self.now.links node) frames.items) }
     {
-        let mut frames = frames_below(alloc, &self.links, node)?;
+        let mut frames = frames_below(alloc, self.links.as_slice(), node)?;
         frames.sort()?;
         Ok(frames)
     }
@@ -151,7 +140,7 @@ impl Nodes {
         ensures { IfOk result (λ nodes. nodes ≡ self.now) }
     {
         Ok(Nodes {
-            links: self.links.clone()?,
+            links: self.links.copy()?,
             owns: self.owns.clone()?,
             totals: self.totals.clone()?,
         })
@@ -160,7 +149,7 @@ impl Nodes {
 
 /// The node at a link, made if there is none, with `weight` more.
 fn enter(
-    links: &mut IndexSet<Link>,
+    links: &mut Links,
     owns: &mut Vec<u128>,
     totals: &mut Vec<u128>,
     link: Link,
@@ -168,7 +157,7 @@ fn enter(
 ) -> usize
     requires owns_len { length owns.old.items ≡ length links.old.keys + 1 }
     requires totals_len { length totals.old.items ≡ length links.old.keys + 1 }
-    requires links_room { 0 < spare links.old }
+    requires links_room { 0 < links.old.room }
     requires owns_room { vec_len owns.old < vec_capacity owns.old }
     requires totals_room { vec_len totals.old < vec_capacity totals.old }
     requires fits { (i : ℕ) → i < length links.old.keys
@@ -178,33 +167,25 @@ fn enter(
         totals.old.items totals.new.items link weight result
         ⊎ MakesChild links.old.keys links.new.keys owns.old.items owns.new.items
         totals.old.items totals.new.items link weight result }
-    ensures links_room { spare links.old ≤ spare links.new + 1 }
+    ensures links_room { links.old.room ≤ links.new.room + 1 }
     ensures owns_room { vec_capacity owns.old + vec_len owns.new
         ≤ vec_capacity owns.new + vec_len owns.old + 1 }
     ensures totals_room { vec_capacity totals.old + vec_len totals.new
         ≤ vec_capacity totals.new + vec_len totals.old + 1 }
 {
-    match links.insert_full(link) {
-        Ok((index, true)) => {
-            let _ = owns.push(0);
-            let _ = totals.push(weight);
-            index + 1
-        }
-        Ok((index, false)) => {
-            totals[index + 1] += weight;
-            index + 1
-        }
-        Err(_) => unreachable!(),
+    let (index, is_new) = links.enter(link);
+    if is_new {
+        let _ = owns.push(0);
+        let _ = totals.push(weight);
+        return index + 1;
     }
+    totals[index + 1] += weight;
+    index + 1
 }
 
 /// The frame numbers of a node's children, as they were made.
-fn frames_below(
-    alloc: Global,
-    links: &IndexSet<Link>,
-    node: usize,
-) -> Result<Vec<usize>, AllocError>
-    ensures { IfOk result (λ frames. frames.items ≡ below node links.now.keys) }
+fn frames_below(alloc: Global, links: &[Link], node: usize) -> Result<Vec<usize>, AllocError>
+    ensures { IfOk result (λ frames. frames.items ≡ below node links.now) }
 {
     links
         .iter()

@@ -1,5 +1,5 @@
 //! Places of numbers, which are found from the hashes of what the numbers stand for.
-ghost use Rattle.std.specs.Prelude.{◌≡◌, ◌+◌, ◌*◌, ◌<◌, ◌≤◌, ◌^◌, [], length, MatchOption, IfOk, vec_len, vec_capacity, slice_index, IfSome};
+ghost use Rattle.std.specs.Prelude.{◌≡◌, ℕ, true, false, ◌+◌, ◌*◌, ◌<◌, ◌≤◌, ◌^◌, [], length, MatchOption, IfOk, IfErr, OnErr, vec_len, vec_capacity, slice_index, IfSome};
 ghost use Rattle.std.specs.Option.{ForSome};
 ghost use Rattle.call_tree.specs.checked.Places.{home_of, below_of, IsPlaced, KeepsNumbers, IsFree, IsLonger, AreSound};
 
@@ -89,6 +89,55 @@ impl Places {
             bits /= 2;
         }
         Some(place)
+    }
+
+    /// The empty place where the walk of a hash ends.
+    pub fn end_of_walk(&self, hash: u64) -> usize
+        requires some { 0 < self.now.slots }
+        requires slots { self.now.slots ≤ length self.now.cells.items }
+        requires sound { AreSound self.now.slots self.now.cells.items (vec_capacity self.now.cells) }
+        ensures { IsFree self.now.cells.items self.now.slots hash result }
+    {
+        match self.free_place(hash, usize::MAX) {
+            Some(place) => place,
+            None => unreachable!(),
+        }
+    }
+
+    /// The number on the walk of a hash of which this test holds, or the empty place where the walk ends.
+    pub fn walk<F: Fn(usize) -> bool>(&self, hash: u64, is_it: F) -> Result<usize, usize>
+        requires callable { F.IsAlwaysCallable is_it }
+        requires slots { self.now.slots ≤ length self.now.cells.items }
+        requires sound { AreSound self.now.slots self.now.cells.items (vec_capacity self.now.cells) }
+        ensures found { IfOk result (λ number. F.post is_it number true) }
+        ensures absent { OnErr result ((number : ℕ) → IsPlaced self.now.cells.items self.now.slots hash number → F.post is_it number false) }
+        ensures free { IfErr result (λ place. 0 < self.now.slots → IsFree self.now.cells.items self.now.slots hash place) }
+    {
+        let mut place = self.home(hash);
+        let mut bits = hash;
+        while let Some(number) = self.number_at(place) {
+            if is_it(number) {
+                return Ok(number);
+            }
+            place = self.below(number, bits);
+            bits /= 2;
+        }
+        Err(place)
+    }
+
+    /// The same places once more.
+    pub fn copy(&self, alloc: Global) -> Result<Places, AllocError>
+        requires { AreSound self.now.slots self.now.cells.items (vec_capacity self.now.cells) }
+        ensures slots { IfOk result (λ places. places.slots ≡ self.now.slots) }
+        ensures cells { IfOk result (λ places. places.cells.items ≡ self.now.cells.items) }
+        ensures sound { IfOk result (λ places. AreSound places.slots places.cells.items (vec_capacity places.cells)) }
+    {
+        let mut cells = Vec::with_capacity(alloc, 3 * self.slots)?;
+        cells.extend_from_slice(self.cells.as_slice())?;
+        Ok(Places {
+            slots: self.slots,
+            cells,
+        })
     }
 
     /// Two empty cells more.

@@ -7,7 +7,7 @@ use Rattle.std.specs.declared.cmp.Ordering.TheVariants.{Less}
 use Rattle.std.specs.declared.cmp.Reverse.{Reverse}
 use denote.Ref.{Bor}
 use Rattle.call_tree.specs.declared.listing.Visit.{Visit}
-use Rattle.call_tree.specs.declared.nodes.Link.{Link}
+use Rattle.call_tree.specs.declared.links.Link.{Link}
 use Rattle.call_tree.specs.Listing.{named}
 use Rattle.call_tree.specs.checked.Nodes.{path_of}
 

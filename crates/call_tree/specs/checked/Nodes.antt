@@ -1,7 +1,7 @@
 -- What the nodes of a tree stand for. Node 0 is the root, and node i + 1 has the i-th link: its parent and its frame number.
 use Rattle.std.specs.Prelude.{◌≡◌, ℕ, ◌+◌, ◌<◌, ◌≤◌, List, [], ◌∷◌, ◌++◌, length, nat_eq, slice_set, Contains, map, filter}
 use Rattle.std.specs.List.{zip, slice_index, slice_index_or}
-use Rattle.call_tree.specs.declared.nodes.Link.{Link}
+use Rattle.call_tree.specs.declared.links.Link.{Link}
 use Rattle.call_tree.specs.CallTree.{Tree, tree_of}
 use Rattle.call_tree.specs.PathSums.{total_of}
 

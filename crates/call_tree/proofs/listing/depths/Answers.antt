@@ -1,6 +1,6 @@
 use Rattle.std.proofs.Common.{◌≡◌, ◌+◌, ◌<◌, ◌≤◌, ℕ, List, [], ◌∷◌, ◌++◌, length, get_or, sym, ap, subst, ◌∙◌, arith}
 use Rattle.std.proofs.lemmas.List.{length-append}
-use Rattle.call_tree.specs.declared.nodes.Link.{Link}
+use Rattle.call_tree.specs.declared.links.Link.{Link}
 use Rattle.call_tree.proofs.Depths.{IsDepth, root_depth, parent_depth, child_depth}
 use Rattle.call_tree.proofs.Steps.{pushed}
 use Rattle.call_tree.proofs.listing.depths.Goals as goal

@@ -1,6 +1,6 @@
 use Rattle.std.proofs.Common.{◌≡◌, ◌+◌, ℕ, List, length, get_or, set, sym, subst, ◌∙◌, arith}
 use Rattle.std.proofs.lemmas.Grind.{get_or_default_zero}
-use Rattle.call_tree.specs.declared.nodes.Link.{Link}
+use Rattle.call_tree.specs.declared.links.Link.{Link}
 use Rattle.call_tree.specs.checked.NodeOrder.{Row, AreRows}
 use Rattle.call_tree.proofs.Threaded.{IsThreaded, no_row, root_threaded, within, row_threaded, all_threaded}
 use Rattle.call_tree.proofs.listing.next_nodes.Goals as goal

@@ -1,9 +1,8 @@
-use Rattle.std.proofs.Common.{◌≡◌, ◌<◌, ℕ, ◌+◌, ◌*◌, List, [], length, map, get_or, sym, subst, ◌∙◌, ap, Option}
+use Rattle.std.proofs.Common.{◌≡◌, ◌<◌, ℕ, ◌+◌, List, [], map, get_or, sym, ◌∙◌, ap, Option}
 use borrow.Author.Count.{below_more}
 use Rattle.std.specs.BTreeMap.{get_by_text}
 use Rattle.std.specs.String.{string_bytes}
 use Rattle.std.proofs.lemmas.List.{get_or-map}
-use Rattle.call_tree.specs.checked.Places.{AreSound, IsFree, IsPlaced}
 use Rattle.call_tree.specs.checked.NamePlaces.{IsFound}
 use Rattle.call_tree.proofs.FoundNames.{found_keeps, found_new}
 use Rattle.call_tree.proofs.name_places.places_of.Goals as goal

@@ -1,4 +1,4 @@
-use Rattle.std.proofs.Common.{◌≡◌, ◌<◌, ℕ, [], ◌∷◌, ◌++◌, map, false, Some, sym, ap, subst, ◌∙◌, arith, length, get_or, slice_get, vec_capacity}
+use Rattle.std.proofs.Common.{◌≡◌, ◌<◌, ℕ, [], ◌∷◌, ◌++◌, map, false, sym, ap, subst, ◌∙◌, arith, length, get_or, slice_get, vec_capacity}
 use Rattle.std.specs.BTreeMap.{get_by_text}
 use Rattle.call_tree.specs.checked.NamePlaces.{HasPlaces}
 use Rattle.std.specs.List.{list_any}
@@ -7,7 +7,7 @@ use Rattle.std.specs.Str.{bytes_eq}
 use Rattle.std.proofs.lemmas.List.{map-append, length-map}
 use Rattle.call_tree.specs.FrameTable.{with_name, HasDistinctNames}
 use Rattle.call_tree.proofs.Names.{IsAt, IsAt_push, slice_get-IsAt, with_name_known, with_name_new, HasDistinctNames_push}
-use Rattle.call_tree.proofs.FoundNames.{none_among, places_push, places_keep}
+use Rattle.call_tree.proofs.FoundNames.{none_among, places_push}
 use Rattle.call_tree.proofs.frame_table.FrameTable.intern.Goals as goal
 
 found_at : (c : goal.In-Some) → IsAt c.args.self.now c.args.name.now c.in-Some.number

@@ -2,7 +2,7 @@ use Rattle.std.proofs.Common.{◌≡◌, ℕ, ◌+◌, ◌<◌, ◌^◌, List, [
 use Rattle.std.proofs.lemmas.Grind.{get_or_default_zero}
 use Rattle.std.proofs.lemmas.List.{take_more}
 use Rattle.call_tree.specs.CallTree.{total_weight, tree_of}
-use Rattle.call_tree.specs.declared.nodes.Link.{Link}
+use Rattle.call_tree.specs.declared.links.Link.{Link}
 use Rattle.call_tree.specs.checked.Nodes.{NodeLists, samples_of, weights_of, IsTree}
 use Rattle.call_tree.proofs.Found.{root_total}
 use Rattle.call_tree.proofs.Paths.{path_of_root}
@@ -42,7 +42,7 @@ loop-id-init c =
         at = (omega arith, path_of_root c.reserve.new.self.keys);
         same = (λ i. tree_of (samples_of (c.in_ok-reserve.ensures.keys i) (c.in_ok-reserve-2.ensures.items i))) ∙ ap weights_of c.self.view_is;
       };
-      links_room = omega (arith, c.in_ok-reserve.ensures.ok);
+      links_room = omega (arith, c.in_ok-reserve.ensures.room);
       owns_room = omega (arith, c.in_ok-reserve-2.ensures.ok);
       totals_room = omega (arith, c.in_ok-reserve-3.ensures.ok);
     }

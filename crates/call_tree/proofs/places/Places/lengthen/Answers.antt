@@ -1,4 +1,4 @@
-use Rattle.std.proofs.Common.{◌≡◌, ◌∷◌, ◌++◌, [], ap, arith}
+use Rattle.std.proofs.Common.{◌≡◌, ◌∷◌, ◌++◌, [], arith}
 use Rattle.std.specs.Vec.{vec_len, vec_capacity}
 use Rattle.call_tree.proofs.PlaceWalks.{longer, pushed}
 use Rattle.call_tree.proofs.places.Places.lengthen.Goals as goal

@@ -1,7 +1,5 @@
-use Rattle.std.proofs.Common.{◌≡◌, ◌+◌, ◌<◌, ◌*◌, length, sym, subst, ◌∙◌, arith, get_or}
+use Rattle.std.proofs.Common.{◌+◌, ◌<◌, length, ◌∙◌, arith}
 use Rattle.std.proofs.lemmas.List.{get_or-set_same}
-use Rattle.std.specs.Option.{IfSome}
-use Rattle.call_tree.specs.checked.Places.{IsFree, IsPlaced}
 use Rattle.call_tree.proofs.PlaceWalks.{longer_keeps, longer_sound, put_keeps, put_sound, put_placed, keeps_both}
 use Rattle.call_tree.proofs.places.Places.push.Goals as goal
 
