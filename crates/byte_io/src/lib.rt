@@ -24,6 +24,3 @@ pub use pieces::{Chain, Literal, Pieces};
 pub use rollback::truncate_on_error;
 pub use whole_input::{LoadFault, load};
 pub use whole_output::{SendFault, send};
-
-#[cfg(test)]
-mod tests;

@@ -18,10 +18,3 @@ pub use histories::StackHistory;
 pub use listing::Visit;
 pub use spellings::SpellingCache;
 pub use tree::CallTree;
-
-#[cfg(test)]
-mod name_tests;
-#[cfg(test)]
-mod spelling_tests;
-#[cfg(test)]
-mod tests;

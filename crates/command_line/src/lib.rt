@@ -13,6 +13,3 @@ mod words;
 
 pub use plans::{Form, PageForm, Plan, PlanFault, TopTable, View};
 pub use words::{plan, plan_without_words};
-
-#[cfg(test)]
-mod tests;

@@ -13,8 +13,6 @@ mod reader;
 mod row_lines;
 mod row_steps;
 mod telling;
-#[cfg(test)]
-mod tests;
 mod writing;
 
 pub use reader::FoldedReader;

@@ -24,6 +24,3 @@ pub fn tail() -> &'static [&'static str]
 {
     &order::TAIL
 }
-
-#[cfg(test)]
-mod tests;

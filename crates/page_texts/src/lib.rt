@@ -16,6 +16,3 @@ mod script_safe;
 pub use drawings::{Drawing, Moment};
 pub use page_boxes::PageBox;
 pub use pages::{Page, Source, append_page_data, send_page};
-
-#[cfg(test)]
-mod tests;

@@ -16,6 +16,3 @@ pub use page_data::{PageView, render_page_data};
 pub use page_texts::Source;
 pub use plain_pages::{send_chart_page, send_graph_page};
 pub use snapshot_pages::send_snapshots_page;
-
-#[cfg(test)]
-mod tests;

@@ -12,8 +12,6 @@ mod numbers;
 mod picking;
 mod profile;
 mod strings;
-#[cfg(test)]
-mod tests;
 mod types;
 
 pub use checked_profile::CheckedProfile;

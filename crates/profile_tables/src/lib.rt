@@ -16,8 +16,6 @@ mod stacks;
 mod steps;
 mod tables;
 mod tellers;
-#[cfg(test)]
-mod tests;
 
 pub use profile_messages::{SampleType, SampleTypes, TableFault, sample_types};
 pub use reader::PprofReader;

@@ -7,9 +7,6 @@ use std::alloc::AllocError;
 use std::error::Error;
 use std::fmt;
 
-#[cfg(test)]
-mod tests;
-
 /// Why a run has no answer. Where several hold, the first of Unfinished, OutOfMemory, NoThread is answered, with the least
 /// source.
 #[derive(Clone, Copy, Debug, PartialEq, Eq)]

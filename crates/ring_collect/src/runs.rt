@@ -22,9 +22,6 @@ use std::alloc::{AllocError, Global};
 use std::sync::{Arc, Wait};
 use std::thread::Threads;
 
-#[cfg(test)]
-mod tests;
-
 /// What a run collected.
 #[derive(Drop)]
 pub struct Collected {

@@ -18,6 +18,3 @@ pub use options::Options;
 pub use orders::FunctionOrder;
 pub use ring_sizes::{LARGEST_RING, RingSize};
 pub use widths::{MAX_WIDTH, Width};
-
-#[cfg(test)]
-mod tests;

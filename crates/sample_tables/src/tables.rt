@@ -12,9 +12,6 @@ use crate::values::{Names, Text};
 use std::alloc::{AllocError, Global};
 use std::marker::Model;
 
-#[cfg(test)]
-mod tests;
-
 /// The names, the stacks and the samples of a source. Each sample's stack is kept, once for all samples that were taken of it.
 #[derive(Debug, Drop)]
 pub struct RowTable {

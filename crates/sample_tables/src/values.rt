@@ -9,9 +9,6 @@ ghost use Rattle.std.specs.Cmp.Lexicographic.{pointwise, lists_per, lists_equiv,
 use std::alloc::{AllocError, Global};
 use std::marker::Model;
 
-#[cfg(test)]
-mod tests;
-
 /// A text, which contracts see as its bytes.
 #[derive(Debug, Drop)]
 pub struct Text {

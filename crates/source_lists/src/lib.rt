@@ -13,8 +13,6 @@ mod source_reader;
 mod source_readers;
 mod source_types;
 mod sources;
-#[cfg(test)]
-mod tests;
 mod unkept_samples;
 mod whole_runs;
 

@@ -7,9 +7,6 @@ use sample_tables::Sample;
 use std::error::Error;
 use std::fmt;
 
-#[cfg(test)]
-mod tests;
-
 /// What is wrong with a source's bytes. `at` of the fault says where.
 #[derive(Clone, Copy, Debug, PartialEq, Eq)]
 pub enum ReadKind {

@@ -12,9 +12,6 @@ use sample_tables::{Listed, RowTable, Sample, Text};
 use std::alloc::{AllocError, Global};
 use std::marker::Model;
 
-#[cfg(test)]
-mod tests;
-
 /// The samples of one source, as they are told, and then how the telling closed. Names are told once, stacks are kept as
 /// the numbers of their names, and a sample is the number of its stack and a weight.
 #[derive(Debug, Drop)]

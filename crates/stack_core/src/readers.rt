@@ -10,9 +10,6 @@ use crate::endings::SourceEnd;
 use sample_tables::{Listed, Sample, Text};
 use std::alloc::{AllocError, Global};
 
-#[cfg(test)]
-mod tests;
-
 /// What a call of a reader gives.
 #[derive(Clone, Debug, PartialEq, Eq, Drop)]
 pub enum Step {

@@ -3,9 +3,6 @@
 use crate::endings::Close;
 use sample_tables::{Listed, Text};
 
-#[cfg(test)]
-mod tests;
-
 /// An item of a ring. Number k stands for the k-th name that was told in that ring, from 0.
 #[derive(Clone, Debug, PartialEq, Eq, Drop)]
 pub enum RingRecord {

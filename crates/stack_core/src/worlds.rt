@@ -75,6 +75,3 @@ impl World {
         self.lanes[source].received()
     }
 }
-
-#[cfg(test)]
-mod tests;

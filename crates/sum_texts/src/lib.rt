@@ -11,6 +11,3 @@ mod widths;
 
 pub use sum_lines::{SumLine, append_sum_line};
 pub use sum_tables::{SumTable, append_sum_table};
-
-#[cfg(test)]
-mod tests;

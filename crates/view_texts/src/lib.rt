@@ -28,6 +28,3 @@ pub use pair_lines::{PairsText, append_pairs_text};
 pub use scales::Scale;
 pub use stack_pairs::PairedText;
 pub use type_lines::{TypesText, append_types_text};
-
-#[cfg(test)]
-mod tests;

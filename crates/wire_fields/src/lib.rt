@@ -15,6 +15,3 @@ pub use fault::{WireFault, WireKind};
 pub use field::{Field, FieldValue};
 pub use fields::Fields;
 pub use packed::Packed;
-
-#[cfg(test)]
-mod tests;

@@ -1,0 +1,5 @@
+//! Tests of the call tree, and of the collecting of sources.
+#![tactic(auto)]
+
+#[cfg(test)]
+mod tests;

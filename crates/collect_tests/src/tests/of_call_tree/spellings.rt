@@ -1,0 +1,168 @@
+//! What a cache of spellings finds again, which no contract promises.
+ghost use Rattle.std.specs.Prelude.{◌≤◌, ◌+◌, ◌*◌, length};
+
+use call_tree::SpellingCache;
+use std::alloc::{AllocError, Global};
+use std::process::Abort;
+use std::test::Fail;
+
+/// What the hash of a cache multiplies by.
+const MULTIPLIER: u64 = 0x9e37_79b9_7f4a_7c15;
+
+/// How many spellings a cache remembers without forgetting one.
+const COUNT: usize = 1_500;
+
+/// How many spellings with one hash a cache is given.
+const COLLIDING: usize = 40_000;
+
+/// A word more in the hash of a cache.
+fn mixed(hash: u64, word: u64) -> u64 {
+    (hash ^ word).wrapping_mul(MULTIPLIER).rotate_left(29)
+}
+
+/// A text of spellings of 16 bytes: a number, and what takes part in its hash or undoes it.
+fn text_of(alloc: Global, count: u64, colliding: bool) -> Result<Vec<u8>, AllocError> {
+    let start = mixed(mixed(16, 1), mixed(2, 3));
+    let mut text = Vec::new(alloc);
+    for number in 0..count {
+        text.extend_from_slice(number.to_le_bytes().as_slice())?;
+        let second = if colliding {
+            mixed(start, number)
+        } else {
+            number
+        };
+        text.extend_from_slice(second.to_le_bytes().as_slice())?;
+    }
+    Ok(text)
+}
+
+fn found(cache: &SpellingCache, text: &[u8], number: usize) -> Option<usize>
+    requires { number * 16 + 16 ≤ length text.now }
+{
+    cache.find(text, number * 16, number * 16 + 16)
+}
+
+/// Remembers the spelling of a number under it. Where that is refused, what was known is found, and the call is made again.
+fn remember_again(
+    rt: &impl Abort,
+    cache: &mut SpellingCache,
+    text: &[u8],
+    number: usize,
+    refused: &mut bool,
+) -> Result<(), AllocError>
+    requires { number * 16 + 16 ≤ length text.now }
+{
+    let (start, end) = (number * 16, number * 16 + 16);
+    if cache.remember(text, start, end, number).is_ok() {
+        return Ok(());
+    }
+    *refused = true;
+    for known in 0..number {
+        assert_eq!(rt; found(cache, text, known), Some(known));
+    }
+    cache.remember(text, start, end, number)
+}
+
+/// Remembers the spelling of each number, which was not known before.
+fn remember_all(
+    rt: &impl Abort,
+    cache: &mut SpellingCache,
+    text: &[u8],
+    refused: &mut bool,
+) -> Result<(), AllocError> {
+    assert_eq!(rt; text.len(), COUNT * 16);
+    for number in 0..COUNT {
+        assert_eq!(rt; found(cache, text, number), None);
+        remember_again(rt, cache, text, number, refused)?;
+    }
+    Ok(())
+}
+
+/// Finds the spelling of each number in a text that has each twice.
+fn all_found_twice(rt: &impl Abort, cache: &SpellingCache, text: &[u8]) {
+    assert_eq!(rt; text.len(), COUNT * 32);
+    for number in 0..COUNT {
+        assert_eq!(rt; found(cache, text, number), Some(number));
+        assert_eq!(rt; found(cache, text, COUNT + number), Some(number));
+    }
+}
+
+fn cache_goes_on(
+    rt: &impl Abort,
+    cache: &mut SpellingCache,
+    text: &mut Vec<u8>,
+    alloc: Global,
+) -> Result<(), Fail> {
+    let mut refused = false;
+    remember_all(rt, cache, text.as_slice(), &mut refused)?;
+    let once_more = text_of(alloc, COUNT as u64, false)?;
+    text.extend_from_slice(once_more.as_slice())?;
+    all_found_twice(rt, cache, text.as_slice());
+    if refused {
+        return Err(AllocError.into());
+    }
+    Ok(())
+}
+
+/// With any one growth refused, spellings are found at the bytes that were remembered and at equal ones, and others are not; the
+/// test then ends in that refusal.
+#[test]
+fn spellings_are_found_again(rt: HostRuntime) -> Result<(), Fail> {
+    let mut text = text_of(rt.alloc(), COUNT as u64, false)?;
+    let mut cache = SpellingCache::new(rt.alloc());
+    cache_goes_on(&rt, &mut cache, &mut text, rt.alloc())
+}
+
+fn lengths_are_found(rt: &impl Abort, cache: &mut SpellingCache) -> Result<(), Fail> {
+    let text = [b'a'; 100];
+    for len in 0..100 {
+        assert_eq!(rt; cache.find(&text, 0, len), None);
+        cache.remember(&text, 0, len, len)?;
+        assert_eq!(rt; cache.find(&text, 100 - len, 100), Some(len));
+    }
+    Ok(())
+}
+
+/// The rows of spellings of every length up to three blocks of the hash are told apart.
+#[test]
+fn lengths_are_told_apart(rt: HostRuntime) -> Result<(), Fail> {
+    let mut cache = SpellingCache::new(rt.alloc());
+    lengths_are_found(&rt, &mut cache)
+}
+
+/// Remembers spellings with one hash, each of which is found right after.
+fn remember_colliding(
+    rt: &impl Abort,
+    cache: &mut SpellingCache,
+    text: &[u8],
+) -> Result<(), AllocError> {
+    assert_eq!(rt; text.len(), COLLIDING * 16);
+    for number in 0..COLLIDING {
+        let at = number * 16;
+        cache.remember(text, at, at + 16, number)?;
+        assert_eq!(rt; found(cache, text, number), Some(number));
+    }
+    Ok(())
+}
+
+/// How many of the spellings are known.
+fn known_of(rt: &impl Abort, cache: &SpellingCache, text: &[u8]) -> usize {
+    assert_eq!(rt; text.len(), COLLIDING * 16);
+    (0..COLLIDING)
+        .filter(|number| cache.find(text, number * 16, number * 16 + 16).is_some())
+        .count()
+}
+
+fn sixteen_are_kept(rt: &impl Abort, cache: &mut SpellingCache, text: &[u8]) -> Result<(), Fail> {
+    remember_colliding(rt, cache, text)?;
+    assert_eq!(rt; known_of(rt, cache, text), 16);
+    Ok(())
+}
+
+/// Of spellings with one hash, those that have a slot are found. The others cost no more than these.
+#[test]
+fn colliding_spellings_are_forgotten(rt: HostRuntime) -> Result<(), Fail> {
+    let text = text_of(rt.alloc(), COLLIDING as u64, true)?;
+    let mut cache = SpellingCache::new(rt.alloc());
+    sixteen_are_kept(&rt, &mut cache, text.as_slice())
+}

@@ -1,0 +1,137 @@
+//! Runs in which a reader or the sink meets want of memory.
+
+use super::fakes::{CLEAN, Recorder, StopsAt, Tape};
+use super::{HUNDRED, THREE, collected, is_run, tapes};
+use ring_collect::{CollectFault, Collected};
+use stack_core::{Gate, OpenGate};
+use std::process::Abort;
+use std::sync::Wait;
+use std::test::Fail;
+use std::thread::Threads;
+
+/// How many samples of a source the sink has, which are its first ones.
+fn first_of(rt: &impl Abort, sink: &Recorder, source: u32, weights: &[u8]) -> usize {
+    let mut count = 0usize;
+    for (of, sample) in &sink.pairs {
+        if *of == source {
+            assert!(rt; count < weights.len());
+            assert_eq!(rt; sample.weight, u64::from(weights[count]));
+            count += 1;
+        }
+    }
+    count
+}
+
+/// The run ends for want of memory.
+fn runs_short<
+    T: Threads + Wait + Abort + AllocGlobal + Copy + Send + 'static,
+    G: Gate + Send + Sync + Drop + 'static,
+>(rt: &T, sink: &mut Recorder, readers: Vec<Tape>, gate: G) -> Result<(), Fail> {
+    let answer = collected(rt, rt.alloc(), readers, 2, gate, sink)?;
+    assert_eq!(rt; answer.err(), Some(CollectFault::OutOfMemory));
+    Ok(())
+}
+
+/// The sink has so many samples, and each is one of the first of its source.
+fn has_first(rt: &impl Abort, sink: &Recorder, taken: u64) {
+    assert!(rt; taken < 9);
+    assert_eq!(rt; sink.pairs.len() as u64, taken);
+    assert_eq!(rt; sink.calls, taken + 1);
+    let mut of_sources = 0u64;
+    for source in 0..3u32 {
+        of_sources = of_sources.wrapping_add(first_of(rt, sink, source, THREE) as u64);
+    }
+    assert_eq!(rt; of_sources, taken);
+}
+
+/// Runs with a sink that refuses after so many samples.
+fn refuses_after<T: Threads + Wait + Abort + AllocGlobal + Copy + Send + 'static>(
+    rt: &T,
+    sink: &mut Recorder,
+    taken: u64,
+) -> Result<(), Fail> {
+    sink.refuses_after = Some(taken);
+    let readers = tapes(rt.alloc(), &sink.counts, &[THREE; 3])?;
+    runs_short(rt, sink, readers, OpenGate)?;
+    has_first(rt, sink, taken);
+    Ok(())
+}
+
+#[test]
+fn sink_refuses(rt: HostRuntime) -> Result<(), Fail> {
+    for taken in 0..9u64 {
+        let mut sink = Recorder::of_own(rt.alloc())?;
+        refuses_after(&rt, &mut sink, taken)?;
+    }
+    Ok(())
+}
+
+fn reader_refuses_after_two<T: Threads + Wait + Abort + AllocGlobal + Copy + Send + 'static>(
+    rt: &T,
+    sink: &mut Recorder,
+) -> Result<(), Fail> {
+    let mut readers = tapes(rt.alloc(), &sink.counts, &[THREE; 3])?;
+    assert_eq!(rt; readers.len(), 3);
+    readers[1].refuses_after = Some(2);
+    runs_short(rt, sink, readers, OpenGate)?;
+    assert!(rt; first_of(rt, sink, 0, THREE) <= 3);
+    assert!(rt; first_of(rt, sink, 1, THREE) <= 2);
+    assert!(rt; first_of(rt, sink, 2, THREE) <= 3);
+    Ok(())
+}
+
+#[test]
+fn reader_refuses(rt: HostRuntime) -> Result<(), Fail> {
+    let mut sink = Recorder::of_own(rt.alloc())?;
+    reader_refuses_after_two(&rt, &mut sink)
+}
+
+/// The run is whole, or ends in a fault with first samples of each source.
+fn is_whole_or_refused(
+    rt: &impl Abort,
+    answer: Result<Collected, CollectFault>,
+    sink: &Recorder,
+) -> Result<(), Fail> {
+    match answer {
+        Ok(run) => is_run(rt, &run, sink, &[(HUNDRED, CLEAN); 3]),
+        Err(fault) => {
+            for source in 0..3u32 {
+                assert!(rt; first_of(rt, sink, source, HUNDRED) <= 100);
+            }
+            return Err(fault.into());
+        }
+    }
+    Ok(())
+}
+
+/// Whatever request is refused (checks/growths), also in starting, `collected` sees every reader dropped before the answer, though
+/// each has more to send than its ring holds.
+#[test]
+fn every_reader_is_joined(rt: HostRuntime) -> Result<(), Fail> {
+    let mut sink = Recorder::of_own(rt.alloc())?;
+    let readers = tapes(rt.alloc(), &sink.counts, &[HUNDRED; 3])?;
+    let answer = collected(&rt, rt.alloc(), readers, 1, OpenGate, &mut sink)?;
+    is_whole_or_refused(&rt, answer, &sink)
+}
+
+fn refuses_beside_a_stop<T: Threads + Wait + Abort + AllocGlobal + Copy + Send + 'static>(
+    rt: &T,
+    sink: &mut Recorder,
+) -> Result<(), Fail> {
+    let gate = StopsAt {
+        source: 1,
+        index: 0,
+    };
+    let readers = tapes(rt.alloc(), &sink.counts, &[THREE; 3])?;
+    runs_short(rt, sink, readers, gate)?;
+    assert_eq!(rt; sink.pairs.len(), 0);
+    assert_eq!(rt; sink.calls, 1);
+    Ok(())
+}
+
+#[test]
+fn sink_refuses_beside_a_stop(rt: HostRuntime) -> Result<(), Fail> {
+    let mut sink = Recorder::of_own(rt.alloc())?;
+    sink.refuses_after = Some(0);
+    refuses_beside_a_stop(&rt, &mut sink)
+}

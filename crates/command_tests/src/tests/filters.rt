@@ -1,0 +1,53 @@
+//! Worked command lines with filters.
+
+use super::forms::is_refused;
+use super::help::helps;
+use super::words::{are, planned};
+use command_line::{Plan, PlanFault};
+use std::alloc::Global;
+use std::process::Abort;
+use std::test::Fail;
+
+fn is_filtered(plan: &Plan) -> bool {
+    let filter = &plan.options.filter;
+    are(&filter.focus, &["b", "a"]) && are(&filter.hide, &["c"])
+}
+
+fn expect_filtered(rt: &impl Abort, alloc: Global, line: &str) -> Result<(), PlanFault> {
+    let plan = planned(alloc, line)?;
+    assert!(rt; is_filtered(&plan), "{line}");
+    Ok(())
+}
+
+#[test]
+fn filters_of_each_command(rt: HostRuntime) -> Result<(), Fail> {
+    for line in [
+        "fold --focus b --hide=c --focus a",
+        "graph --focus b --hide=c --focus a",
+        "chart --focus b --hide=c --focus a",
+        "compare a b --focus b --hide=c --focus a",
+    ] {
+        expect_filtered(&rt, rt.alloc(), line)?;
+    }
+    Ok(())
+}
+
+#[test]
+fn refused_filters(rt: HostRuntime) -> Result<(), Fail> {
+    for line in ["fold --focus", "graph --focus=", "compare a b --hide="] {
+        assert!(rt; is_refused(rt.alloc(), line, "error: "), "{line}");
+    }
+    Ok(())
+}
+
+#[test]
+fn filters_have_a_heading(rt: HostRuntime) -> Result<(), Fail> {
+    assert!(rt;
+        helps(
+            rt.alloc(),
+            "fold --help",
+            "\nFilters:\n      --focus <NAME> "
+        )
+    );
+    Ok(())
+}

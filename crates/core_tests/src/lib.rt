@@ -1,0 +1,5 @@
+//! Tests of samples, ledgers and options.
+#![tactic(auto)]
+
+#[cfg(test)]
+mod tests;

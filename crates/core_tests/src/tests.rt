@@ -1,0 +1,3 @@
+mod of_run_options;
+mod of_sample_tables;
+mod of_stack_core;

@@ -1,0 +1,5 @@
+mod endings;
+mod ledgers;
+mod readers;
+mod records;
+mod worlds;

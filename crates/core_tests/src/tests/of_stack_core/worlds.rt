@@ -1,0 +1,149 @@
+//! Schedules whose answers are worked out by hand.
+
+ghost use Rattle.std.specs.Prelude.{◌≡◌, ◌<◌, length, IfOk};
+
+use stack_core::{Close, Event, Item, Names, OpenGate, Sample, SourceEnd, World, laws};
+use std::alloc::{AllocError, Global};
+use std::process::Abort;
+use std::test::Fail;
+
+const CLEAN: Close = Close::Read(SourceEnd::Clean { ignored: 0 });
+
+// A sample of one frame.
+fn sample(alloc: Global, name: &str) -> Result<Item, AllocError> {
+    let mut names = Vec::new(alloc);
+    names.push(String::from_str(alloc, name)?)?;
+    Ok(Item::Sample(Sample {
+        stack: Names::of(names),
+        weight: 1,
+    }))
+}
+
+// A told list of samples of these names, which was read to its end.
+fn told(alloc: Global, names: &[&str]) -> Result<Vec<Item>, AllocError> {
+    let mut items = Vec::new(alloc);
+    for name in names {
+        items.push(sample(alloc, *name)?)?;
+    }
+    items.push(Item::Close(CLEAN))?;
+    Ok(items)
+}
+
+// Makes events happen, and compares the answers.
+fn play(rt: &impl Abort, world: &mut World, events: &[(Event, bool)])
+    ensures { length world.new.lanes ≡ length world.old.lanes }
+{
+    for (event, possible) in events {
+        let answer = world.step(*event);
+        assert_eq!(rt; answer, *possible, "{event:?}");
+    }
+}
+
+// The names that were received of a source, one after another, and a full stop for a close.
+fn received(alloc: Global, world: &World, source: usize) -> Result<String, AllocError>
+    requires { source < length world.now.lanes }
+{
+    let mut text = String::new(alloc);
+    for item in world.received(source) {
+        match item {
+            Item::Sample(sample) => {
+                for name in sample.stack.get() {
+                    text.push_str(name.as_str())?;
+                }
+            }
+            Item::Close(_) => text.push_str(".")?,
+        }
+    }
+    Ok(text)
+}
+
+/// One list of one sample, through a queue of one.
+const ONE_SOURCE: [(Event, bool); 7] = [
+    (Event::Push(0), true),
+    (Event::Push(0), false),
+    (Event::Pop(0), true),
+    (Event::Push(0), true),
+    (Event::Pop(0), true),
+    (Event::Pop(0), false),
+    (Event::Push(1), false),
+];
+
+#[test]
+fn world_and_ledger(rt: HostRuntime) -> Result<(), Fail> {
+    let mut lists = Vec::new(rt.alloc());
+    lists.push(told(rt.alloc(), &["x"])?)?;
+    let mut world = World::new(rt.alloc(), lists, 1)?;
+    play(&rt, &mut world, ONE_SOURCE.as_slice());
+    let whole = told(rt.alloc(), &["x"])?;
+    assert_eq!(rt; world.received(0), whole.as_slice());
+    Ok(())
+}
+
+/// Two lists, of two samples and of one, through queues of two.
+const TWO_SOURCES: [(Event, bool); 11] = [
+    (Event::Push(0), true),
+    (Event::Push(1), true),
+    (Event::Push(0), true),
+    (Event::Push(0), false),
+    (Event::Pop(1), true),
+    (Event::Pop(1), false),
+    (Event::Push(1), true),
+    (Event::Pop(0), true),
+    (Event::Push(0), true),
+    (Event::Push(0), false),
+    (Event::Pop(1), true),
+];
+
+/// What comes after.
+const THE_REST: [(Event, bool); 4] = [
+    (Event::Pop(0), true),
+    (Event::Pop(0), true),
+    (Event::Pop(0), false),
+    (Event::Pop(2), false),
+];
+
+fn two_lists(alloc: Global) -> Result<World, AllocError>
+    ensures { IfOk result (λ world. length world.lanes ≡ 2) }
+{
+    let mut lists = Vec::new(alloc);
+    lists.push(told(alloc, &["a", "b"])?)?;
+    lists.push(told(alloc, &["c"])?)?;
+    World::new(alloc, lists, 2)
+}
+
+#[test]
+fn two_sources(rt: HostRuntime) -> Result<(), Fail> {
+    let mut world = two_lists(rt.alloc())?;
+    play(&rt, &mut world, TWO_SOURCES.as_slice());
+    assert_eq!(rt; received(rt.alloc(), &world, 0)?.as_str(), "a");
+    assert_eq!(rt; received(rt.alloc(), &world, 1)?.as_str(), "c.");
+    play(&rt, &mut world, THE_REST.as_slice());
+    assert_eq!(rt; received(rt.alloc(), &world, 0)?.as_str(), "ab.");
+    Ok(())
+}
+
+#[test]
+fn no_sources(rt: HostRuntime) -> Result<(), Fail> {
+    let mut world = World::new(rt.alloc(), Vec::new(rt.alloc()), 1)?;
+    play(
+        &rt,
+        &mut world,
+        &[(Event::Push(0), false), (Event::Pop(0), false)],
+    );
+    Ok(())
+}
+
+#[test]
+fn laws_return() {
+    laws::limits();
+    laws::received_comes_first::<Item>();
+    laws::queues_stay_bounded::<Item>();
+    laws::a_received_close_is_the_last();
+    laws::pops_are_an_interleaving::<Item, Sample>();
+    laws::pops_of_samples_are_an_interleaving();
+    laws::an_order_stands_for_its_lists::<Sample>();
+    laws::two_forms_of_an_interleaving::<Sample>();
+    laws::well_told_records();
+    laws::a_told_list_has_one_close();
+    laws::lists_told_under_a_gate::<OpenGate>();
+}

@@ -1,0 +1,5 @@
+//! Tests of pages.
+#![tactic(auto)]
+
+#[cfg(test)]
+mod tests;

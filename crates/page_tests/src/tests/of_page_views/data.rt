@@ -1,0 +1,135 @@
+//! The data of pages in a vector, as other programs get it.
+ghost use Rattle.std.specs.Prelude.{◌≡◌, ◌≤◌, IfSome, length};
+
+use merging::Source;
+use page_views::{Heading, PageView, render_page_data};
+use run_options::{Filter, Format, Naming, Options, Pick, RingSize};
+use serde_json::Value;
+use source_views::{Views, views};
+use stack_core::OpenGate;
+use std::alloc::Global;
+use std::process::Abort;
+use std::sync::{Arc, Wait};
+use std::test::Fail;
+use std::thread::Threads;
+
+// The example of README.md: its boxes that weigh at least 10 were worked out by hand, and so was what is left out.
+const EXAMPLE: &[u8] =
+    b"main;parse;read 12\nmain;parse;tokenize 31\nmain;layout 3\nmain;parse;read 7\nmain;layout;measure 4\n";
+
+const EXAMPLE_DATA: &str = "{
+    \"view\": \"graph\", \"title\": \"</script>\", \"whole\": 57, \"sources\": [],
+    \"names\": [\"all\", \"main\", \"parse\", \"read\", \"tokenize\"],
+    \"drawings\": [{
+        \"least\": 10, \"total\": 57, \"left_out\": {\"boxes\": 2, \"weight\": 7},
+        \"name\": [0, 1, 2, 3, 4],
+        \"depth\": [0, 1, 2, 3, 3],
+        \"start\": [0, 0, 7, 7, 26],
+        \"weight\": [57, 57, 50, 19, 31],
+        \"own\": [0, 0, 0, 19, 31]
+    }]
+}";
+
+// What is seen of folded texts.
+fn seen<T: Threads + Wait + Abort + Copy + Send + 'static>(
+    rt: &T,
+    alloc: Global,
+    texts: &[&[u8]],
+    every: Option<u64>,
+) -> Result<Views, Fail>
+    requires { IfSome every (λ every. 1 ≤ every) }
+{
+    let mut sources = Vec::new(alloc);
+    for text in texts {
+        sources.push(Source {
+            format: Format::Folded,
+            bytes: text.to_vec(alloc)?,
+        })?;
+    }
+    assert!(rt; sources.len() <= 64);
+    let options = Options {
+        ring: RingSize::of(8).unwrap(),
+        pick: Pick::Preferred,
+        naming: Naming::Plain,
+        filter: Filter::everything(alloc),
+        every,
+    };
+    Ok(views(rt, alloc, sources, &options, Arc::new(alloc, OpenGate)?)?)
+}
+
+// The data of a page without sources, behind what stood there.
+fn data_of(
+    alloc: Global,
+    views: &Views,
+    view: PageView,
+    heading: &Heading<'_>,
+) -> Result<Vec<u8>, Fail>
+    requires { view ≡ PageView.Compare → length views.now.lists ≡ 2 }
+{
+    let mut out = b"before ".to_vec(alloc)?;
+    render_page_data(alloc, views, view, heading, &mut out)?;
+    Ok(out)
+}
+
+const SMALL: Heading<'static> = Heading {
+    title: "small",
+    sources: &[],
+    least: Some(0),
+    whole: 3,
+};
+
+#[test]
+fn data_reads_as_its_boxes(rt: HostRuntime) -> Result<(), Fail> {
+    let alloc = rt.alloc();
+    let views = seen(&rt, alloc, &[EXAMPLE], None)?;
+    let heading = Heading {
+        title: "</script>",
+        sources: &[],
+        least: Some(10),
+        whole: 57,
+    };
+    let mut out = Vec::new(alloc);
+    render_page_data(alloc, &views, PageView::Graph, &heading, &mut out)?;
+    assert!(rt; !out.contains(&b'<'));
+    let data = Value::from_str(alloc, str::from_utf8(&out)?).ok();
+    let wanted = Value::from_str(alloc, EXAMPLE_DATA).ok();
+    assert!(rt; wanted.is_some() && data == wanted);
+    Ok(())
+}
+
+#[test]
+fn data_of_snapshots(rt: HostRuntime) -> Result<(), Fail> {
+    let alloc = rt.alloc();
+    let views = seen(&rt, alloc, &[b"main;read<int> 2\nmain 1\n"], Some(1))?;
+    let data = data_of(alloc, &views, PageView::Graph, &SMALL)?;
+    assert_eq!(rt;
+        data.as_slice(),
+        b"before {\"drawings\":[{\"at\":1,\"counts\":[1],\"depth\":[0,1,2],\"least\":0,\"left_out\":{\"boxes\":0,\"weight\":0},\"name\":[0,1,2],\"own\":[0,0,2],\"start\":[0,0,0],\"total\":2,\"weight\":[2,2,2]},{\"at\":2,\"counts\":[2],\"depth\":[0,1,2],\"least\":0,\"left_out\":{\"boxes\":0,\"weight\":0},\"name\":[0,1,2],\"own\":[0,1,2],\"start\":[0,0,1],\"total\":3,\"weight\":[3,3,2]},{\"depth\":[0,1,2],\"least\":0,\"left_out\":{\"boxes\":0,\"weight\":0},\"name\":[0,1,2],\"own\":[0,1,2],\"start\":[0,0,1],\"total\":3,\"weight\":[3,3,2]}],\"names\":[\"all\",\"main\",\"read\\u003cint\\u003e\"],\"sources\":[],\"title\":\"small\",\"view\":\"graph\",\"whole\":3}".as_slice()
+    );
+    Ok(())
+}
+
+#[test]
+fn data_of_a_chart(rt: HostRuntime) -> Result<(), Fail> {
+    let alloc = rt.alloc();
+    let views = seen(&rt, alloc, &[b"main;read 2\n", b"main 1\n"], None)?;
+    let data = data_of(alloc, &views, PageView::Chart, &SMALL)?;
+    assert_eq!(rt;
+        data.as_slice(),
+        b"before {\"drawings\":[{\"depth\":[0,1,2],\"least\":0,\"left_out\":{\"boxes\":0,\"weight\":0},\"name\":[0,1,2],\"own\":[0,1,2],\"start\":[0,0,0],\"total\":3,\"weight\":[3,3,2]}],\"names\":[\"all\",\"main\",\"read\"],\"sources\":[],\"title\":\"small\",\"view\":\"chart\",\"whole\":3}".as_slice()
+    );
+    Ok(())
+}
+
+#[test]
+fn data_of_a_comparison(rt: HostRuntime) -> Result<(), Fail> {
+    let alloc = rt.alloc();
+    let views = seen(&rt, alloc, &[b"a;b 3\n", b"a 1\n"], None)?;
+    assert!(rt; views.lists().len() == 2);
+    let data = data_of(alloc, &views, PageView::Compare, &SMALL)?;
+    assert_eq!(rt;
+        data.as_slice(),
+        b"before {\"drawings\":[{\"depth\":[0,1,2],\"least\":0,\"left_out\":{\"boxes\":0,\"weight\":0},\"name\":[0,1,2],\"other\":[1,1,0],\"own\":[0,0,3],\"start\":[0,0,0],\"total\":3,\"weight\":[3,3,3]},{\"depth\":[0,1],\"least\":0,\"left_out\":{\"boxes\":0,\"weight\":0},\"name\":[0,1],\"other\":[3,3],\"own\":[0,1],\"start\":[0,0],\"total\":1,\"weight\":[1,1]}],\"names\":[\"all\",\"a\",\"b\"],\"sources\":[],\"title\":\"small\",\"view\":\"compare\",\"whole\":3}".as_slice()
+    );
+    Ok(())
+}

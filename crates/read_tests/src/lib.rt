@@ -1,0 +1,5 @@
+//! Tests of the readers of fields, messages and folded lines.
+#![tactic(auto)]
+
+#[cfg(test)]
+mod tests;

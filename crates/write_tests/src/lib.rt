@@ -1,0 +1,5 @@
+//! Tests of outputs and texts.
+#![tactic(auto)]
+
+#[cfg(test)]
+mod tests;

@@ -1,0 +1,3 @@
+mod of_byte_io;
+mod of_sum_texts;
+mod of_view_texts;

@@ -1,0 +1,15 @@
+//! The example of the crate's page.
+use byte_io::{Files, MemoryFiles, NamedFile};
+use std::test::Fail;
+
+#[test]
+fn example_of_the_page(rt: HostRuntime) -> Result<(), Fail> {
+    let alloc = rt.alloc();
+    let mut files = MemoryFiles::new(alloc, b"a 1\n".to_vec(alloc)?, 4);
+    let path = String::from_str(alloc, "x")?;
+    let bytes = b"b 2\n".to_vec(alloc)?;
+    files.add(NamedFile { path, bytes })?;
+    assert_eq!(rt; files.named(alloc, "x")?.as_slice(), b"b 2\n".as_slice());
+    assert_eq!(rt; files.input(alloc)?.as_slice(), b"a 1\n".as_slice());
+    Ok(())
+}
