@@ -16,7 +16,7 @@ use files::{
     ADDRESS, BASE, GREATEST_ID, GREATEST_LENGTH, INLINED, INLINED_LINES, LEAST_INDEX, MINUS_ONE,
     NEGATIVE, NO_FRAMES, SAMPLE_FAULTS, SMALLEST, TABLE_FAULTS, TWO_LINES, UNPACKED,
 };
-use profile_tables::{Naming, Pick, PprofReader};
+use profile_tables::{Naming, Pick, PprofReader, Tables};
 use reading::samples_read_as;
 use stack_core::{ReadFault, ReadKind, SampleReader, SourceEnd, Text};
 use std::alloc::{AllocError, Global};
