@@ -1,11 +1,12 @@
 -- Frames by the numbers of their names: names that come later change none, and a row grows name by name.
 use Rattle.std.proofs.Common.{◌≡◌, ℕ, ◌+◌, ◌-◌, ◌<◌, ◌≤◌, List, [], ◌∷◌, ◌++◌, length, Some, get_or, slice_get, take, drop, reverse, sym, ◌∙◌, ap, subst, drop-cons, add-one, arith, suc, length-append}
+use Rattle.std.specs.Prelude.{Result, Ok, Err, OnOk, OnErr}
 use Rattle.std.specs.List.{slice_range}
 use Rattle.std.proofs.lemmas.List.{get_or_append_left, map-append, reverse-append}
 use Rattle.std.proofs.lemmas.List.Elements.{All-append, All-cons, All-nil}
 use Rattle.std.proofs.lemmas.Option.{get_or_from_slice_get, slice_get_within, slice_get-get_or}
 use Rattle.call_tree.proofs.Names.{with_name_known}
-use Rattle.call_tree.proofs.NameNumbers.{with_stack_push, numbers-longer, names_at-longer, IsPrefixOf-with_name}
+use Rattle.call_tree.proofs.NameNumbers.{IsPrefixOf-refl, with_stack_push, numbers-longer, names_at-longer, IsPrefixOf-with_name}
 use Rattle.stack_core.specs.NamesInOrder.{with_name}
 use Rattle.stack_core.specs.Prefixes.{IsPrefixOf}
 use Rattle.sample_tables.specs.Rows.{name_at}
@@ -28,8 +29,13 @@ still-at old new number name grown at =
 
 -- ---- kept numbers
 
-pub kept-grown : (frames : Frames) (old new : List (List ℕ)) (kept : List ℕ) → IsPrefixOf old new → AreKept frames old kept → AreKept frames new kept
-kept-grown frames old new kept grown is place number at = still-at old new number (text_at frames place) grown (is place number at)
+pub kept-grown : (texts : ℕ → List ℕ) (old new : List (List ℕ)) (kept : List ℕ) → IsPrefixOf old new → AreKept texts old kept → AreKept texts new kept
+kept-grown texts old new kept grown is place number at = still-at old new number (texts place) grown (is place number at)
+
+-- a table that is asked for a name, and may want memory, keeps those before
+pub grown-by : {E : Type 0} (asked : Result ℕ E) (old new : List (List ℕ)) (name : List ℕ) → OnOk asked (new ≡ with_name old name) → OnErr asked (new ≡ old) → IsPrefixOf old new
+grown-by (Ok number) old new name is _ = subst (IsPrefixOf old) (sym is) (IsPrefixOf-with_name old name)
+grown-by (Err refused) old new name _ is = subst (IsPrefixOf old) (sym is) (IsPrefixOf-refl old)
 
 -- ---- a row
 

@@ -1,26 +1,28 @@
 //! Frames by the numbers of their names.
 
-ghost use Rattle.std.specs.Prelude.{◌≡◌, ◌≤◌, ◌<◌, ◌+◌, ◌++◌, ◌∷◌, [], ℕ, List, Some, length, drop, IfOk, IfSome, OnOk, OnErr, slice_get};
-ghost use Rattle.std.specs.List.{slice_index_or};
+ghost use Rattle.std.specs.Prelude.{◌≡◌, ◌≤◌, ◌<◌, ◌+◌, ◌++◌, ◌∷◌, [], ℕ, List, Some, length, drop, IfOk, OnOk, OnErr, slice_get};
 ghost use Rattle.stack_core.specs.NamesInOrder.{with_name};
 ghost use Rattle.stack_core.specs.Prefixes.{IsPrefixOf};
 ghost use Rattle.profile_tables.specs.Samples.{stack_of_ids};
-ghost use Rattle.profile_tables.specs.declared.frames.Frames.{Frames};
-ghost use Rattle.profile_tables.specs.checked.Frames.{text_in, frames_at};
-ghost use Rattle.profile_tables.specs.checked.FrameNumbers.{all_texts, text_at, root_first, AreNumbersOf, IsNumbered};
+ghost use Rattle.profile_tables.specs.checked.Frames.{text_in, name_in_place, frames_at};
+ghost use Rattle.profile_tables.specs.checked.FrameNumbers.{all_texts, text_at, root_first, AreKept, AreNumbersOf, IsNumbered};
 
 use crate::frames::{Frame, Frames};
+use crate::kept_numbers::KeptNumbers;
 use call_tree::FrameTable;
 use profile_messages::Span;
 use stack_core::Text;
 use std::alloc::{AllocError, Global};
 
-/// The numbers of frames' names. A frame's number is looked up by its name once.
+/// The numbers of frames' names. A frame's number is looked up by its name once. Where that is a name of a function and no more, it is
+/// looked up once for all frames that have it, since a long name may have many.
 #[derive(Drop)]
 pub(crate) struct FrameNumbers {
     pub(crate) table: FrameTable,
-    /// By the place of a frame among all: its number plus 1, or 0 where it was not looked up yet, or does not fit.
-    kept: Vec<u32>,
+    /// By the place of a frame among all.
+    frames: KeptNumbers,
+    /// By the place of a name.
+    names: KeptNumbers,
 }
 
 impl FrameNumbers {
@@ -31,43 +33,44 @@ impl FrameNumbers {
     {
         Ok(FrameNumbers {
             table: FrameTable::new(alloc),
-            kept: vec![in alloc; 0; frames.all.len()]?,
+            frames: KeptNumbers::new(alloc, frames.all.len())?,
+            names: KeptNumbers::new(alloc, frames.names.len())?,
         })
+    }
+
+    /// The number of the name at a place.
+    fn look_up_name(&mut self, frames: &Frames, place: usize) -> Result<usize, AllocError>
+        requires known { AreKept (name_in_place frames.now) self.old.table self.old.names.numbers.items }
+        ensures known { AreKept (name_in_place frames.now) self.new.table self.new.names.numbers.items }
+        ensures names { OnOk result
+            (self.new.table ≡ with_name self.old.table (name_in_place frames.now place)) }
+        ensures number { IfOk result (λ number.
+            slice_get self.new.table number ≡ Some (name_in_place frames.now place)) }
+        ensures frames { self.new.frames ≡ self.old.frames }
+        ensures refused { OnErr result (self.new ≡ self.old) }
+    {
+        if let Some(number) = self.names.get(place) {
+            return Ok(number);
+        }
+        let number = self.table.intern(frames.plain_name(place))?;
+        self.names.keep(place, number);
+        Ok(number)
     }
 
     /// The number of a frame's name, which the table gets where it is new. No name is made where the table knows it.
     fn look_up(&mut self, alloc: Global, frames: &Frames, frame: Frame) -> Result<usize, AllocError>
+        requires known { AreKept (name_in_place frames.now) self.old.table self.old.names.numbers.items }
+        ensures known { AreKept (name_in_place frames.now) self.new.table self.new.names.numbers.items }
         ensures names { OnOk result
             (self.new.table ≡ with_name self.old.table (text_in frames.now frame)) }
         ensures number { IfOk result (λ number.
             slice_get self.new.table number ≡ Some (text_in frames.now frame)) }
-        ensures kept { self.new.kept ≡ self.old.kept }
+        ensures frames { self.new.frames ≡ self.old.frames }
         ensures refused { OnErr result (self.new ≡ self.old) }
     {
-        match frames.plain_name(frame) {
-            Some(name) => self.table.intern(name),
+        match frames.plain_place(frame) {
+            Some(place) => self.look_up_name(frames, place),
             None => self.table.intern(frames.name(alloc, frame)?.as_str()),
-        }
-    }
-
-    /// The number that is kept for the frame at a place.
-    fn kept_at(&self, place: usize) -> Option<usize>
-        ensures { IfSome result (λ number.
-            slice_index_or self.now.kept.items place 0 ≡ number + 1) }
-    {
-        let kept = *self.kept.get(place)?;
-        (kept as usize).checked_sub(1)
-    }
-
-    /// Keeps the number of the frame at a place, where it fits.
-    fn keep(&mut self, place: usize, number: usize)
-        ensures table { self.new.table ≡ self.old.table }
-        ensures known { (frames : Frames) → AreNumbersOf frames self.old →
-            slice_get self.old.table number ≡ Some (text_at frames place) →
-            AreNumbersOf frames self.new }
-    {
-        if number < u32::MAX as usize && place < self.kept.len() {
-            self.kept[place] = number as u32 + 1;
         }
     }
 
@@ -82,11 +85,11 @@ impl FrameNumbers {
             slice_get self.new.table number ≡ Some (text_at frames.now place)) }
         ensures refused { OnErr result (self.new.table ≡ self.old.table) }
     {
-        if let Some(number) = self.kept_at(place) {
+        if let Some(number) = self.frames.get(place) {
             return Ok(number);
         }
         let number = self.look_up(alloc, frames, frames.all[place])?;
-        self.keep(place, number);
+        self.frames.keep(place, number);
         Ok(number)
     }
 

@@ -30,7 +30,7 @@ pub(crate) struct Frames {
 }
 
 impl Frames {
-    ghost use Rattle.profile_tables.specs.checked.Frames.{text_in, frames_at, stacks_of, LendsFrames};
+    ghost use Rattle.profile_tables.specs.checked.Frames.{text_in, name_in_place, frames_at, stacks_of, LendsFrames};
     ghost use Rattle.profile_tables.specs.checked.FrameNumbers.{IsPlaceOf};
 
     /// Where the frames of a location id stand among all.
@@ -52,16 +52,21 @@ impl Frames {
         self.all.get(span.start..span.end)
     }
 
-    /// The name of a frame, where that is kept as it is.
-    pub(crate) fn plain_name(&self, frame: Frame) -> Option<&str>
-        ensures { IfSome result (λ name. name.now ≡ text_in self.now frame) }
+    /// The place of the name that is a frame's whole name.
+    pub(crate) fn plain_place(&self, frame: Frame) -> Option<usize>
+        ensures { IfSome result (λ place. name_in_place self.now place ≡ text_in self.now frame) }
     {
         match (self.naming, frame) {
-            (Naming::Plain, Frame::Function(place, _)) => {
-                Some(self.names.get(place).map_or("", |name| name.as_str()))
-            }
+            (Naming::Plain, Frame::Function(place, _)) => Some(place),
             _ => None,
         }
+    }
+
+    /// The name at a place.
+    pub(crate) fn plain_name(&self, place: usize) -> &str
+        ensures { result.now ≡ name_in_place self.now place }
+    {
+        self.names.get(place).map_or("", |name| name.as_str())
     }
 
     /// The name of a frame.
@@ -71,8 +76,7 @@ impl Frames {
         match frame {
             Frame::Address(address) => address_frame(alloc, address),
             Frame::Function(place, line) => {
-                let name = self.names.get(place).map_or("", |name| name.as_str());
-                let mut text = String::from_str(alloc, name)?;
+                let mut text = String::from_str(alloc, self.plain_name(place))?;
                 append_line(&mut text, self.naming, line)?;
                 Ok(text)
             }

@@ -5,6 +5,7 @@ mod frame_numbers;
 mod frames;
 mod fronts;
 mod functions;
+mod kept_numbers;
 pub mod laws;
 mod lines;
 mod naming;

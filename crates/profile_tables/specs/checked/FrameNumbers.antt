@@ -5,7 +5,7 @@ use Rattle.stack_core.specs.Records.{names_at}
 use Rattle.profile_tables.specs.declared.frame_numbers.FrameNumbers.{FrameNumbers}
 use Rattle.profile_tables.specs.declared.frames.Frames.{Frames}
 use Rattle.profile_messages.specs.declared.messages.Span.{Span}
-use Rattle.profile_tables.specs.checked.Frames.{text_in, frames_at}
+use Rattle.profile_tables.specs.checked.Frames.{text_in, name_in_place, frames_at}
 
 -- the texts of all frames
 abbrev pub all_texts : Frames → List (List ℕ)
@@ -25,13 +25,14 @@ IsPlaceOf frames id None = frames_at frames id ≡ None
 IsPlaceOf frames id (Some span) =
     (span.start ≤ span.end) × (span.end ≤ length (all_texts frames)) × (frames_at frames id ≡ Some (root_first frames span.start span.end))
 
--- each kept number is that of its frame's name
-abbrev pub AreKept : Frames → List (List ℕ) → List ℕ → Type 0
-AreKept frames names kept =
-    (place number : ℕ) → slice_index_or kept place 0 ≡ number + 1 → slice_get names number ≡ Some (text_at frames place)
+-- each kept number is that of the text at its place
+abbrev pub AreKept : (ℕ → List ℕ) → List (List ℕ) → List ℕ → Type 0
+AreKept texts names kept =
+    (place number : ℕ) → slice_index_or kept place 0 ≡ number + 1 → slice_get names number ≡ Some (texts place)
 
-abbrev pub AreNumbersOf : Frames → FrameNumbers → Type 0
-AreNumbersOf frames numbers = AreKept frames numbers.table numbers.kept.items
+pub record AreNumbersOf (all : Frames) (numbers : FrameNumbers) : Type 0 where
+  pub frames : AreKept (text_at all) numbers.table numbers.frames.numbers.items
+  pub names : AreKept (name_in_place all) numbers.table numbers.names.numbers.items
 
 -- the row has the numbers of a stack's names, which the table has behind the names before
 pub record IsNumbered (before stack names : List (List ℕ)) (row : List ℕ) : Type 0 where

@@ -27,6 +27,10 @@ text_of names naming (Function place line) = unwrap_or (slice_get names place) [
 abbrev pub text_in : Frames → Frame → List ℕ
 text_in frames frame = text_of (map string_bytes frames.names.items) frames.naming frame
 
+-- the name at a place
+abbrev pub name_in_place : Frames → ℕ → List ℕ
+name_in_place frames place = unwrap_or (slice_get (map string_bytes frames.names.items) place) []
+
 -- the frames at a span, leaf first
 abbrev pub texts_in : Frames → Span → Option (List (List ℕ))
 texts_in frames span = items_in (map (text_in frames) frames.all.items) span

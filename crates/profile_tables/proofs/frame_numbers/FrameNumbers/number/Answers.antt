@@ -1,9 +1,8 @@
 use Rattle.std.proofs.Common.{◌≡◌, [], Some, ℕ, List, slice_get, subst, sym, ap, ◌∙◌}
-use Rattle.std.specs.Prelude.{Vec}
-use Rattle.std.specs.declared.alloc.Global.{Global}
 use Rattle.std.proofs.lemmas.List.{get_or-map}
 use Rattle.stack_core.specs.NamesInOrder.{with_name}
 use Rattle.stack_core.specs.Prefixes.{IsPrefixOf}
+use Rattle.profile_tables.specs.declared.kept_numbers.KeptNumbers.{KeptNumbers}
 use Rattle.profile_tables.specs.checked.Frames.{text_in}
 use Rattle.profile_tables.specs.checked.FrameNumbers.{text_at, AreKept}
 use Rattle.call_tree.proofs.NameNumbers.{IsPrefixOf-with_name}
@@ -12,7 +11,7 @@ use Rattle.profile_tables.proofs.frame_numbers.FrameNumbers.number.Goals as goal
 
 pub returns-in-Some-clause-names : goal.returns-in-Some-clause-names
 returns-in-Some-clause-names c =
-    known-again c.args.self.now.table (text_at c.args.frames.now c.args.place) c.in-Some.number (c.requires.known c.args.place c.in-Some.number c.in-Some.ensures)
+    known-again c.args.self.now.table (text_at c.args.frames.now c.args.place) c.in-Some.number (c.requires.known.frames c.args.place c.in-Some.number c.in-Some.ensures)
 
 text : (c : goal.After-keep) → text_in c.args.frames.now c.index.result.now ≡ text_at c.args.frames.now c.args.place
 text c = ap (text_in c.args.frames.now) c.index.ensures ∙ sym (get_or-map (text_in c.args.frames.now) c.args.frames.now.all.items c.args.place c.index.result.now [] c.requires.within)
@@ -22,14 +21,20 @@ at c = c.in_ok-number.ensures.number ∙ ap Some (text c)
 
 pub returns-clause-known : goal.returns-clause-known
 returns-clause-known c =
+    let texts = text_at c.args.frames.now in
     let old = c.args.self.now.table in
-    let kept = subst (λ (kept : Vec ℕ Global). AreKept c.args.frames.now c.look_up.new.self.table kept.items) (sym c.in_ok-number.ensures.kept)
-    (kept-grown c.args.frames.now old c.look_up.new.self.table c.args.self.now.kept.items
-    (subst (IsPrefixOf old) (sym c.in_ok-number.ensures.names) (IsPrefixOf-with_name old (text_in c.args.frames.now c.index.result.now))) c.requires.known) in
-    c.keep.ensures.known c.args.frames.now kept (at c)
+    let new = c.look_up.new.self.table in
+    let grown : IsPrefixOf old new =
+    subst (IsPrefixOf old) (sym c.in_ok-number.ensures.names) (IsPrefixOf-with_name old (text_in c.args.frames.now c.index.result.now)) in
+    let kept = subst (λ (kept : KeptNumbers). AreKept texts new kept.numbers.items) (sym c.in_ok-number.ensures.frames)
+    (kept-grown texts old new c.args.self.now.frames.numbers.items grown c.requires.known.frames) in
+    record {
+      frames = c.keep.ensures texts new kept (at c);
+      names = c.in_ok-number.ensures.known;
+    }
 
 pub returns-clause-names : goal.returns-clause-names
-returns-clause-names c = c.keep.ensures.table ∙ c.in_ok-number.ensures.names ∙ ap (with_name c.args.self.now.table) (text c)
+returns-clause-names c = c.in_ok-number.ensures.names ∙ ap (with_name c.args.self.now.table) (text c)
 
 pub returns-clause-number : goal.returns-clause-number
-returns-clause-number c = ap (λ (names : List (List ℕ)). slice_get names c.in_ok-number.number) c.keep.ensures.table ∙ at c
+returns-clause-number c = at c
