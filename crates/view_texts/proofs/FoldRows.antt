@@ -1,5 +1,5 @@
 -- the lines of a tree's listing are the fold text of its samples
-use Rattle.std.proofs.Common.{◌≡◌, ℕ, ◌+◌, ◌-◌, ◌^◌, ◌<◌, List, [], ◌∷◌, ◌++◌, Bool, true, false, cond, ◌&&◌, length, map, filter, take, get_or, ltb, nat_eq, Some, None, T, sym, ◌∙◌, ap, subst, refl, arith, inl, inr, ⊎_elim, All}
+use Rattle.std.proofs.Common.{◌≡◌, ℕ, ◌+◌, ◌-◌, ◌^◌, ◌<◌, List, [], ◌∷◌, ◌++◌, Bool, true, false, cond, ◌&&◌, length, map, filter, take, get_or, ltb, Some, None, T, sym, ◌∙◌, ap, subst, refl, arith, inl, inr, ⊎_elim, All}
 use Rattle.std.specs.List.{AllByRecursion}
 use Rattle.std.specs.Ordering.{is_eq, is_lt}
 use Rattle.std.specs.FinMap.{entries}

@@ -1,10 +1,12 @@
 -- The texts of members, piece by piece.
-use Rattle.std.proofs.Common.{◌≡◌, ℕ, List, [], ◌∷◌, ◌++◌, false, codes, decimal, refl, sym, ap, ◌∙◌, append_assoc}
+use Rattle.std.proofs.Common.{◌≡◌, ℕ, ◌+◌, ◌≤◌, List, [], ◌∷◌, ◌++◌, false, length, take, drop, codes, decimal, refl, sym, ap, ◌∙◌, append_assoc, length-take-le, drop-drop, drop_at, arith}
+use borrow.Rule.Slice.PartMut.{put_mid}
 use Rattle.json.specs.Print.{escape_byte}
 use Rattle.serde_json.specs.Data.{string}
 use Rattle.serde_json.specs.Written.{compact_text, members_text}
 use Rattle.flame_layout.specs.declared.boxes.PlacedBox.{PlacedBox}
 use Rattle.view_texts.specs.Json.{box_members}
+use Rattle.view_texts.specs.checked.BoxParts.{before_name, behind_name}
 
 -- a key with its marks, a value, and the rest
 abbrev then_from : List ℕ → List ℕ → List ℕ → List ℕ
@@ -22,33 +24,38 @@ box_members-text : (b : PlacedBox) → members_text false (box_members b) ≡
 unfolding escape_byte
 box_members-text b = refl
 
--- pieces appended one after another
-in_turn : (o k1 v1 k2 v2 k3 v3 k4 v4 k5 v5 k6 v6 k7 v7 end : List ℕ) →
-    (((((((o ++ (k1 ++ v1)) ++ (k2 ++ v2)) ++ (k3 ++ v3)) ++ (k4 ++ v4)) ++ (k5 ++ v5)) ++ (k6 ++ v6)) ++ (k7 ++ v7)) ++ end
-    ≡ o ++ then_from k1 v1 (then_from k2 v2 (then_from k3 v3 (then_from k4 v4 (then_from k5 v5 (then_from k6 v6 (then_from k7 v7 end))))))
-in_turn o k1 v1 k2 v2 k3 v3 k4 v4 k5 v5 k6 v6 k7 v7 end = simp append_assoc
+-- what stands before the name, the name, and what stands behind it
+in_turn : (o : List ℕ) (opening : ℕ) (k1 v1 k2 v2 k3 v3 k4 v4 k5 v5 k6 v6 k7 v7 end : List ℕ) →
+    ((o ++ (opening ∷ ((k1 ++ v1) ++ ((k2 ++ v2) ++ k3)))) ++ v3) ++ ((k4 ++ v4) ++ ((k5 ++ v5) ++ ((k6 ++ v6) ++ ((k7 ++ v7) ++ end))))
+    ≡ o ++ opening ∷ then_from k1 v1 (then_from k2 v2 (then_from k3 v3 (then_from k4 v4 (then_from k5 v5 (then_from k6 v6 (then_from k7 v7 end))))))
+in_turn o opening k1 v1 k2 v2 k3 v3 k4 v4 k5 v5 k6 v6 k7 v7 end = simp append_assoc
 
--- the members of a box, appended one after another
-box_pieces : (text : List ℕ) (b : PlacedBox) →
-    (((((((text ++ (codes "\"depth\":" ++ decimal b.depth)) ++ (codes ",\"left\":" ++ decimal b.left)) ++ (codes ",\"name\":" ++ compact_text (string b.name))) ++ (codes ",\"own\":" ++ decimal b.own))
-    ++ (codes ",\"right\":" ++ decimal b.right)) ++ (codes ",\"start\":" ++ decimal b.start)) ++ (codes ",\"weight\":" ++ decimal b.weight)) ++ 125 ∷ []
-    ≡ text ++ members_text false (box_members b)
-box_pieces text b =
-    in_turn text (codes "\"depth\":") (decimal b.depth) (codes ",\"left\":") (decimal b.left) (codes ",\"name\":") (compact_text (string b.name)) (codes ",\"own\":") (decimal b.own)
+-- the members of a box, appended in these parts
+box_parts : (text : List ℕ) (opening : ℕ) (b : PlacedBox) →
+    ((text ++ before_name opening b.depth b.left) ++ compact_text (string b.name)) ++ behind_name b.own b.right b.start b.weight
+    ≡ text ++ opening ∷ members_text false (box_members b)
+box_parts text opening b =
+    in_turn text opening (codes "\"depth\":") (decimal b.depth) (codes ",\"left\":") (decimal b.left) (codes ",\"name\":") (compact_text (string b.name)) (codes ",\"own\":") (decimal b.own)
     (codes ",\"right\":") (decimal b.right) (codes ",\"start\":") (decimal b.start) (codes ",\"weight\":") (decimal b.weight) (125 ∷ [])
-    ∙ ap (λ t. text ++ t) (sym (box_members-text b))
+    ∙ ap (λ t. text ++ opening ∷ t) (sym (box_members-text b))
 
 -- the same, where each call appends one
-pub box_written : (b : PlacedBox) (depth left right own start weight : ℕ) (name : List ℕ) (o o1 o2 o3 o4 o5 o6 o7 o8 : List ℕ)
+pub box_written : (b : PlacedBox) (opening depth left right own start weight : ℕ) (name o o1 o2 o3 : List ℕ)
     → depth ≡ b.depth → left ≡ b.left → right ≡ b.right → name ≡ b.name → own ≡ b.own → start ≡ b.start → weight ≡ b.weight
-    → o1 ≡ o ++ (codes "\"depth\":" ++ decimal depth)
-    → o2 ≡ o1 ++ (codes ",\"left\":" ++ decimal left)
-    → o3 ≡ o2 ++ (codes ",\"name\":" ++ compact_text (string name))
-    → o4 ≡ o3 ++ (codes ",\"own\":" ++ decimal own)
-    → o5 ≡ o4 ++ (codes ",\"right\":" ++ decimal right)
-    → o6 ≡ o5 ++ (codes ",\"start\":" ++ decimal start)
-    → o7 ≡ o6 ++ (codes ",\"weight\":" ++ decimal weight)
-    → o8 ≡ o7 ++ 125 ∷ []
-    → o8 ≡ o ++ members_text false (box_members b)
-box_written b depth left right own start weight name o o1 o2 o3 o4 o5 o6 o7 o8 d l r n w s g e1 e2 e3 e4 e5 e6 e7 e8 =
-    let pieces = box_pieces o b in cc
+    → o1 ≡ o ++ before_name opening depth left
+    → o2 ≡ o1 ++ compact_text (string name)
+    → o3 ≡ o2 ++ behind_name own right start weight
+    → o3 ≡ o ++ opening ∷ members_text false (box_members b)
+box_written b opening depth left right own start weight name o o1 o2 o3 d l r n w s g e1 e2 e3 =
+    e3
+    ∙ ap (λ t. t ++ behind_name own right start weight) (e2 ∙ ap (λ t. t ++ compact_text (string name)) e1)
+    ∙ (λ i. ((o ++ before_name opening (d i) (l i)) ++ compact_text (string (n i))) ++ behind_name (w i) (r i) (s i) (g i))
+    ∙ box_parts o opening b
+
+-- ---- what is put into a buffer from its end to its front
+
+-- a piece before what stands there
+pub piece_put : (start count end : ℕ) (bytes piece copy : List ℕ) → copy ≡ piece → start + count ≡ end → end ≤ length bytes → drop start (put_mid start count bytes copy) ≡ piece ++ drop end bytes
+piece_put start count end bytes piece copy same sum within =
+    drop_at (take start bytes) (copy ++ drop count (drop start bytes)) start (length-take-le start bytes (omega arith))
+    ∙ (λ i. same i ++ (drop-drop count start bytes ∙ ap (λ n. drop n bytes) sum) i)

@@ -1,5 +1,5 @@
 -- the pairs of a comparison are the paired stacks
-use Rattle.std.proofs.Common.{◌≡◌, ℕ, ◌+◌, ◌<◌, ◌||◌, List, [], ◌∷◌, ◌++◌, Bool, true, false, cond, map, filter, ltb, T, sym, ◌∙◌, ap, refl, arith, inl, inr, ⊎_elim}
+use Rattle.std.proofs.Common.{◌≡◌, ◌+◌, ◌<◌, List, [], ◌∷◌, ◌++◌, Bool, true, false, cond, map, T, sym, ◌∙◌, ap, refl, arith, inl, inr, ⊎_elim}
 use Rattle.std.specs.List.{AllByRecursion, concat}
 use Rattle.std.specs.Ordering.{is_eq, is_lt}
 use Rattle.std.specs.declared.cmp.Ordering.TheVariants.{Less}

@@ -1,14 +1,16 @@
 //! Boxes in JSON.
 
-ghost use Rattle.std.specs.Prelude.{◌≡◌, ℕ, ◌+◌, ◌<◌, ◌≤◌, ◌++◌, false, OnOk};
+ghost use Rattle.std.specs.Prelude.{◌≡◌, ℕ, ◌+◌, ◌<◌, ◌≤◌, ◌∷◌, ◌++◌, false, OnOk};
 ghost use Rattle.std.specs.Io.{StartsWith};
 ghost use Rattle.serde_json.specs.Data.{Data};
 ghost use Rattle.serde_json.specs.Written.{compact_text, members_text};
 ghost use Rattle.flame_layout.specs.Boxes.{span_of};
 ghost use Rattle.flame_layout.specs.Edges.{placed_at};
 ghost use Rattle.view_texts.specs.Json.{box_data, box_members, compared_box_data};
+ghost use Rattle.view_texts.specs.checked.BoxParts.{before_name, behind_name};
 
-use crate::json_pieces::{append_number, append_text};
+use crate::json_pieces::{append_number, append_quoted};
+use crate::put_pieces::{put_number, put_piece};
 use crate::scales::Scale;
 use flame_layout::{ComparedBox, DrawnBox, FlameBox, SpanBox, edges};
 use std::alloc::{AllocError, Global};
@@ -36,8 +38,7 @@ impl JsonBox for SpanBox {
     ghost end = { λ span. span.start + span.weight };
 
     fn append(&self, alloc: Global, text: &mut Vec<u8>, scale: &Scale) -> Result<(), AllocError> {
-        text.push(b'{')?;
-        append_members(alloc, text, self, scale)
+        append_members(alloc, text, b'{', self, scale)
     }
 }
 
@@ -47,8 +48,7 @@ impl<'a> JsonBox for DrawnBox<'a> {
     ghost end = { λ drawn. drawn.start + drawn.weight };
 
     fn append(&self, alloc: Global, text: &mut Vec<u8>, scale: &Scale) -> Result<(), AllocError> {
-        text.push(b'{')?;
-        append_members(alloc, text, self, scale)
+        append_members(alloc, text, b'{', self, scale)
     }
 }
 
@@ -59,32 +59,64 @@ impl JsonBox for ComparedBox {
 
     fn append(&self, alloc: Global, text: &mut Vec<u8>, scale: &Scale) -> Result<(), AllocError> {
         append_number(text, b"{\"before\":", self.before)?;
-        text.push(b',')?;
-        append_members(alloc, text, &self.span, scale)
+        append_members(alloc, text, b',', &self.span, scale)
     }
 }
 
-// Appends the members of a box, and the bracket after them.
+// Appends a byte, the members of a box, and the bracket after them.
 fn append_members<B: FlameBox>(
     alloc: Global,
     text: &mut Vec<u8>,
+    opening: u8,
     span: &B,
     scale: &Scale,
 ) -> Result<(), AllocError>
     requires within { (B.span span.now).start + (B.span span.now).weight ≤ scale.now.total }
     requires positive { 0 < scale.now.total }
-    ensures ok { OnOk result (text.new.items ≡ text.old.items ++ members_text false
+    ensures ok { OnOk result (text.new.items ≡ text.old.items ++ opening ∷ members_text false
         (box_members (placed_at scale.now.total scale.now.width (B.span span.now)))) }
     ensures front { StartsWith text.new.items text.old.items }
 {
     let (left, right) = edges(span, scale.total, scale.width);
-    append_number(text, b"\"depth\":", u64::from(span.depth()))?;
-    append_number(text, b",\"left\":", u64::from(left))?;
-    append_text(alloc, text, b",\"name\":", span.name())?;
-    append_number(text, b",\"own\":", span.own())?;
-    append_number(text, b",\"right\":", u64::from(right))?;
-    append_number(text, b",\"start\":", span.start())?;
-    append_number(text, b",\"weight\":", span.weight())?;
-    text.push(b'}')?;
-    Ok(())
+    append_before_name(text, opening, span.depth(), left)?;
+    append_quoted(alloc, text, span.name())?;
+    append_behind_name(text, span.own(), right, span.start(), span.weight())
+}
+
+// Appends what stands before the name, at once.
+fn append_before_name(
+    text: &mut Vec<u8>,
+    opening: u8,
+    depth: u32,
+    left: u32,
+) -> Result<(), AllocError>
+    ensures ok { OnOk result (text.new.items ≡ text.old.items ++ before_name opening depth left) }
+    ensures front { StartsWith text.new.items text.old.items }
+{
+    let mut bytes = [0; 80];
+    let at = put_piece(&mut bytes, 80, b",\"name\":");
+    let at = put_number(&mut bytes, at, b",\"left\":", u64::from(left));
+    let at = put_number(&mut bytes, at, b"\"depth\":", u64::from(depth));
+    let at = put_piece(&mut bytes, at, &[opening]);
+    text.extend_from_slice(&bytes[at..])
+}
+
+// Appends what stands behind the name, at once.
+fn append_behind_name(
+    text: &mut Vec<u8>,
+    own: u64,
+    right: u32,
+    start: u64,
+    weight: u64,
+) -> Result<(), AllocError>
+    ensures ok { OnOk result (text.new.items ≡ text.old.items ++ behind_name own right start weight) }
+    ensures front { StartsWith text.new.items text.old.items }
+{
+    let mut bytes = [0; 128];
+    let at = put_piece(&mut bytes, 128, b"}");
+    let at = put_number(&mut bytes, at, b",\"weight\":", weight);
+    let at = put_number(&mut bytes, at, b",\"start\":", start);
+    let at = put_number(&mut bytes, at, b",\"right\":", u64::from(right));
+    let at = put_number(&mut bytes, at, b",\"own\":", own);
+    text.extend_from_slice(&bytes[at..])
 }

@@ -8,7 +8,7 @@ ghost use Rattle.view_texts.specs.Lines.{head_of, counts_of, tail_of, ending_of,
 ghost use Rattle.view_texts.specs.Pieces.{line_pieces};
 
 use crate::json_boxes::JsonBox;
-use crate::json_pieces::{append_number, append_numbers, append_text, comma_if};
+use crate::json_pieces::{append_comma, append_number, append_numbers, append_text};
 use crate::line_kinds::LineKind;
 use crate::scales::Scale;
 use byte_io::Pieces;
@@ -106,7 +106,7 @@ fn append_item<B: JsonBox>(
         ++ (comma_if later ++ compact_text (B.object_of scale.now.total scale.now.width item.now))) }
     ensures front { StartsWith out.new.items out.old.items }
 {
-    out.extend_from_slice(comma_if(later))?;
+    append_comma(out, later)?;
     item.append(alloc, out, scale)
 }
 

@@ -1,12 +1,12 @@
 //! Numbers, texts and lists of numbers in JSON.
 
-ghost use Rattle.std.specs.Prelude.{◌≡◌, ◌++◌, map, decimal, All, OnOk, IsTrue, ◌↔◌};
+ghost use Rattle.std.specs.Prelude.{◌≡◌, ◌++◌, map, decimal, OnOk};
 ghost use Rattle.std.specs.Io.{StartsWith};
 ghost use Rattle.serde_json.specs.Data.{string};
 ghost use Rattle.serde_json.specs.Written.{comma_if, compact_text};
 ghost use Rattle.view_texts.specs.Json.{whole_number, list_data};
-ghost use Rattle.view_texts.specs.checked.PlainTexts.{IsPlainByte};
 
+use crate::plain_texts::is_plain;
 use itoa::Buffer;
 use std::alloc::{AllocError, Global};
 
@@ -15,6 +15,17 @@ pub(crate) fn comma_if(later: bool) -> &'static [u8]
     ensures { result.now ≡ comma_if later }
 {
     if later { b"," } else { b"" }
+}
+
+// Appends a comma where another value stands before.
+pub(crate) fn append_comma(out: &mut Vec<u8>, later: bool) -> Result<(), AllocError>
+    ensures ok { OnOk result (out.new.items ≡ out.old.items ++ comma_if later) }
+    ensures front { StartsWith out.new.items out.old.items }
+{
+    if later {
+        out.push(b',')?;
+    }
+    Ok(())
 }
 
 // Appends a literal piece and a number. It is inlined so that the length of the piece is known.
@@ -40,6 +51,14 @@ pub(crate) fn append_text(
     ensures front { StartsWith out.new.items out.old.items }
 {
     out.extend_from_slice(piece)?;
+    append_quoted(alloc, out, text)
+}
+
+// Appends a text in quotes, with its escapes.
+pub(crate) fn append_quoted(alloc: Global, out: &mut Vec<u8>, text: &str) -> Result<(), AllocError>
+    ensures ok { OnOk result (out.new.items ≡ out.old.items ++ compact_text (string text.now)) }
+    ensures front { StartsWith out.new.items out.old.items }
+{
     if is_plain(text.as_bytes()) {
         out.push(b'"')?;
         out.extend_from_slice(text.as_bytes())?;
@@ -51,14 +70,6 @@ pub(crate) fn append_text(
         // A text is refused for want of memory alone.
         Err(_) => Err(AllocError),
     }
-}
-
-// Whether a text stands in quotes as it is, without an escape.
-fn is_plain(text: &[u8]) -> bool
-    ensures { IsTrue result ↔ All IsPlainByte text.now }
-{
-    text.iter()
-        .all(|byte| *byte >= b' ' && *byte != b'"' && *byte != b'\\')
 }
 
 // Appends a literal piece and a list of numbers.

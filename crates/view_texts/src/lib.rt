@@ -11,6 +11,8 @@ pub mod laws;
 mod line_kinds;
 mod merged_lines;
 mod pair_lines;
+mod plain_texts;
+mod put_pieces;
 mod scales;
 mod stack_pairs;
 mod type_lines;

@@ -1,4 +1,4 @@
-use Rattle.std.proofs.Common.{◌∷◌, [], arith}
+use Rattle.std.proofs.Common.{arith}
 use Rattle.std.proofs.lemmas.Grind.{common_steps}
 use Rattle.serde_json.proofs.OnLiterals.{serde_json_on_literals}
 use Rattle.byte_io.proofs.PieceTexts.{further}
@@ -10,7 +10,4 @@ returns-clause-ok c = grind (arith, common_steps)
 
 pub returns-clause-front : goal.returns-clause-front
 returns-clause-front c =
-    let after = c.push.new.self.items in
-    let number = c.append_number.new.out.items in
-    further c.append_members.new.text.items number c.args.text.now.items _
-    (further c.append_members.new.text.items after number (44 ∷ []) c.append_members.ensures.front c.in_ok-push.ensures.items) c.in_ok-append_number.ensures.ok
+    further c.append_members.new.text.items c.append_number.new.out.items c.args.text.now.items _ c.append_members.ensures.front c.in_ok-append_number.ensures.ok

@@ -2,7 +2,7 @@ use Rattle.std.proofs.Common.{arith}
 use Rattle.std.proofs.lemmas.Grind.{common_steps}
 use Rattle.serde_json.proofs.FreeTexts.{text_of_str}
 use Rattle.view_texts.proofs.PlainTexts.{quoted-plain}
-use Rattle.view_texts.proofs.json_pieces.append_text.Goals as goal
+use Rattle.view_texts.proofs.json_pieces.append_quoted.Goals as goal
 
 pub returns-then-is_plain-clause-ok : goal.returns-then-is_plain-clause-ok
 returns-then-is_plain-clause-ok c =
