@@ -1,5 +1,7 @@
 //! Runs by rows.
 
+ghost use Rattle.std.specs.Prelude.{◌≡◌, [], IfOk};
+
 use super::fakes::CLEAN;
 use super::{EIGHT, NAMES, THREE, is_list};
 use folded_lines::{FoldedReader, append_line};
@@ -22,7 +24,9 @@ fn are_whole(rt: &impl Abort, run: &Collected) {
 }
 
 /// A reader of folded lines of one frame and these weights.
-fn lines(alloc: Global, name: &str, weights: &[u8]) -> Result<FoldedReader, AllocError> {
+fn lines(alloc: Global, name: &str, weights: &[u8]) -> Result<FoldedReader, AllocError>
+    ensures { IfOk result (λ reader. reader.told ≡ record { names = []; stacks = [] }) }
+{
     let mut text = Vec::new(alloc);
     let stack = Names::from_strs(alloc, &[name])?;
     for weight in weights {
