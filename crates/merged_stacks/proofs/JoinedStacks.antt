@@ -19,10 +19,10 @@ use Rattle.sample_tables.specs.declared.samples.TheConstants.{FRAME_LIMIT}
 use Rattle.std.proofs.lemmas.Bool.{lt-ltb}
 use Rattle.stack_core.specs.Ledgers.{ListState}
 use Rattle.sample_tables.specs.Rows.{name_at, sample_at}
-use Rattle.merged_stacks.specs.Order.{stack_cmp}
+use Rattle.merged_stacks.specs.Order.{stack_cmp, AreRising}
 use Rattle.merged_stacks.specs.Timeline.{Stack, total_weight, samples_of}
 use Rattle.merged_stacks.specs.Merged.{weighed, Weighed, sum_at, merged, merged_samples, all_samples, are_in_order, weight_at, if_positive}
-use Rattle.merged_stacks.specs.checked.Ranks.{AreRising, AreRanks, all_told}
+use Rattle.merged_stacks.specs.checked.Ranks.{AreRanks, all_told}
 use Rattle.merged_stacks.specs.checked.Ranked.{Ranked, join_front, joined, AreAscending, named_row, named_rows, sample_of, IsRankedStack, IsNamedBy, HasSums, AreMerged}
 use Rattle.merged_stacks.proofs.JoinedRows.{joined-total}
 use Rattle.merged_stacks.proofs.RankedNames.{above}

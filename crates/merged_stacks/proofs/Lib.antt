@@ -1,6 +1,7 @@
 pub mod JoinedRows
 pub mod JoinedStacks
 pub mod KeptStacks
+pub mod LentStacks
 pub mod MergedRows
 pub mod RankedNames
 pub mod SweptRows

@@ -14,7 +14,8 @@ use Rattle.std.proofs.lemmas.List.FromFn.{length-enumerate_from, get_or-enumerat
 use Rattle.std.proofs.lemmas.List.Sorted.{IsPermutation-sym, Contains-permutation, length_permutation}
 use Rattle.std.proofs.lemmas.List.{get_or-set_same, get_or-set_other, same_lists, get_or-map, get_or_default}
 use Rattle.std.proofs.lemmas.Bool.{cases_eq}
-use Rattle.merged_stacks.specs.checked.Ranks.{NameAt, placed_name, AreSorted, AreRanks, AreRising}
+use Rattle.merged_stacks.specs.Order.{AreRising}
+use Rattle.merged_stacks.specs.checked.Ranks.{NameAt, placed_name, AreSorted, AreRanks}
 
 -- a name behind the names, by its bytes
 pub enumerate_push : (n : ℕ) (xs : List (List ℕ)) (x : List ℕ) → enumerate_from n (xs ++ x ∷ []) ≡ enumerate_from n xs ++ (n + length xs, x) ∷ []

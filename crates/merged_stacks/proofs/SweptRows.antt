@@ -15,11 +15,10 @@ use Rattle.sample_tables.specs.declared.samples.TheConstants.{FRAME_LIMIT}
 use Rattle.sample_tables.specs.Rows.{name_at}
 use Rattle.merged_stacks.specs.declared.sweeps.Place.{Place}
 use Rattle.merged_stacks.specs.declared.sweeps.Place.TheVariants.{Before, After, Both}
-use Rattle.merged_stacks.specs.Order.{stack_cmp}
+use Rattle.merged_stacks.specs.Order.{stack_cmp, AreRising}
 use Rattle.merged_stacks.specs.Timeline.{Stack}
 use Rattle.merged_stacks.specs.Merged.{Weighed, weighed, sum_at, merged}
 use Rattle.merged_stacks.specs.Paired.{PairedStack, paired_at, paired_stacks, pair_at}
-use Rattle.merged_stacks.specs.checked.Ranks.{AreRising}
 use Rattle.merged_stacks.specs.checked.Ranked.{Ranked, named_row, named_rows, IsRankedStack, AreMerged}
 use Rattle.merged_stacks.specs.checked.Swept.{PairedRow, row_of_after, swept_front, swept, place_row, IsPlace, ArePaired, paired_of}
 use Rattle.merged_stacks.proofs.JoinedStacks.{stacks_rise, below_far, both, less_from, rows_merged}

@@ -4,6 +4,7 @@ use Rattle.sample_tables.specs.declared.samples.Sample.{Sample}
 use Rattle.merged_stacks.specs.declared.paired_sides.Side.TheVariants.{Before, After}
 use Rattle.merged_stacks.specs.Timeline.{Stack}
 use Rattle.merged_stacks.specs.Merged.{sum_at, stacks_of, merged, merged_samples}
+use Rattle.merged_stacks.specs.RankedStacks.{ranked_samples}
 use Rattle.merged_stacks.specs.Paired.{PairedStack, paired_stacks, side_samples}
 
 abbrev taken : Stack → ℕ → Sample
@@ -20,6 +21,11 @@ stacks_of_lines : merged_samples (taken (a ∷ b ∷ []) 2 ∷ taken (a ∷ []) 
     ≡ taken [] 5 ∷ taken (a ∷ []) 1 ∷ taken (a ∷ b ∷ []) 5 ∷ []
 unfolding sum_at stacks_of merged
 stacks_of_lines = refl
+
+-- each rank is replaced by its name
+stacks_by_rank : ranked_samples (record { names = a ∷ b ∷ []; rows = record { frames = 1 ∷ 0 ∷ 1 ∷ []; weight = 5 } ∷ record { frames = []; weight = 2 } ∷ [] })
+    ≡ taken (b ∷ a ∷ b ∷ []) 5 ∷ taken [] 2 ∷ []
+stacks_by_rank = refl
 
 abbrev pair : Stack → ℕ → ℕ → PairedStack
 pair stack before after = record { stack = stack; before = before; after = after }

@@ -1,5 +1,6 @@
 pub mod Merged
 pub mod Order
 pub mod Paired
+pub mod RankedStacks
 pub mod Timeline
 pub mod checked

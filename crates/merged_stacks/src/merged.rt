@@ -6,12 +6,15 @@ ghost use Rattle.sample_tables.specs.declared.samples.TheConstants.{FRAME_LIMIT}
 ghost use Rattle.sample_tables.specs.Rows.{name_at, sample_at, named};
 ghost use Rattle.merged_stacks.specs.Timeline.{total_weight, samples_of};
 ghost use Rattle.merged_stacks.specs.Merged.{weighed, all_samples, merged_samples, are_in_order};
+ghost use Rattle.merged_stacks.specs.Order.{AreRising};
+ghost use Rattle.merged_stacks.specs.RankedStacks.{ranked_samples, NamesEachRank};
 ghost use Rattle.merged_stacks.specs.checked.Ranks.{all_told};
 ghost use Rattle.merged_stacks.specs.checked.Ranked.{HasSums, IsNamedBy};
 ghost use Rattle.merged_stacks.specs.checked.Kept.{kept_samples, HaveSameSums};
 
 use crate::name_ranks::NameRanks;
 use crate::ranked_rows::RankedRows;
+use crate::ranked_stacks::RankedStacks;
 use crate::stack_rows::StackRows;
 use stack_core::SourceList;
 use std::alloc::{AllocError, Global};
@@ -97,6 +100,15 @@ impl MergedStacks {
     {
         let rank = self.rows.ranks(at)[frame];
         self.names[rank].as_str()
+    }
+
+    /// The same stacks, in the same order, by the ranks of their names. Each name is lent once.
+    pub fn by_rank(&self) -> RankedStacks<'_>
+        ensures samples { ranked_samples result ≡ self.now }
+        ensures rising { AreRising result.names }
+        ensures known { NamesEachRank result }
+    {
+        RankedStacks::over(&self.names, &self.rows)
     }
 }
 

@@ -5,7 +5,8 @@ ghost use Rattle.std.specs.List.{enumerate_from};
 ghost use Rattle.std.specs.Ordering.{nat_cmp, is_lt};
 ghost use Rattle.std.specs.Cmp.Lexicographic.{slice_cmp};
 ghost use Rattle.sample_tables.specs.Rows.{name_at};
-ghost use Rattle.merged_stacks.specs.checked.Ranks.{placed_name, all_told, AreSorted, AreRanks, AreRising, Grows};
+ghost use Rattle.merged_stacks.specs.Order.{AreRising};
+ghost use Rattle.merged_stacks.specs.checked.Ranks.{placed_name, all_told, AreSorted, AreRanks, Grows};
 
 use stack_core::SourceList;
 use std::alloc::{AllocError, Global};

@@ -5,7 +5,7 @@ ghost use Rattle.sample_tables.specs.declared.samples.TheConstants.{FRAME_LIMIT}
 ghost use Rattle.sample_tables.specs.Rows.{name_at};
 ghost use Rattle.merged_stacks.specs.Timeline.{total_weight};
 ghost use Rattle.merged_stacks.specs.Paired.{paired_stacks, pair_at};
-ghost use Rattle.merged_stacks.specs.checked.Ranks.{AreRising};
+ghost use Rattle.merged_stacks.specs.Order.{AreRising};
 ghost use Rattle.merged_stacks.specs.checked.Ranked.{IsNamedBy};
 ghost use Rattle.merged_stacks.specs.checked.Swept.{HasStacks};
 

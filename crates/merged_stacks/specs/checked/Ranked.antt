@@ -6,11 +6,12 @@ use Rattle.std.specs.Cmp.Lexicographic.{slice_cmp, pointwise}
 use denote.Ref.{Bor}
 use Rattle.sample_tables.specs.declared.samples.Sample.{Sample}
 use Rattle.sample_tables.specs.declared.samples.TheConstants.{FRAME_LIMIT}
-use Rattle.sample_tables.specs.Rows.{name_at}
+use Rattle.sample_tables.specs.Rows.{Row, name_at}
 use Rattle.merged_stacks.specs.declared.ranked_rows.RankedRow.{RankedRow}
 use Rattle.merged_stacks.specs.Timeline.{Stack, total_weight}
 use Rattle.merged_stacks.specs.Merged.{weighed, Weighed, sum_at, are_in_order}
-use Rattle.merged_stacks.specs.checked.Ranks.{AreRising}
+use Rattle.merged_stacks.specs.Order.{AreRising}
+use Rattle.merged_stacks.specs.RankedStacks.{Ranking}
 
 -- the ranks of a stack's names, and a weight
 abbrev pub Ranked : Type 0
@@ -63,6 +64,13 @@ named_rows names rows = map (named_row names) rows
 -- the same as a sample
 abbrev pub sample_of : List (List ℕ) → Ranked → Sample
 sample_of names row = record { stack = map (name_at names) row.0; weight = row.1 }
+
+-- names and rows as what is lent of them
+abbrev pub lent_row : Ranked → Row
+lent_row row = record { frames = row.0; weight = row.1 }
+
+abbrev pub ranking_of : List (List ℕ) → List Ranked → Ranking
+ranking_of names rows = record { names = names; rows = map lent_row rows }
 
 -- a row with weight, within the limits, whose ranks all have names
 pub record IsRankedStack (names : List (List ℕ)) (row : Ranked) : Type 0 where

@@ -3,10 +3,10 @@ use Rattle.std.specs.Prelude.{◌≡◌, ℕ, ◌+◌, ◌<◌, ◌++◌, List, 
 use Rattle.std.specs.List.{flat_map}
 use Rattle.std.specs.Ordering.{nat_cmp, is_lt}
 use Rattle.std.specs.Cmp.Lexicographic.{slice_cmp}
-use Rattle.std.specs.declared.cmp.Ordering.TheVariants.{Less}
 use denote.Ref.{Bor}
 use Rattle.stack_core.specs.Ledgers.{ListState}
 use Rattle.sample_tables.specs.Rows.{name_at}
+use Rattle.merged_stacks.specs.Order.{AreRising}
 
 -- a told name, and its place among those of all lists
 abbrev pub NameAt : Type 0
@@ -18,10 +18,6 @@ placed_name told = (told.1, told.0.now)
 -- the told names, list by list
 abbrev pub all_told : List ListState → List (List ℕ)
 all_told lists = flat_map (λ list. list.told) lists
-
--- each name is below those after it
-abbrev pub AreRising : List (List ℕ) → Type 0
-AreRising names = (i j : ℕ) → i < j → j < length names → slice_cmp nat_cmp (name_at names i) (name_at names j) ≡ Less
 
 -- each of the names stands once among these, at its place, and none is below the one before it
 pub record AreSorted (names : List (List ℕ)) (told : List NameAt) : Type 0 where

@@ -1,6 +1,7 @@
 use Rattle.std.proofs.Common.{◌≡◌, ◌+◌, ◌-◌, ℕ, length, map, get_or, string_bytes}
 use Rattle.sample_tables.specs.Rows.{name_at}
-use Rattle.merged_stacks.specs.checked.Ranks.{NameAt, AreRising}
+use Rattle.merged_stacks.specs.Order.{AreRising}
+use Rattle.merged_stacks.specs.checked.Ranks.{NameAt}
 use Rattle.merged_stacks.proofs.RankedNames.{AreRanked}
 use Rattle.merged_stacks.proofs.name_ranks.rank.Given as goal
 

@@ -3,7 +3,7 @@ use Rattle.std.specs.Ordering.{nat_cmp}
 use Rattle.std.specs.Cmp.Lexicographic.{slice_cmp}
 use Rattle.sample_tables.specs.Rows.{name_at}
 use Rattle.std.proofs.lemmas.List.{map_push, length-map}
-use Rattle.merged_stacks.specs.checked.Ranks.{AreRising}
+use Rattle.merged_stacks.specs.Order.{AreRising}
 use Rattle.merged_stacks.proofs.RankedNames.{rising_push}
 use Rattle.merged_stacks.proofs.name_ranks.rank_next.Goals as goal
 

@@ -1,0 +1,73 @@
+//! Merged stacks by the ranks of their names.
+
+ghost use Rattle.std.specs.Prelude.{◌≡◌, ◌<◌, length, map, string_bytes};
+ghost use Rattle.sample_tables.specs.Rows.{name_at, row_at};
+ghost use Rattle.merged_stacks.specs.checked.Ranked.{ranking_of};
+
+use crate::ranked_rows::RankedRows;
+use std::marker::Model;
+
+/// The merged stacks that `MergedStacks::by_rank` lends, by the ranks of their names: a name's rank is
+/// its place among all names. Contracts see the names, and each stack as its ranks and its weight.
+#[derive(Drop)]
+pub struct RankedStacks<'a> {
+    names: &'a [String],
+    rows: &'a RankedRows,
+}
+
+impl<'a> Model for RankedStacks<'a> {
+    ghost use Rattle.std.specs.Prelude.{map, string_bytes};
+    ghost use Rattle.merged_stacks.specs.RankedStacks.{Ranking};
+    ghost use Rattle.merged_stacks.specs.checked.Ranked.{ranking_of};
+
+    ghost Value = { Ranking };
+
+    ghost view = { λ r. ranking_of (map string_bytes r.names.now) r.rows.now };
+}
+
+impl<'a> RankedStacks<'a> {
+    pub(crate) fn over(names: &'a [String], rows: &'a RankedRows) -> Self
+        ensures { result ≡ ranking_of (map string_bytes names.now) rows.now }
+    {
+        RankedStacks { names, rows }
+    }
+
+    /// How many names there are. Some may stand in no stack.
+    pub fn name_count(&self) -> usize
+        ensures { result ≡ length self.now.names }
+    {
+        self.names.len()
+    }
+
+    /// The name of a rank.
+    pub fn name(&self, rank: usize) -> &'a str
+        requires { rank < length self.now.names }
+        ensures { result.now ≡ name_at self.now.names rank }
+    {
+        let names = self.names;
+        names[rank].as_str()
+    }
+
+    /// How many stacks there are.
+    pub fn len(&self) -> usize
+        ensures { result ≡ length self.now.rows }
+    {
+        self.rows.len()
+    }
+
+    /// The weight of stack `at`.
+    pub fn weight(&self, at: usize) -> u64
+        requires { at < length self.now.rows }
+        ensures { result ≡ (row_at self.now.rows at).weight }
+    {
+        self.rows.weight(at)
+    }
+
+    /// The ranks of the names of stack `at`, root first.
+    pub fn ranks(&self, at: usize) -> &'a [usize]
+        requires { at < length self.now.rows }
+        ensures { result.now ≡ (row_at self.now.rows at).frames }
+    {
+        self.rows.ranks(at)
+    }
+}
