@@ -9,7 +9,7 @@ use Rattle.std.specs.Cmp.Lexicographic.{slice_cmp}
 use Rattle.std.specs.FinMap.{slice_cmp-IsAntisymmetric, nat_cmp-IsAntisymmetric}
 use Rattle.std.specs.declared.cmp.Ordering.{Ordering}
 use Rattle.std.specs.declared.cmp.Ordering.TheVariants.{Less, Equal, Greater}
-use Rattle.std.proofs.lemmas.Bool.{cases_Bool, false_from_ne_true, true≢false}
+use Rattle.std.proofs.lemmas.Bool.{cases_Bool, false_from_ne_true, ltb-true, true≢false}
 use Rattle.std.proofs.lemmas.Bool.Decides.{same_from_decides}
 use Rattle.std.proofs.lemmas.Cmp.{nat_cmp_total, nat_list_cmp_total, then_total, on_total, back_total}
 use Rattle.std.proofs.lemmas.Slice.Eq.{bytes_eq-Decides}
@@ -20,15 +20,16 @@ use Rattle.std.proofs.lemmas.Map.Keys.{IsDistinct-IsPermutation, IsDistinct-from
 use Rattle.std.proofs.lemmas.Map.Views.{Contains-from_any}
 use Rattle.sample_tables.specs.declared.samples.Sample.{Sample}
 use Rattle.sample_tables.specs.Rows.{name_at}
-use Rattle.call_tree.specs.FrameTable.{HasDistinctNames}
+use Rattle.merged_stacks.specs.Order.{AreRising}
+use Rattle.merged_stacks.proofs.JoinedStacks.{names_distinct}
 use Rattle.flame_layout.specs.Paths.{SameOwn}
 use Rattle.flame_layout.proofs.Sums.{same_tested, same_sums}
-use Rattle.function_sums.specs.declared.counts.Count.{Count}
 use Rattle.function_sums.specs.declared.sums.FunctionSum.{FunctionSum}
 use Rattle.run_options.specs.declared.orders.FunctionOrder.{FunctionOrder as Order}
 use Rattle.function_sums.specs.FunctionSums.{stands_in, ends, own_of, total_of, sums_of, weight_of, sum_cmp, AreFunctionSums}
-use Rattle.function_sums.specs.checked.Counted.{AreCounts}
+use Rattle.function_sums.specs.checked.Counted.{has_weight, names_with_weight}
 use Rattle.function_sums.specs.checked.Rows.{Row, row_sum}
+use Rattle.function_sums.proofs.NamesWithWeight.{each_weighs, stays, filter-apart}
 
 abbrev pub row_cmp : Row → Row → Ordering
 row_cmp a b = ordering_then (ordering_then (ordering_then (nat_cmp b.0.0 a.0.0) (slice_cmp nat_cmp a.1.now b.1.now)) (nat_cmp a.2 b.2)) (nat_cmp a.3 b.3)
@@ -82,43 +83,45 @@ ordered by sorted apart keys up row =
     let names : bytes_eq a.1.now b.1.now ≡ false = (λ i. same (sym at i) (sym after i)) ∙ apart_from_distinct same (map row_sum sorted) k (k + 1) no_sum apart (omega arith) lt in
     (λ i. sum_cmp by (at i) (after i)) ∙ in_order by a b (keys k row (omega (arith, next))) (keys (k + 1) row next) names (up k row (omega arith) next))
 
-module _ (by : Order) (stacks : List Sample) (names : List (List ℕ)) (counts : List Count) (stamp : ℕ) (are : AreCounts names counts stacks [] 0 stamp) (apart : HasDistinctNames names)
-    (rows sorted : List Row) (sums : map row_sum rows ≡ map (sums_of stacks) names) (keys : All (λ row. row.0.0 ≡ weight_of by (row_sum row)) rows) (perm : IsPermutation rows sorted)
+module _ (by : Order) (stacks : List Sample) (names : List (List ℕ)) (rising : AreRising names) (weightless : (name : List ℕ) → list_any (bytes_eq name) names ≡ false → total_of name stacks ≡ 0)
+    (rows sorted : List Row) (sums : map row_sum rows ≡ map (sums_of stacks) (names_with_weight stacks names)) (keys : All (λ row. row.0.0 ≡ weight_of by (row_sum row)) rows) (perm : IsPermutation rows sorted)
     (up : (k : ℕ) (d : Row) → 0 ≤ k → k + 1 < length sorted → is_lt (row_cmp (get_or sorted (k + 1) d) (get_or sorted k d)) ≡ false) where
-  moved : IsPermutation (map (sums_of stacks) names) (map row_sum sorted)
+  abbrev kept : List (List ℕ)
+  kept = names_with_weight stacks names
+
+  moved : IsPermutation (map (sums_of stacks) kept) (map row_sum sorted)
   moved = subst (λ (all : List FunctionSum). IsPermutation all (map row_sum sorted)) sums (IsPermutation-map row_sum rows sorted perm)
 
-  named : IsPermutation names (map (λ (sum : FunctionSum). sum.name) (map row_sum sorted))
-  named = subst (λ (all : List (List ℕ)). IsPermutation all (map (λ (sum : FunctionSum). sum.name) (map row_sum sorted))) (names_back stacks names) (IsPermutation-map (λ (sum : FunctionSum). sum.name) _ _ moved)
+  named : IsPermutation kept (map (λ (sum : FunctionSum). sum.name) (map row_sum sorted))
+  named = subst (λ (all : List (List ℕ)). IsPermutation all (map (λ (sum : FunctionSum). sum.name) (map row_sum sorted))) (names_back stacks kept) (IsPermutation-map (λ (sum : FunctionSum). sum.name) _ _ moved)
 
-  once : IsDistinct same (map (sums_of stacks) names)
-  once = IsDistinct-from_apart same (map (sums_of stacks) names) (λ i j d below within.
+  once : IsDistinct same (map (sums_of stacks) kept)
+  once = filter-apart same (sums_of stacks) (has_weight stacks) names (IsDistinct-from_apart same (map (sums_of stacks) names) (λ i j d below within.
       let long = length-map names (sums_of stacks) in
       let one = get_or-map (sums_of stacks) names i [] d (omega (arith, below, within, long)) in
       let other = get_or-map (sums_of stacks) names j [] d (omega (arith, within, long)) in
-      (λ k. same (one k) (other k)) ∙ false_from_ne_true _ (λ hit. absurd (omega (arith, below, apart i j (omega (arith, below, within, long)) (omega (arith, within, long)) ((bytes_eq-Decides (name_at names i) (name_at names j)).0 hit)))))
+      (λ k. same (one k) (other k)) ∙ false_from_ne_true _ (λ hit. absurd (omega (arith, below, names_distinct names rising i j (omega (arith, below, within, long)) (omega (arith, within, long)) ((bytes_eq-Decides (name_at names i) (name_at names j)).0 hit))))))
 
   in_table : (name : List ℕ) → Contains (map (λ (sum : FunctionSum). sum.name) (map row_sum sorted)) name ↔ (0 < total_of name stacks)
   in_table name = (weighs, stands)
     where
       weighs : Contains (map (λ (sum : FunctionSum). sum.name) (map row_sum sorted)) name → 0 < total_of name stacks
       weighs there =
-          let at = Contains-permutation (map (λ (sum : FunctionSum). sum.name) (map row_sum sorted)) names name (IsPermutation-sym names _ named) there in
-          let count = are.each at.0 (record { own = 0; total = 0; stamp = 0 }) at.1 in
-          subst (λ one. 0 < total_of one stacks) (get_or_default names at.0 [] name at.1 ∙ at.2) (omega (arith, count.total, count.positive))
+          let at = Contains-permutation (map (λ (sum : FunctionSum). sum.name) (map row_sum sorted)) kept name (IsPermutation-sym kept _ named) there in
+          subst (λ one. 0 < total_of one stacks) (get_or_default kept at.0 [] name at.1 ∙ at.2) (ltb-true 0 (total_of (name_at kept at.0) stacks) (each_weighs stacks names at.0 [] at.1))
 
       stands : 0 < total_of name stacks → Contains (map (λ (sum : FunctionSum). sum.name) (map row_sum sorted)) name
       stands weight =
-          ⊎_elim (λ hit. Contains-permutation names _ name named (Contains-from_any (λ x y t. (bytes_eq-Decides x y).0 t) name names hit))
-          (λ miss. absurd (omega (arith, weight, are.total name miss))) (cases_Bool (list_any (bytes_eq name) names))
+          ⊎_elim (λ hit. Contains-permutation kept _ name named (Contains-from_any (λ x y t. (bytes_eq-Decides x y).0 t) name kept (stays stacks name names weight hit)))
+          (λ miss. absurd (omega (arith, weight, weightless name miss))) (cases_Bool (list_any (bytes_eq name) names))
 
   in_rows : (xs : List Row) → sorted ≡ xs → IsStrictlySortedBy (sum_cmp by) (map row_sum sorted)
   in_rows [] e = sorted_from_all_adjacent (sum_total by) (map row_sum sorted) no_sum (λ k lt. absurd (omega (arith, lt, length-map sorted row_sum, ap length e)))
-  in_rows (row ∷ rest) e = ordered by sorted (IsDistinct-IsPermutation same same-flips (map (sums_of stacks) names) (map row_sum sorted) moved once) (All-permutation (λ (one : Row). one.0.0 ≡ weight_of by (row_sum one)) rows sorted perm keys) up row
+  in_rows (row ∷ rest) e = ordered by sorted (IsDistinct-IsPermutation same same-flips (map (sums_of stacks) kept) (map row_sum sorted) moved once) (All-permutation (λ (one : Row). one.0.0 ≡ weight_of by (row_sum one)) rows sorted perm keys) up row
 
   table_of_stacks : AreFunctionSums by stacks (map row_sum sorted)
   table_of_stacks = record {
-    each = All-permutation (λ (sum : FunctionSum). sum ≡ sums_of stacks sum.name) (map (sums_of stacks) names) (map row_sum sorted) moved (All-map (λ (sum : FunctionSum). sum ≡ sums_of stacks sum.name) (sums_of stacks) names (λ k d lt. refl));
+    each = All-permutation (λ (sum : FunctionSum). sum ≡ sums_of stacks sum.name) (map (sums_of stacks) kept) (map row_sum sorted) moved (All-map (λ (sum : FunctionSum). sum ≡ sums_of stacks sum.name) (sums_of stacks) kept (λ k d lt. refl));
     all = in_table;
     ordered = in_rows sorted refl;
   }

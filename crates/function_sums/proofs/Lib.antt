@@ -1,5 +1,6 @@
 pub mod Counting
 pub mod FunctionList
 pub mod Functions
+pub mod NamesWithWeight
 pub mod OneTable
 mod WorkedRows

@@ -3,13 +3,13 @@
 ghost use Rattle.std.specs.Prelude.{◌≡◌, ◌≤◌, ◌<◌, ℕ, [], List, All, IfOk, length, map};
 ghost use Rattle.sample_tables.specs.declared.samples.Sample.{Sample};
 ghost use Rattle.function_sums.specs.FunctionSums.{sums_of, weight_of};
-ghost use Rattle.function_sums.specs.checked.Counted.{AreCounts};
+ghost use Rattle.function_sums.specs.checked.Counted.{AreCounts, names_with_weight};
 ghost use Rattle.function_sums.specs.checked.Rows.{row_sum};
 
 use crate::Order;
 use crate::counts::Count;
 use crate::sums::FunctionSum;
-use call_tree::FrameTable;
+use merged_stacks::RankedStacks;
 use stack_core::Text;
 use std::alloc::{AllocError, Global};
 use std::cmp::Reverse;
@@ -18,22 +18,25 @@ use std::cmp::Reverse;
 /// heaviest comes first, and of the same weight the one with the lower name.
 pub(crate) type Row<'a> = (Reverse<u64>, &'a str, u64, u64);
 
-/// The row of each name, in the order of their numbers.
+/// The row of each name that stands in a stack, in the order of their ranks.
 pub(crate) fn rows<'a>(
     alloc: Global,
-    table: &'a FrameTable,
+    stacks: &RankedStacks<'a>,
     counts: &[Count],
     by: Order,
 ) -> Result<Vec<Row<'a>>, AllocError>
-    requires { length counts.now ≡ length table.now }
+    requires { length counts.now ≡ length stacks.now.names }
     ensures keys { IfOk result (λ rows. All (λ row. row.0.0 ≡ weight_of by (row_sum row)) rows.items) }
     ensures sums { IfOk result (λ rows. (samples : List Sample) (stamp : ℕ)
-        → AreCounts table.now counts.now samples [] 0 stamp
-        → map row_sum rows.items ≡ map (sums_of samples) table.now) }
+        → AreCounts stacks.now.names counts.now samples [] 0 stamp
+        → map row_sum rows.items ≡ map (sums_of samples) (names_with_weight samples stacks.now.names)) }
 {
     let mut rows = Vec::with_capacity(alloc, counts.len())?;
-    for number in 0..counts.len() {
-        rows.push(row(table.name(number), counts[number], by))?;
+    for rank in 0..counts.len() {
+        let count = counts[rank];
+        if count.total > 0 {
+            rows.push(row(stacks.name(rank), count, by))?;
+        }
     }
     Ok(rows)
 }

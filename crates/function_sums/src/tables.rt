@@ -1,9 +1,10 @@
 //! The table of the functions.
 
-ghost use Rattle.std.specs.Prelude.{◌≡◌, ◌+◌, ◌<◌, ◌≤◌, ◌^◌, ℕ, [], List, IfOk, OnOk, length};
+ghost use Rattle.std.specs.Prelude.{◌≡◌, ℕ, [], List, IfOk};
 ghost use Rattle.sample_tables.specs.declared.samples.Sample.{Sample};
-ghost use Rattle.call_tree.specs.FrameTable.{HasDistinctNames};
 ghost use Rattle.flame_layout.specs.Paths.{SameOwn};
+ghost use Rattle.merged_stacks.specs.Order.{AreRising};
+ghost use Rattle.merged_stacks.specs.RankedStacks.{ranked_samples, NamesEachRank};
 ghost use Rattle.function_sums.specs.FunctionSums.{AreFunctionSums};
 ghost use Rattle.function_sums.specs.checked.Counted.{AreCounts};
 
@@ -11,8 +12,7 @@ use crate::Order;
 use crate::counts::{Count, count_stack};
 use crate::rows::{rows, sums};
 use crate::sums::FunctionSum;
-use call_tree::FrameTable;
-use flame_layout::MergedStacks;
+use merged_stacks::{MergedStacks, RankedStacks};
 use std::alloc::{AllocError, Global};
 
 /// The sums of all functions of some samples, the heaviest first: of every list of samples whose
@@ -25,26 +25,32 @@ pub fn function_sums(
     ensures { IfOk result (λ sums. (samples : List Sample) → SameOwn samples merged.now
         → AreFunctionSums by samples sums.items) }
 {
-    let mut table = FrameTable::new(alloc);
-    let counts = count_all(alloc, &mut table, merged)?;
-    let mut rows = rows(alloc, &table, &counts, by)?;
+    let stacks = merged.by_rank();
+    let counts = count_all(alloc, merged, &stacks)?;
+    let mut rows = rows(alloc, &stacks, &counts, by)?;
     rows.sort_unstable();
     sums(alloc, &rows)
 }
 
-/// Counts all stacks. Their names are put into the table.
+/// Counts all stacks.
 fn count_all(
     alloc: Global,
-    table: &mut FrameTable,
     merged: &MergedStacks,
+    stacks: &RankedStacks<'_>,
 ) -> Result<Vec<Count>, AllocError>
-    requires { table.old ≡ [] }
-    ensures distinct { OnOk result (HasDistinctNames table.new) }
-    ensures counted { IfOk result (λ counts. (stamp : ℕ) × AreCounts table.new counts.items merged.now [] 0 stamp) }
+    requires samples { ranked_samples stacks.now ≡ merged.now }
+    requires rising { AreRising stacks.now.names }
+    requires known { NamesEachRank stacks.now }
+    ensures { IfOk result (λ counts. (stamp : ℕ) × AreCounts stacks.now.names counts.items merged.now [] 0 stamp) }
 {
-    let mut counts = Vec::new(alloc);
+    let none = Count {
+        own: 0,
+        total: 0,
+        stamp: 0,
+    };
+    let mut counts = vec![in alloc; none; stacks.name_count()]?;
     for at in 0..merged.len() {
-        count_stack(table, &mut counts, merged, at)?;
+        count_stack(&mut counts, stacks, at);
     }
     Ok(counts)
 }

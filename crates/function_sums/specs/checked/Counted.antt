@@ -1,7 +1,5 @@
 -- What is counted of each name, stack by stack and frame by frame.
-use Rattle.std.specs.Prelude.{◌≡◌, ℕ, ◌+◌, ◌<◌, true, false, List, length, nat_lt, slice_index_or, if◌then◌else◌}
-use Rattle.std.specs.List.{list_any}
-use Rattle.std.specs.Str.{bytes_eq}
+use Rattle.std.specs.Prelude.{◌≡◌, ℕ, ◌+◌, ◌<◌, Bool, true, false, List, length, filter, nat_lt, slice_index_or, if◌then◌else◌}
 use Rattle.sample_tables.specs.declared.samples.Sample.{Sample}
 use Rattle.sample_tables.specs.Rows.{name_at}
 use Rattle.merged_stacks.specs.Timeline.{Stack}
@@ -19,12 +17,15 @@ pub record IsCount (name : List ℕ) (done : List Sample) (front : Stack) (weigh
   pub total : count.total ≡ total_of name done + (if stands_in name front then weight else 0)
   pub marked : stands_in name front ≡ true → count.stamp ≡ stamp
   pub unmarked : stands_in name front ≡ false → count.stamp < stamp
-  pub positive : 0 < count.total
 
--- the names are all that came, and each has its count
+-- each name has its count
 pub record AreCounts (names : List (List ℕ)) (counts : List Count) (done : List Sample) (front : Stack) (weight stamp : ℕ) : Type 0 where
   pub many : length counts ≡ length names
   pub each : (i : ℕ) (d : Count) → i < length names → IsCount (name_at names i) done front weight stamp (slice_index_or counts i d)
-  pub own : (name : List ℕ) → list_any (bytes_eq name) names ≡ false → own_of name done ≡ 0
-  pub total : (name : List ℕ) → list_any (bytes_eq name) names ≡ false → total_of name done ≡ 0
-  pub front_is : (name : List ℕ) → list_any (bytes_eq name) names ≡ false → stands_in name front ≡ false
+
+-- the names that stand in a sample with weight
+abbrev pub has_weight : List Sample → List ℕ → Bool
+has_weight samples name = nat_lt 0 (total_of name samples)
+
+abbrev pub names_with_weight : List Sample → List (List ℕ) → List (List ℕ)
+names_with_weight samples names = filter (has_weight samples) names

@@ -1,74 +1,68 @@
-use Rattle.std.proofs.Common.{◌≡◌, ◌∙◌, ◌+◌, ◌-◌, ◌<◌, ◌++◌, ◌∷◌, ◌^◌, ℕ, List, [], ap, subst, sym, length, take, set, get_or, arith}
-use Rattle.std.proofs.lemmas.List.{take_more, take_all, get_or_default}
-use Rattle.std.proofs.lemmas.Option.{get_or_from_slice_get}
+use Rattle.std.proofs.Common.{ℕ, ◌+◌, ◌-◌, ◌<◌, ◌^◌, List, [], length, map, take, set, get_or, refl, sym, ap, subst, arith}
+use Rattle.std.proofs.lemmas.List.{take_all, map_more, length-map}
+use Rattle.std.proofs.lemmas.Option.{slice_get_within}
 use Rattle.sample_tables.specs.declared.samples.Sample.{Sample}
-use Rattle.sample_tables.specs.Rows.{sample_at, name_at}
-use Rattle.function_sums.specs.declared.counts.Count.{Count}
-use Rattle.function_sums.specs.checked.Counted.{AreCounts, counted}
-use Rattle.function_sums.proofs.Counting.{first_count, with_own, stack_begins, total_room, own_room, frame_more, stack_ended}
+use Rattle.sample_tables.specs.Rows.{name_at}
+use Rattle.merged_stacks.specs.RankedStacks.{ranked_samples}
+use Rattle.function_sums.specs.checked.Counted.{AreCounts}
+use Rattle.function_sums.proofs.Counting.{none, with_own, stack_more, ranks_below, last_below, last_name, total_room, own_room, frame_more, stack_empty, stack_ended}
 use Rattle.function_sums.proofs.counts.count_stack.Goals as goal
 
-pub loop-frame-init : goal.loop-frame-init
-loop-frame-init c = record {
-  distinct = c.requires.distinct;
-  counted = stack_begins c.args.table.now c.args.counts.now.items (take c.args.at c.args.merged.now) (sample_at c.args.merged.now c.args.at).weight (c.args.at + 1) c.requires.counted;
-  last = λ h. absurd (omega (arith, h));
-}
-
--- the samples so far, with this one
-one_more : (stacks : List Sample) (at : ℕ) → at < length stacks → take (at + 1) stacks ≡ take at stacks ++ sample_at stacks at ∷ []
-one_more stacks at within = take_more stacks at (record { stack = []; weight = 0 }) within
+-- the stack, by its names
+abbrev by_name : List (List ℕ) → List ℕ → ℕ → Sample
+by_name names ranks weight = record { stack = map (name_at names) ranks; weight = weight }
 
 pub count_frame-requires-clause-room : goal.count_frame-requires-clause-room
 count_frame-requires-clause-room c k d lt below =
-    let sample = sample_at c.args.merged.now c.args.at in
-    let room = total_room c.loop-frame.table c.loop-frame.counts.items c.args.merged.now c.args.at sample (take c.loop-frame.frame sample.stack) (c.args.at + 1) (2 ^ 64) (one_more c.args.merged.now c.args.at c.requires.at) c.requires.total c.loop-frame.invariant.counted k d lt below in
-    omega (arith, room, c.weight-weight.ensures)
+    let names = c.args.stacks.now.names in
+    let ranks = c.ranks-ranks.result.now in
+    let weight = c.weight-weight.result in
+    let more = stack_more c.args.stacks.now c.args.at weight ranks c.requires.at c.weight-weight.ensures c.ranks-ranks.ensures in
+    omega (arith, total_room names c.loop-rank.counts (ranked_samples c.args.stacks.now) c.args.at (by_name names ranks weight) (map (name_at names) (take c.loop-rank.rank-index ranks)) (c.args.at + 1) (2 ^ 64) more c.requires.total c.loop-rank.invariant k d lt below)
 
-pub loop-frame-preserved : goal.loop-frame-preserved
-loop-frame-preserved c =
-    let sample = sample_at c.args.merged.now c.args.at in
-    let counts = c.loop-frame.counts.items in
-    let after = c.count_frame.new.counts.items in
-    let frame = c.loop-frame.frame in
-    let name = c.name.result.now in
-    let n = c.in_ok-last.last in
-    let stamp = c.args.at + 1 in
-    let front : take (frame + 1) sample.stack ≡ take frame sample.stack ++ name ∷ [] =
-    take_more sample.stack frame [] (omega (arith, c.loop-frame-test.true, c.depth-depth.ensures.value)) ∙ ap (λ one. take frame sample.stack ++ one ∷ []) (sym c.name.ensures) in
-    let first = subst (λ w. n ≡ length counts → after ≡ counts ++ first_count w stamp ∷ []) c.weight-weight.ensures c.in_ok-count_frame.ensures.first in
-    let known = subst (λ w. (d : Count) → n < length counts → after ≡ set counts n (counted w stamp (get_or counts n d))) c.weight-weight.ensures c.in_ok-count_frame.ensures.known in
-    record {
-      distinct = c.in_ok-last.ensures.distinct;
-      counted = subst (λ all. AreCounts c.intern.new.self after (take c.args.at c.args.merged.now) all sample.weight stamp) (sym front)
-          (frame_more c.loop-frame.table c.intern.new.self counts after (take c.args.at c.args.merged.now) (take frame sample.stack) sample.weight stamp name n c.loop-frame.invariant.counted c.in_ok-last.ensures.distinct
-          c.in_ok-last.ensures.names c.in_ok-last.ensures.number c.in_ok-last.ensures.below c.requires.weight first known);
-      last = λ _. (c.in_ok-last.ensures.below, get_or_from_slice_get c.intern.new.self n name [] c.in_ok-last.ensures.number ∙ (c.name.ensures ∙ ap (name_at sample.stack) (omega arith)));
-    }
+pub loop-rank-preserved : goal.loop-rank-preserved
+loop-rank-preserved c =
+    let names = c.args.stacks.now.names in
+    let ranks = c.ranks-ranks.result.now in
+    let i = c.loop-rank.rank-index in
+    let done = take c.args.at (ranked_samples c.args.stacks.now) in
+    let below = ranks_below c.args.stacks.now c.args.at ranks c.requires.known c.requires.at c.ranks-ranks.ensures in
+    subst (λ front. AreCounts names c.count_frame.new.counts done front c.weight-weight.result (c.args.at + 1)) (sym (map_more (name_at names) ranks i 0 (omega arith)))
+    (frame_more names c.loop-rank.counts c.count_frame.new.counts done (map (name_at names) (take i ranks)) c.weight-weight.result (c.args.at + 1) (get_or ranks i 0) c.loop-rank.invariant c.requires.rising (below i 0 (omega arith)) c.count_frame.ensures)
 
-pub overflow_add-index_mut : goal.overflow_add-index_mut
-overflow_add-index_mut c =
-    let sample = sample_at c.args.merged.now c.args.at in
-    let last = c.loop-frame.invariant.last (omega (arith, c.loop-frame-test.false, c.if-depth-gt0.true)) in
-    let room = own_room c.loop-frame.table c.loop-frame.counts.items c.args.merged.now c.args.at sample (take c.loop-frame.frame sample.stack) (c.args.at + 1) (2 ^ 64) (one_more c.args.merged.now c.args.at c.requires.at) c.requires.total c.loop-frame.invariant.counted c.loop-frame.last c.index_mut.result.now last.0 in
-    omega (arith, room, ap (λ (count : Count). count.own) c.index_mut.ensures.value, c.weight-weight.ensures)
+pub overflow_add-counts : goal.overflow_add-counts
+overflow_add-counts c =
+    let names = c.args.stacks.now.names in
+    let ranks = c.ranks-ranks.result.now in
+    let weight = c.weight-weight.result in
+    let more = stack_more c.args.stacks.now c.args.at weight ranks c.requires.at c.weight-weight.ensures c.ranks-ranks.ensures in
+    let below = ranks_below c.args.stacks.now c.args.at ranks c.requires.known c.requires.at c.ranks-ranks.ensures in
+    let within = last_below ranks (length names) c.in-Some.last.now below (sym c.in-Some.ensures.value) in
+    omega (arith, own_room names c.loop-rank.counts (ranked_samples c.args.stacks.now) c.args.at (by_name names ranks weight) (map (name_at names) (take c.loop-rank.rank-index ranks)) (c.args.at + 1) (2 ^ 64) more c.requires.total c.loop-rank.invariant c.in-Some.last.now none within)
 
-pub returns-then-depth-gt0-clause-counted : goal.returns-then-depth-gt0-clause-counted
-returns-then-depth-gt0-clause-counted c =
-    let sample = sample_at c.args.merged.now c.args.at in
-    let names = c.loop-frame.table in
-    let counts = c.loop-frame.counts.items in
-    let n = c.loop-frame.last in
-    let old = c.index_mut.result.now in
-    let stamp = c.args.at + 1 in
-    let done = take c.args.at c.args.merged.now in
-    let last = c.loop-frame.invariant.last (omega (arith, c.loop-frame-test.false, c.if-depth-gt0.true)) in
-    let whole : c.loop-frame.frame ≡ length sample.stack = omega (arith, c.loop-frame-test.false, c.loop-frame.auto.frame-end, c.depth-depth.ensures.value) in
-    let are = subst (λ all. AreCounts names counts done all sample.weight stamp) (take_all c.loop-frame.frame sample.stack (omega (arith, whole))) c.loop-frame.invariant.counted in
-    let after = set counts n (record { own = old.own + c.weight-weight.result; total = old.total; stamp = old.stamp }) in
-    let within : n < length counts = omega (arith, last.0, are.many) in
-    let put : (d : Count) → after ≡ set counts n (with_own sample.weight (get_or counts n d)) =
-    λ d. (let is : old ≡ get_or counts n d = c.index_mut.ensures.value ∙ get_or_default counts n old d within in
-    (λ i. set counts n (record { own = (is i).own + c.weight-weight.ensures i; total = (is i).total; stamp = (is i).stamp }))) in
-    subst (λ all. AreCounts names after all [] 0 (stamp + 1)) (sym (one_more c.args.merged.now c.args.at c.requires.at))
-    (stack_ended names counts done sample stamp are after n c.loop-frame.invariant.distinct last.0 (last.1 ∙ ap (λ k. name_at sample.stack (k - 1)) whole) (omega (arith, c.if-depth-gt0.true, c.depth-depth.ensures.value)) put)
+pub returns-in-Some : goal.returns-in-Some
+returns-in-Some c =
+    let names = c.args.stacks.now.names in
+    let ranks = c.ranks-ranks.result.now in
+    let weight = c.weight-weight.result in
+    let last = c.in-Some.last.now in
+    let done = take c.args.at (ranked_samples c.args.stacks.now) in
+    let read = sym c.in-Some.ensures.value in
+    let more = stack_more c.args.stacks.now c.args.at weight ranks c.requires.at c.weight-weight.ensures c.ranks-ranks.ensures in
+    let below = ranks_below c.args.stacks.now c.args.at ranks c.requires.known c.requires.at c.ranks-ranks.ensures in
+    let are = subst (λ front. AreCounts names c.loop-rank.counts done front weight (c.args.at + 1)) (ap (map (name_at names)) (take_all c.loop-rank.rank-index ranks (omega arith))) c.loop-rank.invariant in
+    let long : 0 < length (map (name_at names) ranks) = omega (arith, length-map ranks (name_at names), slice_get_within ranks (length ranks - 1) last read) in
+    let after = set c.loop-rank.counts last (with_own weight (get_or c.loop-rank.counts last none)) in
+    subst (λ all. AreCounts names after all [] 0 (c.args.at + 1 + 1)) (sym more)
+    (stack_ended names c.loop-rank.counts done (by_name names ranks weight) (c.args.at + 1) are after last c.requires.rising (last_below ranks (length names) last below read) (last_name names ranks last read) long refl)
+
+pub returns-in_default : goal.returns-in_default
+returns-in_default c =
+    let names = c.args.stacks.now.names in
+    let ranks = c.ranks-ranks.result.now in
+    let weight = c.weight-weight.result in
+    let done = take c.args.at (ranked_samples c.args.stacks.now) in
+    let more = stack_more c.args.stacks.now c.args.at weight ranks c.requires.at c.weight-weight.ensures c.ranks-ranks.ensures in
+    let are = subst (λ front. AreCounts names c.loop-rank.counts done front weight (c.args.at + 1)) (ap (map (name_at names)) (take_all c.loop-rank.rank-index ranks (omega arith))) c.loop-rank.invariant in
+    subst (λ all. AreCounts names c.loop-rank.counts all [] 0 (c.args.at + 1 + 1)) (sym more)
+    (stack_empty names c.loop-rank.counts done (by_name names ranks weight) (c.args.at + 1) are (omega (arith, length-map ranks (name_at names), c.in_default.ensures.item)))

@@ -1,21 +1,29 @@
-use Rattle.std.proofs.Common.{◌∙◌, ap, sym, subst, length, map, List, []}
+use Rattle.std.proofs.Common.{◌≡◌, ◌∙◌, ap, sym, subst, false, length, map, List, [], ℕ}
+use Rattle.std.specs.List.{list_any}
+use Rattle.std.specs.Str.{bytes_eq}
 use Rattle.std.proofs.lemmas.Result.{IfOk-weaker}
 use Rattle.function_sums.specs.declared.counts.Count.{Count}
 use Rattle.function_sums.specs.declared.sums.FunctionSum.{FunctionSum}
-use Rattle.function_sums.specs.FunctionSums.{AreFunctionSums}
+use Rattle.function_sums.specs.FunctionSums.{total_of, AreFunctionSums}
 use Rattle.function_sums.specs.checked.Counted.{AreCounts}
 use Rattle.function_sums.specs.checked.Rows.{row_sum}
 use Rattle.function_sums.proofs.Functions.{table_of}
+use Rattle.function_sums.proofs.NamesWithWeight.{weightless}
 use Rattle.function_sums.proofs.tables.function_sums.Goals as goal
 
 pub rows-requires : goal.rows-requires
-rows-requires c = ap length c.deref.ensures.value ∙ c.in_ok-counts.ensures.counted.1.many
+rows-requires c = ap length c.deref.ensures.value ∙ c.in_ok-counts.ensures.1.many
 
 pub returns : goal.returns
 returns c =
-    let counted = subst (λ (all : List Count). AreCounts c.count_all.new.table all c.args.merged.now [] 0 c.in_ok-counts.ensures.counted.0) (sym c.deref.ensures.value) c.in_ok-counts.ensures.counted.1 in
+    let stacks = c.args.merged.now in
+    let names = c.by_rank-stacks.result.names in
+    let stamp = c.in_ok-counts.ensures.0 in
+    let counted = subst (λ (all : List Count). AreCounts names all stacks [] 0 stamp) (sym c.deref.ensures.value) c.in_ok-counts.ensures.1 in
+    let light : (name : List ℕ) → list_any (bytes_eq name) names ≡ false → total_of name stacks ≡ 0 =
+    λ name miss. ap (total_of name) (sym c.by_rank-stacks.ensures.samples) ∙ weightless name names c.by_rank-stacks.result.rows c.by_rank-stacks.ensures.known miss in
     IfOk-weaker c.sums.result _ _ (λ all e samples alike.
     subst (λ (xs : List FunctionSum). AreFunctionSums c.args.by samples xs) (sym (e ∙ ap (map row_sum) c.deref-2.ensures.value))
-    (table_of c.args.by c.args.merged.now c.count_all.new.table c.deref.result.now c.in_ok-counts.ensures.counted.0 counted c.in_ok-counts.ensures.distinct c.in_ok-rows.rows.items c.sort_unstable.new.self.items
-    (c.in_ok-rows.ensures.sums c.args.merged.now c.in_ok-counts.ensures.counted.0 counted) c.in_ok-rows.ensures.keys c.sort_unstable.ensures.permutation c.sort_unstable.ensures.sorted samples alike))
+    (table_of c.args.by stacks names c.by_rank-stacks.ensures.rising light c.in_ok-rows.rows.items c.sort_unstable.new.self.items (c.in_ok-rows.ensures.sums stacks stamp counted) c.in_ok-rows.ensures.keys
+    c.sort_unstable.ensures.permutation c.sort_unstable.ensures.sorted samples alike))
     c.sums.ensures
