@@ -99,7 +99,7 @@ impl MergedStacks {
         ensures { result.now ≡ name_at (sample_at self.now at).stack frame }
     {
         let rank = self.rows.ranks(at)[frame];
-        self.names[rank].as_str()
+        self.names[rank as usize].as_str()
     }
 
     /// The same stacks, in the same order, by the ranks of their names. Each name is lent once.
@@ -139,7 +139,7 @@ impl StackRows for MergedStacks {
 }
 
 /// The samples of all lists, by the ranks of their names.
-fn ranked(alloc: Global, lists: &[SourceList], ranks: &[usize]) -> Result<RankedRows, AllocError>
+fn ranked(alloc: Global, lists: &[SourceList], ranks: &[u32]) -> Result<RankedRows, AllocError>
     requires ranks { length ranks.now ≡ length (all_told lists.now) }
     requires total { total_weight (all_samples (samples_of lists.now)) < 2 ^ 64 }
     ensures { IfOk result (λ rows. (names : List (List ℕ)) → IsNamedBy names ranks.now (all_told lists.now)
@@ -160,7 +160,7 @@ pub(crate) fn add_list(
     alloc: Global,
     rows: &mut RankedRows,
     list: &SourceList,
-    ranks: &[usize],
+    ranks: &[u32],
 ) -> Result<(), AllocError>
     requires ranks { length ranks.now ≡ length list.now.told }
     requires total { total_weight list.now.samples < 2 ^ 64 }
@@ -193,7 +193,7 @@ fn stack_sums(alloc: Global, list: &SourceList) -> Result<Vec<u64>, AllocError>
 fn add_row(
     rows: &mut RankedRows,
     numbers: &[usize],
-    ranks: &[usize],
+    ranks: &[u32],
     weight: u64,
 ) -> Result<(), AllocError>
     requires depth { length numbers.now ≤ FRAME_LIMIT }

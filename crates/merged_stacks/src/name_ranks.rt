@@ -16,7 +16,7 @@ use std::alloc::{AllocError, Global};
 #[derive(Drop)]
 pub(crate) struct NameRanks {
     pub(crate) names: Vec<String>,
-    pub(crate) ranks: Vec<usize>,
+    pub(crate) ranks: Vec<u32>,
 }
 
 /// A told name, and its place among those of all lists.
@@ -81,7 +81,7 @@ fn rank(alloc: Global, told: &[NameAt<'_>]) -> Result<NameRanks, AllocError>
         → AreRanks names (map string_bytes all.names.items) all.ranks.items) }
 {
     let mut names = Vec::new(alloc);
-    let mut ranks = vec![in alloc; 0; told.len()]?;
+    let mut ranks = vec![in alloc; 0u32; told.len()]?;
     for (name, place) in told {
         ranks[*place] = rank_next(alloc, &mut names, name)?;
     }
@@ -89,7 +89,7 @@ fn rank(alloc: Global, told: &[NameAt<'_>]) -> Result<NameRanks, AllocError>
 }
 
 /// The rank of a name that comes before none of the names: that of the last one, or the next.
-fn rank_next(alloc: Global, names: &mut Vec<String>, name: &str) -> Result<usize, AllocError>
+fn rank_next(alloc: Global, names: &mut Vec<String>, name: &str) -> Result<u32, AllocError>
     requires rising { AreRising (map string_bytes names.old.items) }
     requires next { 0 < length names.old.items
         → is_lt (slice_cmp nat_cmp name.now
@@ -100,11 +100,21 @@ fn rank_next(alloc: Global, names: &mut Vec<String>, name: &str) -> Result<usize
     ensures name { IfOk result (λ rank. name_at (map string_bytes names.new.items) rank ≡ name.now) }
 {
     if is_last(names, name) {
-        return Ok(names.len() - 1);
+        return rank_at(names.len() - 1);
     }
-    let rank = names.len();
+    let rank = rank_at(names.len())?;
     names.push(String::from_str(alloc, name)?)?;
     Ok(rank)
+}
+
+/// The rank of a name at a place. One past the 2^32nd is refused as memory is.
+fn rank_at(place: usize) -> Result<u32, AllocError>
+    ensures { IfOk result (λ rank. rank ≡ place) }
+{
+    if place > u32::MAX as usize {
+        return Err(AllocError);
+    }
+    Ok(place as u32)
 }
 
 /// Whether the name is the last one.

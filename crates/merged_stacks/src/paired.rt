@@ -87,7 +87,7 @@ impl PairedStacks {
         ensures { result.now ≡ name_at (pair_at self.now at).stack frame }
     {
         let rank = place_ranks(&self.lefts, &self.rights, self.places[at])[frame];
-        self.names[rank].as_str()
+        self.names[rank as usize].as_str()
     }
 
     /// Whether a frame has the same name in two stacks. No two names are the same, so their ranks
@@ -126,7 +126,7 @@ impl PairedStacks {
 }
 
 /// The rows of a list, by the ranks of its told names: each stack with weight once, in order.
-fn merged_rows(alloc: Global, list: &SourceList, ranks: &[usize]) -> Result<RankedRows, AllocError>
+fn merged_rows(alloc: Global, list: &SourceList, ranks: &[u32]) -> Result<RankedRows, AllocError>
     requires named { (names : List (List ℕ)) × IsNamedBy names ranks.now list.now.told }
     requires total { total_weight list.now.samples < 2 ^ 64 }
     ensures { IfOk result (λ rows. (names : List (List ℕ)) → AreRising names

@@ -17,7 +17,7 @@ pub(crate) struct RankedRow {
 /// Stacks by ranks, with weights, in a few flat vectors. Ranks that no row covers stand for nothing.
 #[derive(Drop)]
 pub(crate) struct RankedRows {
-    frames: Vec<usize>,
+    frames: Vec<u32>,
     rows: Vec<RankedRow>,
 }
 
@@ -34,7 +34,7 @@ impl Model for RankedRows {
 }
 
 /// A row while rows are sorted: its ranks, its weight, and where it starts.
-type Entry<'a> = (&'a [usize], u64, usize);
+type Entry<'a> = (&'a [u32], u64, usize);
 
 impl RankedRows {
     pub(crate) fn new(alloc: Global) -> Self
@@ -50,7 +50,7 @@ impl RankedRows {
     pub(crate) fn push(
         &mut self,
         numbers: &[usize],
-        ranks: &[usize],
+        ranks: &[u32],
         weight: u64,
     ) -> Result<(), AllocError>
         requires { All (λ number. number < length ranks.now) numbers.now }
@@ -71,7 +71,7 @@ impl RankedRows {
     }
 
     /// The ranks of a row, root first.
-    pub(crate) fn ranks(&self, at: usize) -> &[usize]
+    pub(crate) fn ranks(&self, at: usize) -> &[u32]
         requires { at < length self.now }
         ensures { result.now ≡ (slice_index_or self.now at ([], 0)).0 }
     {
@@ -100,11 +100,7 @@ impl RankedRows {
 }
 
 /// Appends the ranks of the numbers.
-fn append_ranks(
-    frames: &mut Vec<usize>,
-    numbers: &[usize],
-    ranks: &[usize],
-) -> Result<(), AllocError>
+fn append_ranks(frames: &mut Vec<u32>, numbers: &[usize], ranks: &[u32]) -> Result<(), AllocError>
     requires { All (λ number. number < length ranks.now) numbers.now }
     ensures ok { OnOk result (frames.new.items ≡ frames.old.items ++ map (slice_index ranks.now) numbers.now) }
     ensures grows { (more : List ℕ) × (frames.new.items ≡ frames.old.items ++ more) }
@@ -118,7 +114,7 @@ fn append_ranks(
 /// The rows in the order of their ranks, those of the same ranks as one.
 fn joined_rows(
     alloc: Global,
-    frames: &[usize],
+    frames: &[u32],
     rows: Vec<RankedRow>,
 ) -> Result<Vec<RankedRow>, AllocError>
     requires within { AreWithin frames.now rows.items }
@@ -136,7 +132,7 @@ fn joined_rows(
 /// An entry for each row.
 fn entries<'a>(
     alloc: Global,
-    frames: &'a [usize],
+    frames: &'a [u32],
     rows: Vec<RankedRow>,
 ) -> Result<Vec<Entry<'a>>, AllocError>
     requires { AreWithin frames.now rows.items }
@@ -151,7 +147,7 @@ fn entries<'a>(
 }
 
 /// The entry of a row.
-fn entry(frames: &[usize], row: RankedRow) -> Entry<'_>
+fn entry(frames: &[u32], row: RankedRow) -> Entry<'_>
     requires start { row.start ≤ row.end }
     requires end { row.end ≤ length frames.now }
     ensures ranked { ranked_entry result ≡ ranked_row frames.now row }
@@ -162,11 +158,7 @@ fn entry(frames: &[usize], row: RankedRow) -> Entry<'_>
 }
 
 /// The rows of sorted entries, neighbours of the same ranks as one.
-fn join(
-    alloc: Global,
-    frames: &[usize],
-    entries: &[Entry<'_>],
-) -> Result<Vec<RankedRow>, AllocError>
+fn join(alloc: Global, frames: &[u32], entries: &[Entry<'_>]) -> Result<Vec<RankedRow>, AllocError>
     requires within { All (IsEntryOf frames.now) entries.now }
     requires total { sum_by (λ row. row.1) (map ranked_entry entries.now) < 2 ^ 64 }
     ensures within { IfOk result (λ all. AreWithin frames.now all.items) }
@@ -184,8 +176,8 @@ fn join(
 /// Puts a row in front of those that came before, the last of which comes next after it.
 fn put_in_front(
     rows: &mut Vec<RankedRow>,
-    frames: &[usize],
-    ranks: &[usize],
+    frames: &[u32],
+    ranks: &[u32],
     weight: u64,
     start: usize,
 ) -> Result<(), AllocError>

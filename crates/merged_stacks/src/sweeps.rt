@@ -84,7 +84,7 @@ pub(crate) fn place_ranks<'a>(
     lefts: &'a RankedRows,
     rights: &'a RankedRows,
     place: Place,
-) -> &'a [usize]
+) -> &'a [u32]
     requires { IsPlace lefts.now rights.now place }
     ensures { result.now ≡ (place_row lefts.now rights.now place).0 }
 {
