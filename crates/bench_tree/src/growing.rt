@@ -1,6 +1,6 @@
 //! The tree of a list of samples.
 
-ghost use Rattle.std.specs.Prelude.{◌<◌, length, IfOk, OnOk};
+ghost use Rattle.std.specs.Prelude.{◌≡◌, ◌<◌, length, IfOk, OnOk};
 ghost use Rattle.call_tree.specs.Listing.{HasNumbersOf};
 ghost use Rattle.bench_tree.specs.Depth.{IsShallow};
 
@@ -8,8 +8,24 @@ use call_tree::CallTree;
 use stack_core::SourceList;
 use std::alloc::{AllocError, Global};
 
+/// The numbers of a stack, as a tree takes them.
+fn numbers_of(alloc: Global, stack: &[u32]) -> Result<Vec<usize>, AllocError>
+    ensures { IfOk result (λ numbers. numbers.items ≡ stack.now) }
+{
+    let mut numbers = Vec::with_capacity(alloc, stack.len())?;
+    for number in stack {
+        numbers.push(*number as usize)?;
+    }
+    Ok(numbers)
+}
+
 /// Adds a sample of the list, where the tree weighs less than 2^64.
-fn add_sample(tree: &mut CallTree, list: &SourceList, at: usize) -> Result<(), AllocError>
+fn add_sample(
+    alloc: Global,
+    tree: &mut CallTree,
+    list: &SourceList,
+    at: usize,
+) -> Result<(), AllocError>
     requires at { at < length list.now.samples }
     requires numbers { HasNumbersOf list.now.told tree.old }
     requires depth { IsShallow tree.old }
@@ -19,7 +35,8 @@ fn add_sample(tree: &mut CallTree, list: &SourceList, at: usize) -> Result<(), A
     if tree.total(&[]) > u128::from(u64::MAX) {
         return Ok(());
     }
-    tree.add(list.frames(at), list.weight(at))?;
+    let numbers = numbers_of(alloc, list.frames(at))?;
+    tree.add(&numbers, list.weight(at))?;
     Ok(())
 }
 
@@ -30,7 +47,7 @@ pub fn grow(alloc: Global, list: &SourceList) -> Result<CallTree, AllocError>
 {
     let mut tree = CallTree::new(alloc)?;
     for at in 0..list.len() {
-        add_sample(&mut tree, list, at)?;
+        add_sample(alloc, &mut tree, list, at)?;
     }
     Ok(tree)
 }

@@ -192,7 +192,7 @@ fn stack_sums(alloc: Global, list: &SourceList) -> Result<Vec<u64>, AllocError>
 /// Appends the samples of one stack, unless they weigh nothing.
 fn add_row(
     rows: &mut RankedRows,
-    numbers: &[usize],
+    numbers: &[u32],
     ranks: &[u32],
     weight: u64,
 ) -> Result<(), AllocError>

@@ -49,7 +49,7 @@ impl RankedRows {
     /// Appends a row: the ranks of the numbers, and the weight.
     pub(crate) fn push(
         &mut self,
-        numbers: &[usize],
+        numbers: &[u32],
         ranks: &[u32],
         weight: u64,
     ) -> Result<(), AllocError>
@@ -100,13 +100,13 @@ impl RankedRows {
 }
 
 /// Appends the ranks of the numbers.
-fn append_ranks(frames: &mut Vec<u32>, numbers: &[usize], ranks: &[u32]) -> Result<(), AllocError>
+fn append_ranks(frames: &mut Vec<u32>, numbers: &[u32], ranks: &[u32]) -> Result<(), AllocError>
     requires { All (λ number. number < length ranks.now) numbers.now }
     ensures ok { OnOk result (frames.new.items ≡ frames.old.items ++ map (slice_index ranks.now) numbers.now) }
     ensures grows { (more : List ℕ) × (frames.new.items ≡ frames.old.items ++ more) }
 {
     for number in numbers {
-        frames.push(ranks[*number])?;
+        frames.push(ranks[*number as usize])?;
     }
     Ok(())
 }

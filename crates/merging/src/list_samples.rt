@@ -45,7 +45,7 @@ fn set_frame(
 fn set_frames(
     alloc: Global,
     list: &SourceList,
-    frames: &[usize],
+    frames: &[u32],
     names: &mut Vec<String>,
 ) -> Result<(), AllocError>
     requires told { All (λ number. number < length list.now.told) frames.now }
@@ -53,7 +53,7 @@ fn set_frames(
     ensures { OnOk result (map string_bytes names.new.items ≡ map (name_at list.now.told) frames.now) }
 {
     for at in 0..frames.len() {
-        set_frame(alloc, list.told_name(frames[at]), at, names)?;
+        set_frame(alloc, list.told_name(frames[at] as usize), at, names)?;
     }
     Ok(())
 }

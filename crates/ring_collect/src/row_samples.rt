@@ -47,7 +47,7 @@ fn set_frame(
 fn set_frames(
     alloc: Global,
     ledger: &Ledger,
-    frames: &[usize],
+    frames: &[u32],
     names: &mut Vec<String>,
 ) -> Result<(), AllocError>
     requires known { All (λ number. number < length ledger.now.told) frames.now }
@@ -55,7 +55,7 @@ fn set_frames(
     ensures { OnOk result (map string_bytes names.new.items ≡ names_at ledger.now.told frames.now) }
 {
     for at in 0..frames.len() {
-        set_frame(alloc, ledger, at, frames[at], names)?;
+        set_frame(alloc, ledger, at, frames[at] as usize, names)?;
     }
     Ok(())
 }
@@ -64,7 +64,7 @@ fn set_frames(
 fn set_row(
     alloc: Global,
     ledger: &Ledger,
-    frames: &[usize],
+    frames: &[u32],
     weight: u64,
     sample: &mut Sample,
 ) -> Result<(), AllocError>

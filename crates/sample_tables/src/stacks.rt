@@ -22,7 +22,7 @@ struct Span {
 #[derive(Debug, Drop)]
 pub struct Stacks {
     names: Vec<String>,
-    frames: Vec<usize>,
+    frames: Vec<u32>,
     spans: Vec<Span>,
 }
 
@@ -80,7 +80,7 @@ impl Stacks {
         self.spans.len()
     }
 
-    pub fn stack(&self, k: usize) -> &[usize]
+    pub fn stack(&self, k: usize) -> &[u32]
         requires { k < length self.now.stacks }
         ensures value { result.now ≡ stack_at self.now.stacks k }
         ensures stack { IsStack self.now.names (stack_at self.now.stacks k) }
@@ -89,7 +89,7 @@ impl Stacks {
         &self.frames[span.start..span.end]
     }
 
-    /// Appends a stack, which gets the next number.
+    /// Appends a stack, which gets the next number. A frame's number past the 2^32nd is refused as memory is.
     pub fn add(&mut self, frames: &[usize]) -> Result<(), AllocError>
         requires { IsStack self.old.names frames.now }
         ensures ok { OnOk result
@@ -98,7 +98,7 @@ impl Stacks {
     {
         self.spans.reserve(1)?;
         let start = self.frames.len();
-        self.frames.extend_from_slice(frames)?;
+        append_numbers(&mut self.frames, frames)?;
         self.spans.push(Span {
             start,
             end: self.frames.len(),
@@ -106,7 +106,7 @@ impl Stacks {
         Ok(())
     }
 
-    /// Appends names, and the stack of their numbers: all or nothing.
+    /// Appends names, and the stack of their numbers: all or nothing. A name past the 2^32nd is refused as memory is.
     pub fn add_fresh(&mut self, stack: Names) -> Result<(), AllocError>
         requires { length stack ≤ FRAME_LIMIT }
         ensures ok { OnOk result (self.new ≡ with_fresh_stack self.old stack) }
@@ -118,8 +118,12 @@ impl Stacks {
         self.frames.reserve(depth)?;
         self.spans.reserve(1)?;
         let first = self.names.len();
+        let past = first + depth;
+        if past > u32::MAX as usize {
+            return Err(AllocError);
+        }
         let start = self.frames.len();
-        number(&mut self.frames, first, first + depth)?;
+        number(&mut self.frames, first as u32, past as u32)?;
         self.names.append(&mut names)?;
         self.spans.push(Span {
             start,
@@ -129,8 +133,20 @@ impl Stacks {
     }
 }
 
+/// Appends numbers. One past the 2^32nd is refused as memory is, and some of them may be left behind then.
+fn append_numbers(frames: &mut Vec<u32>, numbers: &[usize]) -> Result<(), AllocError>
+    ensures ok { OnOk result (frames.new.items ≡ frames.old.items ++ numbers.now) }
+    ensures begins { (more : List ℕ) × (frames.new.items ≡ frames.old.items ++ more) }
+{
+    frames.reserve(numbers.len())?;
+    for number in numbers {
+        frames.push(u32::try_from(*number).map_err(|_| AllocError)?)?;
+    }
+    Ok(())
+}
+
 /// Appends the numbers from `from` up to `to`. Want of memory may leave some of them behind.
-fn number(frames: &mut Vec<usize>, from: usize, to: usize) -> Result<(), AllocError>
+fn number(frames: &mut Vec<u32>, from: u32, to: u32) -> Result<(), AllocError>
     ensures ok { OnOk result (frames.new.items
         ≡ frames.old.items ++ range_with_len from (to - from)) }
     ensures begins { (more : List ℕ) × (frames.new.items ≡ frames.old.items ++ more) }

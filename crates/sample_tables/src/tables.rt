@@ -74,7 +74,7 @@ impl RowTable {
     }
 
     /// The numbers of the names of stack `k`, root first.
-    pub fn stack(&self, k: usize) -> &[usize]
+    pub fn stack(&self, k: usize) -> &[u32]
         requires { k < length self.now.stacks }
         ensures value { result.now ≡ stack_at self.now.stacks k }
         ensures stack { IsStack self.now.names (stack_at self.now.stacks k) }
@@ -131,7 +131,7 @@ impl RowTable {
     }
 
     /// The numbers of the names of sample `i`, root first.
-    pub fn frames(&self, i: usize) -> &[usize]
+    pub fn frames(&self, i: usize) -> &[u32]
         requires { i < length self.now.entries }
         ensures value { result.now ≡ (row_at (rows_by self.now.stacks self.now.entries) i).frames }
         ensures row { IsRow self.now.names (row_at (rows_by self.now.stacks self.now.entries) i) }

@@ -29,6 +29,17 @@ fn ledger_of_names(alloc: Global, list: &SourceList) -> Result<Ledger, AllocErro
     Ok(ledger)
 }
 
+/// The numbers of a stack, as a ledger takes them.
+fn numbers_of(alloc: Global, stack: &[u32]) -> Result<Vec<usize>, AllocError>
+    ensures { IfOk result (λ numbers. numbers.items ≡ stack.now) }
+{
+    let mut numbers = Vec::with_capacity(alloc, stack.len())?;
+    for number in stack {
+        numbers.push(*number as usize)?;
+    }
+    Ok(numbers)
+}
+
 /// The same with the stacks of the list.
 fn ledger_of_stacks(alloc: Global, list: &SourceList) -> Result<Ledger, AllocError>
     ensures { IfOk result (λ ledger. ledger ≡ record {
@@ -42,7 +53,7 @@ fn ledger_of_stacks(alloc: Global, list: &SourceList) -> Result<Ledger, AllocErr
 {
     let mut ledger = ledger_of_names(alloc, list)?;
     for number in 0..list.stack_count() {
-        ledger.keep(list.stack(number))?;
+        ledger.keep(&numbers_of(alloc, list.stack(number))?)?;
     }
     Ok(ledger)
 }

@@ -45,7 +45,7 @@ impl NameMarks {
     }
 
     /// Whether a stack of these numbers is kept.
-    fn keep(&self, frames: &[usize]) -> bool
+    fn keep(&self, frames: &[u32]) -> bool
         ensures { result ≡ ((not self.now.has_focus || list_any (is_marked self.now.focus.items) frames.now)
             && not (list_any (is_marked self.now.hide.items) frames.now)) }
     {
@@ -54,10 +54,10 @@ impl NameMarks {
 }
 
 /// Whether the mark of one of the numbers is set.
-fn has_mark(marks: &[bool], numbers: &[usize]) -> bool
+fn has_mark(marks: &[bool], numbers: &[u32]) -> bool
     ensures { result ≡ list_any (is_marked marks.now) numbers.now }
 {
-    numbers.iter().any(|number| is_set(marks, *number))
+    numbers.iter().any(|number| is_set(marks, *number as usize))
 }
 
 fn is_set(marks: &[bool], number: usize) -> bool

@@ -173,7 +173,7 @@ impl Ledger {
     }
 
     /// The numbers of the names of stack `k`, root first.
-    pub fn stack(&self, k: usize) -> &[usize]
+    pub fn stack(&self, k: usize) -> &[u32]
         requires { k < length self.now.stacks }
         ensures value { result.now ≡ stack_at self.now.stacks k }
         ensures limit { length result.now ≤ FRAME_LIMIT }

@@ -68,7 +68,7 @@ impl SourceList {
     }
 
     /// The numbers of the names of stack `k`, root first.
-    pub fn stack(&self, k: usize) -> &[usize]
+    pub fn stack(&self, k: usize) -> &[u32]
         requires { k < length self.now.stacks }
         ensures value { result.now ≡ stack_at self.now.stacks k }
         ensures limit { length result.now ≤ FRAME_LIMIT }
@@ -106,7 +106,7 @@ impl SourceList {
     }
 
     /// The numbers of the names of sample `i`, root first.
-    pub fn frames(&self, i: usize) -> &[usize]
+    pub fn frames(&self, i: usize) -> &[u32]
         requires { i < length self.now.samples }
         ensures value { result.now ≡ (row_at self.now.rows i).frames }
         ensures limit { length result.now ≤ FRAME_LIMIT }
@@ -126,7 +126,7 @@ impl SourceList {
         ensures name { name_at self.now.told result
             ≡ name_at (sample_at self.now.samples i).stack d }
     {
-        self.table.frames(i)[d]
+        self.table.frames(i)[d] as usize
     }
 
     /// The name of frame `d` of sample `i`. The root frame is frame 0.
