@@ -33,10 +33,10 @@ pub(crate) fn count_stack(counts: &mut [Count], stacks: &RankedStacks<'_>, at: u
     let weight = stacks.weight(at);
     let ranks = stacks.ranks(at);
     for rank in ranks {
-        count_frame(counts, *rank, weight, at + 1);
+        count_frame(counts, *rank as usize, weight, at + 1);
     }
     if let Some(last) = ranks.last() {
-        counts[*last].own += weight;
+        counts[*last as usize].own += weight;
     }
 }
 

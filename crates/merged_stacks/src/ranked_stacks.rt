@@ -64,7 +64,7 @@ impl<'a> RankedStacks<'a> {
     }
 
     /// The ranks of the names of stack `at`, root first.
-    pub fn ranks(&self, at: usize) -> &'a [usize]
+    pub fn ranks(&self, at: usize) -> &'a [u32]
         requires { at < length self.now.rows }
         ensures { result.now ≡ (row_at self.now.rows at).frames }
     {
