@@ -2,7 +2,9 @@
 use Rattle.std.proofs.Common.{◌≡◌, ℕ, ◌+◌, ◌<◌, ◌≤◌, List, length, map, get_or, All, sym, ◌∙◌, ap, subst, arith}
 use Rattle.std.proofs.lemmas.List.{get_or-map, length-map}
 use Rattle.std.proofs.lemmas.List.Elements.{All-map}
-use Rattle.flame_layout.specs.Boxes.{span_of}
+use Rattle.flame_layout.specs.Boxes.{compared_of, span_of}
+use Rattle.flame_layout.specs.declared.boxes.ComparedBox.{ComparedBox}
+use Rattle.flame_layout.specs.declared.boxes.DrawnPair.{DrawnPair}
 use Rattle.flame_layout.specs.declared.boxes.SpanBox.{SpanBox}
 use Rattle.flame_layout.specs.declared.boxes.DrawnBox.{DrawnBox}
 
@@ -11,6 +13,12 @@ pub drawn_within : (boxes : List DrawnBox) (spans : List SpanBox) (total : ℕ) 
 drawn_within boxes spans total e h k d l =
     subst (λ (span : SpanBox). span.start + span.weight ≤ total) (ap (λ (all : List SpanBox). get_or all k (span_of d)) (sym e) ∙ get_or-map span_of boxes k d (span_of d) l)
     (h k (span_of d) (omega (arith, l, length-map boxes span_of, ap length e)))
+
+pub pairs_within : (pairs : List DrawnPair) (boxes : List ComparedBox) (total : ℕ) → map compared_of pairs ≡ boxes → All (λ compared. compared.span.start + compared.span.weight ≤ total) boxes
+    → All (λ pair. pair.drawn.start + pair.drawn.weight ≤ total) pairs
+pairs_within pairs boxes total e h k d l =
+    subst (λ (compared : ComparedBox). compared.span.start + compared.span.weight ≤ total) (ap (λ (all : List ComparedBox). get_or all k (compared_of d)) (sym e) ∙ get_or-map compared_of pairs k d (compared_of d) l)
+    (h k (compared_of d) (omega (arith, l, length-map pairs compared_of, ap length e)))
 
 -- and the other way
 pub spans_within : (boxes : List DrawnBox) (spans : List SpanBox) (total : ℕ) → spans ≡ map span_of boxes → All (λ drawn. drawn.start + drawn.weight ≤ total) boxes → All (λ span. span.start + span.weight ≤ total) spans

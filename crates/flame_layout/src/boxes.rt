@@ -75,3 +75,12 @@ pub struct ComparedBox {
     /// box's path.
     pub before: u64,
 }
+
+/// A `ComparedBox` whose name is borrowed from what it was drawn of.
+#[derive(Clone, Copy, Debug)]
+pub struct DrawnPair<'a> {
+    /// The box, as the second profile alone has it.
+    pub drawn: DrawnBox<'a>,
+    /// As `before` in `ComparedBox`.
+    pub total_before: u64,
+}

@@ -3,13 +3,14 @@
 ghost use Rattle.std.specs.Prelude.{◌≡◌, ◌<◌, ◌≤◌, ◌+◌, ◌^◌, [], List, All, IfOk, OnOk, length, map};
 ghost use Rattle.sample_tables.specs.declared.samples.Sample.{Sample};
 ghost use Rattle.merged_stacks.specs.Timeline.{total_weight};
-ghost use Rattle.flame_layout.specs.Boxes.{span_of};
+ghost use Rattle.merged_stacks.specs.Paired.{paired_stacks};
+ghost use Rattle.flame_layout.specs.Boxes.{compared_of, span_of};
 ghost use Rattle.flame_layout.specs.Comparison.{comparison_of, compared_boxes_of};
 ghost use Rattle.flame_layout.specs.checked.Paired.{names_now, next_path, paired_boxes, paired_row, paired_rows, row_box};
 
-use crate::boxes::{ComparedBox, DrawnBox, PairRow, SpanBox};
+use crate::boxes::{ComparedBox, DrawnBox, DrawnPair, PairRow, SpanBox};
 use crate::charts::draw_all;
-use crate::flame_boxes::span_box;
+use crate::flame_boxes::own_boxes;
 use merged_stacks::{PairedSide, PairedStacks, Side};
 use stack_core::{Names, SourceList, Text};
 use std::alloc::{AllocError, Global};
@@ -60,34 +61,52 @@ pub fn draw_comparison(
         → 0 < total_weight after.now.samples) }
 {
     let stacks = PairedStacks::of(alloc, before, after)?;
+    let drawn = draw_paired(alloc, &stacks, before, after)?;
+    own_boxes(alloc, &drawn)
+}
+
+/// The boxes of `draw_comparison`, drawn of the stacks of both profiles, which lend the names.
+pub fn draw_paired<'a>(
+    alloc: Global,
+    stacks: &'a PairedStacks,
+    before: &SourceList,
+    after: &SourceList,
+) -> Result<Vec<DrawnPair<'a>>, AllocError>
+    requires stacks { stacks.now ≡ paired_stacks before.now.samples after.now.samples }
+    requires before { total_weight before.now.samples < 2 ^ 64 }
+    requires after { total_weight after.now.samples < 2 ^ 64 }
+    ensures boxes { IfOk result (λ boxes.
+        map compared_of boxes.items ≡ compared_boxes_of before.now.samples after.now.samples) }
+    ensures within { IfOk result (λ boxes.
+        All (λ pair. pair.drawn.start + pair.drawn.weight ≤ total_weight after.now.samples)
+        boxes.items) }
+    ensures positive { IfOk result (λ boxes. 0 < length boxes.items
+        → 0 < total_weight after.now.samples) }
+{
     let lefts = PairedSide {
-        stacks: &stacks,
+        stacks,
         side: Side::Before,
     };
-    let rights = PairedSide {
-        stacks: &stacks,
-        side: Side::After,
-    };
     let left = draw_all(alloc, &lefts, before.total() as u64)?;
-    let right = draw_all(alloc, &rights, after.total() as u64)?;
+    let right = draw_all(alloc, stacks, after.total() as u64)?;
     pair_boxes(alloc, &left, &right)
 }
 
 /// The boxes of the second side that weigh, each with the weight of that of the first side.
-fn pair_boxes(
+fn pair_boxes<'a>(
     alloc: Global,
     before: &[DrawnBox<'_>],
-    after: &[DrawnBox<'_>],
-) -> Result<Vec<ComparedBox>, AllocError>
+    after: &[DrawnBox<'a>],
+) -> Result<Vec<DrawnPair<'a>>, AllocError>
     ensures { IfOk result (λ boxes.
-        boxes.items ≡ paired_boxes (map span_of before.now) (map span_of after.now)) }
+        map compared_of boxes.items ≡ paired_boxes (map span_of before.now) (map span_of after.now)) }
 {
     let mut boxes = Vec::new(alloc);
     for (left, right) in before.iter().zip(after) {
         if right.weight > 0 {
-            boxes.push(ComparedBox {
-                span: span_box(alloc, right)?,
-                before: left.weight,
+            boxes.push(DrawnPair {
+                drawn: *right,
+                total_before: left.weight,
             })?;
         }
     }

@@ -2,9 +2,9 @@
 
 ghost use Rattle.std.specs.Prelude.{◌≡◌, IfOk, map};
 ghost use Rattle.flame_layout.specs.declared.boxes.SpanBox.{SpanBox as Span};
-ghost use Rattle.flame_layout.specs.Boxes.{span_of};
+ghost use Rattle.flame_layout.specs.Boxes.{compared_of, span_of};
 
-use crate::boxes::{ComparedBox, DrawnBox, SpanBox};
+use crate::boxes::{ComparedBox, DrawnBox, DrawnPair, SpanBox};
 use stack_core::Text;
 use std::alloc::{AllocError, Global};
 
@@ -106,6 +106,30 @@ impl FlameBox for ComparedBox {
     }
 }
 
+impl<'a> FlameBox for DrawnPair<'a> {
+    ghost span = { λ pair. span_of pair.drawn };
+
+    fn depth(&self) -> u32 {
+        self.drawn.depth
+    }
+
+    fn name(&self) -> &str {
+        self.drawn.name
+    }
+
+    fn start(&self) -> u64 {
+        self.drawn.start
+    }
+
+    fn weight(&self) -> u64 {
+        self.drawn.weight
+    }
+
+    fn own(&self) -> u64 {
+        self.drawn.own
+    }
+}
+
 /// The boxes with names of their own.
 pub(crate) fn span_boxes(alloc: Global, drawn: &[DrawnBox<'_>]) -> Result<Vec<SpanBox>, AllocError>
     ensures { IfOk result (λ boxes. boxes.items ≡ map span_of drawn.now) }
@@ -127,4 +151,21 @@ pub(crate) fn span_box(alloc: Global, drawn: &DrawnBox<'_>) -> Result<SpanBox, A
         weight: drawn.weight,
         own: drawn.own,
     })
+}
+
+/// The boxes of a comparison with names of their own.
+pub(crate) fn own_boxes(
+    alloc: Global,
+    drawn: &[DrawnPair<'_>],
+) -> Result<Vec<ComparedBox>, AllocError>
+    ensures { IfOk result (λ boxes. boxes.items ≡ map compared_of drawn.now) }
+{
+    let mut boxes = Vec::new(alloc);
+    for one in drawn {
+        boxes.push(ComparedBox {
+            span: span_box(alloc, &one.drawn)?,
+            before: one.total_before,
+        })?;
+    }
+    Ok(boxes)
 }

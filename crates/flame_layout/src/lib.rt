@@ -11,9 +11,9 @@ mod image;
 pub mod laws;
 mod walks;
 
-pub use boxes::{ComparedBox, DrawnBox, PairRow, PlacedBox, SpanBox};
+pub use boxes::{ComparedBox, DrawnBox, DrawnPair, PairRow, PlacedBox, SpanBox};
 pub use charts::{chart_boxes, draw_chart};
-pub use comparisons::{compare, compared_boxes, draw_comparison};
+pub use comparisons::{compare, compared_boxes, draw_comparison, draw_paired};
 pub use flame_boxes::FlameBox;
 pub use graphs::{draw_merged, draw_tree, graph_boxes, merged_boxes};
 pub use image::{edges, place};

@@ -1,6 +1,7 @@
 //! The stacks of two lists with the sums of one of them.
 
 ghost use Rattle.std.specs.Prelude.{◌≡◌};
+ghost use Rattle.merged_stacks.specs.declared.paired_sides.Side.TheVariants.{After};
 ghost use Rattle.merged_stacks.specs.Paired.{pair_at, sum_of, side_samples};
 
 use crate::paired::PairedStacks;
@@ -45,5 +46,31 @@ impl<'a> StackRows for PairedSide<'a> {
 
     fn is_same_name(&self, at: usize, later: usize, frame: usize) -> bool {
         self.stacks.is_same_name(at, later, frame)
+    }
+}
+
+/// Paired stacks with the sums of the second list, as the `PairedSide` that is `After` has them. So the
+/// stacks themselves lend the names.
+impl StackRows for PairedStacks {
+    ghost samples = { side_samples After };
+
+    fn len(&self) -> usize {
+        PairedStacks::len(self)
+    }
+
+    fn weight(&self, at: usize) -> u64 {
+        self.after(at)
+    }
+
+    fn depth(&self, at: usize) -> usize {
+        PairedStacks::depth(self, at)
+    }
+
+    fn name(&self, at: usize, frame: usize) -> &str {
+        PairedStacks::name(self, at, frame)
+    }
+
+    fn is_same_name(&self, at: usize, later: usize, frame: usize) -> bool {
+        PairedStacks::is_same_name(self, at, later, frame)
     }
 }

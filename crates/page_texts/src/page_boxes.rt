@@ -1,7 +1,7 @@
 //! What a page shows of a box.
 ghost use Rattle.std.specs.Prelude.{◌≡◌, ℕ, Bool, true, false};
 
-use flame_layout::{ComparedBox, DrawnBox, FlameBox, SpanBox};
+use flame_layout::{ComparedBox, DrawnBox, DrawnPair, FlameBox, SpanBox};
 
 /// A box that a page can show.
 pub trait PageBox: FlameBox {
@@ -63,5 +63,23 @@ impl PageBox for ComparedBox {
 
     fn other(&self) -> u64 {
         self.before
+    }
+}
+
+impl<'a> PageBox for DrawnPair<'a> {
+    ghost other = { λ pair. pair.total_before };
+
+    ghost compared = { true };
+
+    fn is_compared() -> bool
+        ensures { result ≡ true }
+    {
+        true
+    }
+
+    fn other(&self) -> u64
+        ensures { result ≡ self.now.total_before }
+    {
+        self.total_before
     }
 }

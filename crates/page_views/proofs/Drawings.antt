@@ -4,7 +4,8 @@ use Rattle.std.proofs.lemmas.List.{get_or-map}
 use Rattle.sample_tables.specs.declared.samples.Sample.{Sample}
 use Rattle.merged_stacks.specs.Timeline.{total_weight}
 use Rattle.flame_layout.specs.declared.boxes.DrawnBox.{DrawnBox}
-use Rattle.flame_layout.specs.Boxes.{span_of}
+use Rattle.flame_layout.specs.declared.boxes.DrawnPair.{DrawnPair}
+use Rattle.flame_layout.specs.Boxes.{compared_of, span_of}
 use Rattle.flame_layout.specs.declared.boxes.SpanBox.{SpanBox}
 use Rattle.flame_layout.specs.Graph.{graph_of}
 use Rattle.flame_layout.specs.Paths.{SameOwn, tree_samples}
@@ -13,7 +14,7 @@ use Rattle.merging.specs.declared.snapshots.Snapshot.{Snapshot}
 use Rattle.source_views.specs.Filling.{filled}
 use Rattle.source_views.specs.Texts.{all_counts, places_of}
 use Rattle.source_views.proofs.TextLemmas.{filled_counts}
-use Rattle.page_texts.specs.Page.{Moment, PageBox}
+use Rattle.page_texts.specs.Page.{Moment, PageBox, PageDrawing}
 use Rattle.page_texts.specs.Drawn.{shown}
 use Rattle.page_views.specs.checked.DrawnProfiles.{IsDrawnOf, profile_drawing}
 use Rattle.page_views.specs.declared.drawn_profiles.DrawnProfile.{DrawnProfile}
@@ -28,6 +29,15 @@ pub with_boxes : (least : Option ℕ) (moment : Option Moment) (total : ℕ) (bo
     → record { moment = moment; is_compared = false; least = least_of least total; total = total; boxes = boxes } ≡ plain_drawing least moment total spans
 with_boxes least moment total boxes spans same = λ i. record { moment = moment; is_compared = false; least = least_of least total; total = total; boxes = same i }
 
+pub paired_boxes : (pairs : List DrawnPair) → map (shown (λ pair. (compared_of pair).span) (λ pair. pair.total_before)) pairs ≡ map (λ compared. record { span = compared.span; other = compared.before }) (map compared_of pairs)
+paired_boxes [] = refl
+paired_boxes (pair ∷ pairs) = ap (λ later. shown (λ (one : DrawnPair). (compared_of one).span) (λ one. one.total_before) pair ∷ later) (paired_boxes pairs)
+
+-- a drawing of a profile whose boxes are these
+pub with_pairs : (least : Option ℕ) (profile : DrawnProfile) (boxes : List PageBox) → boxes ≡ map (λ compared. record { span = compared.span; other = compared.before }) (map compared_of profile.boxes.items)
+    → record { moment = None; is_compared = true; least = least_of least profile.total; total = profile.total; boxes = boxes } ≡ profile_drawing least profile
+with_pairs least profile boxes same = λ i. record { moment = None; is_compared = true; least = least_of least profile.total; total = profile.total; boxes = same i }
+
 -- a profile that is drawn is its drawing
 pub profile_drawn : (least : Option ℕ) (other samples : List Sample) (profile : DrawnProfile) → IsDrawnOf other samples profile → profile_drawing least profile ≡ compared_drawing least other samples
 profile_drawn least other samples profile drawn = λ i. record {
@@ -37,6 +47,12 @@ profile_drawn least other samples profile drawn = λ i. record {
   total = drawn.total i;
   boxes = map (λ compared. record { span = compared.span; other = compared.before }) (drawn.boxes i);
 }
+
+-- and both are those of the page
+pub profiles_drawn : (least : Option ℕ) (before after : List Sample) (one other : DrawnProfile) (drawings : List PageDrawing) → IsDrawnOf after before one → IsDrawnOf before after other
+    → drawings ≡ profile_drawing least one ∷ profile_drawing least other ∷ [] → drawings ≡ compared_drawing least after before ∷ compared_drawing least before after ∷ []
+profiles_drawn least before after one other drawings is are found =
+    found ∙ (λ i. profile_drawn least after before one is i ∷ profile_drawn least before after other are i ∷ [])
 
 -- a snapshot that is drawn is the drawing of its moment
 pub snapshot_drawn : (place sources total : ℕ) (every : Option ℕ) (order : List ℕ) (lists : List (List Sample)) (names table : List (List ℕ)) (snapshots : List Snapshot) (snapshot : Snapshot) (counts : List ℕ) (boxes : List SpanBox)

@@ -7,7 +7,7 @@ ghost use Rattle.merged_stacks.specs.Timeline.{total_weight};
 ghost use Rattle.page_texts.specs.Document.{document_text};
 ghost use Rattle.page_views.specs.Pages.{comparison_page, heading_of};
 
-use crate::drawn_profiles::{draw_profiles, profile_drawings};
+use crate::drawn_profiles::{draw_profiles, pair_profiles, profile_drawings};
 use crate::headings::Heading;
 use byte_io::{Outlet, PieceFault};
 use page_texts::send_page;
@@ -35,7 +35,8 @@ pub fn send_comparison_page<W: Outlet>(
         → W.failures out.new ≡ one_more (W.failures out.old) }
     ensures unfailed { result ≢ Err PieceFault.Output → W.failures out.new ≡ W.failures out.old }
 {
-    let drawn = draw_profiles(alloc, before, after)?;
+    let stacks = pair_profiles(alloc, before, after)?;
+    let drawn = draw_profiles(alloc, &stacks, before, after)?;
     let drawings = profile_drawings(alloc, &drawn, heading)?;
     send_page(alloc, &heading.page("compare", &drawings), out)
 }

@@ -1,36 +1,70 @@
 //! The flame graphs of two profiles, each with the weights of the other.
 ghost use Rattle.std.specs.Prelude.{◌≡◌, ◌<◌, ◌^◌, ◌∷◌, [], map, true, IfOk};
+ghost use Rattle.flame_layout.specs.Boxes.{compared_of};
 ghost use Rattle.flame_layout.specs.Comparison.{compared_boxes_of};
+ghost use Rattle.merged_stacks.specs.Paired.{paired_stacks};
 ghost use Rattle.merged_stacks.specs.Timeline.{total_weight};
 ghost use Rattle.page_texts.specs.Drawn.{drawing_of};
 ghost use Rattle.page_views.specs.checked.DrawnProfiles.{IsDrawnOf, profile_drawing};
 
 use crate::headings::Heading;
-use flame_layout::{ComparedBox, draw_comparison};
+use flame_layout::{DrawnPair, draw_paired};
+use merged_stacks::PairedStacks;
 use page_texts::Drawing;
 use stack_core::SourceList;
 use std::alloc::{AllocError, Global};
 
+// The stacks of two profiles side by side, once in each order.
+#[derive(Drop)]
+pub(crate) struct PairedProfiles {
+    // Those of the profile after stand first.
+    pub(crate) before: PairedStacks,
+    // Those of the profile before stand first.
+    pub(crate) after: PairedStacks,
+}
+
 // The flame graphs of two profiles.
 #[derive(Drop)]
-pub(crate) struct DrawnProfiles {
-    pub(crate) before: DrawnProfile,
-    pub(crate) after: DrawnProfile,
+pub(crate) struct DrawnProfiles<'a> {
+    pub(crate) before: DrawnProfile<'a>,
+    pub(crate) after: DrawnProfile<'a>,
 }
 
 // The boxes of a profile's flame graph, with the weights of the other, and the sum of the weights of its samples.
 #[derive(Drop)]
-pub(crate) struct DrawnProfile {
+pub(crate) struct DrawnProfile<'a> {
     pub(crate) total: u64,
-    pub(crate) boxes: Vec<ComparedBox>,
+    pub(crate) boxes: Vec<DrawnPair<'a>>,
 }
 
-// The boxes of both flame graphs.
-pub(crate) fn draw_profiles(
+// The stacks that lend the boxes of both flame graphs their names.
+pub(crate) fn pair_profiles(
     alloc: Global,
     before: &SourceList,
     after: &SourceList,
-) -> Result<DrawnProfiles, AllocError>
+) -> Result<PairedProfiles, AllocError>
+    requires before { total_weight before.now.samples < 2 ^ 64 }
+    requires after { total_weight after.now.samples < 2 ^ 64 }
+    ensures before { IfOk result (λ stacks.
+        stacks.before ≡ paired_stacks after.now.samples before.now.samples) }
+    ensures after { IfOk result (λ stacks.
+        stacks.after ≡ paired_stacks before.now.samples after.now.samples) }
+{
+    Ok(PairedProfiles {
+        before: PairedStacks::of(alloc, after, before)?,
+        after: PairedStacks::of(alloc, before, after)?,
+    })
+}
+
+// The boxes of both flame graphs.
+pub(crate) fn draw_profiles<'a>(
+    alloc: Global,
+    stacks: &'a PairedProfiles,
+    before: &SourceList,
+    after: &SourceList,
+) -> Result<DrawnProfiles<'a>, AllocError>
+    requires stacks_before { stacks.now.before ≡ paired_stacks after.now.samples before.now.samples }
+    requires stacks_after { stacks.now.after ≡ paired_stacks before.now.samples after.now.samples }
     requires before { total_weight before.now.samples < 2 ^ 64 }
     requires after { total_weight after.now.samples < 2 ^ 64 }
     ensures before { IfOk result (λ drawn.
@@ -39,34 +73,36 @@ pub(crate) fn draw_profiles(
         IsDrawnOf before.now.samples after.now.samples drawn.after) }
 {
     Ok(DrawnProfiles {
-        before: draw_profile(alloc, after, before)?,
-        after: draw_profile(alloc, before, after)?,
+        before: draw_profile(alloc, &stacks.before, after, before)?,
+        after: draw_profile(alloc, &stacks.after, before, after)?,
     })
 }
 
 // The boxes of the flame graph of a profile, with the weights of the other.
-fn draw_profile(
+fn draw_profile<'a>(
     alloc: Global,
+    stacks: &'a PairedStacks,
     other: &SourceList,
     profile: &SourceList,
-) -> Result<DrawnProfile, AllocError>
+) -> Result<DrawnProfile<'a>, AllocError>
+    requires stacks { stacks.now ≡ paired_stacks other.now.samples profile.now.samples }
     requires other { total_weight other.now.samples < 2 ^ 64 }
     requires profile { total_weight profile.now.samples < 2 ^ 64 }
     ensures { IfOk result (IsDrawnOf other.now.samples profile.now.samples) }
 {
-    let boxes = draw_comparison(alloc, other, profile)?;
+    let boxes = draw_paired(alloc, stacks, other, profile)?;
     let total = profile.total() as u64;
     Ok(DrawnProfile { total, boxes })
 }
 
 // The drawings of both.
-pub(crate) fn profile_drawings<'a>(
+pub(crate) fn profile_drawings<'a, 'n>(
     alloc: Global,
-    drawn: &'a DrawnProfiles,
+    drawn: &'a DrawnProfiles<'n>,
     heading: &Heading<'_>,
-) -> Result<Vec<Drawing<'a, ComparedBox>>, AllocError>
+) -> Result<Vec<Drawing<'a, DrawnPair<'n>>>, AllocError>
     ensures { IfOk result (λ drawings.
-        map (drawing_of (λ compared. compared.span) (λ compared. compared.before) true) drawings.items
+        map (drawing_of (λ pair. (compared_of pair).span) (λ pair. pair.total_before) true) drawings.items
         ≡ profile_drawing heading.now.least drawn.now.before
         ∷ profile_drawing heading.now.least drawn.now.after ∷ []) }
 {
@@ -77,8 +113,11 @@ pub(crate) fn profile_drawings<'a>(
 }
 
 // The drawing of a profile.
-fn profile_drawing<'a>(profile: &'a DrawnProfile, heading: &Heading<'_>) -> Drawing<'a, ComparedBox>
-    ensures { drawing_of (λ compared. compared.span) (λ compared. compared.before) true result
+fn profile_drawing<'a, 'n>(
+    profile: &'a DrawnProfile<'n>,
+    heading: &Heading<'_>,
+) -> Drawing<'a, DrawnPair<'n>>
+    ensures { drawing_of (λ pair. (compared_of pair).span) (λ pair. pair.total_before) true result
         ≡ profile_drawing heading.now.least profile.now }
 {
     heading.drawing(&profile.boxes, profile.total, None)

@@ -5,7 +5,7 @@ ghost use Rattle.merged_stacks.specs.Timeline.{samples_of, timeline, total_weigh
 ghost use Rattle.page_texts.specs.Page.{page_text};
 ghost use Rattle.page_views.specs.Pages.{chart_page, comparison_page, heading_of, snapshots_page, view_page};
 
-use crate::drawn_profiles::{draw_profiles, profile_drawings};
+use crate::drawn_profiles::{draw_profiles, pair_profiles, profile_drawings};
 use crate::drawn_runs::{draw_run, run_drawings};
 use crate::headings::Heading;
 use page_texts::append_page_data;
@@ -102,7 +102,8 @@ fn append_comparison(
         ++ page_text (comparison_page (heading_of heading.now) before.now.samples after.now.samples)) }
     ensures err { OnErr result (out.new.items ≡ out.old.items) }
 {
-    let drawn = draw_profiles(alloc, before, after)?;
+    let stacks = pair_profiles(alloc, before, after)?;
+    let drawn = draw_profiles(alloc, &stacks, before, after)?;
     let drawings = profile_drawings(alloc, &drawn, heading)?;
     append_page_data(alloc, out, &heading.page("compare", &drawings))
 }

@@ -14,7 +14,7 @@ ghost use Rattle.stack_core.specs.Interleaving.{list_of};
 use crate::run_facts::{RunFacts, told_whole};
 use byte_io::{Outlet, Pieces, send_pieces};
 use command_line::{Plan, TopTable, View};
-use flame_layout::{MergedStacks, Width, draw_comparison, draw_merged};
+use flame_layout::{MergedStacks, Width, draw_merged, draw_paired};
 use merged_stacks::PairedStacks;
 use merging::{Gathered, SourceLists};
 use opened_sources::Failure;
@@ -24,7 +24,7 @@ use source_views::{
 use stack_core::SourceList;
 use std::alloc::Global;
 use sum_texts::{SumLine, SumTable};
-use view_texts::{FoldedText, PairedText, Scale, comparison_line};
+use view_texts::{FoldedText, PairedText, Scale, drawn_comparison_line};
 
 /// Sends the text of a plan's view without snapshots, and draws no more than that view needs.
 pub fn send_asked_view<W: Outlet>(
@@ -159,9 +159,10 @@ fn send_compared<W: Outlet>(
     ensures flushed { Flushes (W.is_flushed out.new) (W.failures out.old) (W.failures out.new)
         result }
 {
-    let boxes = draw_comparison(alloc, before, after)?;
+    let stacks = PairedStacks::of(alloc, before, after)?;
+    let boxes = draw_paired(alloc, &stacks, before, after)?;
     let total = after.total() as u64;
-    let line = comparison_line(before.total() as u64, &boxes, Scale { total, width });
+    let line = drawn_comparison_line(before.total() as u64, &boxes, Scale { total, width });
     send_text(alloc, &line, out)
 }
 

@@ -4,7 +4,7 @@ ghost use Rattle.std.specs.Prelude.{◌≡◌, ℕ, ◌+◌, ◌<◌, ◌≤◌,
 ghost use Rattle.std.specs.Io.{StartsWith};
 ghost use Rattle.serde_json.specs.Data.{Data};
 ghost use Rattle.serde_json.specs.Written.{compact_text, members_text};
-ghost use Rattle.flame_layout.specs.Boxes.{span_of};
+ghost use Rattle.flame_layout.specs.Boxes.{compared_of, span_of};
 ghost use Rattle.flame_layout.specs.Edges.{placed_at};
 ghost use Rattle.view_texts.specs.Json.{box_data, box_members, compared_box_data};
 ghost use Rattle.view_texts.specs.checked.BoxParts.{before_name, behind_name};
@@ -12,7 +12,7 @@ ghost use Rattle.view_texts.specs.checked.BoxParts.{before_name, behind_name};
 use crate::json_pieces::{append_number, append_quoted};
 use crate::put_pieces::{put_number, put_piece};
 use crate::scales::Scale;
-use flame_layout::{ComparedBox, DrawnBox, FlameBox, SpanBox, edges};
+use flame_layout::{ComparedBox, DrawnBox, DrawnPair, FlameBox, SpanBox, edges};
 use std::alloc::{AllocError, Global};
 
 /// A box of a line of JSON, which is an object there.
@@ -58,9 +58,37 @@ impl JsonBox for ComparedBox {
     ghost end = { λ compared. compared.span.start + compared.span.weight };
 
     fn append(&self, alloc: Global, text: &mut Vec<u8>, scale: &Scale) -> Result<(), AllocError> {
-        append_number(text, b"{\"before\":", self.before)?;
-        append_members(alloc, text, b',', &self.span, scale)
+        append_compared(alloc, text, self.before, &self.span, scale)
     }
+}
+
+impl<'a> JsonBox for DrawnPair<'a> {
+    ghost object_of = { λ total width pair. compared_box_data total width (compared_of pair) };
+
+    ghost end = { λ pair. pair.drawn.start + pair.drawn.weight };
+
+    fn append(&self, alloc: Global, text: &mut Vec<u8>, scale: &Scale) -> Result<(), AllocError> {
+        append_compared(alloc, text, self.total_before, &self.drawn, scale)
+    }
+}
+
+// Appends a box of a comparison, which has the total of its path in the profile before.
+fn append_compared<B: FlameBox>(
+    alloc: Global,
+    text: &mut Vec<u8>,
+    before: u64,
+    span: &B,
+    scale: &Scale,
+) -> Result<(), AllocError>
+    requires within { (B.span span.now).start + (B.span span.now).weight ≤ scale.now.total }
+    requires positive { 0 < scale.now.total }
+    ensures ok { OnOk result (text.new.items ≡ text.old.items ++ compact_text
+        (compared_box_data scale.now.total scale.now.width
+        (record { span = B.span span.now; before = before }))) }
+    ensures front { StartsWith text.new.items text.old.items }
+{
+    append_number(text, b"{\"before\":", before)?;
+    append_members(alloc, text, b',', span, scale)
 }
 
 // Appends a byte, the members of a box, and the bracket after them.

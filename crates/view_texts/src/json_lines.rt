@@ -3,14 +3,14 @@
 
 ghost use Rattle.std.specs.Prelude.{◌≡◌, ◌+◌, ◌<◌, ◌≤◌, ◌^◌, ◌++◌, All, length, map, OnOk, OnErr};
 ghost use Rattle.std.specs.List.{concat};
-ghost use Rattle.flame_layout.specs.Boxes.{span_of};
+ghost use Rattle.flame_layout.specs.Boxes.{compared_of, span_of};
 ghost use Rattle.view_texts.specs.Json.{boxes_line, snapshot_line, pair_boxes_line};
 
 use crate::json_line::JsonLine;
 use crate::line_kinds::LineKind;
 use crate::scales::Scale;
 use byte_io::{Pieces, append_pieces};
-use flame_layout::{ComparedBox, DrawnBox, SpanBox};
+use flame_layout::{ComparedBox, DrawnBox, DrawnPair, SpanBox};
 use std::alloc::{AllocError, Global};
 
 /// The line of a picture, as `append_boxes_line` appends it.
@@ -62,6 +62,28 @@ pub fn comparison_line<'a>(
     let _count = boxes.len();
     let kind = LineKind::Comparison { before };
     JsonLine::of(kind, "compare", &[], boxes, scale)
+}
+
+/// The line of `comparison_line`, of boxes whose names are lent.
+pub fn drawn_comparison_line<'a>(
+    before: u64,
+    boxes: &'a [DrawnPair<'a>],
+    scale: Scale,
+) -> JsonLine<'a, DrawnPair<'a>>
+    requires within { All (λ pair. pair.drawn.start + pair.drawn.weight ≤ scale.total) boxes.now }
+    requires positive { 0 < length boxes.now → 0 < scale.total }
+    ensures text { concat (⟦<JsonLine<'a, DrawnPair<'a>> as Pieces>⟧.pieces result)
+        ≡ pair_boxes_line before scale.total scale.width (map compared_of boxes.now) }
+    ensures few { length (⟦<JsonLine<'a, DrawnPair<'a>> as Pieces>⟧.pieces result) < 2 ^ 64 }
+{
+    let _count = boxes.len();
+    JsonLine::of(
+        LineKind::Comparison { before },
+        "compare",
+        &[],
+        boxes,
+        scale,
+    )
 }
 
 /// Appends the line of a picture: the name of its view, as `graph` or `chart`, and its boxes in their

@@ -2,6 +2,7 @@
 use Rattle.std.specs.Prelude.{◌≡◌, ℕ, List, map, true, Option, None}
 use Rattle.sample_tables.specs.declared.samples.Sample.{Sample}
 use Rattle.merged_stacks.specs.Timeline.{total_weight}
+use Rattle.flame_layout.specs.Boxes.{compared_of}
 use Rattle.flame_layout.specs.Comparison.{compared_boxes_of}
 use Rattle.page_texts.specs.Page.{PageDrawing}
 use Rattle.page_views.specs.declared.drawn_profiles.DrawnProfile.{DrawnProfile}
@@ -9,7 +10,7 @@ use Rattle.page_views.specs.Pages.{least_of}
 
 -- the flame graph of these samples, with the weights of the others
 pub record IsDrawnOf (other samples : List Sample) (profile : DrawnProfile) : Type 0 where
-  pub boxes : profile.boxes.items ≡ compared_boxes_of other samples
+  pub boxes : map compared_of profile.boxes.items ≡ compared_boxes_of other samples
   pub total : profile.total ≡ total_weight samples
 
 abbrev pub profile_drawing : Option ℕ → DrawnProfile → PageDrawing
@@ -18,5 +19,5 @@ profile_drawing least profile = record {
   is_compared = true;
   least = least_of least profile.total;
   total = profile.total;
-  boxes = map (λ compared. record { span = compared.span; other = compared.before }) profile.boxes.items;
+  boxes = map (λ compared. record { span = compared.span; other = compared.before }) (map compared_of profile.boxes.items);
 }
