@@ -1,15 +1,22 @@
 -- What builders make of a command, and of a command line.
-use Rattle.std.proofs.Common.{◌≡◌, ◌∙◌, Bool, List, [], ◌∷◌, ◌++◌, true, false, not, ap, ap₂, append_assoc, map, refl, sym, is_some}
-use Rattle.std.proofs.lemmas.List.{append-nil}
+use Rattle.std.proofs.Common.{◌≡◌, ◌∙◌, ◌<◌, ◌+◌, ℕ, Bool, List, [], ◌∷◌, true, false, not, ap, ap₂, get_or, length, map, refl, sym, is_some, take}
+use Rattle.std.specs.List.{fold}
+use Rattle.std.proofs.lemmas.List.{map-append, take_more}
+use Rattle.std.proofs.lemmas.List.Sums.{fold-append}
 use Rattle.clap.proofs.WalkLemmas.{both}
-use Rattle.clap.specs.Built.{AddsArg, AddsInTurn, AddsSubcommand}
-use Rattle.clap.specs.Simple.{App, Shape, app_of, app_of_fields, new_app, on_top, shape_of, with_rule, with_subcommand}
+use Rattle.clap.specs.Built.{AddsArg, AddsSubcommand}
+use Rattle.clap.specs.Simple.{App, Shape, app_of, app_of_fields, shape_of, with_rule, with_subcommand}
 use Rattle.clap.specs.Walk.{Rule, Text, is_empty, is_simple_arg, rule_of}
 use Rattle.clap.specs.declared.builder.arg.Arg.{Arg}
 use Rattle.clap.specs.declared.builder.command.Command.{Command}
 use Rattle.clap.specs.declared.builder.command.Command.TheViews.{out-Command}
 use Rattle.command_line.specs.CommandLine.{command}
-use Rattle.command_line.specs.checked.Apps.{all_simple, as_app}
+use Rattle.command_line.specs.checked.Apps.{as_app}
+use Rattle.command_line.specs.checked.Commands.{rule_at, shape_at}
+use Rattle.command_line.specs.declared.argument_lists.Argument.{Argument}
+use Rattle.command_line.specs.declared.argument_lists.Argument.TheVariants as argument
+use Rattle.command_line.specs.declared.commands.Subcommand.{Subcommand}
+use Rattle.command_line.specs.declared.commands.Subcommand.TheVariants as subcommand
 
 is_no : (b : Bool) → not b ≡ true → b ≡ false
 is_no false e = refl
@@ -37,19 +44,46 @@ with_argument : (old new : Command) (a : Arg) (app : App) (r : Rule) → AddsArg
 with_argument old new a app r added start is simple =
     added.shape (simple_rule_is_local a r is simple) ∙ ap₂ with_rule start is
 
--- `Command::args`
-pub with_arguments : (old new : Command) (arguments : List Arg) (app : App) → AddsInTurn AddsArg old arguments new → app_of old ≡ app
-    → all_simple (map rule_of arguments) ≡ true → app_of new ≡ on_top (λ (s : Shape). record s { rules = s.rules ++ map rule_of arguments }) app
-with_arguments old new [] app added start simple =
-    ap app_of (sym added) ∙ start ∙ ap (λ (rules : List Rule). on_top (λ (s : Shape). record s { rules = rules }) app) (sym (append-nil app.top.rules))
-with_arguments old new (a ∷ rest) app added start simple =
-    let parts = both (rule_of a).is_simple (all_simple (map rule_of rest)) simple in
-    let one = with_argument old added.0 a app (rule_of a) added.1 start refl parts.0 in
-    with_arguments added.0 new rest (with_rule app (rule_of a)) added.2 one parts.1
-    ∙ ap (λ (rules : List Rule). on_top (λ (s : Shape). record s { rules = rules }) app) (append_assoc app.top.rules (rule_of a ∷ []) (map rule_of rest))
+argument_is_simple : (a : Argument) → (rule_at a).is_simple ≡ true
+argument_is_simple argument.Width = refl
+argument_is_simple argument.Type = refl
+argument_is_simple argument.Format = refl
+argument_is_simple argument.Focus = refl
+argument_is_simple argument.Hide = refl
+argument_is_simple argument.Ring = refl
+argument_is_simple argument.Every = refl
+argument_is_simple argument.Lines = refl
+argument_is_simple argument.Boxes = refl
+argument_is_simple argument.Rows = refl
+argument_is_simple argument.By = refl
+argument_is_simple argument.Json = refl
+argument_is_simple argument.Quiet = refl
+argument_is_simple argument.Page = refl
+argument_is_simple argument.Title = refl
+argument_is_simple argument.Least = refl
+argument_is_simple argument.Files = refl
+argument_is_simple argument.Before = refl
+argument_is_simple argument.After = refl
+argument_is_simple argument.Profile = refl
 
-pub also : {first second : Rule} {rest others : List Rule} → first ≡ second → rest ≡ others → first ∷ rest ≡ second ∷ others
-also one more = ap₂ (λ (r : Rule) (rules : List Rule). r ∷ rules) one more
+-- `Command::arg`, of the next of a command's arguments
+pub with_next_argument : (old new : Command) (built : Arg) (name : Text) (arguments : List Argument) (at : ℕ) (d : Argument)
+    → at < length arguments → AddsArg old built new → app_of old ≡ as_app (command name (map rule_at (take at arguments)))
+    → rule_of built ≡ rule_at (get_or arguments at d)
+    → app_of new ≡ as_app (command name (map rule_at (take (at + 1) arguments)))
+with_next_argument old new built name arguments at d below added start is =
+    let a = get_or arguments at d in
+    with_argument old new built (as_app (command name (map rule_at (take at arguments)))) (rule_at a) added start is (argument_is_simple a)
+    ∙ ap (λ (rules : List Rule). as_app (command name rules))
+    (sym (ap (map rule_at) (take_more arguments at d below) ∙ map-append rule_at (take at arguments) (a ∷ [])))
+
+pub with_all_arguments : (s : Subcommand) → command (shape_at s).name (shape_at s).rules ≡ shape_at s
+with_all_arguments subcommand.Fold = refl
+with_all_arguments subcommand.Graph = refl
+with_all_arguments subcommand.Chart = refl
+with_all_arguments subcommand.Compare = refl
+with_all_arguments subcommand.Top = refl
+with_all_arguments subcommand.Types = refl
 
 -- `Command::bin_name`, of whose clause `P` is the rest
 pub with_bin_name : (old new : Command) (app : App) (P : Type 0) → app_of old ≡ app
@@ -63,30 +97,23 @@ plain_is_local c e =
     let globals = both (not (out-Command c).has_globals) _ external.1 in
     is_no (out-Command c).has_globals globals.0
 
--- `Command::subcommand`, of a command without subcommands
-with_command : (old new sub : Command) (app : App) (s : Shape) → AddsSubcommand old sub new
-    → app_of old ≡ app → app_of sub ≡ as_app s → s.is_plain ≡ true
-    → app_of new ≡ with_subcommand app s
-with_command old new sub app s added start is plain =
-    let same : shape_of sub ≡ s = ap (λ (a : App). a.top) is in
-    added.shape (plain_is_local sub (ap (λ (x : Shape). x.is_plain) same ∙ plain))
+command_is_plain : (s : Subcommand) → (shape_at s).is_plain ≡ true
+command_is_plain subcommand.Fold = refl
+command_is_plain subcommand.Graph = refl
+command_is_plain subcommand.Chart = refl
+command_is_plain subcommand.Compare = refl
+command_is_plain subcommand.Top = refl
+command_is_plain subcommand.Types = refl
+
+-- `Command::subcommand`, of the next of the commands
+pub with_next_command : (old new sub : Command) (app : App) (commands : List Subcommand) (at : ℕ) (d : Subcommand)
+    → at < length commands → AddsSubcommand old sub new → app_of sub ≡ as_app (shape_at (get_or commands at d))
+    → app_of old ≡ fold with_subcommand app (map shape_at (take at commands))
+    → app_of new ≡ fold with_subcommand app (map shape_at (take (at + 1) commands))
+with_next_command old new sub app commands at d below added made start =
+    let s = get_or commands at d in
+    let shapes = ap (map shape_at) (take_more commands at d below) ∙ map-append shape_at (take at commands) (s ∷ []) in
+    let same : shape_of sub ≡ shape_at s = ap (λ (a : App). a.top) made in
+    added.shape (plain_is_local sub (ap (λ (x : Shape). x.is_plain) same ∙ command_is_plain s))
     ∙ ap₂ with_subcommand start same
-
--- of a new command with arguments
-pub with_new_command : (line bare full new : Command) (name : Text) (arguments : List Arg) → AddsInTurn AddsArg bare arguments full
-    → app_of bare ≡ new_app name → AddsSubcommand line full new → all_simple (map rule_of arguments) ≡ true
-    → app_of new ≡ with_subcommand (app_of line) (command name (map rule_of arguments))
-with_new_command line bare full new name arguments added named met simple =
-    with_command line new full (app_of line) (command name (map rule_of arguments)) met refl (with_arguments bare full arguments (new_app name) added named simple) refl
-
--- of one with arguments whose rules are known
-pub with_known_command : (line new : Command) (name : Text) (rules known : List Rule) → rules ≡ known → all_simple known ≡ true
-    → (all_simple rules ≡ true → app_of new ≡ with_subcommand (app_of line) (command name rules))
-    → app_of new ≡ with_subcommand (app_of line) (command name known)
-with_known_command line new name rules known same simple given =
-    given (ap all_simple same ∙ simple) ∙ ap (λ (rules : List Rule). with_subcommand (app_of line) (command name rules)) same
-
--- of one more, where the line is known
-pub one_more : (line new : Command) (app : App) (s : Shape) → app_of line ≡ app → app_of new ≡ with_subcommand (app_of line) s
-    → app_of new ≡ with_subcommand app s
-one_more line new app s is added = added ∙ ap (λ (app : App). with_subcommand app s) is
+    ∙ sym (ap (fold with_subcommand app) shapes ∙ fold-append with_subcommand app (map shape_at (take at commands)) (shape_at s ∷ []))

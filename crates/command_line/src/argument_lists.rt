@@ -1,7 +1,7 @@
 //! The arguments of each command, in the order of its help.
-ghost use Rattle.std.specs.Prelude.{◌≡◌, IfOk, map};
+ghost use Rattle.std.specs.Prelude.{◌≡◌};
 ghost use Rattle.clap.specs.Words.{rule_of};
-ghost use Rattle.command_line.specs.CommandLine.{chart_command, compare_command, fold_command, graph_command, top_command, types_command};
+ghost use Rattle.command_line.specs.checked.Commands.{rule_at};
 
 use crate::arguments::{
     boxes_flag, by_option, every_option, files, focus_option, format_option, hide_option,
@@ -9,116 +9,138 @@ use crate::arguments::{
     title_option, type_option, width_option,
 };
 use clap::Arg;
-use std::alloc::{AllocError, Global};
+use std::alloc::Global;
 
-pub(crate) fn fold_arguments<'a>(alloc: Global) -> Result<Vec<Arg<'a>>, AllocError>
-    ensures { IfOk result (λ arguments. map rule_of arguments.items ≡ fold_command.rules) }
-{
-    let arguments = vec![in alloc;
-        type_option(alloc),
-        format_option(alloc),
-        focus_option(alloc),
-        hide_option(alloc),
-        ring_option(alloc),
-        lines_flag(alloc),
-        quiet_flag(alloc),
-        files(alloc),
-    ]?;
-    Ok(arguments)
+// An argument of one command or of several.
+pub(crate) enum Argument {
+    Width,
+    Type,
+    Format,
+    Focus,
+    Hide,
+    Ring,
+    Every,
+    Lines,
+    Boxes,
+    Rows,
+    By,
+    Json,
+    Quiet,
+    Page,
+    Title,
+    Least,
+    Files,
+    Before,
+    After,
+    Profile,
 }
 
-pub(crate) fn graph_arguments<'a>(alloc: Global) -> Result<Vec<Arg<'a>>, AllocError>
-    ensures { IfOk result (λ arguments. map rule_of arguments.items ≡ graph_command.rules) }
-{
-    let arguments = vec![in alloc;
-        width_option(alloc),
-        type_option(alloc),
-        format_option(alloc),
-        focus_option(alloc),
-        hide_option(alloc),
-        ring_option(alloc),
-        every_option(alloc),
-        lines_flag(alloc),
-        quiet_flag(alloc),
-        page_flag(alloc),
-        title_option(alloc),
-        least_option(alloc),
-        files(alloc),
-    ]?;
-    Ok(arguments)
-}
+pub(crate) const FOLD: &[Argument] = &[
+    Argument::Type,
+    Argument::Format,
+    Argument::Focus,
+    Argument::Hide,
+    Argument::Ring,
+    Argument::Lines,
+    Argument::Quiet,
+    Argument::Files,
+];
 
-pub(crate) fn chart_arguments<'a>(alloc: Global) -> Result<Vec<Arg<'a>>, AllocError>
-    ensures { IfOk result (λ arguments. map rule_of arguments.items ≡ chart_command.rules) }
-{
-    let arguments = vec![in alloc;
-        width_option(alloc),
-        type_option(alloc),
-        format_option(alloc),
-        focus_option(alloc),
-        hide_option(alloc),
-        ring_option(alloc),
-        lines_flag(alloc),
-        quiet_flag(alloc),
-        page_flag(alloc),
-        title_option(alloc),
-        least_option(alloc),
-        files(alloc),
-    ]?;
-    Ok(arguments)
-}
+pub(crate) const GRAPH: &[Argument] = &[
+    Argument::Width,
+    Argument::Type,
+    Argument::Format,
+    Argument::Focus,
+    Argument::Hide,
+    Argument::Ring,
+    Argument::Every,
+    Argument::Lines,
+    Argument::Quiet,
+    Argument::Page,
+    Argument::Title,
+    Argument::Least,
+    Argument::Files,
+];
 
-pub(crate) fn compare_arguments<'a>(alloc: Global) -> Result<Vec<Arg<'a>>, AllocError>
-    ensures { IfOk result (λ arguments. map rule_of arguments.items ≡ compare_command.rules) }
-{
-    let arguments = vec![in alloc;
-        width_option(alloc),
-        type_option(alloc),
-        format_option(alloc),
-        focus_option(alloc),
-        hide_option(alloc),
-        ring_option(alloc),
-        boxes_flag(alloc),
-        lines_flag(alloc),
-        quiet_flag(alloc),
-        page_flag(alloc),
-        title_option(alloc),
-        least_option(alloc),
-        one_file(alloc, "before", "BEFORE", "The profile before"),
-        one_file(alloc, "after", "AFTER", "The profile after"),
-    ]?;
-    Ok(arguments)
-}
+pub(crate) const CHART: &[Argument] = &[
+    Argument::Width,
+    Argument::Type,
+    Argument::Format,
+    Argument::Focus,
+    Argument::Hide,
+    Argument::Ring,
+    Argument::Lines,
+    Argument::Quiet,
+    Argument::Page,
+    Argument::Title,
+    Argument::Least,
+    Argument::Files,
+];
 
-pub(crate) fn top_arguments<'a>(alloc: Global) -> Result<Vec<Arg<'a>>, AllocError>
-    ensures { IfOk result (λ arguments. map rule_of arguments.items ≡ top_command.rules) }
-{
-    let arguments = vec![in alloc;
-        rows_option(alloc),
-        by_option(alloc),
-        json_flag(alloc),
-        type_option(alloc),
-        format_option(alloc),
-        focus_option(alloc),
-        hide_option(alloc),
-        ring_option(alloc),
-        lines_flag(alloc),
-        quiet_flag(alloc),
-        files(alloc),
-    ]?;
-    Ok(arguments)
-}
+pub(crate) const COMPARE: &[Argument] = &[
+    Argument::Width,
+    Argument::Type,
+    Argument::Format,
+    Argument::Focus,
+    Argument::Hide,
+    Argument::Ring,
+    Argument::Boxes,
+    Argument::Lines,
+    Argument::Quiet,
+    Argument::Page,
+    Argument::Title,
+    Argument::Least,
+    Argument::Before,
+    Argument::After,
+];
 
-pub(crate) fn types_arguments<'a>(alloc: Global) -> Result<Vec<Arg<'a>>, AllocError>
-    ensures { IfOk result (λ arguments. map rule_of arguments.items ≡ types_command.rules) }
-{
-    let arguments = vec![in alloc;
-        one_file(
-            alloc,
-            "file",
-            "FILE",
-            "The pprof profile, whatever its name"
-        ),
-    ]?;
-    Ok(arguments)
+pub(crate) const TOP: &[Argument] = &[
+    Argument::Rows,
+    Argument::By,
+    Argument::Json,
+    Argument::Type,
+    Argument::Format,
+    Argument::Focus,
+    Argument::Hide,
+    Argument::Ring,
+    Argument::Lines,
+    Argument::Quiet,
+    Argument::Files,
+];
+
+pub(crate) const TYPES: &[Argument] = &[Argument::Profile];
+
+impl Argument {
+    // The argument, as `clap` takes it.
+    pub(crate) fn built<'a>(&self, alloc: Global) -> Arg<'a>
+        ensures { rule_of result ≡ rule_at self.now }
+    {
+        match self {
+            Argument::Width => width_option(alloc),
+            Argument::Type => type_option(alloc),
+            Argument::Format => format_option(alloc),
+            Argument::Focus => focus_option(alloc),
+            Argument::Hide => hide_option(alloc),
+            Argument::Ring => ring_option(alloc),
+            Argument::Every => every_option(alloc),
+            Argument::Lines => lines_flag(alloc),
+            Argument::Boxes => boxes_flag(alloc),
+            Argument::Rows => rows_option(alloc),
+            Argument::By => by_option(alloc),
+            Argument::Json => json_flag(alloc),
+            Argument::Quiet => quiet_flag(alloc),
+            Argument::Page => page_flag(alloc),
+            Argument::Title => title_option(alloc),
+            Argument::Least => least_option(alloc),
+            Argument::Files => files(alloc),
+            Argument::Before => one_file(alloc, "before", "BEFORE", "The profile before"),
+            Argument::After => one_file(alloc, "after", "AFTER", "The profile after"),
+            Argument::Profile => one_file(
+                alloc,
+                "file",
+                "FILE",
+                "The pprof profile, whatever its name",
+            ),
+        }
+    }
 }

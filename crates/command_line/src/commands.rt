@@ -1,14 +1,12 @@
 //! The command line, as `clap` reads it and as its help shows it.
-ghost use Rattle.std.specs.Prelude.{◌≡◌, IfOk, map, true};
-ghost use Rattle.clap.specs.Words.{app_of, new_app, rule_of, with_subcommand};
-ghost use Rattle.command_line.specs.CommandLine.{chart_command, command, command_line, compare_command, fold_command, graph_command, top_command, types_command};
-ghost use Rattle.command_line.specs.checked.Apps.{all_simple, program};
+ghost use Rattle.std.specs.Prelude.{◌≡◌, IfOk, map};
+ghost use Rattle.clap.specs.Words.{app_of, new_app};
+ghost use Rattle.command_line.specs.CommandLine.{command_line};
+ghost use Rattle.command_line.specs.checked.Apps.{as_app, program};
+ghost use Rattle.command_line.specs.checked.Commands.{rule_at, shape_at};
 
-use crate::argument_lists::{
-    chart_arguments, compare_arguments, fold_arguments, graph_arguments, top_arguments,
-    types_arguments,
-};
-use clap::{Arg, Command};
+use crate::argument_lists::{Argument, CHART, COMPARE, FOLD, GRAPH, TOP, TYPES};
+use clap::Command;
 use std::alloc::{AllocError, Global};
 
 // The day of the newest entry in CHANGELOG.md.
@@ -46,17 +44,97 @@ const TYPES_EXAMPLE: &str = "\
 Example: flamecollect types cpu.pprof
 Compressed: gzip -dk cpu.pb.gz makes cpu.pb, whose types can be told";
 
+// The commands.
+enum Subcommand {
+    Fold,
+    Graph,
+    Chart,
+    Compare,
+    Top,
+    Types,
+}
+
+// In the order of the help.
+const COMMANDS: &[Subcommand] = &[
+    Subcommand::Fold,
+    Subcommand::Graph,
+    Subcommand::Chart,
+    Subcommand::Compare,
+    Subcommand::Top,
+    Subcommand::Types,
+];
+
+impl Subcommand {
+    fn name<'a>(&self) -> &'a str
+        ensures { result.now ≡ (shape_at self.now).name }
+    {
+        match self {
+            Subcommand::Fold => "fold",
+            Subcommand::Graph => "graph",
+            Subcommand::Chart => "chart",
+            Subcommand::Compare => "compare",
+            Subcommand::Top => "top",
+            Subcommand::Types => "types",
+        }
+    }
+
+    fn about<'a>(&self) -> &'a str {
+        match self {
+            Subcommand::Fold =>
+                "Write each stack once with the sum of its weights, as folded lines",
+            Subcommand::Graph => "Write the flame graph as a line of JSON",
+            Subcommand::Chart => "Write the flame chart as a line of JSON",
+            Subcommand::Compare => "Write each stack of two profiles with its weight in both",
+            Subcommand::Top => "Write the functions with the greatest weights",
+            Subcommand::Types => "Write the sample types of a pprof profile, each with its unit",
+        }
+    }
+
+    fn example<'a>(&self) -> &'a str {
+        match self {
+            Subcommand::Fold => FOLD_EXAMPLE,
+            Subcommand::Graph => GRAPH_EXAMPLE,
+            Subcommand::Chart => CHART_EXAMPLE,
+            Subcommand::Compare => COMPARE_EXAMPLE,
+            Subcommand::Top => TOP_EXAMPLE,
+            Subcommand::Types => TYPES_EXAMPLE,
+        }
+    }
+
+    fn arguments(&self) -> &'static [Argument]
+        ensures { map rule_at result.now ≡ (shape_at self.now).rules }
+    {
+        match self {
+            Subcommand::Fold => FOLD,
+            Subcommand::Graph => GRAPH,
+            Subcommand::Chart => CHART,
+            Subcommand::Compare => COMPARE,
+            Subcommand::Top => TOP,
+            Subcommand::Types => TYPES,
+        }
+    }
+
+    // The command, as `clap` takes it.
+    fn built<'a>(&self, alloc: Global) -> Result<Command<'a>, AllocError>
+        ensures { IfOk result (λ command. app_of command ≡ as_app (shape_at self.now)) }
+    {
+        let mut command = described(alloc, self.name(), self.about(), self.example());
+        for argument in self.arguments() {
+            command = command.arg(argument.built(alloc))?;
+        }
+        Ok(command)
+    }
+}
+
 // The whole command line. Its words begin after the program's name.
 pub(crate) fn command_line<'a>(alloc: Global) -> Result<Command<'a>, AllocError>
     ensures { IfOk result (λ line. app_of line ≡ command_line) }
 {
-    let line = program(alloc)?;
-    let line = with_fold(alloc, line)?;
-    let line = with_graph(alloc, line)?;
-    let line = with_chart(alloc, line)?;
-    let line = with_compare(alloc, line)?;
-    let line = with_top(alloc, line)?;
-    with_types(alloc, line)
+    let mut line = program(alloc)?;
+    for command in COMMANDS {
+        line = line.subcommand(command.built(alloc)?)?;
+    }
+    Ok(line)
 }
 
 // The line without its commands.
@@ -69,107 +147,6 @@ fn program<'a>(alloc: Global) -> Result<Command<'a>, AllocError>
         .no_binary_name(true)
         .subcommand_required(true)
         .bin_name("flamecollect")
-}
-
-fn with_fold<'a>(alloc: Global, line: Command<'a>) -> Result<Command<'a>, AllocError>
-    ensures { IfOk result (λ new. app_of new ≡ with_subcommand (app_of line.entry) fold_command) }
-{
-    let arguments = fold_arguments(alloc)?;
-    with_command(
-        alloc,
-        line,
-        "fold",
-        "Write each stack once with the sum of its weights, as folded lines",
-        FOLD_EXAMPLE,
-        arguments,
-    )
-}
-
-fn with_graph<'a>(alloc: Global, line: Command<'a>) -> Result<Command<'a>, AllocError>
-    ensures { IfOk result (λ new. app_of new ≡ with_subcommand (app_of line.entry) graph_command) }
-{
-    let arguments = graph_arguments(alloc)?;
-    with_command(
-        alloc,
-        line,
-        "graph",
-        "Write the flame graph as a line of JSON",
-        GRAPH_EXAMPLE,
-        arguments,
-    )
-}
-
-fn with_chart<'a>(alloc: Global, line: Command<'a>) -> Result<Command<'a>, AllocError>
-    ensures { IfOk result (λ new. app_of new ≡ with_subcommand (app_of line.entry) chart_command) }
-{
-    let arguments = chart_arguments(alloc)?;
-    with_command(
-        alloc,
-        line,
-        "chart",
-        "Write the flame chart as a line of JSON",
-        CHART_EXAMPLE,
-        arguments,
-    )
-}
-
-fn with_compare<'a>(alloc: Global, line: Command<'a>) -> Result<Command<'a>, AllocError>
-    ensures { IfOk result (λ new. app_of new ≡ with_subcommand (app_of line.entry) compare_command) }
-{
-    let arguments = compare_arguments(alloc)?;
-    with_command(
-        alloc,
-        line,
-        "compare",
-        "Write each stack of two profiles with its weight in both",
-        COMPARE_EXAMPLE,
-        arguments,
-    )
-}
-
-fn with_top<'a>(alloc: Global, line: Command<'a>) -> Result<Command<'a>, AllocError>
-    ensures { IfOk result (λ new. app_of new ≡ with_subcommand (app_of line.entry) top_command) }
-{
-    let arguments = top_arguments(alloc)?;
-    with_command(
-        alloc,
-        line,
-        "top",
-        "Write the functions with the greatest weights",
-        TOP_EXAMPLE,
-        arguments,
-    )
-}
-
-fn with_types<'a>(alloc: Global, line: Command<'a>) -> Result<Command<'a>, AllocError>
-    ensures { IfOk result (λ new. app_of new ≡ with_subcommand (app_of line.entry) types_command) }
-{
-    let arguments = types_arguments(alloc)?;
-    with_command(
-        alloc,
-        line,
-        "types",
-        "Write the sample types of a pprof profile, each with its unit",
-        TYPES_EXAMPLE,
-        arguments,
-    )
-}
-
-// The line with one more command, which has these arguments.
-fn with_command<'a>(
-    alloc: Global,
-    line: Command<'a>,
-    name: &'a str,
-    about: &'a str,
-    example: &'a str,
-    arguments: Vec<Arg<'a>>,
-) -> Result<Command<'a>, AllocError>
-    ensures { IfOk result (λ new. all_simple (map rule_of arguments.entry.items) ≡ true
-        → app_of new ≡ with_subcommand (app_of line.entry)
-        (command name.entry.now (map rule_of arguments.entry.items))) }
-{
-    let command = described(alloc, name, about, example).args(arguments)?;
-    line.subcommand(command)
 }
 
 // A command without arguments, and what its help says of it.

@@ -42,10 +42,10 @@ fn view_plan(alloc: Global, name: &str, entries: &ArgMatches<'_>) -> Result<Plan
 {
     Ok(Plan {
         view: view(name, entries),
+        form: form(alloc, entries)?,
+        files: files(alloc, entries)?,
         options: options(alloc, entries)?,
         format: format(entries),
-        files: files(alloc, entries)?,
-        form: form(alloc, entries)?,
         is_quiet: entries.get_flag("quiet"),
     })
 }

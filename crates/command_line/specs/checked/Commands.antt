@@ -1,0 +1,39 @@
+-- What `clap` reads of each argument and of each command.
+use Rattle.std.specs.Prelude.{codes}
+use Rattle.clap.specs.Simple.{Shape}
+use Rattle.clap.specs.Walk.{Rule}
+use Rattle.command_line.specs.CommandLine.{any_files, boxes_flag, by_option, chart_command, compare_command, every_option, focus_option, fold_command, format_option, graph_command, hide_option, json_flag, least_option, lines_flag, one_file, page_flag, quiet_flag, ring_option, rows_option, title_option, top_command, type_option, types_command, width_option}
+use Rattle.command_line.specs.declared.argument_lists.Argument.{Argument}
+use Rattle.command_line.specs.declared.argument_lists.Argument.TheVariants as argument
+use Rattle.command_line.specs.declared.commands.Subcommand.{Subcommand}
+use Rattle.command_line.specs.declared.commands.Subcommand.TheVariants as subcommand
+
+abbrev pub rule_at : Argument → Rule
+rule_at argument.Width = width_option
+rule_at argument.Type = type_option
+rule_at argument.Format = format_option
+rule_at argument.Focus = focus_option
+rule_at argument.Hide = hide_option
+rule_at argument.Ring = ring_option
+rule_at argument.Every = every_option
+rule_at argument.Lines = lines_flag
+rule_at argument.Boxes = boxes_flag
+rule_at argument.Rows = rows_option
+rule_at argument.By = by_option
+rule_at argument.Json = json_flag
+rule_at argument.Quiet = quiet_flag
+rule_at argument.Page = page_flag
+rule_at argument.Title = title_option
+rule_at argument.Least = least_option
+rule_at argument.Files = any_files (codes "file")
+rule_at argument.Before = one_file (codes "before")
+rule_at argument.After = one_file (codes "after")
+rule_at argument.Profile = one_file (codes "file")
+
+abbrev pub shape_at : Subcommand → Shape
+shape_at subcommand.Fold = fold_command
+shape_at subcommand.Graph = graph_command
+shape_at subcommand.Chart = chart_command
+shape_at subcommand.Compare = compare_command
+shape_at subcommand.Top = top_command
+shape_at subcommand.Types = types_command
