@@ -1,3 +1,4 @@
+mod copies;
 mod of_run_options;
 mod of_sample_tables;
 mod of_stack_core;

@@ -2,18 +2,35 @@
 
 use run_options::{Filter, Format, FunctionOrder, MAX_WIDTH, Pick, RingSize, Width, format_of};
 use stack_core::{Names, Text};
+use std::alloc::{AllocError, Global};
+use std::process::Abort;
 use std::test::Fail;
+
+/// Holds at a row of a test.
+fn holds(rt: &impl Abort, row: &str, answer: bool) {
+    assert!(rt; answer, "{row}");
+}
+
+fn have_format(rt: &impl Abort, paths: &[&str], format: Format) {
+    for path in paths {
+        holds(rt, path, format_of(path) == format);
+    }
+}
 
 #[test]
 fn example_of_the_readme(rt: HostRuntime) -> Result<(), Fail> {
     let ring = RingSize::of(1_024).ok_or("no ring")?;
-    assert_eq!(rt; ring.get(), 1_024);
+    assert!(rt; ring.get() == 1_024);
     assert!(rt; RingSize::of(0).is_none());
     assert!(rt; Width::of(MAX_WIDTH).is_some());
     assert!(rt; Width::of(MAX_WIDTH + 1).is_none());
-    assert_eq!(rt; format_of("cpu.pprof"), Format::Pprof);
-    assert_eq!(rt; format_of("stacks.txt"), Format::Folded);
+    have_format(&rt, &["cpu.pprof"], Format::Pprof);
+    have_format(&rt, &["stacks.txt"], Format::Folded);
     Ok(())
+}
+
+fn is_named(pick: &Pick, wanted: &str) -> bool {
+    matches!(pick, Pick::Named(name) if name.get() == wanted)
 }
 
 // A copy is made where there is memory.
@@ -21,57 +38,90 @@ fn example_of_the_readme(rt: HostRuntime) -> Result<(), Fail> {
 fn copy_of_a_named_choice(rt: HostRuntime) -> Result<(), Fail> {
     let pick = Pick::Named(Text::from_str(rt.alloc(), "cpu")?);
     let copy = pick.copy(rt.alloc())?;
-    assert!(rt; matches!(&copy, Pick::Named(name) if name.get() == "cpu"));
+    assert!(rt; is_named(&copy, "cpu"));
     Ok(())
+}
+
+fn filter_of(alloc: Global, focus: &[&str], hide: &[&str]) -> Result<Filter, AllocError> {
+    let focus = Names::from_strs(alloc, focus)?;
+    let hide = Names::from_strs(alloc, hide)?;
+    Ok(Filter { focus, hide })
+}
+
+fn keeps(alloc: Global, filter: &Filter, names: &[&str]) -> Result<bool, AllocError> {
+    let stack = Names::from_strs(alloc, names)?;
+    Ok(filter.keeps(stack.get()))
+}
+
+/// Which of three stacks a filter keeps.
+fn kept(alloc: Global, filter: &Filter) -> Result<[bool; 3], AllocError> {
+    let token = keeps(alloc, filter, &["main", "parse", "token"])?;
+    let reader = keeps(alloc, filter, &["main", "parse", "reader"])?;
+    let upper = keeps(alloc, filter, &["main", "Parse", "token"])?;
+    Ok([token, reader, upper])
+}
+
+fn keeps_these(
+    rt: &(impl Abort + AllocGlobal),
+    filter: &Filter,
+    stacks: [bool; 3],
+) -> Result<(), AllocError> {
+    let found = kept(rt.alloc(), filter)?;
+    assert!(rt; found == stacks);
+    Ok(())
+}
+
+fn copy_keeps_these(
+    rt: &(impl Abort + AllocGlobal),
+    filter: &Filter,
+    stacks: [bool; 3],
+) -> Result<(), AllocError> {
+    let copy = filter.copy(rt.alloc())?;
+    keeps_these(rt, &copy, stacks)
+}
+
+fn keeps_some(rt: &(impl Abort + AllocGlobal), filter: &Filter) -> Result<(), AllocError> {
+    assert!(rt; !filter.is_everything());
+    keeps_these(rt, filter, [true, false, false])?;
+    copy_keeps_these(rt, filter, [true, false, false])
+}
+
+fn keeps_all(rt: &(impl Abort + AllocGlobal), filter: &Filter) -> Result<(), AllocError> {
+    assert!(rt; filter.is_everything());
+    keeps_these(rt, filter, [true, true, true])
 }
 
 #[test]
 fn samples_that_a_filter_keeps(rt: HostRuntime) -> Result<(), Fail> {
-    let alloc = rt.alloc();
-    let filter = Filter {
-        focus: Names::from_strs(alloc, &["lay", "pars"])?,
-        hide: Names::from_strs(alloc, &["read"])?,
-    };
-    let copy = filter.copy(alloc)?;
-    for (stack, kept) in [
-        (["main", "parse", "token"], true),
-        (["main", "parse", "reader"], false),
-        (["main", "Parse", "token"], false),
-    ] {
-        let stack = Names::from_strs(alloc, &stack)?;
-        assert_eq!(rt; filter.keeps(stack.get()), kept);
-        assert_eq!(rt; copy.keeps(stack.get()), kept);
-        assert!(rt; Filter::everything(alloc).keeps(stack.get()));
-    }
-    assert!(rt; Filter::everything(alloc).is_everything());
-    assert!(rt; !filter.is_everything());
+    keeps_all(&rt, &Filter::everything(rt.alloc()))?;
+    let filter = filter_of(rt.alloc(), &["lay", "pars"], &["read"])?;
+    keeps_some(&rt, &filter)?;
     Ok(())
 }
 
 #[test]
 fn names_of_formats(rt: HostRuntime) {
-    assert_eq!(rt; Format::named("folded"), Some(Format::Folded));
-    assert_eq!(rt; Format::named("pprof"), Some(Format::Pprof));
-    for name in ["", "Folded", "PPROF", "pprof ", "pb", "folded,pprof"] {
-        assert!(rt; Format::named(name).is_none(), "{name}");
+    assert!(rt; matches!(Format::named("folded"), Some(Format::Folded)));
+    assert!(rt; matches!(Format::named("pprof"), Some(Format::Pprof)));
+    for name in &["", "Folded", "PPROF", "pprof ", "pb", "folded,pprof"] {
+        holds(&rt, name, Format::named(name).is_none());
     }
 }
 
 #[test]
 fn names_of_orders(rt: HostRuntime) {
-    assert_eq!(rt; FunctionOrder::named("own"), Some(FunctionOrder::Own));
-    assert_eq!(rt; FunctionOrder::named("total"), Some(FunctionOrder::Total));
-    for name in ["", "Own", "TOTAL", "total ", "sum", "own,total"] {
-        assert!(rt; FunctionOrder::named(name).is_none(), "{name}");
+    assert!(rt; matches!(FunctionOrder::named("own"), Some(FunctionOrder::Own)));
+    assert!(rt; matches!(FunctionOrder::named("total"), Some(FunctionOrder::Total)));
+    for name in &["", "Own", "TOTAL", "total ", "sum", "own,total"] {
+        holds(&rt, name, FunctionOrder::named(name).is_none());
     }
 }
 
 #[test]
 fn formats_by_name(rt: HostRuntime) {
-    for path in ["cpu.prof", "x.pprof", "x.pb", "a/b.c/d.pb", ".prof"] {
-        assert_eq!(rt; format_of(path), Format::Pprof, "{path}");
-    }
-    for path in [
+    let of_profiles = ["cpu.prof", "x.pprof", "x.pb", "a/b.c/d.pb", ".prof"];
+    have_format(&rt, &of_profiles, Format::Pprof);
+    let of_lines = [
         "x.folded",
         "-",
         "",
@@ -80,7 +130,6 @@ fn formats_by_name(rt: HostRuntime) {
         "x.PROF",
         "pb",
         "x.pb.gz",
-    ] {
-        assert_eq!(rt; format_of(path), Format::Folded, "{path}");
-    }
+    ];
+    have_format(&rt, &of_lines, Format::Folded);
 }

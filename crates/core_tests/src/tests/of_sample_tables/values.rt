@@ -1,5 +1,7 @@
+use crate::tests::copies::equals_its_copy;
 use sample_tables::{Listed, Names, Sample, Text};
 use std::alloc::{AllocError, Global};
+use std::process::Abort;
 use std::test::Fail;
 
 /// A sample of these names and this weight.
@@ -8,45 +10,83 @@ fn sample(alloc: Global, names: &[&str], weight: u64) -> Result<Sample, AllocErr
     Ok(Sample { stack, weight })
 }
 
+fn differs_from(
+    rt: &(impl Abort + AllocGlobal),
+    heavy: &Sample,
+    names: &[&str],
+    weight: u64,
+) -> Result<(), AllocError> {
+    let other = sample(rt.alloc(), names, weight)?;
+    assert!(rt; *heavy != other);
+    Ok(())
+}
+
+fn is_told_apart(rt: &(impl Abort + AllocGlobal), heavy: &Sample) -> Result<(), Fail> {
+    equals_its_copy(rt, heavy)?;
+    differs_from(rt, heavy, &["a", ""], 1)?;
+    differs_from(rt, heavy, &["a"], 2)?;
+    Ok(())
+}
+
 #[test]
 fn copies_equal_their_sources(rt: HostRuntime) -> Result<(), Fail> {
-    let alloc = rt.alloc();
-    let heavy = sample(alloc, &["a", ""], 2)?;
-    assert_eq!(rt; heavy.clone()?, heavy);
-    assert_ne!(rt; heavy, sample(alloc, &["a", ""], 1)?);
-    assert_ne!(rt; heavy, sample(alloc, &["a"], 2)?);
+    let heavy = sample(rt.alloc(), &["a", ""], 2)?;
+    is_told_apart(&rt, &heavy)
+}
+
+fn text_is_told_apart(rt: &(impl Abort + AllocGlobal), text: &Text) -> Result<(), AllocError> {
+    assert_eq!(rt; text.get(), "ab");
+    equals_its_copy(rt, text)?;
+    let other = Text::from_str(rt.alloc(), "ba")?;
+    assert!(rt; *text != other);
     Ok(())
 }
 
 #[test]
 fn texts_are_what_they_hold(rt: HostRuntime) -> Result<(), Fail> {
-    let alloc = rt.alloc();
-    let text = Text::of(String::from_str(alloc, "ab")?);
-    assert_eq!(rt; text.get(), "ab");
-    assert_eq!(rt; text.clone()?, text);
-    assert_ne!(rt; text, Text::from_str(alloc, "ba")?);
+    let text = Text::of(String::from_str(rt.alloc(), "ab")?);
+    text_is_told_apart(&rt, &text)?;
     assert_eq!(rt; text.into_plain().as_str(), "ab");
+    Ok(())
+}
+
+fn names_are_told_apart(rt: &(impl Abort + AllocGlobal), names: &Names) -> Result<(), AllocError> {
+    assert!(rt; names.get().len() == 2);
+    assert_eq!(rt; names.get()[0].as_str(), "root");
+    let other = Names::from_strs(rt.alloc(), &["leaf", "root"])?;
+    assert!(rt; *names != other);
+    Ok(())
+}
+
+fn names_are_made_of_plain_ones(rt: &impl Abort, names: &Names) -> Result<(), AllocError> {
+    let again = Names::of(names.clone()?.into_plain());
+    assert!(rt; again == *names);
     Ok(())
 }
 
 #[test]
 fn names_are_what_they_hold(rt: HostRuntime) -> Result<(), Fail> {
-    let alloc = rt.alloc();
-    let names = Names::from_strs(alloc, &["root", "leaf"])?;
-    assert_eq!(rt; names.get().len(), 2);
-    assert_eq!(rt; names.get()[0].as_str(), "root");
-    assert_ne!(rt; names, Names::from_strs(alloc, &["leaf", "root"])?);
-    assert_eq!(rt; Names::of(names.clone()?.into_plain()), names);
+    let names = Names::from_strs(rt.alloc(), &["root", "leaf"])?;
+    names_are_told_apart(&rt, &names)?;
+    names_are_made_of_plain_ones(&rt, &names)?;
+    Ok(())
+}
+
+fn numbers_are_told_apart(
+    rt: &(impl Abort + AllocGlobal),
+    listed: &Listed<usize>,
+) -> Result<(), AllocError> {
+    assert!(rt; listed.get() == [0, 1].as_slice());
+    equals_its_copy(rt, listed)?;
+    let other = Listed::of(vec![in rt.alloc(); 1, 0]?);
+    assert!(rt; *listed != other);
     Ok(())
 }
 
 #[test]
 fn lists_are_what_they_hold(rt: HostRuntime) -> Result<(), Fail> {
-    let alloc = rt.alloc();
-    let listed = Listed::of(vec![in alloc; 0, 1]?);
-    assert_eq!(rt; listed.get(), [0, 1].as_slice());
-    assert_eq!(rt; listed.clone()?, listed);
-    assert_ne!(rt; listed, Listed::of(vec![in alloc; 1, 0]?));
-    assert_eq!(rt; listed.into_plain().as_slice(), [0, 1].as_slice());
+    let listed = Listed::of(vec![in rt.alloc(); 0, 1]?);
+    numbers_are_told_apart(&rt, &listed)?;
+    assert!(rt; listed.into_plain().as_slice() == [0, 1].as_slice());
     Ok(())
 }

@@ -1,3 +1,4 @@
+use crate::tests::copies::equals_its_copy;
 use stack_core::{Close, Item, Names, ReadFault, ReadKind, Sample};
 use std::alloc::{AllocError, Global};
 use std::error::Error;
@@ -20,10 +21,9 @@ fn faults_are_written_with_their_place(rt: HostRuntime) -> Result<(), Fail> {
 
 #[test]
 fn items_equal_their_copies(rt: HostRuntime) -> Result<(), Fail> {
-    let alloc = rt.alloc();
-    let stack = Names::from_strs(alloc, &["a", ""])?;
+    let stack = Names::from_strs(rt.alloc(), &["a", ""])?;
     let item = Item::Sample(Sample { stack, weight: 2 });
-    assert_eq!(rt; item.clone()?, item);
-    assert_ne!(rt; item, Item::Close(Close::NoMemory));
+    assert!(rt; item != Item::Close(Close::NoMemory));
+    equals_its_copy(&rt, &item)?;
     Ok(())
 }

@@ -1,74 +1,65 @@
-ghost use Rattle.std.specs.Prelude.{◌≡◌, ◌+◌, None, length, IfOk, OnOk};
-
 use stack_core::{Close, Ledger, Listed, Names, Sample, SourceEnd, SourceList, Text};
-use std::alloc::{AllocError, Global};
+use std::alloc::AllocError;
+use std::process::Abort;
 use std::test::Fail;
 
 mod asked_again;
+mod lists;
 
 use asked_again::{numbers, take_again, take_row, take_row_again, tell_again};
+use lists::{has_name, has_number, has_sample, has_stack, has_told, sums_to};
 
 const CLEAN: SourceEnd = SourceEnd::Clean { ignored: 0 };
 
-/// Tells a name.
-fn tell(alloc: Global, ledger: &mut Ledger, name: &str) -> Result<(), AllocError>
-    requires { ledger.old.close ≡ None }
-    ensures open { ledger.new.close ≡ None }
-    ensures told { OnOk result (length ledger.new.told ≡ length ledger.old.told + 1) }
-{
-    ledger.tell(Text::from_str(alloc, name)?)
+fn tell(
+    rt: &(impl Abort + AllocGlobal),
+    ledger: &mut Ledger,
+    name: &str,
+) -> Result<(), AllocError> {
+    assert!(rt; !ledger.is_closed());
+    ledger.tell(Text::from_str(rt.alloc(), name)?)
 }
 
-/// A ledger that was told these names.
-fn of_two_names(alloc: Global, first: &str, second: &str) -> Result<Ledger, AllocError>
-    ensures open { IfOk result (λ ledger. ledger.close ≡ None) }
-    ensures told { IfOk result (λ ledger. length ledger.told ≡ 2) }
-{
-    let mut ledger = Ledger::new(alloc);
-    tell(alloc, &mut ledger, first)?;
-    tell(alloc, &mut ledger, second)?;
-    Ok(ledger)
+/// Takes a row of both names.
+fn take_both(rt: &(impl Abort + AllocGlobal), ledger: &mut Ledger) -> Result<(), AllocError> {
+    assert!(rt; !ledger.is_closed());
+    assert!(rt; ledger.told() == 2);
+    ledger.take_row(Listed::of(vec![in rt.alloc(); 0, 1]?), 2)
+}
+
+/// Keeps a stack of the second name.
+fn keep_second(rt: &impl Abort, ledger: &mut Ledger) -> Result<(), AllocError> {
+    assert!(rt; !ledger.is_closed());
+    assert!(rt; ledger.told() == 2);
+    ledger.keep([1].as_slice())
+}
+
+fn take_sample(rt: &impl Abort, ledger: &mut Ledger, sample: Sample) -> Result<(), AllocError> {
+    assert!(rt; !ledger.is_closed());
+    assert!(rt; sample.stack.get().len() < 9);
+    assert!(rt; sample.weight < 9);
+    ledger.take(sample)
+}
+
+/// Takes a sample of a stack that is kept.
+fn take_stack(
+    rt: &impl Abort,
+    ledger: &mut Ledger,
+    stack: usize,
+    weight: u64,
+) -> Result<(), AllocError> {
+    assert!(rt; !ledger.is_closed());
+    assert!(rt; stack < ledger.stack_count());
+    assert!(rt; weight < 9);
+    ledger.take_again(stack, weight)
 }
 
 /// The list of a ledger that is read to its end.
-fn list_of(ledger: Ledger) -> SourceList
-    requires { ledger.close ≡ None }
-{
+fn list_of(rt: &impl Abort, ledger: Ledger) -> SourceList {
     let mut ledger = ledger;
+    assert!(rt; !ledger.is_closed());
     ledger.close(Close::Read(CLEAN));
     ledger.into_list()
-}
-
-/// The name of frame `d` of sample `i`, if there is one.
-fn name_of(list: &SourceList, i: usize, d: usize) -> Option<&str> {
-    if i < list.len() && d < list.depth(i) {
-        return Some(list.name(i, d));
-    }
-    None
-}
-
-/// The number of that name.
-fn number_of(list: &SourceList, i: usize, d: usize) -> Option<usize> {
-    if i < list.len() && d < list.depth(i) {
-        return Some(list.number(i, d));
-    }
-    None
-}
-
-/// Whether sample `i` has these names' numbers and this weight, and as many frames.
-fn has_sample(list: &SourceList, i: usize, frames: &[usize], weight: u64) -> bool {
-    i < list.len()
-        && list.frames(i) == frames
-        && list.depth(i) == frames.len()
-        && list.weight(i) == weight
-}
-
-/// Whether sample `i` has the stack of this number, which has these names' numbers.
-fn has_stack(list: &SourceList, i: usize, stack: usize, frames: &[usize]) -> bool {
-    i < list.len()
-        && list.stack_number(i) == stack
-        && stack < list.stack_count()
-        && list.stack(stack) == frames
 }
 
 /// Whether the stack of this number has these names' numbers.
@@ -76,140 +67,207 @@ fn keeps(ledger: &Ledger, stack: usize, frames: &[usize]) -> bool {
     stack < ledger.stack_count() && ledger.stack(stack) == frames
 }
 
-/// The name of number `k`, if it was told.
-fn told_name_of(ledger: &Ledger, k: usize) -> Option<&str> {
-    if k < ledger.told() {
-        return Some(ledger.told_name(k));
-    }
-    None
+/// Whether name `k` was told, and is this.
+fn has_told_name(ledger: &Ledger, k: usize, name: &str) -> bool {
+    k < ledger.told() && ledger.told_name(k) == name
 }
 
-/// A row of both names that is taken twice, and between that a stack of the second, which is taken once.
-fn of_two_stacks(alloc: Global) -> Result<Ledger, AllocError>
-    ensures { IfOk result (λ ledger. ledger.close ≡ None) }
-{
-    let mut ledger = of_two_names(alloc, "a", "b")?;
-    ledger.take_row(Listed::of(vec![in alloc; 0, 1]?), 2)?;
-    ledger.keep([1].as_slice())?;
-    ledger.take_again(1, 5)?;
-    ledger.take_again(0, 7)?;
+/// Tells two names, takes a row of both twice, and between that a stack of the second.
+fn take_stacks(rt: &(impl Abort + AllocGlobal), ledger: &mut Ledger) -> Result<(), AllocError> {
+    tell(rt, ledger, "a")?;
+    tell(rt, ledger, "b")?;
+    take_both(rt, ledger)?;
+    keep_second(rt, ledger)?;
+    take_stack(rt, ledger, 1, 5)?;
+    take_stack(rt, ledger, 0, 7)
+}
+
+fn of_two_stacks(rt: &(impl Abort + AllocGlobal)) -> Result<Ledger, AllocError> {
+    let mut ledger = Ledger::new(rt.alloc());
+    take_stacks(rt, &mut ledger)?;
     Ok(ledger)
+}
+
+fn list_of_two_stacks(rt: &(impl Abort + AllocGlobal)) -> Result<SourceList, AllocError> {
+    let ledger = of_two_stacks(rt)?;
+    Ok(list_of(rt, ledger))
+}
+
+fn keeps_two_stacks(rt: &impl Abort, ledger: &Ledger) {
+    assert!(rt; ledger.stack_count() == 2);
+    assert!(rt; keeps(ledger, 1, [1].as_slice()));
+    assert!(rt; numbers(ledger) == (3, 14, 2));
 }
 
 // A stack is kept once, and samples are taken of it again, with weights of their own.
 #[test]
 fn stack_taken_again(rt: HostRuntime) -> Result<(), Fail> {
-    let ledger = of_two_stacks(rt.alloc())?;
-    assert_eq!(rt; ledger.stack_count(), 2);
-    assert!(rt; keeps(&ledger, 1, [1].as_slice()));
-    assert_eq!(rt; ledger.count(), 3);
-    assert_eq!(rt; ledger.weight(), 14);
+    let ledger = of_two_stacks(&rt)?;
+    keeps_two_stacks(&rt, &ledger);
     Ok(())
+}
+
+fn has_two_stacks(rt: &impl Abort, list: &SourceList) {
+    assert!(rt; sums_to(list, 3, 14));
+    assert!(rt; list.stack_count() == 2);
+    assert!(rt; has_stack(list, 0, 0, [0, 1].as_slice()));
+    assert!(rt; has_stack(list, 1, 1, [1].as_slice()));
+    assert!(rt; has_stack(list, 2, 0, [0, 1].as_slice()));
 }
 
 #[test]
 fn list_of_a_stack_taken_again(rt: HostRuntime) -> Result<(), Fail> {
-    let list = list_of(of_two_stacks(rt.alloc())?);
-    assert_eq!(rt; list.len(), 3);
-    assert_eq!(rt; list.stack_count(), 2);
-    assert!(rt; has_stack(&list, 0, 0, [0, 1].as_slice()));
-    assert!(rt; has_stack(&list, 1, 1, [1].as_slice()));
-    assert!(rt; has_stack(&list, 2, 0, [0, 1].as_slice()));
+    let list = list_of_two_stacks(&rt)?;
+    has_two_stacks(&rt, &list);
     Ok(())
+}
+
+fn has_samples_of_two_stacks(rt: &impl Abort, list: &SourceList) {
+    assert!(rt; has_sample(list, 2, [0, 1].as_slice(), 7));
+    assert!(rt; has_name(list, 1, 0, "b"));
+    assert!(rt; sums_to(list, 3, 14));
 }
 
 #[test]
 fn samples_of_a_stack_taken_again(rt: HostRuntime) -> Result<(), Fail> {
-    let list = list_of(of_two_stacks(rt.alloc())?);
-    assert!(rt; has_sample(&list, 2, [0, 1].as_slice(), 7));
-    assert_eq!(rt; name_of(&list, 1, 0), Some("b"));
-    assert_eq!(rt; list.total(), 14);
+    let list = list_of_two_stacks(&rt)?;
+    has_samples_of_two_stacks(&rt, &list);
     Ok(())
 }
 
-/// A row of both names, and one of the first.
-fn of_two_rows(alloc: Global, first: &str, second: &str) -> Result<Ledger, AllocError>
-    ensures { IfOk result (λ ledger. ledger.close ≡ None) }
-{
-    let mut ledger = of_two_names(alloc, first, second)?;
-    ledger.take_row(Listed::of(vec![in alloc; 0, 1]?), 2)?;
-    take_row(alloc, &mut ledger, 1)?;
+/// Tells two names, and takes a row of both and one of the first.
+fn take_rows(
+    rt: &(impl Abort + AllocGlobal),
+    ledger: &mut Ledger,
+    first: &str,
+    second: &str,
+) -> Result<(), AllocError> {
+    tell(rt, ledger, first)?;
+    tell(rt, ledger, second)?;
+    take_both(rt, ledger)?;
+    take_row(rt, ledger, 1)
+}
+
+fn of_two_rows(
+    rt: &(impl Abort + AllocGlobal),
+    first: &str,
+    second: &str,
+) -> Result<Ledger, AllocError> {
+    let mut ledger = Ledger::new(rt.alloc());
+    take_rows(rt, &mut ledger, first, second)?;
     Ok(ledger)
+}
+
+fn list_of_two_rows(
+    rt: &(impl Abort + AllocGlobal),
+    first: &str,
+    second: &str,
+) -> Result<SourceList, AllocError> {
+    let ledger = of_two_rows(rt, first, second)?;
+    Ok(list_of(rt, ledger))
+}
+
+fn has_rows_of_the_page(rt: &impl Abort, list: &SourceList) {
+    assert!(rt; sums_to(list, 2, 3));
+    assert!(rt; has_name(list, 0, 1, "parse"));
 }
 
 // The example of README.md.
 #[test]
 fn example_of_the_page(rt: HostRuntime) -> Result<(), Fail> {
-    let list = list_of(of_two_rows(rt.alloc(), "main", "parse")?);
-    assert_eq!(rt; list.len(), 2);
-    assert_eq!(rt; name_of(&list, 0, 1), Some("parse"));
-    assert_eq!(rt; list.total(), 3);
+    let list = list_of_two_rows(&rt, "main", "parse")?;
+    has_rows_of_the_page(&rt, &list);
     Ok(())
+}
+
+fn has_told_two(rt: &impl Abort, ledger: &Ledger) {
+    assert!(rt; numbers(ledger) == (2, 3, 2));
+    assert!(rt; has_told_name(ledger, 1, "b"));
 }
 
 #[test]
 fn names_told_once(rt: HostRuntime) -> Result<(), Fail> {
-    let ledger = of_two_rows(rt.alloc(), "a", "b")?;
-    assert_eq!(rt; ledger.told(), 2);
-    assert_eq!(rt; told_name_of(&ledger, 1), Some("b"));
-    assert_eq!(rt; ledger.count(), 2);
-    assert_eq!(rt; ledger.weight(), 3);
+    let ledger = of_two_rows(&rt, "a", "b")?;
+    has_told_two(&rt, &ledger);
     Ok(())
+}
+
+fn has_two_rows(rt: &impl Abort, list: &SourceList) {
+    assert!(rt; sums_to(list, 2, 3));
+    assert!(rt; has_sample(list, 0, [0, 1].as_slice(), 2));
+    assert!(rt; has_sample(list, 1, [0].as_slice(), 1));
+    assert!(rt; *list.ending() == CLEAN);
 }
 
 #[test]
 fn list_of_names_told_once(rt: HostRuntime) -> Result<(), Fail> {
-    let list = list_of(of_two_rows(rt.alloc(), "a", "b")?);
-    assert_eq!(rt; list.len(), 2);
-    assert!(rt; has_sample(&list, 0, [0, 1].as_slice(), 2));
-    assert!(rt; has_sample(&list, 1, [0].as_slice(), 1));
-    assert_eq!(rt; list.total(), 3);
-    assert_eq!(rt; *list.ending(), CLEAN);
+    let list = list_of_two_rows(&rt, "a", "b")?;
+    has_two_rows(&rt, &list);
     Ok(())
+}
+
+fn names_two_rows(rt: &impl Abort, list: &SourceList) {
+    assert!(rt; has_name(list, 0, 1, "b"));
+    assert!(rt; has_number(list, 1, 0, 0));
+    assert!(rt; list.told() == 2);
+    assert!(rt; has_told(list, 0, "a"));
 }
 
 #[test]
 fn names_of_a_list(rt: HostRuntime) -> Result<(), Fail> {
-    let list = list_of(of_two_rows(rt.alloc(), "a", "b")?);
-    assert_eq!(rt; name_of(&list, 0, 1), Some("b"));
-    assert_eq!(rt; number_of(&list, 1, 0), Some(0));
-    assert_eq!(rt; list.told(), 2);
-    assert!(rt; list.told() > 0 && list.told_name(0) == "a");
+    let list = list_of_two_rows(&rt, "a", "b")?;
+    names_two_rows(&rt, &list);
     Ok(())
 }
 
-/// A sample of `x` and `y`, and an equal one.
-fn of_equal_samples(alloc: Global) -> Result<Ledger, AllocError>
-    ensures { IfOk result (λ ledger. ledger.close ≡ None) }
-{
-    let stack = Names::from_strs(alloc, &["x", "y"])?;
+fn take_copy(rt: &impl Abort, ledger: &mut Ledger, sample: &Sample) -> Result<(), AllocError> {
+    take_sample(rt, ledger, sample.clone()?)
+}
+
+/// Takes two equal samples.
+fn take_equal_samples(
+    rt: &(impl Abort + AllocGlobal),
+    ledger: &mut Ledger,
+) -> Result<(), AllocError> {
+    let stack = Names::from_strs(rt.alloc(), &["x", "y"])?;
     let sample = Sample { stack, weight: 2 };
-    let mut ledger = Ledger::new(alloc);
-    ledger.take(sample.clone()?)?;
-    ledger.take(sample)?;
+    take_copy(rt, ledger, &sample)?;
+    take_sample(rt, ledger, sample)
+}
+
+fn of_equal_samples(rt: &(impl Abort + AllocGlobal)) -> Result<Ledger, AllocError> {
+    let mut ledger = Ledger::new(rt.alloc());
+    take_equal_samples(rt, &mut ledger)?;
     Ok(ledger)
 }
 
-#[test]
-fn world_and_ledger(rt: HostRuntime) -> Result<(), Fail> {
-    let mut ledger = of_equal_samples(rt.alloc())?;
+fn close_after_two(rt: &impl Abort, ledger: &mut Ledger) {
     assert!(rt; !ledger.is_closed());
     let close = Close::Read(CLEAN);
     ledger.close(close);
     assert!(rt; ledger.is_closed());
-    assert_eq!(rt; ledger.closed().copied(), Some(close));
-    assert_eq!(rt; ledger.count(), 2);
-    assert_eq!(rt; ledger.weight(), 4);
+    assert!(rt; ledger.closed() == Some(&close));
+    assert!(rt; numbers(ledger) == (2, 4, 4));
+}
+
+#[test]
+fn world_and_ledger(rt: HostRuntime) -> Result<(), Fail> {
+    let mut ledger = of_equal_samples(&rt)?;
+    close_after_two(&rt, &mut ledger);
     Ok(())
+}
+
+fn has_equal_samples(rt: &impl Abort, list: &SourceList) {
+    assert!(rt; sums_to(list, 2, 4));
+    assert!(rt; has_name(list, 1, 0, "x"));
+    assert!(rt; has_name(list, 1, 1, "y"));
+    assert!(rt; has_number(list, 1, 1, 3));
 }
 
 #[test]
 fn names_told_anew(rt: HostRuntime) -> Result<(), Fail> {
-    let list = list_of(of_equal_samples(rt.alloc())?);
-    assert_eq!(rt; list.len(), 2);
-    assert_eq!(rt; name_of(&list, 1, 0), Some("x"));
-    assert_eq!(rt; name_of(&list, 1, 1), Some("y"));
-    assert_eq!(rt; number_of(&list, 1, 1), Some(3));
+    let ledger = of_equal_samples(&rt)?;
+    has_equal_samples(&rt, &list_of(&rt, ledger));
     Ok(())
 }
 
@@ -217,15 +275,14 @@ fn names_told_anew(rt: HostRuntime) -> Result<(), Fail> {
 /// before, and is asked again. Where it is refused again, no more is asked.
 #[test]
 fn refusals_change_nothing(rt: HostRuntime) {
-    let alloc = rt.alloc();
-    let mut ledger = Ledger::new(alloc);
-    for i in 0..9u64 {
-        if !tell_again(&rt, alloc, &mut ledger)
-            || !take_row_again(&rt, alloc, &mut ledger, i)
-            || !take_again(&rt, alloc, &mut ledger, i)
+    let mut ledger = Ledger::new(rt.alloc());
+    for weight in 0..9u64 {
+        if !tell_again(&rt, &mut ledger)
+            || !take_row_again(&rt, &mut ledger, weight)
+            || !take_again(&rt, &mut ledger, weight)
         {
             return;
         }
     }
-    assert_eq!(rt; numbers(&ledger), (18, 72, 27));
+    assert!(rt; numbers(&ledger) == (18, 72, 27));
 }

@@ -11,12 +11,8 @@ const CLEAN: Close = Close::Read(SourceEnd::Clean { ignored: 0 });
 
 // A sample of one frame.
 fn sample(alloc: Global, name: &str) -> Result<Item, AllocError> {
-    let mut names = Vec::new(alloc);
-    names.push(String::from_str(alloc, name)?)?;
-    Ok(Item::Sample(Sample {
-        stack: Names::of(names),
-        weight: 1,
-    }))
+    let stack = Names::from_strs(alloc, &[name])?;
+    Ok(Item::Sample(Sample { stack, weight: 1 }))
 }
 
 // A told list of samples of these names, which was read to its end.
@@ -35,7 +31,7 @@ fn play(rt: &impl Abort, world: &mut World, events: &[(Event, bool)])
 {
     for (event, possible) in events {
         let answer = world.step(*event);
-        assert_eq!(rt; answer, *possible, "{event:?}");
+        assert!(rt; answer == *possible, "{event:?}");
     }
 }
 
@@ -68,14 +64,27 @@ const ONE_SOURCE: [(Event, bool); 7] = [
     (Event::Push(1), false),
 ];
 
+fn one_list(alloc: Global) -> Result<World, AllocError>
+    ensures { IfOk result (λ world. length world.lanes ≡ 1) }
+{
+    let mut lists = Vec::new(alloc);
+    lists.push(told(alloc, &["x"])?)?;
+    World::new(alloc, lists, 1)
+}
+
+fn has_received_all(rt: &(impl Abort + AllocGlobal), world: &World) -> Result<(), AllocError>
+    requires { length world.now.lanes ≡ 1 }
+{
+    let whole = told(rt.alloc(), &["x"])?;
+    assert!(rt; world.received(0) == whole.as_slice());
+    Ok(())
+}
+
 #[test]
 fn world_and_ledger(rt: HostRuntime) -> Result<(), Fail> {
-    let mut lists = Vec::new(rt.alloc());
-    lists.push(told(rt.alloc(), &["x"])?)?;
-    let mut world = World::new(rt.alloc(), lists, 1)?;
+    let mut world = one_list(rt.alloc())?;
     play(&rt, &mut world, ONE_SOURCE.as_slice());
-    let whole = told(rt.alloc(), &["x"])?;
-    assert_eq!(rt; world.received(0), whole.as_slice());
+    has_received_all(&rt, &world)?;
     Ok(())
 }
 
@@ -111,14 +120,33 @@ fn two_lists(alloc: Global) -> Result<World, AllocError>
     World::new(alloc, lists, 2)
 }
 
+fn has_received(
+    rt: &(impl Abort + AllocGlobal),
+    world: &World,
+    source: usize,
+    text: &str,
+) -> Result<(), AllocError>
+    requires { source < length world.now.lanes }
+{
+    let found = received(rt.alloc(), world, source)?;
+    assert_eq!(rt; found.as_str(), text);
+    Ok(())
+}
+
+fn play_two_sources(rt: &(impl Abort + AllocGlobal), world: &mut World) -> Result<(), AllocError>
+    requires { length world.old.lanes ≡ 2 }
+{
+    play(rt, world, TWO_SOURCES.as_slice());
+    has_received(rt, world, 0, "a")?;
+    has_received(rt, world, 1, "c.")?;
+    play(rt, world, THE_REST.as_slice());
+    has_received(rt, world, 0, "ab.")
+}
+
 #[test]
 fn two_sources(rt: HostRuntime) -> Result<(), Fail> {
     let mut world = two_lists(rt.alloc())?;
-    play(&rt, &mut world, TWO_SOURCES.as_slice());
-    assert_eq!(rt; received(rt.alloc(), &world, 0)?.as_str(), "a");
-    assert_eq!(rt; received(rt.alloc(), &world, 1)?.as_str(), "c.");
-    play(&rt, &mut world, THE_REST.as_slice());
-    assert_eq!(rt; received(rt.alloc(), &world, 0)?.as_str(), "ab.");
+    play_two_sources(&rt, &mut world)?;
     Ok(())
 }
 

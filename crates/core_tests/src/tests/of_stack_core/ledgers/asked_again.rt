@@ -1,9 +1,7 @@
 //! Calls of a ledger that are asked again where memory was refused, after a look that nothing changed.
 
-ghost use Rattle.std.specs.Prelude.{◌≡◌, ◌<◌, None, true, length, OnOk};
-
 use stack_core::{Ledger, Listed, Names, Sample, Text};
-use std::alloc::{AllocError, Global};
+use std::alloc::AllocError;
 use std::process::Abort;
 
 /// What a ledger says of itself: its samples, their weight and its names.
@@ -11,73 +9,64 @@ pub fn numbers(ledger: &Ledger) -> (u64, u128, usize) {
     (ledger.count(), ledger.weight(), ledger.told())
 }
 
-fn tell(alloc: Global, ledger: &mut Ledger) -> Result<(), AllocError>
-    requires { ledger.old.close ≡ None }
-    ensures open { ledger.new.close ≡ None }
-    ensures told { OnOk result (0 < length ledger.new.told) }
-{
-    ledger.tell(Text::from_str(alloc, "a")?)
+fn is_unchanged(rt: &impl Abort, ledger: &Ledger, before: (u64, u128, usize)) {
+    assert!(rt; numbers(ledger) == before);
+}
+
+fn tell(rt: &(impl Abort + AllocGlobal), ledger: &mut Ledger) -> Result<(), AllocError> {
+    assert!(rt; !ledger.is_closed());
+    ledger.tell(Text::from_str(rt.alloc(), "a")?)
 }
 
 /// Takes a row of the first name.
-pub fn take_row(alloc: Global, ledger: &mut Ledger, weight: u64) -> Result<(), AllocError>
-    requires open { ledger.old.close ≡ None }
-    requires told { 0 < length ledger.old.told }
-    requires light { weight < 9 }
-    ensures open { ledger.new.close ≡ None }
-    ensures told { 0 < length ledger.new.told }
-{
-    ledger.take_row(Listed::of(vec![in alloc; 0]?), weight)
+pub fn take_row(
+    rt: &(impl Abort + AllocGlobal),
+    ledger: &mut Ledger,
+    weight: u64,
+) -> Result<(), AllocError> {
+    assert!(rt; !ledger.is_closed());
+    assert!(rt; ledger.told() > 0);
+    assert!(rt; weight < 9);
+    ledger.take_row(Listed::of(vec![in rt.alloc(); 0]?), weight)
 }
 
-fn take(alloc: Global, ledger: &mut Ledger, weight: u64) -> Result<(), AllocError>
-    requires open { ledger.old.close ≡ None }
-    requires light { weight < 9 }
-    ensures { ledger.new.close ≡ None }
-{
-    let stack = Names::from_strs(alloc, &["b", "c"])?;
+fn take(
+    rt: &(impl Abort + AllocGlobal),
+    ledger: &mut Ledger,
+    weight: u64,
+) -> Result<(), AllocError> {
+    assert!(rt; !ledger.is_closed());
+    assert!(rt; weight < 9);
+    let stack = Names::from_strs(rt.alloc(), &["b", "c"])?;
     ledger.take(Sample { stack, weight })
 }
 
 /// Tells a name, and asks again where it is refused. Says whether it was told in the end.
-pub fn tell_again(rt: &impl Abort, alloc: Global, ledger: &mut Ledger) -> bool
-    requires { ledger.old.close ≡ None }
-    ensures open { ledger.new.close ≡ None }
-    ensures told { result ≡ true → 0 < length ledger.new.told }
-{
+pub fn tell_again(rt: &(impl Abort + AllocGlobal), ledger: &mut Ledger) -> bool {
     let before = numbers(ledger);
-    if tell(alloc, ledger).is_ok() {
+    if tell(rt, ledger).is_ok() {
         return true;
     }
-    assert_eq!(rt; numbers(ledger), before);
-    tell(alloc, ledger).is_ok()
+    is_unchanged(rt, ledger, before);
+    tell(rt, ledger).is_ok()
 }
 
 /// The same for a row.
-pub fn take_row_again(rt: &impl Abort, alloc: Global, ledger: &mut Ledger, weight: u64) -> bool
-    requires open { ledger.old.close ≡ None }
-    requires told { 0 < length ledger.old.told }
-    requires light { weight < 9 }
-    ensures { ledger.new.close ≡ None }
-{
+pub fn take_row_again(rt: &(impl Abort + AllocGlobal), ledger: &mut Ledger, weight: u64) -> bool {
     let before = numbers(ledger);
-    if take_row(alloc, ledger, weight).is_ok() {
+    if take_row(rt, ledger, weight).is_ok() {
         return true;
     }
-    assert_eq!(rt; numbers(ledger), before);
-    take_row(alloc, ledger, weight).is_ok()
+    is_unchanged(rt, ledger, before);
+    take_row(rt, ledger, weight).is_ok()
 }
 
 /// The same for a sample.
-pub fn take_again(rt: &impl Abort, alloc: Global, ledger: &mut Ledger, weight: u64) -> bool
-    requires open { ledger.old.close ≡ None }
-    requires light { weight < 9 }
-    ensures { ledger.new.close ≡ None }
-{
+pub fn take_again(rt: &(impl Abort + AllocGlobal), ledger: &mut Ledger, weight: u64) -> bool {
     let before = numbers(ledger);
-    if take(alloc, ledger, weight).is_ok() {
+    if take(rt, ledger, weight).is_ok() {
         return true;
     }
-    assert_eq!(rt; numbers(ledger), before);
-    take(alloc, ledger, weight).is_ok()
+    is_unchanged(rt, ledger, before);
+    take(rt, ledger, weight).is_ok()
 }
