@@ -1,96 +1,105 @@
 //! Profiles that are cut short.
 
 use super::files::{
-    ADDRESS, BASE, GREATEST_ID, GREATEST_LENGTH, INLINED, INLINED_LINES, LEAST_INDEX, MINUS_ONE,
-    NEGATIVE, NO_FRAMES, SAMPLE_FAULTS, SMALLEST, TABLE_FAULTS, TWO_LINES, UNPACKED,
+    ADDRESS, BASE, CUT_CHARACTER, FRONT, GREATEST_ID, GREATEST_LENGTH, INLINED, INLINED_LINES,
+    LEAST_INDEX, MINUS_ONE, NEGATIVE, NO_FRAMES, SAMPLE_FAULTS, SEPARATORS, SMALLEST, TABLE_FAULTS,
+    TWO_LINES, UNPACKED,
 };
-use super::reading::append_read;
-use super::{clean, fault, followed, reads_plainly, with_cut_character, with_separators};
-use profile_tables::{Naming, Pick};
-use stack_core::{ReadKind, SourceEnd};
-use std::alloc::{AllocError, Global};
+use super::reading::{Asked, ENDLESS, LINES, append_given, joined, reads_plainly};
+use std::alloc::AllocError;
 use std::process::Abort;
 use std::test::Fail;
 
 /// How the smallest profile ends where only its first `len` bytes are there.
-fn ending_of_cut(len: usize) -> SourceEnd {
+fn ending_of_cut(len: usize) -> &'static str {
     match len {
-        0 => clean(),
-        6 | 14 | 22 | 28 | 30 | 35 => fault(ReadKind::BadString, 0),
-        39 => fault(ReadKind::BadString, 22),
-        1..6 => fault(ReadKind::Truncated, 0),
-        7..14 => fault(ReadKind::Truncated, 6),
-        15..22 => fault(ReadKind::Truncated, 14),
-        23..28 => fault(ReadKind::Truncated, 22),
-        29 => fault(ReadKind::Truncated, 28),
-        31..35 => fault(ReadKind::Truncated, 30),
-        36..39 => fault(ReadKind::Truncated, 35),
-        _ => fault(ReadKind::Truncated, 39),
+        0 => "clean",
+        6 | 14 | 22 | 28 | 30 | 35 => "BadString at 0",
+        39 => "BadString at 22",
+        1..6 => "Truncated at 0",
+        7..14 => "Truncated at 6",
+        15..22 => "Truncated at 14",
+        23..28 => "Truncated at 22",
+        29 => "Truncated at 28",
+        31..35 => "Truncated at 30",
+        36..39 => "Truncated at 35",
+        _ => "Truncated at 39",
     }
 }
 
 #[test]
 fn compressed_and_cut(rt: HostRuntime) -> Result<(), Fail> {
-    reads_plainly(&rt, b"\x1f\x8b\x08", "", fault(ReadKind::Compressed, 0))?;
+    reads_plainly(&rt, &[b"\x1f\x8b\x08"], "Compressed at 0")?;
     for len in 0..45 {
         let cut = SMALLEST.get(..len).expect(&rt, "a cut");
-        reads_plainly(&rt, cut, "", ending_of_cut(len))?;
+        reads_plainly(&rt, &[cut], ending_of_cut(len))?;
     }
     Ok(())
 }
 
-/// The ending of a file that is read with lines, where it comes again.
-fn ending_of(alloc: Global, file: &[u8]) -> Result<Option<SourceEnd>, AllocError> {
-    let mut lines = String::new(alloc);
-    append_read(alloc, file, &Pick::Preferred, Naming::Lines, &mut lines)
+/// A file that is read with lines ends, and its ending comes again.
+fn ends(rt: &(impl Abort + AllocGlobal), file: &[u8]) -> Result<(), AllocError> {
+    let mut text = String::new(rt.alloc());
+    append_given(rt.alloc(), &[file], LINES, Asked::Samples, &mut text)?;
+    assert!(rt; !text.as_str().ends_with(ENDLESS));
+    Ok(())
 }
 
-/// Each front of a file is read to its end, which comes again.
+/// Each front of a file does.
 fn each_front_ends(rt: &(impl Abort + AllocGlobal), file: &[u8]) -> Result<(), AllocError> {
     for len in 0..=file.len() {
-        let front = file.get(..len).expect(rt, "a front");
-        assert!(rt; ending_of(rt.alloc(), front)?.is_some());
+        ends(rt, file.get(..len).expect(rt, "a front"))?;
     }
     Ok(())
 }
 
-/// The same of `BASE` followed by more bytes.
-fn each_front_of_base_ends(rt: &(impl Abort + AllocGlobal), more: &[u8]) -> Result<(), AllocError> {
-    each_front_ends(rt, &followed(rt.alloc(), BASE, more)?)
+/// The same of a file that is given in two parts.
+fn each_front_of_both_ends(
+    rt: &(impl Abort + AllocGlobal),
+    front: &[u8],
+    more: &[u8],
+) -> Result<(), AllocError> {
+    let file = joined(rt.alloc(), &[front, more])?;
+    each_front_ends(rt, &file)
 }
+
+const FILES: [&[u8]; 10] = [
+    SMALLEST,
+    UNPACKED,
+    INLINED,
+    BASE,
+    ADDRESS,
+    NO_FRAMES,
+    GREATEST_ID,
+    INLINED_LINES,
+    TWO_LINES,
+    GREATEST_LENGTH,
+];
 
 #[test]
 fn cut_profiles_end(rt: HostRuntime) -> Result<(), Fail> {
-    for file in [SMALLEST, UNPACKED, INLINED, BASE, ADDRESS, NO_FRAMES] {
+    for file in &FILES {
         each_front_ends(&rt, file)?;
     }
-    for file in [GREATEST_ID, INLINED_LINES, TWO_LINES, GREATEST_LENGTH] {
-        each_front_ends(&rt, file)?;
-    }
-    each_front_ends(&rt, &with_separators(rt.alloc())?)?;
-    each_front_ends(&rt, &with_cut_character(rt.alloc())?)?;
+    each_front_of_both_ends(&rt, FRONT, SEPARATORS)?;
+    each_front_of_both_ends(&rt, FRONT, CUT_CHARACTER)?;
     Ok(())
 }
 
+const BEHIND_BASE: [&[u8]; 5] = [b"\x70\x01", b"\x70\x03", NEGATIVE, MINUS_ONE, LEAST_INDEX];
+
 #[test]
 fn cut_profiles_behind_base_end(rt: HostRuntime) -> Result<(), Fail> {
-    for more in [
-        b"\x70\x01".as_slice(),
-        b"\x70\x03",
-        NEGATIVE,
-        MINUS_ONE,
-        LEAST_INDEX,
-    ] {
-        each_front_of_base_ends(&rt, more)?;
+    for more in &BEHIND_BASE {
+        each_front_of_both_ends(&rt, BASE, more)?;
     }
-    for (more, _) in SAMPLE_FAULTS {
-        each_front_of_base_ends(&rt, more)?;
+    for (more, _) in &SAMPLE_FAULTS {
+        each_front_of_both_ends(&rt, BASE, more)?;
     }
-    for (more, _) in TABLE_FAULTS {
-        each_front_of_base_ends(&rt, more)?;
+    for (more, _) in &TABLE_FAULTS {
+        each_front_of_both_ends(&rt, BASE, more)?;
     }
-    for file in [b"\x32\x01\x61".as_slice(), b"\x12\x00"] {
-        each_front_ends(&rt, file)?;
-    }
+    each_front_ends(&rt, b"\x32\x01\x61")?;
+    each_front_ends(&rt, b"\x12\x00")?;
     Ok(())
 }

@@ -1,13 +1,21 @@
 //! The bytes of profiles.
 
-use stack_core::ReadKind;
-
 /// One sample of `main`, weight 7, which stands before its tables, packed.
 pub(super) const SMALLEST: &[u8] = &[
     0x0a, 0x04, 0x08, 0x01, 0x10, 0x02, 0x12, 0x06, 0x0a, 0x01, 0x01, 0x12, 0x01, 0x07, 0x22, 0x06,
     0x08, 0x01, 0x22, 0x02, 0x08, 0x01, 0x2a, 0x04, 0x08, 0x01, 0x10, 0x03, 0x32, 0x00, 0x32, 0x03,
     0x63, 0x70, 0x75, 0x32, 0x02, 0x6e, 0x73, 0x32, 0x04, 0x6d, 0x61, 0x69, 0x6e,
 ];
+/// The same without its last string, a name.
+pub(super) const FRONT: &[u8] = &[
+    0x0a, 0x04, 0x08, 0x01, 0x10, 0x02, 0x12, 0x06, 0x0a, 0x01, 0x01, 0x12, 0x01, 0x07, 0x22, 0x06,
+    0x08, 0x01, 0x22, 0x02, 0x08, 0x01, 0x2a, 0x04, 0x08, 0x01, 0x10, 0x03, 0x32, 0x00, 0x32, 0x03,
+    0x63, 0x70, 0x75, 0x32, 0x02, 0x6e, 0x73,
+];
+/// A name that holds `;`, a byte that is no text, and a line feed.
+pub(super) const SEPARATORS: &[u8] = b"\x32\x04a;\xff\n";
+/// A name of a character without its end, `A`, and a byte that begins none.
+pub(super) const CUT_CHARACTER: &[u8] = b"\x32\x04\xe2\x82A\xc0";
 /// An unknown field 99, the sample unpacked, 7 spelled in two bytes, and then the tables.
 pub(super) const UNPACKED: &[u8] = &[
     0x98, 0x06, 0x2a, 0x0a, 0x04, 0x08, 0x01, 0x10, 0x02, 0x12, 0x05, 0x08, 0x01, 0x10, 0x87, 0x00,
@@ -60,30 +68,27 @@ pub(super) const TWO_LINES: &[u8] = &[
     0x22, 0x04, 0x08, 0x01, 0x10, 0x02, 0x2a, 0x04, 0x08, 0x01, 0x10, 0x02, 0x32, 0x00, 0x32, 0x01,
     0x6e, 0x32, 0x01, 0x66,
 ];
-/// What gives a fault behind `BASE` before its samples are read.
-pub(super) const TABLE_FAULTS: [(&[u8], ReadKind); 8] = [
+/// What gives a fault behind `BASE` before its samples are read, and the fault.
+pub(super) const TABLE_FAULTS: [(&[u8], &str); 8] = [
     (
         b"\x80\x80\x80\x80\x80\x80\x80\x80\x80\x02",
-        ReadKind::BadVarint,
+        "BadVarint at 48",
     ),
-    (b"\x00", ReadKind::BadFieldNumber),
-    (b"\x0b", ReadKind::BadWireType),
-    (b"\x72\x00", ReadKind::WrongKind),
-    (b"\x22\x00", ReadKind::ZeroId),
-    (b"\x2a\x04\x08\x01\x10\x03", ReadKind::DuplicateId),
-    (
-        b"\x22\x06\x08\x02\x22\x02\x08\x07",
-        ReadKind::UnknownFunction,
-    ),
-    (b"\x70\x04", ReadKind::BadString),
+    (b"\x00", "BadFieldNumber at 48"),
+    (b"\x0b", "BadWireType at 48"),
+    (b"\x72\x00", "WrongKind at 48"),
+    (b"\x22\x00", "ZeroId at 48"),
+    (b"\x2a\x04\x08\x01\x10\x03", "DuplicateId at 48"),
+    (b"\x22\x06\x08\x02\x22\x02\x08\x07", "UnknownFunction at 48"),
+    (b"\x70\x04", "BadString at 48"),
 ];
-/// What gives a fault behind `BASE` and its sample.
-pub(super) const SAMPLE_FAULTS: [(&[u8], ReadKind); 3] = [
-    (b"\x12\x02\x0a\x05", ReadKind::Truncated),
-    (b"\x12\x06\x0a\x01\x01\x12\x01\x07", ReadKind::ValueCount),
+/// What gives a fault behind `BASE` and its sample, and what is read.
+pub(super) const SAMPLE_FAULTS: [(&[u8], &str); 3] = [
+    (b"\x12\x02\x0a\x05", "f 9\nTruncated at 48"),
+    (b"\x12\x06\x0a\x01\x01\x12\x01\x07", "f 9\nValueCount at 48"),
     (
         b"\x12\x07\x0a\x01\x02\x12\x02\x05\x09",
-        ReadKind::UnknownLocation,
+        "f 9\nUnknownLocation at 48",
     ),
 ];
 /// A sample with the values 5 and -1.

@@ -1,73 +1,51 @@
 //! Profiles that are read by rows.
 
-use super::depth::{append_field, append_number};
 use super::files::{BASE, SMALLEST, TWO_LINES};
-use super::reading::reader_of;
-use super::{clean, followed, reads_as};
-use profile_tables::{Naming, Pick, PprofReader};
-use stack_core::{RowReader, RowStep, SampleReader, Step};
+use super::messages::{append_field, append_location_at, append_sample};
+use super::reading::{Asked, Choice, LINES, PLAIN, append_step, gives, reads_plainly};
+use profile_tables::PprofReader;
+use stack_core::{RowReader, RowStep, Text};
 use std::alloc::{AllocError, Global};
 use std::process::Abort;
 use std::test::Fail;
 
 /// Appends, for each sample, the number of its row, and whether that was told now.
-fn append_numbers<R: RowReader>(
+pub(super) fn append_numbers<R: RowReader>(
     alloc: Global,
     reader: &mut R,
-    rows: &mut Vec<(usize, bool)>,
+    text: &mut String,
 ) -> Result<(), AllocError> {
     let mut told = 0usize;
     for _ in 0..200_000 {
         match reader.next_row(alloc)? {
             RowStep::New { .. } => {
-                rows.push((told, true))?;
+                write!(text, "{told} new\n")?;
                 told = told.saturating_add(1);
             }
-            RowStep::Again { row, .. } => rows.push((row, false))?,
+            RowStep::Again { row, .. } => write!(text, "{row}\n")?,
             RowStep::End(_) => return Ok(()),
         }
     }
     Ok(())
 }
 
-/// Appends the same of a file.
-fn append_rows_of(
-    alloc: Global,
-    file: &[u8],
-    rows: &mut Vec<(usize, bool)>,
-) -> Result<(), AllocError> {
-    let mut reader = reader_of(alloc, file, &Pick::Preferred, Naming::Plain)?;
-    append_numbers(alloc, &mut reader, rows)
-}
-
 fn rows_are(
     rt: &(impl Abort + AllocGlobal),
-    file: &[u8],
-    rows: &[(usize, bool)],
+    parts: &[&[u8]],
+    rows: &str,
 ) -> Result<(), AllocError> {
-    let mut read = Vec::new(rt.alloc());
-    append_rows_of(rt.alloc(), file, &mut read)?;
-    assert_eq!(rt; read.as_slice(), rows);
-    Ok(())
+    gives(rt, parts, PLAIN, Asked::Numbers, rows)
 }
 
-/// The smallest profile, and a sample of the same location: packed with weight 5, unpacked, and packed with labels behind.
+/// A sample of the same location as that of the smallest profile: packed with weight 5, unpacked, and packed with labels behind.
 const THREE_SPELLINGS: &[u8] = b"\x12\x06\x0a\x01\x01\x12\x01\x05\x12\x04\x08\x01\x10\x06\
 \x12\x08\x0a\x01\x01\x12\x01\x08\x1a\x00";
 
 #[test]
 fn packed_and_unpacked_ids(rt: HostRuntime) -> Result<(), Fail> {
-    let alloc = rt.alloc();
-    let file = followed(alloc, SMALLEST, THREE_SPELLINGS)?;
-    reads_as(
-        &rt,
-        &file,
-        &Pick::Preferred,
-        Naming::Plain,
-        "main 7\nmain 5\nmain 6\nmain 8\n",
-        clean(),
-    )?;
-    rows_are(&rt, &file, &[(0, true), (0, false), (1, true), (0, false)])?;
+    let file = [SMALLEST, THREE_SPELLINGS];
+    reads_plainly(&rt, &file, "main 7\nmain 5\nmain 6\nmain 8\nclean")?;
+    rows_are(&rt, &file, "0 new\n0\n1 new\n0\n")?;
     Ok(())
 }
 
@@ -77,22 +55,14 @@ const SPLIT_IDS: &[u8] =
 
 #[test]
 fn split_ids(rt: HostRuntime) -> Result<(), Fail> {
-    let alloc = rt.alloc();
-    let file = followed(alloc, SMALLEST, SPLIT_IDS)?;
-    reads_as(
-        &rt,
-        &file,
-        &Pick::Preferred,
-        Naming::Plain,
-        "main 7\nmain;main 5\nmain;main 6\n",
-        clean(),
-    )?;
-    rows_are(&rt, &file, &[(0, true), (1, true), (2, true)])?;
+    let file = [SMALLEST, SPLIT_IDS];
+    reads_plainly(&rt, &file, "main 7\nmain;main 5\nmain;main 6\nclean")?;
+    rows_are(&rt, &file, "0 new\n1 new\n2 new\n")?;
     Ok(())
 }
 
-/// How many names a reader tells.
-fn names_told<R: RowReader>(alloc: Global, reader: &mut R) -> Result<usize, AllocError> {
+/// How many names the rows tell that are left.
+fn count_new_names<R: RowReader>(alloc: Global, reader: &mut R) -> Result<usize, AllocError> {
     let mut told = 0usize;
     for _ in 0..1_000 {
         match reader.next_row(alloc)? {
@@ -104,101 +74,104 @@ fn names_told<R: RowReader>(alloc: Global, reader: &mut R) -> Result<usize, Allo
     Ok(told)
 }
 
-/// How many names are told of a file.
-fn names_of(alloc: Global, file: &[u8], naming: Naming) -> Result<usize, AllocError> {
-    let mut reader = reader_of(alloc, file, &Pick::Preferred, naming)?;
-    names_told(alloc, &mut reader)
+pub(super) fn append_new_names<R: RowReader>(
+    alloc: Global,
+    reader: &mut R,
+    text: &mut String,
+) -> Result<(), AllocError> {
+    let told = count_new_names(alloc, reader)?;
+    write!(text, "{told}")
+}
+
+/// So many names are told of a file.
+fn tells_names(
+    rt: &(impl Abort + AllocGlobal),
+    file: &[u8],
+    choice: Choice<'_>,
+    count: &str,
+) -> Result<(), AllocError> {
+    gives(rt, &[file], choice, Asked::NewNames, count)
 }
 
 /// One function at two lines has one name, or two.
 #[test]
 fn one_name_of_two_locations(rt: HostRuntime) -> Result<(), Fail> {
-    assert_eq!(rt; names_of(rt.alloc(), TWO_LINES, Naming::Plain)?, 1);
-    assert_eq!(rt; names_of(rt.alloc(), TWO_LINES, Naming::Lines)?, 2);
+    tells_names(&rt, TWO_LINES, PLAIN, "1")?;
+    tells_names(&rt, TWO_LINES, LINES, "2")?;
     Ok(())
 }
 
 const MANY: usize = 100_000;
 
-fn append_equal_samples(file: &mut Vec<u8>) -> Result<(), AllocError> {
+/// Appends the samples behind the first, and their rows.
+fn append_equal_samples(file: &mut Vec<u8>, rows: &mut String) -> Result<(), AllocError> {
     for _ in 1..MANY {
         append_field(file, 0x12, b"\x0a\x01\x01\x12\x01\x07")?;
+        rows.push_str("0\n")?;
     }
     Ok(())
 }
 
-fn are_equal_rows(rt: &impl Abort, rows: &[(usize, bool)]) {
-    assert_eq!(rt; rows.len(), MANY);
-    for (place, row) in rows.iter().enumerate() {
-        assert_eq!(rt; *row, (0, place == 0));
-    }
+fn equal_samples_are_rows(rt: &(impl Abort + AllocGlobal)) -> Result<(), AllocError> {
+    let mut file = SMALLEST.to_vec(rt.alloc())?;
+    let mut rows = String::from_str(rt.alloc(), "0 new\n")?;
+    append_equal_samples(&mut file, &mut rows)?;
+    rows_are(rt, &[&file], &rows)
 }
 
 /// Of so many equal samples the first tells the stack, and each other one gives its number: that takes no memory.
 #[test]
 fn many_equal_samples(rt: HostRuntime) -> Result<(), Fail> {
-    let mut file = SMALLEST.to_vec(rt.alloc())?;
-    append_equal_samples(&mut file)?;
-    let mut rows = Vec::new(rt.alloc());
-    append_rows_of(rt.alloc(), &file, &mut rows)?;
-    are_equal_rows(&rt, &rows);
+    equal_samples_are_rows(&rt)?;
     Ok(())
 }
 
-/// A sample, and then a row, which is new.
-fn row_behind_a_sample(
-    rt: &(impl Abort + AllocGlobal),
+fn append_new_row(text: &mut String, names: &[Text], weight: u64) -> Result<(), AllocError> {
+    for name in names {
+        text.push_str(name.get())?;
+    }
+    write!(text, " {weight} new")
+}
+
+/// Appends a sample, and then a row, where that is new.
+pub(super) fn append_sample_and_row(
+    alloc: Global,
     reader: &mut PprofReader,
+    text: &mut String,
 ) -> Result<(), AllocError> {
-    let Step::Sample(_) = reader.next(rt.alloc())? else {
-        panic!(rt; "no sample");
-    };
-    let RowStep::New { names, weight, .. } = reader.next_row(rt.alloc())? else {
-        panic!(rt; "no new row");
-    };
-    assert_eq!(rt; names.get().len(), 1);
-    assert_eq!(rt; weight, 5);
-    Ok(())
+    append_step(alloc, reader, text)?;
+    match reader.next_row(alloc)? {
+        RowStep::New { names, weight, .. } => append_new_row(text, names.get(), weight),
+        _ => text.push_str("no new row"),
+    }
 }
 
 /// Samples that `next` gives are not told, and a row follows them.
 #[test]
 fn rows_behind_samples(rt: HostRuntime) -> Result<(), Fail> {
-    let file = followed(rt.alloc(), SMALLEST, THREE_SPELLINGS)?;
-    let mut reader = PprofReader::over(file, Pick::Preferred, Naming::Plain);
-    row_behind_a_sample(&rt, &mut reader)?;
+    let file = [SMALLEST, THREE_SPELLINGS];
+    gives(&rt, &file, PLAIN, Asked::SampleAndRow, "main 7\nmain 5 new")?;
     Ok(())
 }
 
-/// A sample of weight 7 at a location of this id.
-fn append_sample_at(file: &mut Vec<u8>, alloc: Global, id: usize) -> Result<(), AllocError> {
-    let mut sample = b"\x10\x07".to_vec(alloc)?;
-    append_number(&mut sample, 0x08, id)?;
-    append_field(file, 0x12, &sample)
-}
-
-/// A location of this id and address.
-fn append_location(file: &mut Vec<u8>, alloc: Global, id: usize) -> Result<(), AllocError> {
-    let mut location = Vec::new(alloc);
-    append_number(&mut location, 0x08, id)?;
-    append_number(&mut location, 0x18, id)?;
-    append_field(file, 0x22, &location)
-}
-
 /// Appends samples of many locations, whose names are all new, and the strings.
-fn append_many_names(file: &mut Vec<u8>, alloc: Global, count: usize) -> Result<(), AllocError> {
+fn append_many_names(file: &mut Vec<u8>, count: usize) -> Result<(), AllocError> {
     for id in 1..=count {
-        append_sample_at(file, alloc, id)?;
-        append_location(file, alloc, id)?;
+        append_sample(file, id)?;
+        append_location_at(file, id)?;
     }
     file.extend_from_slice(b"\x32\x00\x32\x03cpu\x32\x02ns")
 }
 
+fn many_names_are_told(rt: &(impl Abort + AllocGlobal)) -> Result<(), AllocError> {
+    let mut file = b"\x0a\x04\x08\x01\x10\x02".to_vec(rt.alloc())?;
+    append_many_names(&mut file, 500)?;
+    tells_names(rt, &file, PLAIN, "500")
+}
+
 #[test]
 fn each_name_is_told_once(rt: HostRuntime) -> Result<(), Fail> {
-    let mut file = b"\x0a\x04\x08\x01\x10\x02".to_vec(rt.alloc())?;
-    append_many_names(&mut file, rt.alloc(), 500)?;
-    assert_eq!(rt; names_of(rt.alloc(), &file, Naming::Plain)?, 500);
-    assert_eq!(rt; names_of(rt.alloc(), BASE, Naming::Plain)?, 1);
+    many_names_are_told(&rt)?;
+    tells_names(&rt, BASE, PLAIN, "1")?;
     Ok(())
 }
