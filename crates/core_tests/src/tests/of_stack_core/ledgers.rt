@@ -63,7 +63,7 @@ fn list_of(rt: &impl Abort, ledger: Ledger) -> SourceList {
 }
 
 /// Whether the stack of this number has these names' numbers.
-fn keeps(ledger: &Ledger, stack: usize, frames: &[usize]) -> bool {
+fn keeps(ledger: &Ledger, stack: usize, frames: &[u32]) -> bool {
     stack < ledger.stack_count() && ledger.stack(stack) == frames
 }
 

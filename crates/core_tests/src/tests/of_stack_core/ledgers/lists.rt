@@ -18,7 +18,7 @@ pub fn has_number(list: &SourceList, i: usize, d: usize, number: usize) -> bool 
 }
 
 /// Whether sample `i` has these names' numbers and this weight, and as many frames.
-pub fn has_sample(list: &SourceList, i: usize, frames: &[usize], weight: u64) -> bool {
+pub fn has_sample(list: &SourceList, i: usize, frames: &[u32], weight: u64) -> bool {
     i < list.len()
         && list.frames(i) == frames
         && list.depth(i) == frames.len()
@@ -26,7 +26,7 @@ pub fn has_sample(list: &SourceList, i: usize, frames: &[usize], weight: u64) ->
 }
 
 /// Whether sample `i` has the stack of this number, which has these names' numbers.
-pub fn has_stack(list: &SourceList, i: usize, stack: usize, frames: &[usize]) -> bool {
+pub fn has_stack(list: &SourceList, i: usize, stack: usize, frames: &[u32]) -> bool {
     i < list.len()
         && list.stack_number(i) == stack
         && stack < list.stack_count()
