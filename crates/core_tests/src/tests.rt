@@ -2,3 +2,4 @@ mod copies;
 mod of_run_options;
 mod of_sample_tables;
 mod of_stack_core;
+mod texts;

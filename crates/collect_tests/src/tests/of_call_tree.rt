@@ -26,8 +26,7 @@ fn add(rt: &impl Abort, tree: &mut CallTree, ids: &[usize], weight: u64) -> Resu
 
 /// The total and the weight of its own at a path.
 fn weights_are(rt: &impl Abort, tree: &CallTree, path: &[usize], total: u128, own: u128) {
-    assert_eq!(rt; tree.total(path), total);
-    assert_eq!(rt; tree.own(path), own);
+    assert!(rt; tree.total(path) == total && tree.own(path) == own);
 }
 
 /// Interns a name. Where that is refused, the table has the names that it had, and is asked again.
@@ -42,35 +41,36 @@ fn intern_again(
         return Ok(number);
     }
     *refused = true;
-    assert_eq!(rt; table.len(), len);
-    for number in 0..table.len() {
-        let known = table.name(number);
-        assert!(rt; NAMES.get(number) == Some(&known));
-    }
+    assert!(rt; table.len() == len);
+    has_first_names(rt, table);
     table.intern(name)
 }
 
-/// What a tree says of a path and of those that it goes on from.
-#[derive(Clone, Copy, PartialEq, Eq, Debug)]
-struct Weights {
-    len: usize,
-    totals: [u128; 4],
-    owns: [u128; 4],
+/// The names of a table are the first of those that it is given.
+fn has_first_names(rt: &impl Abort, table: &FrameTable) {
+    for number in 0..table.len() {
+        assert!(rt; number < NAMES.len() && table.name(number) == NAMES[number]);
+    }
 }
+
+/// How many nodes a tree has, and what it says of a path and of those that it goes on from: their totals and their own weights.
+type Weights = (usize, [u128; 4], [u128; 4]);
 
 fn weights_at(tree: &CallTree, ids: &[usize; 3]) -> Weights {
     let ids = ids.as_slice();
     let [one, two] = [&ids[..1], &ids[..2]];
-    Weights {
-        len: tree.len(),
-        totals: [
-            tree.total(&[]),
-            tree.total(one),
-            tree.total(two),
-            tree.total(ids),
-        ],
-        owns: [tree.own(&[]), tree.own(one), tree.own(two), tree.own(ids)],
-    }
+    let totals = [
+        tree.total(&[]),
+        tree.total(one),
+        tree.total(two),
+        tree.total(ids),
+    ];
+    let owns = [tree.own(&[]), tree.own(one), tree.own(two), tree.own(ids)];
+    (tree.len(), totals, owns)
+}
+
+fn weighs(rt: &impl Abort, tree: &CallTree, ids: &[usize; 3], weights: Weights) {
+    assert!(rt; weights_at(tree, ids) == weights);
 }
 
 /// Adds 5 at a path. Where that is refused, the tree has the weights that it had, and is asked again.
@@ -85,7 +85,7 @@ fn add_again(
         return Ok(());
     }
     *refused = true;
-    assert_eq!(rt; weights_at(tree, ids), before);
+    weighs(rt, tree, ids, before);
     add(rt, tree, ids, 5)
 }
 
@@ -101,7 +101,7 @@ fn copy_again(
         return Ok(copy);
     }
     *refused = true;
-    assert_eq!(rt; weights_at(tree, ids), before);
+    weighs(rt, tree, ids, before);
     tree.copy()
 }
 
@@ -116,7 +116,7 @@ fn numbers_are(
         let found = table.intern(name)?;
         assert!(rt; found == *number);
     }
-    assert_eq!(rt; table.len(), len);
+    assert!(rt; table.len() == len);
     Ok(())
 }
 
@@ -138,15 +138,10 @@ fn table(rt: HostRuntime) -> Result<(), Fail> {
 
 /// Adds the weights of the worked example.
 fn add_worked_weights(rt: &impl Abort, tree: &mut CallTree) -> Result<(), AllocError> {
-    for (ids, weight) in [
-        ([0, 1].as_slice(), 2),
-        (&[0], 1),
-        (&[0, 1], 3),
-        (&[0, 0], 4),
-    ] {
-        add(rt, tree, ids, weight)?;
-    }
-    Ok(())
+    add(rt, tree, &[0, 1], 2)?;
+    add(rt, tree, &[0], 1)?;
+    add(rt, tree, &[0, 1], 3)?;
+    add(rt, tree, &[0, 0], 4)
 }
 
 fn children_are(
@@ -156,23 +151,25 @@ fn children_are(
     numbers: &[usize],
 ) -> Result<(), Fail> {
     let children = tree.children(path)?;
-    assert_eq!(rt; children.as_slice(), numbers);
+    assert!(rt; children.as_slice() == numbers);
     Ok(())
 }
 
+/// Paths of the worked example's tree and their totals.
+const WORKED_TOTALS: [(&[usize], u128); 5] = [
+    (&[], 10),
+    (&[0], 10),
+    (&[0, 1], 5),
+    (&[0, 0], 4),
+    (&[1], 0),
+];
+
 /// The weights of the worked example's tree.
 fn has_worked_weights(rt: &impl Abort, tree: &CallTree) {
-    for (path, total) in [
-        ([].as_slice(), 10),
-        (&[0], 10),
-        (&[0, 1], 5),
-        (&[0, 0], 4),
-        (&[1], 0),
-    ] {
-        assert_eq!(rt; tree.total(path), total);
+    for (path, total) in WORKED_TOTALS.as_slice() {
+        assert!(rt; tree.total(path) == *total);
     }
-    assert_eq!(rt; tree.own(&[0]), 1);
-    assert_eq!(rt; tree.len(), 4);
+    assert!(rt; tree.own(&[0]) == 1 && tree.len() == 4);
 }
 
 /// What the worked example says of its tree.
@@ -209,7 +206,7 @@ fn table_and_tree(rt: HostRuntime) -> Result<(), Fail> {
 fn adds_no_weight(rt: &impl Abort, tree: &mut CallTree) -> Result<(), Fail> {
     add(rt, tree, &[1, 0], 0)?;
     weights_are(rt, tree, &[1], 0, 0);
-    assert_eq!(rt; tree.len(), 1);
+    assert!(rt; tree.len() == 1);
     Ok(())
 }
 
@@ -221,9 +218,9 @@ fn weightless_path(rt: HostRuntime) -> Result<(), Fail> {
 }
 
 fn adds_children(rt: &impl Abort, tree: &mut CallTree) -> Result<(), Fail> {
-    for ids in [[0, 1], [0, 0], [0, 1]] {
-        add(rt, tree, &ids, 1)?;
-    }
+    add(rt, tree, &[0, 1], 1)?;
+    add(rt, tree, &[0, 0], 1)?;
+    add(rt, tree, &[0, 1], 1)?;
     children_are(rt, tree, &[0], &[0, 1])?;
     children_are(rt, tree, &[1], &[])
 }
@@ -236,9 +233,10 @@ fn children(rt: HostRuntime) -> Result<(), Fail> {
 
 fn adds_recursion(rt: &impl Abort, tree: &mut CallTree) -> Result<(), Fail> {
     add(rt, tree, &[7, 7, 7], 3)?;
-    for (path, own) in [([].as_slice(), 0), (&[7], 0), (&[7, 7], 0), (&[7, 7, 7], 3)] {
-        weights_are(rt, tree, path, 3, own);
-    }
+    weights_are(rt, tree, &[], 3, 0);
+    weights_are(rt, tree, &[7], 3, 0);
+    weights_are(rt, tree, &[7, 7], 3, 0);
+    weights_are(rt, tree, &[7, 7, 7], 3, 3);
     Ok(())
 }
 
@@ -266,16 +264,13 @@ fn new_table_goes_on(rt: &impl Abort, alloc: Global, refused: &mut bool) -> Resu
     table_goes_on(rt, &mut FrameTable::new(alloc), refused)
 }
 
-/// A tree and its copy have these weights.
-fn copy_goes_on(rt: &impl Abort, tree: &CallTree, refused: &mut bool) -> Result<(), Fail> {
-    let copy = copy_again(rt, tree, &[0, 3, 3], refused)?;
-    let expected = Weights {
-        len: 20,
-        totals: [40, 15, 5, 5],
-        owns: [0, 0, 0, 5],
-    };
-    assert_eq!(rt; weights_at(tree, &[0, 3, 3]), expected);
-    assert_eq!(rt; weights_at(&copy, &[0, 3, 3]), expected);
+/// A tree and its copy have the weights of the eight paths.
+fn copy_goes_on(rt: &impl Abort, tree: &CallTree, refused: &mut bool) -> Result<(), AllocError> {
+    let ids = [0, 3, 3];
+    let weights = (20, [40, 15, 5, 5], [0, 0, 0, 5]);
+    let copy = copy_again(rt, tree, &ids, refused)?;
+    weighs(rt, tree, &ids, weights);
+    weighs(rt, &copy, &ids, weights);
     Ok(())
 }
 

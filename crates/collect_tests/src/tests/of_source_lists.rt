@@ -46,41 +46,56 @@ fn options_with(alloc: Global, pick: Pick) -> Options {
     }
 }
 
-fn are_types(rt: &impl Abort, types: &[SampleType], expected: &[(&str, &str)]) {
-    assert_eq!(rt; types.len(), expected.len());
-    for (found, (name, unit)) in types.iter().zip(expected) {
-        assert_eq!(rt; found.name.get(), *name);
-        assert_eq!(rt; found.unit.get(), *unit);
+fn is_type(rt: &impl Abort, found: &SampleType, name: &str, unit: &str) {
+    assert_eq!(rt; found.name.get(), name);
+    assert_eq!(rt; found.unit.get(), unit);
+}
+
+/// The types have these names and units.
+fn are_types(rt: &impl Abort, types: &[SampleType], expected: &[(&str, &str); 5]) {
+    assert!(rt; types.len() == 5);
+    for k in 0..5 {
+        let (name, unit) = expected[k];
+        is_type(rt, &types[k], name, unit);
     }
+}
+
+fn choose_types(
+    rt: &(impl Abort + AllocGlobal),
+    options: &Options,
+    expected: &[(&str, &str); 5],
+) -> Result<(), AllocError> {
+    let sources = worked_sources(rt.alloc())?;
+    let types = chosen_types(rt.alloc(), &sources, options)?;
+    are_types(rt, &types, expected);
+    Ok(())
+}
+
+fn choose_types_named(
+    rt: &(impl Abort + AllocGlobal),
+    name: &str,
+    expected: &[(&str, &str); 5],
+) -> Result<(), Fail> {
+    let pick = Pick::Named(Text::from_str(rt.alloc(), name)?);
+    choose_types(rt, &options_with(rt.alloc(), pick), expected)?;
+    Ok(())
 }
 
 #[test]
 fn types_of_worked_sources(rt: HostRuntime) -> Result<(), Fail> {
-    let alloc = rt.alloc();
-    let sources = worked_sources(alloc)?;
-    let types = chosen_types(alloc, &sources, &options_with(alloc, Pick::Preferred))?;
+    let options = options_with(rt.alloc(), Pick::Preferred);
     let expected = [("", ""), ("t", "s"), ("n", "ms"), ("", ""), ("", "")];
-    are_types(&rt, &types, &expected);
+    choose_types(&rt, &options, &expected)?;
     Ok(())
 }
 
 #[test]
 fn types_picked_by_name(rt: HostRuntime) -> Result<(), Fail> {
-    let alloc = rt.alloc();
-    let sources = worked_sources(alloc)?;
-    let pick = Pick::Named(Text::from_str(alloc, "n")?);
-    let types = chosen_types(alloc, &sources, &options_with(alloc, pick))?;
     let expected = [("", ""), ("n", "ms"), ("n", "ms"), ("", ""), ("", "")];
-    are_types(&rt, &types, &expected);
-    Ok(())
+    choose_types_named(&rt, "n", &expected)
 }
 
 #[test]
 fn no_type_of_an_unknown_name(rt: HostRuntime) -> Result<(), Fail> {
-    let alloc = rt.alloc();
-    let sources = worked_sources(alloc)?;
-    let pick = Pick::Named(Text::from_str(alloc, "other")?);
-    let types = chosen_types(alloc, &sources, &options_with(alloc, pick))?;
-    are_types(&rt, &types, &[("", ""); 5]);
-    Ok(())
+    choose_types_named(&rt, "other", &[("", ""); 5])
 }

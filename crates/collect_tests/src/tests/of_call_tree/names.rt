@@ -1,5 +1,7 @@
 //! Names that were made to have one hash are numbered like any others.
 use call_tree::FrameTable;
+use std::alloc::AllocError;
+use std::process::Abort;
 use std::test::Fail;
 
 /// Names of one hash in std's hasher of fixed seed: at each of six places of 16 bytes one of two blocks that leave it in the same state.
@@ -46,20 +48,37 @@ const NAMES: [&str; 40] = [
     "c-SVsU'`fevfp'w|IH'vv5wV!(AGbFL(=zr|rTYz2dTzQhO|0Y1Ja>FPyj`+.c2hOLT)w^(:+Z0&-.>tX!Ec-j=s-'/B#%Hy",
 ];
 
+/// Interns all names, of which none is known.
+fn intern_all(rt: &impl Abort, table: &mut FrameTable) -> Result<(), AllocError> {
+    for name in NAMES.as_slice() {
+        let len = table.len();
+        let number = table.intern(name)?;
+        assert!(rt; number == len);
+    }
+    Ok(())
+}
+
+fn has_name(table: &FrameTable, number: usize, name: &str) -> bool {
+    number < table.len() && table.name(number) == name
+}
+
+/// Interns all names again, of which each is known.
+fn find_all(rt: &impl Abort, table: &mut FrameTable) -> Result<(), AllocError> {
+    let len = table.len();
+    for name in NAMES.as_slice() {
+        let number = table.intern(name)?;
+        assert!(rt; number < len);
+        assert!(rt; has_name(table, number, name));
+    }
+    assert!(rt; table.len() == len);
+    Ok(())
+}
+
 /// More of them than a walk has steps: each keeps the number that it got.
 #[test]
 fn names_of_one_hash_keep_their_numbers(rt: HostRuntime) -> Result<(), Fail> {
     let mut table = FrameTable::new(rt.alloc());
-    for name in NAMES {
-        let len = table.len();
-        assert_eq!(rt; table.intern(name)?, len);
-    }
-    let len = table.len();
-    for name in NAMES {
-        let number = table.intern(name)?;
-        assert!(rt; number < len);
-        assert_eq!(rt; table.name(number), name);
-    }
-    assert_eq!(rt; table.len(), len);
+    intern_all(&rt, &mut table)?;
+    find_all(&rt, &mut table)?;
     Ok(())
 }

@@ -1,18 +1,16 @@
 //! The example of README.md.
 
-use super::children_are;
+use super::{add, children_are, weights_are};
 use call_tree::{CallTree, FrameTable};
+use std::alloc::AllocError;
 use std::process::Abort;
 use std::test::Fail;
 
-fn grows_as_in_readme(
-    rt: &impl Abort,
-    table: &mut FrameTable,
-    tree: &mut CallTree,
-) -> Result<(), Fail> {
+/// The numbers of the two names.
+fn numbers(table: &mut FrameTable) -> Result<(usize, usize), AllocError> {
     let main = table.intern("main")?;
     let read = table.intern("read")?;
-    weighs_as_in_readme(rt, tree, main, read)
+    Ok((main, read))
 }
 
 fn weighs_as_in_readme(
@@ -21,18 +19,17 @@ fn weighs_as_in_readme(
     main: usize,
     read: usize,
 ) -> Result<(), Fail> {
-    assert_eq!(rt; tree.total(&[]), 0);
-    tree.add(&[main, read], 3)?;
-    assert_eq!(rt; tree.total(&[]), 3);
-    tree.add(&[main], 1)?;
-    assert_eq!(rt; tree.total(&[main]), 4);
-    assert_eq!(rt; tree.own(&[main]), 1);
+    weights_are(rt, tree, &[], 0, 0);
+    add(rt, tree, &[main, read], 3)?;
+    weights_are(rt, tree, &[], 3, 0);
+    add(rt, tree, &[main], 1)?;
+    weights_are(rt, tree, &[main], 4, 1);
     children_are(rt, tree, &[main], &[read])
 }
 
 #[test]
 fn readme_example(rt: HostRuntime) -> Result<(), Fail> {
+    let (main, read) = numbers(&mut FrameTable::new(rt.alloc()))?;
     let mut tree = CallTree::new(rt.alloc())?;
-    let mut table = FrameTable::new(rt.alloc());
-    grows_as_in_readme(&rt, &mut table, &mut tree)
+    weighs_as_in_readme(&rt, &mut tree, main, read)
 }

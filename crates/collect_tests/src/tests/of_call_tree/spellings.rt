@@ -42,6 +42,13 @@ fn found(cache: &SpellingCache, text: &[u8], number: usize) -> Option<usize>
     cache.find(text, number * 16, number * 16 + 16)
 }
 
+/// Whether the spelling is found, under this number.
+fn is_found(cache: &SpellingCache, text: &[u8], spelling: usize, number: usize) -> bool
+    requires { spelling * 16 + 16 ≤ length text.now }
+{
+    found(cache, text, spelling) == Some(number)
+}
+
 /// Remembers the spelling of a number under it. Where that is refused, what was known is found, and the call is made again.
 fn remember_again(
     rt: &impl Abort,
@@ -58,7 +65,7 @@ fn remember_again(
     }
     *refused = true;
     for known in 0..number {
-        assert_eq!(rt; found(cache, text, known), Some(known));
+        assert!(rt; is_found(cache, text, known, known));
     }
     cache.remember(text, start, end, number)
 }
@@ -70,9 +77,9 @@ fn remember_all(
     text: &[u8],
     refused: &mut bool,
 ) -> Result<(), AllocError> {
-    assert_eq!(rt; text.len(), COUNT * 16);
+    assert!(rt; text.len() == COUNT * 16);
     for number in 0..COUNT {
-        assert_eq!(rt; found(cache, text, number), None);
+        assert!(rt; found(cache, text, number).is_none());
         remember_again(rt, cache, text, number, refused)?;
     }
     Ok(())
@@ -80,10 +87,10 @@ fn remember_all(
 
 /// Finds the spelling of each number in a text that has each twice.
 fn all_found_twice(rt: &impl Abort, cache: &SpellingCache, text: &[u8]) {
-    assert_eq!(rt; text.len(), COUNT * 32);
+    assert!(rt; text.len() == COUNT * 32);
     for number in 0..COUNT {
-        assert_eq!(rt; found(cache, text, number), Some(number));
-        assert_eq!(rt; found(cache, text, COUNT + number), Some(number));
+        assert!(rt; is_found(cache, text, number, number));
+        assert!(rt; is_found(cache, text, COUNT + number, number));
     }
 }
 
@@ -116,9 +123,9 @@ fn spellings_are_found_again(rt: HostRuntime) -> Result<(), Fail> {
 fn lengths_are_found(rt: &impl Abort, cache: &mut SpellingCache) -> Result<(), Fail> {
     let text = [b'a'; 100];
     for len in 0..100 {
-        assert_eq!(rt; cache.find(&text, 0, len), None);
+        assert!(rt; cache.find(&text, 0, len).is_none());
         cache.remember(&text, 0, len, len)?;
-        assert_eq!(rt; cache.find(&text, 100 - len, 100), Some(len));
+        assert!(rt; cache.find(&text, 100 - len, 100) == Some(len));
     }
     Ok(())
 }
@@ -136,18 +143,18 @@ fn remember_colliding(
     cache: &mut SpellingCache,
     text: &[u8],
 ) -> Result<(), AllocError> {
-    assert_eq!(rt; text.len(), COLLIDING * 16);
+    assert!(rt; text.len() == COLLIDING * 16);
     for number in 0..COLLIDING {
         let at = number * 16;
         cache.remember(text, at, at + 16, number)?;
-        assert_eq!(rt; found(cache, text, number), Some(number));
+        assert!(rt; is_found(cache, text, number, number));
     }
     Ok(())
 }
 
 /// How many of the spellings are known.
 fn known_of(rt: &impl Abort, cache: &SpellingCache, text: &[u8]) -> usize {
-    assert_eq!(rt; text.len(), COLLIDING * 16);
+    assert!(rt; text.len() == COLLIDING * 16);
     (0..COLLIDING)
         .filter(|number| cache.find(text, number * 16, number * 16 + 16).is_some())
         .count()
@@ -155,7 +162,7 @@ fn known_of(rt: &impl Abort, cache: &SpellingCache, text: &[u8]) -> usize {
 
 fn sixteen_are_kept(rt: &impl Abort, cache: &mut SpellingCache, text: &[u8]) -> Result<(), Fail> {
     remember_colliding(rt, cache, text)?;
-    assert_eq!(rt; known_of(rt, cache, text), 16);
+    assert!(rt; known_of(rt, cache, text) == 16);
     Ok(())
 }
 

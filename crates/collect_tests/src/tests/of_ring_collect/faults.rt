@@ -1,20 +1,25 @@
 //! What is written of a fault.
 
 use ring_collect::CollectFault;
+use std::alloc::AllocError;
+use std::process::Abort;
 use std::test::Fail;
+
+fn says(
+    rt: &(impl Abort + AllocGlobal),
+    fault: CollectFault,
+    text: &str,
+) -> Result<(), AllocError> {
+    let found = format!(in rt.alloc(); "{fault}")?;
+    assert_eq!(rt; found.as_str(), text);
+    Ok(())
+}
 
 #[test]
 fn faults_say_what_is_wrong(rt: HostRuntime) -> Result<(), Fail> {
-    let alloc = rt.alloc();
-    for (fault, text) in [
-        (CollectFault::OutOfMemory, "out of memory"),
-        (CollectFault::NoThread, "no thread"),
-        (
-            CollectFault::Unfinished { source: 7 },
-            "source 7 unfinished",
-        ),
-    ] {
-        assert_eq!(rt; format!(in alloc; "{fault}")?.as_str(), text);
-    }
+    says(&rt, CollectFault::OutOfMemory, "out of memory")?;
+    says(&rt, CollectFault::NoThread, "no thread")?;
+    let unfinished = CollectFault::Unfinished { source: 7 };
+    says(&rt, unfinished, "source 7 unfinished")?;
     Ok(())
 }

@@ -49,47 +49,56 @@ pub fn collected<
     gate: G,
     sink: &mut Recorder,
 ) -> Result<Result<Collected, CollectFault>, Fail> {
-    let counts = Arc::try_clone(&sink.counts)?;
-    let before = counts.drops.load(Ordering::SeqCst);
-    let size = RingSize::of(ring).ok_or("the size of a ring")?;
+    let size = RingSize::of(ring).expect(rt, "the size of a ring");
     let count = readers.len();
     assert!(rt; count <= 64);
+    let before = sink.counts.drops.load(Ordering::SeqCst);
     let answer = collect(rt, alloc, readers, size, Arc::new(alloc, gate)?, sink);
-    let dropped = counts.drops.load(Ordering::SeqCst).wrapping_sub(before);
-    assert_eq!(rt; dropped, count as u64);
+    let dropped = sink
+        .counts
+        .drops
+        .load(Ordering::SeqCst)
+        .wrapping_sub(before);
+    assert!(rt; dropped == count as u64);
     Ok(answer)
 }
 
 /// The list has the samples of these weights, with the frame of its source.
 fn is_list(rt: &impl Abort, source: usize, list: &SourceList, weights: &[u8], ending: SourceEnd) {
-    assert_eq!(rt; list.len(), weights.len(), "source {source}");
-    assert_eq!(rt; list.told(), weights.len().min(1), "source {source}");
+    assert!(rt; list.len() == weights.len(), "source {source}");
+    assert!(rt; list.told() == weights.len().min(1), "source {source}");
     for i in 0..list.len() {
-        assert_eq!(rt; list.weight(i), u64::from(weights[i]));
-        assert_eq!(rt; list.depth(i), 1);
-        assert_eq!(rt; list.name(i, 0), NAMES[source % 8]);
+        assert!(rt; list.weight(i) == u64::from(weights[i]), "source {source}");
+        has_name(rt, list, i, NAMES[source % 8]);
     }
-    assert_eq!(rt; *list.ending(), ending, "source {source}");
+    assert!(rt; *list.ending() == ending, "source {source}");
+}
+
+/// The sample has one frame, of this name.
+fn has_name(rt: &impl Abort, list: &SourceList, i: usize, name: &str) {
+    assert!(rt; i < list.len());
+    assert!(rt; list.depth(i) == 1);
+    assert_eq!(rt; list.name(i, 0), name);
 }
 
 /// The lists are these, and the sink has their samples in the order of arrival.
 fn is_run(rt: &impl Abort, run: &Collected, sink: &Recorder, lists: &[(&'static [u8], SourceEnd)]) {
-    assert_eq!(rt; run.lists.len(), lists.len());
+    assert!(rt; run.lists.len() == lists.len());
     for source in 0..lists.len() {
         let (weights, ending) = lists[source];
         is_list(rt, source, &run.lists[source], weights, ending);
     }
-    assert_eq!(rt; sink.pairs.len(), run.order.len());
+    assert!(rt; sink.pairs.len() == run.order.len());
     let mut next = [0usize; 64];
     for at in 0..run.order.len() {
         let source = run.order[at];
         let (of, sample) = &sink.pairs[at];
-        assert_eq!(rt; *of, source);
+        assert!(rt; *of == source);
         is_next(rt, &mut next, run.lists.as_slice(), source as usize, sample);
     }
     for source in 0..run.lists.len() {
         assert!(rt; source < 64);
-        assert_eq!(rt; next[source], run.lists[source].len());
+        assert!(rt; next[source] == run.lists[source].len());
     }
 }
 
@@ -104,11 +113,16 @@ fn is_next(
     assert!(rt; source < 64 && source < lists.len());
     let i = next[source];
     assert!(rt; i < lists[source].len());
-    assert_eq!(rt; sample.weight, lists[source].weight(i));
-    let names = sample.stack.get();
-    assert_eq!(rt; names.len(), 1);
-    assert_eq!(rt; names[0].as_str(), NAMES[source % 8]);
+    assert!(rt; sample.weight == lists[source].weight(i));
+    is_named(rt, sample, NAMES[source % 8]);
     next[source] = i + 1;
+}
+
+/// The sample has one frame, of this name.
+fn is_named(rt: &impl Abort, sample: &Sample, name: &str) {
+    let names = sample.stack.get();
+    assert!(rt; names.len() == 1);
+    assert_eq!(rt; names[0].as_str(), name);
 }
 
 const THREE: &[u8] = &[1, 2, 3];
@@ -119,6 +133,14 @@ const TWENTY: &[u8] = &[1; 20];
 
 const HUNDRED: &[u8] = &[1; 100];
 
+fn is_run_of_the_page(rt: &impl Abort, run: &Collected) {
+    assert!(rt; run.order.len() == 3);
+    assert!(rt; run.lists.len() == 2);
+    let first = &run.lists[0];
+    assert!(rt; first.len() == 2);
+    assert!(rt; first.weight(1) == 2);
+}
+
 /// The example of README.md.
 #[test]
 fn example_of_the_page(rt: HostRuntime) -> Result<(), Fail> {
@@ -126,18 +148,14 @@ fn example_of_the_page(rt: HostRuntime) -> Result<(), Fail> {
     let counts = Counts::new(alloc)?;
     let mut sink = Recorder::new(alloc, &counts)?;
 
-    let readers = tapes(alloc, &counts, &[&[1, 2], &[3]])?;
-    assert!(rt; readers.len() <= 64);
     let ring = RingSize::of(2).ok_or("the size of a ring")?;
     let gate = Arc::new(alloc, OpenGate)?;
+    let readers = tapes(alloc, &counts, &[&[1, 2], &[3]])?;
+    assert!(rt; readers.len() <= 64);
     let run = collect(&rt, alloc, readers, ring, gate, &mut sink)?;
 
-    assert_eq!(rt; run.lists.len(), 2);
-    let first = &run.lists[0];
-    assert_eq!(rt; first.len(), 2);
-    assert_eq!(rt; first.weight(1), 2);
-    assert_eq!(rt; run.order.len(), 3);
-    assert_eq!(rt; sink.pairs.len(), 3);
+    is_run_of_the_page(&rt, &run);
+    assert!(rt; sink.pairs.len() == 3);
     Ok(())
 }
 
@@ -192,6 +210,11 @@ fn ring_is_not_smaller(rt: HostRuntime) -> Result<(), Fail> {
     Ok(())
 }
 
+fn end_second(rt: &impl Abort, readers: &mut Vec<Tape>, ending: SourceEnd) {
+    assert!(rt; readers.len() == 3);
+    readers[1].ending = ending;
+}
+
 /// Runs over three sources, the second of which ends in a fault.
 fn three_in_rings_of<T: Threads + Wait + Abort + AllocGlobal + Copy + Send + 'static>(
     rt: &T,
@@ -203,8 +226,7 @@ fn three_in_rings_of<T: Threads + Wait + Abort + AllocGlobal + Copy + Send + 'st
         at: 9,
     });
     let mut readers = tapes(rt.alloc(), &sink.counts, &[HUNDRED, EIGHT, HUNDRED])?;
-    assert_eq!(rt; readers.len(), 3);
-    readers[1].ending = fault;
+    end_second(rt, &mut readers, fault);
     let run = collected(rt, rt.alloc(), readers, ring, OpenGate, sink)??;
     let lists = [(HUNDRED, CLEAN), (EIGHT, fault), (HUNDRED, CLEAN)];
     is_run(rt, &run, sink, &lists);
@@ -234,6 +256,6 @@ fn sizes_of_rings(rt: HostRuntime) {
         (65_536, Some(65_536)),
         (65_537, None),
     ] {
-        assert_eq!(rt; RingSize::of(items).map(|size| size.get()), size);
+        assert!(rt; RingSize::of(items).map(RingSize::get) == size);
     }
 }

@@ -1,4 +1,5 @@
 use crate::tests::copies::equals_its_copy;
+use crate::tests::texts::is_text;
 use sample_tables::{Listed, Names, Sample, Text};
 use std::alloc::{AllocError, Global};
 use std::process::Abort;
@@ -35,7 +36,7 @@ fn copies_equal_their_sources(rt: HostRuntime) -> Result<(), Fail> {
 }
 
 fn text_is_told_apart(rt: &(impl Abort + AllocGlobal), text: &Text) -> Result<(), AllocError> {
-    assert_eq!(rt; text.get(), "ab");
+    is_text(rt, text.get(), "ab");
     equals_its_copy(rt, text)?;
     let other = Text::from_str(rt.alloc(), "ba")?;
     assert!(rt; *text != other);
@@ -46,13 +47,13 @@ fn text_is_told_apart(rt: &(impl Abort + AllocGlobal), text: &Text) -> Result<()
 fn texts_are_what_they_hold(rt: HostRuntime) -> Result<(), Fail> {
     let text = Text::of(String::from_str(rt.alloc(), "ab")?);
     text_is_told_apart(&rt, &text)?;
-    assert_eq!(rt; text.into_plain().as_str(), "ab");
+    is_text(&rt, text.into_plain().as_str(), "ab");
     Ok(())
 }
 
 fn names_are_told_apart(rt: &(impl Abort + AllocGlobal), names: &Names) -> Result<(), AllocError> {
     assert!(rt; names.get().len() == 2);
-    assert_eq!(rt; names.get()[0].as_str(), "root");
+    is_text(rt, names.get()[0].as_str(), "root");
     let other = Names::from_strs(rt.alloc(), &["leaf", "root"])?;
     assert!(rt; *names != other);
     Ok(())

@@ -271,18 +271,23 @@ fn names_told_anew(rt: HostRuntime) -> Result<(), Fail> {
     Ok(())
 }
 
+/// Whether a name was told, and a row and a sample of this weight were taken.
+fn ask(rt: &(impl Abort + AllocGlobal), ledger: &mut Ledger, weight: u64) -> bool {
+    tell_again(rt, ledger) && take_row_again(rt, ledger, weight) && take_again(rt, ledger, weight)
+}
+
+fn ask_for_all(rt: &(impl Abort + AllocGlobal), ledger: &mut Ledger) {
+    for weight in 0..9u64 {
+        if !ask(rt, ledger, weight) {
+            return;
+        }
+    }
+    assert!(rt; numbers(ledger) == (18, 72, 27));
+}
+
 /// Runs through with ample memory, and where an allocation fails once: a refused call leaves what stood
 /// before, and is asked again. Where it is refused again, no more is asked.
 #[test]
 fn refusals_change_nothing(rt: HostRuntime) {
-    let mut ledger = Ledger::new(rt.alloc());
-    for weight in 0..9u64 {
-        if !tell_again(&rt, &mut ledger)
-            || !take_row_again(&rt, &mut ledger, weight)
-            || !take_again(&rt, &mut ledger, weight)
-        {
-            return;
-        }
-    }
-    assert!(rt; numbers(&ledger) == (18, 72, 27));
+    ask_for_all(&rt, &mut Ledger::new(rt.alloc()));
 }

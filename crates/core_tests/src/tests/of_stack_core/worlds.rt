@@ -2,6 +2,7 @@
 
 ghost use Rattle.std.specs.Prelude.{◌≡◌, ◌<◌, length, IfOk};
 
+use crate::tests::texts::is_text;
 use stack_core::{Close, Event, Item, Names, OpenGate, Sample, SourceEnd, World, laws};
 use std::alloc::{AllocError, Global};
 use std::process::Abort;
@@ -129,7 +130,7 @@ fn has_received(
     requires { source < length world.now.lanes }
 {
     let found = received(rt.alloc(), world, source)?;
-    assert_eq!(rt; found.as_str(), text);
+    is_text(rt, found.as_str(), text);
     Ok(())
 }
 

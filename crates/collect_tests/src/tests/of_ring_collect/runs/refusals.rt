@@ -15,7 +15,7 @@ fn first_of(rt: &impl Abort, sink: &Recorder, source: u32, weights: &[u8]) -> us
     for (of, sample) in &sink.pairs {
         if *of == source {
             assert!(rt; count < weights.len());
-            assert_eq!(rt; sample.weight, u64::from(weights[count]));
+            assert!(rt; sample.weight == u64::from(weights[count]));
             count += 1;
         }
     }
@@ -28,20 +28,20 @@ fn runs_short<
     G: Gate + Send + Sync + Drop + 'static,
 >(rt: &T, sink: &mut Recorder, readers: Vec<Tape>, gate: G) -> Result<(), Fail> {
     let answer = collected(rt, rt.alloc(), readers, 2, gate, sink)?;
-    assert_eq!(rt; answer.err(), Some(CollectFault::OutOfMemory));
+    assert!(rt; matches!(answer, Err(CollectFault::OutOfMemory)));
     Ok(())
 }
 
 /// The sink has so many samples, and each is one of the first of its source.
 fn has_first(rt: &impl Abort, sink: &Recorder, taken: u64) {
     assert!(rt; taken < 9);
-    assert_eq!(rt; sink.pairs.len() as u64, taken);
-    assert_eq!(rt; sink.calls, taken + 1);
+    assert!(rt; sink.pairs.len() as u64 == taken);
+    assert!(rt; sink.calls == taken + 1);
     let mut of_sources = 0u64;
     for source in 0..3u32 {
         of_sources = of_sources.wrapping_add(first_of(rt, sink, source, THREE) as u64);
     }
-    assert_eq!(rt; of_sources, taken);
+    assert!(rt; of_sources == taken);
 }
 
 /// Runs with a sink that refuses after so many samples.
@@ -71,13 +71,22 @@ fn reader_refuses_after_two<T: Threads + Wait + Abort + AllocGlobal + Copy + Sen
     sink: &mut Recorder,
 ) -> Result<(), Fail> {
     let mut readers = tapes(rt.alloc(), &sink.counts, &[THREE; 3])?;
-    assert_eq!(rt; readers.len(), 3);
-    readers[1].refuses_after = Some(2);
+    refuse_after_two(rt, &mut readers);
     runs_short(rt, sink, readers, OpenGate)?;
+    has_two_of_the_second(rt, sink);
+    Ok(())
+}
+
+fn refuse_after_two(rt: &impl Abort, readers: &mut Vec<Tape>) {
+    assert!(rt; readers.len() == 3);
+    readers[1].refuses_after = Some(2);
+}
+
+/// The sink has at most two samples of the second source, and at most three of each other.
+fn has_two_of_the_second(rt: &impl Abort, sink: &Recorder) {
     assert!(rt; first_of(rt, sink, 0, THREE) <= 3);
     assert!(rt; first_of(rt, sink, 1, THREE) <= 2);
     assert!(rt; first_of(rt, sink, 2, THREE) <= 3);
-    Ok(())
 }
 
 #[test]
@@ -124,8 +133,7 @@ fn refuses_beside_a_stop<T: Threads + Wait + Abort + AllocGlobal + Copy + Send +
     };
     let readers = tapes(rt.alloc(), &sink.counts, &[THREE; 3])?;
     runs_short(rt, sink, readers, gate)?;
-    assert_eq!(rt; sink.pairs.len(), 0);
-    assert_eq!(rt; sink.calls, 1);
+    has_first(rt, sink, 0);
     Ok(())
 }
 
