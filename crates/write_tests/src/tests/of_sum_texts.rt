@@ -20,6 +20,35 @@ fn sums(alloc: Global, rows: &[(&str, u64, u64)]) -> Result<Vec<FunctionSum>, Al
     Ok(sums)
 }
 
+/// That this text stands behind what stood there.
+fn assert_behind(rt: &impl Abort, out: &[u8], wanted: &str) {
+    let (front, text) = out.split_at(out.len().min(7));
+    assert_eq!(rt; front, b"before\n".as_slice());
+    assert_eq!(rt; text, wanted.as_bytes());
+}
+
+fn append_table(
+    alloc: Global,
+    out: &mut Vec<u8>,
+    rows: &[(&str, u64, u64)],
+    count: u64,
+    whole: u64,
+) -> Result<(), AllocError> {
+    let sums = sums(alloc, rows)?;
+    append_sum_table(alloc, out, &sums, count, whole, None)
+}
+
+fn append_line(
+    alloc: Global,
+    out: &mut Vec<u8>,
+    rows: &[(&str, u64, u64)],
+    count: u64,
+    whole: u64,
+) -> Result<(), AllocError> {
+    let sums = sums(alloc, rows)?;
+    append_sum_line(alloc, out, &sums, count, whole, None)
+}
+
 /// That this is the table of the first of these functions.
 fn assert_table(
     rt: &impl Abort,
@@ -30,9 +59,8 @@ fn assert_table(
     wanted: &str,
 ) -> Result<(), AllocError> {
     let mut out = Vec::from_slice(alloc, b"before\n")?;
-    append_sum_table(alloc, &mut out, &sums(alloc, rows)?, count, whole, None)?;
-    assert_eq!(rt; &out[..7], b"before\n".as_slice());
-    assert_eq!(rt; &out[7..], wanted.as_bytes());
+    append_table(alloc, &mut out, rows, count, whole)?;
+    assert_behind(rt, &out, wanted);
     Ok(())
 }
 
@@ -46,19 +74,22 @@ fn assert_line(
     wanted: &str,
 ) -> Result<(), AllocError> {
     let mut out = Vec::from_slice(alloc, b"before\n")?;
-    append_sum_line(alloc, &mut out, &sums(alloc, rows)?, count, whole, None)?;
-    assert_eq!(rt; &out[..7], b"before\n".as_slice());
-    assert_eq!(rt; &out[7..], wanted.as_bytes());
+    append_line(alloc, &mut out, rows, count, whole)?;
+    assert_behind(rt, &out, wanted);
     Ok(())
 }
 
-#[test]
-fn example_of_the_readme(rt: HostRuntime) -> Result<(), Fail> {
-    let alloc = rt.alloc();
+fn example(alloc: Global) -> Result<Vec<u8>, AllocError> {
     let sums = sums(alloc, &[("read", 7, 7), ("main", 1, 8)])?;
     let mut out = Vec::new(alloc);
     append_sum_table(alloc, &mut out, &sums, 10, 8, Some(32))?;
     append_sum_line(alloc, &mut out, &sums, 1, 8, Some(32))?;
+    Ok(out)
+}
+
+#[test]
+fn example_of_the_readme(rt: HostRuntime) -> Result<(), Fail> {
+    let out = example(rt.alloc())?;
     let wanted = "own    own%  total   total%  whole%  name
   7  87.50%      7   87.50%  21.88%  read
   1  12.50%      8  100.00%  25.00%  main
@@ -149,14 +180,21 @@ fn a_whole_of_nothing(rt: HostRuntime) -> Result<(), Fail> {
     Ok(())
 }
 
+fn append_tables(alloc: Global, out: &mut Vec<u8>, sums: &[FunctionSum]) -> Result<(), AllocError> {
+    append_sum_table(alloc, out, sums, 2, 3, Some(3))?;
+    append_sum_table(alloc, out, sums, 1, 3, Some(u64::MAX))?;
+    append_sum_table(alloc, out, sums, 1, 0, Some(0))
+}
+
+fn append_tables_of(alloc: Global, out: &mut Vec<u8>) -> Result<(), AllocError> {
+    let sums = sums(alloc, &[("a", 3, 3), ("b", 0, 1)])?;
+    append_tables(alloc, out, &sums)
+}
+
 #[test]
 fn the_column_of_the_whole_is_as_wide_as_needed(rt: HostRuntime) -> Result<(), Fail> {
-    let alloc = rt.alloc();
-    let sums = sums(alloc, &[("a", 3, 3), ("b", 0, 1)])?;
-    let mut out = Vec::new(alloc);
-    append_sum_table(alloc, &mut out, &sums, 2, 3, Some(3))?;
-    append_sum_table(alloc, &mut out, &sums, 1, 3, Some(u64::MAX))?;
-    append_sum_table(alloc, &mut out, &sums, 1, 0, Some(0))?;
+    let mut out = Vec::new(rt.alloc());
+    append_tables_of(rt.alloc(), &mut out)?;
     let wanted = "own     own%  total   total%   whole%  name
   3  100.00%      3  100.00%  100.00%  a
   0    0.00%      1   33.33%   33.33%  b

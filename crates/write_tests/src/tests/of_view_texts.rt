@@ -1,4 +1,5 @@
 //! Worked texts.
+mod boxes;
 mod examples;
 mod fold;
 mod lines;

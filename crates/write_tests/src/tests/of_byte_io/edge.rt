@@ -1,153 +1,208 @@
 //! Readers and writers that fail at each of their calls.
-use super::fakes::{Full, Stingy};
+use super::fakes::{Faulty, Full, Stingy};
 use byte_io::{
     CountedReader, CountedWriter, Files, LoadFault, MachineFiles, MemoryFiles, NamedFile,
     SendFault, load, send,
 };
-use std::io::{ErrorKind, Read};
+use std::alloc::{AllocError, Global};
+use std::io::{ErrorKind, Read, Write};
+use std::process::Abort;
 use std::test::Fail;
-use std::{env, fs, io};
+use std::{env, fs};
 
-// A reader that gives at most two bytes at a time, and errs at its call of number `errs_at`, from 0.
-#[derive(Drop)]
-struct Faulty<'a> {
-    bytes: &'a [u8],
-    calls: usize,
-    errs_at: usize,
-    kind: ErrorKind,
+// The text goes out up to the first call that fails.
+fn sends_so_many<W: Write>(
+    rt: &impl Abort,
+    out: &mut CountedWriter<W>,
+    text: &[u8],
+    written: usize,
+) {
+    assert_eq!(rt; send(text, out), Err(SendFault { written }));
+    assert_eq!(rt; out.failures(), 1);
 }
 
-impl Read for Faulty<'_> {
-    fn read(&mut self, buf: &mut [u8]) -> io::Result<usize> {
-        let call = self.calls;
-        self.calls = call.saturating_add(1);
-        if call == self.errs_at {
-            return Err(io::Error::from(self.kind));
-        }
-        let count = self.bytes.len().min(buf.len()).min(2);
-        buf[..count].copy_from_slice(&self.bytes[..count]);
-        self.bytes = &self.bytes[count..];
-        Ok(count)
-    }
+fn is_front(rt: &impl Abort, front: &[u8], text: &[u8], len: usize) {
+    assert!(rt; text.starts_with(front));
+    assert_eq!(rt; front.len(), len);
 }
 
-fn reader_that_errs(bytes: &[u8], errs_at: usize, kind: ErrorKind) -> CountedReader<Faulty<'_>> {
-    CountedReader::new(Faulty {
-        bytes,
-        calls: 0,
-        errs_at,
-        kind,
-    })
+// A writer with so much room takes as many bytes of the text.
+fn stingy_takes(rt: &impl Abort, alloc: Global, text: &[u8], room: usize, flushes: bool) {
+    let mut out = Stingy::counted(alloc, room, flushes);
+    sends_so_many(rt, &mut out, text, room);
+    is_front(rt, &out.into_inner().taken, text, room);
+}
+
+// The bytes that are loaded within a limit.
+fn loads<R: Read>(
+    rt: &impl Abort,
+    alloc: Global,
+    reader: &mut CountedReader<R>,
+    limit: usize,
+    wanted: &[u8],
+) -> Result<(), LoadFault> {
+    let whole = load(alloc, reader, limit)?;
+    assert_eq!(rt; whole.as_slice(), wanted);
+    Ok(())
+}
+
+// The fault with which nothing is loaded.
+fn load_fault<R: Read>(
+    alloc: Global,
+    reader: &mut CountedReader<R>,
+    limit: usize,
+) -> Option<LoadFault> {
+    load(alloc, reader, limit).err()
 }
 
 #[test]
 fn lines_writers_and_limits(rt: HostRuntime) -> Result<(), Fail> {
     let alloc = rt.alloc();
-    let mut out = CountedWriter::new(Stingy {
-        taken: Vec::new(alloc),
-        room: 3,
-        flushes: true,
-    });
-    assert_eq!(rt; send(b"abcde", &mut out), Err(SendFault { written: 3 }));
-    assert_eq!(rt; out.failures(), 1);
-    assert_eq!(rt; out.into_inner().taken.as_slice(), b"abc".as_slice());
-
-    let whole = load(alloc, &mut CountedReader::new(b"abcd".as_slice()), 4)?;
-    assert_eq!(rt; whole.as_slice(), b"abcd".as_slice());
-    let more = load(alloc, &mut CountedReader::new(b"abcde".as_slice()), 4);
-    assert!(rt; matches!(&more, Err(LoadFault::TooLarge)));
-    let second = load(
-        alloc,
-        &mut reader_that_errs(b"abcd", 1, ErrorKind::Other),
-        4,
-    );
-    assert!(rt; matches!(&second, Err(LoadFault::Io)));
+    stingy_takes(&rt, alloc, b"abcde", 3, true);
+    let mut reader = CountedReader::new(b"abcd".as_slice());
+    loads(&rt, alloc, &mut reader, 4, b"abcd")?;
+    let mut longer = CountedReader::new(b"abcde".as_slice());
+    assert!(rt; load_fault(alloc, &mut longer, 4) == Some(LoadFault::TooLarge));
+    let mut faulty = Faulty::counted(b"abcd", 1, ErrorKind::Other);
+    assert!(rt; load_fault(alloc, &mut faulty, 4) == Some(LoadFault::Io));
     Ok(())
+}
+
+fn is_sent(rt: &impl Abort, out: &mut CountedWriter<Vec<u8>>, text: &[u8]) {
+    assert_eq!(rt; send(text, out), Ok(()));
+    assert_eq!(rt; out.failures(), 0);
+}
+
+fn vector_takes_all(rt: &impl Abort, alloc: Global, text: &[u8]) {
+    let mut out = CountedWriter::new(Vec::new(alloc));
+    is_sent(rt, &mut out, text);
+    is_front(rt, &out.into_inner(), text, text.len());
 }
 
 // The ten bytes go out up to the failing call, and no further.
 #[test]
-fn each_write_fails_in_turn(rt: HostRuntime) -> Result<(), Fail> {
-    let alloc = rt.alloc();
+fn each_write_fails_in_turn(rt: HostRuntime) {
     let text = b"a 1\na;b 5\n".as_slice();
     for room in 0..11usize {
-        let mut out = CountedWriter::new(Stingy {
-            taken: Vec::new(alloc),
-            room,
-            flushes: false,
-        });
-        assert_eq!(rt; send(text, &mut out), Err(SendFault { written: room }));
-        assert_eq!(rt; out.failures(), 1);
-        let taken = out.into_inner().taken;
-        assert!(rt; text.starts_with(taken.as_slice()));
-        assert_eq!(rt; taken.len(), room);
+        stingy_takes(&rt, rt.alloc(), text, room, false);
     }
-    let mut out = CountedWriter::new(Full);
-    assert_eq!(rt; send(text, &mut out), Err(SendFault { written: 0 }));
-    assert_eq!(rt; out.failures(), 1);
+    sends_so_many(&rt, &mut CountedWriter::new(Full), text, 0);
+    vector_takes_all(&rt, rt.alloc(), text);
+}
 
-    let mut out = CountedWriter::new(Vec::new(alloc));
-    assert_eq!(rt; send(text, &mut out), Ok(()));
-    assert_eq!(rt; out.failures(), 0);
-    assert_eq!(rt; out.into_inner().as_slice(), text);
+fn read_fails(rt: &impl Abort, alloc: Global, errs_at: usize) {
+    let mut reader = Faulty::counted(b"abcde", errs_at, ErrorKind::Other);
+    assert!(rt; load_fault(alloc, &mut reader, 5) == Some(LoadFault::Io));
+    assert_eq!(rt; reader.failures(), 1);
+}
+
+fn read_is_tried_again(rt: &impl Abort, alloc: Global, errs_at: usize) -> Result<(), LoadFault> {
+    let mut reader = Faulty::counted(b"abcde", errs_at, ErrorKind::Interrupted);
+    loads(rt, alloc, &mut reader, 5, b"abcde")?;
+    assert_eq!(rt; reader.failures(), 0);
     Ok(())
 }
 
 // Five bytes take three reads, and a fourth finds the end.
 #[test]
 fn each_read_fails_in_turn(rt: HostRuntime) -> Result<(), Fail> {
-    let alloc = rt.alloc();
     for errs_at in 0..4usize {
-        let mut reader = reader_that_errs(b"abcde", errs_at, ErrorKind::Other);
-        let answer = load(alloc, &mut reader, 5);
-        assert!(rt; matches!(&answer, Err(LoadFault::Io)));
-        assert_eq!(rt; reader.failures(), 1);
+        read_fails(&rt, rt.alloc(), errs_at);
     }
     for errs_at in 0..5usize {
-        let mut reader = reader_that_errs(b"abcde", errs_at, ErrorKind::Interrupted);
-        let answer = load(alloc, &mut reader, 5)?;
-        assert_eq!(rt; answer.as_slice(), b"abcde".as_slice());
-        assert_eq!(rt; reader.failures(), 0);
+        read_is_tried_again(&rt, rt.alloc(), errs_at)?;
     }
+    Ok(())
+}
+
+fn is_written(
+    rt: &impl Abort,
+    alloc: Global,
+    fault: LoadFault,
+    wanted: &str,
+) -> Result<(), AllocError> {
+    let text = fault.to_string(alloc)?;
+    assert_eq!(rt; text.as_str(), wanted);
     Ok(())
 }
 
 // The texts are those of the program's messages.
 #[test]
 fn faults_are_written(rt: HostRuntime) -> Result<(), Fail> {
-    let alloc = rt.alloc();
-    assert_eq!(rt; LoadFault::Io.to_string(alloc)?.as_str(), "cannot be read");
-    assert_eq!(rt; LoadFault::TooLarge.to_string(alloc)?.as_str(), "too large");
-    assert_eq!(rt;
-        LoadFault::OutOfMemory.to_string(alloc)?.as_str(),
-        "out of memory"
-    );
-    assert_eq!(rt;
-        SendFault { written: 3 }.to_string(alloc)?.as_str(),
-        "output failed"
-    );
+    is_written(&rt, rt.alloc(), LoadFault::Io, "cannot be read")?;
+    is_written(&rt, rt.alloc(), LoadFault::TooLarge, "too large")?;
+    is_written(&rt, rt.alloc(), LoadFault::OutOfMemory, "out of memory")?;
+    let text = SendFault { written: 3 }.to_string(rt.alloc())?;
+    assert_eq!(rt; text.as_str(), "output failed");
+    Ok(())
+}
+
+fn file_of(alloc: Global, path: &str, bytes: &[u8]) -> Result<NamedFile, AllocError> {
+    let path = String::from_str(alloc, path)?;
+    Ok(NamedFile {
+        path,
+        bytes: bytes.to_vec(alloc)?,
+    })
+}
+
+fn add(alloc: Global, files: &mut MemoryFiles, path: &str, bytes: &[u8]) -> Result<(), AllocError> {
+    files.add(file_of(alloc, path, bytes)?)
+}
+
+fn input_is(
+    rt: &impl Abort,
+    alloc: Global,
+    files: &mut MemoryFiles,
+    wanted: &[u8],
+) -> Result<(), LoadFault> {
+    let bytes = files.input(alloc)?;
+    assert_eq!(rt; bytes.as_slice(), wanted);
+    Ok(())
+}
+
+fn file_is<F: Files>(
+    rt: &impl Abort,
+    alloc: Global,
+    files: &mut F,
+    path: &str,
+    wanted: &[u8],
+) -> Result<(), LoadFault> {
+    let bytes = files.named(alloc, path)?;
+    assert_eq!(rt; bytes.as_slice(), wanted);
+    Ok(())
+}
+
+// The fault with which a file isn't had.
+fn file_fault<F: Files>(alloc: Global, files: &mut F, path: &str) -> Option<LoadFault> {
+    files.named(alloc, path).err()
+}
+
+fn add_three(alloc: Global, files: &mut MemoryFiles) -> Result<(), AllocError> {
+    add(alloc, files, "x", b"b 2\n")?;
+    add(alloc, files, "y", b"c 31\n")?;
+    add(alloc, files, "x", b"d 4\n")
+}
+
+fn three_files_are_had(
+    rt: &impl Abort,
+    alloc: Global,
+    files: &mut MemoryFiles,
+) -> Result<(), LoadFault> {
+    add_three(alloc, files)?;
+    for _ in 0..2 {
+        input_is(rt, alloc, files, b"a 1\n")?;
+        file_is(rt, alloc, files, "x", b"b 2\n")?;
+    }
+    assert!(rt; file_fault(alloc, files, "y") == Some(LoadFault::TooLarge));
+    assert!(rt; file_fault(alloc, files, "z") == Some(LoadFault::Io));
     Ok(())
 }
 
 #[test]
 fn files_in_memory(rt: HostRuntime) -> Result<(), Fail> {
-    let alloc = rt.alloc();
-    let input = b"a 1\n".to_vec(alloc)?;
-    let mut files = MemoryFiles::new(alloc, input, 4);
-    for (path, bytes) in [("x", "b 2\n"), ("y", "c 31\n"), ("x", "d 4\n")] {
-        files.add(NamedFile {
-            path: String::from_str(alloc, path)?,
-            bytes: bytes.as_bytes().to_vec(alloc)?,
-        })?;
-    }
-    for _ in 0..2 {
-        assert_eq!(rt; files.input(alloc)?.as_slice(), b"a 1\n".as_slice());
-        assert_eq!(rt; files.named(alloc, "x")?.as_slice(), b"b 2\n".as_slice());
-    }
-    let large = files.named(alloc, "y");
-    assert!(rt; matches!(&large, Err(LoadFault::TooLarge)));
-    let absent = files.named(alloc, "z");
-    assert!(rt; matches!(&absent, Err(LoadFault::Io)));
+    let input = b"a 1\n".to_vec(rt.alloc())?;
+    let mut files = MemoryFiles::new(rt.alloc(), input, 4);
+    three_files_are_had(&rt, rt.alloc(), &mut files)?;
     Ok(())
 }
 
@@ -162,7 +217,6 @@ fn files_of_the_machine(rt: HostRuntime) -> Result<(), Fail> {
     let found = files.named(alloc, path);
     fs::remove_file(&rt, path)?;
     assert_eq!(rt; found?.as_slice(), b"a;b 3\n".as_slice());
-    let absent = files.named(alloc, path);
-    assert!(rt; matches!(&absent, Err(LoadFault::Io)));
+    assert!(rt; file_fault(alloc, &mut files, path) == Some(LoadFault::Io));
     Ok(())
 }

@@ -1,6 +1,14 @@
 //! The example of the crate's page.
-use byte_io::{Files, MemoryFiles, NamedFile};
+use byte_io::{Files, LoadFault, MemoryFiles, NamedFile};
+use std::alloc::Global;
+use std::process::Abort;
 use std::test::Fail;
+
+fn files_are_had(rt: &impl Abort, alloc: Global, files: &mut MemoryFiles) -> Result<(), LoadFault> {
+    assert_eq!(rt; files.named(alloc, "x")?.as_slice(), b"b 2\n".as_slice());
+    assert_eq!(rt; files.input(alloc)?.as_slice(), b"a 1\n".as_slice());
+    Ok(())
+}
 
 #[test]
 fn example_of_the_page(rt: HostRuntime) -> Result<(), Fail> {
@@ -9,7 +17,6 @@ fn example_of_the_page(rt: HostRuntime) -> Result<(), Fail> {
     let path = String::from_str(alloc, "x")?;
     let bytes = b"b 2\n".to_vec(alloc)?;
     files.add(NamedFile { path, bytes })?;
-    assert_eq!(rt; files.named(alloc, "x")?.as_slice(), b"b 2\n".as_slice());
-    assert_eq!(rt; files.input(alloc)?.as_slice(), b"a 1\n".as_slice());
+    files_are_had(&rt, alloc, &mut files)?;
     Ok(())
 }

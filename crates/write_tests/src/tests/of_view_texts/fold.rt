@@ -1,8 +1,8 @@
 //! Worked examples.
-ghost use Rattle.std.specs.Prelude.{◌<◌, ◌^◌, [], List, OnOk, IfOk};
+ghost use Rattle.std.specs.Prelude.{◌<◌, [], List, OnOk};
+ghost use Rattle.sample_tables.specs.Samples.{total_weight as list_weight};
 ghost use Rattle.sample_tables.specs.declared.samples.Sample.{Sample};
-ghost use Rattle.call_tree.specs.CallTree.{total_weight};
-ghost use Rattle.call_tree.specs.Listing.{HasNumbersOf};
+ghost use Rattle.stack_core.specs.Ledgers.{IsRead};
 ghost use Rattle.flame_layout.specs.checked.Held.{Holds};
 
 use byte_io::append_pieces;
@@ -14,6 +14,9 @@ use std::alloc::{AllocError, Global};
 use std::process::Abort;
 use std::test::Fail;
 use view_texts::{PairedText, append_fold_text, append_merged_text, append_pairs_text};
+
+// Stacks, root first, with their weights.
+type Rows<'a> = &'a [(&'a [&'a str], u64)];
 
 // Adds a stack, root first, with a weight.
 fn add(
@@ -36,27 +39,43 @@ fn add(
     tree.add(&numbers, weight)
 }
 
-// The fold text of the merged tree of some samples.
-fn text(rt: &impl Abort, alloc: Global, samples: &[(&[&str], u64)]) -> Result<Vec<u8>, AllocError> {
-    let mut table = FrameTable::new(alloc);
-    let mut tree = CallTree::new(alloc)?;
-    for (names, weight) in samples {
-        add(rt, alloc, &mut table, &mut tree, names, *weight)?;
-    }
-    assert!(rt; tree.total(&[]) < 1_000);
-    let mut out = Vec::from_slice(alloc, b"# ")?;
-    append_fold_text(alloc, &mut out, &tree, &table)?;
-    Ok(out)
-}
-
-// The list of a source with these samples.
-fn list(
+// Appends the fold text of a tree to which some samples are added.
+fn append_added(
     rt: &impl Abort,
     alloc: Global,
-    samples: &[(&[&str], u64)],
-) -> Result<SourceList, AllocError> {
-    let mut ledger = Ledger::new(alloc);
-    for (names, weight) in samples {
+    out: &mut Vec<u8>,
+    table: &mut FrameTable,
+    tree: &mut CallTree,
+    rows: Rows<'_>,
+) -> Result<(), AllocError>
+    requires { (samples : List Sample) × Holds table.old tree.old samples }
+{
+    for (names, weight) in rows {
+        add(rt, alloc, table, tree, names, *weight)?;
+    }
+    assert!(rt; tree.total(&[]) < 1_000);
+    append_fold_text(alloc, out, tree, table)
+}
+
+// Appends the fold text of the merged tree of some samples.
+fn append_tree(
+    rt: &impl Abort,
+    alloc: Global,
+    out: &mut Vec<u8>,
+    rows: Rows<'_>,
+) -> Result<(), AllocError> {
+    let mut tree = CallTree::new(alloc)?;
+    let mut table = FrameTable::new(alloc);
+    append_added(rt, alloc, out, &mut table, &mut tree, rows)
+}
+
+fn take_all(
+    rt: &impl Abort,
+    alloc: Global,
+    ledger: &mut Ledger,
+    rows: Rows<'_>,
+) -> Result<(), AllocError> {
+    for (names, weight) in rows {
         assert!(rt; !ledger.is_closed());
         assert!(rt; names.len() < 10);
         assert!(rt; *weight < 100);
@@ -65,156 +84,188 @@ fn list(
             weight: *weight,
         })?;
     }
+    Ok(())
+}
+
+fn close_read(rt: &impl Abort, ledger: &mut Ledger)
+    ensures { IsRead ledger.new.close }
+{
     assert!(rt; !ledger.is_closed());
     ledger.close(Close::Read(SourceEnd::Clean { ignored: 0 }));
+}
+
+// The list of a source with these samples.
+fn list(rt: &impl Abort, alloc: Global, rows: Rows<'_>) -> Result<SourceList, AllocError> {
+    let mut ledger = Ledger::new(alloc);
+    take_all(rt, alloc, &mut ledger, rows)?;
+    close_read(rt, &mut ledger);
     Ok(ledger.into_list())
 }
 
-// The fold text of the merged stacks of two sources.
-fn merged_text(
+// That the weights of a list don't add up to much.
+fn assert_light(rt: &impl Abort, list: &SourceList)
+    ensures { list_weight list.now.samples < 1_000 }
+{
+    assert!(rt; list.total() < 1_000);
+}
+
+// Appends the fold text of the merged stacks of two sources.
+fn append_merged(
     rt: &impl Abort,
     alloc: Global,
+    out: &mut Vec<u8>,
     one: SourceList,
     other: SourceList,
-) -> Result<Vec<u8>, AllocError> {
-    assert!(rt; one.total() < 1_000);
-    assert!(rt; other.total() < 1_000);
+) -> Result<(), AllocError> {
+    assert_light(rt, &one);
+    assert_light(rt, &other);
     let merged = MergedStacks::of(alloc, &[one, other])?;
-    let mut out = Vec::from_slice(alloc, b"# ")?;
-    append_merged_text(&mut out, &merged)?;
-    Ok(out)
+    append_merged_text(out, &merged)
 }
 
-// The two-column text of two profiles.
-fn pairs(
+// Appends the two-column text of two profiles.
+fn append_compared(
     rt: &impl Abort,
     alloc: Global,
-    old: &[(&[&str], u64)],
-    new: &[(&[&str], u64)],
-) -> Result<Vec<u8>, AllocError> {
-    let before = list(rt, alloc, old)?;
-    let after = list(rt, alloc, new)?;
-    assert!(rt; before.total() < 1_000);
-    assert!(rt; after.total() < 1_000);
-    let rows = compare(alloc, &before, &after)?;
-    let mut out = Vec::from_slice(alloc, b"# ")?;
-    append_pairs_text(alloc, &mut out, &rows)?;
-    Ok(out)
-}
-
-// The same text, of the paired stacks of both profiles.
-fn paired(
-    rt: &impl Abort,
-    alloc: Global,
-    old: &[(&[&str], u64)],
-    new: &[(&[&str], u64)],
-) -> Result<Vec<u8>, AllocError> {
-    let before = list(rt, alloc, old)?;
-    paired_with(rt, alloc, &before, new)
-}
-
-fn paired_with(
-    rt: &impl Abort,
-    alloc: Global,
-    before: &SourceList,
-    new: &[(&[&str], u64)],
-) -> Result<Vec<u8>, AllocError> {
-    let after = list(rt, alloc, new)?;
-    paired_lists(rt, alloc, before, &after)
-}
-
-fn paired_lists(
-    rt: &impl Abort,
-    alloc: Global,
+    out: &mut Vec<u8>,
     before: &SourceList,
     after: &SourceList,
-) -> Result<Vec<u8>, AllocError> {
-    assert!(rt; before.total() < 1_000);
-    assert!(rt; after.total() < 1_000);
-    let stacks = PairedStacks::of(alloc, before, after)?;
-    text_of_pairs(alloc, &stacks)
+) -> Result<(), AllocError> {
+    assert_light(rt, before);
+    assert_light(rt, after);
+    let rows = compare(alloc, before, after)?;
+    append_pairs_text(alloc, out, &rows)
 }
 
-fn text_of_pairs(alloc: Global, stacks: &PairedStacks) -> Result<Vec<u8>, AllocError> {
-    let mut out = Vec::from_slice(alloc, b"# ")?;
-    append_pieces(alloc, &PairedText::of(stacks), &mut out)?;
-    Ok(out)
+// Appends the same text, of the paired stacks of both profiles.
+fn append_paired(
+    rt: &impl Abort,
+    alloc: Global,
+    out: &mut Vec<u8>,
+    before: &SourceList,
+    after: &SourceList,
+) -> Result<(), AllocError> {
+    assert_light(rt, before);
+    assert_light(rt, after);
+    let stacks = PairedStacks::of(alloc, before, after)?;
+    append_pieces(alloc, &PairedText::of(&stacks), out)
+}
+
+// Whose text is looked at.
+#[derive(Clone, Copy)]
+enum Joined {
+    Merged,
+    Compared,
+    Paired,
+}
+
+fn append_joined(
+    rt: &impl Abort,
+    alloc: Global,
+    out: &mut Vec<u8>,
+    joined: Joined,
+    one: SourceList,
+    other: SourceList,
+) -> Result<(), AllocError> {
+    match joined {
+        Joined::Merged => append_merged(rt, alloc, out, one, other),
+        Joined::Compared => append_compared(rt, alloc, out, &one, &other),
+        Joined::Paired => append_paired(rt, alloc, out, &one, &other),
+    }
+}
+
+fn append_both(
+    rt: &impl Abort,
+    alloc: Global,
+    out: &mut Vec<u8>,
+    joined: Joined,
+    one: Rows<'_>,
+    other: Rows<'_>,
+) -> Result<(), AllocError> {
+    let one = list(rt, alloc, one)?;
+    let other = list(rt, alloc, other)?;
+    append_joined(rt, alloc, out, joined, one, other)
+}
+
+// The text of the tree of some samples, behind what stood there.
+fn tree_is_written(
+    rt: &(impl Abort + AllocGlobal),
+    rows: Rows<'_>,
+    wanted: &[u8],
+) -> Result<(), AllocError> {
+    let mut out = Vec::from_slice(rt.alloc(), b"# ")?;
+    append_tree(rt, rt.alloc(), &mut out, rows)?;
+    assert_eq!(rt; out.as_slice(), wanted);
+    Ok(())
+}
+
+// The text of two sources together, behind what stood there.
+fn is_written(
+    rt: &(impl Abort + AllocGlobal),
+    joined: Joined,
+    one: Rows<'_>,
+    other: Rows<'_>,
+    wanted: &[u8],
+) -> Result<(), AllocError> {
+    let mut out = Vec::from_slice(rt.alloc(), b"# ")?;
+    append_both(rt, rt.alloc(), &mut out, joined, one, other)?;
+    assert_eq!(rt; out.as_slice(), wanted);
+    Ok(())
 }
 
 #[test]
 fn stored_run(rt: HostRuntime) -> Result<(), Fail> {
-    let samples: [(&[&str], u64); 3] = [(&["a", "b"], 2), (&["a"], 1), (&["a", "b"], 3)];
-    let out = text(&rt, rt.alloc(), &samples)?;
-    assert_eq!(rt; out.as_slice(), b"# a 1\na;b 5\n".as_slice());
+    let rows: [(&[&str], u64); 3] = [(&["a", "b"], 2), (&["a"], 1), (&["a", "b"], 3)];
+    tree_is_written(&rt, &rows, b"# a 1\na;b 5\n")?;
     Ok(())
 }
 
 #[test]
 fn odd_lines(rt: HostRuntime) -> Result<(), Fail> {
-    let samples: [(&[&str], u64); 4] = [(&["a", "", "b"], 1), (&[], 5), (&["b"], 0), (&["a"], 1)];
-    let out = text(&rt, rt.alloc(), &samples)?;
-    assert_eq!(rt; out.as_slice(), b"#  5\na 1\na;;b 1\n".as_slice());
+    let rows: [(&[&str], u64); 4] = [(&["a", "", "b"], 1), (&[], 5), (&["b"], 0), (&["a"], 1)];
+    tree_is_written(&rt, &rows, b"#  5\na 1\na;;b 1\n")?;
     Ok(())
 }
 
 #[test]
 fn empty_tree(rt: HostRuntime) -> Result<(), Fail> {
-    let out = text(&rt, rt.alloc(), &[])?;
-    assert_eq!(rt; out.as_slice(), b"# ".as_slice());
+    tree_is_written(&rt, &[], b"# ")?;
     Ok(())
 }
 
 // The path goes up and down again, past stacks without an own weight.
 #[test]
 fn shared_fronts(rt: HostRuntime) -> Result<(), Fail> {
-    let samples: [(&[&str], u64); 4] = [
+    let rows: [(&[&str], u64); 4] = [
         (&["b", "a"], 1),
         (&["a", "c", "d"], 2),
         (&["a", "b", "b", "b"], 3),
         (&["a", "c"], 4),
     ];
-    let out = text(&rt, rt.alloc(), &samples)?;
-    assert_eq!(rt;
-        out.as_slice(),
-        b"# a;b;b;b 3\na;c 4\na;c;d 2\nb;a 1\n".as_slice()
-    );
+    tree_is_written(&rt, &rows, b"# a;b;b;b 3\na;c 4\na;c;d 2\nb;a 1\n")?;
     Ok(())
 }
 
 #[test]
 fn stored_run_merged(rt: HostRuntime) -> Result<(), Fail> {
-    let alloc = rt.alloc();
-    let samples: [(&[&str], u64); 3] = [(&["a", "b"], 2), (&["a"], 1), (&["a", "b"], 3)];
-    let out = merged_text(
-        &rt,
-        alloc,
-        list(&rt, alloc, &samples)?,
-        list(&rt, alloc, &[])?,
-    )?;
-    assert_eq!(rt; out.as_slice(), b"# a 1\na;b 5\n".as_slice());
+    let rows: [(&[&str], u64); 3] = [(&["a", "b"], 2), (&["a"], 1), (&["a", "b"], 3)];
+    is_written(&rt, Joined::Merged, &rows, &[], b"# a 1\na;b 5\n")?;
     Ok(())
 }
 
+const ODD: Rows<'static> = &[(&["a", "", "b"], 1), (&[], 5)];
+
+const PLAIN: Rows<'static> = &[(&["b"], 0), (&["a"], 1)];
+
 #[test]
 fn odd_lines_merged(rt: HostRuntime) -> Result<(), Fail> {
-    let alloc = rt.alloc();
-    let one: [(&[&str], u64); 2] = [(&["a", "", "b"], 1), (&[], 5)];
-    let other: [(&[&str], u64); 2] = [(&["b"], 0), (&["a"], 1)];
-    let out = merged_text(
-        &rt,
-        alloc,
-        list(&rt, alloc, &one)?,
-        list(&rt, alloc, &other)?,
-    )?;
-    assert_eq!(rt; out.as_slice(), b"#  5\na 1\na;;b 1\n".as_slice());
+    is_written(&rt, Joined::Merged, ODD, PLAIN, b"#  5\na 1\na;;b 1\n")?;
     Ok(())
 }
 
 #[test]
 fn nothing_merged(rt: HostRuntime) -> Result<(), Fail> {
-    let alloc = rt.alloc();
-    let out = merged_text(&rt, alloc, list(&rt, alloc, &[])?, list(&rt, alloc, &[])?)?;
-    assert_eq!(rt; out.as_slice(), b"# ".as_slice());
+    is_written(&rt, Joined::Merged, &[], &[], b"# ")?;
     Ok(())
 }
 
@@ -222,8 +273,8 @@ fn nothing_merged(rt: HostRuntime) -> Result<(), Fail> {
 fn comparison(rt: HostRuntime) -> Result<(), Fail> {
     let old: [(&[&str], u64); 2] = [(&["a"], 3), (&["b"], 1)];
     let new: [(&[&str], u64); 2] = [(&["a"], 1), (&["c"], 2)];
-    let out = pairs(&rt, rt.alloc(), &old, &new)?;
-    assert_eq!(rt; out.as_slice(), b"# a 3 1\nb 1 0\nc 0 2\n".as_slice());
+    let wanted = b"# a 3 1\nb 1 0\nc 0 2\n";
+    is_written(&rt, Joined::Compared, &old, &new, wanted)?;
     Ok(())
 }
 
@@ -231,18 +282,14 @@ fn comparison(rt: HostRuntime) -> Result<(), Fail> {
 fn comparison_of_paired_stacks(rt: HostRuntime) -> Result<(), Fail> {
     let old: [(&[&str], u64); 3] = [(&["b"], 1), (&["a", "b"], 3), (&["c"], 0)];
     let new: [(&[&str], u64); 3] = [(&["c"], 2), (&["a", "b"], 1), (&[], 1)];
-    let out = paired(&rt, rt.alloc(), &old, &new)?;
-    assert_eq!(rt;
-        out.as_slice(),
-        b"#  0 1\na;b 3 1\nb 1 0\nc 0 2\n".as_slice()
-    );
+    let wanted = b"#  0 1\na;b 3 1\nb 1 0\nc 0 2\n";
+    is_written(&rt, Joined::Paired, &old, &new, wanted)?;
     Ok(())
 }
 
 #[test]
 fn comparison_of_nothing(rt: HostRuntime) -> Result<(), Fail> {
-    let out = pairs(&rt, rt.alloc(), &[], &[])?;
-    assert_eq!(rt; out.as_slice(), b"# ".as_slice());
+    is_written(&rt, Joined::Compared, &[], &[], b"# ")?;
     Ok(())
 }
 

@@ -1,73 +1,16 @@
 //! Worked examples.
 
-ghost use Rattle.std.specs.Prelude.{◌≡◌, ◌+◌, ◌≤◌, All, IfOk, IsTrue};
-
+use super::boxes::{
+    Row, are_drawn_within, are_pairs_within, assert_within, boxes_of, pairs_of, scale_of,
+};
 use byte_io::append_pieces;
-use flame_layout::{ComparedBox, DrawnBox, SpanBox, Width};
-use stack_core::Text;
+use flame_layout::{DrawnBox, Width};
 use std::alloc::{AllocError, Global};
 use std::process::Abort;
 use std::test::Fail;
 use view_texts::{
     Scale, append_boxes_line, append_pair_boxes_line, append_snapshot_line, drawn_line,
 };
-
-// Depth, name, start, weight and own weight of a box.
-type Row<'a> = (u32, &'a str, u64, u64, u64);
-
-fn boxes_of(alloc: Global, rows: &[Row<'_>]) -> Result<Vec<SpanBox>, AllocError> {
-    let mut boxes = Vec::new(alloc);
-    for (depth, name, start, weight, own) in rows {
-        boxes.push(SpanBox {
-            depth: *depth,
-            name: Text::from_str(alloc, name)?,
-            start: *start,
-            weight: *weight,
-            own: *own,
-        })?;
-    }
-    Ok(boxes)
-}
-
-// Whether a box ends within the total.
-fn is_within(start: u64, weight: u64, total: u64) -> bool
-    ensures { IsTrue result → start + weight ≤ total }
-{
-    start <= total && weight <= total - start
-}
-
-// Whether each does.
-fn are_within(boxes: &[SpanBox], total: u64) -> bool
-    ensures { IsTrue result → All (λ span. span.start + span.weight ≤ total) boxes.now }
-{
-    boxes
-        .iter()
-        .all(|span| is_within(span.start, span.weight, total))
-}
-
-// The same of boxes whose names are lent.
-fn are_drawn_within(boxes: &[DrawnBox<'_>], total: u64) -> bool
-    ensures { IsTrue result → All (λ drawn. drawn.start + drawn.weight ≤ total) boxes.now }
-{
-    boxes
-        .iter()
-        .all(|drawn| is_within(drawn.start, drawn.weight, total))
-}
-
-// The same of the boxes of a comparison.
-fn are_pairs_within(boxes: &[ComparedBox], total: u64) -> bool
-    ensures { IsTrue result
-        → All (λ compared. compared.span.start + compared.span.weight ≤ total) boxes.now }
-{
-    boxes.iter().all(|compared| is_within(compared.span.start, compared.span.weight, total))
-}
-
-fn scale_of(total: u64, width: u32) -> Result<Scale, Fail>
-    ensures { IfOk result (λ scale. scale.total ≡ total) }
-{
-    let width = Width::of(width).ok_or("no width")?;
-    Ok(Scale { total, width })
-}
 
 // Appends the line of the boxes.
 fn append(
@@ -76,28 +19,63 @@ fn append(
     out: &mut Vec<u8>,
     view: &str,
     rows: &[Row<'_>],
-    scale: Scale,
-) -> Result<(), Fail> {
+    scale: &Scale,
+) -> Result<(), AllocError> {
     let boxes = boxes_of(alloc, rows)?;
-    assert!(rt; are_within(&boxes, scale.total));
-    assert!(rt; scale.total > 0 || boxes.is_empty());
-    Ok(append_boxes_line(alloc, out, view, &boxes, &scale)?)
+    assert_within(rt, &boxes, scale.total);
+    append_boxes_line(alloc, out, view, &boxes, scale)
 }
 
-// Appends the line of a snapshot, after so many samples and with these counts.
-fn append_snapshot(
-    rt: &impl Abort,
-    alloc: Global,
-    out: &mut Vec<u8>,
-    (at, counts): (u64, &[u64]),
+// Each of these views has the line that is wanted, one after another.
+fn lines_are(
+    rt: &(impl Abort + AllocGlobal),
+    views: &[&str],
     rows: &[Row<'_>],
-    total: u64,
+    scale: &Scale,
+    wanted: &str,
+) -> Result<(), AllocError> {
+    let mut out = Vec::new(rt.alloc());
+    for view in views {
+        append(rt, rt.alloc(), &mut out, view, rows, scale)?;
+    }
+    assert_eq!(rt; out.as_slice(), wanted.as_bytes());
+    Ok(())
+}
+
+// After how many samples a snapshot was taken, how many each source had given, its boxes and their total.
+type Snapshot<'a> = (u64, &'a [u64], &'a [Row<'a>], u64);
+
+// Appends the line of a snapshot.
+fn append_snapshot(
+    rt: &(impl Abort + AllocGlobal),
+    out: &mut Vec<u8>,
+    snapshot: &Snapshot<'_>,
+    width: Width,
+) -> Result<(), AllocError> {
+    let (at, counts, rows, total) = snapshot;
+    let scale = Scale {
+        total: *total,
+        width,
+    };
+    let boxes = boxes_of(rt.alloc(), rows)?;
+    assert_within(rt, &boxes, scale.total);
+    append_snapshot_line(rt.alloc(), out, *at, counts, &boxes, &scale)
+}
+
+// The lines of these snapshots stand behind what stood there.
+fn snapshots_are(
+    rt: &(impl Abort + AllocGlobal),
+    front: &str,
+    snapshots: &[Snapshot<'_>],
+    wanted: &str,
 ) -> Result<(), Fail> {
-    let boxes = boxes_of(alloc, rows)?;
-    assert!(rt; are_within(&boxes, total));
-    assert!(rt; total > 0 || boxes.is_empty());
-    let scale = scale_of(total, 10)?;
-    Ok(append_snapshot_line(alloc, out, at, counts, &boxes, &scale)?)
+    let width = Width::of(10).ok_or("no width")?;
+    let mut out = Vec::from_slice(rt.alloc(), front.as_bytes())?;
+    for snapshot in snapshots {
+        append_snapshot(rt, &mut out, snapshot, width)?;
+    }
+    assert_eq!(rt; out.as_slice(), wanted.as_bytes());
+    Ok(())
 }
 
 // Appends the line of a comparison, whose boxes have these totals before.
@@ -107,34 +85,17 @@ fn append_pair_boxes(
     out: &mut Vec<u8>,
     before: u64,
     rows: &[(Row<'_>, u64)],
-    total: u64,
-) -> Result<(), Fail> {
-    let mut boxes = Vec::new(alloc);
-    for ((depth, name, start, weight, own), before) in rows {
-        let span = SpanBox {
-            depth: *depth,
-            name: Text::from_str(alloc, name)?,
-            start: *start,
-            weight: *weight,
-            own: *own,
-        };
-        boxes.push(ComparedBox {
-            span,
-            before: *before,
-        })?;
-    }
-    assert!(rt; are_pairs_within(&boxes, total));
-    assert!(rt; total > 0 || boxes.is_empty());
-    let scale = scale_of(total, 10)?;
-    Ok(append_pair_boxes_line(alloc, out, before, &boxes, &scale)?)
+    scale: Scale,
+) -> Result<(), AllocError> {
+    let boxes = pairs_of(alloc, rows)?;
+    assert!(rt; are_pairs_within(&boxes, scale.total));
+    assert!(rt; scale.total > 0 || boxes.is_empty());
+    append_pair_boxes_line(alloc, out, before, &boxes, &scale)
 }
 
 #[test]
 fn graph_of_three_lines(rt: HostRuntime) -> Result<(), Fail> {
     let rows = [(0, "all", 0, 3, 0), (1, "a", 0, 1, 1), (1, "b", 1, 2, 2)];
-    let mut out = Vec::new(rt.alloc());
-    append(&rt, rt.alloc(), &mut out, "graph", &rows, scale_of(3, 10)?)?;
-    append(&rt, rt.alloc(), &mut out, "chart", &rows, scale_of(3, 10)?)?;
     let lines = concat!(
         r#"{"boxes":[{"depth":0,"left":0,"name":"all","own":0,"right":10,"start":0,"weight":3},"#,
         r#"{"depth":1,"left":0,"name":"a","own":1,"right":3,"start":0,"weight":1},"#,
@@ -147,13 +108,27 @@ fn graph_of_three_lines(rt: HostRuntime) -> Result<(), Fail> {
         r#""total":3,"view":"chart","width":10}"#,
         "\n",
     );
-    assert_eq!(rt; out.as_slice(), lines.as_bytes());
+    lines_are(&rt, &["graph", "chart"], &rows, &scale_of(3, 10)?, lines)?;
+    Ok(())
+}
+
+// The line of boxes whose names are lent.
+fn drawn_line_is(
+    rt: &(impl Abort + AllocGlobal),
+    boxes: &[DrawnBox<'_>],
+    scale: Scale,
+    wanted: &str,
+) -> Result<(), AllocError> {
+    assert!(rt; are_drawn_within(boxes, scale.total));
+    assert!(rt; scale.total > 0 || boxes.is_empty());
+    let mut out = Vec::new(rt.alloc());
+    append_pieces(rt.alloc(), &drawn_line("chart", boxes, scale), &mut out)?;
+    assert_eq!(rt; out.as_slice(), wanted.as_bytes());
     Ok(())
 }
 
 #[test]
 fn line_of_lent_names(rt: HostRuntime) -> Result<(), Fail> {
-    let alloc = rt.alloc();
     let all = DrawnBox {
         depth: 0,
         name: "all",
@@ -161,44 +136,38 @@ fn line_of_lent_names(rt: HostRuntime) -> Result<(), Fail> {
         weight: 3,
         own: 3,
     };
-    let boxes = [all];
-    assert!(rt; are_drawn_within(&boxes, 3));
-    let mut out = Vec::new(alloc);
-    let line = drawn_line("chart", &boxes, scale_of(3, 10)?);
-    append_pieces(alloc, &line, &mut out)?;
-    let text = concat!(
+    let line = concat!(
         r#"{"boxes":[{"depth":0,"left":0,"name":"all","own":3,"right":10,"start":0,"weight":3}],"#,
         r#""total":3,"view":"chart","width":10}"#,
         "\n"
     );
-    assert_eq!(rt; out.as_slice(), text.as_bytes());
+    drawn_line_is(&rt, &[all], scale_of(3, 10)?, line)?;
     Ok(())
 }
 
 #[test]
 fn empty_graph(rt: HostRuntime) -> Result<(), Fail> {
-    let mut out = Vec::new(rt.alloc());
-    append(&rt, rt.alloc(), &mut out, "graph", &[], scale_of(0, 1_200)?)?;
     let line = concat!(
         r#"{"boxes":[],"total":0,"view":"graph","width":1200}"#,
         "\n"
     );
-    assert_eq!(rt; out.as_slice(), line.as_bytes());
+    lines_are(&rt, &["graph"], &[], &scale_of(0, 1_200)?, line)?;
     Ok(())
 }
 
+const FIRST: &[Row<'static>] = &[(0, "all", 0, 2, 0), (1, "a", 0, 2, 1), (2, "b", 1, 1, 1)];
+
+const SECOND: &[Row<'static>] = &[
+    (0, "all", 0, 5, 0),
+    (1, "a", 0, 3, 2),
+    (2, "b", 2, 1, 1),
+    (1, "c", 3, 2, 2),
+];
+
+const OF_ONE_SOURCE: [Snapshot<'static>; 2] = [(2, &[2], FIRST, 2), (4, &[4], SECOND, 5)];
+
 #[test]
 fn snapshots_of_one_source(rt: HostRuntime) -> Result<(), Fail> {
-    let first = [(0, "all", 0, 2, 0), (1, "a", 0, 2, 1), (2, "b", 1, 1, 1)];
-    let second = [
-        (0, "all", 0, 5, 0),
-        (1, "a", 0, 3, 2),
-        (2, "b", 2, 1, 1),
-        (1, "c", 3, 2, 2),
-    ];
-    let mut out = Vec::new(rt.alloc());
-    append_snapshot(&rt, rt.alloc(), &mut out, (2, &[2]), &first, 2)?;
-    append_snapshot(&rt, rt.alloc(), &mut out, (4, &[4]), &second, 5)?;
     let lines = concat!(
         r#"{"at":2,"boxes":["#,
         r#"{"depth":0,"left":0,"name":"all","own":0,"right":10,"start":0,"weight":2},"#,
@@ -214,15 +183,14 @@ fn snapshots_of_one_source(rt: HostRuntime) -> Result<(), Fail> {
         r#""counts":[4],"total":5,"view":"snapshot","width":10}"#,
         "\n",
     );
-    assert_eq!(rt; out.as_slice(), lines.as_bytes());
+    snapshots_are(&rt, "", &OF_ONE_SOURCE, lines)?;
     Ok(())
 }
 
+const OF_THREE_SOURCES: [Snapshot<'static>; 2] = [(12, &[0, 2, 10], &[], 0), (0, &[], &[], 0)];
+
 #[test]
 fn counts_of_three_sources(rt: HostRuntime) -> Result<(), Fail> {
-    let mut out = Vec::from_slice(rt.alloc(), b"before\n")?;
-    append_snapshot(&rt, rt.alloc(), &mut out, (12, &[0, 2, 10]), &[], 0)?;
-    append_snapshot(&rt, rt.alloc(), &mut out, (0, &[]), &[], 0)?;
     let lines = concat!(
         "before\n",
         r#"{"at":12,"boxes":[],"counts":[0,2,10],"total":0,"view":"snapshot","width":10}"#,
@@ -230,7 +198,7 @@ fn counts_of_three_sources(rt: HostRuntime) -> Result<(), Fail> {
         r#"{"at":0,"boxes":[],"counts":[],"total":0,"view":"snapshot","width":10}"#,
         "\n",
     );
-    assert_eq!(rt; out.as_slice(), lines.as_bytes());
+    snapshots_are(&rt, "before\n", &OF_THREE_SOURCES, lines)?;
     Ok(())
 }
 
@@ -241,8 +209,9 @@ fn comparison(rt: HostRuntime) -> Result<(), Fail> {
         ((1, "a", 0, 1, 1), 3),
         ((1, "c", 1, 2, 2), 0),
     ];
+    let scale = scale_of(3, 10)?;
     let mut out = Vec::new(rt.alloc());
-    append_pair_boxes(&rt, rt.alloc(), &mut out, 4, &rows, 3)?;
+    append_pair_boxes(&rt, rt.alloc(), &mut out, 4, &rows, scale)?;
     let line = concat!(
         r#"{"before":4,"boxes":["#,
         r#"{"before":4,"depth":0,"left":0,"name":"all","own":0,"right":10,"start":0,"weight":3},"#,
@@ -264,8 +233,6 @@ fn escaped_names(rt: HostRuntime) -> Result<(), Fail> {
         (1, "/é€𝄞\u{fffd}", 2, 1, 1),
         (1, "", 3, 1, 1),
     ];
-    let mut out = Vec::new(rt.alloc());
-    append(&rt, rt.alloc(), &mut out, "graph", &rows, scale_of(4, 4)?)?;
     let line = concat!(
         r#"{"boxes":["#,
         r#"{"depth":1,"left":0,"name":"a\"b\\c","own":1,"right":1,"start":0,"weight":1},"#,
@@ -279,7 +246,7 @@ fn escaped_names(rt: HostRuntime) -> Result<(), Fail> {
         r#""total":4,"view":"graph","width":4}"#,
         "\n",
     );
-    assert_eq!(rt; out.as_slice(), line.as_bytes());
+    lines_are(&rt, &["graph"], &rows, &scale_of(4, 4)?, line)?;
     Ok(())
 }
 
