@@ -1,5 +1,5 @@
 -- How a run ends, by its words and by its plan.
-use Rattle.std.proofs.Common.{◌≡◌, ◌≢◌, ◌≤◌, ◌⊎◌, inl, inr, ℕ, List, [], ◌∷◌, map, length, Option, Some, None, IfSome, cond, false, ap, sym, ◌∙◌, subst, refl, arith, take, append-nil}
+use Rattle.std.proofs.Common.{◌≡◌, ◌≢◌, ◌≤◌, ◌<◌, ◌⊎◌, inl, inr, ℕ, List, [], ◌∷◌, map, length, Option, Some, None, IfSome, cond, false, ap, sym, ◌∙◌, subst, refl, arith, take, append-nil}
 use Rattle.std.specs.Prelude.{IsSomeAnd}
 use Rattle.std.specs.Io.KnownBytes.{Appends, Keeps}
 use Rattle.clap.specs.Walk.{Text}
@@ -24,14 +24,15 @@ use Rattle.sent_views.specs.Facts.{told_whole}
 use Rattle.sent_views.specs.declared.run_facts.RunFacts.{RunFacts}
 use Rattle.flame_tool.specs.KnownFacts.{known_facts}
 use Rattle.flame_tool.proofs.KnownSources.{IsKnown, facts_are_known}
-use Rattle.flame_tool.specs.Requests.{AsksForHelp, asked_faults, asked_plan, known_rests}
+use Rattle.flame_tool.specs.Requests.{AreRefused, AsksForHelp, asked_faults, asked_plan, known_rests}
 use Rattle.command_line.specs.declared.plans.PageForm.{PageForm}
 use Rattle.sent_views.specs.Pages.{asked_heading, asked_text, page_text, shown_text, text_in}
 use Rattle.sent_views.proofs.PageLemmas.{orderless_page}
 use Rattle.source_views.specs.Texts.{IsOrderless, graph_text, told_text, top_text, view_text}
 use Rattle.flame_tool.specs.checked.Forms.{IsOfView, IsOrderlessIn}
-use Rattle.flame_tool.specs.Runs.{lists_of, text_of, GainsFront, IsClean, Shows, ShowsFront, ShowsSamples, HasFault, TellsNoWhole}
-use Rattle.flame_tool.specs.checked.Failures.{Fails, IsHelp, KeepsOutput}
+use Rattle.flame_tool.specs.Runs.{lists_of, text_of, GainsFront, IsClean, Shows, ShowsFront, ShowsSamples, FailsUntouched, HasFault, TellsNoWhole}
+use Rattle.flame_tool.specs.TypeRuns.{known_profile, HasTableFault, ShowsTypes, ShowsTypesFront}
+use Rattle.flame_tool.specs.checked.Failures.{Fails, IsHelp, IsWords, KeepsOutput}
 use Rattle.opened_sources.specs.Failures.{status_of}
 use Rattle.opened_sources.specs.declared.failures.Failure.{Failure}
 use Rattle.opened_sources.specs.declared.failures.Failure.TheVariants.{TooManyFiles, Unreadable, TooLarge, OutOfMemory, NoThread, Unfinished, Faults, Output}
@@ -200,8 +201,15 @@ module _ (input : Option (List ℕ)) (files : List ℕ → Option (List ℕ)) (o
 
 -- ---- words
 
-pub words_have : (words : List Text) (plan : Plan) (P : Plan → Type 0) → asked_plan words ≡ Some plan → P plan → IsSomeAnd (asked_plan words) P
+words_have : (words : List Text) (plan : Plan) (P : Plan → Type 0) → asked_plan words ≡ Some plan → P plan → IsSomeAnd (asked_plan words) P
 words_have words plan P asked holds = subst (λ asked. IsSomeAnd asked P) (sym asked) holds
+
+words_meet : (words : List Text) (plan : Plan) (P : Plan → Type 0) → asked_plan words ≡ Some plan → P plan → IfSome (asked_plan words) P
+words_meet words plan P asked holds = subst (λ asked. IfSome asked P) (sym asked) holds
+
+partly_asked : {Kept Help : Type 0} (words : List Text) (plan : Plan) (P : Plan → Type 0) → asked_plan words ≡ Some plan → Kept ⊎ P plan → Kept ⊎ (Help ⊎ IsSomeAnd (asked_plan words) P)
+partly_asked words plan P asked (inl kept) = inl kept
+partly_asked words plan P asked (inr holds) = inr (inr (words_have words plan P asked holds))
 
 module _ (words : List Text) (plan : Plan) (input : Option (List ℕ)) (files : List ℕ → Option (List ℕ)) (old new : Option (List ℕ)) (asked : asked_plan words ≡ Some plan)
     (shows : IfSome (known_rests plan input files) (Shows plan (known_facts plan input files) old new)) where
@@ -271,3 +279,52 @@ none_asked bytes (word ∷ words) plan none is = absurd (omega arith)
 pub some_faultless : {A : Type 0} (bytes : A → List ℕ) (words : List A) → (length words ≡ 0 → ⊥) → fault_of command_line (map bytes words) ≡ [] → asked_faults (map bytes words) ≡ []
 some_faultless bytes [] some faultless = refl
 some_faultless bytes (word ∷ words) some faultless = faultless
+
+-- refused words have a fault, and not just the wish for help
+pub are_refused : {A : Type 0} (bytes : A → List ℕ) (words : List A) (f : PlanFault) → (length words ≡ 0 → ⊥) → IsFaultAmong (fault_of command_line (map bytes words)) f → IsWords f
+    → AreRefused (map bytes words)
+are_refused bytes [] f some among refused = absurd (some refl)
+are_refused bytes (word ∷ words) (fault.Words text) some among refused = among
+are_refused bytes (word ∷ words) (fault.Help text) some among refused = absurd refused
+are_refused bytes (word ∷ words) fault.OutOfMemory some among refused = absurd refused
+
+-- what holds of the plan of a run's words
+module _ (words : List Text) (plan : Plan) (asked : asked_plan words ≡ Some plan) (input : Option (List ℕ)) (files : List ℕ → Option (List ℕ)) where
+  pub asked_faulty : IfSome (known_rests plan input files) HasFault → IsSomeAnd (asked_plan words) (λ plan. IfSome (known_rests plan input files) HasFault)
+  asked_faulty = words_have words plan (λ plan. IfSome (known_rests plan input files) HasFault) asked
+
+  pub asked_many : 64 < length plan.files → IsSomeAnd (asked_plan words) (λ plan. 64 < length plan.files)
+  asked_many = words_have words plan (λ plan. 64 < length plan.files) asked
+
+  pub asked_types_faulty : (plan.form ≡ form.Types → IfSome (known_profile plan files) HasTableFault)
+      → IsSomeAnd (asked_plan words) (λ plan. plan.form ≡ form.Types → IfSome (known_profile plan files) HasTableFault)
+  asked_types_faulty = words_have words plan (λ plan. plan.form ≡ form.Types → IfSome (known_profile plan files) HasTableFault) asked
+
+  pub asked_untouched : (status before after : ℕ) (old new : Option (List ℕ))
+      → (ShowsSamples plan.form → IfSome (known_rests plan input files) (λ rests. HasFault rests → FailsUntouched status old new before after))
+      → IfSome (asked_plan words) (λ plan. ShowsSamples plan.form → IfSome (known_rests plan input files) (λ rests. HasFault rests → FailsUntouched status old new before after))
+  asked_untouched status before after old new =
+      words_meet words plan (λ plan. ShowsSamples plan.form → IfSome (known_rests plan input files) (λ rests. HasFault rests → FailsUntouched status old new before after)) asked
+
+  pub asked_types_untouched : (status before after : ℕ) (old new : Option (List ℕ))
+      → (plan.form ≡ form.Types → IfSome (known_profile plan files) (λ profile. HasTableFault profile → FailsUntouched status old new before after))
+      → IfSome (asked_plan words) (λ plan. plan.form ≡ form.Types → IfSome (known_profile plan files) (λ profile. HasTableFault profile → FailsUntouched status old new before after))
+  asked_types_untouched status before after old new =
+      words_meet words plan (λ plan. plan.form ≡ form.Types → IfSome (known_profile plan files) (λ profile. HasTableFault profile → FailsUntouched status old new before after)) asked
+
+  module _ (old new : Option (List ℕ)) where
+    pub asked_shown : IfSome (known_rests plan input files) (Shows plan (known_facts plan input files) old new)
+        → IsSomeAnd (asked_plan words) (λ plan. IfSome (known_rests plan input files) (Shows plan (known_facts plan input files) old new))
+    asked_shown = words_have words plan (λ plan. IfSome (known_rests plan input files) (Shows plan (known_facts plan input files) old new)) asked
+
+    pub asked_types : (plan.form ≡ form.Types → IfSome (known_profile plan files) (ShowsTypes old new))
+        → IsSomeAnd (asked_plan words) (λ plan. plan.form ≡ form.Types → IfSome (known_profile plan files) (ShowsTypes old new))
+    asked_types = words_have words plan (λ plan. plan.form ≡ form.Types → IfSome (known_profile plan files) (ShowsTypes old new)) asked
+
+    pub asked_partly : {Help : Type 0} → Keeps old new ⊎ IfSome (known_rests plan input files) (ShowsFront plan (known_facts plan input files) old new)
+        → Keeps old new ⊎ (Help ⊎ IsSomeAnd (asked_plan words) (λ plan. IfSome (known_rests plan input files) (ShowsFront plan (known_facts plan input files) old new)))
+    asked_partly = partly_asked words plan (λ plan. IfSome (known_rests plan input files) (ShowsFront plan (known_facts plan input files) old new)) asked
+
+    pub asked_types_partly : {Help : Type 0} → Keeps old new ⊎ (plan.form ≡ form.Types → IfSome (known_profile plan files) (ShowsTypesFront old new))
+        → Keeps old new ⊎ (Help ⊎ IsSomeAnd (asked_plan words) (λ plan. plan.form ≡ form.Types → IfSome (known_profile plan files) (ShowsTypesFront old new)))
+    asked_types_partly = partly_asked words plan (λ plan. plan.form ≡ form.Types → IfSome (known_profile plan files) (ShowsTypesFront old new)) asked

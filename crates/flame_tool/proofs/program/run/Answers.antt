@@ -1,7 +1,8 @@
 use Rattle.std.proofs.Common.{arith, rules, ◌≡◌, inl, inr, [], length, map, string_bytes, Some}
+use Rattle.std.specs.Vec.{vec_len}
 use Rattle.command_line.specs.CommandLine.{command_line}
 use Rattle.command_line.specs.Plans.{IsFaultAmong, fault_of, plan_of}
-use Rattle.flame_tool.proofs.RunEndings.{accepted_none, accepted_some, asked_exactly, asked_page, asked_whole, asks_if_help, input_clean, input_front, input_text, none_asked, partly_by_plan, partly_help, some_asked, some_faultless}
+use Rattle.flame_tool.proofs.RunEndings.{accepted_none, accepted_some, are_refused, asked_exactly, asked_faulty, asked_many, asked_page, asked_partly, asked_shown, asked_types, asked_types_faulty, asked_types_partly, asked_types_untouched, asked_untouched, asked_whole, asks_if_help, input_clean, input_front, input_text, none_asked, partly_by_plan, partly_help, some_asked, some_faultless}
 use Rattle.flame_tool.proofs.UntouchedOutputs.{no_help, whatever_is_read, whatever_types_are_read}
 use Rattle.flame_tool.proofs.program.run.Goals as goal
 
@@ -140,3 +141,249 @@ returns-clause-types_untouched g c =
     let among : IsFaultAmong (fault_of command_line (map string_bytes c.args.words.items)) c.in-Err.fault = search rules in
     λ faultless. whatever_types_are_read _ (map string_bytes c.args.words.items) (g.F.Files.known_file c.args.files.now)
     (c.refuse.ensures.untouched (no_help string_bytes c.args.words.items c.in-Err.fault some among faultless))
+
+-- what the run of a plan says
+
+pub returns-then-is_empty-clause-status : goal.returns-then-is_empty-clause-status
+returns-then-is_empty-clause-status g c = c.run_plan.ensures.status
+
+pub returns-then-is_empty-clause-flushed : goal.returns-then-is_empty-clause-flushed
+returns-then-is_empty-clause-flushed g c = c.run_plan.ensures.flushed
+
+pub returns-then-is_empty-clause-unfailed : goal.returns-then-is_empty-clause-unfailed
+returns-then-is_empty-clause-unfailed g c = c.run_plan.ensures.unfailed
+
+pub returns-then-is_empty-clause-unwritten : goal.returns-then-is_empty-clause-unwritten
+returns-then-is_empty-clause-unwritten g c = c.run_plan.ensures.unwritten
+
+pub returns-then-is_empty-clause-refused : goal.returns-then-is_empty-clause-refused
+returns-then-is_empty-clause-refused g c = c.run_plan.ensures.refused
+
+pub returns-then-is_empty-clause-shown : goal.returns-then-is_empty-clause-shown
+returns-then-is_empty-clause-shown g c =
+    let none : length c.args.words.items ≡ 0 = search rules in
+    let asked = none_asked string_bytes c.args.words.items c.plan_without_words.result none c.plan_without_words.ensures.plan in
+    λ zero. inr (asked_shown (map string_bytes c.args.words.items) c.plan_without_words.result asked (g.F.Files.known_input c.args.files.now) (g.F.Files.known_file c.args.files.now) _ _ (c.run_plan.ensures.shown zero))
+
+pub returns-then-is_empty-clause-faulty : goal.returns-then-is_empty-clause-faulty
+returns-then-is_empty-clause-faulty g c =
+    let none : length c.args.words.items ≡ 0 = search rules in
+    let asked = none_asked string_bytes c.args.words.items c.plan_without_words.result none c.plan_without_words.ensures.plan in
+    λ one. asked_faulty (map string_bytes c.args.words.items) c.plan_without_words.result asked (g.F.Files.known_input c.args.files.now) (g.F.Files.known_file c.args.files.now) (c.run_plan.ensures.faulty one)
+
+pub returns-then-is_empty-clause-blamed : goal.returns-then-is_empty-clause-blamed
+returns-then-is_empty-clause-blamed g c =
+    let none : length c.args.words.items ≡ 0 = search rules in
+    let asked = none_asked string_bytes c.args.words.items c.plan_without_words.result none c.plan_without_words.ensures.plan in
+    λ two. inr (asked_many (map string_bytes c.args.words.items) c.plan_without_words.result asked (g.F.Files.known_input c.args.files.now) (g.F.Files.known_file c.args.files.now) (c.run_plan.ensures.many two))
+
+pub returns-then-is_empty-clause-partly : goal.returns-then-is_empty-clause-partly
+returns-then-is_empty-clause-partly g c =
+    let none : length c.args.words.items ≡ 0 = search rules in
+    let asked = none_asked string_bytes c.args.words.items c.plan_without_words.result none c.plan_without_words.ensures.plan in
+    λ three. asked_partly (map string_bytes c.args.words.items) c.plan_without_words.result asked (g.F.Files.known_input c.args.files.now) (g.F.Files.known_file c.args.files.now) _ _ (c.run_plan.ensures.front three)
+
+pub returns-then-is_empty-clause-untouched : goal.returns-then-is_empty-clause-untouched
+returns-then-is_empty-clause-untouched g c =
+    let none : length c.args.words.items ≡ 0 = search rules in
+    let asked = none_asked string_bytes c.args.words.items c.plan_without_words.result none c.plan_without_words.ensures.plan in
+    λ _. asked_untouched (map string_bytes c.args.words.items) c.plan_without_words.result asked (g.F.Files.known_input c.args.files.now) (g.F.Files.known_file c.args.files.now) _ _ _ _ _ c.run_plan.ensures.untouched
+
+pub returns-then-is_empty-clause-types : goal.returns-then-is_empty-clause-types
+returns-then-is_empty-clause-types g c =
+    let none : length c.args.words.items ≡ 0 = search rules in
+    let asked = none_asked string_bytes c.args.words.items c.plan_without_words.result none c.plan_without_words.ensures.plan in
+    λ zero. inr (asked_types (map string_bytes c.args.words.items) c.plan_without_words.result asked (g.F.Files.known_input c.args.files.now) (g.F.Files.known_file c.args.files.now) _ _ (c.run_plan.ensures.types zero))
+
+pub returns-then-is_empty-clause-types_faulty : goal.returns-then-is_empty-clause-types_faulty
+returns-then-is_empty-clause-types_faulty g c =
+    let none : length c.args.words.items ≡ 0 = search rules in
+    let asked = none_asked string_bytes c.args.words.items c.plan_without_words.result none c.plan_without_words.ensures.plan in
+    λ one. asked_types_faulty (map string_bytes c.args.words.items) c.plan_without_words.result asked (g.F.Files.known_input c.args.files.now) (g.F.Files.known_file c.args.files.now) (c.run_plan.ensures.types_faulty one)
+
+pub returns-then-is_empty-clause-types_partly : goal.returns-then-is_empty-clause-types_partly
+returns-then-is_empty-clause-types_partly g c =
+    let none : length c.args.words.items ≡ 0 = search rules in
+    let asked = none_asked string_bytes c.args.words.items c.plan_without_words.result none c.plan_without_words.ensures.plan in
+    λ three. asked_types_partly (map string_bytes c.args.words.items) c.plan_without_words.result asked (g.F.Files.known_input c.args.files.now) (g.F.Files.known_file c.args.files.now) _ _ (c.run_plan.ensures.types_front three)
+
+pub returns-then-is_empty-clause-types_untouched : goal.returns-then-is_empty-clause-types_untouched
+returns-then-is_empty-clause-types_untouched g c =
+    let none : length c.args.words.items ≡ 0 = search rules in
+    let asked = none_asked string_bytes c.args.words.items c.plan_without_words.result none c.plan_without_words.ensures.plan in
+    λ _. asked_types_untouched (map string_bytes c.args.words.items) c.plan_without_words.result asked (g.F.Files.known_input c.args.files.now) (g.F.Files.known_file c.args.files.now) _ _ _ _ _ c.run_plan.ensures.types_untouched
+
+pub returns-then-is_empty-clause-shown_exactly : goal.returns-then-is_empty-clause-shown_exactly
+returns-then-is_empty-clause-shown_exactly g c =
+    let none : length c.args.words.items ≡ 0 = search rules in
+    let asked = none_asked string_bytes c.args.words.items c.plan_without_words.result none c.plan_without_words.ensures.plan in
+    λ zero. inr (asked_exactly (map string_bytes c.args.words.items) c.plan_without_words.result (g.F.Files.known_input c.args.files.now) (g.F.Files.known_file c.args.files.now) _ _ asked (c.run_plan.ensures.shown zero))
+
+pub returns-then-is_empty-clause-shown_with_whole : goal.returns-then-is_empty-clause-shown_with_whole
+returns-then-is_empty-clause-shown_with_whole g c =
+    let none : length c.args.words.items ≡ 0 = search rules in
+    let asked = none_asked string_bytes c.args.words.items c.plan_without_words.result none c.plan_without_words.ensures.plan in
+    λ zero. inr (asked_whole (map string_bytes c.args.words.items) c.plan_without_words.result (g.F.Files.known_input c.args.files.now) (g.F.Files.known_file c.args.files.now) _ _ asked (c.run_plan.ensures.shown zero))
+
+pub returns-then-is_empty-clause-shown_page : goal.returns-then-is_empty-clause-shown_page
+returns-then-is_empty-clause-shown_page g c =
+    let none : length c.args.words.items ≡ 0 = search rules in
+    let asked = none_asked string_bytes c.args.words.items c.plan_without_words.result none c.plan_without_words.ensures.plan in
+    λ zero. inr (asked_page (map string_bytes c.args.words.items) c.plan_without_words.result (g.F.Files.known_input c.args.files.now) (g.F.Files.known_file c.args.files.now) _ _ asked (c.run_plan.ensures.shown zero))
+
+pub returns-in-Ok-clause-status : goal.returns-in-Ok-clause-status
+returns-in-Ok-clause-status g c = c.run_plan-in-Ok.ensures.status
+
+pub returns-in-Ok-clause-flushed : goal.returns-in-Ok-clause-flushed
+returns-in-Ok-clause-flushed g c = c.run_plan-in-Ok.ensures.flushed
+
+pub returns-in-Ok-clause-unfailed : goal.returns-in-Ok-clause-unfailed
+returns-in-Ok-clause-unfailed g c = c.run_plan-in-Ok.ensures.unfailed
+
+pub returns-in-Ok-clause-unwritten : goal.returns-in-Ok-clause-unwritten
+returns-in-Ok-clause-unwritten g c = c.run_plan-in-Ok.ensures.unwritten
+
+pub returns-in-Ok-clause-refused : goal.returns-in-Ok-clause-refused
+returns-in-Ok-clause-refused g c = c.run_plan-in-Ok.ensures.refused
+
+pub returns-in-Ok-clause-shown : goal.returns-in-Ok-clause-shown
+returns-in-Ok-clause-shown g c =
+    let some : length c.args.words.items ≡ 0 → ⊥ = search rules in
+    let planned : plan_of (map string_bytes c.args.words.items) ≡ Some c.in-Ok.plan = search rules in
+    let asked = some_asked string_bytes c.args.words.items c.in-Ok.plan some planned in
+    λ zero. inr (asked_shown (map string_bytes c.args.words.items) c.in-Ok.plan asked (g.F.Files.known_input c.args.files.now) (g.F.Files.known_file c.args.files.now) _ _ (c.run_plan-in-Ok.ensures.shown zero))
+
+pub returns-in-Ok-clause-faulty : goal.returns-in-Ok-clause-faulty
+returns-in-Ok-clause-faulty g c =
+    let some : length c.args.words.items ≡ 0 → ⊥ = search rules in
+    let planned : plan_of (map string_bytes c.args.words.items) ≡ Some c.in-Ok.plan = search rules in
+    let asked = some_asked string_bytes c.args.words.items c.in-Ok.plan some planned in
+    λ one. asked_faulty (map string_bytes c.args.words.items) c.in-Ok.plan asked (g.F.Files.known_input c.args.files.now) (g.F.Files.known_file c.args.files.now) (c.run_plan-in-Ok.ensures.faulty one)
+
+pub returns-in-Ok-clause-blamed : goal.returns-in-Ok-clause-blamed
+returns-in-Ok-clause-blamed g c =
+    let some : length c.args.words.items ≡ 0 → ⊥ = search rules in
+    let planned : plan_of (map string_bytes c.args.words.items) ≡ Some c.in-Ok.plan = search rules in
+    let asked = some_asked string_bytes c.args.words.items c.in-Ok.plan some planned in
+    λ two. inr (asked_many (map string_bytes c.args.words.items) c.in-Ok.plan asked (g.F.Files.known_input c.args.files.now) (g.F.Files.known_file c.args.files.now) (c.run_plan-in-Ok.ensures.many two))
+
+pub returns-in-Ok-clause-partly : goal.returns-in-Ok-clause-partly
+returns-in-Ok-clause-partly g c =
+    let some : length c.args.words.items ≡ 0 → ⊥ = search rules in
+    let planned : plan_of (map string_bytes c.args.words.items) ≡ Some c.in-Ok.plan = search rules in
+    let asked = some_asked string_bytes c.args.words.items c.in-Ok.plan some planned in
+    λ three. asked_partly (map string_bytes c.args.words.items) c.in-Ok.plan asked (g.F.Files.known_input c.args.files.now) (g.F.Files.known_file c.args.files.now) _ _ (c.run_plan-in-Ok.ensures.front three)
+
+pub returns-in-Ok-clause-untouched : goal.returns-in-Ok-clause-untouched
+returns-in-Ok-clause-untouched g c =
+    let some : length c.args.words.items ≡ 0 → ⊥ = search rules in
+    let planned : plan_of (map string_bytes c.args.words.items) ≡ Some c.in-Ok.plan = search rules in
+    let asked = some_asked string_bytes c.args.words.items c.in-Ok.plan some planned in
+    λ _. asked_untouched (map string_bytes c.args.words.items) c.in-Ok.plan asked (g.F.Files.known_input c.args.files.now) (g.F.Files.known_file c.args.files.now) _ _ _ _ _ c.run_plan-in-Ok.ensures.untouched
+
+pub returns-in-Ok-clause-types : goal.returns-in-Ok-clause-types
+returns-in-Ok-clause-types g c =
+    let some : length c.args.words.items ≡ 0 → ⊥ = search rules in
+    let planned : plan_of (map string_bytes c.args.words.items) ≡ Some c.in-Ok.plan = search rules in
+    let asked = some_asked string_bytes c.args.words.items c.in-Ok.plan some planned in
+    λ zero. inr (asked_types (map string_bytes c.args.words.items) c.in-Ok.plan asked (g.F.Files.known_input c.args.files.now) (g.F.Files.known_file c.args.files.now) _ _ (c.run_plan-in-Ok.ensures.types zero))
+
+pub returns-in-Ok-clause-types_faulty : goal.returns-in-Ok-clause-types_faulty
+returns-in-Ok-clause-types_faulty g c =
+    let some : length c.args.words.items ≡ 0 → ⊥ = search rules in
+    let planned : plan_of (map string_bytes c.args.words.items) ≡ Some c.in-Ok.plan = search rules in
+    let asked = some_asked string_bytes c.args.words.items c.in-Ok.plan some planned in
+    λ one. asked_types_faulty (map string_bytes c.args.words.items) c.in-Ok.plan asked (g.F.Files.known_input c.args.files.now) (g.F.Files.known_file c.args.files.now) (c.run_plan-in-Ok.ensures.types_faulty one)
+
+pub returns-in-Ok-clause-types_partly : goal.returns-in-Ok-clause-types_partly
+returns-in-Ok-clause-types_partly g c =
+    let some : length c.args.words.items ≡ 0 → ⊥ = search rules in
+    let planned : plan_of (map string_bytes c.args.words.items) ≡ Some c.in-Ok.plan = search rules in
+    let asked = some_asked string_bytes c.args.words.items c.in-Ok.plan some planned in
+    λ three. asked_types_partly (map string_bytes c.args.words.items) c.in-Ok.plan asked (g.F.Files.known_input c.args.files.now) (g.F.Files.known_file c.args.files.now) _ _ (c.run_plan-in-Ok.ensures.types_front three)
+
+pub returns-in-Ok-clause-types_untouched : goal.returns-in-Ok-clause-types_untouched
+returns-in-Ok-clause-types_untouched g c =
+    let some : length c.args.words.items ≡ 0 → ⊥ = search rules in
+    let planned : plan_of (map string_bytes c.args.words.items) ≡ Some c.in-Ok.plan = search rules in
+    let asked = some_asked string_bytes c.args.words.items c.in-Ok.plan some planned in
+    λ _. asked_types_untouched (map string_bytes c.args.words.items) c.in-Ok.plan asked (g.F.Files.known_input c.args.files.now) (g.F.Files.known_file c.args.files.now) _ _ _ _ _ c.run_plan-in-Ok.ensures.types_untouched
+
+pub returns-in-Ok-clause-no_words : goal.returns-in-Ok-clause-no_words
+returns-in-Ok-clause-no_words g c =
+    let some : vec_len c.args.words ≡ 0 → ⊥ = search rules in
+    λ none. absurd (some none)
+
+pub returns-in-Ok-clause-clean : goal.returns-in-Ok-clause-clean
+returns-in-Ok-clause-clean g c =
+    let some : vec_len c.args.words ≡ 0 → ⊥ = search rules in
+    λ none. absurd (some none)
+
+pub returns-in-Ok-clause-text : goal.returns-in-Ok-clause-text
+returns-in-Ok-clause-text g c =
+    let some : vec_len c.args.words ≡ 0 → ⊥ = search rules in
+    λ none. absurd (some none)
+
+pub returns-in-Ok-clause-fault : goal.returns-in-Ok-clause-fault
+returns-in-Ok-clause-fault g c =
+    let some : vec_len c.args.words ≡ 0 → ⊥ = search rules in
+    λ none. absurd (some none)
+
+pub returns-in-Ok-clause-front : goal.returns-in-Ok-clause-front
+returns-in-Ok-clause-front g c =
+    let some : vec_len c.args.words ≡ 0 → ⊥ = search rules in
+    λ none. absurd (some none)
+
+pub returns-clause-no_words : goal.returns-clause-no_words
+returns-clause-no_words g c =
+    let some : vec_len c.args.words ≡ 0 → ⊥ = search rules in
+    λ none. absurd (some none)
+
+pub returns-clause-clean : goal.returns-clause-clean
+returns-clause-clean g c =
+    let some : vec_len c.args.words ≡ 0 → ⊥ = search rules in
+    λ none. absurd (some none)
+
+pub returns-clause-text : goal.returns-clause-text
+returns-clause-text g c =
+    let some : vec_len c.args.words ≡ 0 → ⊥ = search rules in
+    λ none. absurd (some none)
+
+pub returns-clause-fault : goal.returns-clause-fault
+returns-clause-fault g c =
+    let some : vec_len c.args.words ≡ 0 → ⊥ = search rules in
+    λ none. absurd (some none)
+
+pub returns-clause-front : goal.returns-clause-front
+returns-clause-front g c =
+    let some : vec_len c.args.words ≡ 0 → ⊥ = search rules in
+    λ none. absurd (some none)
+
+-- what the refusal of words says
+
+pub returns-clause-status : goal.returns-clause-status
+returns-clause-status g c = c.refuse.ensures.status
+
+pub returns-clause-flushed : goal.returns-clause-flushed
+returns-clause-flushed g c = c.refuse.ensures.flushed
+
+pub returns-clause-unfailed : goal.returns-clause-unfailed
+returns-clause-unfailed g c = c.refuse.ensures.unfailed
+
+pub returns-clause-refused : goal.returns-clause-refused
+returns-clause-refused g c = c.refuse.ensures.refused
+
+pub returns-clause-unwritten : goal.returns-clause-unwritten
+returns-clause-unwritten g c = λ one. absurd (c.refuse.ensures.no_fault one)
+
+pub returns-clause-faulty : goal.returns-clause-faulty
+returns-clause-faulty g c = λ one. absurd (c.refuse.ensures.no_fault one)
+
+pub returns-clause-types_faulty : goal.returns-clause-types_faulty
+returns-clause-types_faulty g c = λ one. absurd (c.refuse.ensures.no_fault one)
+
+pub returns-clause-blamed : goal.returns-clause-blamed
+returns-clause-blamed g c =
+    let some : length c.args.words.items ≡ 0 → ⊥ = search rules in
+    let among : IsFaultAmong (fault_of command_line (map string_bytes c.args.words.items)) c.in-Err.fault = search rules in
+    λ two. inl (are_refused string_bytes c.args.words.items c.in-Err.fault some among (c.refuse.ensures.words two))
