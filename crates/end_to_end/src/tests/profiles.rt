@@ -1,6 +1,6 @@
 //! Profiles in, merged text out.
 
-use crate::tests::answers::gives;
+use crate::tests::answers::{Case, SILENT, end_so};
 use crate::tests::worked::{BASE, INLINED_LINES, SMALLEST};
 use std::test::Fail;
 
@@ -27,88 +27,108 @@ const LOSSY: &[u8] = &[
 
 #[test]
 fn smallest_profile(rt: HostRuntime) -> Result<(), Fail> {
-    for path in ["cpu.prof", "x.pprof", "x.pb"] {
-        assert!(rt; gives(&rt, &["fold", path], (path, SMALLEST), (0, "main 7\n", ""))?);
-    }
-    Ok(())
+    let prof = Case {
+        words: &["fold", "cpu.prof"],
+        files: &[("cpu.prof", SMALLEST)],
+        out: "main 7\n",
+        ..SILENT
+    };
+    let pprof = Case {
+        words: &["fold", "x.pprof"],
+        files: &[("x.pprof", SMALLEST)],
+        ..prof
+    };
+    let short = Case {
+        words: &["fold", "x.pb"],
+        files: &[("x.pb", SMALLEST)],
+        ..prof
+    };
+    end_so(&rt, &[prof, pprof, short])
 }
 
 #[test]
 fn picking_a_value(rt: HostRuntime) -> Result<(), Fail> {
-    let file = ("x.pb", BASE);
-    assert!(rt; gives(&rt, &["fold", "x.pb"], file, (0, "f 9\n", ""))?);
-    assert!(rt;
-        gives(
-            &rt,
-            &["fold", "--type", "n", "x.pb"],
-            file,
-            (0, "f 5\n", "")
-        )?
-    );
-    let unknown = "flamecollect: x.pb: UnknownSampleType at 48\n";
-    assert!(rt;
-        gives(
-            &rt,
-            &["fold", "x.pb", "--type", "x"],
-            file,
-            (1, "", unknown)
-        )?
-    );
-    Ok(())
+    let preferred = Case {
+        words: &["fold", "x.pb"],
+        files: &[("x.pb", BASE)],
+        out: "f 9\n",
+        ..SILENT
+    };
+    let named = Case {
+        words: &["fold", "--type", "n", "x.pb"],
+        out: "f 5\n",
+        ..preferred
+    };
+    let unknown = Case {
+        words: &["fold", "x.pb", "--type", "x"],
+        status: 1,
+        out: "",
+        err: "flamecollect: x.pb: UnknownSampleType at 48\n",
+        ..preferred
+    };
+    end_so(&rt, &[preferred, named, unknown])
 }
 
 #[test]
 fn address_frames_and_lossy_names(rt: HostRuntime) -> Result<(), Fail> {
-    let file = ("x.pb", ADDRESS);
-    assert!(rt; gives(&rt, &["fold", "x.pb"], file, (0, "0x1f0 7\n", ""))?);
-    assert!(rt;
-        gives(
-            &rt,
-            &["fold", "--lines", "x.pb"],
-            file,
-            (0, "0x1f0 7\n", "")
-        )?
-    );
-    let file = ("x.pb", LOSSY);
-    assert!(rt; gives(&rt, &["fold", "x.pb"], file, (0, "a:\u{fffd}  7\n", ""))?);
-    Ok(())
+    let address = Case {
+        words: &["fold", "x.pb"],
+        files: &[("x.pb", ADDRESS)],
+        out: "0x1f0 7\n",
+        ..SILENT
+    };
+    let lines = Case {
+        words: &["fold", "--lines", "x.pb"],
+        ..address
+    };
+    let lossy = Case {
+        files: &[("x.pb", LOSSY)],
+        out: "a:\u{fffd}  7\n",
+        ..address
+    };
+    end_so(&rt, &[address, lines, lossy])
 }
 
 #[test]
 fn lines_of_inlined_frames(rt: HostRuntime) -> Result<(), Fail> {
-    let file = ("x.pb", INLINED_LINES);
-    assert!(rt; gives(&rt, &["fold", "x.pb"], file, (0, "printf;memcpy 7\n", ""))?);
-    let lines = "printf:40;memcpy:12 7\n";
-    assert!(rt; gives(&rt, &["fold", "--lines", "x.pb"], file, (0, lines, ""))?);
-    Ok(())
+    let plain = Case {
+        words: &["fold", "x.pb"],
+        files: &[("x.pb", INLINED_LINES)],
+        out: "printf;memcpy 7\n",
+        ..SILENT
+    };
+    let lines = Case {
+        words: &["fold", "--lines", "x.pb"],
+        out: "printf:40;memcpy:12 7\n",
+        ..plain
+    };
+    end_so(&rt, &[plain, lines])
 }
 
 #[test]
 fn one_function_two_lines(rt: HostRuntime) -> Result<(), Fail> {
-    let file = ("x.pb", TWO_LINES);
-    assert!(rt; gives(&rt, &["fold", "x.pb"], file, (0, "f 2\n", ""))?);
-    assert!(rt;
-        gives(
-            &rt,
-            &["fold", "x.pb", "--lines"],
-            file,
-            (0, "f:1 1\nf:2 1\n", "")
-        )?
-    );
-    Ok(())
+    let plain = Case {
+        words: &["fold", "x.pb"],
+        files: &[("x.pb", TWO_LINES)],
+        out: "f 2\n",
+        ..SILENT
+    };
+    let lines = Case {
+        words: &["fold", "x.pb", "--lines"],
+        out: "f:1 1\nf:2 1\n",
+        ..plain
+    };
+    end_so(&rt, &[plain, lines])
 }
 
 // Under another name a profile is read as folded text, and almost all of it is ignored.
 #[test]
 fn profile_under_another_name(rt: HostRuntime) -> Result<(), Fail> {
-    let ignored = "flamecollect: cpu.out: ignored 3\n";
-    assert!(rt;
-        gives(
-            &rt,
-            &["fold", "cpu.out"],
-            ("cpu.out", SMALLEST),
-            (0, "", ignored)
-        )?
-    );
-    Ok(())
+    let ignored = Case {
+        words: &["fold", "cpu.out"],
+        files: &[("cpu.out", SMALLEST)],
+        err: "flamecollect: cpu.out: ignored 3\n",
+        ..SILENT
+    };
+    end_so(&rt, &[ignored])
 }

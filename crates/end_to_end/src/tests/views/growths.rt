@@ -17,7 +17,10 @@ const TAKEN: [(u32, &[&str], u64); 7] = [
     (1, &["e", "a", "b"], 32),
 ];
 
-/// What a tree says of the stacks `[]`, `a`, `a;b`, `b`, `b;a` and `a;b;c;d`.
+/// The stacks `[]`, `a`, `a;b`, `b`, `b;a` and `a;b;c;d`, by the numbers of their names.
+const STACKS: [&[usize]; 6] = [&[], &[0], &[0, 1], &[1], &[1, 0], &[0, 1, 2, 3]];
+
+/// What a tree says of these stacks.
 #[derive(Clone, Copy, PartialEq, Eq, Debug)]
 struct Sums {
     len: usize,
@@ -80,24 +83,16 @@ const AT_THE_END: Held = Held {
 };
 
 fn sums_of(tree: &CallTree) -> Sums {
+    let mut totals = [0; 6];
+    let mut owns = [0; 6];
+    for place in 0..6 {
+        totals[place] = tree.total(STACKS[place]);
+        owns[place] = tree.own(STACKS[place]);
+    }
     Sums {
         len: tree.len(),
-        totals: [
-            tree.total(&[]),
-            tree.total(&[0]),
-            tree.total(&[0, 1]),
-            tree.total(&[1]),
-            tree.total(&[1, 0]),
-            tree.total(&[0, 1, 2, 3]),
-        ],
-        owns: [
-            tree.own(&[]),
-            tree.own(&[0]),
-            tree.own(&[0, 1]),
-            tree.own(&[1]),
-            tree.own(&[1, 0]),
-            tree.own(&[0, 1, 2, 3]),
-        ],
+        totals,
+        owns,
     }
 }
 

@@ -1,10 +1,10 @@
 //! Runs whose sources are read in different ways.
-use super::shown::{CLEAN, folded, is_list, plain, run, run_folded};
+use super::shown::{CLEAN, folded, folded_sources, is_list, plain, run_plain, run_ungated};
 use crate::tests::worked::{BASE, INLINED_LINES};
 use flame_tool::{Filter, Format, Options, Source, Views};
 use profile_tables::{Naming, Pick};
 use ring_collect::RingSize;
-use stack_core::{Names, OpenGate, ReadFault, ReadKind, SourceEnd, Text};
+use stack_core::{Names, ReadFault, ReadKind, SourceEnd, Text};
 use std::alloc::{AllocError, Global};
 use std::process::Abort;
 use std::sync::Wait;
@@ -30,6 +30,25 @@ fn are_read(rt: &impl Abort, alloc: Global, views: &Views, text: &str) -> Result
     Ok(())
 }
 
+/// The views of an empty folded source and this profile.
+fn run_profile<T: Threads + Wait + Abort + Copy + Send + 'static>(
+    rt: &T,
+    alloc: Global,
+    bytes: &[u8],
+    pick: Pick,
+    naming: Naming,
+) -> Result<Views, Fail> {
+    let sources = with_profile(alloc, bytes)?;
+    let options = Options {
+        ring: RingSize::of(4).expect(rt, "the size of a ring"),
+        pick,
+        naming,
+        filter: Filter::everything(alloc),
+        every: None,
+    };
+    run_ungated(rt, alloc, sources, &options)
+}
+
 /// The profile is read as this text.
 fn reads<T: Threads + Wait + Abort + Copy + Send + 'static>(
     rt: &T,
@@ -39,14 +58,7 @@ fn reads<T: Threads + Wait + Abort + Copy + Send + 'static>(
     naming: Naming,
     text: &str,
 ) -> Result<(), Fail> {
-    let options = Options {
-        ring: RingSize::of(4).expect(rt, "the size of a ring"),
-        pick,
-        naming,
-        filter: Filter::everything(alloc),
-        every: None,
-    };
-    let views = run(rt, alloc, with_profile(alloc, bytes)?, &options, OpenGate)?;
+    let views = run_profile(rt, alloc, bytes, pick, naming)?;
     are_read(rt, alloc, &views, text)
 }
 
@@ -94,13 +106,7 @@ fn are_empty(rt: &impl Abort, views: &Views) {
 
 #[test]
 fn no_sources(rt: HostRuntime) -> Result<(), Fail> {
-    let views = run_folded(
-        &rt,
-        rt.alloc(),
-        &[],
-        &plain(&rt, rt.alloc(), 1, Some(1)),
-        OpenGate,
-    )?;
+    let views = run_plain(&rt, rt.alloc(), &[], 1, Some(1))?;
     are_empty(&rt, &views);
     Ok(())
 }
@@ -128,13 +134,7 @@ fn are_cut(rt: &impl Abort, alloc: Global, views: &Views) -> Result<(), Fail> {
 #[test]
 fn refused_counts(rt: HostRuntime) -> Result<(), Fail> {
     let texts = ["b 2\na 1.5\n", "c 3\n\n"];
-    let views = run_folded(
-        &rt,
-        rt.alloc(),
-        &texts,
-        &plain(&rt, rt.alloc(), 1, None),
-        OpenGate,
-    )?;
+    let views = run_plain(&rt, rt.alloc(), &texts, 1, None)?;
     are_cut(&rt, rt.alloc(), &views)
 }
 
@@ -144,6 +144,17 @@ fn parsing(alloc: Global) -> Result<Filter, AllocError> {
         focus: Names::from_strs(alloc, &["pars"])?,
         hide: Names::from_strs(alloc, &["read"])?,
     })
+}
+
+/// The views of three samples, of which one stands in a parser and reads nothing.
+fn run_parsing<T: Threads + Wait + Abort + Copy + Send + 'static>(
+    rt: &T,
+    alloc: Global,
+) -> Result<Views, Fail> {
+    let sources = folded_sources(alloc, &["main;parse;read 5\nmain;parse 3\nmain;layout 2\n"])?;
+    let mut options = plain(rt, alloc, 2, None);
+    options.filter = parsing(alloc)?;
+    run_ungated(rt, alloc, sources, &options)
 }
 
 /// The tree and the list have what the filter keeps.
@@ -157,28 +168,23 @@ fn are_filtered(rt: &impl Abort, alloc: Global, views: &Views) -> Result<(), Fai
 
 #[test]
 fn filtered_samples(rt: HostRuntime) -> Result<(), Fail> {
-    let alloc = rt.alloc();
-    let mut options = plain(&rt, alloc, 2, None);
-    options.filter = parsing(alloc)?;
-    let texts = ["main;parse;read 5\nmain;parse 3\nmain;layout 2\n"];
-    let views = run_folded(&rt, alloc, &texts, &options, OpenGate)?;
-    are_filtered(&rt, alloc, &views)
+    let views = run_parsing(&rt, rt.alloc())?;
+    are_filtered(&rt, rt.alloc(), &views)
+}
+
+/// The weights of the graph are those of 64 sources, each as heavy as it may be.
+fn are_heaviest(rt: &impl Abort, views: &Views) {
+    assert_eq!(rt; views.tree().total(&[0]), 4_611_686_018_427_387_840);
+    assert_eq!(rt; views.graph().len(), 2);
+    assert_eq!(rt; views.graph()[1].own, 4_611_686_018_427_387_840);
+    assert_eq!(rt; views.chart().len(), 2);
 }
 
 /// As many sources as there may be, each as heavy as it may be.
 #[test]
 fn limits_of_weights_and_depth_by_weights(rt: HostRuntime) -> Result<(), Fail> {
     let texts = ["a 72057594037927935\n"; 64];
-    let views = run_folded(
-        &rt,
-        rt.alloc(),
-        &texts,
-        &plain(&rt, rt.alloc(), 1, None),
-        OpenGate,
-    )?;
-    assert_eq!(rt; views.tree().total(&[0]), 4_611_686_018_427_387_840);
-    assert_eq!(rt; views.graph().len(), 2);
-    assert_eq!(rt; views.graph()[1].own, 4_611_686_018_427_387_840);
-    assert_eq!(rt; views.chart().len(), 2);
+    let views = run_plain(&rt, rt.alloc(), &texts, 1, None)?;
+    are_heaviest(&rt, &views);
     Ok(())
 }

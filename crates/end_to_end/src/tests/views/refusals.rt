@@ -1,6 +1,6 @@
 //! What `views` answers where a request for memory is refused.
-use super::shown::{CLEAN, folded, is_list, plain};
-use flame_tool::{Views, views};
+use super::shown::{CLEAN, folded_sources, is_list, plain, run};
+use flame_tool::Views;
 use ring_collect::CollectFault;
 use stack_core::OpenGate;
 use std::alloc::{AllocError, Global};
@@ -16,14 +16,10 @@ fn run_both<T: Threads + Wait + Abort + Copy + Send + 'static>(
     rt: &T,
     alloc: Global,
 ) -> Result<Result<Views, CollectFault>, AllocError> {
-    let mut sources = Vec::new(alloc);
-    for text in TEXTS {
-        sources.push(folded(alloc, text)?)?;
-    }
-    assert!(rt; sources.len() <= 64);
     let gate = Arc::new(alloc, OpenGate)?;
+    let sources = folded_sources(alloc, &TEXTS)?;
     let options = plain(rt, alloc, 1, Some(2));
-    Ok(views(rt, alloc, sources, &options, gate))
+    Ok(run(rt, alloc, sources, &options, gate))
 }
 
 /// The views have the samples of both texts, and two snapshots.

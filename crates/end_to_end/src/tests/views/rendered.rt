@@ -1,12 +1,11 @@
 //! Views rendered as text, behind what stood there.
-use super::shown::{plain, run_folded, shows};
+use super::shown::{run_plain, shows};
 use crate::tests::worked::{
     AFTER, BEFORE, CALLS, CHART_OF_THREE_LINES, COMPARISON_BOXES, COMPARISON_LINES, FIVE_LINES,
     FUNCTIONS, GRAPH_OF_THREE_LINES, GREATEST_TOTALS, SNAPSHOT_LINES, THREE_LINES,
 };
 use flame_layout::Width;
 use flame_tool::{FunctionOrder, TopTable, View, Views};
-use stack_core::OpenGate;
 use std::alloc::Global;
 use std::process::Abort;
 use std::test::Fail;
@@ -17,14 +16,8 @@ fn pixels(rt: &impl Abort, count: u32) -> Width {
 
 #[test]
 fn stored_run(rt: HostRuntime) -> Result<(), Fail> {
-    let options = plain(&rt, rt.alloc(), 1_024, None);
-    let views = run_folded(
-        &rt,
-        rt.alloc(),
-        &["a;b 2\na 1\na;b 3\n"],
-        &options,
-        OpenGate,
-    )?;
+    let texts = ["a;b 2\na 1\na;b 3\n"];
+    let views = run_plain(&rt, rt.alloc(), &texts, 1_024, None)?;
     shows(&rt, rt.alloc(), &views, View::Fold, "a 1\na;b 5\n")
 }
 
@@ -40,8 +33,7 @@ fn shows_nothing(rt: &impl Abort, alloc: Global, views: &Views) -> Result<(), Fa
 
 #[test]
 fn empty_sources(rt: HostRuntime) -> Result<(), Fail> {
-    let options = plain(&rt, rt.alloc(), 1, Some(1));
-    let views = run_folded(&rt, rt.alloc(), &[""], &options, OpenGate)?;
+    let views = run_plain(&rt, rt.alloc(), &[""], 1, Some(1))?;
     shows_nothing(&rt, rt.alloc(), &views)
 }
 
@@ -54,8 +46,7 @@ fn shows_three_lines(rt: &impl Abort, alloc: Global, views: &Views) -> Result<()
 
 #[test]
 fn graph_of_three_lines(rt: HostRuntime) -> Result<(), Fail> {
-    let options = plain(&rt, rt.alloc(), 1_024, None);
-    let views = run_folded(&rt, rt.alloc(), &[THREE_LINES], &options, OpenGate)?;
+    let views = run_plain(&rt, rt.alloc(), &[THREE_LINES], 1_024, None)?;
     shows_three_lines(&rt, rt.alloc(), &views)
 }
 
@@ -68,8 +59,7 @@ fn shows_comparison(rt: &impl Abort, alloc: Global, views: &Views) -> Result<(),
 
 #[test]
 fn comparison(rt: HostRuntime) -> Result<(), Fail> {
-    let options = plain(&rt, rt.alloc(), 1_024, None);
-    let views = run_folded(&rt, rt.alloc(), &[BEFORE, AFTER], &options, OpenGate)?;
+    let views = run_plain(&rt, rt.alloc(), &[BEFORE, AFTER], 1_024, None)?;
     shows_comparison(&rt, rt.alloc(), &views)
 }
 
@@ -90,16 +80,18 @@ fn shows_functions(rt: &impl Abort, alloc: Global, views: &Views) -> Result<(), 
 
 #[test]
 fn functions_by_weight(rt: HostRuntime) -> Result<(), Fail> {
-    let options = plain(&rt, rt.alloc(), 1_024, None);
-    let views = run_folded(&rt, rt.alloc(), &[CALLS], &options, OpenGate)?;
+    let views = run_plain(&rt, rt.alloc(), &[CALLS], 1_024, None)?;
     shows_functions(&rt, rt.alloc(), &views)
 }
 
 /// The graph's lines are those of the snapshots at 2 and at 4, and that of all samples.
+fn shows_snapshots(rt: &impl Abort, alloc: Global, views: &Views) -> Result<(), Fail> {
+    let graph = View::Graph(pixels(rt, 10));
+    shows(rt, alloc, views, graph, SNAPSHOT_LINES)
+}
+
 #[test]
 fn snapshots_of_one_source(rt: HostRuntime) -> Result<(), Fail> {
-    let options = plain(&rt, rt.alloc(), 1_024, Some(2));
-    let views = run_folded(&rt, rt.alloc(), &[FIVE_LINES], &options, OpenGate)?;
-    let graph = View::Graph(pixels(&rt, 10));
-    shows(&rt, rt.alloc(), &views, graph, SNAPSHOT_LINES)
+    let views = run_plain(&rt, rt.alloc(), &[FIVE_LINES], 1_024, Some(2))?;
+    shows_snapshots(&rt, rt.alloc(), &views)
 }

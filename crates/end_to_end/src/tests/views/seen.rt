@@ -2,10 +2,10 @@
 ghost use Rattle.std.specs.Prelude.{◌≤◌, IfSome};
 
 use super::gates::{AllAsked, BothAsked};
-use super::shown::{CLEAN, folded, is_list, number_of, plain, run, run_folded, shows};
+use super::shown::{CLEAN, folded, is_list, number_of, plain, run_folded, run_ungated, shows};
 use crate::tests::worked::SMALLEST;
-use flame_tool::{Format, Options, Source, View, Views};
-use stack_core::{Gate, OpenGate, SourceList};
+use flame_tool::{Format, Source, View, Views};
+use stack_core::{Gate, SourceList};
 use std::alloc::{AllocError, Global};
 use std::process::Abort;
 use std::sync::Wait;
@@ -20,8 +20,7 @@ fn meet<T: Threads + Wait + Abort + Copy + Send + 'static, G: Gate + Send + Sync
     texts: &[&str],
     gate: G,
 ) -> Result<(), Fail> {
-    let options = plain(rt, alloc, 1, None);
-    let views = run_folded(rt, alloc, texts, &options, gate)?;
+    let views = run_folded(rt, alloc, texts, &plain(rt, alloc, 1, None), gate)?;
     have_one_sample(rt, alloc, &views, texts.len())
 }
 
@@ -129,15 +128,24 @@ fn are_merged(rt: &impl Abort, views: &Views) {
     assert_eq!(rt; views.chart().len(), 2_004);
 }
 
-/// Runs over the three sources with these options.
+/// The lists and the merged sums of the three.
+fn are_three_merged(rt: &impl Abort, alloc: Global, views: &Views) -> Result<(), Fail> {
+    are_merged(rt, views);
+    are_three(rt, alloc, views)
+}
+
+/// Runs over the three sources, with rings of this many items.
 fn run_three<T: Threads + Wait + Abort + Copy + Send + 'static>(
     rt: &T,
     alloc: Global,
-    options: &Options,
+    ring: u32,
+    every: Option<u64>,
 ) -> Result<Views, Fail>
-    requires { IfSome options.now.every (λ every. 1 ≤ every) }
+    requires { IfSome every (λ every. 1 ≤ every) }
 {
-    run(rt, alloc, three(alloc)?, options, OpenGate)
+    let sources = three(alloc)?;
+    let options = plain(rt, alloc, ring, every);
+    run_ungated(rt, alloc, sources, &options)
 }
 
 /// The fold text of the three.
@@ -149,23 +157,21 @@ const FOLD_OF_THREE_SOURCES: &str = "main 7000\n\
 
 /// The views of the three, without a snapshot, and their fold text.
 fn are_three_folded(rt: &impl Abort, alloc: Global, views: &Views) -> Result<(), Fail> {
-    are_merged(rt, views);
     assert_eq!(rt; views.snapshots().len(), 0);
-    are_three(rt, alloc, views)?;
+    are_three_merged(rt, alloc, views)?;
     shows(rt, alloc, views, View::Fold, FOLD_OF_THREE_SOURCES)
 }
 
 #[test]
 fn three_sources_in_small_rings(rt: HostRuntime) -> Result<(), Fail> {
-    let views = run_three(&rt, rt.alloc(), &plain(&rt, rt.alloc(), 1, None))?;
+    let views = run_three(&rt, rt.alloc(), 1, None)?;
     are_three_folded(&rt, rt.alloc(), &views)
 }
 
 #[test]
 fn three_sources_in_large_rings(rt: HostRuntime) -> Result<(), Fail> {
-    let views = run_three(&rt, rt.alloc(), &plain(&rt, rt.alloc(), 65_536, None))?;
-    are_merged(&rt, &views);
-    are_three(&rt, rt.alloc(), &views)
+    let views = run_three(&rt, rt.alloc(), 65_536, None)?;
+    are_three_merged(&rt, rt.alloc(), &views)
 }
 
 /// The counts of each snapshot add up to its number, and none falls.
@@ -188,8 +194,7 @@ fn are_rising(rt: &impl Abort, views: &Views) {
 
 #[test]
 fn three_sources_every_thousand(rt: HostRuntime) -> Result<(), Fail> {
-    let views = run_three(&rt, rt.alloc(), &plain(&rt, rt.alloc(), 1_024, Some(1_000)))?;
-    are_merged(&rt, &views);
+    let views = run_three(&rt, rt.alloc(), 1_024, Some(1_000))?;
     are_rising(&rt, &views);
-    are_three(&rt, rt.alloc(), &views)
+    are_three_merged(&rt, rt.alloc(), &views)
 }

@@ -6,8 +6,8 @@ use call_tree::FrameTable;
 use flame_layout::SpanBox;
 use flame_tool::{Filter, Format, Options, Source, View, Views, render, views};
 use profile_tables::{Naming, Pick};
-use ring_collect::RingSize;
-use stack_core::{Gate, SourceEnd, SourceList};
+use ring_collect::{CollectFault, RingSize};
+use stack_core::{Gate, OpenGate, SourceEnd, SourceList};
 use std::alloc::{AllocError, Global};
 use std::process::Abort;
 use std::sync::{Arc, Wait};
@@ -41,12 +41,39 @@ pub fn plain(rt: &impl Abort, alloc: Global, ring: u32, every: Option<u64>) -> O
 pub fn run<
     T: Threads + Wait + Abort + Copy + Send + 'static,
     G: Gate + Send + Sync + Drop + 'static,
->(rt: &T, alloc: Global, sources: Vec<Source>, options: &Options, gate: G) -> Result<Views, Fail>
+>(
+    rt: &T,
+    alloc: Global,
+    sources: Vec<Source>,
+    options: &Options,
+    gate: Arc<G>,
+) -> Result<Views, CollectFault>
     requires { IfSome options.now.every (λ every. 1 ≤ every) }
 {
     assert!(rt; sources.len() <= 64);
-    let gate = Arc::new(alloc, gate)?;
-    Ok(views(rt, alloc, sources, options, gate)?)
+    views(rt, alloc, sources, options, gate)
+}
+
+/// The views of these sources, where no gate stops one.
+pub fn run_ungated<T: Threads + Wait + Abort + Copy + Send + 'static>(
+    rt: &T,
+    alloc: Global,
+    sources: Vec<Source>,
+    options: &Options,
+) -> Result<Views, Fail>
+    requires { IfSome options.now.every (λ every. 1 ≤ every) }
+{
+    let gate = Arc::new(alloc, OpenGate)?;
+    Ok(run(rt, alloc, sources, options, gate)?)
+}
+
+/// Folded texts as sources.
+pub fn folded_sources(alloc: Global, texts: &[&str]) -> Result<Vec<Source>, AllocError> {
+    let mut sources = Vec::new(alloc);
+    for text in texts {
+        sources.push(folded(alloc, text)?)?;
+    }
+    Ok(sources)
 }
 
 /// The views of folded texts.
@@ -56,11 +83,24 @@ pub fn run_folded<
 >(rt: &T, alloc: Global, texts: &[&str], options: &Options, gate: G) -> Result<Views, Fail>
     requires { IfSome options.now.every (λ every. 1 ≤ every) }
 {
-    let mut sources = Vec::new(alloc);
-    for text in texts {
-        sources.push(folded(alloc, text)?)?;
-    }
-    run(rt, alloc, sources, options, gate)
+    let gate = Arc::new(alloc, gate)?;
+    let sources = folded_sources(alloc, texts)?;
+    Ok(run(rt, alloc, sources, options, gate)?)
+}
+
+/// The views of folded texts, with rings of this many items.
+pub fn run_plain<T: Threads + Wait + Abort + Copy + Send + 'static>(
+    rt: &T,
+    alloc: Global,
+    texts: &[&str],
+    ring: u32,
+    every: Option<u64>,
+) -> Result<Views, Fail>
+    requires { IfSome every (λ every. 1 ≤ every) }
+{
+    let sources = folded_sources(alloc, texts)?;
+    let options = plain(rt, alloc, ring, every);
+    run_ungated(rt, alloc, sources, &options)
 }
 
 /// The list has the samples of this folded text, and ends so.
@@ -71,13 +111,19 @@ pub fn is_list(
     text: &str,
     ending: SourceEnd,
 ) -> Result<(), AllocError> {
-    let mut shown = String::new(alloc);
-    for i in 0..list.len() {
-        push_sample(alloc, &mut shown, list, i)?;
-    }
-    assert_eq!(rt; shown.as_str(), text);
     assert_eq!(rt; *list.ending(), ending);
+    let shown = list_text(alloc, list)?;
+    assert_eq!(rt; shown.as_str(), text);
     Ok(())
+}
+
+/// The samples of a list as folded text.
+fn list_text(alloc: Global, list: &SourceList) -> Result<String, AllocError> {
+    let mut text = String::new(alloc);
+    for i in 0..list.len() {
+        push_sample(alloc, &mut text, list, i)?;
+    }
+    Ok(text)
 }
 
 fn push_sample(
@@ -106,12 +152,17 @@ pub fn are_boxes(
     boxes: &[SpanBox],
     text: &str,
 ) -> Result<(), AllocError> {
-    let mut shown = String::new(alloc);
-    for span in boxes {
-        push_box(alloc, &mut shown, span)?;
-    }
+    let shown = box_text(alloc, boxes)?;
     assert_eq!(rt; shown.as_str(), text);
     Ok(())
+}
+
+fn box_text(alloc: Global, boxes: &[SpanBox]) -> Result<String, AllocError> {
+    let mut text = String::new(alloc);
+    for span in boxes {
+        push_box(alloc, &mut text, span)?;
+    }
+    Ok(text)
 }
 
 fn push_box(alloc: Global, text: &mut String, span: &SpanBox) -> Result<(), AllocError> {
@@ -124,6 +175,8 @@ fn push_box(alloc: Global, text: &mut String, span: &SpanBox) -> Result<(), Allo
     text.push_str(&line)
 }
 
+const IN_FRONT: &str = "in front\n";
+
 /// The view is rendered as this text, behind what stood there.
 pub fn shows(
     rt: &impl Abort,
@@ -134,16 +187,26 @@ pub fn shows(
 ) -> Result<(), Fail>
     requires { IsComparison view → length views.now.lists ≡ 2 }
 {
-    let mut out = b"in front\n".to_vec(alloc)?;
-    render(alloc, views, view, &mut out)?;
-    stand_in_front(rt, alloc, &out, text)
+    let out = rendered(alloc, views, view)?;
+    stand_behind(rt, &out, text);
+    Ok(())
 }
 
 /// The text stands behind what stood there.
-fn stand_in_front(rt: &impl Abort, alloc: Global, out: &[u8], text: &str) -> Result<(), Fail> {
-    let whole = format!(in alloc; "in front\n{text}")?;
-    assert_eq!(rt; out, whole.as_bytes());
-    Ok(())
+fn stand_behind(rt: &impl Abort, out: &[u8], text: &str) {
+    assert!(rt; out.len() >= IN_FRONT.len());
+    let (front, shown) = out.split_at(IN_FRONT.len());
+    assert_eq!(rt; front, IN_FRONT.as_bytes());
+    assert_eq!(rt; shown, text.as_bytes());
+}
+
+/// The view as text, behind what stood there.
+fn rendered(alloc: Global, views: &Views, view: View) -> Result<Vec<u8>, AllocError>
+    requires { IsComparison view → length views.now.lists ≡ 2 }
+{
+    let mut out = IN_FRONT.as_bytes().to_vec(alloc)?;
+    render(alloc, views, view, &mut out)?;
+    Ok(out)
 }
 
 /// The number of a name.

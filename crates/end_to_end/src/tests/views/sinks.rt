@@ -3,7 +3,7 @@ use super::gates::{AfterSnapshots, Watched};
 use super::shown::number_of;
 use flame_tool::TreeSink;
 use folded_lines::FoldedReader;
-use ring_collect::{RingSize, collect};
+use ring_collect::{Collected, RingSize, collect};
 use stack_core::{Names, Sample, Sink};
 use std::alloc::{AllocError, Global};
 use std::process::Abort;
@@ -94,11 +94,11 @@ fn sink_without_snapshots(rt: HostRuntime) -> Result<(), Fail> {
 }
 
 /// Runs over seven samples `a 1`, the last of which waits for three snapshots.
-fn run_seven<T: Threads + Wait + Abort + Copy + Send + 'static>(
+fn collected_seven<T: Threads + Wait + Abort + Copy + Send + 'static>(
     rt: &T,
     alloc: Global,
     watched: &mut Watched,
-) -> Result<(), Fail> {
+) -> Result<Collected, Fail> {
     let gate = AfterSnapshots {
         made: Arc::try_clone(&watched.made)?,
     };
@@ -107,7 +107,15 @@ fn run_seven<T: Threads + Wait + Abort + Copy + Send + 'static>(
     let text = b"a 1\na 1\na 1\na 1\na 1\na 1\na 1\n";
     readers.push(FoldedReader::over(text.to_vec(alloc)?))?;
     let ring = RingSize::of(2).expect(rt, "the size of a ring");
-    let run = collect(rt, alloc, readers, ring, gate, watched)?;
+    Ok(collect(rt, alloc, readers, ring, gate, watched)?)
+}
+
+fn run_seven<T: Threads + Wait + Abort + Copy + Send + 'static>(
+    rt: &T,
+    alloc: Global,
+    watched: &mut Watched,
+) -> Result<(), Fail> {
+    let run = collected_seven(rt, alloc, watched)?;
     assert_eq!(rt; run.order.as_slice(), [0; 7].as_slice());
     Ok(())
 }

@@ -2,14 +2,16 @@
 ghost use Rattle.std.specs.Prelude.{◌<◌, length};
 
 use super::gates::StopsAt;
-use super::shown::{are_boxes, is_list, plain, run_folded};
+use super::shown::{are_boxes, is_list, plain, run_folded, run_plain};
 use crate::tests::worked::FIVE_LINES;
 use flame_layout::graph_boxes;
 use flame_tool::Views;
-use stack_core::{OpenGate, SourceEnd};
+use stack_core::SourceEnd;
 use std::alloc::{AllocError, Global};
 use std::process::Abort;
+use std::sync::Wait;
 use std::test::Fail;
+use std::thread::Threads;
 
 /// The snapshot is of so many samples of the one source, and has these boxes.
 fn is_snapshot(
@@ -46,8 +48,7 @@ fn are_of_five(rt: &impl Abort, alloc: Global, views: &Views) -> Result<(), Fail
 
 #[test]
 fn snapshots_of_one_source(rt: HostRuntime) -> Result<(), Fail> {
-    let options = plain(&rt, rt.alloc(), 1_024, Some(2));
-    let views = run_folded(&rt, rt.alloc(), &[FIVE_LINES], &options, OpenGate)?;
+    let views = run_plain(&rt, rt.alloc(), &[FIVE_LINES], 1_024, Some(2))?;
     are_of_five(&rt, rt.alloc(), &views)
 }
 
@@ -62,13 +63,21 @@ fn are_of_three(rt: &impl Abort, alloc: Global, views: &Views) -> Result<(), Fai
     Ok(())
 }
 
-#[test]
-fn gate_stops_the_source(rt: HostRuntime) -> Result<(), Fail> {
-    let options = plain(&rt, rt.alloc(), 2, Some(2));
+/// Runs over the five samples, and stops before the fourth.
+fn run_stopped<T: Threads + Wait + Abort + Copy + Send + 'static>(
+    rt: &T,
+    alloc: Global,
+) -> Result<Views, Fail> {
     let gate = StopsAt {
         source: 0,
         index: 3,
     };
-    let views = run_folded(&rt, rt.alloc(), &[FIVE_LINES], &options, gate)?;
+    let options = plain(rt, alloc, 2, Some(2));
+    run_folded(rt, alloc, &[FIVE_LINES], &options, gate)
+}
+
+#[test]
+fn gate_stops_the_source(rt: HostRuntime) -> Result<(), Fail> {
+    let views = run_stopped(&rt, rt.alloc())?;
     are_of_three(&rt, rt.alloc(), &views)
 }
