@@ -29,7 +29,7 @@ use Rattle.command_line.specs.declared.plans.PageForm.{PageForm}
 use Rattle.sent_views.specs.Pages.{asked_heading, asked_text, page_text, shown_text, text_in}
 use Rattle.sent_views.proofs.PageLemmas.{orderless_page}
 use Rattle.source_views.specs.Texts.{IsOrderless, graph_text, told_text, top_text, view_text}
-use Rattle.flame_tool.specs.checked.Forms.{IsOfView, IsOrderlessIn}
+use Rattle.flame_tool.specs.checked.Forms.{IsOfView}
 use Rattle.flame_tool.specs.Runs.{lists_of, text_of, GainsFront, IsClean, Shows, ShowsFront, ShowsSamples, FailsUntouched, HasFault, TellsNoWhole}
 use Rattle.flame_tool.specs.TypeRuns.{known_profile, HasTableFault, ShowsTypes, ShowsTypesFront}
 use Rattle.flame_tool.specs.checked.Failures.{Fails, IsHelp, IsWords, KeepsOutput}
@@ -73,12 +73,12 @@ orderless_text all (Top top) lists order every orderless = refl
 
 module _ (plan : Plan) (facts : RunFacts) (lists : List (List Sample)) (order : List ℕ) (every : Option ℕ) where
   -- the text of a view, where no page is written
-  of_view_in : (written : Form) → IsOfView written → IsOrderlessIn written plan.view every → asked_text plan facts lists [] None ≡ text_in written plan facts lists order every
+  of_view_in : (written : Form) → IsOfView written → IsOrderless plan.view every → asked_text plan facts lists [] None ≡ text_in written plan facts lists order every
   of_view_in form.Text of_view orderless = sym (orderless_text (told_whole plan facts) plan.view lists order every orderless)
   of_view_in (form.Page page) of_view orderless = absurd of_view
   of_view_in form.Types of_view orderless = sym (orderless_text (told_whole plan facts) plan.view lists order every orderless)
 
-  pub orderless_shown : IsOfView plan.form → IsOrderlessIn plan.form plan.view every → asked_text plan facts lists [] None ≡ shown_text plan facts lists order every
+  pub orderless_shown : IsOfView plan.form → IsOrderless plan.view every → asked_text plan facts lists [] None ≡ shown_text plan facts lists order every
   orderless_shown = of_view_in plan.form
 
   -- the text of a graph, where no page is written

@@ -5,7 +5,6 @@ ghost use Rattle.std.specs.Prelude.{◌≡◌};
 
 use byte_io::{Outlet, send};
 use itoa::Buffer;
-use merging::Observer;
 use opened_sources::path_of;
 use stack_core::{Ledger, NoSink, RowSink};
 use std::alloc::{AllocError, Global};
@@ -16,8 +15,8 @@ const STRIDE: u64 = 1 << 16;
 /// The longest path that the line has, so that it is not wrapped.
 const LONGEST_PATH: usize = 28;
 
-/// Tells how many samples of a run arrived, where that is wanted: as the sink of a run of which the lists alone are wanted, or as the
-/// observer of one that merges them. The messages of the run go where it tells this.
+/// Tells how many samples of a run arrived, where that is wanted, as the sink of the run. The messages of the run go where it tells
+/// this.
 #[derive(Drop)]
 pub(crate) struct Progress<'a, E> {
     taken: NoSink,
@@ -95,12 +94,6 @@ impl<E: Outlet> RowSink for Progress<'_, E> {
         self.last = Some(source as usize);
         self.count(alloc);
         Ok(())
-    }
-}
-
-impl<E: Outlet> Observer for Progress<'_, E> {
-    fn saw(&mut self, alloc: Global) {
-        self.count(alloc);
     }
 }
 

@@ -8,32 +8,28 @@ ghost use Rattle.source_lists.specs.Types.{source_type};
 ghost use Rattle.flame_tool.specs.KnownFacts.{known_facts};
 ghost use Rattle.flame_tool.specs.Requests.{known_rests};
 ghost use Rattle.sent_views.specs.Pages.{page_text, shown_text};
-ghost use Rattle.source_views.specs.Texts.{IsOrderless, graph_text};
+ghost use Rattle.source_views.specs.Texts.{IsOrderless};
 ghost use Rattle.flame_tool.specs.Runs.{Shows};
 ghost use Rattle.opened_sources.specs.Opening.{AreOpened};
 ghost use Rattle.flame_tool.specs.checked.Failures.{Fails, FailsToShow, KeepsOutput};
 ghost use Rattle.opened_sources.specs.Failures.{has_fault, Flushes, Sends};
-ghost use Rattle.flame_tool.specs.checked.Forms.{IsOfView, IsOrderlessIn};
+ghost use Rattle.flame_tool.specs.checked.Forms.{IsOfView};
 
 use crate::progress::Progress;
 use byte_io::{Files, Outlet};
 use command_line::{Form, PageForm, Plan, View};
 use flame_layout::Width;
-use merging::{Gathered, Source, SourceLists, gather_observed, read_whole_sources};
+use merging::{Gathered, Source, SourceLists, read_whole_sources};
 use opened_sources::{Failure, any_fault, open_sources, report_endings};
 use profile_messages::SampleType;
 use sent_views::{
     RunFacts, send_asked_page, send_asked_view, send_graph_with_snapshots, send_snapshots,
 };
 use source_lists::chosen_types;
-use stack_core::{Listed, OpenGate};
+use stack_core::Listed;
 use std::alloc::{AllocError, Global};
-use std::sync::{Arc, Wait};
+use std::sync::Wait;
 use std::thread::Threads;
-
-fn open_gate(alloc: Global) -> Result<Arc<OpenGate>, AllocError> {
-    Ok(Arc::new(alloc, OpenGate)?)
-}
 
 // Reads the sources, and shows them.
 pub(crate) fn show_views<T: Threads + Wait + Copy + Send + 'static, F: Files, W: Outlet, E: Outlet>(
@@ -69,34 +65,20 @@ pub(crate) fn show_views<T: Threads + Wait + Copy + Send + 'static, F: Files, W:
     shown
 }
 
-// The width of a graph with snapshots. The text of each other view is the same in whatever order the samples
-// came.
-fn snapshots_width(view: View, every: Option<u64>) -> Option<Width>
-    ensures some { IfSome result (λ width. view ≡ View.Graph width) }
+// The snapshots that are asked for: the width of their graph, and after how many samples more there is one. The
+// text of each other view is the same in whatever order the samples came.
+fn asked_snapshots(view: View, every: Option<u64>) -> Option<(Width, u64)>
+    ensures some { IfSome result (λ asked. view ≡ View.Graph asked.0) }
+    ensures every { IfSome result (λ asked. every ≡ Some asked.1) }
     ensures none { IsNone result → IsOrderless view every }
 {
     match view {
-        View::Graph(width) => every.map(|_| width),
+        View::Graph(width) => every.map(|every| (width, every)),
         View::Fold | View::Chart(_) | View::Pairs | View::PairBoxes(_) | View::Top(_) => None,
     }
 }
 
-// The width of a graph with snapshots that is written as text. Those of a page are made of the lists, once all
-// samples are read.
-fn asked_snapshots(plan: &Plan) -> Option<Width>
-    ensures view { IfSome result (λ width. plan.now.view ≡ View.Graph width) }
-    ensures form { IfSome result (λ width. IsOfView plan.now.form) }
-    ensures none { IsNone result
-        → IsOrderlessIn plan.now.form plan.now.view plan.now.options.every }
-{
-    match &plan.form {
-        Form::Text | Form::Types => snapshots_width(plan.view, plan.options.every),
-        Form::Page(_) => None,
-    }
-}
-
-// Collects the samples of sources, and sends the view of them. Where it has snapshots, the samples are merged as
-// they arrive.
+// Collects the samples of sources, and sends the view of them.
 fn show_sources<T: Threads + Wait + Copy + Send + 'static, W: Outlet, E: Outlet>(
     rt: &T,
     alloc: Global,
@@ -123,24 +105,14 @@ fn show_sources<T: Threads + Wait + Copy + Send + 'static, W: Outlet, E: Outlet>
     ensures flushed { Flushes (W.is_flushed out.new) (W.failures out.old) (W.failures out.new)
         result }
 {
-    match asked_snapshots(plan) {
-        Some(width) => {
-            let gate = open_gate(alloc)?;
-            let gathered = gather_observed(rt, alloc, sources, &plan.options, gate, progress)?;
-            report_endings(progress.messages(), plan.files.get(), gathered.lists());
-            send_gathered(alloc, &gathered, width, out)
-        }
-        None => {
-            let types = told_types(alloc, plan, &sources)?;
-            let run = read_whole_sources(rt, alloc, sources, &plan.options, progress)?;
-            report_endings(progress.messages(), plan.files.get(), run.kept.lists());
-            let facts = RunFacts {
-                whole: run.whole_weight,
-                types: Listed::of(types),
-            };
-            send_lists(alloc, run.kept, plan, &facts, out)
-        }
-    }
+    let types = told_types(alloc, plan, &sources)?;
+    let run = read_whole_sources(rt, alloc, sources, &plan.options, progress)?;
+    report_endings(progress.messages(), plan.files.get(), run.kept.lists());
+    let facts = RunFacts {
+        whole: run.whole_weight,
+        types: Listed::of(types),
+    };
+    send_lists(alloc, run.kept, plan, &facts, out)
 }
 
 // The sample types of the weights of sources, which pages alone tell.
@@ -154,30 +126,7 @@ fn told_types(alloc: Global, plan: &Plan, sources: &[Source]) -> Result<Vec<Samp
     }
 }
 
-// Sends the text of what was collected, unless a source has a fault.
-fn send_gathered<W: Outlet>(
-    alloc: Global,
-    gathered: &Gathered,
-    width: Width,
-    out: &mut W,
-) -> Result<(), Failure>
-    ensures faulty { has_fault gathered.now.lists ≡ true → result ≡ Err Failure.Faults }
-    ensures faultless { OnOk result (has_fault gathered.now.lists ≡ false) }
-    ensures ok { OnOk result (Appends (W.contents out.old) (W.contents out.new) (graph_text width
-        (samples_of gathered.now.lists) gathered.now.order gathered.now.every)) }
-    ensures err { IfErr result (FailsToShow gathered.now.lists (graph_text width
-        (samples_of gathered.now.lists) gathered.now.order gathered.now.every)
-        (W.contents out.old) (W.contents out.new)) }
-    ensures flushed { Flushes (W.is_flushed out.new) (W.failures out.old) (W.failures out.new)
-        result }
-{
-    if any_fault(gathered.lists()) {
-        return Err(Failure::Faults);
-    }
-    send_snapshots(alloc, gathered, width, out)
-}
-
-// The same for the lists of a run, whose text has no snapshots.
+// Sends what a plan asks for of the lists of a run, unless a source has a fault.
 fn send_lists<W: Outlet>(
     alloc: Global,
     run: SourceLists,
@@ -187,7 +136,6 @@ fn send_lists<W: Outlet>(
 ) -> Result<(), Failure>
     requires pairs { IsComparison plan.now.view → length run.lists ≡ 2 }
     requires every { IfSome plan.now.options.every (λ every. 1 ≤ every) }
-    requires orderless { IsOrderlessIn plan.now.form plan.now.view plan.now.options.every }
     ensures faulty { has_fault run.lists ≡ true → result ≡ Err Failure.Faults }
     ensures faultless { OnOk result (has_fault run.lists ≡ false) }
     ensures ok { OnOk result (Appends (W.contents out.old) (W.contents out.new)
@@ -207,7 +155,7 @@ fn send_lists<W: Outlet>(
     }
 }
 
-// Sends the text of a view that has no snapshots.
+// Sends the text of a plan's view, with the snapshots of its graph where they are asked for.
 fn send_view<W: Outlet>(
     alloc: Global,
     run: &SourceLists,
@@ -216,14 +164,17 @@ fn send_view<W: Outlet>(
     out: &mut W,
 ) -> Result<(), Failure>
     requires pairs { IsComparison plan.now.view → length run.now.lists ≡ 2 }
+    requires every { IfSome plan.now.options.every (λ every. 1 ≤ every) }
     requires of_view { IsOfView plan.now.form }
-    requires orderless { IsOrderlessIn plan.now.form plan.now.view plan.now.options.every }
     ensures sent { Sends (shown_text plan.now facts.now (samples_of run.now.lists) run.now.order
         plan.now.options.every) (W.contents out.old) (W.contents out.new) result }
     ensures flushed { Flushes (W.is_flushed out.new) (W.failures out.old) (W.failures out.new)
         result }
 {
-    send_asked_view(alloc, run, plan, facts, out)
+    match asked_snapshots(plan.view, plan.options.every) {
+        Some((width, every)) => send_snapshots(alloc, run, width, every, out),
+        None => send_asked_view(alloc, run, plan, facts, out),
+    }
 }
 
 // Sends the page of the lists of a run, with the snapshots of its graph where they are asked for.
@@ -242,7 +193,7 @@ fn send_page<W: Outlet>(
     ensures flushed { Flushes (W.is_flushed out.new) (W.failures out.old) (W.failures out.new)
         result }
 {
-    match snapshots_width(plan.view, plan.options.every) {
+    match asked_snapshots(plan.view, plan.options.every) {
         Some(_) => {
             let gathered = Gathered::of_lists(alloc, run, plan.options.every)?;
             send_graph_with_snapshots(alloc, &gathered, plan, facts, page, out)

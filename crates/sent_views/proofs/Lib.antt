@@ -1,2 +1,3 @@
 pub mod PageLemmas
+mod SnapshotLines
 mod WorkedPages

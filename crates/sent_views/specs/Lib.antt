@@ -1,3 +1,4 @@
 -- The definitions that the contracts of sent_views cite.
 pub mod Facts
 pub mod Pages
+pub mod checked

@@ -3,8 +3,10 @@
 
 mod run_facts;
 mod sent_pages;
+mod sent_snapshots;
 mod sent_views;
 
 pub use run_facts::RunFacts;
 pub use sent_pages::{send_asked_page, send_graph_with_snapshots};
-pub use sent_views::{send_asked_view, send_snapshots, send_text};
+pub use sent_snapshots::send_snapshots;
+pub use sent_views::{send_asked_view, send_text};

@@ -6,7 +6,7 @@ ghost use Rattle.view_texts.specs.Fold.{fold_text};
 ghost use Rattle.view_texts.specs.Pairs.{pairs_text};
 ghost use Rattle.merging.specs.Sums.{all_samples};
 ghost use Rattle.command_line.specs.Plans.{IsComparison};
-ghost use Rattle.source_views.specs.Texts.{chart_text, graph_line, graph_text, pair_boxes_text, told_text, top_text};
+ghost use Rattle.source_views.specs.Texts.{chart_text, graph_line, pair_boxes_text, told_text, top_text};
 ghost use Rattle.sent_views.specs.Pages.{asked_text};
 ghost use Rattle.opened_sources.specs.Failures.{Flushes, Sends};
 ghost use Rattle.stack_core.specs.Interleaving.{list_of};
@@ -16,11 +16,9 @@ use byte_io::{Outlet, Pieces, send_pieces};
 use command_line::{Plan, TopTable, View};
 use flame_layout::{MergedStacks, Width, draw_merged, draw_paired};
 use merged_stacks::PairedStacks;
-use merging::{Gathered, SourceLists};
+use merging::SourceLists;
 use opened_sources::Failure;
-use source_views::{
-    drawn_chart, drawn_graph, drawn_graph_text, lend_chart, merge, weigh_functions,
-};
+use source_views::{drawn_chart, drawn_graph, lend_chart, merge, weigh_functions};
 use stack_core::SourceList;
 use std::alloc::Global;
 use sum_texts::{SumLine, SumTable};
@@ -68,23 +66,6 @@ pub(crate) fn send_plain_view<W: Outlet>(
         }
         View::Top(top) => send_top(alloc, sources, top, all, out),
     }
-}
-
-/// Sends the lines of the snapshots, and then that of the graph.
-pub fn send_snapshots<W: Outlet>(
-    alloc: Global,
-    gathered: &Gathered,
-    width: Width,
-    out: &mut W,
-) -> Result<(), Failure>
-    ensures sent { Sends (graph_text width (samples_of gathered.now.lists) gathered.now.order
-        gathered.now.every) (W.contents out.old) (W.contents out.new) result }
-    ensures flushed { Flushes (W.is_flushed out.new) (W.failures out.old) (W.failures out.new)
-        result }
-{
-    let merged = merge(alloc, gathered.sources())?;
-    let boxes = draw_merged(alloc, &merged)?;
-    send_text(alloc, &drawn_graph_text(gathered, &boxes, width), out)
 }
 
 // Sends the fold text of all samples.

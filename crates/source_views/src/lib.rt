@@ -11,7 +11,7 @@ mod view_text;
 mod whole_run;
 
 pub use drawings::{lend_chart, merge};
-pub use drawn_texts::{DrawnText, drawn_chart, drawn_graph, drawn_graph_text};
+pub use drawn_texts::{drawn_chart, drawn_graph};
 pub use functions::weigh_functions;
 pub use graph_texts::{SnapshotLines, filled_counts};
 pub use view_set::Views;

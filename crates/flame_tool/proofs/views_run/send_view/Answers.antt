@@ -1,12 +1,24 @@
-use Rattle.std.proofs.Common.{List, subst, ℕ}
+use Rattle.std.proofs.Common.{◌∙◌, List, ap, subst, sym, ℕ}
+use Rattle.std.specs.Prelude.{Option}
 use Rattle.merged_stacks.specs.Timeline.{samples_of}
 use Rattle.opened_sources.specs.Failures.{Sends}
-use Rattle.flame_tool.proofs.RunEndings.{orderless_shown}
+use Rattle.source_views.specs.Texts.{graph_text}
+use Rattle.flame_tool.proofs.RunEndings.{graph_shown, orderless_shown}
 use Rattle.flame_tool.proofs.views_run.send_view.Goals as goal
 
-pub returns-clause-sent : goal.returns-clause-sent
-returns-clause-sent g c =
+pub returns-in-Some-clause-sent : goal.returns-in-Some-clause-sent
+returns-in-Some-clause-sent g c =
+    let plan = c.args.plan.now in
+    let run = c.args.run.now in
+    let lists = samples_of run.lists in
+    let asked = c.in-Some.ensures in
+    subst (λ (text : List ℕ). Sends text (g.W.Outlet.contents c.args.out.now) (g.W.Outlet.contents c.send_snapshots.new.out) c.send_snapshots.result)
+    (ap (λ (every : Option ℕ). graph_text c.in-Some.width lists run.order every) (sym asked.every)
+    ∙ sym (graph_shown plan c.args.facts.now lists run.order plan.options.every c.in-Some.width c.requires.of_view asked.some)) c.send_snapshots.ensures.sent
+
+pub returns-in-None-clause-sent : goal.returns-in-None-clause-sent
+returns-in-None-clause-sent g c =
     let plan = c.args.plan.now in
     let run = c.args.run.now in
     subst (λ (text : List ℕ). Sends text (g.W.Outlet.contents c.args.out.now) (g.W.Outlet.contents c.send_asked_view.new.out) c.send_asked_view.result)
-    (orderless_shown plan c.args.facts.now (samples_of run.lists) run.order plan.options.every c.requires.of_view c.requires.orderless) c.send_asked_view.ensures.sent
+    (orderless_shown plan c.args.facts.now (samples_of run.lists) run.order plan.options.every c.requires.of_view c.in-None.ensures.none) c.send_asked_view.ensures.sent

@@ -4,53 +4,33 @@ use Rattle.source_lists.specs.Types.{source_type}
 use Rattle.sent_views.specs.declared.run_facts.RunFacts.{RunFacts}
 use Rattle.flame_tool.specs.KnownFacts.{facts_of}
 use Rattle.flame_tool.proofs.KnownSources.{collected_of, loaded, loaded_types, loaded_weight, ok_shown_as, err_shown_as}
-use Rattle.flame_tool.proofs.RunEndings.{graph_shown, same_shown}
+use Rattle.flame_tool.proofs.RunEndings.{same_shown}
 use Rattle.flame_tool.proofs.views_run.show_sources.Goals as goal
 
-pub returns-in_ok-gathered-in-Some-clause-ok : goal.returns-in_ok-gathered-in-Some-clause-ok
-returns-in_ok-gathered-in-Some-clause-ok g c = λ input files opened.
+pub returns-in_ok-run-clause-ok : goal.returns-in_ok-run-clause-ok
+returns-in_ok-run-clause-ok g c = λ input files opened.
     let plan = c.args.plan.now in
-    let gathered = c.in_ok-gathered-in-Some.gathered in
-    let text = graph_shown plan (facts_of plan.options (loaded c.args.sources.items)) (samples_of gathered.lists) gathered.order gathered.every _ c.in-Some.ensures.form c.in-Some.ensures.view in
-    ok_shown_as plan input files c.args.sources.items gathered.lists gathered.order gathered.every
-    (collected_of plan input files _ c.args.sources.items gathered.lists gathered.order gathered.every refl opened
-    (c.in_ok-gathered-in-Some.ensures.whole_lists (search rules)) c.in_ok-gathered-in-Some.ensures.order c.in_ok-gathered-in-Some.ensures.every)
-    c.send_gathered.result _ _ _ (sym text) c.send_gathered.ensures.faultless c.send_gathered.ensures.ok
-
-pub returns-in_ok-gathered-in-Some-clause-err : goal.returns-in_ok-gathered-in-Some-clause-err
-returns-in_ok-gathered-in-Some-clause-err g c = λ input files opened.
-    let plan = c.args.plan.now in
-    let gathered = c.in_ok-gathered-in-Some.gathered in
-    let text = graph_shown plan (facts_of plan.options (loaded c.args.sources.items)) (samples_of gathered.lists) gathered.order gathered.every _ c.in-Some.ensures.form c.in-Some.ensures.view in
-    err_shown_as plan input files c.args.sources.items gathered.lists gathered.order gathered.every
-    (collected_of plan input files _ c.args.sources.items gathered.lists gathered.order gathered.every refl opened
-    (c.in_ok-gathered-in-Some.ensures.whole_lists (search rules)) c.in_ok-gathered-in-Some.ensures.order c.in_ok-gathered-in-Some.ensures.every)
-    c.send_gathered.result _ _ _ (sym text) c.send_gathered.ensures.err
-
-pub returns-in_ok-run-in-None-clause-ok : goal.returns-in_ok-run-in-None-clause-ok
-returns-in_ok-run-in-None-clause-ok g c = λ input files opened.
-    let plan = c.args.plan.now in
-    let run = c.in_ok-run-in-None.run'.kept in
+    let run = c.in_ok-run.run'.kept in
     let sources = c.args.sources.items in
-    let facts : RunFacts = record { whole = c.in_ok-run-in-None.run'.whole_weight; types = c.of.result } in
-    let weighed = c.in_ok-run-in-None.ensures.whole_weight ∙ loaded_weight plan.options sources in
+    let facts : RunFacts = record { whole = c.in_ok-run.run'.whole_weight; types = c.of.result } in
+    let weighed = c.in_ok-run.ensures.whole_weight ∙ loaded_weight plan.options sources in
     let told = ap (map (source_type plan.options)) c.deref.ensures.value ∙ loaded_types plan.options sources in
-    let text = same_shown plan (facts_of plan.options (loaded sources)) facts (samples_of run.lists) run.order plan.options.every (sym weighed) (λ page is. sym (c.of.ensures ∙ c.in_ok-types-in-None.ensures page is ∙ told)) in
+    let text = same_shown plan (facts_of plan.options (loaded sources)) facts (samples_of run.lists) run.order plan.options.every (sym weighed) (λ page is. sym (c.of.ensures ∙ c.in_ok-types.ensures page is ∙ told)) in
     ok_shown_as plan input files c.args.sources.items run.lists run.order plan.options.every
     (collected_of plan input files _ c.args.sources.items run.lists run.order plan.options.every refl opened
-    c.in_ok-run-in-None.ensures.whole_lists c.in_ok-run-in-None.ensures.order refl)
+    c.in_ok-run.ensures.whole_lists c.in_ok-run.ensures.order refl)
     c.send_lists.result _ _ _ (sym text) c.send_lists.ensures.faultless c.send_lists.ensures.ok
 
-pub returns-in_ok-run-in-None-clause-err : goal.returns-in_ok-run-in-None-clause-err
-returns-in_ok-run-in-None-clause-err g c = λ input files opened.
+pub returns-in_ok-run-clause-err : goal.returns-in_ok-run-clause-err
+returns-in_ok-run-clause-err g c = λ input files opened.
     let plan = c.args.plan.now in
-    let run = c.in_ok-run-in-None.run'.kept in
+    let run = c.in_ok-run.run'.kept in
     let sources = c.args.sources.items in
-    let facts : RunFacts = record { whole = c.in_ok-run-in-None.run'.whole_weight; types = c.of.result } in
-    let weighed = c.in_ok-run-in-None.ensures.whole_weight ∙ loaded_weight plan.options sources in
+    let facts : RunFacts = record { whole = c.in_ok-run.run'.whole_weight; types = c.of.result } in
+    let weighed = c.in_ok-run.ensures.whole_weight ∙ loaded_weight plan.options sources in
     let told = ap (map (source_type plan.options)) c.deref.ensures.value ∙ loaded_types plan.options sources in
-    let text = same_shown plan (facts_of plan.options (loaded sources)) facts (samples_of run.lists) run.order plan.options.every (sym weighed) (λ page is. sym (c.of.ensures ∙ c.in_ok-types-in-None.ensures page is ∙ told)) in
+    let text = same_shown plan (facts_of plan.options (loaded sources)) facts (samples_of run.lists) run.order plan.options.every (sym weighed) (λ page is. sym (c.of.ensures ∙ c.in_ok-types.ensures page is ∙ told)) in
     err_shown_as plan input files c.args.sources.items run.lists run.order plan.options.every
     (collected_of plan input files _ c.args.sources.items run.lists run.order plan.options.every refl opened
-    c.in_ok-run-in-None.ensures.whole_lists c.in_ok-run-in-None.ensures.order refl)
+    c.in_ok-run.ensures.whole_lists c.in_ok-run.ensures.order refl)
     c.send_lists.result _ _ _ (sym text) c.send_lists.ensures.err
