@@ -287,10 +287,10 @@ all_samples-append : (xs ys : List (List Sample)) → all_samples (xs ++ ys) ≡
 all_samples-append [] ys = refl
 all_samples-append (samples ∷ xs) ys = ap (λ all. samples ++ all) (all_samples-append xs ys) ∙ sym (append_assoc samples (all_samples xs) (all_samples ys))
 
-pub all_samples-more : (lists : List ListState) (i : ℕ) (list : ListState) → i < length lists → list ≡ get_or lists i list → all_samples (samples_of (take (i + 1) lists)) ≡ all_samples (samples_of (take i lists)) ++ list.samples
-all_samples-more lists i list lt is =
-    ap (λ all. all_samples (samples_of all)) (take_more lists i list lt) ∙ ap all_samples (map-append (λ (list : ListState). list.samples) (take i lists) (get_or lists i list ∷ []))
-    ∙ all_samples-append (samples_of (take i lists)) ((get_or lists i list).samples ∷ []) ∙ ap (λ all. all_samples (samples_of (take i lists)) ++ all) (append-nil (get_or lists i list).samples ∙ ap (λ (l : ListState). l.samples) (sym is))
+pub all_samples-more : {A : Type 0} (f : A → List Sample) (all : List A) (i : ℕ) (one : A) → i < length all → one ≡ get_or all i one → all_samples (map f (take (i + 1) all)) ≡ all_samples (map f (take i all)) ++ f one
+all_samples-more f all i one lt is =
+    ap (λ front. all_samples (map f front)) (take_more all i one lt) ∙ ap all_samples (map-append f (take i all) (get_or all i one ∷ []))
+    ∙ all_samples-append (map f (take i all)) (f (get_or all i one) ∷ []) ∙ ap (λ samples. all_samples (map f (take i all)) ++ samples) (append-nil (f (get_or all i one)) ∙ ap f (sym is))
 
 -- the weight of all samples is that of all lists
 pub all_weight : (lists : List ListState) → total_weight (all_samples (samples_of lists)) ≡ sum_by (λ list. total_weight list.samples) lists

@@ -1,25 +1,18 @@
 -- The sums of the stacks that a list keeps are those of its samples.
 use Rattle.std.proofs.Common.{◌≡◌, ℕ, zero, suc, ◌+◌, ◌<◌, ◌≤◌, List, [], ◌∷◌, ◌++◌, Bool, true, false, cond, length, take, get_or, set, map, replicate, sum_by, add-one, refl, sym, ap, ◌∙◌, arith}
 use Rattle.std.specs.Ordering.{is_eq}
-use Rattle.std.proofs.lemmas.List.{map-append, get_or-map}
+use Rattle.std.proofs.lemmas.List.{map-append, get_or-map, take-map}
 use Rattle.std.proofs.lemmas.List.Sums.{sum_by-cons, sum_by-append, sum_by_more, sum_by-take-le}
 use Rattle.sample_tables.specs.declared.samples.Sample.{Sample}
 use Rattle.sample_tables.specs.Rows.{Row, row_at, sample_at, named, name_at}
+use Rattle.stack_core.specs.Ledgers.{ListState}
 use Rattle.merged_stacks.specs.Order.{stack_cmp}
 use Rattle.merged_stacks.specs.Timeline.{Stack, total_weight}
 use Rattle.merged_stacks.specs.Merged.{weighed, sum_at}
-use Rattle.merged_stacks.specs.checked.Kept.{kept_samples, HaveSameSums}
+use Rattle.merged_stacks.specs.checked.Growing.{IsSummed}
+use Rattle.merged_stacks.specs.checked.Kept.{kept_samples, HaveSameSums, picked, picked_weight, ArePicked}
 use Rattle.merged_stacks.specs.checked.Ranked.{Ranked, HasSums}
 use Rattle.merged_stacks.proofs.MergedRows.{sum_at-cons, sum_at-nil, sum_at-append}
-
--- the sums of the stacks that are picked
-abbrev pub picked : (List ℕ → Bool) → List (List ℕ) → List ℕ → ℕ
-picked g [] sums = 0
-picked g (frames ∷ stacks) [] = 0
-picked g (frames ∷ stacks) (sum ∷ sums) = cond (g frames) sum 0 + picked g stacks sums
-
-abbrev pub picked_weight : (List ℕ → Bool) → Row → ℕ
-picked_weight g row = cond (g row.frames) row.weight 0
 
 split : (b : Bool) (x y n m : ℕ) → cond b (x + y) 0 + n ≡ (cond b x 0 + n) + cond b y 0
 split true x y n m = omega arith
@@ -44,10 +37,6 @@ picked_none g (frames ∷ stacks) (sum ∷ sums) h =
     empty : (b : Bool) (n : ℕ) → n ≡ 0 → cond b n 0 ≡ 0
     empty true n e = e
     empty false n e = refl
-
--- the sums so far are those of the rows so far
-abbrev pub ArePicked : List (List ℕ) → List ℕ → List Row → Type 0
-ArePicked stacks sums rows = (g : List ℕ → Bool) → picked g stacks sums ≡ sum_by (picked_weight g) rows
 
 pub zero_at : (n k : ℕ) → get_or {A = ℕ} (replicate n 0) k 0 ≡ 0
 zero_at zero k = refl
@@ -101,6 +90,11 @@ kept_same told stacks sums rows samples is h = record {
   sums = λ q. kept_sum told stacks sums q ∙ h (λ frames. is_eq (stack_cmp q (map (name_at told) frames))) ∙ sym (named_sum told rows q) ∙ ap (λ all. sum_at (weighed all) q) (sym is);
   total = kept_total told stacks sums ∙ h (λ _. true) ∙ sym (named_total told rows) ∙ ap total_weight (sym is);
 }
+
+-- the kept stacks have the sums of a list's first samples
+pub came_same : (list : ListState) (sums : List ℕ) (count : ℕ) → IsSummed list sums count → HaveSameSums (kept_samples list.told list.stacks sums) (take count list.samples)
+came_same list sums count h =
+    kept_same list.told list.stacks sums (take count list.rows) (take count list.samples) (ap (take count) h.samples_named ∙ take-map (named list.told) count list.rows) h.picked
 
 -- there is room for a row's weight
 pub picked_room : (told stacks : List (List ℕ)) (sums : List ℕ) (rows : List Row) (samples : List Sample) (i k w : ℕ) → samples ≡ map (named told) rows → length sums ≡ length stacks → i < length rows → w ≡ (row_at rows i).weight

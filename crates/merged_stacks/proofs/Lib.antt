@@ -1,3 +1,4 @@
+pub mod GrowingLists
 pub mod JoinedRows
 pub mod JoinedStacks
 pub mod KeptStacks

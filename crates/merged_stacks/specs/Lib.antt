@@ -1,3 +1,4 @@
+pub mod Fronts
 pub mod Merged
 pub mod Order
 pub mod Paired

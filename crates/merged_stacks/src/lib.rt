@@ -1,7 +1,10 @@
 //! Merged stacks: the samples of some lists by stack, each stack with weight once, in order.
 #![tactic(auto)]
 
+mod growing;
+mod list_sums;
 mod merged;
+mod moment_stacks;
 mod name_ranks;
 mod paired;
 mod paired_sides;
@@ -11,7 +14,9 @@ mod stack_rows;
 mod sweeps;
 mod totals;
 
+pub use growing::GrowingStacks;
 pub use merged::MergedStacks;
+pub use moment_stacks::MomentStacks;
 pub use paired::PairedStacks;
 pub use paired_sides::{PairedSide, Side};
 pub use ranked_stacks::RankedStacks;

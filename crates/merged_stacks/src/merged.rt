@@ -1,17 +1,17 @@
 //! Merged stacks: each stack with weight once, in order, with the sum of its samples.
 
-ghost use Rattle.std.specs.Prelude.{◌≡◌, ◌+◌, ◌<◌, ◌≤◌, ◌^◌, ◌++◌, ◌∷◌, ℕ, [], List, All, IfOk, OnOk, IsTrue, length, map, string_bytes};
+ghost use Rattle.std.specs.Prelude.{◌≡◌, ◌+◌, ◌<◌, ◌≤◌, ◌^◌, ◌++◌, ℕ, List, All, IfOk, OnOk, IsTrue, length, map, string_bytes};
 ghost use Rattle.sample_tables.specs.declared.samples.Sample.{Sample};
 ghost use Rattle.sample_tables.specs.declared.samples.TheConstants.{FRAME_LIMIT};
-ghost use Rattle.sample_tables.specs.Rows.{name_at, sample_at, named};
+ghost use Rattle.sample_tables.specs.Rows.{name_at, sample_at};
 ghost use Rattle.merged_stacks.specs.Timeline.{total_weight, samples_of};
 ghost use Rattle.merged_stacks.specs.Merged.{weighed, all_samples, merged_samples, are_in_order};
 ghost use Rattle.merged_stacks.specs.Order.{AreRising};
 ghost use Rattle.merged_stacks.specs.RankedStacks.{ranked_samples, NamesEachRank};
 ghost use Rattle.merged_stacks.specs.checked.Ranks.{all_told};
 ghost use Rattle.merged_stacks.specs.checked.Ranked.{HasSums, IsNamedBy};
-ghost use Rattle.merged_stacks.specs.checked.Kept.{kept_samples, HaveSameSums};
 
+use crate::list_sums::ListSums;
 use crate::name_ranks::NameRanks;
 use crate::ranked_rows::RankedRows;
 use crate::ranked_stacks::RankedStacks;
@@ -67,11 +67,8 @@ impl MergedStacks {
     pub fn total(&self) -> u64
         ensures { result ≡ total_weight self.now }
     {
-        let mut total: u64 = 0;
-        for at in 0..self.len() {
-            total += self.weight(at);
-        }
-        total
+        let _names = &self.names;
+        self.rows.total()
     }
 
     /// The sum of the samples of stack `at`.
@@ -168,42 +165,9 @@ pub(crate) fn add_list(
         → IsNamedBy names ranks.now list.now.told → HasSums names samples rows.old
         → HasSums names (samples ++ list.now.samples) rows.new) }
 {
-    let sums = stack_sums(alloc, list)?;
-    for number in 0..list.stack_count() {
-        add_row(rows, list.stack(number), ranks, sums[number])?;
+    let mut sums = ListSums::of(alloc, list)?;
+    for _at in 0..list.len() {
+        sums.take();
     }
-    Ok(())
-}
-
-/// For each stack that the list keeps the sum of its samples.
-fn stack_sums(alloc: Global, list: &SourceList) -> Result<Vec<u64>, AllocError>
-    requires { total_weight list.now.samples < 2 ^ 64 }
-    ensures len { IfOk result (λ sums. length sums.items ≡ length list.now.stacks) }
-    ensures sums { IfOk result (λ sums.
-        HaveSameSums (kept_samples list.now.told list.now.stacks sums.items) list.now.samples) }
-{
-    let mut sums: Vec<u64> = vec![in alloc; 0; list.stack_count()]?;
-    for at in 0..list.len() {
-        sums[list.stack_number(at)] += list.weight(at);
-    }
-    Ok(sums)
-}
-
-/// Appends the samples of one stack, unless they weigh nothing.
-fn add_row(
-    rows: &mut RankedRows,
-    numbers: &[u32],
-    ranks: &[u32],
-    weight: u64,
-) -> Result<(), AllocError>
-    requires depth { length numbers.now ≤ FRAME_LIMIT }
-    requires known { All (λ number. number < length ranks.now) numbers.now }
-    ensures { OnOk result ((names told : List (List ℕ)) (samples : List Sample)
-        → IsNamedBy names ranks.now told → HasSums names samples rows.old
-        → HasSums names (samples ++ named told (record { frames = numbers.now; weight = weight }) ∷ []) rows.new) }
-{
-    if weight == 0 {
-        return Ok(());
-    }
-    rows.push(numbers, ranks, weight)
+    sums.add_to(rows, ranks)
 }

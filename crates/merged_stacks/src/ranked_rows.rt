@@ -87,6 +87,18 @@ impl RankedRows {
         self.rows[at].weight
     }
 
+    /// The sum of all weights.
+    pub(crate) fn total(&self) -> u64
+        requires { sum_by (λ row. row.1) self.now < 2 ^ 64 }
+        ensures { result ≡ sum_by (λ row. row.1) self.now }
+    {
+        let mut total: u64 = 0;
+        for at in 0..self.len() {
+            total += self.weight(at);
+        }
+        total
+    }
+
     /// The rows in the order of their ranks, those of the same ranks as one.
     pub(crate) fn merged(self, alloc: Global) -> Result<RankedRows, AllocError>
         requires { sum_by (λ row. row.1) self < 2 ^ 64 }

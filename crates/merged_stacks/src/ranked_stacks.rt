@@ -2,9 +2,11 @@
 
 ghost use Rattle.std.specs.Prelude.{◌≡◌, ◌<◌, length, map, string_bytes};
 ghost use Rattle.sample_tables.specs.Rows.{name_at, row_at};
-ghost use Rattle.merged_stacks.specs.checked.Ranked.{ranking_of};
+ghost use Rattle.merged_stacks.specs.RankedStacks.{ranked_samples};
+ghost use Rattle.merged_stacks.specs.checked.Ranked.{ranking_of, AreMerged};
 
 use crate::ranked_rows::RankedRows;
+use crate::stack_rows::StackRows;
 use std::marker::Model;
 
 /// The merged stacks that `MergedStacks::by_rank` lends, by the ranks of their names: a name's rank is
@@ -18,15 +20,18 @@ pub struct RankedStacks<'a> {
 impl<'a> Model for RankedStacks<'a> {
     ghost use Rattle.std.specs.Prelude.{map, string_bytes};
     ghost use Rattle.merged_stacks.specs.RankedStacks.{Ranking};
-    ghost use Rattle.merged_stacks.specs.checked.Ranked.{ranking_of};
+    ghost use Rattle.merged_stacks.specs.checked.Ranked.{ranking_of, AreMerged};
 
     ghost Value = { Ranking };
 
     ghost view = { λ r. ranking_of (map string_bytes r.names.now) r.rows.now };
+
+    ghost invariant = { λ r. AreMerged (map string_bytes r.names.now) r.rows.now };
 }
 
 impl<'a> RankedStacks<'a> {
     pub(crate) fn over(names: &'a [String], rows: &'a RankedRows) -> Self
+        requires { AreMerged (map string_bytes names.now) rows.now }
         ensures { result ≡ ranking_of (map string_bytes names.now) rows.now }
     {
         RankedStacks { names, rows }
@@ -69,5 +74,36 @@ impl<'a> RankedStacks<'a> {
         ensures { result.now ≡ (row_at self.now.rows at).frames }
     {
         self.rows.ranks(at)
+    }
+}
+
+/// The ranks stand for the names, and no two names are the same.
+impl<'a> StackRows for RankedStacks<'a> {
+    ghost samples = { λ ranked. ranked_samples ranked };
+
+    fn len(&self) -> usize {
+        RankedStacks::len(self)
+    }
+
+    fn weight(&self, at: usize) -> u64 {
+        RankedStacks::weight(self, at)
+    }
+
+    fn depth(&self, at: usize) -> usize {
+        let _names = self.names;
+        let ranks = self.rows.ranks(at);
+        ranks.len()
+    }
+
+    fn name(&self, at: usize, frame: usize) -> &str {
+        let rank = self.rows.ranks(at)[frame];
+        self.names[rank as usize].as_str()
+    }
+
+    fn is_same_name(&self, at: usize, later: usize, frame: usize) -> bool {
+        let _names = self.names;
+        let one = self.rows.ranks(at);
+        let other = self.rows.ranks(later);
+        one[frame] == other[frame]
     }
 }

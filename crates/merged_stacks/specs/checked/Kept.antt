@@ -1,7 +1,7 @@
 -- The stacks that a list keeps, each as one sample with the sum of its samples.
-use Rattle.std.specs.Prelude.{◌≡◌, ℕ, List, [], ◌∷◌}
+use Rattle.std.specs.Prelude.{◌≡◌, ℕ, ◌+◌, Bool, cond, List, [], ◌∷◌, sum_by}
 use Rattle.sample_tables.specs.declared.samples.Sample.{Sample}
-use Rattle.sample_tables.specs.Rows.{named}
+use Rattle.sample_tables.specs.Rows.{Row, named}
 use Rattle.merged_stacks.specs.Timeline.{Stack, total_weight}
 use Rattle.merged_stacks.specs.Merged.{weighed, sum_at}
 
@@ -14,3 +14,16 @@ kept_samples told (frames ∷ stacks) (sum ∷ sums) = named told (record { fram
 pub record HaveSameSums (one other : List Sample) : Type 0 where
   pub sums : (stack : Stack) → sum_at (weighed one) stack ≡ sum_at (weighed other) stack
   pub total : total_weight one ≡ total_weight other
+
+-- the sums of the stacks that are picked
+abbrev pub picked : (List ℕ → Bool) → List (List ℕ) → List ℕ → ℕ
+picked g [] sums = 0
+picked g (frames ∷ stacks) [] = 0
+picked g (frames ∷ stacks) (sum ∷ sums) = cond (g frames) sum 0 + picked g stacks sums
+
+abbrev pub picked_weight : (List ℕ → Bool) → Row → ℕ
+picked_weight g row = cond (g row.frames) row.weight 0
+
+-- the sums so far are those of the rows so far
+abbrev pub ArePicked : List (List ℕ) → List ℕ → List Row → Type 0
+ArePicked stacks sums rows = (g : List ℕ → Bool) → picked g stacks sums ≡ sum_by (picked_weight g) rows

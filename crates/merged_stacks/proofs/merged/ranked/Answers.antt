@@ -1,4 +1,5 @@
 use Rattle.std.proofs.Common.{◌≡◌, ◌∙◌, ◌+◌, sym, ap, subst, length, take, drop, arith, length-drop, length-append}
+use Rattle.stack_core.specs.Ledgers.{ListState}
 use Rattle.merged_stacks.specs.Timeline.{samples_of}
 use Rattle.merged_stacks.specs.Merged.{all_samples}
 use Rattle.merged_stacks.specs.checked.Ranks.{all_told}
@@ -22,7 +23,7 @@ loop-list-preserved c =
           subst (λ ranks. IsNamedBy names ranks rest) (sym others)
           (named_rest names c.loop-list.rest.now list.told rest (subst (IsNamedBy names c.loop-list.rest.now) more (c.loop-list.invariant.named names by)));
       sums = λ names by.
-          subst (λ samples. HasSums names samples c.add_list.new.rows) (sym (all_samples-more lists i list (omega arith) c.list-item.is))
+          subst (λ samples. HasSums names samples c.add_list.new.rows) (sym (all_samples-more (λ (list : ListState). list.samples) lists i list (omega arith) c.list-item.is))
           (c.in_ok-add_list.ensures names (all_samples (samples_of (take i lists)))
           (subst (λ ranks. IsNamedBy names ranks list.told) (sym own) (named_front names c.loop-list.rest.now list.told rest (subst (IsNamedBy names c.loop-list.rest.now) more (c.loop-list.invariant.named names by))))
           (c.loop-list.invariant.sums names by));

@@ -4,7 +4,7 @@ use Rattle.std.proofs.lemmas.Result.{on_ok_weaker}
 use Rattle.sample_tables.specs.Rows.{name_at, named}
 use Rattle.merged_stacks.specs.checked.Ranked.{HasSums}
 use Rattle.merged_stacks.proofs.JoinedStacks.{sums_same, sums_more, ranked_stack, ranked_below}
-use Rattle.merged_stacks.proofs.merged.add_row.Goals as goal
+use Rattle.merged_stacks.proofs.list_sums.add_row.Goals as goal
 
 pub returns-then-weight-eq0 : goal.returns-then-weight-eq0
 returns-then-weight-eq0 c names told samples by sums = sums_same names samples c.args.rows.now sums _ c.if-weight-eq0.true

@@ -1,0 +1,123 @@
+//! The sums of the stacks that a list keeps, as its samples come one after another.
+
+ghost use Rattle.std.specs.Prelude.{◌≡◌, ◌+◌, ◌<◌, ◌≤◌, ◌^◌, ◌++◌, ◌∷◌, ℕ, [], List, All, IfOk, OnOk, length};
+ghost use Rattle.sample_tables.specs.declared.samples.Sample.{Sample};
+ghost use Rattle.sample_tables.specs.declared.samples.TheConstants.{FRAME_LIMIT};
+ghost use Rattle.sample_tables.specs.Rows.{named};
+ghost use Rattle.merged_stacks.specs.Timeline.{total_weight};
+ghost use Rattle.merged_stacks.specs.checked.Growing.{not_begun, came};
+ghost use Rattle.merged_stacks.specs.checked.Kept.{kept_samples};
+ghost use Rattle.merged_stacks.specs.checked.Ranked.{HasSums, IsNamedBy};
+
+use crate::ranked_rows::RankedRows;
+use stack_core::SourceList;
+use std::alloc::{AllocError, Global};
+use std::marker::Model;
+
+/// For each stack that a list keeps the sum of those of its samples that came. Contracts see the list,
+/// and how many samples came.
+#[derive(Drop)]
+pub(crate) struct ListSums<'a> {
+    list: &'a SourceList,
+    sums: Vec<u64>,
+    count: u64,
+}
+
+impl<'a> Model for ListSums<'a> {
+    ghost use Rattle.merged_stacks.specs.checked.Growing.{ListFront, IsSummed};
+
+    ghost Value = { ListFront };
+
+    ghost view = { λ s. record { list = s.list.now; count = s.count } };
+
+    ghost invariant = { λ s. IsSummed s.list.now s.sums.items s.count };
+}
+
+impl<'a> ListSums<'a> {
+    /// Of this list nothing came yet.
+    pub(crate) fn of(alloc: Global, list: &'a SourceList) -> Result<ListSums<'a>, AllocError>
+        requires { total_weight list.now.samples < 2 ^ 64 }
+        ensures { IfOk result (λ front. front ≡ not_begun list.now) }
+    {
+        let _count = list.len();
+        let sums = vec![in alloc; 0; list.stack_count()]?;
+        Ok(ListSums {
+            list,
+            sums,
+            count: 0,
+        })
+    }
+
+    /// The next sample of the list comes.
+    pub(crate) fn take(&mut self)
+        requires { self.old.count < length self.old.list.samples }
+        ensures { self.new ≡ record self.old { count = self.old.count + 1 } }
+    {
+        let list = self.list;
+        let at = self.count as usize;
+        self.sums[list.stack_number(at)] += list.weight(at);
+        self.count += 1;
+    }
+
+    /// How many samples came.
+    pub(crate) fn count(&self) -> u64
+        ensures { result ≡ self.now.count }
+    {
+        self.count
+    }
+
+    /// How many names the list was told.
+    pub(crate) fn told(&self) -> usize
+        ensures { result ≡ length self.now.list.told }
+    {
+        self.list.told()
+    }
+
+    /// Appends the samples that came, by the ranks of the list's told names.
+    pub(crate) fn add_to(&self, rows: &mut RankedRows, ranks: &[u32]) -> Result<(), AllocError>
+        requires { length ranks.now ≡ length self.now.list.told }
+        ensures { OnOk result ((names : List (List ℕ)) (samples : List Sample)
+            → IsNamedBy names ranks.now self.now.list.told → HasSums names samples rows.old
+            → HasSums names (samples ++ came self.now) rows.new) }
+    {
+        add_sums(rows, self.list, ranks, &self.sums)
+    }
+}
+
+/// Appends the stacks of a list, each with its sum.
+fn add_sums(
+    rows: &mut RankedRows,
+    list: &SourceList,
+    ranks: &[u32],
+    sums: &[u64],
+) -> Result<(), AllocError>
+    requires ranks { length ranks.now ≡ length list.now.told }
+    requires sums { length sums.now ≡ length list.now.stacks }
+    ensures { OnOk result ((names : List (List ℕ)) (samples : List Sample)
+        → IsNamedBy names ranks.now list.now.told → HasSums names samples rows.old
+        → HasSums names (samples ++ kept_samples list.now.told list.now.stacks sums.now) rows.new) }
+{
+    for number in 0..list.stack_count() {
+        add_row(rows, list.stack(number), ranks, sums[number])?;
+    }
+    Ok(())
+}
+
+/// Appends the samples of one stack, unless they weigh nothing.
+fn add_row(
+    rows: &mut RankedRows,
+    numbers: &[u32],
+    ranks: &[u32],
+    weight: u64,
+) -> Result<(), AllocError>
+    requires depth { length numbers.now ≤ FRAME_LIMIT }
+    requires known { All (λ number. number < length ranks.now) numbers.now }
+    ensures { OnOk result ((names told : List (List ℕ)) (samples : List Sample)
+        → IsNamedBy names ranks.now told → HasSums names samples rows.old
+        → HasSums names (samples ++ named told (record { frames = numbers.now; weight = weight }) ∷ []) rows.new) }
+{
+    if weight == 0 {
+        return Ok(());
+    }
+    rows.push(numbers, ranks, weight)
+}
