@@ -1,11 +1,12 @@
 //! The flame graph.
 
-ghost use Rattle.std.specs.Prelude.{◌≡◌, ◌<◌, ◌≤◌, ◌+◌, ◌^◌, ℕ, [], List, All, IfOk, length, map};
+ghost use Rattle.std.specs.Prelude.{◌≡◌, ◌<◌, ◌≤◌, ◌+◌, ◌^◌, ℕ, [], List, All, IfOk, IsTrue, length, map};
 ghost use Rattle.sample_tables.specs.declared.samples.Sample.{Sample};
 ghost use Rattle.call_tree.specs.CallTree.{total_weight};
 ghost use Rattle.call_tree.specs.Listing.{HasNumbersOf};
 ghost use Rattle.flame_layout.specs.Boxes.{span_of};
 ghost use Rattle.merged_stacks.specs.Timeline.{total_weight as total_of_samples};
+ghost use Rattle.merged_stacks.specs.Merged.{weighed, are_in_order};
 ghost use Rattle.flame_layout.specs.Graph.{graph_of};
 ghost use Rattle.flame_layout.specs.checked.Listed.{listed_box, listed_boxes};
 ghost use Rattle.flame_layout.specs.Paths.{SameOwn, tree_samples};
@@ -15,7 +16,7 @@ use crate::charts::{end, enter_list};
 use crate::flame_boxes::span_boxes;
 use crate::walks::Walk;
 use call_tree::{CallTree, FrameTable, Visit};
-use merged_stacks::MergedStacks;
+use merged_stacks::{MergedStacks, StackRows};
 use std::alloc::{AllocError, Global};
 
 /// The boxes of the flame graph of a merged tree, listed by start, then depth. They are those of
@@ -88,11 +89,31 @@ pub fn draw_merged<'a>(
 {
     // The stacks are in order and weigh: the count tells it.
     let _count = merged.len();
+    draw_ordered(alloc, merged, merged.total())
+}
+
+/// The boxes of the flame graph of stacks in order, each with weight and once, that weigh `total` together,
+/// listed by start, then depth, with names that the stacks lend. They are those of every list of samples whose
+/// weights, summed up by stack, are theirs.
+pub fn draw_ordered<'a, S: StackRows>(
+    alloc: Global,
+    stacks: &'a S,
+    total: u64,
+) -> Result<Vec<DrawnBox<'a>>, AllocError>
+    requires in_order { IsTrue (are_in_order (weighed (S.samples stacks.now))) }
+    requires positive { All (λ sample. 0 < sample.weight) (S.samples stacks.now) }
+    requires total { total_of_samples (S.samples stacks.now) ≡ total }
+    ensures graph { IfOk result (λ boxes. (samples : List Sample)
+        → SameOwn samples (S.samples stacks.now) → map span_of boxes.items ≡ graph_of samples) }
+    ensures within { IfOk result (λ boxes.
+        All (λ drawn. drawn.start + drawn.weight ≤ total) boxes.items) }
+    ensures positive { IfOk result (λ boxes. 0 < length boxes.items → 0 < total) }
+{
     let mut walk = Walk {
         runs: Vec::new(alloc),
         boxes: Vec::new(alloc),
     };
-    enter_list(&mut walk, merged.total(), merged)?;
+    enter_list(&mut walk, total, stacks)?;
     end(walk)
 }
 

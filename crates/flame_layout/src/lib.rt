@@ -15,7 +15,7 @@ pub use boxes::{ComparedBox, DrawnBox, DrawnPair, PairRow, PlacedBox, SpanBox};
 pub use charts::{chart_boxes, draw_chart};
 pub use comparisons::{compare, compared_boxes, draw_comparison, draw_paired};
 pub use flame_boxes::FlameBox;
-pub use graphs::{draw_merged, draw_tree, graph_boxes, merged_boxes};
+pub use graphs::{draw_merged, draw_ordered, draw_tree, graph_boxes, merged_boxes};
 pub use image::{edges, place};
 pub use merged_stacks::{MergedStacks, total_weight};
 pub use run_options::{MAX_WIDTH, Width};

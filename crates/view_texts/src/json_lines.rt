@@ -86,6 +86,23 @@ pub fn drawn_comparison_line<'a>(
     )
 }
 
+/// The line of a snapshot, as `append_snapshot_line` appends it, of boxes whose names are lent.
+pub fn drawn_snapshot_line<'a>(
+    at: u64,
+    counts: &'a [u64],
+    boxes: &'a [DrawnBox<'a>],
+    scale: Scale,
+) -> JsonLine<'a, DrawnBox<'a>>
+    requires within { All (λ drawn. drawn.start + drawn.weight ≤ scale.total) boxes.now }
+    requires positive { 0 < length boxes.now → 0 < scale.total }
+    ensures text { concat (⟦<JsonLine<'a, DrawnBox<'a>> as Pieces>⟧.pieces result)
+        ≡ snapshot_line at counts.now scale.total scale.width (map span_of boxes.now) }
+    ensures few { length (⟦<JsonLine<'a, DrawnBox<'a>> as Pieces>⟧.pieces result) < 2 ^ 64 }
+{
+    let _count = boxes.len();
+    JsonLine::of(LineKind::Snapshot { at }, "snapshot", counts, boxes, scale)
+}
+
 /// Appends the line of a picture: the name of its view, as `graph` or `chart`, and its boxes in their
 /// order, in an image of that scale. An `Err` changes nothing.
 pub fn append_boxes_line(

@@ -23,7 +23,7 @@ pub use json_boxes::JsonBox;
 pub use json_line::JsonLine;
 pub use json_lines::{
     append_boxes_line, append_pair_boxes_line, append_snapshot_line, comparison_line,
-    drawn_comparison_line, drawn_line, picture_line,
+    drawn_comparison_line, drawn_line, drawn_snapshot_line, picture_line,
 };
 pub use merged_lines::{FoldedText, append_merged_text};
 pub use pair_lines::{PairsText, append_pairs_text};
