@@ -1,5 +1,5 @@
 -- Lists of which some samples came, and their counts.
-use Rattle.std.proofs.Common.{◌≡◌, ℕ, zero, suc, ◌+◌, ◌<◌, ◌≤◌, List, [], ◌∷◌, length, get_or, map, replicate, set, refl, sym, ap, ◌∙◌, arith}
+use Rattle.std.proofs.Common.{◌≡◌, ℕ, zero, suc, ◌<◌, ◌≤◌, List, [], ◌∷◌, length, get_or, map, replicate, set, refl, sym, ap, ◌∙◌, arith}
 use Rattle.std.proofs.lemmas.List.{get_or-map, length-map, map-set}
 use Rattle.std.proofs.lemmas.List.Sums.{sum_by-append, sum_by-take-le}
 use Rattle.sample_tables.specs.declared.samples.Sample.{Sample}

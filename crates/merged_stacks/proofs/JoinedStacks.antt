@@ -1,5 +1,5 @@
 -- Joined rows, by their names, are the merged stacks.
-use Rattle.std.proofs.Common.{◌≡◌, ℕ, zero, suc, ◌+◌, ◌<◌, ◌≤◌, ◌^◌, List, [], ◌∷◌, ◌++◌, Bool, true, false, true≢false, cond, ◌&&◌, nat_eq, length, map, take, drop, get_or, slice_index, All, sum_by, Some, None, T, refl, sym, ap, ◌∙◌, subst, arith, is_lt, IsPermutation}
+use Rattle.std.proofs.Common.{◌≡◌, ℕ, zero, suc, ◌+◌, ◌<◌, ◌≤◌, ◌^◌, List, [], ◌∷◌, ◌++◌, Bool, true, false, true≢false, cond, ◌&&◌, nat_eq, length, map, take, drop, get_or, slice_index, All, sum_by, Some, None, T, IsTrue, refl, sym, ap, ◌∙◌, subst, arith, is_lt, IsPermutation}
 use Rattle.std.specs.Prelude.{unwrap_or}
 use Rattle.std.specs.List.{AllByRecursion}
 use Rattle.std.specs.Ordering.{nat_cmp, is_eq, ordering_then, ordering_reverse}
@@ -190,6 +190,19 @@ samples_total names [] = refl
 samples_total names (row ∷ rows) =
     sum_by-cons (λ (sample : Sample). sample.weight) (sample_of names row) (map (sample_of names) rows) ∙ ap (λ n. row.1 + n) (samples_total names rows) ∙ sym (sum_by-cons (λ (row : Ranked). row.1) row rows)
 
+-- merged rows as their samples, which callers see
+module _ (names : List (List ℕ)) (rows : List Ranked) (all : List Sample) (seen : map (sample_of names) rows ≡ all) where
+  pub seen_in_order : AreMerged names rows → IsTrue (are_in_order (weighed all))
+  seen_in_order h = ap (λ samples. are_in_order (weighed samples)) (sym seen) ∙ ap are_in_order (weighed_rows names rows) ∙ h.ordered
+
+  pub seen_positive : AreMerged names rows → All (λ (sample : Sample). 0 < sample.weight) all
+  seen_positive h =
+      subst (λ (samples : List Sample). All (λ sample. 0 < sample.weight) samples) seen
+      (All-from_recursion (λ (sample : Sample). 0 < sample.weight) (map (sample_of names) rows) (samples_positive names rows h.each))
+
+  pub seen_total : total_weight all ≡ sum_by (λ (row : Ranked). row.1) rows
+  seen_total = ap total_weight (sym seen) ∙ samples_total names rows
+
 unweighed : (names : List (List ℕ)) (rows : List Ranked) → map (λ (row : Weighed). (let s : Sample = record { stack = row.0; weight = row.1 } in s)) (named_rows names rows) ≡ map (sample_of names) rows
 unweighed names [] = refl
 unweighed names (row ∷ rows) = ap (λ all. sample_of names row ∷ all) (unweighed names rows)
@@ -327,6 +340,18 @@ names_distinct names rising r s lr ls e = by (nat_cmp r s) refl
     by Equal h = ranked r s Equal h
     by Greater h = let no : Greater ≡ Equal = h ∙ sym (names_rise names rising r s lr ls) ∙ same in cc
 
+-- the ranks of a stack that callers see
+pub stack_named : (names : List (List ℕ)) (rows : List Ranked) (all : List Sample) (at : ℕ) (ranks : List ℕ) → map (sample_of names) rows ≡ all → at < length all → ranks ≡ (get_or rows at ([], 0)).0
+    → (sample_at all at).stack ≡ map (name_at names) ranks
+stack_named names rows all at ranks view lt is =
+    let within : at < length rows = omega (arith, ap length view, length-map rows (sample_of names)) in
+    let here : sample_at all at ≡ sample_of names (get_or rows at ([], 0)) =
+    ap (λ xs. sample_at xs at) (sym view) ∙ get_or-map (sample_of names) rows at ([], 0) (record { stack = []; weight = 0 }) within in
+    ap (λ (s : Sample). s.stack) here ∙ ap (map (name_at names)) (sym is)
+
+pub ranked_at : (names : List (List ℕ)) (rows : List Ranked) (all : List Sample) (at : ℕ) → AllByRecursion (IsRankedStack names) rows → map (sample_of names) rows ≡ all → at < length all → IsRankedStack names (get_or rows at ([], 0))
+ranked_at names rows all at each view lt = All-from_recursion (IsRankedStack names) rows each at ([], 0) (omega (arith, ap length view, length-map rows (sample_of names)))
+
 -- the name of a frame, by its rank
 pub record IsNamedFrame (names : List (List ℕ)) (all : List Sample) (at frame rank : ℕ) : Type 0 where
   pub name : name_at (sample_at all at).stack frame ≡ name_at names rank
@@ -335,13 +360,9 @@ pub record IsNamedFrame (names : List (List ℕ)) (all : List Sample) (at frame 
 pub named_frame : (names : List (List ℕ)) (rows : List Ranked) (all : List Sample) (at frame : ℕ) (ranks : List ℕ) → AllByRecursion (IsRankedStack names) rows → map (sample_of names) rows ≡ all → at < length all
     → ranks ≡ (get_or rows at ([], 0)).0 → frame < length (sample_at all at).stack → IsNamedFrame names all at frame (get_or ranks frame 0)
 named_frame names rows all at frame ranks each view lt is deep =
-    let row = get_or rows at ([], 0) in
-    let within : at < length rows = omega (arith, ap length view, length-map rows (sample_of names)) in
-    let here : sample_at all at ≡ sample_of names row = ap (λ xs. sample_at xs at) (sym view) ∙ get_or-map (sample_of names) rows at ([], 0) (record { stack = []; weight = 0 }) within in
-    let stack : (sample_at all at).stack ≡ map (name_at names) ranks = ap (λ (s : Sample). s.stack) here ∙ ap (map (name_at names)) (sym is) in
+    let stack : (sample_at all at).stack ≡ map (name_at names) ranks = stack_named names rows all at ranks view lt is in
     let inside : frame < length ranks = omega (arith, deep, ap length stack, length-map ranks (name_at names)) in
-    let row_is : IsRankedStack names row = All-from_recursion (IsRankedStack names) rows each at ([], 0) within in
     record {
       name = ap (λ xs. name_at xs frame) stack ∙ get_or-map (name_at names) ranks frame 0 [] inside;
-      below = subst (λ xs. All (λ rank. rank < length names) xs) (sym is) row_is.below frame 0 inside;
+      below = subst (λ xs. All (λ rank. rank < length names) xs) (sym is) (ranked_at names rows all at each view lt).below frame 0 inside;
     }

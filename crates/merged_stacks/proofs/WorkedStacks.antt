@@ -2,6 +2,7 @@
 use Rattle.std.proofs.Common.{◌≡◌, ℕ, List, [], ◌∷◌, codes, refl}
 use Rattle.sample_tables.specs.declared.samples.Sample.{Sample}
 use Rattle.merged_stacks.specs.declared.paired_sides.Side.TheVariants.{Before, After}
+use Rattle.merged_stacks.specs.Fronts.{fronts}
 use Rattle.merged_stacks.specs.Timeline.{Stack}
 use Rattle.merged_stacks.specs.Merged.{sum_at, stacks_of, merged, merged_samples}
 use Rattle.merged_stacks.specs.RankedStacks.{ranked_samples}
@@ -47,3 +48,7 @@ stacks_before = refl
 stacks_after : side_samples After both ≡ taken (a ∷ b ∷ []) 1 ∷ taken (b ∷ []) 0 ∷ taken (b ∷ a ∷ []) 2 ∷ []
 unfolding sum_at stacks_of merged
 stacks_after = refl
+
+-- of each list its first samples, and none of one of which nothing came
+fronts_of_lists : fronts ((taken (a ∷ []) 1 ∷ taken (b ∷ []) 2 ∷ []) ∷ (taken (b ∷ []) 3 ∷ []) ∷ []) (1 ∷ 0 ∷ []) ≡ (taken (a ∷ []) 1 ∷ []) ∷ [] ∷ []
+fronts_of_lists = refl

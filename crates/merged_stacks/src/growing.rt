@@ -102,11 +102,7 @@ fn parts_of<'a>(alloc: Global, lists: &'a [SourceList]) -> Result<Vec<ListSums<'
 }
 
 /// The samples that came of all lists, by the ranks of their names.
-fn came_rows(
-    alloc: Global,
-    parts: &[ListSums<'_>],
-    ranks: &[u32],
-) -> Result<RankedRows, AllocError>
+fn came_rows(alloc: Global, parts: &[ListSums<'_>], ranks: &[u32]) -> Result<RankedRows, AllocError>
     requires { length ranks.now ≡ length (all_told (lists_in parts.now)) }
     ensures { IfOk result (λ rows. (names : List (List ℕ))
         → IsNamedBy names ranks.now (all_told (lists_in parts.now))

@@ -1,7 +1,7 @@
 //! Merged stacks by the ranks of their names.
 
 ghost use Rattle.std.specs.Prelude.{◌≡◌, ◌<◌, length, map, string_bytes};
-ghost use Rattle.sample_tables.specs.Rows.{name_at, row_at};
+ghost use Rattle.sample_tables.specs.Rows.{name_at, row_at, sample_at};
 ghost use Rattle.merged_stacks.specs.RankedStacks.{ranked_samples};
 ghost use Rattle.merged_stacks.specs.checked.Ranked.{ranking_of, AreMerged};
 
@@ -75,9 +75,21 @@ impl<'a> RankedStacks<'a> {
     {
         self.rows.ranks(at)
     }
+
+    /// The rank of the name of a frame of stack `at`.
+    fn rank(&self, at: usize, frame: usize) -> u32
+        requires at { at < length (ranked_samples self.now) }
+        requires deep { frame < length (sample_at (ranked_samples self.now) at).stack }
+        ensures known { result < length self.now.names }
+        ensures name { name_at self.now.names result
+            ≡ name_at (sample_at (ranked_samples self.now) at).stack frame }
+    {
+        let _names = self.names;
+        let ranks = self.rows.ranks(at);
+        ranks[frame]
+    }
 }
 
-/// The ranks stand for the names, and no two names are the same.
 impl<'a> StackRows for RankedStacks<'a> {
     ghost samples = { λ ranked. ranked_samples ranked };
 
@@ -96,14 +108,12 @@ impl<'a> StackRows for RankedStacks<'a> {
     }
 
     fn name(&self, at: usize, frame: usize) -> &str {
-        let rank = self.rows.ranks(at)[frame];
-        self.names[rank as usize].as_str()
+        RankedStacks::name(self, self.rank(at, frame) as usize)
     }
 
+    /// No two names are the same, so their ranks tell.
     fn is_same_name(&self, at: usize, later: usize, frame: usize) -> bool {
         let _names = self.names;
-        let one = self.rows.ranks(at);
-        let other = self.rows.ranks(later);
-        one[frame] == other[frame]
+        self.rank(at, frame) == self.rank(later, frame)
     }
 }

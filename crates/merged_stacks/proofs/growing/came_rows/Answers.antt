@@ -1,4 +1,4 @@
-use Rattle.std.proofs.Common.{◌≡◌, ◌∙◌, ◌+◌, ◌<◌, ◌++◌, sym, ap, subst, length, map, take, drop, arith, length-drop, length-append}
+use Rattle.std.proofs.Common.{◌≡◌, ◌∙◌, ◌+◌, ◌<◌, sym, ap, subst, length, map, take, drop, arith, length-drop, length-append}
 use Rattle.std.proofs.lemmas.List.{length-map}
 use Rattle.merged_stacks.specs.Merged.{all_samples}
 use Rattle.merged_stacks.specs.checked.Growing.{ListFront, came, lists_in}

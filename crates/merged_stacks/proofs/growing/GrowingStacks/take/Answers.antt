@@ -4,7 +4,7 @@ use Rattle.stack_core.specs.Interleaving.{list_of}
 use Rattle.merged_stacks.specs.Fronts.{GrowingState}
 use Rattle.merged_stacks.specs.Timeline.{total_weight, samples_of}
 use Rattle.merged_stacks.specs.Merged.{all_samples}
-use Rattle.merged_stacks.specs.checked.Growing.{ListFront, lists_in}
+use Rattle.merged_stacks.specs.checked.Growing.{ListFront}
 use Rattle.merged_stacks.specs.checked.Ranks.{all_told, AreRanks}
 use Rattle.merged_stacks.proofs.GrowingLists.{lists_count, count_at, samples_in, lists_same, count_set}
 use Rattle.merged_stacks.proofs.growing.GrowingStacks.take.Goals as goal

@@ -2,9 +2,12 @@ use Rattle.std.proofs.Common.{◌∙◌, ◌<◌, All, ap, sym, subst, map, stri
 use Rattle.std.proofs.lemmas.List.Elements.{All-from_recursion}
 use Rattle.sample_tables.specs.Rows.{Row}
 use Rattle.merged_stacks.specs.RankedStacks.{ranked_samples, NamesEachRank}
-use Rattle.merged_stacks.specs.checked.Ranked.{lent_row, ranking_of}
+use Rattle.merged_stacks.specs.checked.Ranked.{lent_row, ranking_of, AreMerged}
 use Rattle.merged_stacks.proofs.LentStacks.{lent_samples, lent_known}
 use Rattle.merged_stacks.proofs.merged.MergedStacks.by_rank.Goals as goal
+
+pub over-requires : goal.over-requires
+over-requires c = subst (λ all. AreMerged (map string_bytes all) c.self.inside.rows) (sym c.deref.ensures.value) c.self.invariant
 
 pub returns-clause-samples : goal.returns-clause-samples
 returns-clause-samples c =
