@@ -65,15 +65,21 @@ pub(crate) fn show_views<T: Threads + Wait + Copy + Send + 'static, F: Files, W:
     shown
 }
 
-// The snapshots that are asked for: the width of their graph, and after how many samples more there is one. The
-// text of each other view is the same in whatever order the samples came.
-fn asked_snapshots(view: View, every: Option<u64>) -> Option<(Width, u64)>
-    ensures some { IfSome result (λ asked. view ≡ View.Graph asked.0) }
-    ensures every { IfSome result (λ asked. every ≡ Some asked.1) }
+// The snapshots of a graph: its width, and after how many samples more there is one.
+#[derive(Clone, Copy)]
+struct AskedSnapshots {
+    width: Width,
+    every: u64,
+}
+
+// The snapshots that are asked for. The text of each other view is the same in whatever order the samples came.
+fn asked_snapshots(view: View, every: Option<u64>) -> Option<AskedSnapshots>
+    ensures some { IfSome result (λ asked. view ≡ View.Graph asked.width) }
+    ensures every { IfSome result (λ asked. every ≡ Some asked.every) }
     ensures none { IsNone result → IsOrderless view every }
 {
     match view {
-        View::Graph(width) => every.map(|every| (width, every)),
+        View::Graph(width) => every.map(|every| AskedSnapshots { width, every }),
         View::Fold | View::Chart(_) | View::Pairs | View::PairBoxes(_) | View::Top(_) => None,
     }
 }
@@ -172,7 +178,7 @@ fn send_view<W: Outlet>(
         result }
 {
     match asked_snapshots(plan.view, plan.options.every) {
-        Some((width, every)) => send_snapshots(alloc, run, width, every, out),
+        Some(asked) => send_snapshots(alloc, run, asked.width, asked.every, out),
         None => send_asked_view(alloc, run, plan, facts, out),
     }
 }

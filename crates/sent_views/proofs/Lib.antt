@@ -1,3 +1,3 @@
 pub mod PageLemmas
-mod SnapshotLines
+pub mod SnapshotLines
 mod WorkedPages

@@ -1,24 +1,30 @@
 -- The lines of snapshots one after another, as the samples come.
-use Rattle.std.proofs.Common.{◌≡◌, ◌∙◌, ◌+◌, ◌<◌, ◌≤◌, ◌++◌, ◌∷◌, [], ℕ, List, append-nil, append_assoc, ap, arith, cond, get_or, length, map, refl, sym, subst, take, drop, take-append-drop}
+use Rattle.std.proofs.Common.{◌≡◌, ◌∙◌, ◌+◌, ◌-◌, ◌<◌, ◌≤◌, ◌++◌, ◌∷◌, [], ℕ, suc, zero, List, append-nil, append_assoc, ap, arith, cond, get_or, length, map, refl, set, sym, subst, take, drop, take-append-drop}
 use Rattle.std.proofs.Math.Seq.{take-append_seam}
 use Rattle.std.proofs.KnownBytes.{Appends-nil, Appends-trans}
 use Rattle.std.proofs.lemmas.Grind.{flat_map-append}
-use Rattle.std.proofs.lemmas.List.{ext_get_or}
+use Rattle.std.proofs.lemmas.List.{ext_get_or, length-set, take_more}
 use Rattle.std.proofs.lemmas.List.FromFn.{get_or-map-range_with_len, length-map-range_with_len}
 use Rattle.std.specs.Io.KnownBytes.{Appends}
 use Rattle.std.specs.List.{flat_map, range_with_len}
 use Rattle.std.specs.Prelude.{Bool, true, false, Option, Some}
 use Rattle.byte_io.specs.Pieces.{AppendsFront}
 use Rattle.flame_layout.specs.Graph.{graph_of}
+use Rattle.flame_layout.specs.Paths.{SameOwn}
+use Rattle.flame_layout.specs.declared.boxes.SpanBox.{SpanBox}
+use Rattle.flame_layout.proofs.MergedSums.{merged_own}
+use Rattle.merged_stacks.specs.Merged.{merged_samples}
 use Rattle.merged_stacks.specs.Timeline.{total_weight}
 use Rattle.view_texts.specs.Json.{snapshot_line}
 use Rattle.sample_tables.specs.declared.samples.Sample.{Sample}
-use Rattle.stack_core.specs.Interleaving.{counts_at, list_of}
+use Rattle.stack_core.specs.Interleaving.{IsInterleaving, count_of, counts_at, list_of}
 use Rattle.merged_stacks.specs.Fronts.{GrowingState, fronts}
 use Rattle.merging.specs.Snapshots.{first_lists, snapshot_places}
 use Rattle.merging.specs.Sums.{all_samples}
 use Rattle.merging.specs.checked.Merging.{is_due}
 use Rattle.merging.proofs.SnapshotLemmas.{places-push}
+use Rattle.source_lists.proofs.OrderLemmas.{counted_more, next_within}
+use Rattle.source_views.proofs.TextLemmas.{same_weight}
 use Rattle.source_views.specs.Texts.{all_counts, snapshot_line_at, snapshot_lines}
 use Rattle.sent_views.specs.checked.Moments.{due_line, moment_line}
 
@@ -28,6 +34,23 @@ use Rattle.sent_views.specs.checked.Moments.{due_line, moment_line}
 pub record AreCounted (counts : List ℕ) (m : ℕ) (order : List ℕ) (lists : List (List Sample)) : Type 0 where
   pub count : length counts ≡ length lists
   pub each : (source : ℕ) → source < length lists → get_or counts source 0 ≡ counts_at m order source
+
+-- one sample more came
+pub counted_next : (counts new : List ℕ) (m source : ℕ) (order : List ℕ) (lists : List (List Sample)) → IsInterleaving order lists → m < length order → source ≡ get_or order m 0
+    → new ≡ set counts source (get_or counts source 0 + 1) → AreCounted counts m order lists → AreCounted new (m + 1) order lists
+counted_next counts new m source order lists ordered within is more h = record {
+  count = ap length more ∙ length-set counts source (get_or counts source 0 + 1) ∙ h.count;
+  each = λ other below_lists.
+      ap (λ all. get_or all other 0) more
+      ∙ counted_more (take m order) counts source (get_or counts source 0 + 1) (omega (arith, below, h.count)) here (ap (λ n. n + 1) here) other (h.each other below_lists)
+      ∙ ap (λ item. count_of other (take m order ++ item ∷ [])) is ∙ ap (count_of other) (sym (take_more order m 0 within));
+}
+  where
+    below : source < length lists
+    below = (next_within order lists m source ordered within is).0
+
+    here : get_or counts source 0 ≡ count_of source (take m order)
+    here = h.each source below
 
 counted_all : (counts : List ℕ) (m : ℕ) (order : List ℕ) (lists : List (List Sample)) → AreCounted counts m order lists → counts ≡ all_counts m order lists
 counted_all counts m order lists h =
@@ -64,6 +87,16 @@ moment_is_snapshot width m growing order lists same counted =
     line : List ℕ → List (List Sample) → List ℕ
     line counts firsts = snapshot_line m counts (total_weight (all_samples firsts)) width (graph_of (all_samples firsts))
 
+-- the parts of the line of what came so far
+pub moment_text : (width at total : ℕ) (growing : GrowingState) (counts : List ℕ) (moment stacks : List Sample) (boxes : List SpanBox) → moment ≡ merged_samples (all_samples (fronts growing.lists growing.counts)) → stacks ≡ moment
+    → counts ≡ growing.counts → total ≡ total_weight moment → ((samples : List Sample) → SameOwn samples stacks → boxes ≡ graph_of samples) → snapshot_line at counts total width boxes ≡ moment_line width at growing
+moment_text width at total growing counts moment stacks boxes merged ranked counted weighed drawn =
+    let samples = all_samples (fronts growing.lists growing.counts) in
+    let own = subst (λ (all : List Sample). SameOwn samples all) (sym merged) (merged_own samples) in
+    let weight = weighed ∙ sym (same_weight samples moment own) in
+    let boxed = drawn samples (subst (λ (all : List Sample). SameOwn samples all) (sym ranked) own) in
+    λ i. snapshot_line at (counted i) (weight i) width (boxed i)
+
 -- ---- the lines so far
 
 -- the lines of the snapshots of the first n samples
@@ -82,13 +115,12 @@ later_line width every n lists order some =
     ∙ flat_map-append (snapshot_line_at width order lists) (snapshot_places (Some every) n) (cond (is_due (Some every) (n + 1)) ((n + 1) ∷ []) [])
 
 -- one sample more, and the line that is due then
-pub lines_more : (width every n m : ℕ) (growing : GrowingState) (lists : List (List Sample)) (order : List ℕ) → 1 ≤ every → m ≡ n + 1 → growing.lists ≡ lists → AreCounted growing.counts m order lists
-    → lines_upto width every lists order n ++ due_line width every m growing ≡ lines_upto width every lists order m
+pub lines_more : (width every n m : ℕ) (growing : GrowingState) (lists : List (List Sample)) (order : List ℕ) → 1 ≤ every → m ≡ n + 1 → growing.lists ≡ lists → AreCounted growing.counts (n + 1) order lists
+    → lines_upto width every lists order n ++ due_line width every m growing ≡ lines_upto width every lists order (n + 1)
 lines_more width every n m growing lists order some next same counted =
-    let line = due_is_snapshot width every m growing order lists (is_due (Some every) m) (moment_is_snapshot width m growing order lists same counted) in
-    ap (λ text. lines_upto width every lists order n ++ text) line
-    ∙ ap (λ k. lines_upto width every lists order n ++ flat_map (snapshot_line_at width order lists) (cond (is_due (Some every) k) (k ∷ []) [])) next
-    ∙ sym (later_line width every n lists order some) ∙ ap (lines_upto width every lists order) (sym next)
+    let line = due_is_snapshot width every (n + 1) growing order lists (is_due (Some every) (n + 1)) (moment_is_snapshot width (n + 1) growing order lists same counted) in
+    ap (λ k. lines_upto width every lists order n ++ due_line width every k growing) next
+    ∙ ap (λ text. lines_upto width every lists order n ++ text) line ∙ sym (later_line width every n lists order some)
 
 -- the lines so far are a front of those of more samples
 lines_before : (width every n more : ℕ) (lists : List (List Sample)) (order : List ℕ) → 1 ≤ every
@@ -122,10 +154,10 @@ pub front_of_nothing : (text : List ℕ) (out : Option (List ℕ)) → AppendsFr
 front_of_nothing text out = (0, Appends-nil out)
 
 -- the lines so far, and a front of the one that is due, are a front of all lines
-pub lines_front : (width every n m end : ℕ) (growing : GrowingState) (lists : List (List Sample)) (order : List ℕ) (old mid new : Option (List ℕ)) → 1 ≤ every → m ≡ n + 1 → m ≤ end → growing.lists ≡ lists
-    → AreCounted growing.counts m order lists → Appends old mid (lines_upto width every lists order n) → AppendsFront (due_line width every m growing) mid new → AppendsFront (lines_upto width every lists order end) old new
+pub lines_front : (width every n m end : ℕ) (growing : GrowingState) (lists : List (List Sample)) (order : List ℕ) (old mid new : Option (List ℕ)) → 1 ≤ every → m ≡ n + 1 → n < end → growing.lists ≡ lists
+    → AreCounted growing.counts (n + 1) order lists → Appends old mid (lines_upto width every lists order n) → AppendsFront (due_line width every m growing) mid new → AppendsFront (lines_upto width every lists order end) old new
 lines_front width every n m end growing lists order old mid new some next within same counted sent gone =
-    let later = lines_before width every m (end - m) lists order some in
+    let later = lines_before width every (n + 1) (end - (n + 1)) lists order some in
     let whole : lines_upto width every lists order end ≡ (lines_upto width every lists order n ++ due_line width every m growing) ++ later.0 =
     ap (lines_upto width every lists order) (omega arith) ∙ later.1 ∙ ap (λ text. text ++ later.0) (sym (lines_more width every n m growing lists order some next same counted)) in
     subst (λ text. AppendsFront text old new) (sym whole)

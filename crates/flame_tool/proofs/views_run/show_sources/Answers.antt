@@ -7,8 +7,8 @@ use Rattle.flame_tool.proofs.KnownSources.{collected_of, loaded, loaded_types, l
 use Rattle.flame_tool.proofs.RunEndings.{same_shown}
 use Rattle.flame_tool.proofs.views_run.show_sources.Goals as goal
 
-pub returns-in_ok-run-clause-ok : goal.returns-in_ok-run-clause-ok
-returns-in_ok-run-clause-ok g c = λ input files opened.
+pub returns-clause-ok : goal.returns-clause-ok
+returns-clause-ok g c = λ input files opened.
     let plan = c.args.plan.now in
     let run = c.in_ok-run.run'.kept in
     let sources = c.args.sources.items in
@@ -21,8 +21,8 @@ returns-in_ok-run-clause-ok g c = λ input files opened.
     c.in_ok-run.ensures.whole_lists c.in_ok-run.ensures.order refl)
     c.send_lists.result _ _ _ (sym text) c.send_lists.ensures.faultless c.send_lists.ensures.ok
 
-pub returns-in_ok-run-clause-err : goal.returns-in_ok-run-clause-err
-returns-in_ok-run-clause-err g c = λ input files opened.
+pub returns-clause-err : goal.returns-clause-err
+returns-clause-err g c = λ input files opened.
     let plan = c.args.plan.now in
     let run = c.in_ok-run.run'.kept in
     let sources = c.args.sources.items in
