@@ -35,19 +35,28 @@ pub record AreCounted (counts : List ℕ) (m : ℕ) (order : List ℕ) (lists : 
   pub count : length counts ≡ length lists
   pub each : (source : ℕ) → source < length lists → get_or counts source 0 ≡ counts_at m order source
 
+-- the next sample of an order, as it is lent, stands in its list
+pub next_lent : (order lent : List ℕ) (m : ℕ) (lists : List (List Sample)) → IsInterleaving order lists → lent ≡ order → m < length lent
+    → (get_or lent m 0 < length lists) × (count_of (get_or lent m 0) (take m order) < length (list_of lists (get_or lent m 0)))
+next_lent order lent m lists ordered same within =
+    next_within order lists m (get_or lent m 0) ordered (omega (arith, within, ap length same)) (ap (λ (all : List ℕ). get_or all m 0) same)
+
 -- one sample more came
-pub counted_next : (counts new : List ℕ) (m source : ℕ) (order : List ℕ) (lists : List (List Sample)) → IsInterleaving order lists → m < length order → source ≡ get_or order m 0
-    → new ≡ set counts source (get_or counts source 0 + 1) → AreCounted counts m order lists → AreCounted new (m + 1) order lists
-counted_next counts new m source order lists ordered within is more h = record {
+pub counted_next : (counts new : List ℕ) (m : ℕ) (order lent : List ℕ) (lists : List (List Sample)) → IsInterleaving order lists → lent ≡ order → m < length lent
+    → new ≡ set counts (get_or lent m 0) (get_or counts (get_or lent m 0) 0 + 1) → AreCounted counts m order lists → AreCounted new (m + 1) order lists
+counted_next counts new m order lent lists ordered same within more h = record {
   count = ap length more ∙ length-set counts source (get_or counts source 0 + 1) ∙ h.count;
   each = λ other below_lists.
       ap (λ all. get_or all other 0) more
       ∙ counted_more (take m order) counts source (get_or counts source 0 + 1) (omega (arith, below, h.count)) here (ap (λ n. n + 1) here) other (h.each other below_lists)
-      ∙ ap (λ item. count_of other (take m order ++ item ∷ [])) is ∙ ap (count_of other) (sym (take_more order m 0 within));
+      ∙ ap (λ all. count_of other (take m order ++ get_or all m 0 ∷ [])) same ∙ ap (count_of other) (sym (take_more order m 0 (omega (arith, within, ap length same))));
 }
   where
+    source : ℕ
+    source = get_or lent m 0
+
     below : source < length lists
-    below = (next_within order lists m source ordered within is).0
+    below = (next_lent order lent m lists ordered same within).0
 
     here : get_or counts source 0 ≡ count_of source (take m order)
     here = h.each source below

@@ -1,58 +1,49 @@
-use Rattle.std.proofs.Common.{◌≡◌, ◌∙◌, ◌<◌, ◌+◌, ap, arith, get_or, length, rules, subst, List, ℕ}
+use Rattle.std.proofs.Common.{◌≡◌, ◌∙◌, ◌+◌, ap, arith, get_or, length, rules, subst, List, ℕ}
 use Rattle.std.proofs.KnownBytes.{Appends-trans}
 use Rattle.std.specs.Io.KnownBytes.{Appends}
 use Rattle.sample_tables.specs.declared.samples.Sample.{Sample}
 use Rattle.stack_core.specs.Interleaving.{list_of}
 use Rattle.byte_io.proofs.PieceTexts.{on_err}
 use Rattle.merged_stacks.specs.Timeline.{samples_of}
-use Rattle.source_lists.proofs.OrderLemmas.{next_within}
 use Rattle.sent_views.specs.checked.Moments.{due_line}
-use Rattle.sent_views.proofs.SnapshotLines.{counted_next, lines_front, lines_more, lines_upto}
+use Rattle.sent_views.proofs.SnapshotLines.{counted_next, lines_front, lines_more, lines_upto, next_lent}
 use Rattle.sent_views.proofs.sent_snapshots.send_moments.Goals as goal
 
 pub take-requires-clause-source : goal.take-requires-clause-source
 take-requires-clause-source g c =
     let run = c.args.sources.now in
-    let order = c.order-source-items.ensures.order in
-    let p = c.loop-source.source-index in
-    let source = get_or c.order-source-items.result.now p 0 in
-    let within : p < length run.order = omega (arith, ap length order) in
-    let next = next_within run.order (samples_of run.lists) p source c.order-source-items.ensures.ordered within (ap (λ (all : List ℕ). get_or all p 0) order) in
+    let lent = c.order-source-items.ensures in
+    let next = next_lent run.order c.order-source-items.result.now c.loop-source.source-index (samples_of run.lists) lent.ordered lent.order (omega arith) in
     omega (arith, next.0, ap length c.loop-source.invariant.lists)
 
 pub take-requires-clause-more : goal.take-requires-clause-more
 take-requires-clause-more g c =
     let run = c.args.sources.now in
-    let order = c.order-source-items.ensures.order in
-    let p = c.loop-source.source-index in
-    let source = get_or c.order-source-items.result.now p 0 in
-    let within : p < length run.order = omega (arith, ap length order) in
-    let next = next_within run.order (samples_of run.lists) p source c.order-source-items.ensures.ordered within (ap (λ (all : List ℕ). get_or all p 0) order) in
+    let lent = c.order-source-items.ensures in
+    let source = get_or c.order-source-items.result.now c.loop-source.source-index 0 in
+    let next = next_lent run.order c.order-source-items.result.now c.loop-source.source-index (samples_of run.lists) lent.ordered lent.order (omega arith) in
     omega (arith, next.1, c.loop-source.invariant.counted.each source next.0, ap (λ (lists : List (List Sample)). length (list_of lists source)) c.loop-source.invariant.lists)
 
 pub returns-in_err-send_due-clause-front : goal.returns-in_err-send_due-clause-front
 returns-in_err-send_due-clause-front g c =
     let run = c.args.sources.now in
     let lists = samples_of run.lists in
-    let order = c.order-source-items.ensures.order in
+    let lent = c.order-source-items.ensures in
     let p = c.loop-source.source-index in
-    let source = get_or c.order-source-items.result.now p 0 in
-    let within : p < length run.order = omega (arith, ap length order) in
-    let counted = counted_next c.loop-source.growing.counts c.take.new.self.counts p source run.order lists c.order-source-items.ensures.ordered within (ap (λ (all : List ℕ). get_or all p 0) order) c.take.ensures.counts c.loop-source.invariant.counted in
     on_err c.from_residual-in_err-send_due.result
-    (lines_front c.args.width c.args.every p (c.loop-source.at + 1) (length run.order) c.take.new.self lists run.order _ _ _ c.requires (ap (λ n. n + 1) c.loop-source.invariant.moment) within
-    (c.take.ensures.lists ∙ c.loop-source.invariant.lists) counted c.loop-source.invariant.sent c.in_err-send_due.ensures.front)
+    (lines_front c.args.width c.args.every p (c.loop-source.at + 1) (length run.order) c.take.new.self lists run.order _ _ _ c.requires (ap (λ n. n + 1) c.loop-source.invariant.moment) (omega (arith, ap length lent.order))
+    (c.take.ensures.lists ∙ c.loop-source.invariant.lists)
+    (counted_next c.loop-source.growing.counts c.take.new.self.counts p run.order c.order-source-items.result.now lists lent.ordered lent.order (omega arith) c.take.ensures.counts c.loop-source.invariant.counted) c.loop-source.invariant.sent
+    c.in_err-send_due.ensures.front)
 
 pub loop-source-preserved : goal.loop-source-preserved
 loop-source-preserved g c =
     let run = c.args.sources.now in
     let lists = samples_of run.lists in
-    let order = c.order-source-items.ensures.order in
+    let lent = c.order-source-items.ensures in
     let p = c.loop-source.source-index in
-    let source = get_or c.order-source-items.result.now p 0 in
-    let within : p < length run.order = omega (arith, ap length order) in
     let same = c.take.ensures.lists ∙ c.loop-source.invariant.lists in
-    let counted = counted_next c.loop-source.growing.counts c.take.new.self.counts p source run.order lists c.order-source-items.ensures.ordered within (ap (λ (all : List ℕ). get_or all p 0) order) c.take.ensures.counts c.loop-source.invariant.counted in
+    let counted = counted_next c.loop-source.growing.counts c.take.new.self.counts p run.order c.order-source-items.result.now lists lent.ordered lent.order (omega arith) c.take.ensures.counts c.loop-source.invariant.counted in
     let moment : c.loop-source.at + 1 ≡ p + 1 = ap (λ n. n + 1) c.loop-source.invariant.moment in
     record {
       lists = same;
