@@ -1,17 +1,21 @@
 -- The sums of the stacks that a list keeps are those of its samples.
-use Rattle.std.proofs.Common.{◌≡◌, ℕ, zero, suc, ◌+◌, ◌<◌, ◌≤◌, List, [], ◌∷◌, ◌++◌, Bool, true, false, cond, length, take, get_or, set, map, replicate, sum_by, add-one, refl, sym, ap, ◌∙◌, arith}
+use Rattle.std.proofs.Common.{◌≡◌, ℕ, zero, suc, ◌+◌, ◌<◌, ◌≤◌, List, [], ◌∷◌, ◌++◌, Bool, true, false, cond, length, take, get_or, set, map, replicate, sum_by, add-one, All, IsPermutation, refl, sym, ap, ◌∙◌, arith}
+use Rattle.std.specs.List.{range_with_len}
 use Rattle.std.specs.Ordering.{is_eq}
 use Rattle.std.proofs.lemmas.List.{map-append, get_or-map, take-map}
+use Rattle.std.proofs.lemmas.List.FromFn.{fill_by_all, length-range_with_len, get_or-range_with_len}
+use Rattle.std.proofs.lemmas.List.Sorted.{IsPermutation-map, sum_by-IsPermutation, All-permutation}
 use Rattle.std.proofs.lemmas.List.Sums.{sum_by-cons, sum_by-append, sum_by_more, sum_by-take-le}
 use Rattle.sample_tables.specs.declared.samples.Sample.{Sample}
 use Rattle.sample_tables.specs.Rows.{Row, row_at, sample_at, named, name_at}
 use Rattle.stack_core.specs.Ledgers.{ListState}
 use Rattle.merged_stacks.specs.Order.{stack_cmp}
 use Rattle.merged_stacks.specs.Timeline.{Stack, total_weight}
-use Rattle.merged_stacks.specs.Merged.{weighed, sum_at}
+use Rattle.merged_stacks.specs.Merged.{weighed, Weighed, sum_at}
 use Rattle.merged_stacks.specs.checked.Growing.{IsSummed}
-use Rattle.merged_stacks.specs.checked.Kept.{kept_samples, HaveSameSums, picked, picked_weight, ArePicked}
+use Rattle.merged_stacks.specs.checked.Kept.{kept_sample, kept_samples, HaveSameSums, picked, picked_weight, ArePicked}
 use Rattle.merged_stacks.specs.checked.Ranked.{Ranked, HasSums}
+use Rattle.merged_stacks.proofs.JoinedStacks.{sorted-sum_at}
 use Rattle.merged_stacks.proofs.MergedRows.{sum_at-cons, sum_at-nil, sum_at-append}
 
 split : (b : Bool) (x y n m : ℕ) → cond b (x + y) 0 + n ≡ (cond b x 0 + n) + cond b y 0
@@ -125,3 +129,36 @@ sums_of_same names samples one other rows same h = record {
   where
     both : (xs : List Sample) (q : Stack) → sum_at (weighed (samples ++ xs)) q ≡ sum_at (weighed samples) q + sum_at (weighed xs) q
     both xs q = ap (λ all. sum_at all q) (map-append (λ (sample : Sample). (sample.stack, sample.weight)) samples xs) ∙ sum_at-append (weighed samples) (weighed xs) q
+
+-- the kept stacks by their numbers
+kept_len : (told stacks : List (List ℕ)) (sums : List ℕ) → length sums ≡ length stacks → length (kept_samples told stacks sums) ≡ length stacks
+kept_len told [] sums e = refl
+kept_len told (frames ∷ stacks) [] e = absurd (omega arith)
+kept_len told (frames ∷ stacks) (sum ∷ sums) e = let rest = kept_len told stacks sums (omega arith) in omega (arith, rest)
+
+kept_at : (told stacks : List (List ℕ)) (sums : List ℕ) (k : ℕ) (d : Sample) → length sums ≡ length stacks → k < length stacks → get_or (kept_samples told stacks sums) k d ≡ kept_sample told stacks sums k
+kept_at told [] sums k d e lt = absurd (omega arith)
+kept_at told (frames ∷ stacks) [] k d e lt = absurd (omega arith)
+kept_at told (frames ∷ stacks) (sum ∷ sums) zero d e lt = refl
+kept_at told (frames ∷ stacks) (sum ∷ sums) (suc k) d e lt = kept_at told stacks sums k d (omega arith) (omega arith)
+
+-- in another order they have the same sums
+pub ordered_same : (told stacks : List (List ℕ)) (sums order : List ℕ) (samples : List Sample) → length sums ≡ length stacks → IsPermutation (range_with_len 0 (length stacks)) order
+    → HaveSameSums (kept_samples told stacks sums) samples → HaveSameSums (map (kept_sample told stacks sums) order) samples
+ordered_same told stacks sums order samples e moved same =
+    let f = kept_sample told stacks sums in
+    let numbers = range_with_len 0 (length stacks) in
+    let is : kept_samples told stacks sums ≡ map f numbers =
+    fill_by_all f (kept_samples told stacks sums) (length stacks) (record { stack = []; weight = 0 }) (kept_len told stacks sums e) (λ k lt. kept_at told stacks sums k (record { stack = []; weight = 0 }) e lt) in
+    let both : IsPermutation (map f numbers) (map f order) = IsPermutation-map f numbers order moved in
+    let weigh : Sample → Weighed = λ sample. (sample.stack, sample.weight) in
+    record {
+      sums = λ q. sorted-sum_at (weighed (map f numbers)) (weighed (map f order)) q (IsPermutation-map weigh (map f numbers) (map f order) both) ∙ ap (λ all. sum_at (weighed all) q) (sym is) ∙ same.sums q;
+      total = sum_by-IsPermutation (λ (sample : Sample). sample.weight) (map f numbers) (map f order) both ∙ ap total_weight (sym is) ∙ same.total;
+    }
+
+-- the numbers are those of stacks
+pub ordered_within : (n : ℕ) (order : List ℕ) → IsPermutation (range_with_len 0 n) order → All (λ number. number < n) order
+ordered_within n order moved =
+    All-permutation (λ number. number < n) (range_with_len 0 n) order moved
+    (λ k d lt. let within : k < n = omega (arith, lt, length-range_with_len 0 n) in omega (arith, within, get_or-range_with_len 0 n k d within))

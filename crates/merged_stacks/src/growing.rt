@@ -9,7 +9,7 @@ ghost use Rattle.merged_stacks.specs.checked.Ranks.{all_told};
 ghost use Rattle.merged_stacks.specs.checked.Ranked.{HasSums, IsNamedBy};
 ghost use Rattle.merged_stacks.specs.checked.Growing.{not_begun, came, lists_in};
 
-use crate::list_sums::ListSums;
+use crate::growing_list::GrowingList;
 use crate::moment_stacks::MomentStacks;
 use crate::name_ranks::NameRanks;
 use crate::ranked_rows::RankedRows;
@@ -18,13 +18,13 @@ use std::alloc::{AllocError, Global};
 use std::marker::Model;
 
 /// Lists whose samples come one after another, and the stacks of those that came, merged at any moment.
-/// The names of all lists are ranked once, and a sample that comes takes no memory. Contracts see the
-/// samples of each list, and how many of them came.
+/// The names of all lists are ranked once, the stacks of each list are sorted once, and a sample that
+/// comes takes no memory. Contracts see the samples of each list, and how many of them came.
 #[derive(Drop)]
 pub struct GrowingStacks<'a> {
     names: Vec<String>,
     ranks: Vec<u32>,
-    parts: Vec<ListSums<'a>>,
+    parts: Vec<GrowingList<'a>>,
     counts: Vec<u64>,
 }
 
@@ -49,7 +49,7 @@ impl<'a> GrowingStacks<'a> {
         ensures counts { IfOk result (λ growing. growing.counts ≡ replicate (length lists.now) 0) }
     {
         let NameRanks { names, ranks } = NameRanks::of(alloc, lists)?;
-        let parts = parts_of(alloc, lists)?;
+        let parts = parts_of(alloc, lists, &ranks)?;
         let counts = vec![in alloc; 0; lists.len()]?;
         Ok(GrowingStacks {
             names,
@@ -89,20 +89,32 @@ impl<'a> GrowingStacks<'a> {
     }
 }
 
-/// The lists, of which nothing came yet.
-fn parts_of<'a>(alloc: Global, lists: &'a [SourceList]) -> Result<Vec<ListSums<'a>>, AllocError>
-    requires { total_weight (all_samples (samples_of lists.now)) < 2 ^ 64 }
+/// The lists, of which nothing came yet. The ranks are those of the names that they were told.
+fn parts_of<'a>(
+    alloc: Global,
+    lists: &'a [SourceList],
+    ranks: &[u32],
+) -> Result<Vec<GrowingList<'a>>, AllocError>
+    requires total { total_weight (all_samples (samples_of lists.now)) < 2 ^ 64 }
+    requires ranks { length ranks.now ≡ length (all_told lists.now) }
     ensures { IfOk result (λ parts. parts.items ≡ map not_begun lists.now) }
 {
     let mut parts = Vec::new(alloc);
+    let mut rest = ranks;
     for list in lists {
-        parts.push(ListSums::of(alloc, list)?)?;
+        let (own, others) = rest.split_at(list.told());
+        parts.push(GrowingList::of(alloc, list, own)?)?;
+        rest = others;
     }
     Ok(parts)
 }
 
 /// The samples that came of all lists, by the ranks of their names.
-fn came_rows(alloc: Global, parts: &[ListSums<'_>], ranks: &[u32]) -> Result<RankedRows, AllocError>
+fn came_rows(
+    alloc: Global,
+    parts: &[GrowingList<'_>],
+    ranks: &[u32],
+) -> Result<RankedRows, AllocError>
     requires { length ranks.now ≡ length (all_told (lists_in parts.now)) }
     ensures { IfOk result (λ rows. (names : List (List ℕ))
         → IsNamedBy names ranks.now (all_told (lists_in parts.now))

@@ -2,6 +2,7 @@
 #![tactic(auto)]
 
 mod growing;
+mod growing_list;
 mod list_sums;
 mod merged;
 mod moment_stacks;

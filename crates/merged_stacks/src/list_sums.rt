@@ -1,12 +1,13 @@
 //! The sums of the stacks that a list keeps, as its samples come one after another.
 
-ghost use Rattle.std.specs.Prelude.{◌≡◌, ◌+◌, ◌<◌, ◌≤◌, ◌^◌, ◌++◌, ◌∷◌, ℕ, [], List, All, IfOk, OnOk, length};
+ghost use Rattle.std.specs.Prelude.{◌≡◌, ◌+◌, ◌<◌, ◌≤◌, ◌^◌, ◌++◌, ◌∷◌, ℕ, [], List, All, IfOk, OnOk, IsPermutation, length, map};
+ghost use Rattle.std.specs.List.{range_with_len};
 ghost use Rattle.sample_tables.specs.declared.samples.Sample.{Sample};
 ghost use Rattle.sample_tables.specs.declared.samples.TheConstants.{FRAME_LIMIT};
 ghost use Rattle.sample_tables.specs.Rows.{named};
 ghost use Rattle.merged_stacks.specs.Timeline.{total_weight};
 ghost use Rattle.merged_stacks.specs.checked.Growing.{not_begun, came};
-ghost use Rattle.merged_stacks.specs.checked.Kept.{kept_samples};
+ghost use Rattle.merged_stacks.specs.checked.Kept.{kept_sample, kept_samples};
 ghost use Rattle.merged_stacks.specs.checked.Ranked.{HasSums, IsNamedBy};
 
 use crate::ranked_rows::RankedRows;
@@ -82,6 +83,22 @@ impl<'a> ListSums<'a> {
     {
         add_sums(rows, self.list, ranks, &self.sums)
     }
+
+    /// Appends the samples that came, with the list's stacks in this order.
+    pub(crate) fn add_in_order(
+        &self,
+        rows: &mut RankedRows,
+        ranks: &[u32],
+        order: &[u64],
+    ) -> Result<(), AllocError>
+        requires ranks { length ranks.now ≡ length self.now.list.told }
+        requires order { IsPermutation (range_with_len 0 (length self.now.list.stacks)) order.now }
+        ensures { OnOk result ((names : List (List ℕ)) (samples : List Sample)
+            → IsNamedBy names ranks.now self.now.list.told → HasSums names samples rows.old
+            → HasSums names (samples ++ came self.now) rows.new) }
+    {
+        add_numbered(rows, self.list, ranks, &self.sums, order)
+    }
 }
 
 /// Appends the stacks of a list, each with its sum.
@@ -98,6 +115,28 @@ fn add_sums(
         → HasSums names (samples ++ kept_samples list.now.told list.now.stacks sums.now) rows.new) }
 {
     for number in 0..list.stack_count() {
+        add_row(rows, list.stack(number), ranks, sums[number])?;
+    }
+    Ok(())
+}
+
+/// Appends the stacks of these numbers, each with its sum.
+fn add_numbered(
+    rows: &mut RankedRows,
+    list: &SourceList,
+    ranks: &[u32],
+    sums: &[u64],
+    order: &[u64],
+) -> Result<(), AllocError>
+    requires ranks { length ranks.now ≡ length list.now.told }
+    requires sums { length sums.now ≡ length list.now.stacks }
+    requires order { All (λ number. number < length list.now.stacks) order.now }
+    ensures { OnOk result ((names : List (List ℕ)) (samples : List Sample)
+        → IsNamedBy names ranks.now list.now.told → HasSums names samples rows.old
+        → HasSums names (samples ++ map (kept_sample list.now.told list.now.stacks sums.now) order.now) rows.new) }
+{
+    for number in order {
+        let number = *number as usize;
         add_row(rows, list.stack(number), ranks, sums[number])?;
     }
     Ok(())

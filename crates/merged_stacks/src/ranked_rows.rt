@@ -109,6 +109,16 @@ impl RankedRows {
         let rows = joined_rows(alloc, &frames, rows)?;
         Ok(RankedRows { frames, rows })
     }
+
+    /// The weights, in the order of the ranks.
+    pub(crate) fn weights_in_order(self, alloc: Global) -> Result<Vec<u64>, AllocError>
+        ensures { IfOk result (λ weights. IsPermutation (map (λ row. row.1) self) weights.items) }
+    {
+        let RankedRows { frames, rows } = self;
+        let mut entries = entries(alloc, &frames, rows)?;
+        entries.sort_unstable();
+        weights(alloc, &entries)
+    }
 }
 
 /// Appends the ranks of the numbers.
@@ -167,6 +177,17 @@ fn entry(frames: &[u32], row: RankedRow) -> Entry<'_>
 {
     let RankedRow { start, end, weight } = row;
     (&frames[start..end], weight, start)
+}
+
+/// The weight of each entry.
+fn weights(alloc: Global, entries: &[Entry<'_>]) -> Result<Vec<u64>, AllocError>
+    ensures { IfOk result (λ weights. weights.items ≡ map (λ entry. entry.1) entries.now) }
+{
+    let mut weights = Vec::with_capacity(alloc, entries.len())?;
+    for entry in entries {
+        weights.push(entry.1)?;
+    }
+    Ok(weights)
 }
 
 /// The rows of sorted entries, neighbours of the same ranks as one.

@@ -9,8 +9,9 @@ use crate::ranked_rows::RankedRows;
 use crate::stack_rows::StackRows;
 use std::marker::Model;
 
-/// The merged stacks that `MergedStacks::by_rank` lends, by the ranks of their names: a name's rank is
-/// its place among all names. Contracts see the names, and each stack as its ranks and its weight.
+/// Merged stacks that `MergedStacks::by_rank` or `MomentStacks::by_rank` lends, by the ranks of their
+/// names: a name's rank is its place among all names. Contracts see the names, and each stack as its
+/// ranks and its weight.
 #[derive(Drop)]
 pub struct RankedStacks<'a> {
     names: &'a [String],

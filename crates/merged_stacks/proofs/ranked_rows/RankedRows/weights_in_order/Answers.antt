@@ -1,0 +1,20 @@
+use Rattle.std.proofs.Common.{◌≡◌, ◌∙◌, ◌∷◌, [], List, refl, ap, sym, map, subst, IsPermutation}
+use Rattle.std.proofs.lemmas.Result.{IfOk-weaker}
+use Rattle.std.proofs.lemmas.List.Sorted.{IsPermutation-map}
+use Rattle.merged_stacks.specs.checked.Ranked.{Ranked, Entry, ranked_rows, ranked_entry}
+use Rattle.merged_stacks.proofs.ranked_rows.RankedRows.weights_in_order.Goals as goal
+
+entry_weights : (entries : List Entry) → map (λ (entry : Entry). entry.1) entries ≡ map (λ (row : Ranked). row.1) (map ranked_entry entries)
+entry_weights [] = refl
+entry_weights (entry ∷ entries) = ap (λ weights. entry.1 ∷ weights) (entry_weights entries)
+
+pub returns : goal.returns
+returns c =
+    let weight = λ (entry : Entry). entry.1 in
+    let old = c.in_ok-entries.entries.items in
+    let new = c.sort_unstable.new.self.items in
+    let same : map weight old ≡ map (λ (row : Ranked). row.1) c.args.self = entry_weights old
+    ∙ ap (map (λ (row : Ranked). row.1)) (c.in_ok-entries.ensures.ranked ∙ ap (λ frames. ranked_rows frames c.self.inside.rows.items) c.deref.ensures.value ∙ c.self.view_is) in
+    IfOk-weaker c.weights.result _ _ (λ weights h.
+    subst (IsPermutation (map (λ (row : Ranked). row.1) c.args.self)) (sym (h ∙ ap (map weight) c.deref-2.ensures.value))
+    (subst (λ all. IsPermutation all (map weight new)) same (IsPermutation-map weight old new c.sort_unstable.ensures.permutation))) c.weights.ensures
