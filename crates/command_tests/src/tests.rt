@@ -3,6 +3,7 @@ mod examples;
 mod filters;
 mod forms;
 mod help;
+mod plans;
 mod refused;
 mod top;
 mod words;

@@ -1,16 +1,17 @@
 //! The example of the README, and the texts of faults.
 
-use super::words::{has_files, options_are_defaults, planned, width};
+use super::plans::{expect_defaults, planned, width};
 use command_line::{PlanFault, View};
 use std::alloc::Global;
 use std::test::Fail;
 
+const FILES: &[&str] = &["cpu.pprof", "disk.folded"];
+
 #[test]
 fn example_of_the_readme(rt: HostRuntime) -> Result<(), Fail> {
-    let plan = planned(rt.alloc(), "graph --width 800 cpu.pprof disk.folded")?;
-    assert!(rt; plan.view == View::Graph(width(&rt, 800)));
-    assert!(rt; options_are_defaults(&plan.options));
-    assert!(rt; has_files(&plan, &["cpu.pprof", "disk.folded"]));
+    let line = "graph --width 800 cpu.pprof disk.folded";
+    let view = View::Graph(width(&rt, 800));
+    expect_defaults(&rt, rt.alloc(), line, view, FILES)?;
     Ok(())
 }
 
@@ -30,9 +31,11 @@ fn is_its_text(alloc: Global, fault: &PlanFault) -> Result<bool, PlanFault> {
     })
 }
 
+const FAULTS: [&str; 4] = ["graph --width 0", "compare a", "--help", "fold -h"];
+
 #[test]
 fn texts_of_faults(rt: HostRuntime) -> Result<(), Fail> {
-    for line in ["graph --width 0", "compare a", "--help", "fold -h"] {
+    for line in FAULTS.as_slice() {
         assert!(rt; is_shown(rt.alloc(), line)?, "{line}");
     }
     assert!(rt; is_its_text(rt.alloc(), &PlanFault::OutOfMemory)?);

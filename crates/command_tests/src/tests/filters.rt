@@ -1,8 +1,8 @@
 //! Worked command lines with filters.
 
-use super::forms::is_refused;
-use super::help::helps;
-use super::words::{are, planned};
+use super::forms::are_refused;
+use super::help::show_help;
+use super::plans::{are, planned};
 use command_line::{Plan, PlanFault};
 use std::alloc::Global;
 use std::process::Abort;
@@ -19,35 +19,29 @@ fn expect_filtered(rt: &impl Abort, alloc: Global, line: &str) -> Result<(), Pla
     Ok(())
 }
 
+const FILTERED: [&str; 4] = [
+    "fold --focus b --hide=c --focus a",
+    "graph --focus b --hide=c --focus a",
+    "chart --focus b --hide=c --focus a",
+    "compare a b --focus b --hide=c --focus a",
+];
+
 #[test]
 fn filters_of_each_command(rt: HostRuntime) -> Result<(), Fail> {
-    for line in [
-        "fold --focus b --hide=c --focus a",
-        "graph --focus b --hide=c --focus a",
-        "chart --focus b --hide=c --focus a",
-        "compare a b --focus b --hide=c --focus a",
-    ] {
+    for line in FILTERED.as_slice() {
         expect_filtered(&rt, rt.alloc(), line)?;
     }
     Ok(())
 }
 
 #[test]
-fn refused_filters(rt: HostRuntime) -> Result<(), Fail> {
-    for line in ["fold --focus", "graph --focus=", "compare a b --hide="] {
-        assert!(rt; is_refused(rt.alloc(), line, "error: "), "{line}");
-    }
-    Ok(())
+fn refused_filters(rt: HostRuntime) {
+    let lines = ["fold --focus", "graph --focus=", "compare a b --hide="];
+    are_refused(&rt, rt.alloc(), &lines);
 }
 
 #[test]
-fn filters_have_a_heading(rt: HostRuntime) -> Result<(), Fail> {
-    assert!(rt;
-        helps(
-            rt.alloc(),
-            "fold --help",
-            "\nFilters:\n      --focus <NAME> "
-        )
-    );
-    Ok(())
+fn filters_have_a_heading(rt: HostRuntime) {
+    let heading = ("fold --help", "\nFilters:\n      --focus <NAME> ");
+    show_help(&rt, rt.alloc(), &[heading]);
 }

@@ -1,41 +1,49 @@
 //! Worked command lines of what a run writes: pages, and sample types; and of runs that show no progress.
 
-use super::words::{has_files, options_are_defaults, planned};
+use super::plans::{has_defaults, has_files, is_format, is_view, planned, width};
 use command_line::{Form, Plan, PlanFault, View};
 use run_options::Format;
+use stack_core::Text;
 use std::alloc::Global;
 use std::process::Abort;
 use std::test::Fail;
 
-// The words are refused, with a text that begins so and tells how to get help.
-pub(crate) fn is_refused(alloc: Global, line: &str, told: &str) -> bool {
+// The words are refused, with a text that begins so, has this part, and tells how to get help.
+pub(crate) fn is_refused(alloc: Global, line: &str, told: &str, part: &str) -> bool {
     match planned(alloc, line) {
-        Err(PlanFault::Words(text)) => is_refusal(text.as_str(), told),
+        Err(PlanFault::Words(text)) => is_refusal(text.as_str(), told, part),
         _ => false,
     }
 }
 
-fn is_refusal(text: &str, told: &str) -> bool {
-    text.starts_with(told) && text.ends_with("try '--help'.\n")
+fn is_refusal(text: &str, told: &str, part: &str) -> bool {
+    text.starts_with(told) && text.contains(part) && text.ends_with("try '--help'.\n")
 }
 
-// What a form is, in words.
-fn is_page(form: &Form, title: Option<&str>, least: Option<u64>) -> bool {
-    match form {
-        Form::Page(page) => {
-            let is_titled = match (&page.title, title) {
-                (Some(text), Some(title)) => text.get() == title,
-                (None, None) => true,
-                _ => false,
-            };
-            is_titled && page.least == least
-        }
+// Each line is refused.
+pub(crate) fn are_refused(rt: &impl Abort, alloc: Global, lines: &[&str]) {
+    for line in lines {
+        assert!(rt; is_refused(alloc, line, "error: ", ""), "{line}");
+    }
+}
+
+fn is_titled(found: &Option<Text>, title: Option<&str>) -> bool {
+    match found {
+        Some(text) => title == Some(text.get()),
+        None => title.is_none(),
+    }
+}
+
+// Whether a page is planned, with this title and this least weight.
+fn is_page(plan: &Plan, title: Option<&str>, least: Option<u64>) -> bool {
+    match &plan.form {
+        Form::Page(page) => page.least == least && is_titled(&page.title, title),
         Form::Text | Form::Types => false,
     }
 }
 
 fn is_loud_text(plan: &Plan) -> bool {
-    matches!(plan.form, Form::Text) && !plan.is_quiet
+    !plan.is_quiet && matches!(&plan.form, Form::Text)
 }
 
 fn expect_loud_text(rt: &impl Abort, alloc: Global, line: &str) -> Result<(), PlanFault> {
@@ -44,32 +52,37 @@ fn expect_loud_text(rt: &impl Abort, alloc: Global, line: &str) -> Result<(), Pl
     Ok(())
 }
 
+const COMMANDS: [&str; 5] = ["fold", "graph", "chart", "compare a b", "top"];
+
 #[test]
 fn texts_unless_a_page_is_asked_for(rt: HostRuntime) -> Result<(), Fail> {
-    for line in ["fold", "graph", "chart", "compare a b", "top"] {
+    for line in COMMANDS.as_slice() {
         expect_loud_text(&rt, rt.alloc(), line)?;
     }
     Ok(())
 }
 
+fn is_quiet(plan: &Plan) -> bool {
+    plan.is_quiet && has_defaults(plan)
+}
+
 fn expect_quiet(rt: &impl Abort, alloc: Global, line: &str) -> Result<(), PlanFault> {
     let plan = planned(alloc, line)?;
-    assert!(rt;
-        plan.is_quiet && options_are_defaults(&plan.options),
-        "{line}"
-    );
+    assert!(rt; is_quiet(&plan), "{line}");
     Ok(())
 }
 
+const QUIET: [&str; 5] = [
+    "fold --quiet",
+    "graph --quiet",
+    "chart --quiet",
+    "compare a b --quiet",
+    "top --quiet",
+];
+
 #[test]
 fn quiet_runs(rt: HostRuntime) -> Result<(), Fail> {
-    for line in [
-        "fold --quiet",
-        "graph --quiet",
-        "chart --quiet",
-        "compare a b --quiet",
-        "top --quiet",
-    ] {
+    for line in QUIET.as_slice() {
         expect_quiet(&rt, rt.alloc(), line)?;
     }
     Ok(())
@@ -83,55 +96,59 @@ fn expect_page(
     least: Option<u64>,
 ) -> Result<(), PlanFault> {
     let plan = planned(alloc, line)?;
-    assert!(rt; is_page(&plan.form, title, least), "{line}");
+    assert!(rt; is_page(&plan, title, least), "{line}");
     Ok(())
 }
+
+const PAGES: [(&str, Option<&str>, Option<u64>); 5] = [
+    ("graph --page", None, None),
+    ("graph --page --title t", Some("t"), None),
+    ("chart x --least 7 --page", None, Some(7)),
+    ("chart --title=t=u --least=0 --page", Some("t=u"), Some(0)),
+    (
+        "compare a b --page --least 18446744073709551615",
+        None,
+        Some(u64::MAX),
+    ),
+];
 
 #[test]
 fn pages(rt: HostRuntime) -> Result<(), Fail> {
-    let pages = [
-        ("graph --page", None, None),
-        ("graph --page --title t", Some("t"), None),
-        ("chart x --least 7 --page", None, Some(7)),
-        ("chart --title=t=u --least=0 --page", Some("t=u"), Some(0)),
-        (
-            "compare a b --page --least 18446744073709551615",
-            None,
-            Some(u64::MAX),
-        ),
-    ];
-    for (line, title, least) in pages {
-        expect_page(&rt, rt.alloc(), line, title, least)?;
+    for (line, title, least) in PAGES.as_slice() {
+        expect_page(&rt, rt.alloc(), line, *title, *least)?;
     }
     Ok(())
 }
 
-fn is_page_of_boxes(plan: &Plan, pixels: u32) -> bool {
-    match plan.view {
-        View::PairBoxes(width) => width.get() == pixels && is_page(&plan.form, None, None),
-        _ => false,
-    }
+fn is_page_of_boxes(plan: &Plan, view: View) -> bool {
+    is_view(plan, view) && is_page(plan, None, None)
 }
 
-fn expect_boxes(rt: &impl Abort, alloc: Global, line: &str) -> Result<(), PlanFault> {
+fn expect_boxes(rt: &impl Abort, alloc: Global, line: &str, view: View) -> Result<(), PlanFault> {
     let plan = planned(alloc, line)?;
-    assert!(rt; is_page_of_boxes(&plan, 9), "{line}");
+    assert!(rt; is_page_of_boxes(&plan, view), "{line}");
     Ok(())
 }
 
 #[test]
 fn pages_of_comparisons_show_boxes(rt: HostRuntime) -> Result<(), Fail> {
-    expect_boxes(&rt, rt.alloc(), "compare --page --width 9 a b")?;
-    expect_boxes(&rt, rt.alloc(), "compare --page --boxes --width 9 a b")?;
+    let width = width(&rt, 9);
+    let plain = "compare --page --width 9 a b";
+    let boxes = "compare --page --boxes --width 9 a b";
+    expect_boxes(&rt, rt.alloc(), plain, View::PairBoxes(width))?;
+    expect_boxes(&rt, rt.alloc(), boxes, View::PairBoxes(width))?;
     Ok(())
 }
 
+fn are_loud_types(plan: &Plan) -> bool {
+    !plan.is_quiet && matches!(&plan.form, Form::Types)
+}
+
 fn is_of_types(plan: &Plan, file: &str) -> bool {
-    matches!(plan.form, Form::Types)
-        && plan.format == Some(Format::Pprof)
-        && options_are_defaults(&plan.options)
+    are_loud_types(plan)
+        && is_format(plan, Some(Format::Pprof))
+        && has_defaults(plan)
         && has_files(plan, &[file])
-        && !plan.is_quiet
 }
 
 fn expect_types(rt: &impl Abort, alloc: Global, line: &str, file: &str) -> Result<(), PlanFault> {
@@ -148,34 +165,31 @@ fn sample_types_of_a_file(rt: HostRuntime) -> Result<(), Fail> {
     Ok(())
 }
 
+const REFUSED: [&str; 15] = [
+    "graph --title t",
+    "chart --least 5",
+    "compare a b --title t --least 5",
+    "graph --page --title",
+    "graph --page --title=",
+    "graph --page --least -1",
+    "graph --page --least 18446744073709551616",
+    "graph --page --page",
+    "fold --page",
+    "top --page",
+    "fold --quiet --quiet",
+    "types",
+    "types a b",
+    "types a --quiet",
+    "types a --format pprof",
+];
+
 #[test]
-fn refused_forms(rt: HostRuntime) -> Result<(), Fail> {
-    let lines = [
-        "graph --title t",
-        "chart --least 5",
-        "compare a b --title t --least 5",
-        "graph --page --title",
-        "graph --page --title=",
-        "graph --page --least -1",
-        "graph --page --least 18446744073709551616",
-        "graph --page --page",
-        "fold --page",
-        "top --page",
-        "fold --quiet --quiet",
-        "types",
-        "types a b",
-        "types a --quiet",
-        "types a --format pprof",
-    ];
-    for line in lines {
-        assert!(rt; is_refused(rt.alloc(), line, "error: "), "{line}");
-    }
-    Ok(())
+fn refused_forms(rt: HostRuntime) {
+    are_refused(&rt, rt.alloc(), &REFUSED);
 }
 
 #[test]
-fn text_of_a_title_without_a_page(rt: HostRuntime) -> Result<(), Fail> {
+fn text_of_a_title_without_a_page(rt: HostRuntime) {
     let told = "error: the following required arguments were not provided:\n  --page\n";
-    assert!(rt; is_refused(rt.alloc(), "graph --title t", told));
-    Ok(())
+    assert!(rt; is_refused(rt.alloc(), "graph --title t", told, ""));
 }

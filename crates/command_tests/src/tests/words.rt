@@ -1,72 +1,16 @@
 //! Worked command lines.
 
-use command_line::{Plan, PlanFault, View, plan};
-use run_options::{Format, Naming, Options, Pick, Width};
-use stack_core::Names;
+use super::plans::{
+    NOTHING, Set, expect_defaults, has_defaults, has_files, has_options, is_format, is_view,
+    planned, width,
+};
+use command_line::{Plan, PlanFault, View};
+use run_options::{Format, Naming};
 use std::alloc::Global;
 use std::process::Abort;
 use std::test::Fail;
 
-// The plan of the words of a line, which stand between single spaces.
-pub(crate) fn planned(alloc: Global, line: &str) -> Result<Plan, PlanFault> {
-    let mut words = Vec::new(alloc);
-    for word in line.split(' ') {
-        words
-            .push(String::from_str(alloc, word)?)
-            .map_err(|_| PlanFault::OutOfMemory)?;
-    }
-    plan(alloc, words.as_slice())
-}
-
-fn options_are(
-    options: &Options,
-    ring: u32,
-    name: Option<&str>,
-    naming: Naming,
-    every: Option<u64>,
-) -> bool {
-    let picks = match &options.pick {
-        Pick::Preferred => name.is_none(),
-        Pick::Named(text) => name == Some(text.get()),
-    };
-    options.ring.get() == ring && picks && options.naming == naming && options.every == every
-}
-
-// The options where no word sets one.
-pub(crate) fn options_are_defaults(options: &Options) -> bool {
-    options_are(options, 1_024, None, Naming::Plain, None) && options.filter.is_everything()
-}
-
-pub(crate) fn are(names: &Names, texts: &[&str]) -> bool {
-    let names = names.get();
-    names.len() == texts.len()
-        && names
-            .iter()
-            .zip(texts)
-            .all(|(name, text)| name.as_str() == *text)
-}
-
-pub(crate) fn has_files(plan: &Plan, files: &[&str]) -> bool {
-    are(&plan.files, files)
-}
-
-pub(crate) fn width(rt: &impl Abort, pixels: u32) -> Width {
-    Width::of(pixels).expect(rt, "a width")
-}
-
-// Whether a view is this one, at a width that it has.
-fn is_view(view: View, name: &str, pixels: u32) -> bool {
-    match view {
-        View::Fold => name == "fold",
-        View::Graph(width) => name == "graph" && width.get() == pixels,
-        View::Chart(width) => name == "chart" && width.get() == pixels,
-        View::Pairs => name == "pairs",
-        View::PairBoxes(width) => name == "boxes" && width.get() == pixels,
-        View::Top(_) => false,
-    }
-}
-
-fn expect_files(
+fn expect_names(
     rt: &impl Abort,
     alloc: Global,
     line: &str,
@@ -77,47 +21,45 @@ fn expect_files(
     Ok(())
 }
 
-fn expect_view(
-    rt: &impl Abort,
-    alloc: Global,
-    line: &str,
-    name: &str,
-    pixels: u32,
-) -> Result<(), PlanFault> {
-    let plan = planned(alloc, line)?;
-    assert!(rt; is_view(plan.view, name, pixels), "{line}");
+// Each line has these files, in this order.
+fn expect_files(rt: &impl Abort, alloc: Global, rows: &[(&str, &[&str])]) -> Result<(), PlanFault> {
+    for (line, files) in rows {
+        expect_names(rt, alloc, line, files)?;
+    }
     Ok(())
 }
 
-fn is_default(plan: &Plan, name: &str, files: &[&str]) -> bool {
-    is_view(plan.view, name, 1_200) && options_are_defaults(&plan.options) && has_files(plan, files)
+fn expect_view(rt: &impl Abort, alloc: Global, line: &str, view: View) -> Result<(), PlanFault> {
+    let plan = planned(alloc, line)?;
+    assert!(rt; is_view(&plan, view), "{line}");
+    Ok(())
 }
 
-fn expect_defaults(
-    rt: &impl Abort,
-    alloc: Global,
-    line: &str,
-    name: &str,
-    files: &[&str],
-) -> Result<(), PlanFault> {
-    let plan = planned(alloc, line)?;
-    assert!(rt; is_default(&plan, name, files), "{line}");
+fn expect_views(rt: &impl Abort, alloc: Global, rows: &[(&str, View)]) -> Result<(), PlanFault> {
+    for (line, view) in rows {
+        expect_view(rt, alloc, line, *view)?;
+    }
     Ok(())
 }
 
 #[test]
 fn defaults_of_each_command(rt: HostRuntime) -> Result<(), Fail> {
-    expect_defaults(&rt, rt.alloc(), "fold", "fold", &[])?;
-    expect_defaults(&rt, rt.alloc(), "graph", "graph", &[])?;
-    expect_defaults(&rt, rt.alloc(), "chart", "chart", &[])?;
-    expect_defaults(&rt, rt.alloc(), "compare a b", "pairs", &["a", "b"])?;
+    let width = width(&rt, 1_200);
+    expect_defaults(&rt, rt.alloc(), "fold", View::Fold, &[])?;
+    expect_defaults(&rt, rt.alloc(), "graph", View::Graph(width), &[])?;
+    expect_defaults(&rt, rt.alloc(), "chart", View::Chart(width), &[])?;
+    expect_defaults(&rt, rt.alloc(), "compare a b", View::Pairs, &["a", "b"])?;
     Ok(())
 }
 
+const WITH_A_WIDTH: &str = "graph --width 10 x.folded";
+
+const FILE_OF_A_WIDTH: [(&str, &[&str]); 1] = [(WITH_A_WIDTH, &["x.folded"])];
+
 #[test]
 fn graph_with_a_width(rt: HostRuntime) -> Result<(), Fail> {
-    expect_view(&rt, rt.alloc(), "graph --width 10 x.folded", "graph", 10)?;
-    expect_files(&rt, rt.alloc(), "graph --width 10 x.folded", &["x.folded"])?;
+    expect_view(&rt, rt.alloc(), WITH_A_WIDTH, View::Graph(width(&rt, 10)))?;
+    expect_files(&rt, rt.alloc(), &FILE_OF_A_WIDTH)?;
     Ok(())
 }
 
@@ -125,60 +67,69 @@ fn expect_options(
     rt: &impl Abort,
     alloc: Global,
     line: &str,
-    ring: u32,
-    name: Option<&str>,
-    naming: Naming,
-    every: Option<u64>,
+    set: &Set<'_>,
 ) -> Result<(), PlanFault> {
     let plan = planned(alloc, line)?;
-    assert!(rt;
-        options_are(&plan.options, ring, name, naming, every),
-        "{line}"
-    );
+    assert!(rt; has_options(&plan, set), "{line}");
     Ok(())
 }
 
+fn expect_rows(rt: &impl Abort, alloc: Global, rows: &[(&str, Set<'_>)]) -> Result<(), PlanFault> {
+    for (line, set) in rows {
+        expect_options(rt, alloc, line, set)?;
+    }
+    Ok(())
+}
+
+const LINES_OF_CPU: Set<'static> = Set {
+    ring: 7,
+    name: Some("cpu"),
+    naming: Naming::Lines,
+    every: None,
+};
+
+const OPTIONS: [(&str, Set<'static>); 4] = [
+    ("fold --type cpu --ring 7 --lines", LINES_OF_CPU),
+    (
+        "graph --width=10 --type=cpu --ring=7 --every=9 --lines",
+        Set {
+            every: Some(9),
+            ..LINES_OF_CPU
+        },
+    ),
+    ("chart --width 10 --type cpu --ring 7 --lines", LINES_OF_CPU),
+    (
+        "compare --width 10 --type cpu --ring 7 --boxes --lines a b",
+        LINES_OF_CPU,
+    ),
+];
+
 #[test]
 fn options_of_each_command(rt: HostRuntime) -> Result<(), Fail> {
-    let lines = [
-        ("fold --type cpu --ring 7 --lines", None),
-        (
-            "graph --width=10 --type=cpu --ring=7 --every=9 --lines",
-            Some(9),
-        ),
-        ("chart --width 10 --type cpu --ring 7 --lines", None),
-        (
-            "compare --width 10 --type cpu --ring 7 --boxes --lines a b",
-            None,
-        ),
-    ];
-    for (line, every) in lines {
-        expect_options(&rt, rt.alloc(), line, 7, Some("cpu"), Naming::Lines, every)?;
-    }
+    expect_rows(&rt, rt.alloc(), &OPTIONS)?;
     Ok(())
 }
 
 #[test]
 fn widths_of_each_command(rt: HostRuntime) -> Result<(), Fail> {
+    let ten = width(&rt, 10);
     let lines = [
-        ("graph --width=10", "graph", 10),
-        ("chart --width 10 --type cpu", "chart", 10),
-        ("chart --width 1", "chart", 1),
-        ("chart --width 65536", "chart", 65_536),
-        ("compare --width 10 --boxes a b", "boxes", 10),
-        ("compare --boxes --width 10 b a", "boxes", 10),
-        ("compare b --boxes --width 10 a", "boxes", 10),
-        ("compare b a --boxes --width 10", "boxes", 10),
-        ("compare --width 10 b a", "pairs", 10),
+        ("graph --width=10", View::Graph(ten)),
+        ("chart --width 10 --type cpu", View::Chart(ten)),
+        ("chart --width 1", View::Chart(width(&rt, 1))),
+        ("chart --width 65536", View::Chart(width(&rt, 65_536))),
+        ("compare --width 10 --boxes a b", View::PairBoxes(ten)),
+        ("compare --boxes --width 10 b a", View::PairBoxes(ten)),
+        ("compare b --boxes --width 10 a", View::PairBoxes(ten)),
+        ("compare b a --boxes --width 10", View::PairBoxes(ten)),
+        ("compare --width 10 b a", View::Pairs),
     ];
-    for (line, name, pixels) in lines {
-        expect_view(&rt, rt.alloc(), line, name, pixels)?;
-    }
+    expect_views(&rt, rt.alloc(), &lines)?;
     Ok(())
 }
 
 fn is_of_format(plan: &Plan, format: Option<Format>) -> bool {
-    plan.format == format && options_are_defaults(&plan.options)
+    is_format(plan, format) && has_defaults(plan)
 }
 
 fn expect_format(
@@ -192,76 +143,113 @@ fn expect_format(
     Ok(())
 }
 
+const FORMATS: [(&str, Option<Format>); 12] = [
+    ("fold --format pprof", Some(Format::Pprof)),
+    ("fold --format=folded", Some(Format::Folded)),
+    ("fold x --format pprof y", Some(Format::Pprof)),
+    ("graph --format pprof", Some(Format::Pprof)),
+    ("graph --format=folded", Some(Format::Folded)),
+    ("graph", None),
+    ("chart x.pb --format pprof", Some(Format::Pprof)),
+    ("chart x.pb --format=folded", Some(Format::Folded)),
+    ("chart x.pb", None),
+    ("compare a b --format pprof", Some(Format::Pprof)),
+    ("compare a b --format=folded", Some(Format::Folded)),
+    ("compare a b", None),
+];
+
 #[test]
 fn format_of_each_command(rt: HostRuntime) -> Result<(), Fail> {
-    let lines = [
-        ("fold --format pprof", Some(Format::Pprof)),
-        ("fold --format=folded", Some(Format::Folded)),
-        ("fold x --format pprof y", Some(Format::Pprof)),
-        ("graph --format pprof", Some(Format::Pprof)),
-        ("graph --format=folded", Some(Format::Folded)),
-        ("graph", None),
-        ("chart x.pb --format pprof", Some(Format::Pprof)),
-        ("chart x.pb --format=folded", Some(Format::Folded)),
-        ("chart x.pb", None),
-        ("compare a b --format pprof", Some(Format::Pprof)),
-        ("compare a b --format=folded", Some(Format::Folded)),
-        ("compare a b", None),
-    ];
-    for (line, format) in lines {
-        expect_format(&rt, rt.alloc(), line, format)?;
+    for (line, format) in FORMATS.as_slice() {
+        expect_format(&rt, rt.alloc(), line, *format)?;
     }
     Ok(())
 }
+
+const OF_THREE_FILES: [&str; 3] = [
+    "graph --ring 7 --every 2 a b c",
+    "graph a --ring 7 b --every 2 c",
+    "graph a b c --ring 7 --every 2",
+];
+
+const SEVEN_OF_TWO: Set<'static> = Set {
+    ring: 7,
+    every: Some(2),
+    ..NOTHING
+};
+
+const THREE_FILES: &[&str] = &["a", "b", "c"];
 
 #[test]
 fn options_before_between_and_after_files(rt: HostRuntime) -> Result<(), Fail> {
-    let lines = [
-        "graph --ring 7 --every 2 a b c",
-        "graph a --ring 7 b --every 2 c",
-        "graph a b c --ring 7 --every 2",
-    ];
-    for line in lines {
-        expect_options(&rt, rt.alloc(), line, 7, None, Naming::Plain, Some(2))?;
-        expect_files(&rt, rt.alloc(), line, &["a", "b", "c"])?;
+    for line in OF_THREE_FILES.as_slice() {
+        expect_options(&rt, rt.alloc(), line, &SEVEN_OF_TWO)?;
+        expect_names(&rt, rt.alloc(), line, THREE_FILES)?;
     }
     Ok(())
 }
+
+const FILES: [(&str, &[&str]); 5] = [
+    ("compare --width 10 b a", &["b", "a"]),
+    ("compare --boxes --width 10 b a", &["b", "a"]),
+    ("compare b --boxes --width 10 a", &["b", "a"]),
+    ("compare b a --boxes --width 10", &["b", "a"]),
+    ("fold x --format pprof y", &["x", "y"]),
+];
 
 #[test]
 fn files_in_their_order(rt: HostRuntime) -> Result<(), Fail> {
-    for line in [
-        "compare --width 10 b a",
-        "compare --boxes --width 10 b a",
-        "compare b --boxes --width 10 a",
-        "compare b a --boxes --width 10",
-    ] {
-        expect_files(&rt, rt.alloc(), line, &["b", "a"])?;
-    }
-    expect_files(&rt, rt.alloc(), "fold x --format pprof y", &["x", "y"])?;
+    expect_files(&rt, rt.alloc(), &FILES)?;
     Ok(())
 }
+
+const ODD_OPTIONS: &str = "fold --lines -- --ring -x";
+
+const OF_ODD_NAMES: [(&str, &[&str]); 3] = [
+    ("fold - -", &["-", "-"]),
+    (ODD_OPTIONS, &["--ring", "-x"]),
+    ("fold help graph", &["help", "graph"]),
+];
+
+const LINES_ALONE: Set<'static> = Set {
+    naming: Naming::Lines,
+    ..NOTHING
+};
 
 #[test]
 fn files_of_odd_names(rt: HostRuntime) -> Result<(), Fail> {
-    let options = "fold --lines -- --ring -x";
-    expect_files(&rt, rt.alloc(), "fold - -", &["-", "-"])?;
-    expect_options(&rt, rt.alloc(), options, 1_024, None, Naming::Lines, None)?;
-    expect_files(&rt, rt.alloc(), options, &["--ring", "-x"])?;
-    expect_files(&rt, rt.alloc(), "fold help graph", &["help", "graph"])?;
+    expect_files(&rt, rt.alloc(), &OF_ODD_NAMES)?;
+    expect_options(&rt, rt.alloc(), ODD_OPTIONS, &LINES_ALONE)?;
     Ok(())
 }
 
+const ENDS: [(&str, Set<'static>); 4] = [
+    ("fold --ring 1", Set { ring: 1, ..NOTHING }),
+    (
+        "fold --ring 65536",
+        Set {
+            ring: 65_536,
+            ..NOTHING
+        },
+    ),
+    (
+        "graph --every 1",
+        Set {
+            every: Some(1),
+            ..NOTHING
+        },
+    ),
+    (
+        "graph --every 1000000000",
+        Set {
+            every: Some(1_000_000_000),
+            ..NOTHING
+        },
+    ),
+];
+
 #[test]
 fn ends_of_each_range(rt: HostRuntime) -> Result<(), Fail> {
-    let lines = [
-        ("fold --ring 1", 1, None),
-        ("fold --ring 65536", 65_536, None),
-        ("graph --every 1", 1_024, Some(1)),
-        ("graph --every 1000000000", 1_024, Some(1_000_000_000)),
-    ];
-    for (line, ring, every) in lines {
-        expect_options(&rt, rt.alloc(), line, ring, None, Naming::Plain, every)?;
-    }
+    expect_rows(&rt, rt.alloc(), &ENDS)?;
     Ok(())
 }

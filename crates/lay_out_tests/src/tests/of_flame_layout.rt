@@ -5,7 +5,7 @@ mod drawn;
 mod merged;
 mod trees;
 
-use super::sources::list;
+use super::sources::{Lines, list};
 use flame_layout::{FlameBox, PlacedBox, SpanBox, Width, chart_boxes, place};
 use stack_core::SourceList;
 use std::alloc::{AllocError, Global};
@@ -31,34 +31,42 @@ fn placed_chart(
     place(alloc, boxes, total as u64, width)
 }
 
-/// Depth, name, start, weight and own weight of each box.
+/// Appends depth, name, start, weight and own weight of a box.
+fn append<B: FlameBox>(alloc: Global, text: &mut String, one: &B) -> Result<(), AllocError> {
+    let depth = one.depth();
+    let name = one.name();
+    let start = one.start();
+    let weight = one.weight();
+    let own = one.own();
+    let line = format!(in alloc; "({depth} {name} {start} {weight} {own})")?;
+    text.push_str(&line)
+}
+
 fn shown<B: FlameBox>(alloc: Global, boxes: &[B]) -> Result<String, AllocError> {
     let mut text = String::new(alloc);
     for one in boxes {
-        let depth = one.depth();
-        let name = one.name();
-        let start = one.start();
-        let weight = one.weight();
-        let own = one.own();
-        let line = format!(in alloc; "({depth} {name} {start} {weight} {own})")?;
-        text.push_str(&line)?;
+        append(alloc, &mut text, one)?;
     }
     Ok(text)
 }
 
-/// The same, and the edges.
+/// Appends the same, and the edges.
+fn append_placed(alloc: Global, text: &mut String, span: &PlacedBox) -> Result<(), AllocError> {
+    let depth = span.depth;
+    let name = span.name.get();
+    let start = span.start;
+    let weight = span.weight;
+    let own = span.own;
+    let left = span.left;
+    let right = span.right;
+    let line = format!(in alloc; "({depth} {name} {start} {weight} {own} {left} {right})")?;
+    text.push_str(&line)
+}
+
 fn shown_placed(alloc: Global, boxes: &[PlacedBox]) -> Result<String, AllocError> {
     let mut text = String::new(alloc);
     for span in boxes {
-        let depth = span.depth;
-        let name = span.name.get();
-        let start = span.start;
-        let weight = span.weight;
-        let own = span.own;
-        let left = span.left;
-        let right = span.right;
-        let line = format!(in alloc; "({depth} {name} {start} {weight} {own} {left} {right})")?;
-        text.push_str(&line)?;
+        append_placed(alloc, &mut text, span)?;
     }
     Ok(text)
 }
@@ -80,11 +88,16 @@ fn is_shown_placed(
     Ok(())
 }
 
+/// Two runs of one stack, with another between them.
+const RUNS: Lines<'static> = &[(&["a", "b"], 1), (&["a", "c"], 1), (&["a", "b"], 1)];
+
+/// Three stacks, one of which weighs nothing.
+const THREE: Lines<'static> = &[(&["a"], 1), (&["c"], 0), (&["b"], 2)];
+
 #[test]
 fn runs_of_a_chart(rt: HostRuntime) -> Result<(), Fail> {
     let alloc = rt.alloc();
-    let lines: [(&[&str], u64); 3] = [(&["a", "b"], 1), (&["a", "c"], 1), (&["a", "b"], 1)];
-    let boxes = chart(&rt, alloc, list(&rt, alloc, &lines)?)?;
+    let boxes = chart(&rt, alloc, list(&rt, alloc, RUNS)?)?;
     let text = "(0 all 0 3 0)(1 a 0 3 0)(2 b 0 1 1)(2 c 1 1 1)(2 b 2 1 1)";
     is_shown(&rt, alloc, &boxes, text)
 }
@@ -92,8 +105,8 @@ fn runs_of_a_chart(rt: HostRuntime) -> Result<(), Fail> {
 #[test]
 fn runs_under_other_parents(rt: HostRuntime) -> Result<(), Fail> {
     let alloc = rt.alloc();
-    let lines: [(&[&str], u64); 2] = [(&["a", "x"], 1), (&["b", "x"], 1)];
-    let boxes = chart(&rt, alloc, list(&rt, alloc, &lines)?)?;
+    let lines: Lines<'_> = &[(&["a", "x"], 1), (&["b", "x"], 1)];
+    let boxes = chart(&rt, alloc, list(&rt, alloc, lines)?)?;
     let text = "(0 all 0 2 0)(1 a 0 1 0)(2 x 0 1 1)(1 b 1 1 0)(2 x 1 1 1)";
     is_shown(&rt, alloc, &boxes, text)
 }
@@ -101,9 +114,8 @@ fn runs_under_other_parents(rt: HostRuntime) -> Result<(), Fail> {
 #[test]
 fn edges_of_three_lines(rt: HostRuntime) -> Result<(), Fail> {
     let alloc = rt.alloc();
-    let lines: [(&[&str], u64); 3] = [(&["a"], 1), (&["c"], 0), (&["b"], 2)];
     let width = Width::of(10).ok_or("no width")?;
-    let boxes = placed_chart(&rt, alloc, list(&rt, alloc, &lines)?, width)?;
+    let boxes = placed_chart(&rt, alloc, list(&rt, alloc, THREE)?, width)?;
     let text = "(0 all 0 3 0 0 10)(1 a 0 1 1 0 3)(1 b 1 2 2 3 10)";
     is_shown_placed(&rt, alloc, &boxes, text)
 }
@@ -111,9 +123,8 @@ fn edges_of_three_lines(rt: HostRuntime) -> Result<(), Fail> {
 #[test]
 fn empty_timeline(rt: HostRuntime) -> Result<(), Fail> {
     let alloc = rt.alloc();
-    let lines: [(&[&str], u64); 1] = [(&["a"], 0)];
-    let boxes = chart(&rt, alloc, list(&rt, alloc, &lines)?)?;
-    assert_eq!(rt; boxes.len(), 0);
+    let boxes = chart(&rt, alloc, list(&rt, alloc, &[(&["a"], 0)])?)?;
+    assert!(rt; boxes.is_empty());
     Ok(())
 }
 

@@ -1,67 +1,109 @@
 //! Worked examples.
+ghost use Rattle.std.specs.Prelude.{◌<◌, length};
 
-use super::sources::{list, merged_sources};
+use super::sources::{Lines, list, merged_lines, merged_nothing};
 use merged_stacks::{MergedStacks, PairedSide, PairedStacks, Side, StackRows, total_weight};
 use stack_core::SourceList;
 use std::alloc::{AllocError, Global};
 use std::process::Abort;
 use std::test::Fail;
 
-/// The names and the weight of each stack.
-fn shown_stacks(alloc: Global, merged: &MergedStacks) -> Result<String, AllocError> {
+/// Appends the names of a stack, each with a semicolon.
+fn append_names<S: StackRows>(text: &mut String, rows: &S, at: usize) -> Result<(), AllocError>
+    requires { at < length (S.samples rows.now) }
+{
+    for frame in 0..rows.depth(at) {
+        text.push_str(rows.name(at, frame))?;
+        text.push_str(";")?;
+    }
+    Ok(())
+}
+
+/// Appends the names and the weight of a stack.
+fn append_stack<S: StackRows>(
+    alloc: Global,
+    text: &mut String,
+    rows: &S,
+    at: usize,
+) -> Result<(), AllocError>
+    requires { at < length (S.samples rows.now) }
+{
+    text.push_str("(")?;
+    append_names(text, rows, at)?;
+    let weight = rows.weight(at);
+    let line = format!(in alloc; " {weight})")?;
+    text.push_str(&line)
+}
+
+fn shown_stacks<S: StackRows>(alloc: Global, rows: &S) -> Result<String, AllocError> {
     let mut text = String::new(alloc);
-    for at in 0..merged.len() {
-        text.push_str("(")?;
-        for frame in 0..merged.depth(at) {
-            text.push_str(merged.name(at, frame))?;
-            text.push_str(";")?;
-        }
-        let weight = merged.weight(at);
-        let line = format!(in alloc; " {weight})")?;
-        text.push_str(&line)?;
+    for at in 0..rows.len() {
+        append_stack(alloc, &mut text, rows, at)?;
     }
     Ok(text)
 }
 
+fn shows(
+    rt: &impl Abort,
+    alloc: Global,
+    merged: &MergedStacks,
+    text: &str,
+) -> Result<(), AllocError> {
+    let found = shown_stacks(alloc, merged)?;
+    assert_eq!(rt; found.as_str(), text);
+    Ok(())
+}
+
+const ONE: Lines<'static> = &[(&["a", "b"], 2), (&["a"], 1), (&["b"], 0), (&[], 5)];
+
+const OTHER: Lines<'static> = &[(&["b", "a"], 1), (&["a", "", "b"], 1), (&["a", "b"], 3)];
+
 #[test]
 fn stacks_of_two_sources(rt: HostRuntime) -> Result<(), Fail> {
-    let alloc = rt.alloc();
-    let one: [(&[&str], u64); 4] = [(&["a", "b"], 2), (&["a"], 1), (&["b"], 0), (&[], 5)];
-    let other: [(&[&str], u64); 3] = [(&["b", "a"], 1), (&["a", "", "b"], 1), (&["a", "b"], 3)];
-    let one = list(&rt, alloc, &one)?;
-    let other = list(&rt, alloc, &other)?;
-    let merged = merged_sources(&rt, alloc, one, other)?;
-    assert_eq!(rt;
-        shown_stacks(alloc, &merged)?.as_str(),
-        "( 5)(a; 1)(a;;b; 1)(a;b; 5)(b;a; 1)"
-    );
-    assert_eq!(rt; merged.total(), 13);
+    let merged = merged_lines(&rt, rt.alloc(), ONE, OTHER)?;
+    shows(
+        &rt,
+        rt.alloc(),
+        &merged,
+        "( 5)(a; 1)(a;;b; 1)(a;b; 5)(b;a; 1)",
+    )?;
+    assert!(rt; merged.total() == 13);
     Ok(())
+}
+
+fn has_nothing(rt: &impl Abort, merged: &MergedStacks) {
+    assert!(rt; merged.len() == 0);
+    assert!(rt; merged.total() == 0);
 }
 
 #[test]
 fn nothing_merged(rt: HostRuntime) -> Result<(), Fail> {
-    let alloc = rt.alloc();
-    let merged = MergedStacks::of(alloc, &[])?;
-    assert_eq!(rt; merged.len(), 0);
-    assert_eq!(rt; merged.total(), 0);
-    assert_eq!(rt; total_weight(&[]), 0);
+    has_nothing(&rt, &merged_nothing(rt.alloc())?);
+    assert!(rt; total_weight(&[]) == 0);
     Ok(())
 }
 
-/// The names and both weights of each stack.
+/// Appends the names and both weights of a stack.
+fn append_pair(
+    alloc: Global,
+    text: &mut String,
+    paired: &PairedStacks,
+    at: usize,
+) -> Result<(), AllocError>
+    requires { at < length paired.now }
+{
+    text.push_str("(")?;
+    append_names(text, paired, at)?;
+    let before = paired.before(at);
+    let after = paired.after(at);
+    let line = format!(in alloc; " {before} {after})")?;
+    text.push_str(&line)
+}
+
 fn shown_pairs(alloc: Global, paired: &PairedStacks) -> Result<String, AllocError> {
     let mut text = String::new(alloc);
     for at in 0..paired.len() {
-        text.push_str("(")?;
-        for frame in 0..paired.depth(at) {
-            text.push_str(paired.name(at, frame))?;
-            text.push_str(";")?;
-        }
-        let before = paired.before(at);
-        let after = paired.after(at);
-        let line = format!(in alloc; " {before} {after})")?;
-        text.push_str(&line)?;
+        append_pair(alloc, &mut text, paired, at)?;
     }
     Ok(text)
 }
@@ -84,30 +126,15 @@ fn shows_pairs(
     shows_paired(rt, alloc, &paired)
 }
 
+const BEFORE: Lines<'static> = &[(&["b"], 1), (&["a", "b"], 3), (&["c"], 0)];
+
+const AFTER: Lines<'static> = &[(&["c"], 2), (&["a", "b"], 1), (&[], 1)];
+
 #[test]
 fn stacks_of_two_sources_side_by_side(rt: HostRuntime) -> Result<(), Fail> {
-    let old: [(&[&str], u64); 3] = [(&["b"], 1), (&["a", "b"], 3), (&["c"], 0)];
-    let new: [(&[&str], u64); 3] = [(&["c"], 2), (&["a", "b"], 1), (&[], 1)];
-    let before = list(&rt, rt.alloc(), &old)?;
-    let after = list(&rt, rt.alloc(), &new)?;
+    let before = list(&rt, rt.alloc(), BEFORE)?;
+    let after = list(&rt, rt.alloc(), AFTER)?;
     shows_pairs(&rt, rt.alloc(), &before, &after)
-}
-
-/// The names and the weight of each stack of one side.
-fn shown_side(alloc: Global, stacks: &PairedStacks, side: Side) -> Result<String, AllocError> {
-    let rows = PairedSide { stacks, side };
-    let mut text = String::new(alloc);
-    for at in 0..rows.len() {
-        text.push_str("(")?;
-        for frame in 0..rows.depth(at) {
-            text.push_str(rows.name(at, frame))?;
-            text.push_str(";")?;
-        }
-        let weight = rows.weight(at);
-        let line = format!(in alloc; " {weight})")?;
-        text.push_str(&line)?;
-    }
-    Ok(text)
 }
 
 /// How many frames the first two stacks have in common.
@@ -128,7 +155,7 @@ fn shows_side(
     side: Side,
     text: &str,
 ) -> Result<(), Fail> {
-    let found = shown_side(alloc, stacks, side)?;
+    let found = shown_stacks(alloc, &PairedSide { stacks, side })?;
     assert_eq!(rt; found.as_str(), text);
     Ok(())
 }
@@ -151,11 +178,13 @@ fn shows_sides(
     shows_both_sides(rt, alloc, &stacks)
 }
 
+const OLD: Lines<'static> = &[(&["a", "b"], 3), (&["c"], 1)];
+
+const NEW: Lines<'static> = &[(&["a", "d"], 2), (&["c"], 4)];
+
 #[test]
 fn stacks_of_one_side(rt: HostRuntime) -> Result<(), Fail> {
-    let old: [(&[&str], u64); 2] = [(&["a", "b"], 3), (&["c"], 1)];
-    let new: [(&[&str], u64); 2] = [(&["a", "d"], 2), (&["c"], 4)];
-    let before = list(&rt, rt.alloc(), &old)?;
-    let after = list(&rt, rt.alloc(), &new)?;
+    let before = list(&rt, rt.alloc(), OLD)?;
+    let after = list(&rt, rt.alloc(), NEW)?;
     shows_sides(&rt, rt.alloc(), &before, &after)
 }

@@ -2,9 +2,9 @@
 
 mod data;
 
+use super::of_page_source::page_of;
 use byte_io::CountedWriter;
 use merging::{Source, SourceLists, read_sources};
-use page_source::{head, tail};
 use page_views::{Heading, send_chart_page, send_comparison_page, send_graph_page};
 use run_options::{Filter, Format, Naming, Options, Pick, RingSize};
 use stack_core::{OpenGate, SourceList};
@@ -28,21 +28,30 @@ const HEADING: Heading<'static> = Heading {
     whole: 3,
 };
 
+// A source of folded text.
+pub(crate) fn folded(alloc: Global, text: &[u8]) -> Result<Source, AllocError> {
+    Ok(Source {
+        format: Format::Folded,
+        bytes: text.to_vec(alloc)?,
+    })
+}
+
+fn two_sources(alloc: Global, one: &[u8], other: &[u8]) -> Result<Vec<Source>, AllocError> {
+    let first = folded(alloc, one)?;
+    let second = folded(alloc, other)?;
+    Ok(vec![in alloc; first, second]?)
+}
+
 // What was collected of two folded texts.
-fn collected<T: Threads + Wait + Copy + Send + 'static>(
+fn collected<T: Threads + Wait + Abort + Copy + Send + 'static>(
     rt: &T,
     alloc: Global,
     one: &[u8],
     other: &[u8],
 ) -> Result<SourceLists, Fail> {
-    let first = Source {
-        format: Format::Folded,
-        bytes: one.to_vec(alloc)?,
-    };
-    let second = Source {
-        format: Format::Folded,
-        bytes: other.to_vec(alloc)?,
-    };
+    let gate = Arc::new(alloc, OpenGate)?;
+    let sources = two_sources(alloc, one, other)?;
+    assert!(rt; sources.len() <= 64);
     let options = Options {
         ring: RingSize::of(8).unwrap(),
         pick: Pick::Preferred,
@@ -50,48 +59,64 @@ fn collected<T: Threads + Wait + Copy + Send + 'static>(
         filter: Filter::everything(alloc),
         every: None,
     };
-    let gate = Arc::new(alloc, OpenGate)?;
-    let sources = vec![in alloc; first, second]?;
     Ok(read_sources(rt, alloc, sources, &options, gate)?)
 }
 
 // Whether a document is the head, these data and the tail.
 fn is_page(rt: &impl Abort, alloc: Global, page: &[u8], data: &str) -> Result<(), AllocError> {
-    let head = head().concat(alloc)?;
-    let tail = tail().concat(alloc)?;
-    let wanted = format!(in alloc; "{head}{data}{tail}")?;
+    let wanted = page_of(alloc, data)?;
     assert!(rt; page == wanted.as_bytes());
+    Ok(())
+}
+
+fn graph_page(alloc: Global, sources: &SourceLists) -> Result<Vec<u8>, Fail> {
+    let mut out = CountedWriter::new(Vec::new(alloc));
+    send_graph_page(alloc, sources, &HEADING, &mut out)?;
+    Ok(out.into_inner())
+}
+
+fn is_graph_page(
+    rt: &impl Abort,
+    alloc: Global,
+    sources: &SourceLists,
+    data: &str,
+) -> Result<(), Fail> {
+    let page = graph_page(alloc, sources)?;
+    is_page(rt, alloc, &page, data)?;
     Ok(())
 }
 
 #[test]
 fn graph_of_two_lines(rt: HostRuntime) -> Result<(), Fail> {
-    let alloc = rt.alloc();
-    let sources = collected(&rt, alloc, b"main;read<int> 2\n", b"main 1\n")?;
+    let sources = collected(&rt, rt.alloc(), b"main;read<int> 2\n", b"main 1\n")?;
+    let data =
+        "{\"drawings\":[{\"depth\":[0,1,2],\"least\":0,\"left_out\":{\"boxes\":0,\"weight\":0},\"name\":[0,1,2],\"own\":[0,1,2],\"start\":[0,0,1],\"total\":3,\"weight\":[3,3,2]}],\"names\":[\"all\",\"main\",\"read\\u003cint\\u003e\"],\"sources\":[{\"name\":\"small.folded\",\"type\":\"\",\"unit\":\"\",\"weight\":3}],\"title\":\"small.folded\",\"view\":\"graph\",\"whole\":3}";
+    is_graph_page(&rt, rt.alloc(), &sources, data)
+}
+
+fn chart_page(alloc: Global, sources: &SourceLists) -> Result<Vec<u8>, Fail> {
     let mut out = CountedWriter::new(Vec::new(alloc));
-    send_graph_page(alloc, &sources, &HEADING, &mut out)?;
-    is_page(
-        &rt,
-        alloc,
-        &out.into_inner(),
-        "{\"drawings\":[{\"depth\":[0,1,2],\"least\":0,\"left_out\":{\"boxes\":0,\"weight\":0},\"name\":[0,1,2],\"own\":[0,1,2],\"start\":[0,0,1],\"total\":3,\"weight\":[3,3,2]}],\"names\":[\"all\",\"main\",\"read\\u003cint\\u003e\"],\"sources\":[{\"name\":\"small.folded\",\"type\":\"\",\"unit\":\"\",\"weight\":3}],\"title\":\"small.folded\",\"view\":\"graph\",\"whole\":3}",
-    )?;
+    send_chart_page(alloc, sources, &HEADING, &mut out)?;
+    Ok(out.into_inner())
+}
+
+fn is_chart_page(
+    rt: &impl Abort,
+    alloc: Global,
+    sources: &SourceLists,
+    data: &str,
+) -> Result<(), Fail> {
+    let page = chart_page(alloc, sources)?;
+    is_page(rt, alloc, &page, data)?;
     Ok(())
 }
 
 #[test]
 fn chart_of_two_lines(rt: HostRuntime) -> Result<(), Fail> {
-    let alloc = rt.alloc();
-    let sources = collected(&rt, alloc, b"main;read 2\n", b"main 1\n")?;
-    let mut out = CountedWriter::new(Vec::new(alloc));
-    send_chart_page(alloc, &sources, &HEADING, &mut out)?;
-    is_page(
-        &rt,
-        alloc,
-        &out.into_inner(),
-        "{\"drawings\":[{\"depth\":[0,1,2],\"least\":0,\"left_out\":{\"boxes\":0,\"weight\":0},\"name\":[0,1,2],\"own\":[0,1,2],\"start\":[0,0,0],\"total\":3,\"weight\":[3,3,2]}],\"names\":[\"all\",\"main\",\"read\"],\"sources\":[{\"name\":\"small.folded\",\"type\":\"\",\"unit\":\"\",\"weight\":3}],\"title\":\"small.folded\",\"view\":\"chart\",\"whole\":3}",
-    )?;
-    Ok(())
+    let sources = collected(&rt, rt.alloc(), b"main;read 2\n", b"main 1\n")?;
+    let data =
+        "{\"drawings\":[{\"depth\":[0,1,2],\"least\":0,\"left_out\":{\"boxes\":0,\"weight\":0},\"name\":[0,1,2],\"own\":[0,1,2],\"start\":[0,0,0],\"total\":3,\"weight\":[3,3,2]}],\"names\":[\"all\",\"main\",\"read\"],\"sources\":[{\"name\":\"small.folded\",\"type\":\"\",\"unit\":\"\",\"weight\":3}],\"title\":\"small.folded\",\"view\":\"chart\",\"whole\":3}";
+    is_chart_page(&rt, rt.alloc(), &sources, data)
 }
 
 // The lists have small weights, as a comparison asks.
@@ -108,18 +133,22 @@ fn compared(
     Ok(out.into_inner())
 }
 
+fn is_comparison_page(
+    rt: &impl Abort,
+    alloc: Global,
+    lists: &[SourceList],
+    data: &str,
+) -> Result<(), Fail> {
+    assert!(rt; lists.len() == 2);
+    let page = compared(rt, alloc, &lists[0], &lists[1])?;
+    is_page(rt, alloc, &page, data)?;
+    Ok(())
+}
+
 #[test]
 fn comparison_of_two_lines(rt: HostRuntime) -> Result<(), Fail> {
-    let alloc = rt.alloc();
-    let sources = collected(&rt, alloc, b"a;b 3\n", b"a 1\n")?;
-    let lists = sources.lists();
-    assert!(rt; lists.len() == 2);
-    let page = compared(&rt, alloc, &lists[0], &lists[1])?;
-    is_page(
-        &rt,
-        alloc,
-        &page,
-        "{\"drawings\":[{\"depth\":[0,1,2],\"least\":0,\"left_out\":{\"boxes\":0,\"weight\":0},\"name\":[0,1,2],\"other\":[1,1,0],\"own\":[0,0,3],\"start\":[0,0,0],\"total\":3,\"weight\":[3,3,3]},{\"depth\":[0,1],\"least\":0,\"left_out\":{\"boxes\":0,\"weight\":0},\"name\":[0,1],\"other\":[3,3],\"own\":[0,1],\"start\":[0,0],\"total\":1,\"weight\":[1,1]}],\"names\":[\"all\",\"a\",\"b\"],\"sources\":[{\"name\":\"small.folded\",\"type\":\"\",\"unit\":\"\",\"weight\":3}],\"title\":\"small.folded\",\"view\":\"compare\",\"whole\":3}",
-    )?;
-    Ok(())
+    let sources = collected(&rt, rt.alloc(), b"a;b 3\n", b"a 1\n")?;
+    let data =
+        "{\"drawings\":[{\"depth\":[0,1,2],\"least\":0,\"left_out\":{\"boxes\":0,\"weight\":0},\"name\":[0,1,2],\"other\":[1,1,0],\"own\":[0,0,3],\"start\":[0,0,0],\"total\":3,\"weight\":[3,3,3]},{\"depth\":[0,1],\"least\":0,\"left_out\":{\"boxes\":0,\"weight\":0},\"name\":[0,1],\"other\":[3,3],\"own\":[0,1],\"start\":[0,0],\"total\":1,\"weight\":[1,1]}],\"names\":[\"all\",\"a\",\"b\"],\"sources\":[{\"name\":\"small.folded\",\"type\":\"\",\"unit\":\"\",\"weight\":3}],\"title\":\"small.folded\",\"view\":\"compare\",\"whole\":3}";
+    is_comparison_page(&rt, rt.alloc(), sources.lists(), data)
 }

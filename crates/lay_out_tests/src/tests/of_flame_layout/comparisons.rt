@@ -7,26 +7,61 @@ use std::alloc::{AllocError, Global};
 use std::process::Abort;
 use std::test::Fail;
 
-/// Names and the four weights of each row.
+/// Appends the names of a path, each with a semicolon.
+fn append_names(text: &mut String, names: &[String]) -> Result<(), AllocError> {
+    for name in names {
+        text.push_str(name.as_str())?;
+        text.push_str(";")?;
+    }
+    Ok(())
+}
+
+/// Appends the names and the four weights of a row.
+fn append_row(alloc: Global, text: &mut String, row: &PairRow) -> Result<(), AllocError> {
+    text.push_str("(")?;
+    append_names(text, row.path.get())?;
+    let total_before = row.total_before;
+    let total_after = row.total_after;
+    let own_before = row.own_before;
+    let own_after = row.own_after;
+    let line = format!(in alloc; " {total_before} {total_after} {own_before} {own_after})")?;
+    text.push_str(&line)
+}
+
 fn shown_rows(alloc: Global, rows: &[PairRow]) -> Result<String, AllocError> {
     let mut text = String::new(alloc);
     for row in rows {
-        text.push_str("(")?;
-        for name in row.path.get() {
-            text.push_str(name.as_str())?;
-            text.push_str(";")?;
-        }
-        let total_before = row.total_before;
-        let total_after = row.total_after;
-        let own_before = row.own_before;
-        let own_after = row.own_after;
-        let line = format!(in alloc; " {total_before} {total_after} {own_before} {own_after})")?;
-        text.push_str(&line)?;
+        append_row(alloc, &mut text, row)?;
     }
     Ok(text)
 }
 
-/// The first profile's total, depth, name, start, weight and own weight of each box, and its edges.
+/// Appends the first profile's total, depth, name, start, weight and own weight of a box, and its edges.
+fn append_compared(
+    rt: &impl Abort,
+    alloc: Global,
+    text: &mut String,
+    compared: &ComparedBox,
+    total: u64,
+    width: Width,
+) -> Result<(), AllocError> {
+    let span = &compared.span;
+    assert!(rt; total > 0);
+    assert!(rt; span.start <= total);
+    assert!(rt; span.weight <= total - span.start);
+    let (left, right) = edges(span, total, width);
+    let before = compared.before;
+    let depth = span.depth;
+    let name = span.name.get();
+    let start = span.start;
+    let weight = span.weight;
+    let own = span.own;
+    let line = format!(in alloc;
+        "({before} {depth} {name} {start} {weight} {own} {left} {right})"
+    )?;
+    text.push_str(&line)
+}
+
 fn shown_compared(
     rt: &impl Abort,
     alloc: Global,
@@ -36,21 +71,7 @@ fn shown_compared(
 ) -> Result<String, AllocError> {
     let mut text = String::new(alloc);
     for compared in boxes {
-        let span = &compared.span;
-        assert!(rt; total > 0);
-        assert!(rt; span.start <= total);
-        assert!(rt; span.weight <= total - span.start);
-        let (left, right) = edges(span, total, width);
-        let before = compared.before;
-        let depth = span.depth;
-        let name = span.name.get();
-        let start = span.start;
-        let weight = span.weight;
-        let own = span.own;
-        let line = format!(in alloc;
-            "({before} {depth} {name} {start} {weight} {own} {left} {right})"
-        )?;
-        text.push_str(&line)?;
+        append_compared(rt, alloc, &mut text, compared, total, width)?;
     }
     Ok(text)
 }

@@ -8,7 +8,7 @@ ghost use Rattle.merged_stacks.specs.Timeline.{total_weight};
 ghost use Rattle.merged_stacks.specs.checked.Ranks.{Grows};
 ghost use Rattle.flame_layout.specs.checked.Held.{Holds};
 
-use super::is_shown_placed;
+use super::{RUNS, THREE, is_shown_placed};
 use crate::tests::sources::list;
 use call_tree::{CallTree, FrameTable};
 use flame_layout::{PlacedBox, Width, graph_boxes, place};
@@ -89,18 +89,16 @@ fn draws_graph(
 
 #[test]
 fn graph_of_the_runs(rt: HostRuntime) -> Result<(), Fail> {
-    let lines: [(&[&str], u64); 3] = [(&["a", "b"], 1), (&["a", "c"], 1), (&["a", "b"], 1)];
     let width = Width::of(3).ok_or("no width")?;
-    let source = list(&rt, rt.alloc(), &lines)?;
+    let source = list(&rt, rt.alloc(), RUNS)?;
     let text = "(0 all 0 3 0 0 3)(1 a 0 3 0 0 3)(2 b 0 2 2 0 2)(2 c 2 1 1 2 3)";
     draws_graph(&rt, rt.alloc(), &source, width, text)
 }
 
 #[test]
 fn graph_of_three_lines(rt: HostRuntime) -> Result<(), Fail> {
-    let lines: [(&[&str], u64); 3] = [(&["a"], 1), (&["c"], 0), (&["b"], 2)];
     let width = Width::of(10).ok_or("no width")?;
-    let source = list(&rt, rt.alloc(), &lines)?;
+    let source = list(&rt, rt.alloc(), THREE)?;
     let text = "(0 all 0 3 0 0 10)(1 a 0 1 1 0 3)(1 b 1 2 2 3 10)";
     draws_graph(&rt, rt.alloc(), &source, width, text)
 }
@@ -110,6 +108,7 @@ fn empty_graph(rt: HostRuntime) -> Result<(), Fail> {
     let alloc = rt.alloc();
     let tree = CallTree::new(alloc)?;
     let table = FrameTable::new(alloc);
-    assert_eq!(rt; graph_boxes(alloc, &tree, &table)?.len(), 0);
+    let boxes = graph_boxes(alloc, &tree, &table)?;
+    assert!(rt; boxes.is_empty());
     Ok(())
 }

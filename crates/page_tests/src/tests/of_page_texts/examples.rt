@@ -1,28 +1,40 @@
 //! The texts of small pages, as docs/PAGE-DATA.md has them.
 
-use byte_io::CountedWriter;
+use crate::tests::of_page_source::page_of;
+use byte_io::{CountedWriter, PieceFault};
 use flame_layout::{ComparedBox, SpanBox};
-use page_source::{head, tail};
-use page_texts::{Drawing, Moment, Page, Source, append_page_data, send_page};
+use page_texts::{Drawing, Moment, Page, PageBox, Source, append_page_data, send_page};
 use stack_core::Text;
 use std::alloc::{AllocError, Global};
+use std::process::Abort;
 use std::test::Fail;
 
 // Depth, name, start, weight and own weight of a box.
 type Row<'a> = (u32, &'a str, u64, u64, u64);
 
+fn span_of(alloc: Global, row: &Row<'_>) -> Result<SpanBox, AllocError> {
+    let (depth, name, start, weight, own) = row;
+    Ok(SpanBox {
+        depth: *depth,
+        name: Text::from_str(alloc, name)?,
+        start: *start,
+        weight: *weight,
+        own: *own,
+    })
+}
+
 fn boxes_of(alloc: Global, rows: &[Row<'_>]) -> Result<Vec<SpanBox>, AllocError> {
     let mut boxes = Vec::new(alloc);
-    for (depth, name, start, weight, own) in rows {
-        boxes.push(SpanBox {
-            depth: *depth,
-            name: Text::from_str(alloc, name)?,
-            start: *start,
-            weight: *weight,
-            own: *own,
-        })?;
+    for row in rows {
+        boxes.push(span_of(alloc, row)?)?;
     }
     Ok(boxes)
+}
+
+fn page_data<B: PageBox>(alloc: Global, page: &Page<'_, B>) -> Result<Vec<u8>, AllocError> {
+    let mut out = Vec::new(alloc);
+    append_page_data(alloc, &mut out, page)?;
+    Ok(out)
 }
 
 // The boxes of `main;read<int> 2` and `main 1`.
@@ -59,9 +71,7 @@ fn data_of(
         view: "graph",
         whole: 5,
     };
-    let mut out = Vec::new(alloc);
-    append_page_data(alloc, &mut out, &page)?;
-    Ok(out)
+    page_data(alloc, &page)
 }
 
 #[test]
@@ -88,13 +98,24 @@ fn narrow_boxes_are_told(rt: HostRuntime) -> Result<(), Fail> {
     Ok(())
 }
 
-#[test]
-fn comparison_has_the_other_weights(rt: HostRuntime) -> Result<(), Fail> {
-    let alloc = rt.alloc();
+fn compared_of(
+    alloc: Global,
+    rows: &[Row<'_>],
+    weights: &[u64; 3],
+) -> Result<Vec<ComparedBox>, AllocError> {
     let mut boxes = Vec::new(alloc);
-    for (span, before) in boxes_of(alloc, &SMALL)?.into_iter().zip([7, 5, 0]) {
-        boxes.push(ComparedBox { span, before })?;
+    for (row, before) in rows.iter().zip(weights) {
+        boxes.push(ComparedBox {
+            span: span_of(alloc, row)?,
+            before: *before,
+        })?;
     }
+    Ok(boxes)
+}
+
+// The data of a page of a comparison.
+fn compared_data(alloc: Global, weights: &[u64; 3]) -> Result<Vec<u8>, AllocError> {
+    let boxes = compared_of(alloc, &SMALL, weights)?;
     let drawing = Drawing {
         boxes: &boxes,
         least: 0,
@@ -108,24 +129,31 @@ fn comparison_has_the_other_weights(rt: HostRuntime) -> Result<(), Fail> {
         view: "compare",
         whole: 5,
     };
-    let mut out = Vec::new(alloc);
-    append_page_data(alloc, &mut out, &page)?;
+    page_data(alloc, &page)
+}
+
+#[test]
+fn comparison_has_the_other_weights(rt: HostRuntime) -> Result<(), Fail> {
+    let data = compared_data(rt.alloc(), &[7, 5, 0])?;
     assert_eq!(rt;
-        out.as_slice(),
+        data.as_slice(),
         b"{\"drawings\":[{\"depth\":[0,1,2],\"least\":0,\"left_out\":{\"boxes\":0,\"weight\":0},\"name\":[0,1,2],\"other\":[7,5,0],\"own\":[0,1,2],\"start\":[0,0,1],\"total\":3,\"weight\":[3,3,2]}],\"names\":[\"all\",\"main\",\"read\\u003cint\\u003e\"],\"sources\":[],\"title\":\"\",\"view\":\"compare\",\"whole\":5}".as_slice()
     );
     Ok(())
 }
 
-// More numbers than a part has.
-#[test]
-fn long_columns_are_whole(rt: HostRuntime) -> Result<(), Fail> {
-    let alloc = rt.alloc();
-    let mut rows = Vec::new(alloc);
-    for _ in 0..2500 {
-        rows.push((0, "all", 0, 1, 1))?;
+// So many boxes of the same row.
+fn same_boxes(alloc: Global, count: usize) -> Result<Vec<SpanBox>, AllocError> {
+    let mut boxes = Vec::new(alloc);
+    for _ in 0..count {
+        boxes.push(span_of(alloc, &(0, "all", 0, 1, 1))?)?;
     }
-    let boxes = boxes_of(alloc, &rows)?;
+    Ok(boxes)
+}
+
+// The data of a page of more numbers than a part has.
+fn long_data(alloc: Global) -> Result<Vec<u8>, AllocError> {
+    let boxes = same_boxes(alloc, 2500)?;
     let drawing = Drawing {
         boxes: &boxes,
         least: 0,
@@ -139,19 +167,34 @@ fn long_columns_are_whole(rt: HostRuntime) -> Result<(), Fail> {
         view: "chart",
         whole: 5,
     };
-    let mut out = Vec::new(alloc);
-    append_page_data(alloc, &mut out, &page)?;
-    // Five columns of 2500 digits with 2499 commas, and what stands round them.
-    assert_eq!(rt; out.len(), 5 * (2500 + 2499) + 191);
-    Ok(())
+    page_data(alloc, &page)
 }
 
 #[test]
-fn example_of_the_readme(rt: HostRuntime) -> Result<(), Fail> {
-    let alloc = rt.alloc();
-    let boxes = boxes_of(alloc, &SMALL[..1])?;
+fn long_columns_are_whole(rt: HostRuntime) -> Result<(), Fail> {
+    let data = long_data(rt.alloc())?;
+    // Five columns of 2500 digits with 2499 commas, and what stands round them.
+    assert!(rt; data.len() == 5 * (2500 + 2499) + 191);
+    Ok(())
+}
+
+// The data have no markup, and the page is the head, the data and the tail.
+fn is_of_the_readme(rt: &impl Abort, alloc: Global, data: &[u8], sent: &[u8]) -> Result<(), Fail> {
+    assert!(rt; !data.contains(&b'<'));
+    let document = page_of(alloc, str::from_utf8(data)?)?;
+    assert!(rt; sent == document.as_bytes());
+    Ok(())
+}
+
+fn sent_page<B: PageBox>(alloc: Global, page: &Page<'_, B>) -> Result<Vec<u8>, PieceFault> {
+    let mut out = CountedWriter::new(Vec::new(alloc));
+    send_page(alloc, page, &mut out)?;
+    Ok(out.into_inner())
+}
+
+fn sends_its_data(rt: &impl Abort, alloc: Global, boxes: &[SpanBox]) -> Result<(), Fail> {
     let drawing = Drawing {
-        boxes: &boxes,
+        boxes,
         least: 0,
         total: 3,
         moment: None,
@@ -163,16 +206,13 @@ fn example_of_the_readme(rt: HostRuntime) -> Result<(), Fail> {
         view: "graph",
         whole: 3,
     };
-    let mut data = Vec::new(alloc);
-    append_page_data(alloc, &mut data, &page)?;
-    assert!(rt; !data.contains(&b'<'));
+    let data = page_data(alloc, &page)?;
+    let sent = sent_page(alloc, &page)?;
+    is_of_the_readme(rt, alloc, &data, &sent)
+}
 
-    let mut out = CountedWriter::new(Vec::new(alloc));
-    send_page(alloc, &page, &mut out)?;
-    let head = head().concat(alloc)?;
-    let tail = tail().concat(alloc)?;
-    let data = str::from_utf8(&data)?;
-    let document = format!(in alloc; "{head}{data}{tail}")?;
-    assert!(rt; out.into_inner() == document.into_bytes());
-    Ok(())
+#[test]
+fn example_of_the_readme(rt: HostRuntime) -> Result<(), Fail> {
+    let boxes = boxes_of(rt.alloc(), &SMALL[..1])?;
+    sends_its_data(&rt, rt.alloc(), &boxes)
 }

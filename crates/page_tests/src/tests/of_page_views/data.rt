@@ -1,13 +1,14 @@
 //! The data of pages in a vector, as other programs get it.
 ghost use Rattle.std.specs.Prelude.{◌≡◌, ◌≤◌, IfSome, length};
 
+use super::folded;
 use merging::Source;
 use page_views::{Heading, PageView, render_page_data};
 use run_options::{Filter, Format, Naming, Options, Pick, RingSize};
 use serde_json::Value;
 use source_views::{Views, views};
 use stack_core::OpenGate;
-use std::alloc::Global;
+use std::alloc::{AllocError, Global};
 use std::process::Abort;
 use std::sync::{Arc, Wait};
 use std::test::Fail;
@@ -30,6 +31,14 @@ const EXAMPLE_DATA: &str = "{
     }]
 }";
 
+fn sources_of(alloc: Global, texts: &[&[u8]]) -> Result<Vec<Source>, AllocError> {
+    let mut sources = Vec::new(alloc);
+    for text in texts {
+        sources.push(folded(alloc, text)?)?;
+    }
+    Ok(sources)
+}
+
 // What is seen of folded texts.
 fn seen<T: Threads + Wait + Abort + Copy + Send + 'static>(
     rt: &T,
@@ -39,13 +48,8 @@ fn seen<T: Threads + Wait + Abort + Copy + Send + 'static>(
 ) -> Result<Views, Fail>
     requires { IfSome every (λ every. 1 ≤ every) }
 {
-    let mut sources = Vec::new(alloc);
-    for text in texts {
-        sources.push(Source {
-            format: Format::Folded,
-            bytes: text.to_vec(alloc)?,
-        })?;
-    }
+    let gate = Arc::new(alloc, OpenGate)?;
+    let sources = sources_of(alloc, texts)?;
     assert!(rt; sources.len() <= 64);
     let options = Options {
         ring: RingSize::of(8).unwrap(),
@@ -54,7 +58,7 @@ fn seen<T: Threads + Wait + Abort + Copy + Send + 'static>(
         filter: Filter::everything(alloc),
         every,
     };
-    Ok(views(rt, alloc, sources, &options, Arc::new(alloc, OpenGate)?)?)
+    Ok(views(rt, alloc, sources, &options, gate)?)
 }
 
 // The data of a page without sources, behind what stood there.
@@ -78,23 +82,42 @@ const SMALL: Heading<'static> = Heading {
     whole: 3,
 };
 
+const OF_SCRIPTS: Heading<'static> = Heading {
+    title: "</script>",
+    sources: &[],
+    least: Some(10),
+    whole: 57,
+};
+
+fn graph_data(alloc: Global, views: &Views) -> Result<Vec<u8>, Fail> {
+    let mut out = Vec::new(alloc);
+    render_page_data(alloc, views, PageView::Graph, &OF_SCRIPTS, &mut out)?;
+    Ok(out)
+}
+
+fn value_of(alloc: Global, text: &str) -> Option<Value> {
+    Value::from_str(alloc, text).ok()
+}
+
+// Both texts are JSON, of one value.
+fn is_value(alloc: Global, text: &str, wanted: &str) -> bool {
+    match (value_of(alloc, text), value_of(alloc, wanted)) {
+        (Some(found), Some(wanted)) => found == wanted,
+        _ => false,
+    }
+}
+
+fn is_example(rt: &impl Abort, alloc: Global, data: &[u8]) -> Result<(), Fail> {
+    assert!(rt; !data.contains(&b'<'));
+    assert!(rt; is_value(alloc, str::from_utf8(data)?, EXAMPLE_DATA));
+    Ok(())
+}
+
 #[test]
 fn data_reads_as_its_boxes(rt: HostRuntime) -> Result<(), Fail> {
-    let alloc = rt.alloc();
-    let views = seen(&rt, alloc, &[EXAMPLE], None)?;
-    let heading = Heading {
-        title: "</script>",
-        sources: &[],
-        least: Some(10),
-        whole: 57,
-    };
-    let mut out = Vec::new(alloc);
-    render_page_data(alloc, &views, PageView::Graph, &heading, &mut out)?;
-    assert!(rt; !out.contains(&b'<'));
-    let data = Value::from_str(alloc, str::from_utf8(&out)?).ok();
-    let wanted = Value::from_str(alloc, EXAMPLE_DATA).ok();
-    assert!(rt; wanted.is_some() && data == wanted);
-    Ok(())
+    let views = seen(&rt, rt.alloc(), &[EXAMPLE], None)?;
+    let data = graph_data(rt.alloc(), &views)?;
+    is_example(&rt, rt.alloc(), &data)
 }
 
 #[test]
