@@ -1,8 +1,12 @@
 //! Worked examples.
-ghost use Rattle.std.specs.Prelude.{◌<◌, length};
+ghost use Rattle.std.specs.Prelude.{◌≡◌, ◌<◌, ◌^◌, length};
+ghost use Rattle.merged_stacks.specs.Merged.{all_samples};
+ghost use Rattle.merged_stacks.specs.Timeline.{samples_of, total_weight};
 
 use super::sources::{Lines, list, merged_lines, merged_nothing};
-use merged_stacks::{MergedStacks, PairedSide, PairedStacks, Side, StackRows, total_weight};
+use merged_stacks::{
+    GrowingStacks, MergedStacks, PairedSide, PairedStacks, Side, StackRows, total_weight,
+};
 use stack_core::SourceList;
 use std::alloc::{AllocError, Global};
 use std::process::Abort;
@@ -69,6 +73,45 @@ fn stacks_of_two_sources(rt: HostRuntime) -> Result<(), Fail> {
     )?;
     assert!(rt; merged.total() == 13);
     Ok(())
+}
+
+/// Compares how many samples of each list came, and the stacks of what came.
+fn shows_moment(
+    rt: &impl Abort,
+    alloc: Global,
+    growing: &GrowingStacks<'_>,
+    counts: &[u64],
+    text: &str,
+) -> Result<(), Fail> {
+    assert!(rt; growing.counts() == counts);
+    let moment = growing.merged(alloc)?;
+    let found = shown_stacks(alloc, &moment.by_rank())?;
+    assert!(rt; found.as_str() == text);
+    Ok(())
+}
+
+fn shows_moments(rt: &impl Abort, alloc: Global, lists: &[SourceList]) -> Result<(), Fail>
+    requires two { length lists.now ≡ 2 }
+    requires total { total_weight (all_samples (samples_of lists.now)) < 2 ^ 64 }
+{
+    assert!(rt; lists[0].len() > 1);
+    assert!(rt; lists[1].len() > 0);
+    let mut growing = GrowingStacks::of(alloc, lists)?;
+    shows_moment(rt, alloc, &growing, &[0, 0], "")?;
+    growing.take(0);
+    growing.take(1);
+    shows_moment(rt, alloc, &growing, &[1, 1], "(a;b; 2)(b;a; 1)")?;
+    growing.take(0);
+    shows_moment(rt, alloc, &growing, &[2, 1], "(a; 1)(a;b; 2)(b;a; 1)")
+}
+
+#[test]
+fn stacks_of_moments(rt: HostRuntime) -> Result<(), Fail> {
+    let one = list(&rt, rt.alloc(), ONE)?;
+    let other = list(&rt, rt.alloc(), OTHER)?;
+    assert!(&rt; one.total() < 1_000);
+    assert!(&rt; other.total() < 1_000);
+    shows_moments(&rt, rt.alloc(), &[one, other])
 }
 
 fn has_nothing(rt: &impl Abort, merged: &MergedStacks) {
