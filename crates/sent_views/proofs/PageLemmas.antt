@@ -8,7 +8,6 @@ use Rattle.sample_tables.specs.declared.samples.Sample.{Sample}
 use Rattle.stack_core.specs.Interleaving.{list_of}
 use Rattle.merged_stacks.specs.Timeline.{total_weight}
 use Rattle.page_texts.specs.Drawn.{source_of}
-use Rattle.page_texts.specs.Page.{PageSource}
 use Rattle.page_texts.specs.declared.pages.Source.{Source}
 use Rattle.profile_messages.specs.declared.types.SampleType.{SampleType}
 use Rattle.source_lists.specs.Types.{type_or_none}

@@ -1,12 +1,12 @@
 -- The lines of snapshots one after another, as the samples come.
-use Rattle.std.proofs.Common.{◌≡◌, ◌∙◌, ◌+◌, ◌-◌, ◌<◌, ◌≤◌, ◌++◌, ◌∷◌, [], ℕ, suc, zero, List, append-nil, append_assoc, ap, arith, cond, get_or, length, map, refl, set, sym, subst, take, drop, take-append-drop}
+use Rattle.std.proofs.Common.{◌≡◌, ◌∙◌, ◌+◌, ◌-◌, ◌<◌, ◌≤◌, ◌++◌, ◌∷◌, [], ℕ, suc, zero, List, append-nil, append_assoc, ap, arith, cond, get_or, length, refl, set, sym, subst, take, drop, take-append-drop}
 use Rattle.std.proofs.Math.Seq.{take-append_seam}
 use Rattle.std.proofs.KnownBytes.{Appends-nil, Appends-trans}
 use Rattle.std.proofs.lemmas.Grind.{flat_map-append}
 use Rattle.std.proofs.lemmas.List.{ext_get_or, length-set, take_more}
 use Rattle.std.proofs.lemmas.List.FromFn.{get_or-map-range_with_len, length-map-range_with_len}
 use Rattle.std.specs.Io.KnownBytes.{Appends}
-use Rattle.std.specs.List.{flat_map, range_with_len}
+use Rattle.std.specs.List.{flat_map}
 use Rattle.std.specs.Prelude.{Bool, true, false, Option, Some}
 use Rattle.byte_io.specs.Pieces.{AppendsFront}
 use Rattle.flame_layout.specs.Graph.{graph_of}

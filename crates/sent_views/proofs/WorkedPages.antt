@@ -8,7 +8,6 @@ use Rattle.command_line.specs.declared.plans.View.TheVariants.{Graph}
 use Rattle.page_texts.specs.Document.{document_text}
 use Rattle.page_views.specs.Pages.{PageHeading, graph_page}
 use Rattle.sent_views.specs.Pages.{asked_heading, default_title, headed_text, sources_of}
-use Rattle.opened_sources.specs.Names.{source_name}
 
 title_of_the_input : default_title [] ≡ codes "standard input"
 title_of_the_input = refl

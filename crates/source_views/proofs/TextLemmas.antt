@@ -1,6 +1,5 @@
 -- What the parts of a text are made from.
-use Rattle.std.proofs.Common.{◌≡◌, ◌++◌, ◌+◌, ◌<◌, ◌≤◌, ◌∷◌, ℕ, List, [], map, take, get_or, refl, true, length, All, Option, Result, Ok, Err, OnOk, codes, sym, ap, subst, ◌∙◌, arith}
-use Rattle.std.proofs.lemmas.List.Sums.{sum_by-append}
+use Rattle.std.proofs.Common.{◌≡◌, ◌++◌, ◌+◌, ◌<◌, ◌≤◌, ◌∷◌, ℕ, List, [], map, take, get_or, refl, true, length, All, Option, Result, Ok, Err, OnOk, sym, ap, subst, ◌∙◌, arith}
 use Rattle.std.proofs.lemmas.Result.{on_ok_weaker}
 use Rattle.std.proofs.lemmas.List.{get_or-map, length-append, length-map}
 use Rattle.std.proofs.lemmas.List.Folds.{concat-append}
@@ -12,7 +11,6 @@ use Rattle.flame_layout.specs.Graph.{graph_of}
 use Rattle.flame_layout.specs.Paths.{SameOwn, tree_samples}
 use Rattle.flame_layout.specs.declared.boxes.SpanBox.{SpanBox}
 use Rattle.flame_layout.proofs.Geometry.{chart-within}
-use Rattle.merged_stacks.proofs.Timelines.{total_weight-drawn, weight_of}
 use Rattle.flame_layout.proofs.Timelines.{timeline-chart_positive}
 use Rattle.flame_layout.proofs.Sums.{same_sums, same_tested}
 use Rattle.flame_layout.proofs.GraphBoxes.{tree_weight, graph-within, graph-positive}
@@ -22,7 +20,7 @@ use Rattle.stack_core.specs.Interleaving.{counts_at, list_of}
 use Rattle.stack_core.specs.Ledgers.{ListState}
 use Rattle.source_views.specs.Filling.{filled}
 use Rattle.source_views.specs.SnapshotPieces.{snapshot_pieces}
-use Rattle.view_texts.specs.Json.{snapshot_line, boxes_line}
+use Rattle.view_texts.specs.Json.{snapshot_line}
 use Rattle.merging.specs.Snapshots.{snapshot_counts, snapshot_samples, snapshot_places, IsSnapshot, AreSnapshots}
 use Rattle.merging.proofs.GatherLemmas.{timeline_weight}
 use Rattle.merging.specs.Sums.{all_samples}

@@ -1,4 +1,4 @@
-use Rattle.std.proofs.Common.{◌≡◌, ◌∙◌, ap, arith, map, rules, string_bytes}
+use Rattle.std.proofs.Common.{◌∙◌, ap, map, rules, string_bytes}
 use Rattle.stack_core.specs.Ledgers.{ListState}
 use Rattle.merged_stacks.specs.Timeline.{samples_of, total_weight}
 use Rattle.sent_views.proofs.PageLemmas.{told_more, told_source}

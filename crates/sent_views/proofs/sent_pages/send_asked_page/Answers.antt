@@ -1,4 +1,4 @@
-use Rattle.std.proofs.Common.{◌≡◌, ◌∙◌, [], List, None, ap, map, subst, unwrap_or, ℕ}
+use Rattle.std.proofs.Common.{◌∙◌, [], List, None, ap, map, subst, unwrap_or, ℕ}
 use Rattle.merged_stacks.specs.Timeline.{samples_of}
 use Rattle.page_texts.specs.Drawn.{source_of}
 use Rattle.page_views.specs.Pages.{PageHeading}

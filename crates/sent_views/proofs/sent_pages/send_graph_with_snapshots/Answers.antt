@@ -1,4 +1,4 @@
-use Rattle.std.proofs.Common.{◌≡◌, ◌∙◌, List, ap, map, subst, unwrap_or, ℕ}
+use Rattle.std.proofs.Common.{◌∙◌, List, ap, map, subst, unwrap_or, ℕ}
 use Rattle.merged_stacks.specs.Timeline.{samples_of}
 use Rattle.merging.specs.Gathered.{ListsState}
 use Rattle.page_texts.specs.Document.{document_text}
