@@ -1,4 +1,4 @@
-use Rattle.std.proofs.Common.{◌∙◌, ap, map, rules, refl, sym}
+use Rattle.std.proofs.Common.{◌∙◌, ap, map, refl, sym}
 use Rattle.merged_stacks.specs.Timeline.{samples_of}
 use Rattle.source_lists.specs.Types.{source_type}
 use Rattle.sent_views.specs.declared.run_facts.RunFacts.{RunFacts}
