@@ -1,12 +1,13 @@
 -- rows of boxes that stand in step, one after another
 use Rattle.std.proofs.Common.{◌≡◌, ℕ, ◌+◌, ◌-◌, ◌<◌, List, [], ◌∷◌, ◌++◌, false, nat_eq, length, map, take, drop, get_or, min, sym, ◌∙◌, ap, refl, arith, ⊎_elim}
-use Rattle.std.specs.Prelude.{if◌then◌else◌}
+use Rattle.std.specs.Prelude.{◌≤◌, if◌then◌else◌}
 use denote.Ref.{Bor}
 use Rattle.std.proofs.lemmas.List.{drop_more, drop_all, append-nil, append_assoc, take-map, map_push}
-use Rattle.std.proofs.lemmas.Bool.{cases_lt}
+use Rattle.std.proofs.lemmas.Bool.{cases_lt, le-ltb, lt-ltb}
 use Rattle.merged_stacks.specs.Timeline.{Stack}
-use Rattle.flame_layout.specs.Boxes.{span_of}
+use Rattle.flame_layout.specs.Boxes.{compared_of, span_of}
 use Rattle.flame_layout.specs.declared.boxes.DrawnBox.{DrawnBox}
+use Rattle.flame_layout.specs.declared.boxes.DrawnPair.{DrawnPair}
 use Rattle.flame_layout.specs.declared.boxes.SpanBox.{SpanBox}
 use Rattle.flame_layout.specs.declared.boxes.PairRow.{PairRow}
 use Rattle.flame_layout.specs.declared.boxes.ComparedBox.{ComparedBox}
@@ -45,6 +46,37 @@ rows_all lefts rights all rows n before end so_far =
     (λ le. ap (λ boxes. paired_rows before (map span_of (drop n lefts)) (map span_of boxes)) (drop_all n rights (omega (arith, end, le))) ∙ none_left before (map span_of (drop n lefts)))
     (cases_lt (length lefts) (length rights)) in
     sym (so_far ∙ (ap (λ more. rows ++ more) none ∙ append-nil rows))
+
+next_box : (lefts rights : List DrawnBox) (n : ℕ) (left right : DrawnBox) → n < length lefts → n < length rights → left ≡ get_or lefts n left → right ≡ get_or rights n right →
+    paired_boxes (map span_of (drop n lefts)) (map span_of (drop n rights)) ≡ paired_boxes (span_of left ∷ map span_of (drop (n + 1) lefts)) (span_of right ∷ map span_of (drop (n + 1) rights))
+next_box lefts rights n left right l r is are =
+    let one : drop n lefts ≡ left ∷ drop (n + 1) lefts = drop_more lefts n left l ∙ ap (λ box. box ∷ drop (n + 1) lefts) (sym is) in
+    let other : drop n rights ≡ right ∷ drop (n + 1) rights = drop_more rights n right r ∙ ap (λ box. box ∷ drop (n + 1) rights) (sym are) in
+    λ i. paired_boxes (map span_of (one i)) (map span_of (other i))
+
+-- one box more
+pub boxes_more : (lefts rights : List DrawnBox) (all : List ComparedBox) (boxes new : List DrawnPair) (n m : ℕ) (left right : DrawnBox) → m ≡ n + 1 → n < length lefts → n < length rights → left ≡ get_or lefts n left → right ≡ get_or rights n right →
+    all ≡ map compared_of boxes ++ paired_boxes (map span_of (drop n lefts)) (map span_of (drop n rights)) → 0 < right.weight → new ≡ boxes ++ record { drawn = right; total_before = left.weight } ∷ [] →
+    all ≡ map compared_of new ++ paired_boxes (map span_of (drop m lefts)) (map span_of (drop m rights))
+boxes_more lefts rights all boxes new n m left right next l r is are so_far weighs pushed =
+    let pair : DrawnPair = record { drawn = right; total_before = left.weight } in
+    let rest = paired_boxes (map span_of (drop (n + 1) lefts)) (map span_of (drop (n + 1) rights)) in
+    let named : map compared_of new ≡ map compared_of boxes ++ compared_of pair ∷ [] = ap (map compared_of) pushed ∙ map_push compared_of boxes pair in
+    so_far ∙ (ap (λ more. map compared_of boxes ++ more) (next_box lefts rights n left right l r is are) ∙
+    (ap (λ b. map compared_of boxes ++ (if b then compared_of pair ∷ rest else rest)) (lt-ltb 0 right.weight weighs) ∙
+    (sym (append_assoc (map compared_of boxes) (compared_of pair ∷ []) rest) ∙
+    (λ i. sym named i ++ paired_boxes (map span_of (drop (sym next i) lefts)) (map span_of (drop (sym next i) rights))))))
+
+-- a box that weighs nothing
+pub boxes_same : (lefts rights : List DrawnBox) (all boxes : List ComparedBox) (n m : ℕ) (left right : DrawnBox) → m ≡ n + 1 → n < length lefts → n < length rights → left ≡ get_or lefts n left → right ≡ get_or rights n right →
+    all ≡ boxes ++ paired_boxes (map span_of (drop n lefts)) (map span_of (drop n rights)) → right.weight ≤ 0 →
+    all ≡ boxes ++ paired_boxes (map span_of (drop m lefts)) (map span_of (drop m rights))
+boxes_same lefts rights all boxes n m left right next l r is are so_far weightless =
+    let pair : ComparedBox = record { span = span_of right; before = left.weight } in
+    let rest = paired_boxes (map span_of (drop (n + 1) lefts)) (map span_of (drop (n + 1) rights)) in
+    so_far ∙ (ap (λ more. boxes ++ more) (next_box lefts rights n left right l r is are) ∙
+    (ap (λ b. boxes ++ (if b then pair ∷ rest else rest)) (le-ltb 0 right.weight weightless) ∙
+    (λ i. boxes ++ paired_boxes (map span_of (drop (sym next i) lefts)) (map span_of (drop (sym next i) rights)))))
 
 no_box : (lefts : List SpanBox) → paired_boxes lefts [] ≡ []
 no_box [] = refl

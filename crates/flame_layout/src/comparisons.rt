@@ -31,12 +31,28 @@ pub fn compare(
     // The samples are within the limits: the counts tell it.
     let _counts = (before.len(), after.len());
     let stacks = PairedStacks::of(alloc, before, after)?;
+    compare_stacks(alloc, &stacks, before, after)
+}
+
+/// The rows of `compare`, from the stacks of both profiles.
+fn compare_stacks(
+    alloc: Global,
+    stacks: &PairedStacks,
+    before: &SourceList,
+    after: &SourceList,
+) -> Result<Vec<PairRow>, AllocError>
+    requires stacks { stacks.now ≡ paired_stacks before.now.samples after.now.samples }
+    requires before { total_weight before.now.samples < 2 ^ 64 }
+    requires after { total_weight after.now.samples < 2 ^ 64 }
+    ensures { IfOk result (λ rows.
+        rows.items ≡ comparison_of before.now.samples after.now.samples) }
+{
     let lefts = PairedSide {
-        stacks: &stacks,
+        stacks,
         side: Side::Before,
     };
     let rights = PairedSide {
-        stacks: &stacks,
+        stacks,
         side: Side::After,
     };
     let left = draw_all(alloc, &lefts, before.total() as u64)?;

@@ -1,10 +1,10 @@
 -- counting the names of stacks, frame by frame
-use Rattle.std.proofs.Common.{◌≡◌, ℕ, ◌+◌, ◌-◌, ◌<◌, ◌≤◌, Bool, true, false, cond, ◌||◌, zero, suc, List, [], ◌∷◌, ◌++◌, Some, length, map, get_or, set, take, sum_by, ltb, All, refl, sym, ap, subst, ◌∙◌, arith, ⊎_elim}
+use Rattle.std.proofs.Common.{◌≡◌, ℕ, ◌+◌, ◌-◌, ◌<◌, ◌≤◌, Bool, true, false, cond, ◌||◌, zero, suc, List, [], ◌∷◌, ◌++◌, Some, length, map, get_or, set, take, drop, sum_by, ltb, All, refl, sym, ap, subst, ◌∙◌, arith, ⊎_elim}
 use Rattle.std.specs.List.{list_any, slice_get}
 use Rattle.std.specs.Str.{bytes_eq}
 use Rattle.std.proofs.lemmas.Bool.{cases_Bool, cases_eq, or_right, or_left, false_from_ne_true, le-ltb, lt-ltb, true≢false, and_left, and_right, and_from}
 use Rattle.std.proofs.lemmas.Slice.Eq.{bytes_eq-Decides}
-use Rattle.std.proofs.lemmas.List.{length-map, length-set, get_or-map, get_or-set_same, get_or-set_other, map_more, take-map}
+use Rattle.std.proofs.lemmas.List.{append-nil, drop_all, take_all, length-map, length-set, get_or-map, get_or-set_same, get_or-set_other, map_more, take-map}
 use Rattle.std.proofs.lemmas.List.Folds.{list_any-append}
 use Rattle.std.proofs.lemmas.List.Sums.{sum_by-append, sum_by-cons, sum_by-take-le}
 use Rattle.std.proofs.lemmas.Option.{get_or_from_slice_get, slice_get_within}
@@ -216,6 +216,11 @@ module _ (names : List (List ℕ)) (counts : List Count) (done : List Sample) (s
           let miss : ends (name_at names i) s.stack ≡ false = and_right (ltb 0 (length s.stack)) (bytes_eq (name_at names i) end) other in
           subst (IsCount (name_at names i) (done ++ s ∷ []) [] 0 (stamp + 1)) (sym now)
           (count-done (name_at names i) done s stamp (get_or counts i d) (get_or counts i d) (are.each i d lt) (omega (arith, ap (λ b. cond b s.weight 0) miss)) refl refl)
+
+-- counts that were lent whole, with what was written to them
+pub lent_back : (old new : List Count) (n : ℕ) → length old ≤ length new → length new ≤ n → take n (new ++ drop (length new) old) ≡ new
+lent_back old new n all fits =
+    ap (λ rest. take n (new ++ rest)) (drop_all (length new) old all) ∙ (ap (take n) (append-nil new) ∙ take_all n new fits)
 
 -- nothing was counted yet
 pub nothing_counted : (names : List (List ℕ)) (counts : List Count) → length counts ≡ length names → ((i : ℕ) (d : Count) → i < length counts → get_or counts i d ≡ none) → AreCounts names counts [] [] 0 1

@@ -11,5 +11,6 @@ pub mod SafeReading
 pub mod SafeStrings
 pub mod SafeText
 pub mod Seams
+pub mod Unsent
 mod WorkedPages
 mod WorkedReading

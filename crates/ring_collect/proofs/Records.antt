@@ -208,6 +208,9 @@ module _ (old new : List (List ℕ)) (grown : GrowsTo old new) where
       by_cases [] known = refl
       by_cases (n ∷ numbers) known = ap (λ name. name ∷ names_at new numbers) (name_grown n known.0) ∙ ap (λ names. slice_index_or old n [] ∷ names) (by_cases numbers known.1)
 
+pub grown_further : (old more : List (List ℕ)) {middle new : List (List ℕ)} → middle ≡ old ++ more → GrowsTo middle new → GrowsTo old new
+grown_further old more grew grown = (more ++ grown.0, grown.1 ∙ ap (λ names. names ++ grown.0) grew ∙ append_assoc old more grown.0)
+
 -- the numbers so far and one more, which stands for this name
 pub names_at_push : (old new : List (List ℕ)) (numbers : List ℕ) (n : ℕ) (name : List ℕ) (names : List (List ℕ)) → GrowsTo old new → All (λ k. k < length old) numbers
     → names_at old numbers ≡ names → slice_get new n ≡ Some name → names_at new (numbers ++ n ∷ []) ≡ names ++ name ∷ []

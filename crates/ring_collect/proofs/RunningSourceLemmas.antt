@@ -14,6 +14,9 @@ module _ {A : Type 0} (xs : List A) where
   pub slice_get_front : (ys : List A) (i : ℕ) (x : A) → i < length xs → slice_get (xs ++ ys) i ≡ Some x → slice_get xs i ≡ Some x
   slice_get_front ys i x below is = slice_get-get_or xs i x below ∙ ap Some (sym (get_or_append_left xs ys x i below) ∙ get_or_from_slice_get (xs ++ ys) i x x is)
 
+  pub slice_get_seam : (x : A) (ys : List A) → slice_get (xs ++ x ∷ ys) (length xs) ≡ Some x
+  slice_get_seam x ys = slice_get-get_or (xs ++ x ∷ ys) (length xs) x (let count = length-append xs (x ∷ ys) in omega arith) ∙ ap Some (get_or-append_seam xs x ys x)
+
   -- an entry of a list with one more is the last, or an earlier one
   pub data PushedAt (y : A) (i : ℕ) (x : A) : Type 0 where
     Earlier : i < length xs → slice_get xs i ≡ Some x → PushedAt y i x
@@ -67,3 +70,14 @@ fresh_push {intakes} intake fresh one = record { each = λ source i is. by_index
 pub taken_front : {X A : Type 0} (s : IntoIter X A) (xs : List X) (t : IntoIter X A) → Yields into_iter_steps s xs t → into_iter_items s ≡ xs ++ into_iter_items t
 taken_front s [] t y = ap into_iter_items y
 taken_front s (x ∷ xs) t y = y.1.0 ∙ ap (λ ys. x ∷ ys) (taken_front y.0 xs t y.2)
+
+-- while it gives one more, it has not given all
+module _ {X A : Type 0} (s : IntoIter X A) (xs : List X) (t : IntoIter X A) (yields : Yields into_iter_steps s xs t) (x : X) (rest : List X) (next : into_iter_items t ≡ x ∷ rest) where
+  taken_seam : into_iter_items s ≡ xs ++ x ∷ rest
+  taken_seam = taken_front s xs t yields ∙ ap (λ ys. xs ++ ys) next
+
+  pub taken_fewer : length xs < length (into_iter_items s)
+  taken_fewer = let count = ap length taken_seam ∙ length-append xs (x ∷ rest) in omega arith
+
+  pub taken_next : slice_get (into_iter_items s) (length xs) ≡ Some x
+  taken_next = ap (λ ys. slice_get ys (length xs)) taken_seam ∙ slice_get_seam xs x rest

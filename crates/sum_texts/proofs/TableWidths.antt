@@ -2,7 +2,7 @@
 use Rattle.std.proofs.Common.{◌≡◌, ℕ, ◌+◌, ◌<◌, max, List, [], ◌∷◌, ◌++◌, length, get_or, take, ap, ◌∙◌, arith, Option, unwrap_or}
 use Rattle.std.proofs.lemmas.List.{map_more}
 use Rattle.function_sums.specs.declared.sums.FunctionSum.{FunctionSum}
-use Rattle.sum_texts.specs.FunctionTable.{Entries, headings, entries_of, widest, lines_of}
+use Rattle.sum_texts.specs.FunctionTable.{Entries, at_right, at_right_if, headings, entries_of, widest, lines_of}
 use Rattle.sum_texts.specs.checked.Widths.{widths_in, widths_of}
 use Rattle.sum_texts.specs.declared.widths.Widths.{Widths}
 
@@ -15,6 +15,16 @@ widest-push column (one ∷ lines) line = ap (max (length (column one))) (widest
   where
     regrouped : (a b c : ℕ) → max a (max b c) ≡ max (max a b) c
     regrouped a b c = grind arith
+
+-- a line in columns of these widths
+abbrev pub line_in : Widths → Entries → List ℕ → List ℕ
+line_in widths entries name =
+    at_right widths.own entries.own
+    ++ (at_right widths.own_percent entries.own_percent
+    ++ (at_right widths.total entries.total
+    ++ (at_right widths.total_percent entries.total_percent
+    ++ (at_right_if widths.whole_percent entries.whole_percent
+    ++ (name ++ 10 ∷ [])))))
 
 -- as wide as needed for a line too
 abbrev pub widened : Widths → Entries → Widths

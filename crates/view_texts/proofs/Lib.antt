@@ -1,4 +1,5 @@
 pub mod FoldRows
+pub mod Fronts
 pub mod JsonBytes
 pub mod JsonFrames
 pub mod JsonLists

@@ -1,45 +1,15 @@
-use Rattle.std.proofs.Common.{◌≡◌, ◌≤◌, [], ◌∙◌, sym, ap, subst, arith, map, length, List, All}
+use Rattle.std.proofs.Common.{◌≡◌, ◌≤◌, sym, subst, length, List, All}
 use Rattle.std.proofs.lemmas.Result.{IfOk-weaker}
 use Rattle.flame_layout.specs.declared.boxes.PairRow.{PairRow}
-use Rattle.merged_stacks.specs.declared.paired_sides.Side.TheVariants.{Before, After}
-use Rattle.merged_stacks.specs.Timeline.{total_weight}
-use Rattle.merged_stacks.specs.Paired.{side_samples}
-use Rattle.flame_layout.specs.Boxes.{span_of}
-use Rattle.flame_layout.specs.Chart.{chart_of}
 use Rattle.flame_layout.specs.Comparison.{comparison_of}
-use Rattle.flame_layout.specs.checked.Paired.{paired_rows}
 use Rattle.flame_layout.proofs.Depths.{compared-depth}
-use Rattle.flame_layout.proofs.Sides.{before_weight, after_weight, compared_rows}
 use Rattle.flame_layout.proofs.comparisons.compare.Goals as goal
-
-pub draw_all-requires : goal.draw_all-requires
-draw_all-requires c =
-    let before = c.args.before.now.samples in
-    let after = c.args.after.now.samples in
-    let weight = ap (λ stacks. total_weight (side_samples Before stacks)) c.in_ok-stacks.ensures ∙ before_weight before after in
-    omega (arith, weight, c.total.ensures, c.requires.before)
-
-pub draw_all-requires-2 : goal.draw_all-requires-2
-draw_all-requires-2 c =
-    let before = c.args.before.now.samples in
-    let after = c.args.after.now.samples in
-    let weight = ap (λ stacks. total_weight (side_samples After stacks)) c.in_ok-stacks.ensures ∙ after_weight before after in
-    omega (arith, weight, c.total-2.ensures, c.requires.after)
-
-pub returns-clause-rows : goal.returns-clause-rows
-returns-clause-rows c =
-    let before = c.args.before.now.samples in
-    let after = c.args.after.now.samples in
-    let lefts = ap (map span_of) c.deref.ensures.value ∙ (c.in_ok-left.ensures ∙ ap (λ stacks. chart_of (side_samples Before stacks)) c.in_ok-stacks.ensures) in
-    let rights = ap (map span_of) c.deref-2.ensures.value ∙ (c.in_ok-right.ensures ∙ ap (λ stacks. chart_of (side_samples After stacks)) c.in_ok-stacks.ensures) in
-    IfOk-weaker c.pair_rows.result (λ rows. rows.items ≡ paired_rows [] (map span_of c.deref.result.now) (map span_of c.deref-2.result.now)) (λ rows. rows.items ≡ comparison_of before after)
-    (λ found e. e ∙ compared_rows before after (map span_of c.deref.result.now) (map span_of c.deref-2.result.now) lefts rights) c.pair_rows.ensures
 
 pub returns-clause-depth : goal.returns-clause-depth
 returns-clause-depth c =
     let before = c.args.before.now.samples in
     let after = c.args.after.now.samples in
-    IfOk-weaker c.pair_rows.result (λ rows. rows.items ≡ comparison_of before after) (λ rows. All (λ row. length row.path ≤ 4096) rows.items)
+    IfOk-weaker c.compare_stacks.result (λ rows. rows.items ≡ comparison_of before after) (λ rows. All (λ row. length row.path ≤ 4096) rows.items)
     (λ found e. subst (λ (rows : List PairRow). All (λ row. length row.path ≤ 4096) rows) (sym e)
     (compared-depth 4096 before after (λ k d l. (c.len.ensures.limits k d l).depth) (λ k d l. (c.len-2.ensures.limits k d l).depth)))
-    (returns-clause-rows c)
+    c.compare_stacks.ensures

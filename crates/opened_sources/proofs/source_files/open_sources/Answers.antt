@@ -1,9 +1,10 @@
-use Rattle.std.proofs.Common.{rules, ◌≡◌, ◌+◌, ◌++◌, [], ◌∷◌, ◌∙◌, arith, ap, sym, subst, length, map, take, get_or, string_bytes, List}
+use Rattle.std.proofs.Common.{rules, ◌≡◌, ◌+◌, ◌<◌, ◌++◌, [], ◌∷◌, ◌∙◌, arith, ap, sym, subst, length, map, take, get_or, string_bytes, List}
+use Rattle.std.proofs.lemmas.Bool.{eqb-false}
 use Rattle.std.proofs.lemmas.List.{length_push}
 use Rattle.std.specs.List.{AllZip}
 use Rattle.source_lists.specs.declared.sources.Source.{Source}
 use Rattle.opened_sources.specs.Opening.{IsOpened}
-use Rattle.opened_sources.proofs.OpenedSources.{opened_more}
+use Rattle.opened_sources.proofs.OpenedSources.{opened_more, opened_whole}
 use Rattle.opened_sources.proofs.source_files.open_sources.Goals as goal
 
 pub loop-path-preserved : goal.loop-path-preserved
@@ -28,3 +29,14 @@ loop-path-preserved g c =
           subst (λ (items : List Source). AllZip (IsOpened c.args.asked known) (map string_bytes (take (at + 1) paths)) items) (sym added.1)
           (opened_more c.args.asked string_bytes known paths at path c.loop-path.sources.items source (omega arith) is c.loop-path.invariant.opened here);
     }
+
+pub returns-clause-opened : goal.returns-clause-opened
+returns-clause-opened g c =
+    let some : 0 < length c.args.paths.now = omega (arith, eqb-false (length c.args.paths.now) 0 (sym c.if-is_empty.ensures)) in
+    opened_whole c.args.asked string_bytes (g.F.Files.known_input c.args.files.now) (g.F.Files.known_file c.args.files.now) c.args.paths.now c.loop-path.path-index c.loop-path.sources.items some (omega arith) c.loop-path.invariant.opened
+
+pub returns-clause-few : goal.returns-clause-few
+returns-clause-few g c = omega (arith, c.loop-path.invariant.count)
+
+pub returns-clause-count : goal.returns-clause-count
+returns-clause-count g c = λ two. omega (arith, two, c.loop-path.invariant.count)

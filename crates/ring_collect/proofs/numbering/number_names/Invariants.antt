@@ -1,6 +1,6 @@
 use Rattle.std.proofs.Common.{◌≡◌, ◌<◌, ◌++◌, All, map, take, length, string_bytes}
 use Rattle.stack_core.specs.Records.{names_at}
-use Rattle.ring_collect.specs.NamesInOrder.{GrowsTo, with_stack}
+use Rattle.ring_collect.specs.NamesInOrder.{with_stack}
 use Rattle.ring_collect.proofs.numbering.number_names.Given as goal
 
 -- the names so far have their numbers, and the new ones stand behind those before

@@ -1,9 +1,10 @@
-use Rattle.std.proofs.Common.{◌≡◌, ◌+◌, ◌∙◌, ◌++◌, ◌∷◌, [], sym, ap, subst, rules, map, length, arith, length-append}
+use Rattle.std.proofs.Common.{◌≡◌, ◌+◌, ◌∙◌, ◌++◌, ◌∷◌, [], sym, ap, subst, rules, map, length, arith, length-append, append-nil}
 use Rattle.std.proofs.lemmas.List.{map-append, length-map}
 use Rattle.std.specs.Arc.{arc_value}
 use Rattle.std.specs.Vec.Iter.{into_iter_items}
 use Rattle.ring_collect.specs.checked.RunningSources.{ArePromised, AreFresh, IsFresh, IsPromised}
 use Rattle.ring_collect.proofs.RunningSourceLemmas.{promised_of_more, promised_push, fresh_push, taken_front}
+use Rattle.ring_collect.proofs.SettlementLemmas.{no_items}
 use Rattle.ring_collect.proofs.reader_threads.start_all.Goals as goal
 
 pub returns-in_err-running-clause-promised : goal.returns-in_err-running-clause-promised
@@ -34,3 +35,23 @@ loop-reader-preserved g c =
       fresh = subst AreFresh (sym (ap (map (λ s. s.intake)) pushed ∙ map-append (λ s. s.intake) all (started ∷ [])))
           (fresh_push started.intake so_far.fresh (subst (λ n. IsFresh n started.intake) (so_far.source ∙ sym (length-map all (λ s. s.intake) ∙ so_far.started)) c.in_ok-running.ensures.fresh));
     }
+
+-- all readers were given
+whole : (g : _) (c : goal.After-drop-rings-2 g) → c.args.readers.items ≡ c.loop-reader.yielded
+whole g c =
+    let gives : into_iter_items c.into_iter-reader-iterator.result ≡ c.args.readers.items = c.into_iter-reader-iterator.ensures.into_iter_gives.0 in
+    let before = taken_front c.into_iter-reader-iterator.result c.loop-reader.yielded c.loop-reader.reader-iterator c.loop-reader.yielded_by in
+    let none : into_iter_items c.loop-reader.reader-iterator ≡ [] = no_items (into_iter_items c.loop-reader.reader-iterator) (let ok = c.loop-reader.reader-iterator.rest.ok.0 in let none = c.in-None.ensures.steps.0 in omega arith) in
+    sym gives ∙ before ∙ ap (λ rest. c.loop-reader.yielded ++ rest) none ∙ append-nil c.loop-reader.yielded
+
+pub returns-clause-promised : goal.returns-clause-promised
+returns-clause-promised g c = subst (λ readers. ArePromised (arc_value c.args.gate.now) readers (map (λ s. s.handle.promise) c.loop-reader.sources.items)) (sym (whole g c)) c.loop-reader.invariant.promised
+
+pub returns-clause-all : goal.returns-clause-all
+returns-clause-all g c = c.loop-reader.invariant.started ∙ ap length (sym (whole g c))
+
+pub returns-clause-fresh : goal.returns-clause-fresh
+returns-clause-fresh g c = c.loop-reader.invariant.fresh
+
+pub returns-in_err-running-clause-fresh : goal.returns-in_err-running-clause-fresh
+returns-in_err-running-clause-fresh g c = c.loop-reader.invariant.fresh

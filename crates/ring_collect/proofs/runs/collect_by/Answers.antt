@@ -26,3 +26,18 @@ returns-clause-sink g c = gains_all (c.in_ok-run.ensures.whole c.in-None.is) c.i
 
 pub returns-clause-by_source : goal.returns-clause-by_source
 returns-clause-by_source g c = of_each_source (c.in_ok-run.ensures.whole c.in-None.is) c.in_ok-lists.ensures
+
+pub returns-in_err-lists-clause-refused : goal.returns-in_err-lists-clause-refused
+returns-in_err-lists-clause-refused g c = λ _. c.in_ok-run.ensures.gains
+
+pub returns-in_err-lists-clause-popped : goal.returns-in_err-lists-clause-popped
+returns-in_err-lists-clause-popped g c = λ _. c.in_ok-run.ensures.popped
+
+pub returns-in-Some-clause-refused : goal.returns-in-Some-clause-refused
+returns-in-Some-clause-refused g c = λ _. c.in_ok-run.ensures.gains
+
+pub returns-in-Some-clause-popped : goal.returns-in-Some-clause-popped
+returns-in-Some-clause-popped g c = λ _. c.in_ok-run.ensures.popped
+
+pub returns-clause-setting : goal.returns-clause-setting
+returns-clause-setting g c = c.run_sources.ensures.setting

@@ -1,4 +1,5 @@
-use Rattle.std.proofs.Common.{◌∙◌, map}
+use Rattle.std.proofs.Common.{◌∙◌, arith, map}
+use Rattle.std.proofs.lemmas.List.{length-map}
 use Rattle.std.specs.Arc.{arc_value}
 use Rattle.ring_collect.specs.checked.RunningSources.{ArePromised}
 use Rattle.ring_collect.specs.checked.Rounds.{HasGained}
@@ -28,3 +29,21 @@ returns-in-Some-clause-unfinished g c =
     unfinishes _ c.in-Some.source (still_promised c.start_all-started.new.sources.items c.drain.new.self.sources.items c.drain.ensures.handles c.start_all-started.ensures.promised)
     (c.drain.ensures.gained (g.F.Feed.taken c.args.sink.now) (nothing_gained _ _ _ _ c.new-order.ensures.items c.start_all-started.ensures.fresh))
     c.in-Some.ensures.unfinished
+
+pub returns-clause-refused : goal.returns-clause-refused
+returns-clause-refused g c = c.refusal.ensures.finished
+
+pub returns-clause-setting : goal.returns-clause-setting
+returns-clause-setting g c = c.drain.ensures.setting
+
+pub returns-in-Some-clause-setting : goal.returns-in-Some-clause-setting
+returns-in-Some-clause-setting g c = c.drain.ensures.setting
+
+pub settle_all-requires : goal.settle_all-requires
+settle_all-requires g c =
+    let few = c.requires.few in
+    let room = c.requires.ledgers.1 in
+    let started = as_many c.start_all-started.new.sources.items c.drain.new.self.sources.items c.drain.ensures.handles in
+    let promised = c.start_all-started.ensures.promised.no_more in
+    let count = length-map c.start_all-started.new.sources.items (λ s. s.handle.promise) in
+    record { few = omega arith; closed = c.drain.ensures.closed; room = omega arith; none = c.requires.ledgers.0 }

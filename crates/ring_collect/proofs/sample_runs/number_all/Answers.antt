@@ -4,7 +4,6 @@ use Rattle.std.proofs.lemmas.List.Elements.{All-push}
 use Rattle.stack_core.specs.Reading.{Rest}
 use Rattle.sample_tables.specs.Rows.{ToldRows}
 use Rattle.ring_collect.specs.checked.Numbering.{told_of, with_waiting}
-use Rattle.ring_collect.specs.declared.numbering.NumberingReader.{NumberingReader}
 use Rattle.ring_collect.proofs.sample_runs.number_all.Goals as goal
 
 pub loop-reader-preserved : goal.loop-reader-preserved

@@ -1,9 +1,28 @@
-use Rattle.std.proofs.Common.{◌≡◌, ◌+◌, ◌<◌, ◌∙◌, ◌++◌, ◌∷◌, [], sym, ap, subst, arith, length-append, IfNone, IfSome, append-nil}
+use Rattle.std.proofs.Common.{◌≡◌, ◌+◌, ◌<◌, ◌∙◌, ◌++◌, ◌∷◌, [], length, sym, ap, subst, arith, length-append, IfNone, IfSome, IsSome, slice_get, append-nil}
 use Rattle.std.specs.Vec.Iter.{into_iter_items}
 use Rattle.ring_collect.specs.checked.Settlement.{AreSettled}
-use Rattle.ring_collect.proofs.RunningSourceLemmas.{taken_front}
+use Rattle.ring_collect.proofs.RunningSourceLemmas.{taken_fewer, taken_front, taken_next}
 use Rattle.ring_collect.proofs.SettlementLemmas.{more_settled, first_below, no_items}
 use Rattle.ring_collect.proofs.settlement.settle_all.Goals as goal
+
+pub settle-requires : goal.settle-requires
+settle-requires g c =
+    let all = c.into_iter-running-iterator.result in
+    let before = c.loop-running.yielded in
+    let gives : into_iter_items all ≡ c.args.sources.items = c.into_iter-running-iterator.ensures.into_iter_gives.0 in
+    let fewer = taken_fewer all before c.loop-running.running-iterator c.loop-running.yielded_by c.in-Some.running _ c.in-Some.ensures.steps.0 in
+    let next = taken_next all before c.loop-running.running-iterator c.loop-running.yielded_by c.in-Some.running _ c.in-Some.ensures.steps.0 in
+    subst (λ found. IfSome found (λ running. IsSome running.intake.close)) (ap (λ items. slice_get items (length before)) (sym gives) ∙ next)
+    (c.requires.closed (length before) (subst (λ items. length before < length items) gives fewer))
+
+pub add_ledger-unfinished-requires : goal.add_ledger-unfinished-requires
+add_ledger-unfinished-requires g c =
+    let all = c.into_iter-running-iterator.result in
+    let gives : length (into_iter_items all) ≡ length c.args.sources.items = ap length c.into_iter-running-iterator.ensures.into_iter_gives.0 in
+    let fewer = taken_fewer all c.loop-running.yielded c.loop-running.running-iterator c.loop-running.yielded_by c.in-Some.running _ c.in-Some.ensures.steps.0 in
+    let room = c.loop-running.invariant.room in
+    let ledgers = c.loop-running.invariant.ledgers in
+    omega arith
 
 pub loop-running-preserved : goal.loop-running-preserved
 loop-running-preserved g c =
@@ -19,10 +38,17 @@ loop-running-preserved g c =
       unfinished = subst (λ n. IfSome c.add_ledger-unfinished.result (λ first. first < n)) (sym one_more) (first_below c.loop-running.unfinished c.add_ledger-unfinished.result added.first so_far.unfinished so_far.source);
     }
 
-pub returns-clause-settled : goal.returns-clause-settled
-returns-clause-settled g c =
+-- all sources were given
+whole : (g : _) (c : goal.After-drop-running-iterator g) → c.args.sources.items ≡ c.loop-running.yielded
+whole g c =
     let gives : into_iter_items c.into_iter-running-iterator.result ≡ c.args.sources.items = c.into_iter-running-iterator.ensures.into_iter_gives.0 in
     let before = taken_front c.into_iter-running-iterator.result c.loop-running.yielded c.loop-running.running-iterator c.loop-running.yielded_by in
     let none : into_iter_items c.loop-running.running-iterator ≡ [] = no_items (into_iter_items c.loop-running.running-iterator) (let ok = c.loop-running.running-iterator.rest.ok.0 in let none = c.in-None.ensures.steps.0 in omega arith) in
-    let whole = sym gives ∙ before ∙ ap (λ rest. c.loop-running.yielded ++ rest) none ∙ append-nil c.loop-running.yielded in
-    subst (λ all. IfNone c.loop-running.unfinished (AreSettled (λ gate. g.G.Gate.may_stop gate) (λ gate. g.G.Gate.may_go gate) (λ reader. g.R.RowReader.rest reader) all c.loop-running.ledgers.items)) (sym whole) c.loop-running.invariant.settled
+    sym gives ∙ before ∙ ap (λ rest. c.loop-running.yielded ++ rest) none ∙ append-nil c.loop-running.yielded
+
+pub returns-clause-settled : goal.returns-clause-settled
+returns-clause-settled g c =
+    subst (λ all. IfNone c.loop-running.unfinished (AreSettled (λ gate. g.G.Gate.may_stop gate) (λ gate. g.G.Gate.may_go gate) (λ reader. g.R.RowReader.rest reader) all c.loop-running.ledgers.items)) (sym (whole g c)) c.loop-running.invariant.settled
+
+pub returns-clause-unfinished : goal.returns-clause-unfinished
+returns-clause-unfinished g c = subst (λ all. IfSome c.loop-running.unfinished (λ source. source < length all)) (sym (whole g c)) c.loop-running.invariant.unfinished

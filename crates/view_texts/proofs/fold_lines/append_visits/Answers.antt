@@ -1,5 +1,10 @@
-use Rattle.std.proofs.Common.{◌++◌, ◌∙◌, ap, map, string_bytes, Vec, Global, ℕ}
+use Rattle.std.proofs.Common.{◌++◌, ◌∙◌, [], List, ap, arith, map, string_bytes, Vec, Global, ℕ}
+use Rattle.std.proofs.lemmas.List.{take_all}
+use Rattle.byte_io.proofs.PieceTexts.{further}
+use Rattle.call_tree.specs.declared.listing.Visit.{Visit}
 use Rattle.folded_lines.specs.Writing.{line_of}
+use Rattle.view_texts.specs.checked.Visited.{visited_lines}
+use Rattle.view_texts.proofs.Fronts.{longer_front, same_front}
 use Rattle.view_texts.proofs.VisitedLines.{visit_at, names_more, line_more, no_line_more}
 use Rattle.view_texts.proofs.fold_lines.append_visits.Goals as goal
 use Rattle.view_texts.proofs.fold_lines.append_visits.Goals.{then-visit-gt0+in_ok-append_line, else-visit-gt0}
@@ -23,3 +28,20 @@ loop-visit-preserved c =
         | else-visit-gt0 w ↦ no_line_more names visits i start out c.if-visit-gt0.out.items path c.loop-visit-test.true more c.loop-visit.invariant.text w.if-visit-gt0.false (ap (λ (v : Vec ℕ Global). v.items) w.out-is)
       ];
     }
+
+pub returns-in_err-step_to-clause-front : goal.returns-in_err-step_to-clause-front
+returns-in_err-step_to-clause-front c = longer_front c.loop-visit.out.items c.args.out.now.items _ c.loop-visit.invariant.text
+
+pub returns-in_err-append_line-clause-front : goal.returns-in_err-append_line-clause-front
+returns-in_err-append_line-clause-front c =
+    let new = c.append_line.new.out.items in
+    let lines = c.loop-visit.out.items in
+    further new lines c.args.out.now.items _ (same_front new lines c.in_err-append_line.ensures.refused) c.loop-visit.invariant.text
+
+pub returns-clause-ok : goal.returns-clause-ok
+returns-clause-ok c =
+    let visits = c.args.visits.now in
+    c.loop-visit.invariant.text ∙ ap (λ (all : List Visit). c.args.out.now.items ++ visited_lines c.args.table.now [] all) (take_all c.loop-visit.visit-index visits (omega arith))
+
+pub returns-clause-front : goal.returns-clause-front
+returns-clause-front c = longer_front c.loop-visit.out.items c.args.out.now.items _ c.loop-visit.invariant.text

@@ -1,6 +1,8 @@
 use Rattle.std.proofs.Common.{arith}
 use Rattle.std.proofs.lemmas.Grind.{common_steps}
+use Rattle.byte_io.proofs.PieceTexts.{further}
 use Rattle.serde_json.proofs.FreeTexts.{text_of_str}
+use Rattle.view_texts.proofs.Fronts.{longer_front, same_front}
 use Rattle.view_texts.proofs.PlainTexts.{quoted-plain}
 use Rattle.view_texts.proofs.json_pieces.append_quoted.Goals as goal
 
@@ -14,3 +16,23 @@ returns-in-Ok-clause-ok c =
     let sent = c.in-Ok.ensures.events in
     let text = text_of_str c.args.text.now sent.0 c.in-Ok.quoted.items sent.1 sent.2 in
     grind (arith, common_steps, text)
+
+pub returns-in_err-extend_from_slice-clause-front : goal.returns-in_err-extend_from_slice-clause-front
+returns-in_err-extend_from_slice-clause-front c =
+    let new = c.extend_from_slice.new.self.items in
+    let quote = c.push.new.self.items in
+    further new quote c.args.out.now.items _ (same_front new quote c.in_err-extend_from_slice.ensures.items) c.in_ok-push.ensures.items
+
+pub returns-in_err-push-2-clause-front : goal.returns-in_err-push-2-clause-front
+returns-in_err-push-2-clause-front c =
+    let new = c.push-then-is_plain.new.self.items in
+    let quote = c.push.new.self.items in
+    let text = c.extend_from_slice.new.self.items in
+    further new quote c.args.out.now.items _ (further new text quote _ (same_front new text c.in_err-push-2.ensures.items) c.in_ok-extend_from_slice.ensures.items) c.in_ok-push.ensures.items
+
+pub returns-then-is_plain-clause-front : goal.returns-then-is_plain-clause-front
+returns-then-is_plain-clause-front c =
+    let new = c.push-then-is_plain.new.self.items in
+    let quote = c.push.new.self.items in
+    let text = c.extend_from_slice.new.self.items in
+    further new quote c.args.out.now.items _ (further new text quote _ (longer_front new text _ c.in_ok-push-2.ensures.items) c.in_ok-extend_from_slice.ensures.items) c.in_ok-push.ensures.items

@@ -1,4 +1,4 @@
-use Rattle.std.proofs.Common.{◌≡◌, ◌<◌, ℕ, [], ◌∷◌, ◌++◌, map, false, sym, ap, subst, ◌∙◌, arith, length, get_or, slice_get, vec_capacity}
+use Rattle.std.proofs.Common.{◌≡◌, ◌+◌, ◌*◌, ◌<◌, ℕ, [], ◌∷◌, ◌++◌, map, false, sym, ap, subst, ◌∙◌, arith, length, get_or, slice_get, vec_capacity}
 use Rattle.std.specs.BTreeMap.{get_by_text}
 use Rattle.call_tree.specs.checked.NamePlaces.{HasPlaces}
 use Rattle.std.specs.List.{list_any}
@@ -7,7 +7,7 @@ use Rattle.std.specs.Str.{bytes_eq}
 use Rattle.std.proofs.lemmas.List.{map-append, length-map}
 use Rattle.call_tree.specs.FrameTable.{with_name, HasDistinctNames}
 use Rattle.call_tree.proofs.Names.{IsAt, IsAt_push, slice_get-IsAt, with_name_known, with_name_new, HasDistinctNames_push}
-use Rattle.call_tree.proofs.FoundNames.{none_among, places_push}
+use Rattle.call_tree.proofs.FoundNames.{none_among, places_keep, places_push}
 use Rattle.call_tree.proofs.frame_table.FrameTable.intern.Goals as goal
 
 found_at : (c : goal.In-Some) → IsAt c.args.self.now c.args.name.now c.in-Some.number
@@ -66,3 +66,56 @@ returns-clause-number c =
 
 pub returns-clause-distinct : goal.returns-clause-distinct
 returns-clause-distinct c = distinct_after c
+
+pub make_room-requires : goal.make_room-requires
+make_room-requires c = subst (λ names. HasPlaces (map string_bytes names) c.self.inside.places.slots c.self.inside.places.cells.items (vec_capacity c.self.inside.places.cells) (get_by_text c.self.inside.crowded))
+    (sym c.as_slice.ensures.value) c.self.invariant.1
+
+pub invariant_of-self : goal.invariant_of-self
+invariant_of-self c = (
+  c.self.invariant.0,
+  subst (λ names. HasPlaces (map string_bytes names) c.make_room.new.places.slots c.make_room.new.places.cells.items (vec_capacity c.make_room.new.places.cells) (get_by_text c.self.inside.crowded))
+      c.as_slice.ensures.value c.in_err-make_room.ensures.places,
+)
+
+pub take_place-requires : goal.take_place-requires
+take_place-requires c =
+    let places = c.in_ok-make_room.ensures.places in
+    let len = places.len in
+    let room = c.in_ok-make_room.ensures.room in
+    record { some = omega arith; slots = omega arith; sound = places.sound }
+
+pub invariant_of-self-in_err-place : goal.invariant_of-self-in_err-place
+invariant_of-self-in_err-place c = (
+  c.self.invariant.0,
+  places_keep c.args.name.now
+      (subst (λ names. HasPlaces (map string_bytes names) c.make_room.new.places.slots c.make_room.new.places.cells.items (vec_capacity c.make_room.new.places.cells) (get_by_text c.self.inside.crowded))
+      c.as_slice.ensures.value c.in_ok-make_room.ensures.places)
+      c.in_err-place.ensures.others
+      (subst (λ names. (n : ℕ) → n < length names → get_or names n [] ≡ c.args.name.now → ⊥) (sym c.self.view_is) c.in_default.ensures),
+)
+
+pub invariant_of-self-in_err-push : goal.invariant_of-self-in_err-push
+invariant_of-self-in_err-push c =
+    let places = subst (λ names. HasPlaces (map string_bytes names) c.make_room.new.places.slots c.make_room.new.places.cells.items (vec_capacity c.make_room.new.places.cells) (get_by_text c.self.inside.crowded))
+    c.as_slice.ensures.value c.in_ok-make_room.ensures.places in
+    let none = subst (λ names. (n : ℕ) → n < length names → get_or names n [] ≡ c.args.name.now → ⊥) (sym c.self.view_is) c.in_default.ensures in
+    subst (λ names. HasDistinctNames (map string_bytes names) × HasPlaces (map string_bytes names) c.make_room.new.places.slots c.make_room.new.places.cells.items (vec_capacity c.make_room.new.places.cells) (get_by_text c.take_place.new.crowded))
+    (sym c.in_err-push.ensures.items) (c.self.invariant.0, places_keep c.args.name.now places c.in_ok-place.ensures.others none)
+
+pub push-requires-2-clause-next : goal.push-requires-2-clause-next
+push-requires-2-clause-next c =
+    c.in_ok-make_room.ensures.places.len
+    ∙ ap (λ n. c.make_room.new.places.slots + 2 * n) (ap (λ names. length (map string_bytes names)) c.as_slice.ensures.value ∙ ap length c.self.view_is ∙ sym c.len-number.ensures.count)
+
+pub push-requires-2-clause-sound : goal.push-requires-2-clause-sound
+push-requires-2-clause-sound c = c.in_ok-make_room.ensures.places.sound
+
+pub push-requires-2-clause-room : goal.push-requires-2-clause-room
+push-requires-2-clause-room c =
+    let room = c.in_ok-make_room.ensures.room in
+    let count = length-map c.as_slice.result.now string_bytes in
+    let names = ap (λ names. length (map string_bytes names)) c.as_slice.ensures.value in
+    let seen = ap length c.self.view_is in
+    let number = c.len-number.ensures.count in
+    omega arith
