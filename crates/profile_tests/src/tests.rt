@@ -18,26 +18,32 @@ use files::{
     LEAST_INDEX, MINUS_ONE, NEGATIVE, NO_FRAMES, SAMPLE_FAULTS, SEPARATORS, SMALLEST, TABLE_FAULTS,
     TWO_LINES, UNPACKED,
 };
-use lending::{Question, tables_say};
+use lending::{Question, Saying, say_so};
 use profile_tables::PprofReader;
-use reading::{LINES, PLAIN, named, reads_as, reads_plainly};
+use reading::{BY_N, BY_X, LINES, PLAIN, Reading, read_so, reads_plainly};
 use stack_core::SampleReader;
+use std::alloc::AllocError;
+use std::process::Abort;
 use std::test::Fail;
+
+const SMALLEST_SAYS: [Saying<'static>; 3] = [
+    (&[SMALLEST], PLAIN, Question::Value, "0 of 1"),
+    (&[SMALLEST], PLAIN, Question::Frames(1), "main"),
+    (&[SMALLEST], PLAIN, Question::Frames(2), "no location"),
+];
+
+const EMPTY_SAYS: [Saying<'static>; 1] = [(&[b""], PLAIN, Question::Value, "none of 0")];
 
 #[test]
 fn empty_sources(rt: HostRuntime) -> Result<(), Fail> {
     reads_plainly(&rt, &[b""], "clean")?;
-    tables_say(&rt, &[b""], PLAIN, Question::Value, "none of 0")?;
-    Ok(())
+    say_so(&rt, &EMPTY_SAYS)
 }
 
 #[test]
 fn smallest_profile(rt: HostRuntime) -> Result<(), Fail> {
     reads_plainly(&rt, &[SMALLEST], "main 7\nclean")?;
-    tables_say(&rt, &[SMALLEST], PLAIN, Question::Value, "0 of 1")?;
-    tables_say(&rt, &[SMALLEST], PLAIN, Question::Frames(1), "main")?;
-    tables_say(&rt, &[SMALLEST], PLAIN, Question::Frames(2), "no location")?;
-    Ok(())
+    say_so(&rt, &SMALLEST_SAYS)
 }
 
 #[test]
@@ -52,46 +58,63 @@ fn inlined_frames(rt: HostRuntime) -> Result<(), Fail> {
     Ok(())
 }
 
+const PICKED: [Reading<'static>; 5] = [
+    (&[BASE], PLAIN, "f 9\nclean"),
+    (&[BASE, b"\x70\x01"], PLAIN, "f 5\nclean"),
+    (&[BASE, b"\x70\x03"], PLAIN, "f 9\nclean"),
+    (&[BASE], BY_N, "f 5\nclean"),
+    (&[BASE], BY_X, "UnknownSampleType at 48"),
+];
+
 #[test]
 fn picking_a_value(rt: HostRuntime) -> Result<(), Fail> {
-    reads_plainly(&rt, &[BASE], "f 9\nclean")?;
-    reads_plainly(&rt, &[BASE, b"\x70\x01"], "f 5\nclean")?;
-    reads_plainly(&rt, &[BASE, b"\x70\x03"], "f 9\nclean")?;
-    reads_as(&rt, &[BASE], named("n"), "f 5\nclean")?;
-    reads_as(&rt, &[BASE], named("x"), "UnknownSampleType at 48")?;
-    Ok(())
+    read_so(&rt, &PICKED)
 }
+
+const ONE_NEGATIVE: [Reading<'static>; 2] = [
+    (&[BASE, NEGATIVE], PLAIN, "f 9\nNegativeWeight at 48"),
+    (&[BASE, NEGATIVE], BY_N, "f 5\nf 5\nclean"),
+];
 
 #[test]
 fn negative_weight(rt: HostRuntime) -> Result<(), Fail> {
-    let file = [BASE, NEGATIVE];
-    reads_plainly(&rt, &file, "f 9\nNegativeWeight at 48")?;
-    reads_as(&rt, &file, named("n"), "f 5\nf 5\nclean")?;
+    read_so(&rt, &ONE_NEGATIVE)
+}
+
+/// What stands behind `BASE` reads so.
+fn each_is_read(
+    rt: &(impl Abort + AllocGlobal),
+    faults: &[(&[u8], &str)],
+) -> Result<(), AllocError> {
+    for (more, wanted) in faults {
+        reads_plainly(rt, &[BASE, *more], wanted)?;
+    }
     Ok(())
 }
+
+const FAULTS_ALONE: [Reading<'static>; 2] = [
+    (&[b"\x32\x01\x61"], PLAIN, "BadStringZero at 0"),
+    (&[b"\x12\x00"], PLAIN, "NoSampleType at 2"),
+];
 
 #[test]
 fn each_profile_fault(rt: HostRuntime) -> Result<(), Fail> {
-    for (more, wanted) in &SAMPLE_FAULTS {
-        reads_plainly(&rt, &[BASE, *more], wanted)?;
-    }
-    for (more, fault) in &TABLE_FAULTS {
-        reads_plainly(&rt, &[BASE, *more], fault)?;
-    }
-    reads_plainly(&rt, &[b"\x32\x01\x61"], "BadStringZero at 0")?;
-    reads_plainly(&rt, &[b"\x12\x00"], "NoSampleType at 2")?;
-    Ok(())
+    each_is_read(&rt, &SAMPLE_FAULTS)?;
+    each_is_read(&rt, &TABLE_FAULTS)?;
+    read_so(&rt, &FAULTS_ALONE)
 }
+
+const ODD_NAMES: [Reading<'static>; 5] = [
+    (&[ADDRESS], PLAIN, "0x1f0 7\nclean"),
+    (&[ADDRESS], LINES, "0x1f0 7\nclean"),
+    (&[NO_FRAMES], PLAIN, " 7\nclean"),
+    (&[FRONT, SEPARATORS], PLAIN, "a:\u{fffd}  7\nclean"),
+    (&[FRONT, CUT_CHARACTER], PLAIN, "\u{fffd}A\u{fffd} 7\nclean"),
+];
 
 #[test]
 fn address_frames_and_lossy_names(rt: HostRuntime) -> Result<(), Fail> {
-    reads_plainly(&rt, &[ADDRESS], "0x1f0 7\nclean")?;
-    reads_as(&rt, &[ADDRESS], LINES, "0x1f0 7\nclean")?;
-    reads_plainly(&rt, &[NO_FRAMES], " 7\nclean")?;
-    reads_plainly(&rt, &[FRONT, SEPARATORS], "a:\u{fffd}  7\nclean")?;
-    let replaced = "\u{fffd}A\u{fffd} 7\nclean";
-    reads_plainly(&rt, &[FRONT, CUT_CHARACTER], replaced)?;
-    Ok(())
+    read_so(&rt, &ODD_NAMES)
 }
 
 #[test]
@@ -100,26 +123,35 @@ fn greatest_location_id(rt: HostRuntime) -> Result<(), Fail> {
     Ok(())
 }
 
+const GREATEST: [Reading<'static>; 3] = [
+    (&[GREATEST_LENGTH], PLAIN, "Truncated at 0"),
+    (&[BASE, MINUS_ONE], PLAIN, "BadString at 48"),
+    (&[BASE, LEAST_INDEX], PLAIN, "BadString at 48"),
+];
+
 #[test]
 fn greatest_length_and_least_index(rt: HostRuntime) -> Result<(), Fail> {
-    reads_plainly(&rt, &[GREATEST_LENGTH], "Truncated at 0")?;
-    reads_plainly(&rt, &[BASE, MINUS_ONE], "BadString at 48")?;
-    reads_plainly(&rt, &[BASE, LEAST_INDEX], "BadString at 48")?;
-    Ok(())
+    read_so(&rt, &GREATEST)
 }
+
+const INLINED_READ: [Reading<'static>; 2] = [
+    (&[INLINED_LINES], PLAIN, "printf;memcpy 7\nclean"),
+    (&[INLINED_LINES], LINES, "printf:40;memcpy:12 7\nclean"),
+];
 
 #[test]
 fn lines_of_inlined_frames(rt: HostRuntime) -> Result<(), Fail> {
-    reads_plainly(&rt, &[INLINED_LINES], "printf;memcpy 7\nclean")?;
-    reads_as(&rt, &[INLINED_LINES], LINES, "printf:40;memcpy:12 7\nclean")?;
-    Ok(())
+    read_so(&rt, &INLINED_READ)
 }
+
+const TWO_LINES_READ: [Reading<'static>; 2] = [
+    (&[TWO_LINES], PLAIN, "f 1\nf 1\nclean"),
+    (&[TWO_LINES], LINES, "f:1 1\nf:2 1\nclean"),
+];
 
 #[test]
 fn one_function_two_lines(rt: HostRuntime) -> Result<(), Fail> {
-    reads_plainly(&rt, &[TWO_LINES], "f 1\nf 1\nclean")?;
-    reads_as(&rt, &[TWO_LINES], LINES, "f:1 1\nf:2 1\nclean")?;
-    Ok(())
+    read_so(&rt, &TWO_LINES_READ)
 }
 
 /// A reader of this type goes to a thread of its own.

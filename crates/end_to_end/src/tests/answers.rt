@@ -108,10 +108,15 @@ pub(super) fn answer<T: Threads + Wait + AllocGlobal + Copy + Send + 'static>(
     })
 }
 
+/// The bytes that were found are these.
+pub(super) fn are_bytes(rt: &impl Abort, found: &[u8], wanted: &[u8]) {
+    assert_eq!(rt; found, wanted);
+}
+
 fn is_as_wanted(rt: &impl Abort, outcome: &Outcome, case: &Case<'_>) {
-    assert_eq!(rt; outcome.status, case.status);
-    assert_eq!(rt; outcome.out.as_slice(), case.out.as_bytes());
-    assert_eq!(rt; outcome.err.as_slice(), case.err.as_bytes());
+    are_bytes(rt, outcome.out.as_slice(), case.out.as_bytes());
+    are_bytes(rt, outcome.err.as_slice(), case.err.as_bytes());
+    assert!(rt; outcome.status == case.status);
 }
 
 fn ends_so<T: Threads + Wait + AllocGlobal + Abort + Copy + Send + 'static>(
@@ -120,6 +125,18 @@ fn ends_so<T: Threads + Wait + AllocGlobal + Abort + Copy + Send + 'static>(
 ) -> Result<(), AllocError> {
     let outcome = answer(rt, case)?;
     is_as_wanted(rt, &outcome, case);
+    Ok(())
+}
+
+/// Each of these runs ends as it is to, over these files.
+pub(super) fn end_over<'a, T: Threads + Wait + AllocGlobal + Abort + Copy + Send + 'static>(
+    rt: &T,
+    files: &'a [(&'a str, &'a [u8])],
+    cases: &[Case<'a>],
+) -> Result<(), Fail> {
+    for case in cases {
+        ends_so(rt, &Case { files, ..*case })?;
+    }
     Ok(())
 }
 

@@ -3,64 +3,78 @@
 use crate::tests::answers::{Case, SILENT, end_so};
 use std::test::Fail;
 
-#[test]
-fn stored_run(rt: HostRuntime) -> Result<(), Fail> {
-    let stored = Case {
-        input: b"a;b 2\na 1\na;b 3\n",
-        out: "a 1\na;b 5\n",
-        ..SILENT
-    };
-    end_so(&rt, &[stored])
-}
+const STORED: [Case<'static>; 1] = [Case {
+    input: b"a;b 2\na 1\na;b 3\n",
+    out: "a 1\na;b 5\n",
+    ..SILENT
+}];
 
 #[test]
-fn empty_sources(rt: HostRuntime) -> Result<(), Fail> {
-    let profile = Case {
+fn stored_run(rt: HostRuntime) -> Result<(), Fail> {
+    end_so(&rt, &STORED)
+}
+
+const EMPTY: [Case<'static>; 3] = [
+    SILENT,
+    Case {
         words: &["fold", "x.pb"],
         files: &[("x.pb", b"")],
         ..SILENT
-    };
-    let graph = Case {
+    },
+    Case {
         words: &["graph", "x"],
         files: &[("x", b"")],
         out: "{\"boxes\":[],\"total\":0,\"view\":\"graph\",\"width\":1200}\n",
         ..SILENT
-    };
-    end_so(&rt, &[SILENT, profile, graph])
-}
+    },
+];
 
 #[test]
-fn odd_lines(rt: HostRuntime) -> Result<(), Fail> {
-    let odd_stacks = Case {
+fn empty_sources(rt: HostRuntime) -> Result<(), Fail> {
+    end_so(&rt, &EMPTY)
+}
+
+/// Odd stacks, and odd ends.
+const ODD: [Case<'static>; 2] = [
+    Case {
         input: b" 5\na; 1\na;;b 1\n\na x\na 5 \n",
         out: " 5\na 1\na;;b 1\n",
         err: "flamecollect: -: ignored 3\n",
         ..SILENT
-    };
-    let odd_ends = Case {
+    },
+    Case {
         input: b"a 1\r\nc\t007\nb 2\r",
         out: "a 1\nc 7\n",
         err: "flamecollect: -: ignored 1\n",
         ..SILENT
-    };
-    end_so(&rt, &[odd_stacks, odd_ends])
-}
+    },
+];
 
 #[test]
-fn refused_counts(rt: HostRuntime) -> Result<(), Fail> {
-    let decimal = Case {
+fn odd_lines(rt: HostRuntime) -> Result<(), Fail> {
+    end_so(&rt, &ODD)
+}
+
+const REFUSED: [Case<'static>; 2] = [
+    Case {
         words: &["fold", "x.folded"],
         files: &[("x.folded", b"b 2\na 1.5\n")],
         status: 1,
         err: "flamecollect: x.folded: DecimalWeight at 2\n",
         ..SILENT
-    };
-    let two = Case {
+    },
+    Case {
+        words: &["fold", "x.folded"],
         files: &[("x.folded", b"b 2\na 1 2\n")],
+        status: 1,
         err: "flamecollect: x.folded: TwoColumns at 2\n",
-        ..decimal
-    };
-    end_so(&rt, &[decimal, two])
+        ..SILENT
+    },
+];
+
+#[test]
+fn refused_counts(rt: HostRuntime) -> Result<(), Fail> {
+    end_so(&rt, &REFUSED)
 }
 
 /// One source as heavy as it may be, and one that is too heavy.
@@ -78,85 +92,114 @@ const WEIGHTS: [Case<'static>; 2] = [
     },
 ];
 
+/// A file as heavy as it may be, which is to be read as often as there may be sources, and once more.
+const MOST: Case<'static> = Case {
+    files: &[("x", b"a 72057594037927935\n")],
+    out: "a 4611686018427387840\n",
+    ..SILENT
+};
+
+const TOO_MANY: Case<'static> = Case {
+    files: &[("x", b"a 72057594037927935\n")],
+    status: 2,
+    err: "flamecollect: too many files\n",
+    ..SILENT
+};
+
 #[test]
 fn limits_of_weights_and_depth_by_weights(rt: HostRuntime) -> Result<(), Fail> {
     let mut words = ["x"; 66];
     words[0] = "fold";
     let most = Case {
         words: &words[..65],
-        files: &[("x", b"a 72057594037927935\n")],
-        out: "a 4611686018427387840\n",
-        ..SILENT
+        ..MOST
     };
     let too_many = Case {
         words: &words,
-        status: 2,
-        out: "",
-        err: "flamecollect: too many files\n",
-        ..most
+        ..TOO_MANY
     };
     end_so(&rt, &WEIGHTS)?;
     end_so(&rt, &[most, too_many])
 }
 
-#[test]
-fn compressed_and_cut(rt: HostRuntime) -> Result<(), Fail> {
-    let input = Case {
+const COMPRESSED: [Case<'static>; 2] = [
+    Case {
         input: b"\x1f\x8b\x08",
         status: 1,
         err: "flamecollect: -: Compressed at 1\n",
         ..SILENT
-    };
-    let profile = Case {
+    },
+    Case {
         words: &["chart", "x.pb"],
         files: &[("x.pb", b"\x1f\x8b\x08")],
         status: 1,
         err: "flamecollect: x.pb: Compressed at 0\n",
         ..SILENT
-    };
-    end_so(&rt, &[input, profile])
+    },
+];
+
+#[test]
+fn compressed_and_cut(rt: HostRuntime) -> Result<(), Fail> {
+    end_so(&rt, &COMPRESSED)
 }
+
+/// Files of which two are faults.
+const SEVERAL: Case<'static> = Case {
+    files: &[
+        ("bad", b"a 1.5\n"),
+        ("good", b"a 1\nb\n"),
+        ("worse", b"a 1 2\n"),
+    ],
+    ..SILENT
+};
+
+/// All three are read, and one of them beside files that are not there.
+const FAULTS: [Case<'static>; 2] = [
+    Case {
+        words: &["fold", "bad", "good", "worse"],
+        status: 1,
+        err: "flamecollect: bad: DecimalWeight at 1\nflamecollect: good: ignored 1\n\
+            flamecollect: worse: TwoColumns at 1\n",
+        ..SEVERAL
+    },
+    Case {
+        words: &["fold", "bad", "missing", "absent"],
+        status: 3,
+        err: "flamecollect: missing: cannot be read\n",
+        ..SEVERAL
+    },
+];
 
 // All sources are told of, in order, before the run ends.
 #[test]
 fn faults_of_several_sources(rt: HostRuntime) -> Result<(), Fail> {
-    let faults = Case {
-        words: &["fold", "bad", "good", "worse"],
-        files: &[
-            ("bad", b"a 1.5\n"),
-            ("good", b"a 1\nb\n"),
-            ("worse", b"a 1 2\n"),
-        ],
-        status: 1,
-        err: "flamecollect: bad: DecimalWeight at 1\nflamecollect: good: ignored 1\n\
-            flamecollect: worse: TwoColumns at 1\n",
-        ..SILENT
-    };
-    let missing = Case {
-        words: &["fold", "bad", "missing", "absent"],
-        status: 3,
-        err: "flamecollect: missing: cannot be read\n",
-        ..faults
-    };
-    end_so(&rt, &[faults, missing])
+    end_so(&rt, &FAULTS)
 }
+
+const THREE_FILES: Case<'static> = Case {
+    files: &[
+        ("x", b"b 1\na 2\n"),
+        ("y", b"a;c 4\nb 8\n"),
+        ("z", b"a 16\n 32\n"),
+    ],
+    out: " 32\na 18\na;c 4\nb 9\n",
+    ..SILENT
+};
+
+/// In small rings, and in large ones.
+const RINGS: [Case<'static>; 2] = [
+    Case {
+        words: &["fold", "--ring", "1", "x", "y", "z"],
+        ..THREE_FILES
+    },
+    Case {
+        words: &["fold", "x", "--ring", "65536", "y", "z"],
+        ..THREE_FILES
+    },
+];
 
 // The order of stacks does not depend on the order in which samples arrive.
 #[test]
 fn fold_of_several_sources(rt: HostRuntime) -> Result<(), Fail> {
-    let small_rings = Case {
-        words: &["fold", "--ring", "1", "x", "y", "z"],
-        files: &[
-            ("x", b"b 1\na 2\n"),
-            ("y", b"a;c 4\nb 8\n"),
-            ("z", b"a 16\n 32\n"),
-        ],
-        out: " 32\na 18\na;c 4\nb 9\n",
-        ..SILENT
-    };
-    let large_rings = Case {
-        words: &["fold", "x", "--ring", "65536", "y", "z"],
-        ..small_rings
-    };
-    end_so(&rt, &[small_rings, large_rings])
+    end_so(&rt, &RINGS)
 }

@@ -25,110 +25,136 @@ const LOSSY: &[u8] = &[
     0x63, 0x70, 0x75, 0x32, 0x02, 0x6e, 0x73, 0x32, 0x04, 0x61, 0x3b, 0xff, 0x0a,
 ];
 
-#[test]
-fn smallest_profile(rt: HostRuntime) -> Result<(), Fail> {
-    let prof = Case {
+/// Under each name of profiles.
+const NAMED: [Case<'static>; 3] = [
+    Case {
         words: &["fold", "cpu.prof"],
         files: &[("cpu.prof", SMALLEST)],
         out: "main 7\n",
         ..SILENT
-    };
-    let pprof = Case {
+    },
+    Case {
         words: &["fold", "x.pprof"],
         files: &[("x.pprof", SMALLEST)],
-        ..prof
-    };
-    let short = Case {
+        out: "main 7\n",
+        ..SILENT
+    },
+    Case {
         words: &["fold", "x.pb"],
         files: &[("x.pb", SMALLEST)],
-        ..prof
-    };
-    end_so(&rt, &[prof, pprof, short])
-}
+        out: "main 7\n",
+        ..SILENT
+    },
+];
 
 #[test]
-fn picking_a_value(rt: HostRuntime) -> Result<(), Fail> {
-    let preferred = Case {
+fn smallest_profile(rt: HostRuntime) -> Result<(), Fail> {
+    end_so(&rt, &NAMED)
+}
+
+/// The preferred value, one by its name, and one that is not there.
+const PICKED: [Case<'static>; 3] = [
+    Case {
         words: &["fold", "x.pb"],
         files: &[("x.pb", BASE)],
         out: "f 9\n",
         ..SILENT
-    };
-    let named = Case {
+    },
+    Case {
         words: &["fold", "--type", "n", "x.pb"],
+        files: &[("x.pb", BASE)],
         out: "f 5\n",
-        ..preferred
-    };
-    let unknown = Case {
+        ..SILENT
+    },
+    Case {
         words: &["fold", "x.pb", "--type", "x"],
+        files: &[("x.pb", BASE)],
         status: 1,
-        out: "",
         err: "flamecollect: x.pb: UnknownSampleType at 48\n",
-        ..preferred
-    };
-    end_so(&rt, &[preferred, named, unknown])
-}
+        ..SILENT
+    },
+];
 
 #[test]
-fn address_frames_and_lossy_names(rt: HostRuntime) -> Result<(), Fail> {
-    let address = Case {
+fn picking_a_value(rt: HostRuntime) -> Result<(), Fail> {
+    end_so(&rt, &PICKED)
+}
+
+const ODD_NAMES: [Case<'static>; 3] = [
+    Case {
         words: &["fold", "x.pb"],
         files: &[("x.pb", ADDRESS)],
         out: "0x1f0 7\n",
         ..SILENT
-    };
-    let lines = Case {
+    },
+    Case {
         words: &["fold", "--lines", "x.pb"],
-        ..address
-    };
-    let lossy = Case {
+        files: &[("x.pb", ADDRESS)],
+        out: "0x1f0 7\n",
+        ..SILENT
+    },
+    Case {
+        words: &["fold", "x.pb"],
         files: &[("x.pb", LOSSY)],
         out: "a:\u{fffd}  7\n",
-        ..address
-    };
-    end_so(&rt, &[address, lines, lossy])
-}
+        ..SILENT
+    },
+];
 
 #[test]
-fn lines_of_inlined_frames(rt: HostRuntime) -> Result<(), Fail> {
-    let plain = Case {
+fn address_frames_and_lossy_names(rt: HostRuntime) -> Result<(), Fail> {
+    end_so(&rt, &ODD_NAMES)
+}
+
+const INLINED: [Case<'static>; 2] = [
+    Case {
         words: &["fold", "x.pb"],
         files: &[("x.pb", INLINED_LINES)],
         out: "printf;memcpy 7\n",
         ..SILENT
-    };
-    let lines = Case {
+    },
+    Case {
         words: &["fold", "--lines", "x.pb"],
+        files: &[("x.pb", INLINED_LINES)],
         out: "printf:40;memcpy:12 7\n",
-        ..plain
-    };
-    end_so(&rt, &[plain, lines])
-}
+        ..SILENT
+    },
+];
 
 #[test]
-fn one_function_two_lines(rt: HostRuntime) -> Result<(), Fail> {
-    let plain = Case {
+fn lines_of_inlined_frames(rt: HostRuntime) -> Result<(), Fail> {
+    end_so(&rt, &INLINED)
+}
+
+const ONE_FUNCTION: [Case<'static>; 2] = [
+    Case {
         words: &["fold", "x.pb"],
         files: &[("x.pb", TWO_LINES)],
         out: "f 2\n",
         ..SILENT
-    };
-    let lines = Case {
+    },
+    Case {
         words: &["fold", "x.pb", "--lines"],
+        files: &[("x.pb", TWO_LINES)],
         out: "f:1 1\nf:2 1\n",
-        ..plain
-    };
-    end_so(&rt, &[plain, lines])
+        ..SILENT
+    },
+];
+
+#[test]
+fn one_function_two_lines(rt: HostRuntime) -> Result<(), Fail> {
+    end_so(&rt, &ONE_FUNCTION)
 }
+
+const AS_TEXT: [Case<'static>; 1] = [Case {
+    words: &["fold", "cpu.out"],
+    files: &[("cpu.out", SMALLEST)],
+    err: "flamecollect: cpu.out: ignored 3\n",
+    ..SILENT
+}];
 
 // Under another name a profile is read as folded text, and almost all of it is ignored.
 #[test]
 fn profile_under_another_name(rt: HostRuntime) -> Result<(), Fail> {
-    let ignored = Case {
-        words: &["fold", "cpu.out"],
-        files: &[("cpu.out", SMALLEST)],
-        err: "flamecollect: cpu.out: ignored 3\n",
-        ..SILENT
-    };
-    end_so(&rt, &[ignored])
+    end_so(&rt, &AS_TEXT)
 }

@@ -1,37 +1,55 @@
 //! The example of the page of `merging`, and a run with a filter.
+ghost use Rattle.std.specs.Prelude.{◌≡◌, IfOk, length};
+
 use merging::{Gathered, Source, WholeRun, gather, read_whole_sources};
 use run_options::{Filter, Format, Naming, Options, Pick, RingSize};
-use stack_core::{Names, NoSink, OpenGate};
+use stack_core::{Names, NoSink, OpenGate, SourceList};
 use std::alloc::{AllocError, Global};
 use std::process::Abort;
 use std::sync::{Arc, Wait};
 use std::test::Fail;
 use std::thread::Threads;
 
+/// One source, of folded text.
+fn one_source(alloc: Global, text: &[u8]) -> Result<Vec<Source>, AllocError>
+    ensures { IfOk result (λ sources. length sources.items ≡ 1) }
+{
+    let source = Source {
+        format: Format::Folded,
+        bytes: text.to_vec(alloc)?,
+    };
+    Ok(vec![in alloc; source]?)
+}
+
+/// The settings of a run, in which nothing else is chosen.
+fn options_of(ring: RingSize, filter: Filter, every: Option<u64>) -> Options
+    ensures { result.every ≡ every }
+{
+    Options {
+        ring,
+        pick: Pick::Preferred,
+        naming: Naming::Plain,
+        filter,
+        every,
+    }
+}
+
 /// What is gathered of the source of the page.
 fn gathered_of_the_page<T: Threads + Wait + Copy + Send + 'static>(
     rt: &T,
     alloc: Global,
 ) -> Result<Gathered, Fail> {
+    let sources = one_source(alloc, b"a;b 2\na 1\n")?;
     let gate = Arc::new(alloc, OpenGate)?;
-    let source = Source {
-        format: Format::Folded,
-        bytes: b"a;b 2\na 1\n".to_vec(alloc)?,
-    };
-    let options = Options {
-        ring: RingSize::of(8).unwrap(),
-        pick: Pick::Preferred,
-        naming: Naming::Plain,
-        filter: Filter::everything(alloc),
-        every: None,
-    };
-    Ok(gather(rt, alloc, vec![in alloc; source]?, &options, gate)?)
+    let ring = RingSize::of(8).unwrap();
+    let options = options_of(ring, Filter::everything(alloc), None);
+    Ok(gather(rt, alloc, sources, &options, gate)?)
 }
 
 fn expect_the_page(rt: &impl Abort, gathered: &Gathered) {
-    assert_eq!(rt; gathered.lists().len(), 1);
-    assert_eq!(rt; gathered.lists()[0].len(), 2);
-    assert_eq!(rt; gathered.tree().total(&[]), 3);
+    let lists = gathered.lists();
+    assert!(rt; lists.len() == 1);
+    assert!(rt; lists[0].len() == 2 && gathered.tree().total(&[]) == 3);
 }
 
 #[test]
@@ -41,28 +59,25 @@ fn example_of_the_page(rt: HostRuntime) -> Result<(), Fail> {
     Ok(())
 }
 
-fn options_with_a_filter(alloc: Global) -> Result<Options, AllocError> {
-    Ok(Options {
-        ring: RingSize::of(1).unwrap(),
-        pick: Pick::Preferred,
-        naming: Naming::Plain,
-        filter: Filter {
-            focus: Names::from_strs(alloc, &["a"])?,
-            hide: Names::from_strs(alloc, &["d"])?,
-        },
-        every: None,
+/// Keeps `a`, but not below `d`.
+fn keeping_a(alloc: Global) -> Result<Filter, AllocError> {
+    Ok(Filter {
+        focus: Names::from_strs(alloc, &["a"])?,
+        hide: Names::from_strs(alloc, &["d"])?,
     })
 }
 
+fn expect_the_list(rt: &impl Abort, list: &SourceList) {
+    assert!(rt; list.len() == 2);
+    assert!(rt; list.weight(0) == 2 && list.weight(1) == 1);
+}
+
 fn expect_the_kept(rt: &impl Abort, run: &WholeRun) {
-    assert_eq!(rt; run.whole_weight, 20);
-    assert_eq!(rt; run.kept.total(), 3);
-    assert_eq!(rt; run.kept.order().len(), 2);
-    assert_eq!(rt; run.kept.lists().len(), 1);
-    let list = &run.kept.lists()[0];
-    assert_eq!(rt; list.len(), 2);
-    assert_eq!(rt; list.weight(0), 2);
-    assert_eq!(rt; list.weight(1), 1);
+    assert!(rt; run.whole_weight == 20 && run.kept.total() == 3);
+    assert!(rt; run.kept.order().len() == 2);
+    let lists = run.kept.lists();
+    assert!(rt; lists.len() == 1);
+    expect_the_list(rt, &lists[0]);
 }
 
 /// What a run keeps of five samples, two of which pass the filter.
@@ -70,12 +85,8 @@ fn kept_by_a_filter<T: Threads + Wait + Copy + Send + 'static>(
     rt: &T,
     alloc: Global,
 ) -> Result<WholeRun, Fail> {
-    let options = options_with_a_filter(alloc)?;
-    let source = Source {
-        format: Format::Folded,
-        bytes: b"a;b 2\nc 5\na;b 1\nd;a 4\nc;e 8\n".to_vec(alloc)?,
-    };
-    let sources = vec![in alloc; source]?;
+    let sources = one_source(alloc, b"a;b 2\nc 5\na;b 1\nd;a 4\nc;e 8\n")?;
+    let options = options_of(RingSize::of(1).unwrap(), keeping_a(alloc)?, None);
     Ok(read_whole_sources(rt, alloc, sources, &options, &mut NoSink::new())?)
 }
 

@@ -4,47 +4,48 @@ use super::files::{
     BASE, MIXED_IDS, NAMELESS, NEGATIVE_LINE, NO_ADDRESS, NO_FUNCTION, SAME_TYPES, SMALLEST,
     SYSTEM_NAME,
 };
-use super::reading::{Choice, LINES, PLAIN, named, reads_as, reads_plainly};
+use super::reading::{BY_N, LINES, PLAIN, Reading, is_text, read_so, reader_over, reads_plainly};
 use profile_tables::{Naming, Pick, PprofReader, TableFault};
 use stack_core::{ReadFault, ReadKind, Sample, SampleReader, SourceEnd, Step};
 use std::alloc::{AllocError, Global};
 use std::process::Abort;
 use std::test::Fail;
 
-/// A file, how it is read, and what of it.
-const NAMES: [(&[u8], Choice<'static>, &str); 7] = [
-    (NAMELESS, PLAIN, "[unknown] 7\nclean"),
-    (NAMELESS, LINES, "[unknown]:3 7\nclean"),
-    (SYSTEM_NAME, PLAIN, "_m 7\nclean"),
-    (NO_ADDRESS, PLAIN, "0x0 7\nclean"),
-    (NO_FUNCTION, PLAIN, "0x1f0 7\nclean"),
-    (NO_FUNCTION, LINES, "0x1f0 7\nclean"),
-    (NEGATIVE_LINE, LINES, "main 7\nclean"),
+const NAMES: [Reading<'static>; 7] = [
+    (&[NAMELESS], PLAIN, "[unknown] 7\nclean"),
+    (&[NAMELESS], LINES, "[unknown]:3 7\nclean"),
+    (&[SYSTEM_NAME], PLAIN, "_m 7\nclean"),
+    (&[NO_ADDRESS], PLAIN, "0x0 7\nclean"),
+    (&[NO_FUNCTION], PLAIN, "0x1f0 7\nclean"),
+    (&[NO_FUNCTION], LINES, "0x1f0 7\nclean"),
+    (&[NEGATIVE_LINE], LINES, "main 7\nclean"),
 ];
 
 #[test]
 fn names_and_addresses(rt: HostRuntime) -> Result<(), Fail> {
-    for (file, choice, wanted) in &NAMES {
-        reads_as(&rt, &[*file], *choice, wanted)?;
-    }
-    Ok(())
+    read_so(&rt, &NAMES)
 }
+
+/// The second is good, and the second is bad.
+const TWO_DEFAULTS: [Reading<'static>; 2] = [
+    (&[BASE, b"\x70\x04\x70\x01"], PLAIN, "f 5\nclean"),
+    (&[BASE, b"\x70\x01\x70\x04"], PLAIN, "BadString at 50"),
+];
 
 #[test]
 fn default_twice(rt: HostRuntime) -> Result<(), Fail> {
-    let second_good = [BASE, b"\x70\x04\x70\x01"];
-    reads_plainly(&rt, &second_good, "f 5\nclean")?;
-    let second_bad = [BASE, b"\x70\x01\x70\x04"];
-    reads_plainly(&rt, &second_bad, "BadString at 50")?;
-    Ok(())
+    read_so(&rt, &TWO_DEFAULTS)
 }
+
+const ONE_NAME: [Reading<'static>; 3] = [
+    (&[SAME_TYPES], BY_N, "f 5\nclean"),
+    (&[SAME_TYPES, b"\x70\x01"], PLAIN, "f 5\nclean"),
+    (&[SAME_TYPES], PLAIN, "f 9\nclean"),
+];
 
 #[test]
 fn types_of_one_name(rt: HostRuntime) -> Result<(), Fail> {
-    reads_as(&rt, &[SAME_TYPES], named("n"), "f 5\nclean")?;
-    reads_plainly(&rt, &[SAME_TYPES, b"\x70\x01"], "f 5\nclean")?;
-    reads_plainly(&rt, &[SAME_TYPES], "f 9\nclean")?;
-    Ok(())
+    read_so(&rt, &ONE_NAME)
 }
 
 #[test]
@@ -60,16 +61,12 @@ fn gzip_alone(rt: HostRuntime) -> Result<(), Fail> {
 }
 
 fn has_one_frame(rt: &impl Abort, sample: &Sample) {
-    assert_eq!(rt; sample.weight, 7);
-    assert_eq!(rt; sample.stack.get().len(), 1);
+    assert!(rt; sample.weight == 7);
+    assert!(rt; sample.stack.get().len() == 1);
 }
 
 /// The lines of README.md behind the first.
-fn reads_one_sample(
-    rt: &impl Abort,
-    alloc: Global,
-    reader: &mut PprofReader,
-) -> Result<(), AllocError> {
+fn reads_one_sample(rt: &impl Abort, alloc: Global, reader: &mut PprofReader) -> Result<(), Fail> {
     if let Step::Sample(sample) = reader.next(alloc)? {
         has_one_frame(rt, &sample);
     }
@@ -83,11 +80,9 @@ fn ends_clean(rt: &impl Abort, step: &Step) {
 
 #[test]
 fn example_of_the_page(rt: HostRuntime) -> Result<(), Fail> {
-    let alloc = rt.alloc();
-    let bytes = SMALLEST.to_vec(alloc)?;
-    let mut reader = PprofReader::over(bytes, Pick::Preferred, Naming::Plain);
-    reads_one_sample(&rt, alloc, &mut reader)?;
-    Ok(())
+    let bytes = SMALLEST.to_vec(rt.alloc())?;
+    let mut reader = reader_over(bytes, Pick::Preferred, Naming::Plain);
+    reads_one_sample(&rt, rt.alloc(), &mut reader)
 }
 
 fn is_written(
@@ -96,7 +91,7 @@ fn is_written(
     wanted: &str,
 ) -> Result<(), AllocError> {
     let text = fault.to_string(rt.alloc())?;
-    assert_eq!(rt; text.as_str(), wanted);
+    is_text(rt, text.as_str(), wanted);
     Ok(())
 }
 

@@ -53,53 +53,67 @@ fn each_front_ends(rt: &(impl Abort + AllocGlobal), file: &[u8]) -> Result<(), A
     Ok(())
 }
 
-/// The same of a file that is given in two parts.
-fn each_front_of_both_ends(
+/// The same of a file that is given in parts.
+fn each_front_of_parts_ends(
     rt: &(impl Abort + AllocGlobal),
-    front: &[u8],
-    more: &[u8],
+    parts: &[&[u8]],
 ) -> Result<(), AllocError> {
-    let file = joined(rt.alloc(), &[front, more])?;
+    let file = joined(rt.alloc(), parts)?;
     each_front_ends(rt, &file)
 }
 
-const FILES: [&[u8]; 10] = [
-    SMALLEST,
-    UNPACKED,
-    INLINED,
-    BASE,
-    ADDRESS,
-    NO_FRAMES,
-    GREATEST_ID,
-    INLINED_LINES,
-    TWO_LINES,
-    GREATEST_LENGTH,
+/// The same of many.
+fn cuts_end(rt: &(impl Abort + AllocGlobal), files: &[&[&[u8]]]) -> Result<(), Fail> {
+    for parts in files {
+        each_front_of_parts_ends(rt, parts)?;
+    }
+    Ok(())
+}
+
+const FILES: [&[&[u8]]; 12] = [
+    &[SMALLEST],
+    &[UNPACKED],
+    &[INLINED],
+    &[BASE],
+    &[ADDRESS],
+    &[NO_FRAMES],
+    &[GREATEST_ID],
+    &[INLINED_LINES],
+    &[TWO_LINES],
+    &[GREATEST_LENGTH],
+    &[FRONT, SEPARATORS],
+    &[FRONT, CUT_CHARACTER],
 ];
 
 #[test]
 fn cut_profiles_end(rt: HostRuntime) -> Result<(), Fail> {
-    for file in &FILES {
-        each_front_ends(&rt, file)?;
+    cuts_end(&rt, &FILES)
+}
+
+const MORE_FILES: [&[&[u8]]; 7] = [
+    &[BASE, b"\x70\x01"],
+    &[BASE, b"\x70\x03"],
+    &[BASE, NEGATIVE],
+    &[BASE, MINUS_ONE],
+    &[BASE, LEAST_INDEX],
+    &[b"\x32\x01\x61"],
+    &[b"\x12\x00"],
+];
+
+/// What gives a fault behind `BASE`, cut short, ends too.
+fn cut_faults_end(
+    rt: &(impl Abort + AllocGlobal),
+    faults: &[(&[u8], &str)],
+) -> Result<(), AllocError> {
+    for (more, _) in faults {
+        each_front_of_parts_ends(rt, &[BASE, *more])?;
     }
-    each_front_of_both_ends(&rt, FRONT, SEPARATORS)?;
-    each_front_of_both_ends(&rt, FRONT, CUT_CHARACTER)?;
     Ok(())
 }
 
-const BEHIND_BASE: [&[u8]; 5] = [b"\x70\x01", b"\x70\x03", NEGATIVE, MINUS_ONE, LEAST_INDEX];
-
 #[test]
 fn cut_profiles_behind_base_end(rt: HostRuntime) -> Result<(), Fail> {
-    for more in &BEHIND_BASE {
-        each_front_of_both_ends(&rt, BASE, more)?;
-    }
-    for (more, _) in &SAMPLE_FAULTS {
-        each_front_of_both_ends(&rt, BASE, more)?;
-    }
-    for (more, _) in &TABLE_FAULTS {
-        each_front_of_both_ends(&rt, BASE, more)?;
-    }
-    each_front_ends(&rt, b"\x32\x01\x61")?;
-    each_front_ends(&rt, b"\x12\x00")?;
-    Ok(())
+    cut_faults_end(&rt, &SAMPLE_FAULTS)?;
+    cut_faults_end(&rt, &TABLE_FAULTS)?;
+    cuts_end(&rt, &MORE_FILES)
 }

@@ -3,7 +3,9 @@
 use super::files::{
     ADDRESS, BASE, GREATEST_ID, INLINED, INLINED_LINES, SAMPLE_FAULTS, TABLE_FAULTS,
 };
-use super::reading::{Choice, LINES, PLAIN, append_names, joined, named, pick_of};
+use super::reading::{
+    BY_N, BY_X, Choice, LINES, PLAIN, append_between, append_names, is_text, joined, pick_of,
+};
 use super::types::append_type;
 use profile_tables::{TableFault, Tables};
 use std::alloc::{AllocError, Global};
@@ -25,7 +27,7 @@ fn append_value(text: &mut String, tables: &Tables) -> Result<(), AllocError> {
     let count = tables.sample_types();
     match tables.chosen() {
         Some(place) => write!(text, "{place} of {count}"),
-        None => write!(text, "none of {count}"),
+        None => append_between(text, "none of ", &count, ""),
     }
 }
 
@@ -60,7 +62,7 @@ fn append_said(
 ) -> Result<(), AllocError> {
     match tables_of(alloc, parts, choice) {
         Ok(tables) => append_answer(text, &tables, question),
-        Err(fault) => write!(text, "{fault}"),
+        Err(fault) => append_between(text, "", &fault, ""),
     }
 }
 
@@ -74,75 +76,103 @@ pub(super) fn tables_say(
 ) -> Result<(), AllocError> {
     let mut text = String::new(rt.alloc());
     append_said(rt.alloc(), parts, choice, question, &mut text)?;
-    assert_eq!(rt; text.as_str(), wanted);
+    is_text(rt, text.as_str(), wanted);
     Ok(())
 }
 
-/// A file, how it is read, a location and the frames that it has.
-const FRAMES: [(&[u8], Choice<'static>, u64, &str); 7] = [
-    (INLINED, PLAIN, 1, "printf;memcpy"),
-    (INLINED, LINES, 1, "printf;memcpy"),
-    (INLINED_LINES, PLAIN, 1, "printf;memcpy"),
-    (INLINED_LINES, LINES, 1, "printf:40;memcpy:12"),
-    (ADDRESS, PLAIN, 1, "0x1f0"),
-    (ADDRESS, LINES, 1, "0x1f0"),
-    (GREATEST_ID, PLAIN, u64::MAX, "main"),
+/// A file in parts, how it is read, what its tables are asked, and what they say.
+pub(super) type Saying<'a> = (&'a [&'a [u8]], Choice<'a>, Question, &'a str);
+
+/// The tables of each of these files say so.
+pub(super) fn say_so(rt: &(impl Abort + AllocGlobal), sayings: &[Saying<'_>]) -> Result<(), Fail> {
+    for (parts, choice, question, wanted) in sayings {
+        tables_say(rt, parts, *choice, *question, wanted)?;
+    }
+    Ok(())
+}
+
+const FRAMES: [Saying<'static>; 7] = [
+    (&[INLINED], PLAIN, Question::Frames(1), "printf;memcpy"),
+    (&[INLINED], LINES, Question::Frames(1), "printf;memcpy"),
+    (
+        &[INLINED_LINES],
+        PLAIN,
+        Question::Frames(1),
+        "printf;memcpy",
+    ),
+    (
+        &[INLINED_LINES],
+        LINES,
+        Question::Frames(1),
+        "printf:40;memcpy:12",
+    ),
+    (&[ADDRESS], PLAIN, Question::Frames(1), "0x1f0"),
+    (&[ADDRESS], LINES, Question::Frames(1), "0x1f0"),
+    (&[GREATEST_ID], PLAIN, Question::Frames(u64::MAX), "main"),
 ];
 
 #[test]
 fn frames_of_locations(rt: HostRuntime) -> Result<(), Fail> {
-    for (file, choice, id, names) in &FRAMES {
-        tables_say(&rt, &[*file], *choice, Question::Frames(*id), names)?;
-    }
-    Ok(())
+    say_so(&rt, &FRAMES)
 }
 
-/// The place of the value that is picked from the two of `BASE` with more behind it.
-fn picks_of_base(
-    rt: &(impl Abort + AllocGlobal),
-    more: &[u8],
-    choice: Choice<'_>,
-    wanted: &str,
-) -> Result<(), AllocError> {
-    tables_say(rt, &[BASE, more], choice, Question::Value, wanted)
-}
+/// The place of the value that is picked from the two of `BASE`, also with more behind it.
+const CHOSEN: [Saying<'static>; 4] = [
+    (&[BASE], PLAIN, Question::Value, "1 of 2"),
+    (&[BASE, b"\x70\x01"], PLAIN, Question::Value, "0 of 2"),
+    (&[BASE, b"\x70\x03"], PLAIN, Question::Value, "1 of 2"),
+    (&[BASE], BY_N, Question::Value, "0 of 2"),
+];
 
 #[test]
 fn chosen_of_tables(rt: HostRuntime) -> Result<(), Fail> {
-    picks_of_base(&rt, b"", PLAIN, "1 of 2")?;
-    picks_of_base(&rt, b"\x70\x01", PLAIN, "0 of 2")?;
-    picks_of_base(&rt, b"\x70\x03", PLAIN, "1 of 2")?;
-    picks_of_base(&rt, b"", named("n"), "0 of 2")?;
-    Ok(())
+    say_so(&rt, &CHOSEN)
 }
 
-/// Tables are refused for this fault.
-fn refused_for(
+const REFUSED: [Saying<'static>; 4] = [
+    (
+        &[b"\x32\x01\x61"],
+        PLAIN,
+        Question::Value,
+        "BadStringZero at 0",
+    ),
+    (&[b"\x12\x00"], PLAIN, Question::Value, "NoSampleType at 2"),
+    (
+        &[b"\x1f\x8b\x08"],
+        PLAIN,
+        Question::Value,
+        "Compressed at 0",
+    ),
+    (&[BASE], BY_X, Question::Value, "UnknownSampleType at 48"),
+];
+
+/// The place of the value that is picked from the two of `BASE` with more behind it, or the fault for which the tables are refused.
+fn picks_of_base(
     rt: &(impl Abort + AllocGlobal),
-    file: &[u8],
-    choice: Choice<'_>,
-    fault: &str,
+    more: &[u8],
+    wanted: &str,
 ) -> Result<(), AllocError> {
-    tables_say(rt, &[file], choice, Question::Value, fault)
+    tables_say(rt, &[BASE, more], PLAIN, Question::Value, wanted)
+}
+
+fn refused_behind_base(rt: &(impl Abort + AllocGlobal)) -> Result<(), AllocError> {
+    for (more, fault) in &TABLE_FAULTS {
+        picks_of_base(rt, more, fault)?;
+    }
+    Ok(())
 }
 
 #[test]
 fn faults_of_tables(rt: HostRuntime) -> Result<(), Fail> {
-    for (more, fault) in &TABLE_FAULTS {
-        picks_of_base(&rt, more, PLAIN, fault)?;
-    }
-    refused_for(&rt, b"\x32\x01\x61", PLAIN, "BadStringZero at 0")?;
-    refused_for(&rt, b"\x12\x00", PLAIN, "NoSampleType at 2")?;
-    refused_for(&rt, b"\x1f\x8b\x08", PLAIN, "Compressed at 0")?;
-    refused_for(&rt, BASE, named("x"), "UnknownSampleType at 48")?;
-    Ok(())
+    refused_behind_base(&rt)?;
+    say_so(&rt, &REFUSED)
 }
 
 /// A fault of a sample is none of the tables.
 #[test]
 fn samples_are_not_looked_at(rt: HostRuntime) -> Result<(), Fail> {
     for (more, _) in &SAMPLE_FAULTS {
-        picks_of_base(&rt, more, PLAIN, "1 of 2")?;
+        picks_of_base(&rt, more, "1 of 2")?;
     }
     Ok(())
 }

@@ -7,7 +7,9 @@ use super::types::append_types;
 use profile_tables::{Naming, Pick, PprofReader};
 use stack_core::{SampleReader, SourceEnd, Step, Text};
 use std::alloc::{AllocError, Global};
+use std::fmt::Display;
 use std::process::Abort;
+use std::test::Fail;
 
 /// The sample type whose value is the weight, and how frames are named.
 #[derive(Clone, Copy)]
@@ -27,13 +29,20 @@ pub(super) const LINES: Choice<'static> = Choice {
     naming: Naming::Lines,
 };
 
-/// The values of this name.
-pub(super) fn named(name: &str) -> Choice<'_> {
-    Choice {
-        pick: Some(name),
-        naming: Naming::Plain,
-    }
-}
+/// The values of the name `n`.
+pub(super) const BY_N: Choice<'static> = Choice {
+    pick: Some("n"),
+    naming: Naming::Plain,
+};
+
+/// The values of the name `x`.
+pub(super) const BY_X: Choice<'static> = Choice {
+    pick: Some("x"),
+    naming: Naming::Plain,
+};
+
+/// A file in parts, how it is read, and what of it.
+pub(super) type Reading<'a> = (&'a [&'a [u8]], Choice<'a>, &'a str);
 
 /// What a reader is asked for.
 #[derive(Clone, Copy)]
@@ -57,13 +66,23 @@ pub(super) enum Asked {
 /// What stands in the place of an ending that doesn't come, or not again.
 pub(super) const ENDLESS: &str = "no ending";
 
+/// Appends a value between two texts.
+pub(super) fn append_between<D: Display>(
+    text: &mut String,
+    front: &str,
+    value: &D,
+    back: &str,
+) -> Result<(), AllocError> {
+    write!(text, "{front}{value}{back}")
+}
+
 /// Appends an ending.
 pub(super) fn append_ending(text: &mut String, ending: SourceEnd) -> Result<(), AllocError> {
     match ending {
         SourceEnd::Clean { ignored: 0 } => text.push_str("clean"),
-        SourceEnd::Clean { ignored } => write!(text, "{ignored} ignored"),
-        SourceEnd::Fault(fault) => write!(text, "{fault}"),
-        SourceEnd::Stopped { after } => write!(text, "stopped after {after}"),
+        SourceEnd::Clean { ignored } => append_between(text, "", &ignored, " ignored"),
+        SourceEnd::Fault(fault) => append_between(text, "", &fault, ""),
+        SourceEnd::Stopped { after } => append_between(text, "stopped after ", &after, ""),
     }
 }
 
@@ -78,36 +97,69 @@ pub(super) fn append_names(text: &mut String, names: &[String]) -> Result<(), Al
     Ok(())
 }
 
-/// Appends the next step of a reader: a line with the names and the weight of a sample, or the ending, where it comes again. Whether
-/// there is more to come.
+/// Appends the line of a sample, with its names and its weight, or answers the ending.
+fn append_told(text: &mut String, step: &Step) -> Result<Option<SourceEnd>, AllocError> {
+    match step {
+        Step::Sample(sample) => {
+            append_names(text, sample.stack.get())?;
+            append_between(text, " ", &sample.weight, "\n")?;
+            Ok(None)
+        }
+        Step::End(ending) => Ok(Some(*ending)),
+    }
+}
+
+/// The same of the next step of a reader.
+fn append_next<R: SampleReader>(
+    alloc: Global,
+    reader: &mut R,
+    text: &mut String,
+) -> Result<Option<SourceEnd>, AllocError> {
+    let step = reader.next(alloc)?;
+    append_told(text, &step)
+}
+
+fn is_ending(step: &Step, ending: SourceEnd) -> bool {
+    match step {
+        Step::Sample(_) => false,
+        Step::End(found) => *found == ending,
+    }
+}
+
+fn ends_again<R: SampleReader>(
+    alloc: Global,
+    reader: &mut R,
+    ending: SourceEnd,
+) -> Result<bool, AllocError> {
+    let step = reader.next(alloc)?;
+    Ok(is_ending(&step, ending))
+}
+
+/// Appends an ending, where it came again.
+pub(super) fn append_ending_again(
+    text: &mut String,
+    ending: SourceEnd,
+    came_again: bool,
+) -> Result<(), AllocError> {
+    if came_again {
+        append_ending(text, ending)
+    } else {
+        text.push_str(ENDLESS)
+    }
+}
+
+/// Appends the next step of a reader: the line of a sample, or the ending, where it comes again. Whether there is more to come.
 pub(super) fn append_step<R: SampleReader>(
     alloc: Global,
     reader: &mut R,
     text: &mut String,
 ) -> Result<bool, AllocError> {
-    match reader.next(alloc)? {
-        Step::Sample(sample) => {
-            append_names(text, sample.stack.get())?;
-            write!(text, " {}\n", sample.weight)?;
-            Ok(true)
-        }
-        Step::End(ending) => {
-            append_ending_again(alloc, reader, text, ending)?;
-            Ok(false)
-        }
-    }
-}
-
-fn append_ending_again<R: SampleReader>(
-    alloc: Global,
-    reader: &mut R,
-    text: &mut String,
-    ending: SourceEnd,
-) -> Result<(), AllocError> {
-    match reader.next(alloc)? {
-        Step::End(again) if again == ending => append_ending(text, ending),
-        _ => text.push_str(ENDLESS),
-    }
+    let Some(ending) = append_next(alloc, reader, text)? else {
+        return Ok(true);
+    };
+    let came_again = ends_again(alloc, reader, ending)?;
+    append_ending_again(text, ending, came_again)?;
+    Ok(false)
 }
 
 fn append_samples<R: SampleReader>(
@@ -156,6 +208,11 @@ pub(super) fn pick_of(alloc: Global, name: Option<&str>) -> Result<Pick, AllocEr
     }
 }
 
+/// `PprofReader::over` without its clauses, so that what calls it is proved without them.
+pub(super) fn reader_over(bytes: Vec<u8>, pick: Pick, naming: Naming) -> PprofReader {
+    PprofReader::over(bytes, pick, naming)
+}
+
 fn reader_of(
     alloc: Global,
     parts: &[&[u8]],
@@ -163,7 +220,7 @@ fn reader_of(
 ) -> Result<PprofReader, AllocError> {
     let pick = pick_of(alloc, choice.pick)?;
     let bytes = joined(alloc, parts)?;
-    Ok(PprofReader::over(bytes, pick, choice.naming))
+    Ok(reader_over(bytes, pick, choice.naming))
 }
 
 /// Appends what a reader of a file gives. It alone owns a reader, and has one `?`: at each of them the proof writes out the drop of
@@ -179,6 +236,10 @@ pub(super) fn append_given(
     append_asked(alloc, &mut reader, asked, text)
 }
 
+pub(super) fn is_text(rt: &impl Abort, found: &str, wanted: &str) {
+    assert_eq!(rt; found, wanted);
+}
+
 /// A reader of a file gives this.
 pub(super) fn gives(
     rt: &(impl Abort + AllocGlobal),
@@ -189,7 +250,7 @@ pub(super) fn gives(
 ) -> Result<(), AllocError> {
     let mut text = String::new(rt.alloc());
     append_given(rt.alloc(), parts, choice, asked, &mut text)?;
-    assert_eq!(rt; text.as_str(), wanted);
+    is_text(rt, text.as_str(), wanted);
     Ok(())
 }
 
@@ -211,4 +272,15 @@ pub(super) fn reads_plainly(
     wanted: &str,
 ) -> Result<(), AllocError> {
     reads_as(rt, parts, PLAIN, wanted)
+}
+
+/// Each of these files reads so.
+pub(super) fn read_so(
+    rt: &(impl Abort + AllocGlobal),
+    readings: &[Reading<'_>],
+) -> Result<(), Fail> {
+    for (parts, choice, wanted) in readings {
+        reads_as(rt, parts, *choice, wanted)?;
+    }
+    Ok(())
 }

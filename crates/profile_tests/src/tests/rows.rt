@@ -2,12 +2,40 @@
 
 use super::files::{BASE, SMALLEST, TWO_LINES};
 use super::messages::{append_field, append_location_at, append_sample};
-use super::reading::{Asked, Choice, LINES, PLAIN, append_step, gives, reads_plainly};
+use super::reading::{
+    Asked, Choice, LINES, PLAIN, append_between, append_step, gives, reads_plainly,
+};
 use profile_tables::PprofReader;
 use stack_core::{RowReader, RowStep, Text};
 use std::alloc::{AllocError, Global};
 use std::process::Abort;
 use std::test::Fail;
+
+/// Appends the number of a sample's row, and whether that is told now, or answers false for the ending.
+fn append_number(text: &mut String, step: &RowStep, told: &mut usize) -> Result<bool, AllocError> {
+    match step {
+        RowStep::New { .. } => {
+            append_between(text, "", told, " new\n")?;
+            *told = told.saturating_add(1);
+            Ok(true)
+        }
+        RowStep::Again { row, .. } => {
+            append_between(text, "", row, "\n")?;
+            Ok(true)
+        }
+        RowStep::End(_) => Ok(false),
+    }
+}
+
+fn append_next_number<R: RowReader>(
+    alloc: Global,
+    reader: &mut R,
+    text: &mut String,
+    told: &mut usize,
+) -> Result<bool, AllocError> {
+    let step = reader.next_row(alloc)?;
+    append_number(text, &step, told)
+}
 
 /// Appends, for each sample, the number of its row, and whether that was told now.
 pub(super) fn append_numbers<R: RowReader>(
@@ -17,13 +45,8 @@ pub(super) fn append_numbers<R: RowReader>(
 ) -> Result<(), AllocError> {
     let mut told = 0usize;
     for _ in 0..200_000 {
-        match reader.next_row(alloc)? {
-            RowStep::New { .. } => {
-                write!(text, "{told} new\n")?;
-                told = told.saturating_add(1);
-            }
-            RowStep::Again { row, .. } => write!(text, "{row}\n")?,
-            RowStep::End(_) => return Ok(()),
+        if !append_next_number(alloc, reader, text, &mut told)? {
+            return Ok(());
         }
     }
     Ok(())
@@ -61,14 +84,30 @@ fn split_ids(rt: HostRuntime) -> Result<(), Fail> {
     Ok(())
 }
 
+/// How many names a row tells, and nothing of the ending.
+fn new_names(step: &RowStep) -> Option<usize> {
+    match step {
+        RowStep::New { names, .. } => Some(names.get().len()),
+        RowStep::Again { .. } => Some(0),
+        RowStep::End(_) => None,
+    }
+}
+
+fn next_new_names<R: RowReader>(
+    alloc: Global,
+    reader: &mut R,
+) -> Result<Option<usize>, AllocError> {
+    let step = reader.next_row(alloc)?;
+    Ok(new_names(&step))
+}
+
 /// How many names the rows tell that are left.
 fn count_new_names<R: RowReader>(alloc: Global, reader: &mut R) -> Result<usize, AllocError> {
     let mut told = 0usize;
     for _ in 0..1_000 {
-        match reader.next_row(alloc)? {
-            RowStep::New { names, .. } => told = told.saturating_add(names.get().len()),
-            RowStep::Again { .. } => {}
-            RowStep::End(_) => return Ok(told),
+        match next_new_names(alloc, reader)? {
+            Some(count) => told = told.saturating_add(count),
+            None => return Ok(told),
         }
     }
     Ok(told)
@@ -80,7 +119,7 @@ pub(super) fn append_new_names<R: RowReader>(
     text: &mut String,
 ) -> Result<(), AllocError> {
     let told = count_new_names(alloc, reader)?;
-    write!(text, "{told}")
+    append_between(text, "", &told, "")
 }
 
 /// So many names are told of a file.
@@ -130,7 +169,15 @@ fn append_new_row(text: &mut String, names: &[Text], weight: u64) -> Result<(), 
     for name in names {
         text.push_str(name.get())?;
     }
-    write!(text, " {weight} new")
+    append_between(text, " ", &weight, " new")
+}
+
+/// Appends a row, where that is new.
+fn append_if_new(text: &mut String, step: &RowStep) -> Result<(), AllocError> {
+    match step {
+        RowStep::New { names, weight, .. } => append_new_row(text, names.get(), *weight),
+        _ => text.push_str("no new row"),
+    }
 }
 
 /// Appends a sample, and then a row, where that is new.
@@ -140,10 +187,8 @@ pub(super) fn append_sample_and_row(
     text: &mut String,
 ) -> Result<(), AllocError> {
     append_step(alloc, reader, text)?;
-    match reader.next_row(alloc)? {
-        RowStep::New { names, weight, .. } => append_new_row(text, names.get(), weight),
-        _ => text.push_str("no new row"),
-    }
+    let step = reader.next_row(alloc)?;
+    append_if_new(text, &step)
 }
 
 /// Samples that `next` gives are not told, and a row follows them.

@@ -1,6 +1,6 @@
 //! Rows as a caller keeps them.
 
-use super::reading::{ENDLESS, append_ending};
+use super::reading::{ENDLESS, append_between, append_ending_again};
 use stack_core::{Listed, RowReader, RowStep, SourceEnd, Text};
 use std::alloc::{AllocError, Global};
 
@@ -31,7 +31,7 @@ impl Told {
             Some(stack) => self.append_names(text, stack.get())?,
             None => text.push_str("(no row)")?,
         }
-        write!(text, " {weight}\n")
+        append_between(text, " ", &weight, "\n")
     }
 
     /// Takes a name that is told, which none is twice.
@@ -79,24 +79,38 @@ impl Told {
                     weight,
                 } => self.take(text, names, frames, weight)?,
                 RowStep::Again { row, weight } => self.append_line(text, row, weight)?,
-                RowStep::End(ending) => return append_ending_again(alloc, reader, text, ending),
+                RowStep::End(ending) => return append_end(alloc, reader, text, ending),
             }
         }
         text.push_str(ENDLESS)
     }
 }
 
+fn is_ending(step: &RowStep, ending: SourceEnd) -> bool {
+    match step {
+        RowStep::End(found) => *found == ending,
+        _ => false,
+    }
+}
+
+fn ends_again<R: RowReader>(
+    alloc: Global,
+    reader: &mut R,
+    ending: SourceEnd,
+) -> Result<bool, AllocError> {
+    let step = reader.next_row(alloc)?;
+    Ok(is_ending(&step, ending))
+}
+
 /// Appends an ending, where it comes again.
-fn append_ending_again<R: RowReader>(
+fn append_end<R: RowReader>(
     alloc: Global,
     reader: &mut R,
     text: &mut String,
     ending: SourceEnd,
 ) -> Result<(), AllocError> {
-    match reader.next_row(alloc)? {
-        RowStep::End(again) if again == ending => append_ending(text, ending),
-        _ => text.push_str(ENDLESS),
-    }
+    let came_again = ends_again(alloc, reader, ending)?;
+    append_ending_again(text, ending, came_again)
 }
 
 /// Appends the samples that a reader gives by rows, written of what it told, and the ending.

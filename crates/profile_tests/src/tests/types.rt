@@ -7,9 +7,13 @@ use profile_tables::{PprofReader, SampleType};
 use std::alloc::{AllocError, Global};
 use std::test::Fail;
 
+fn append_type_of(text: &mut String, name: &str, unit: &str) -> Result<(), AllocError> {
+    write!(text, "{name} in {unit}\n")
+}
+
 pub(super) fn append_type(text: &mut String, found: Option<&SampleType>) -> Result<(), AllocError> {
     match found {
-        Some(found) => write!(text, "{} in {}\n", found.name.get(), found.unit.get()),
+        Some(found) => append_type_of(text, found.name.get(), found.unit.get()),
         None => text.push_str("no type\n"),
     }
 }

@@ -1,19 +1,32 @@
 //! The limit of a source's total weight.
 
 use super::files::SMALLEST;
-use super::reading::reads_plainly;
+use super::reading::{PLAIN, Reading, read_so};
 use std::test::Fail;
 
 /// A sample that takes the total of the smallest profile to 2^56-1.
 const THE_REST: &[u8] = b"\x12\x0d\x0a\x01\x01\x12\x08\xf8\xff\xff\xff\xff\xff\xff\x7f";
 
+/// A sample that weighs nothing.
+const NOTHING: &[u8] = b"\x12\x06\x0a\x01\x01\x12\x01\x00";
+
+/// A sample of weight 1.
+const ONE: &[u8] = b"\x12\x06\x0a\x01\x01\x12\x01\x01";
+
+const WEIGHTS: [Reading<'static>; 2] = [
+    (
+        &[SMALLEST, THE_REST, NOTHING],
+        PLAIN,
+        "main 7\nmain 72057594037927928\nmain 0\nclean",
+    ),
+    (
+        &[SMALLEST, THE_REST, ONE],
+        PLAIN,
+        "main 7\nmain 72057594037927928\nTotalTooLarge at 60",
+    ),
+];
+
 #[test]
 fn limits_of_weights_and_depth_by_weights(rt: HostRuntime) -> Result<(), Fail> {
-    let nothing = b"\x12\x06\x0a\x01\x01\x12\x01\x00";
-    let wanted = "main 7\nmain 72057594037927928\nmain 0\nclean";
-    reads_plainly(&rt, &[SMALLEST, THE_REST, nothing], wanted)?;
-    let one = b"\x12\x06\x0a\x01\x01\x12\x01\x01";
-    let wanted = "main 7\nmain 72057594037927928\nTotalTooLarge at 60";
-    reads_plainly(&rt, &[SMALLEST, THE_REST, one], wanted)?;
-    Ok(())
+    read_so(&rt, &WEIGHTS)
 }

@@ -21,7 +21,7 @@ const TAKEN: [(u32, &[&str], u64); 7] = [
 const STACKS: [&[usize]; 6] = [&[], &[0], &[0, 1], &[1], &[1, 0], &[0, 1, 2, 3]];
 
 /// What a tree says of these stacks.
-#[derive(Clone, Copy, PartialEq, Eq, Debug)]
+#[derive(Clone, Copy, PartialEq)]
 struct Sums {
     len: usize,
     totals: [u128; 6],
@@ -29,7 +29,7 @@ struct Sums {
 }
 
 /// What a snapshot says.
-#[derive(Clone, Copy, PartialEq, Eq, Debug)]
+#[derive(Clone, Copy, PartialEq)]
 struct Moment {
     at: u64,
     counts: [u64; 3],
@@ -37,7 +37,7 @@ struct Moment {
 }
 
 /// What a sink says of what it took.
-#[derive(Clone, Copy, PartialEq, Eq, Debug)]
+#[derive(Clone, Copy, PartialEq)]
 struct Held {
     sums: Sums,
     moments: [Option<Moment>; 3],
@@ -134,7 +134,7 @@ fn take_again(
     if sink.take(alloc, source, sample).is_ok() {
         return Ok(false);
     }
-    assert_eq!(rt; held_by(rt, sink), before);
+    assert!(rt; held_by(rt, sink) == before);
     sink.take(alloc, source, sample)?;
     Ok(true)
 }
@@ -154,8 +154,8 @@ fn take_all(rt: &impl Abort, alloc: Global, sink: &mut TreeSink) -> Result<bool,
 
 fn goes_on(rt: &impl Abort, alloc: Global, sink: &mut TreeSink) -> Result<(), Fail> {
     let refused = take_all(rt, alloc, sink)?;
-    assert_eq!(rt; held_by(rt, sink), AT_THE_END);
-    assert_eq!(rt; sink.table().len(), 5);
+    assert!(rt; held_by(rt, sink) == AT_THE_END);
+    assert!(rt; sink.table().len() == 5);
     if refused {
         return Err(AllocError.into());
     }

@@ -1,5 +1,5 @@
 //! Runs whose sources are read in different ways.
-use super::shown::{CLEAN, folded, folded_sources, is_list, plain, run_plain, run_ungated};
+use super::shown::{CLEAN, folded_sources, is_list, plain, run_plain, run_ungated};
 use crate::tests::worked::{BASE, INLINED_LINES};
 use flame_tool::{Filter, Format, Options, Source, Views};
 use profile_tables::{Naming, Pick};
@@ -11,20 +11,24 @@ use std::sync::Wait;
 use std::test::Fail;
 use std::thread::Threads;
 
-/// An empty folded source, and a profile.
-fn with_profile(alloc: Global, bytes: &[u8]) -> Result<Vec<Source>, AllocError> {
-    let mut sources = Vec::new(alloc);
-    sources.push(folded(alloc, "")?)?;
+fn push_profile(alloc: Global, sources: &mut Vec<Source>, bytes: &[u8]) -> Result<(), AllocError> {
     sources.push(Source {
         format: Format::Pprof,
         bytes: bytes.to_vec(alloc)?,
     })?;
+    Ok(())
+}
+
+/// An empty folded source, and a profile.
+fn with_profile(alloc: Global, bytes: &[u8]) -> Result<Vec<Source>, AllocError> {
+    let mut sources = folded_sources(alloc, &[""])?;
+    push_profile(alloc, &mut sources, bytes)?;
     Ok(sources)
 }
 
 /// The first list has no samples, the second these.
 fn are_read(rt: &impl Abort, alloc: Global, views: &Views, text: &str) -> Result<(), Fail> {
-    assert_eq!(rt; views.lists().len(), 2);
+    assert!(rt; views.lists().len() == 2);
     is_list(rt, alloc, &views.lists()[0], "", CLEAN)?;
     is_list(rt, alloc, &views.lists()[1], text, CLEAN)?;
     Ok(())
@@ -95,13 +99,10 @@ fn lines_of_inlined_frames(rt: HostRuntime) -> Result<(), Fail> {
 
 /// There is nothing to see.
 fn are_empty(rt: &impl Abort, views: &Views) {
-    assert_eq!(rt; views.lists().len(), 0);
-    assert_eq!(rt; views.order().len(), 0);
-    assert_eq!(rt; views.table().len(), 0);
-    assert_eq!(rt; views.tree().total(&[]), 0);
-    assert_eq!(rt; views.graph().len(), 0);
-    assert_eq!(rt; views.chart().len(), 0);
-    assert_eq!(rt; views.snapshots().len(), 0);
+    assert!(rt; views.lists().is_empty() && views.order().is_empty());
+    assert!(rt; views.table().len() == 0 && views.tree().total(&[]) == 0);
+    assert!(rt; views.graph().is_empty() && views.chart().is_empty());
+    assert!(rt; views.snapshots().is_empty());
 }
 
 #[test]
@@ -111,23 +112,20 @@ fn no_sources(rt: HostRuntime) -> Result<(), Fail> {
     Ok(())
 }
 
+const DECIMAL: SourceEnd = SourceEnd::Fault(ReadFault {
+    kind: ReadKind::DecimalWeight,
+    at: 2,
+});
+
+const ONE_IGNORED: SourceEnd = SourceEnd::Clean { ignored: 1 };
+
 /// What stands before the fault is seen, and what other sources have.
 fn are_cut(rt: &impl Abort, alloc: Global, views: &Views) -> Result<(), Fail> {
     let lists = views.lists();
-    assert_eq!(rt; lists.len(), 2);
-    let fault = SourceEnd::Fault(ReadFault {
-        kind: ReadKind::DecimalWeight,
-        at: 2,
-    });
-    is_list(rt, alloc, &lists[0], "b 2\n", fault)?;
-    is_list(
-        rt,
-        alloc,
-        &lists[1],
-        "c 3\n",
-        SourceEnd::Clean { ignored: 1 },
-    )?;
-    assert_eq!(rt; views.tree().total(&[]), 5);
+    assert!(rt; lists.len() == 2);
+    is_list(rt, alloc, &lists[0], "b 2\n", DECIMAL)?;
+    is_list(rt, alloc, &lists[1], "c 3\n", ONE_IGNORED)?;
+    assert!(rt; views.tree().total(&[]) == 5);
     Ok(())
 }
 
@@ -160,9 +158,9 @@ fn run_parsing<T: Threads + Wait + Abort + Copy + Send + 'static>(
 /// The tree and the list have what the filter keeps.
 fn are_filtered(rt: &impl Abort, alloc: Global, views: &Views) -> Result<(), Fail> {
     let lists = views.lists();
-    assert_eq!(rt; lists.len(), 1);
+    assert!(rt; lists.len() == 1);
     is_list(rt, alloc, &lists[0], "main;parse 3\n", CLEAN)?;
-    assert_eq!(rt; views.tree().total(&[]), 3);
+    assert!(rt; views.tree().total(&[]) == 3);
     Ok(())
 }
 
@@ -174,10 +172,11 @@ fn filtered_samples(rt: HostRuntime) -> Result<(), Fail> {
 
 /// The weights of the graph are those of 64 sources, each as heavy as it may be.
 fn are_heaviest(rt: &impl Abort, views: &Views) {
-    assert_eq!(rt; views.tree().total(&[0]), 4_611_686_018_427_387_840);
-    assert_eq!(rt; views.graph().len(), 2);
-    assert_eq!(rt; views.graph()[1].own, 4_611_686_018_427_387_840);
-    assert_eq!(rt; views.chart().len(), 2);
+    assert!(rt; views.tree().total(&[0]) == 4_611_686_018_427_387_840);
+    let graph = views.graph();
+    assert!(rt; views.chart().len() == 2);
+    assert!(rt; graph.len() == 2);
+    assert!(rt; graph[1].own == 4_611_686_018_427_387_840);
 }
 
 /// As many sources as there may be, each as heavy as it may be.

@@ -51,7 +51,7 @@ fn graph_of_three_lines(rt: HostRuntime) -> Result<(), Fail> {
 }
 
 fn shows_comparison(rt: &impl Abort, alloc: Global, views: &Views) -> Result<(), Fail> {
-    assert_eq!(rt; views.lists().len(), 2);
+    assert!(rt; views.lists().len() == 2);
     let boxes = View::PairBoxes(pixels(rt, 10));
     shows(rt, alloc, views, View::Pairs, COMPARISON_LINES)?;
     shows(rt, alloc, views, boxes, COMPARISON_BOXES)

@@ -4,6 +4,7 @@ ghost use Rattle.std.specs.Prelude.{◌≤◌, IfSome};
 use super::gates::{AllAsked, BothAsked};
 use super::shown::{CLEAN, folded, is_list, number_of, plain, run_folded, run_ungated, shows};
 use crate::tests::worked::SMALLEST;
+use call_tree::CallTree;
 use flame_tool::{Format, Source, View, Views};
 use stack_core::{Gate, SourceList};
 use std::alloc::{AllocError, Global};
@@ -31,8 +32,7 @@ fn have_one_sample(
     views: &Views,
     count: usize,
 ) -> Result<(), Fail> {
-    assert_eq!(rt; views.lists().len(), count);
-    assert_eq!(rt; views.order().len(), count);
+    assert!(rt; views.lists().len() == count && views.order().len() == count);
     for list in views.lists() {
         is_list(rt, alloc, list, "a 1\n", CLEAN)?;
     }
@@ -77,12 +77,22 @@ fn lines(alloc: Global, name: &str) -> Result<String, AllocError> {
     Ok(text)
 }
 
+fn thousand_lines(alloc: Global, name: &str) -> Result<Source, AllocError> {
+    let text = lines(alloc, name)?;
+    folded(alloc, &text)
+}
+
+fn push_three(alloc: Global, sources: &mut Vec<Source>) -> Result<(), AllocError> {
+    sources.push(thousand_lines(alloc, "s0")?)?;
+    sources.push(thousand_lines(alloc, "s1")?)?;
+    sources.push(thousand_samples(alloc)?)?;
+    Ok(())
+}
+
 /// Two folded sources and a profile, of a thousand samples each.
 fn three(alloc: Global) -> Result<Vec<Source>, AllocError> {
     let mut sources = Vec::new(alloc);
-    sources.push(folded(alloc, &lines(alloc, "s0")?)?)?;
-    sources.push(folded(alloc, &lines(alloc, "s1")?)?)?;
-    sources.push(thousand_samples(alloc)?)?;
+    push_three(alloc, &mut sources)?;
     Ok(sources)
 }
 
@@ -97,17 +107,28 @@ fn has_lines(
     is_list(rt, alloc, list, &text, CLEAN)
 }
 
+/// Whether the list has the samples of the profile.
+fn has_a_thousand(list: &SourceList) -> bool {
+    list.len() == 1_000 && list.total() == 7_000 && *list.ending() == CLEAN
+}
+
 /// The lists are these, in file order.
 fn are_three(rt: &impl Abort, alloc: Global, views: &Views) -> Result<(), Fail> {
     let lists = views.lists();
-    assert_eq!(rt; lists.len(), 3);
+    assert!(rt; views.order().len() == 3_000);
+    assert!(rt; lists.len() == 3);
     has_lines(rt, alloc, &lists[0], "s0")?;
     has_lines(rt, alloc, &lists[1], "s1")?;
-    assert_eq!(rt; lists[2].len(), 1_000);
-    assert_eq!(rt; lists[2].total(), 7_000);
-    assert_eq!(rt; *lists[2].ending(), CLEAN);
-    assert_eq!(rt; views.order().len(), 3_000);
+    assert!(rt; has_a_thousand(&lists[2]));
     Ok(())
+}
+
+/// The totals and the own weights of the tree, of the names with these numbers.
+fn has_sums(rt: &impl Abort, tree: &CallTree, main: usize, second: usize, digit: usize) {
+    assert!(rt; tree.len() == 24 && tree.total(&[]) == 9_000);
+    assert!(rt; tree.own(&[main]) == 7_000 && tree.total(&[digit]) == 0);
+    assert!(rt; tree.total(&[second]) == 1_000 && tree.own(&[second]) == 0);
+    assert!(rt; tree.own(&[second, digit]) == 100);
 }
 
 /// The merged sums are those of all three.
@@ -116,16 +137,8 @@ fn are_merged(rt: &impl Abort, views: &Views) {
     let main = number_of(table, "main").expect(rt, "main");
     let second = number_of(table, "s1").expect(rt, "s1");
     let digit = number_of(table, "f9").expect(rt, "f9");
-    let tree = views.tree();
-    assert_eq!(rt; tree.total(&[]), 9_000);
-    assert_eq!(rt; tree.own(&[main]), 7_000);
-    assert_eq!(rt; tree.total(&[second]), 1_000);
-    assert_eq!(rt; tree.own(&[second]), 0);
-    assert_eq!(rt; tree.own(&[second, digit]), 100);
-    assert_eq!(rt; tree.total(&[digit]), 0);
-    assert_eq!(rt; tree.len(), 24);
-    assert_eq!(rt; views.graph().len(), 24);
-    assert_eq!(rt; views.chart().len(), 2_004);
+    has_sums(rt, views.tree(), main, second, digit);
+    assert!(rt; views.graph().len() == 24 && views.chart().len() == 2_004);
 }
 
 /// The lists and the merged sums of the three.
@@ -157,7 +170,7 @@ const FOLD_OF_THREE_SOURCES: &str = "main 7000\n\
 
 /// The views of the three, without a snapshot, and their fold text.
 fn are_three_folded(rt: &impl Abort, alloc: Global, views: &Views) -> Result<(), Fail> {
-    assert_eq!(rt; views.snapshots().len(), 0);
+    assert!(rt; views.snapshots().is_empty());
     are_three_merged(rt, alloc, views)?;
     shows(rt, alloc, views, View::Fold, FOLD_OF_THREE_SOURCES)
 }
@@ -174,22 +187,27 @@ fn three_sources_in_large_rings(rt: HostRuntime) -> Result<(), Fail> {
     are_three_merged(&rt, rt.alloc(), &views)
 }
 
+/// The sum of counts, each of which is no less than before.
+fn risen(rt: &impl Abort, counts: &[u64], before: &mut [u64; 3]) -> u64 {
+    let mut sum = 0u64;
+    for (source, count) in counts.iter().enumerate() {
+        assert!(rt; source < 3);
+        assert!(rt; before[source] <= *count);
+        before[source] = *count;
+        sum = sum.wrapping_add(*count);
+    }
+    sum
+}
+
 /// The counts of each snapshot add up to its number, and none falls.
 fn are_rising(rt: &impl Abort, views: &Views) {
-    assert_eq!(rt; views.snapshots().len(), 3);
+    assert!(rt; views.snapshots().len() == 3);
     let mut before = [0; 3];
     for (i, snapshot) in views.snapshots().iter().enumerate() {
-        let mut sum = 0u64;
-        for (source, count) in snapshot.counts.get().iter().enumerate() {
-            assert!(rt; source < 3);
-            assert!(rt; before[source] <= *count);
-            before[source] = *count;
-            sum = sum.wrapping_add(*count);
-        }
-        assert_eq!(rt; snapshot.at, 1_000 * (i as u64 + 1));
-        assert_eq!(rt; sum, snapshot.at);
+        let sum = risen(rt, snapshot.counts.get(), &mut before);
+        assert!(rt; snapshot.at == 1_000 * (i as u64 + 1) && sum == snapshot.at);
     }
-    assert_eq!(rt; before, [1_000; 3]);
+    assert!(rt; before == [1_000; 3]);
 }
 
 #[test]

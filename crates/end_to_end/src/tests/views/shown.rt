@@ -2,6 +2,7 @@
 ghost use Rattle.std.specs.Prelude.{◌≡◌, ◌≤◌, ◌<◌, IfSome, length};
 ghost use Rattle.flame_tool.specs.Plans.{IsComparison};
 
+use crate::tests::answers::are_bytes;
 use call_tree::FrameTable;
 use flame_layout::SpanBox;
 use flame_tool::{Filter, Format, Options, Source, View, Views, render, views};
@@ -67,11 +68,17 @@ pub fn run_ungated<T: Threads + Wait + Abort + Copy + Send + 'static>(
     Ok(run(rt, alloc, sources, options, gate)?)
 }
 
+fn push_folded(alloc: Global, sources: &mut Vec<Source>, text: &str) -> Result<(), AllocError> {
+    let source = folded(alloc, text)?;
+    sources.push(source)?;
+    Ok(())
+}
+
 /// Folded texts as sources.
 pub fn folded_sources(alloc: Global, texts: &[&str]) -> Result<Vec<Source>, AllocError> {
     let mut sources = Vec::new(alloc);
     for text in texts {
-        sources.push(folded(alloc, text)?)?;
+        push_folded(alloc, &mut sources, text)?;
     }
     Ok(sources)
 }
@@ -111,9 +118,9 @@ pub fn is_list(
     text: &str,
     ending: SourceEnd,
 ) -> Result<(), AllocError> {
-    assert_eq!(rt; *list.ending(), ending);
+    assert!(rt; *list.ending() == ending);
     let shown = list_text(alloc, list)?;
-    assert_eq!(rt; shown.as_str(), text);
+    are_bytes(rt, shown.as_str().as_bytes(), text.as_bytes());
     Ok(())
 }
 
@@ -153,7 +160,7 @@ pub fn are_boxes(
     text: &str,
 ) -> Result<(), AllocError> {
     let shown = box_text(alloc, boxes)?;
-    assert_eq!(rt; shown.as_str(), text);
+    are_bytes(rt, shown.as_str().as_bytes(), text.as_bytes());
     Ok(())
 }
 
@@ -196,8 +203,8 @@ pub fn shows(
 fn stand_behind(rt: &impl Abort, out: &[u8], text: &str) {
     assert!(rt; out.len() >= IN_FRONT.len());
     let (front, shown) = out.split_at(IN_FRONT.len());
-    assert_eq!(rt; front, IN_FRONT.as_bytes());
-    assert_eq!(rt; shown, text.as_bytes());
+    are_bytes(rt, front, IN_FRONT.as_bytes());
+    are_bytes(rt, shown, text.as_bytes());
 }
 
 /// The view as text, behind what stood there.
