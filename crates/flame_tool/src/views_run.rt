@@ -118,7 +118,7 @@ fn show_sources<T: Threads + Wait + Copy + Send + 'static, W: Outlet, E: Outlet>
         whole: run.whole_weight,
         types: Listed::of(types),
     };
-    send_lists(alloc, run.kept, plan, &facts, out)
+    send_lists(rt, alloc, run.kept, plan, &facts, out)
 }
 
 // The sample types of the weights of sources, which pages alone tell.
@@ -133,7 +133,8 @@ fn told_types(alloc: Global, plan: &Plan, sources: &[Source]) -> Result<Vec<Samp
 }
 
 // Sends what a plan asks for of the lists of a run, unless a source has a fault.
-fn send_lists<W: Outlet>(
+fn send_lists<T: Threads, W: Outlet>(
+    rt: &T,
     alloc: Global,
     run: SourceLists,
     plan: &Plan,
@@ -156,13 +157,14 @@ fn send_lists<W: Outlet>(
         return Err(Failure::Faults);
     }
     match &plan.form {
-        Form::Text | Form::Types => send_view(alloc, &run, plan, facts, out),
+        Form::Text | Form::Types => send_view(rt, alloc, &run, plan, facts, out),
         Form::Page(page) => send_page(alloc, run, plan, facts, page, out),
     }
 }
 
 // Sends the text of a plan's view, with the snapshots of its graph where they are asked for.
-fn send_view<W: Outlet>(
+fn send_view<T: Threads, W: Outlet>(
+    rt: &T,
     alloc: Global,
     run: &SourceLists,
     plan: &Plan,
@@ -179,7 +181,7 @@ fn send_view<W: Outlet>(
 {
     match asked_snapshots(plan.view, plan.options.every) {
         Some(asked) => send_snapshots(alloc, run, asked.width, asked.every, out),
-        None => send_asked_view(alloc, run, plan, facts, out),
+        None => send_asked_view(rt, alloc, run, plan, facts, out),
     }
 }
 

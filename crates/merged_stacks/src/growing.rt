@@ -13,6 +13,7 @@ use crate::growing_list::GrowingList;
 use crate::moment_stacks::MomentStacks;
 use crate::name_ranks::NameRanks;
 use crate::ranked_rows::RankedRows;
+use crate::sorting::Alone;
 use stack_core::SourceList;
 use std::alloc::{AllocError, Global};
 use std::marker::Model;
@@ -84,7 +85,7 @@ impl<'a> GrowingStacks<'a> {
             ≡ merged_samples (all_samples (fronts self.now.lists self.now.counts))) }
     {
         let rows = came_rows(alloc, &self.parts, &self.ranks)?;
-        let rows = rows.merged(alloc)?;
+        let rows = rows.merged(alloc, &Alone)?;
         Ok(MomentStacks::over(&self.names, rows))
     }
 }

@@ -15,10 +15,12 @@ use crate::list_sums::ListSums;
 use crate::name_ranks::NameRanks;
 use crate::ranked_rows::RankedRows;
 use crate::ranked_stacks::RankedStacks;
+use crate::sorting::{Alone, InThreads, Sorting};
 use crate::stack_rows::StackRows;
 use stack_core::SourceList;
 use std::alloc::{AllocError, Global};
 use std::marker::Model;
+use std::thread::Threads;
 
 /// The merged stacks of some samples. Contracts see them as samples: each stack with weight once,
 /// sorted by the names, with the sum of its samples.
@@ -46,9 +48,32 @@ impl MergedStacks {
         requires { total_weight (all_samples (samples_of lists.now)) < 2 ^ 64 }
         ensures { IfOk result (λ merged. merged ≡ merged_samples (all_samples (samples_of lists.now))) }
     {
+        MergedStacks::sorted(alloc, lists, &Alone)
+    }
+
+    /// The same, sorted in a few threads where there are many stacks.
+    pub fn of_in_threads(
+        rt: &impl Threads,
+        alloc: Global,
+        lists: &[SourceList],
+    ) -> Result<MergedStacks, AllocError>
+        requires { total_weight (all_samples (samples_of lists.now)) < 2 ^ 64 }
+        ensures { IfOk result (λ merged. merged ≡ merged_samples (all_samples (samples_of lists.now))) }
+    {
+        MergedStacks::sorted(alloc, lists, &InThreads { rt })
+    }
+
+    fn sorted<S: Sorting>(
+        alloc: Global,
+        lists: &[SourceList],
+        sorting: &S,
+    ) -> Result<MergedStacks, AllocError>
+        requires { total_weight (all_samples (samples_of lists.now)) < 2 ^ 64 }
+        ensures { IfOk result (λ merged. merged ≡ merged_samples (all_samples (samples_of lists.now))) }
+    {
         let NameRanks { names, ranks } = NameRanks::of(alloc, lists)?;
         let rows = ranked(alloc, lists, &ranks)?;
-        let rows = rows.merged(alloc)?;
+        let rows = rows.merged(alloc, sorting)?;
         Ok(MergedStacks { names, rows })
     }
 

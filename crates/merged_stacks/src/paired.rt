@@ -12,10 +12,12 @@ ghost use Rattle.merged_stacks.specs.checked.Swept.{HasStacks};
 use crate::merged::add_list;
 use crate::name_ranks::NameRanks;
 use crate::ranked_rows::RankedRows;
+use crate::sorting::{Alone, InThreads, Sorting};
 use crate::sweeps::{Place, place_ranks, sweep, weight_after, weight_before};
 use stack_core::SourceList;
 use std::alloc::{AllocError, Global};
 use std::marker::Model;
+use std::thread::Threads;
 
 /// The stacks of two lists side by side: each stack with weight in either list once, sorted by the
 /// names, with the sums of its samples in both. Contracts see them as a list.
@@ -50,10 +52,37 @@ impl PairedStacks {
         requires after { total_weight after.now.samples < 2 ^ 64 }
         ensures { IfOk result (λ paired. paired ≡ paired_stacks before.now.samples after.now.samples) }
     {
+        PairedStacks::sorted(alloc, before, after, &Alone)
+    }
+
+    /// The same, sorted in a few threads where there are many stacks.
+    pub fn of_in_threads(
+        rt: &impl Threads,
+        alloc: Global,
+        before: &SourceList,
+        after: &SourceList,
+    ) -> Result<PairedStacks, AllocError>
+        requires before { total_weight before.now.samples < 2 ^ 64 }
+        requires after { total_weight after.now.samples < 2 ^ 64 }
+        ensures { IfOk result (λ paired. paired ≡ paired_stacks before.now.samples after.now.samples) }
+    {
+        PairedStacks::sorted(alloc, before, after, &InThreads { rt })
+    }
+
+    fn sorted<S: Sorting>(
+        alloc: Global,
+        before: &SourceList,
+        after: &SourceList,
+        sorting: &S,
+    ) -> Result<PairedStacks, AllocError>
+        requires before { total_weight before.now.samples < 2 ^ 64 }
+        requires after { total_weight after.now.samples < 2 ^ 64 }
+        ensures { IfOk result (λ paired. paired ≡ paired_stacks before.now.samples after.now.samples) }
+    {
         let NameRanks { names, ranks } = NameRanks::of_pair(alloc, before, after)?;
         let (of_before, of_after) = ranks.split_at(before.told());
-        let lefts = merged_rows(alloc, before, of_before)?;
-        let rights = merged_rows(alloc, after, of_after)?;
+        let lefts = merged_rows(alloc, before, of_before, sorting)?;
+        let rights = merged_rows(alloc, after, of_after, sorting)?;
         let places = sweep(alloc, &lefts, &rights)?;
         Ok(PairedStacks {
             names,
@@ -126,7 +155,12 @@ impl PairedStacks {
 }
 
 /// The rows of a list, by the ranks of its told names: each stack with weight once, in order.
-fn merged_rows(alloc: Global, list: &SourceList, ranks: &[u32]) -> Result<RankedRows, AllocError>
+fn merged_rows<S: Sorting>(
+    alloc: Global,
+    list: &SourceList,
+    ranks: &[u32],
+    sorting: &S,
+) -> Result<RankedRows, AllocError>
     requires named { (names : List (List ℕ)) × IsNamedBy names ranks.now list.now.told }
     requires total { total_weight list.now.samples < 2 ^ 64 }
     ensures { IfOk result (λ rows. (names : List (List ℕ)) → AreRising names
@@ -134,5 +168,5 @@ fn merged_rows(alloc: Global, list: &SourceList, ranks: &[u32]) -> Result<Ranked
 {
     let mut rows = RankedRows::new(alloc);
     add_list(alloc, &mut rows, list, ranks)?;
-    rows.merged(alloc)
+    rows.merged(alloc, sorting)
 }

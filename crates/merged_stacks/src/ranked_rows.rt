@@ -3,15 +3,16 @@
 ghost use Rattle.std.specs.Prelude.{◌≡◌, ◌+◌, ◌-◌, ◌<◌, ◌≤◌, ◌^◌, ◌++◌, ◌∷◌, ℕ, [], List, All, IfOk, OnOk, IsPermutation, length, map, reverse, sum_by, slice_index, slice_index_or, slice_range};
 ghost use Rattle.merged_stacks.specs.checked.Ranked.{Ranked, ranked_row, ranked_rows, AreWithin, ranked_entry, IsEntryOf, join_front, joined, AreAscending};
 
+use crate::sorting::{Alone, Sorting, nearly_sorted};
 use std::alloc::{AllocError, Global};
 use std::marker::Model;
 
 /// Where the ranks of a stack's names lie, and its weight.
 #[derive(Clone, Copy, Debug)]
 pub(crate) struct RankedRow {
-    start: usize,
-    end: usize,
-    weight: u64,
+    pub(crate) start: usize,
+    pub(crate) end: usize,
+    pub(crate) weight: u64,
 }
 
 /// Stacks by ranks, with weights, in a few flat vectors. Ranks that no row covers stand for nothing.
@@ -100,13 +101,17 @@ impl RankedRows {
     }
 
     /// The rows in the order of their ranks, those of the same ranks as one.
-    pub(crate) fn merged(self, alloc: Global) -> Result<RankedRows, AllocError>
+    pub(crate) fn merged<S: Sorting>(
+        self,
+        alloc: Global,
+        sorting: &S,
+    ) -> Result<RankedRows, AllocError>
         requires { sum_by (λ row. row.1) self < 2 ^ 64 }
         ensures { IfOk result (λ rows. (sorted : List Ranked) × IsPermutation self sorted
             × AreAscending sorted × (rows ≡ joined sorted)) }
     {
         let RankedRows { frames, rows } = self;
-        let rows = joined_rows(alloc, &frames, rows)?;
+        let rows = joined_rows(alloc, &frames, rows, sorting)?;
         Ok(RankedRows { frames, rows })
     }
 
@@ -115,8 +120,7 @@ impl RankedRows {
         ensures { IfOk result (λ weights. IsPermutation (map (λ row. row.1) self) weights.items) }
     {
         let RankedRows { frames, rows } = self;
-        let mut entries = entries(alloc, &frames, rows)?;
-        entries.sort_unstable();
+        let entries = sorted_entries(alloc, &frames, rows, &Alone)?;
         weights(alloc, &entries)
     }
 }
@@ -134,10 +138,11 @@ fn append_ranks(frames: &mut Vec<u32>, numbers: &[u32], ranks: &[u32]) -> Result
 }
 
 /// The rows in the order of their ranks, those of the same ranks as one.
-fn joined_rows(
+fn joined_rows<S: Sorting>(
     alloc: Global,
     frames: &[u32],
     rows: Vec<RankedRow>,
+    sorting: &S,
 ) -> Result<Vec<RankedRow>, AllocError>
     requires within { AreWithin frames.now rows.items }
     requires total { sum_by (λ row. row.1) (ranked_rows frames.now rows.items) < 2 ^ 64 }
@@ -146,9 +151,27 @@ fn joined_rows(
         × IsPermutation (ranked_rows frames.now rows.items) sorted × AreAscending sorted
         × (ranked_rows frames.now all.items ≡ joined sorted)) }
 {
-    let mut entries = entries(alloc, frames, rows)?;
-    entries.sort_unstable();
+    let entries = sorted_entries(alloc, frames, rows, sorting)?;
     join(alloc, frames, &entries)
+}
+
+/// An entry for each row, in order.
+fn sorted_entries<'a, S: Sorting>(
+    alloc: Global,
+    frames: &'a [u32],
+    rows: Vec<RankedRow>,
+    sorting: &S,
+) -> Result<Vec<Entry<'a>>, AllocError>
+    requires { AreWithin frames.now rows.items }
+    ensures ranked { IfOk result (λ all. IsPermutation (ranked_rows frames.now rows.items) (map ranked_entry all.items)) }
+    ensures within { IfOk result (λ all. All (IsEntryOf frames.now) all.items) }
+    ensures ascending { IfOk result (λ all. AreAscending (map ranked_entry all.items)) }
+{
+    let rows = nearly_sorted(alloc, frames, rows, sorting)?;
+    let mut entries = entries(alloc, frames, rows)?;
+    // entries that are in order already take one look each
+    entries.sort_unstable();
+    Ok(entries)
 }
 
 /// An entry for each row.

@@ -1,6 +1,10 @@
 //! Pages for browsers of what was collected, sent while they are made.
 ghost use Rattle.std.specs.Prelude.{◌≡◌, ◌<◌, ◌^◌, [], None, IfOk, length, map, slice_get, string_bytes, unwrap_or};
 ghost use Rattle.merged_stacks.specs.Timeline.{samples_of, total_weight};
+ghost use Rattle.view_texts.specs.Fold.{fold_text};
+ghost use Rattle.view_texts.specs.Pairs.{pairs_text};
+ghost use Rattle.merging.specs.Sums.{all_samples};
+ghost use Rattle.stack_core.specs.Interleaving.{list_of};
 ghost use Rattle.page_texts.specs.Document.{document_text};
 ghost use Rattle.page_texts.specs.Drawn.{source_of};
 ghost use Rattle.page_views.specs.Pages.{chart_page, comparison_page, graph_page, heading_of, snapshots_page};
@@ -10,17 +14,20 @@ ghost use Rattle.sent_views.specs.Pages.{asked_heading, default_title, headed_te
 ghost use Rattle.opened_sources.specs.Failures.{Flushes, Sends};
 
 use crate::run_facts::RunFacts;
-use crate::sent_views::send_plain_view;
+use crate::sent_views::{send_text, send_top};
 use byte_io::Outlet;
 use command_line::{PageForm, Plan, View};
+use merged_stacks::PairedStacks;
 use merging::{Gathered, SourceLists};
 use opened_sources::{Failure, path_of};
 use page_views::{
     Heading, Source, send_chart_page, send_comparison_page, send_graph_page, send_snapshots_page,
 };
 use profile_messages::SampleType;
+use source_views::merge;
 use stack_core::SourceList;
 use std::alloc::{AllocError, Global};
+use view_texts::{FoldedText, PairedText};
 
 /// Sends the page that a plan asks for, without snapshots.
 pub fn send_asked_page<W: Outlet>(
@@ -157,6 +164,30 @@ fn described_source<'a>(
     }
 }
 
+// Sends the fold text of all samples, which has no page.
+fn send_fold<W: Outlet>(alloc: Global, sources: &SourceLists, out: &mut W) -> Result<(), Failure>
+    ensures sent { Sends (fold_text (all_samples (samples_of sources.now.lists)))
+        (W.contents out.old) (W.contents out.new) result }
+    ensures flushed { Flushes (W.is_flushed out.new) (W.failures out.old) (W.failures out.new)
+        result }
+{
+    let merged = merge(alloc, sources)?;
+    send_text(alloc, &FoldedText::of(&merged), out)
+}
+
+// Sends the two-column text of the first two sources, which has no page.
+fn send_pairs<W: Outlet>(alloc: Global, sources: &SourceLists, out: &mut W) -> Result<(), Failure>
+    requires { length sources.now.lists ≡ 2 }
+    ensures sent { Sends (pairs_text (list_of (samples_of sources.now.lists) 0)
+        (list_of (samples_of sources.now.lists) 1)) (W.contents out.old) (W.contents out.new) result }
+    ensures flushed { Flushes (W.is_flushed out.new) (W.failures out.old) (W.failures out.new)
+        result }
+{
+    let lists = sources.lists();
+    let stacks = PairedStacks::of(alloc, &lists[0], &lists[1])?;
+    send_text(alloc, &PairedText::of(&stacks), out)
+}
+
 // Sends the page of a view under a heading, or the text of a view that has no boxes.
 fn send_headed<W: Outlet>(
     alloc: Global,
@@ -178,7 +209,9 @@ fn send_headed<W: Outlet>(
             let lists = sources.lists();
             send_comparison(alloc, &lists[0], &lists[1], heading, out)
         }
-        View::Fold | View::Pairs | View::Top(_) => send_plain_view(alloc, sources, view, None, out),
+        View::Fold => send_fold(alloc, sources, out),
+        View::Pairs => send_pairs(alloc, sources, out),
+        View::Top(top) => send_top(alloc, sources, top, None, out),
     }
 }
 

@@ -14,18 +14,20 @@ ghost use Rattle.stack_core.specs.Interleaving.{list_of};
 use crate::run_facts::{RunFacts, told_whole};
 use byte_io::{Outlet, Pieces, send_pieces};
 use command_line::{Plan, TopTable, View};
-use flame_layout::{MergedStacks, Width, draw_merged, draw_paired};
+use flame_layout::{Width, draw_merged, draw_paired};
 use merged_stacks::PairedStacks;
 use merging::SourceLists;
 use opened_sources::Failure;
-use source_views::{drawn_chart, drawn_graph, lend_chart, merge, weigh_functions};
+use source_views::{drawn_chart, drawn_graph, lend_chart, merge_in_threads, weigh_functions};
 use stack_core::SourceList;
 use std::alloc::Global;
+use std::thread::Threads;
 use sum_texts::{SumLine, SumTable};
 use view_texts::{FoldedText, PairedText, Scale, drawn_comparison_line};
 
 /// Sends the text of a plan's view without snapshots, and draws no more than that view needs.
-pub fn send_asked_view<W: Outlet>(
+pub fn send_asked_view<T: Threads, W: Outlet>(
+    rt: &T,
     alloc: Global,
     sources: &SourceLists,
     plan: &Plan,
@@ -38,11 +40,12 @@ pub fn send_asked_view<W: Outlet>(
     ensures flushed { Flushes (W.is_flushed out.new) (W.failures out.old) (W.failures out.new)
         result }
 {
-    send_plain_view(alloc, sources, plan.view, told_whole(plan, facts), out)
+    send_plain_view(rt, alloc, sources, plan.view, told_whole(plan, facts), out)
 }
 
 // Sends the text of a view without snapshots. It may say what all samples weigh.
-pub(crate) fn send_plain_view<W: Outlet>(
+fn send_plain_view<T: Threads, W: Outlet>(
+    rt: &T,
     alloc: Global,
     sources: &SourceLists,
     view: View,
@@ -56,31 +59,37 @@ pub(crate) fn send_plain_view<W: Outlet>(
         result }
 {
     match view {
-        View::Fold => send_fold(alloc, sources, out),
-        View::Graph(width) => send_graph(alloc, sources, width, out),
+        View::Fold => send_fold(rt, alloc, sources, out),
+        View::Graph(width) => send_graph(rt, alloc, sources, width, out),
         View::Chart(width) => send_chart(alloc, sources, width, out),
-        View::Pairs => send_pairs(alloc, sources, out),
+        View::Pairs => send_pairs(rt, alloc, sources, out),
         View::PairBoxes(width) => {
             let lists = sources.lists();
-            send_compared(alloc, &lists[0], &lists[1], width, out)
+            send_compared(rt, alloc, &lists[0], &lists[1], width, out)
         }
         View::Top(top) => send_top(alloc, sources, top, all, out),
     }
 }
 
 // Sends the fold text of all samples.
-fn send_fold<W: Outlet>(alloc: Global, sources: &SourceLists, out: &mut W) -> Result<(), Failure>
+fn send_fold<T: Threads, W: Outlet>(
+    rt: &T,
+    alloc: Global,
+    sources: &SourceLists,
+    out: &mut W,
+) -> Result<(), Failure>
     ensures sent { Sends (fold_text (all_samples (samples_of sources.now.lists)))
         (W.contents out.old) (W.contents out.new) result }
     ensures flushed { Flushes (W.is_flushed out.new) (W.failures out.old) (W.failures out.new)
         result }
 {
-    let merged = MergedStacks::of(alloc, sources.lists())?;
+    let merged = merge_in_threads(rt, alloc, sources)?;
     send_text(alloc, &FoldedText::of(&merged), out)
 }
 
 // Sends the line of the graph alone.
-fn send_graph<W: Outlet>(
+fn send_graph<T: Threads, W: Outlet>(
+    rt: &T,
     alloc: Global,
     sources: &SourceLists,
     width: Width,
@@ -91,7 +100,7 @@ fn send_graph<W: Outlet>(
     ensures flushed { Flushes (W.is_flushed out.new) (W.failures out.old) (W.failures out.new)
         result }
 {
-    let merged = merge(alloc, sources)?;
+    let merged = merge_in_threads(rt, alloc, sources)?;
     let boxes = draw_merged(alloc, &merged)?;
     send_text(alloc, &drawn_graph(sources, &boxes, width), out)
 }
@@ -113,7 +122,12 @@ fn send_chart<W: Outlet>(
 }
 
 // Sends the two-column text of the first two sources.
-fn send_pairs<W: Outlet>(alloc: Global, sources: &SourceLists, out: &mut W) -> Result<(), Failure>
+fn send_pairs<T: Threads, W: Outlet>(
+    rt: &T,
+    alloc: Global,
+    sources: &SourceLists,
+    out: &mut W,
+) -> Result<(), Failure>
     requires { length sources.now.lists ≡ 2 }
     ensures sent { Sends (pairs_text (list_of (samples_of sources.now.lists) 0)
         (list_of (samples_of sources.now.lists) 1)) (W.contents out.old) (W.contents out.new) result }
@@ -121,12 +135,13 @@ fn send_pairs<W: Outlet>(alloc: Global, sources: &SourceLists, out: &mut W) -> R
         result }
 {
     let lists = sources.lists();
-    let stacks = PairedStacks::of(alloc, &lists[0], &lists[1])?;
+    let stacks = PairedStacks::of_in_threads(rt, alloc, &lists[0], &lists[1])?;
     send_text(alloc, &PairedText::of(&stacks), out)
 }
 
 // Sends the flame graph of the second profile, with the weights of the first.
-fn send_compared<W: Outlet>(
+fn send_compared<T: Threads, W: Outlet>(
+    rt: &T,
     alloc: Global,
     before: &SourceList,
     after: &SourceList,
@@ -140,7 +155,7 @@ fn send_compared<W: Outlet>(
     ensures flushed { Flushes (W.is_flushed out.new) (W.failures out.old) (W.failures out.new)
         result }
 {
-    let stacks = PairedStacks::of(alloc, before, after)?;
+    let stacks = PairedStacks::of_in_threads(rt, alloc, before, after)?;
     let boxes = draw_paired(alloc, &stacks, before, after)?;
     let total = after.total() as u64;
     let line = drawn_comparison_line(before.total() as u64, &boxes, Scale { total, width });
@@ -148,7 +163,7 @@ fn send_compared<W: Outlet>(
 }
 
 // Sends the heaviest functions, as a table or as a line of JSON.
-fn send_top<W: Outlet>(
+pub(crate) fn send_top<W: Outlet>(
     alloc: Global,
     sources: &SourceLists,
     top: TopTable,

@@ -1,3 +1,4 @@
 pub mod FoldedSources
+pub mod MergedRuns
 pub mod TextLemmas
 mod WorkedSnapshots

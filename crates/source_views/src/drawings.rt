@@ -10,6 +10,7 @@ ghost use Rattle.merging.specs.Sums.{all_samples};
 use flame_layout::{DrawnBox, MergedStacks, SpanBox, chart_boxes, merged_boxes};
 use merging::SourceLists;
 use std::alloc::{AllocError, Global};
+use std::thread::Threads;
 
 // The flame graph of all samples.
 pub(crate) fn draw_graph(alloc: Global, sources: &SourceLists) -> Result<Vec<SpanBox>, AllocError>
@@ -25,6 +26,17 @@ pub fn merge(alloc: Global, sources: &SourceLists) -> Result<MergedStacks, Alloc
     ensures { IfOk result (SameOwn (all_samples (samples_of sources.now.lists))) }
 {
     MergedStacks::of(alloc, sources.lists())
+}
+
+/// The same, sorted in a few threads where there are many.
+pub fn merge_in_threads(
+    rt: &impl Threads,
+    alloc: Global,
+    sources: &SourceLists,
+) -> Result<MergedStacks, AllocError>
+    ensures { IfOk result (SameOwn (all_samples (samples_of sources.now.lists))) }
+{
+    MergedStacks::of_in_threads(rt, alloc, sources.lists())
 }
 
 // The flame chart of the sources one after another.

@@ -10,7 +10,7 @@ mod view_set;
 mod view_text;
 mod whole_run;
 
-pub use drawings::{lend_chart, merge};
+pub use drawings::{lend_chart, merge, merge_in_threads};
 pub use drawn_texts::{drawn_chart, drawn_graph};
 pub use functions::weigh_functions;
 pub use graph_texts::{SnapshotLines, filled_counts};

@@ -3,7 +3,7 @@ ghost use Rattle.std.specs.Prelude.{◌≡◌, ◌<◌, ◌^◌, length};
 ghost use Rattle.merged_stacks.specs.Merged.{all_samples};
 ghost use Rattle.merged_stacks.specs.Timeline.{samples_of, total_weight};
 
-use super::sources::{Lines, list, merged_lines, merged_nothing};
+use super::sources::{Lines, falling_list, list, merged_lines, merged_nothing};
 use merged_stacks::{
     GrowingStacks, MergedStacks, PairedSide, PairedStacks, Side, StackRows, total_weight,
 };
@@ -11,6 +11,7 @@ use stack_core::SourceList;
 use std::alloc::{AllocError, Global};
 use std::process::Abort;
 use std::test::Fail;
+use std::thread::Threads;
 
 /// Appends the names of a stack, each with a semicolon.
 fn append_names<S: StackRows>(text: &mut String, rows: &S, at: usize) -> Result<(), AllocError>
@@ -73,6 +74,26 @@ fn stacks_of_two_sources(rt: HostRuntime) -> Result<(), Fail> {
     )?;
     assert!(rt; merged.total() == 13);
     Ok(())
+}
+
+fn shows_alike(rt: &(impl Abort + Threads), alloc: Global, lists: &[SourceList]) -> Result<(), Fail>
+    requires { total_weight (all_samples (samples_of lists.now)) < 2 ^ 64 }
+{
+    let alone = MergedStacks::of(alloc, lists)?;
+    let merged = MergedStacks::of_in_threads(rt, alloc, lists)?;
+    assert!(rt; merged.len() == 3_000);
+    let text = shown_stacks(alloc, &alone)?;
+    shows(rt, alloc, &merged, text.as_str())?;
+    Ok(())
+}
+
+#[test]
+fn many_stacks_in_threads(rt: HostRuntime) -> Result<(), Fail> {
+    let one = falling_list(&rt, rt.alloc())?;
+    let other = falling_list(&rt, rt.alloc())?;
+    assert!(&rt; one.total() < 10_000);
+    assert!(&rt; other.total() < 10_000);
+    shows_alike(&rt, rt.alloc(), &[one, other])
 }
 
 /// Compares how many samples of each list came, and the stacks of what came.
@@ -210,14 +231,14 @@ fn shows_both_sides(rt: &impl Abort, alloc: Global, stacks: &PairedStacks) -> Re
 }
 
 fn shows_sides(
-    rt: &impl Abort,
+    rt: &(impl Abort + Threads),
     alloc: Global,
     before: &SourceList,
     after: &SourceList,
 ) -> Result<(), Fail> {
     assert!(rt; before.total() < 1_000);
     assert!(rt; after.total() < 1_000);
-    let stacks = PairedStacks::of(alloc, before, after)?;
+    let stacks = PairedStacks::of_in_threads(rt, alloc, before, after)?;
     shows_both_sides(rt, alloc, &stacks)
 }
 

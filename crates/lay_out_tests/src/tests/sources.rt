@@ -42,6 +42,23 @@ pub fn list(rt: &impl Abort, alloc: Global, lines: Lines<'_>) -> Result<SourceLi
     Ok(ledger.into_list())
 }
 
+/// The list of a source with 3,000 stacks of seven frames, each below the one before it.
+pub fn falling_list(rt: &impl Abort, alloc: Global) -> Result<SourceList, AllocError> {
+    let mut ledger = Ledger::new(alloc);
+    for number in (1_000u64..4_000).rev() {
+        assert!(rt; !ledger.is_closed());
+        let first = format!(in alloc; "f{}", number / 100)?;
+        let last = format!(in alloc; "f{number}")?;
+        let names = [first.as_str(), "a", "b", "c", "d", "e", last.as_str()];
+        ledger.take(Sample {
+            stack: Names::from_strs(alloc, &names)?,
+            weight: 1,
+        })?;
+    }
+    close_read(rt, &mut ledger);
+    Ok(ledger.into_list())
+}
+
 /// The merged stacks of a source.
 pub fn merged_source(
     rt: &impl Abort,

@@ -6,13 +6,13 @@ use Rattle.merged_stacks.proofs.JoinedStacks.{no_sums, are_merged, merged_sum}
 use Rattle.merged_stacks.proofs.paired.merged_rows.Goals as goal
 
 pub merged-requires : goal.merged-requires
-merged-requires c =
+merged-requires g c =
     let names = c.requires.named.0 in
     let sums = c.in_ok-add_list.ensures names [] c.requires.named.1 (subst (HasSums names []) (sym c.new-rows.ensures) (no_sums names)) in
     omega (arith, sums.total, c.requires.total)
 
 pub returns : goal.returns
-returns c =
+returns g c =
     let samples = c.args.list.now.samples in
     let taken = c.add_list.new.rows in
     IfOk-weaker c.merged.result _ _ (λ rows h names rising by.

@@ -10,11 +10,9 @@ entry_weights (entry ∷ entries) = ap (λ weights. entry.1 ∷ weights) (entry_
 
 pub returns : goal.returns
 returns c =
-    let weight = λ (entry : Entry). entry.1 in
-    let old = c.in_ok-entries.entries.items in
-    let new = c.sort_unstable.new.self.items in
-    let same : map weight old ≡ map (λ (row : Ranked). row.1) c.args.self = entry_weights old
-    ∙ ap (map (λ (row : Ranked). row.1)) (c.in_ok-entries.ensures.ranked ∙ ap (λ frames. ranked_rows frames c.self.inside.rows.items) c.deref.ensures.value ∙ c.self.view_is) in
+    let weigh = map (λ (row : Ranked). row.1) in
+    let new = c.in_ok-entries.entries.items in
+    let all : ranked_rows c.deref.result.now c.self.inside.rows.items ≡ c.args.self = ap (λ frames. ranked_rows frames c.self.inside.rows.items) c.deref.ensures.value ∙ c.self.view_is in
     IfOk-weaker c.weights.result _ _ (λ weights h.
-    subst (IsPermutation (map (λ (row : Ranked). row.1) c.args.self)) (sym (h ∙ ap (map weight) c.deref-2.ensures.value))
-    (subst (λ all. IsPermutation all (map weight new)) same (IsPermutation-map weight old new c.sort_unstable.ensures.permutation))) c.weights.ensures
+    subst (IsPermutation (weigh c.args.self)) (sym (h ∙ ap (map (λ (entry : Entry). entry.1)) c.deref-2.ensures.value ∙ entry_weights new))
+    (subst (λ rows. IsPermutation (weigh rows) (weigh (map ranked_entry new))) all (IsPermutation-map (λ (row : Ranked). row.1) _ _ c.in_ok-entries.ensures.ranked))) c.weights.ensures

@@ -1,0 +1,16 @@
+-- What merged stacks weigh, each by itself.
+use Rattle.std.proofs.Common.{◌≡◌, ◌∙◌, List, ap, subst, sym}
+use Rattle.stack_core.specs.Ledgers.{ListState}
+use Rattle.sample_tables.specs.declared.samples.Sample.{Sample}
+use Rattle.merged_stacks.specs.Merged.{all_samples, merged_samples}
+use Rattle.merged_stacks.specs.Timeline.{samples_of}
+use Rattle.flame_layout.specs.Paths.{SameOwn}
+use Rattle.flame_layout.proofs.MergedSums.{merged_own}
+
+-- merged stacks of lists that were lent have the own weights of all samples
+pub SameOwn-merged : (lent lists : List ListState) → lent ≡ lists → (merged : List Sample) → merged ≡ merged_samples (all_samples (samples_of lent))
+    → SameOwn (all_samples (samples_of lists)) merged
+SameOwn-merged lent lists same merged is =
+    let samples = all_samples (samples_of lists) in
+    let of_lists = ap (λ (l : List ListState). merged_samples (all_samples (samples_of l))) same in
+    subst (λ (m : List Sample). SameOwn samples m) (sym (is ∙ of_lists)) (merged_own samples)
