@@ -1,6 +1,8 @@
 //! Which spellings of stacks were met before, and under which row.
-ghost use Rattle.std.specs.Prelude.{◌≡◌, ◌≤◌, length, [], slice_range, IsTrue, IfSome, OnOk, OnErr};
-ghost use Rattle.call_tree.specs.SpellingCache.{IsRowOf, GrowsByAtMost};
+ghost use Rattle.std.specs.Prelude.{◌≡◌, ◌<◌, ◌≤◌, length, [], slice_range, IsTrue, IfSome, OnOk, OnErr};
+ghost use Rattle.std.specs.List.{slice_index_or};
+ghost use Rattle.call_tree.specs.SpellingCache.{Spelling, IsRowOf, GrowsByAtMost};
+ghost use Rattle.call_tree.specs.checked.Spellings.{IsSpelledAt};
 
 use crate::spelling_hash::hash_of;
 use std::alloc::{AllocError, Global};
@@ -58,6 +60,8 @@ pub struct SpellingCache {
     entries: Vec<Entry>,
     /// In each the number of an entry, from 1, or 0.
     slots: Vec<u32>,
+    /// The place of the entry that was found last.
+    last: usize,
 }
 
 impl Model for SpellingCache {
@@ -79,7 +83,51 @@ impl SpellingCache {
             alloc,
             entries: Vec::new(alloc),
             slots: Vec::new(alloc),
+            last: 0,
         }
+    }
+
+    /// Whether the spelling at a place has these bytes.
+    fn is_at(&self, text: &[u8], spelling: &[u8], place: usize) -> bool
+        ensures { IsTrue result → IsSpelledAt self.now text.now spelling.now place }
+    {
+        match self.entries.get(place) {
+            Some(entry) => entry.spells(text, spelling),
+            None => false,
+        }
+    }
+
+    /// The place of a spelling with these bytes.
+    fn place_of(&self, text: &[u8], spelling: &[u8]) -> Option<usize>
+        ensures { IfSome result (IsSpelledAt self.now text.now spelling.now) }
+    {
+        let hash = hash_of(spelling);
+        for probe in 0..PROBES {
+            let number = *self.slots.get(slot_of(hash, probe, self.slots.len()))?;
+            let place = (number as usize).checked_sub(1)?;
+            if self.entries.get(place)?.hash == hash && self.is_at(text, spelling, place) {
+                return Some(place);
+            }
+        }
+        None
+    }
+
+    /// The same, where the spelling that was found last is looked at first.
+    fn next_place_of(&self, text: &[u8], spelling: &[u8]) -> Option<usize>
+        ensures { IfSome result (IsSpelledAt self.now text.now spelling.now) }
+    {
+        if self.is_at(text, spelling, self.last) {
+            return Some(self.last);
+        }
+        self.place_of(text, spelling)
+    }
+
+    /// The row of the spelling at a place.
+    fn row_at(&self, place: usize) -> usize
+        requires { place < length self.now }
+        ensures { (none : Spelling) → result ≡ (slice_index_or self.now place none).row }
+    {
+        self.entries[place].row as usize
     }
 
     /// The row of a spelling with the bytes from `start` up to `end`. `None` says nothing: it may be known nevertheless.
@@ -88,17 +136,22 @@ impl SpellingCache {
         requires within { end ≤ length text.now }
         ensures { IfSome result (λ row. IsRowOf self.now text.now start end row) }
     {
-        let spelling = &text[start..end];
-        let hash = hash_of(spelling);
-        for probe in 0..PROBES {
-            let number = *self.slots.get(slot_of(hash, probe, self.slots.len()))?;
-            let index = (number as usize).checked_sub(1)?;
-            let entry = self.entries.get(index)?;
-            if entry.hash == hash && entry.spells(text, spelling) {
-                return Some(entry.row as usize);
-            }
-        }
-        None
+        let place = self.place_of(text, &text[start..end])?;
+        Some(self.row_at(place))
+    }
+
+    /// The same, for who looks for one spelling after another: the one that was found last is looked at first, since many samples
+    /// have the stack of the sample before.
+    pub fn find_next(&mut self, text: &[u8], start: usize, end: usize) -> Option<usize>
+        requires order { start ≤ end }
+        requires within { end ≤ length text.now }
+        ensures row { IfSome result (λ row. IsRowOf self.old text.now start end row) }
+        ensures same { self.new ≡ self.old }
+    {
+        let place = self.next_place_of(text, &text[start..end])?;
+        let row = self.row_at(place);
+        self.last = place;
+        Some(row)
     }
 
     /// Remembers the row of a spelling, or forgets it.

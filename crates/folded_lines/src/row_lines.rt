@@ -109,7 +109,7 @@ fn read_head(
     ensures stacks { OnErr result (telling.new.history ≡ telling.old.history) }
     ensures names { OnErr result (IsPrefixOf telling.old.names telling.new.names) }
 {
-    let known = telling.heads.find(bytes, start, end);
+    let known = telling.heads.find_next(bytes, start, end);
     if known.is_none()
         && let Some(kind) = fault_of(&bytes[start..end])
     {

@@ -26,11 +26,12 @@ struct KnownRow {
 }
 
 /// The sample of a front, where its stack was told and it has no fault behind samples of this total weight. None says nothing.
-fn known_row(file: &[u8], teller: &Teller, front: Option<Front>, total: u64) -> Option<KnownRow>
+fn known_row(file: &[u8], teller: &mut Teller, front: Option<Front>, total: u64) -> Option<KnownRow>
     requires total { total ≤ WEIGHT_LIMIT }
     requires front { IfSome front (λ front.
         (front.run.start ≤ front.run.end) × (front.run.end ≤ length file.now)) }
-    ensures { IfSome result (IsKnownBy file.now teller.now front total) }
+    ensures known { IfSome result (IsKnownBy file.now teller.old front total) }
+    ensures same { teller.new ≡ teller.old }
 {
     let Front { run, weight } = front?;
     if weight > WEIGHT_LIMIT - total {

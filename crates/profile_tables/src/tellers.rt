@@ -81,13 +81,14 @@ impl Teller {
     }
 
     /// The number of the stack that a run of location ids spells. None says nothing.
-    pub(crate) fn find(&self, file: &[u8], run: Span) -> Option<usize>
+    pub(crate) fn find(&mut self, file: &[u8], run: Span) -> Option<usize>
         requires order { run.start ≤ run.end }
         requires within { run.end ≤ length file.now }
-        ensures { IfSome result (λ row. (frames : Frames) → IsTeller file.now frames self.now →
-            IsStackOf frames (told_of self.now) (bytes_at file.now run) row) }
+        ensures row { IfSome result (λ row. (frames : Frames) → IsTeller file.now frames self.old →
+            IsStackOf frames (told_of self.old) (bytes_at file.now run) row) }
+        ensures same { self.new ≡ self.old }
     {
-        self.spellings.find(file, run.start, run.end)
+        self.spellings.find_next(file, run.start, run.end)
     }
 
     /// Tells the stack of a sample, and remembers the run of bytes in the file that spells it. Want of memory may leave names behind.

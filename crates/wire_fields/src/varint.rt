@@ -14,6 +14,12 @@ const TENTH: usize = 9;
 pub(crate) fn varint(bytes: &[u8]) -> Result<(u64, &[u8]), WireKind>
     ensures { Gives (λ x. (x.0, x.1.now)) result (varint_at bytes.now) }
 {
+    // most numbers of a profile have one byte
+    if let Some((first, rest)) = bytes.split_first()
+        && *first < 0x80
+    {
+        return Ok((u64::from(*first), rest));
+    }
     let mut number: u64 = 0;
     for (place, byte) in bytes.iter().enumerate() {
         if place == TENTH && *byte > 1 {

@@ -137,6 +137,26 @@ fn lengths_are_told_apart(rt: HostRuntime) -> Result<(), Fail> {
     lengths_are_found(&rt, &mut cache)
 }
 
+fn next_are_found(rt: &impl Abort, cache: &mut SpellingCache) -> Result<(), Fail> {
+    let text = b"a;ba;ca;ba;b";
+    assert!(rt; cache.find_next(text, 0, 3).is_none());
+    cache.remember(text, 0, 3, 7)?;
+    cache.remember(text, 3, 6, 8)?;
+    assert!(rt; cache.find_next(text, 6, 9) == Some(7));
+    assert!(rt; cache.find_next(text, 9, 12) == Some(7));
+    assert!(rt; cache.find_next(text, 3, 6) == Some(8));
+    assert!(rt; cache.find_next(text, 0, 3) == Some(7));
+    assert!(rt; cache.find_next(text, 0, 2).is_none());
+    Ok(())
+}
+
+/// One spelling after another is told apart from the one that was found last.
+#[test]
+fn next_spellings_are_told_apart(rt: HostRuntime) -> Result<(), Fail> {
+    let mut cache = SpellingCache::new(rt.alloc());
+    next_are_found(&rt, &mut cache)
+}
+
 /// Remembers spellings with one hash, each of which is found right after.
 fn remember_colliding(
     rt: &impl Abort,

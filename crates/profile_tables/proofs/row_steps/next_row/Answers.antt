@@ -16,13 +16,13 @@ returns-in-Some-known_row-clause-step c =
     let places = outline.samples.items in
     let told = told_of c.args.teller.now in
     let known = c.in-Some-known_row.field-0 in
-    let is = known-again c.args.file.now c.in-Some.at.now outline c.args.teller.now c.front_of-front.result c.args.total known c.front_of-front.ensures c.in-Some-known_row.ensures c.requires.teller in
+    let is = known-again c.args.file.now c.in-Some.at.now outline c.args.teller.now c.front_of-front.result c.args.total known c.front_of-front.ensures c.in-Some-known_row.ensures.known c.requires.teller in
     let lt : c.args.next < length places = subst (λ (list : List ℕ). c.args.next < length list) c.deref.ensures.value c.in-Some.ensures.lookup.3.0 in
     let at_is : c.in-Some.at.now ≡ get_or places c.args.next 0 = c.in-Some.ensures.lookup.3.1 0 ∙ ap (λ (list : List ℕ). get_or list c.args.next 0) c.deref.ensures.value in
     let fits = is.fits in (
       record {
         known = is.was_told;
-        same = refl;
+        same = ap told_of c.in-Some-known_row.ensures.same;
         gives = gives-next c.args.file.now (seen_outline outline) places c.args.next c.args.total c.in-Some.at.now (names_at told.names (stack_at told.stacks known.row)) known.weight lt at_is is.none is.stack is.weight_is;
       },
       omega (arith, fits),
@@ -38,8 +38,10 @@ returns-in-Ok-clause-step c =
     let row = c.in-Ok.field-0 in
     let told = told_of c.args.teller.now in
     let told' = told_of c.tell_sample.new.teller in
-    let is : IsToldSample tables c.args.total (content_at c.args.file.now at) told told' (Ok row) =
-    subst (IsToldSample tables c.args.total (content_at c.args.file.now at) told told') c.in-Ok.is c.in_ok-names.ensures.told in
+    let sample = content_at c.args.file.now at in
+    let found : IsToldSample tables c.args.total sample (told_of c.known_row.new.teller) told' (Ok row) =
+    subst (IsToldSample tables c.args.total sample (told_of c.known_row.new.teller) told') c.in-Ok.is c.in_ok-names.ensures.told in
+    let is = subst (λ before. IsToldSample tables c.args.total sample before told' (Ok row)) (ap told_of c.known_row.ensures.same) found in
     let stack = stack_of tables.frames (content_at c.args.file.now at) in
     let lt : c.args.next < length places = subst (λ (list : List ℕ). c.args.next < length list) c.deref.ensures.value c.in-Some.ensures.lookup.3.0 in
     let at_is : at ≡ get_or places c.args.next 0 = c.in-Some.ensures.lookup.3.1 0 ∙ ap (λ (list : List ℕ). get_or list c.args.next 0) c.deref.ensures.value in

@@ -1,5 +1,5 @@
 use Rattle.std.proofs.Common.{◌≡◌, ◌≤◌, get_or, refl, arith}
-use Rattle.wire_fields.proofs.Groups.{tells_truncated, tells_bad, added, ends_with, goes_on_with, not_the_tenth}
+use Rattle.wire_fields.proofs.Groups.{within_last, tells_truncated, tells_bad, added, ends_with, goes_on_with, not_the_tenth}
 use Rattle.wire_fields.proofs.varint.varint.Goals as goal
 use Rattle.wire_fields.proofs.varint.varint.Goals.{else-place-eq-TENTH-via-then-place-eq-TENTH+else-byte-gt1, else-place-eq-TENTH-via-else-place-eq-TENTH}
 
@@ -13,7 +13,7 @@ overflow_add-number c =
       | else-place-eq-TENTH-via-then-place-eq-TENTH+else-byte-gt1 w ↦ omega arith
       | else-place-eq-TENTH-via-else-place-eq-TENTH w ↦ absurd (omega arith)
     ] in
-    let sum = added c.loop-place.number byte c.from.result c.loop-place.place c.loop-place.invariant.below c.loop-place.invariant.at_most_ten tenth c.from.ensures in
+    let sum = added c.loop-place.number byte c.from-in-loop-place.result c.loop-place.place c.loop-place.invariant.below c.loop-place.invariant.at_most_ten tenth c.from-in-loop-place.ensures in
     omega (arith, sum.fits)
 
 pub returns-then-byte-lt128 : goal.returns-then-byte-lt128
@@ -24,8 +24,8 @@ returns-then-byte-lt128 c =
       | else-place-eq-TENTH-via-then-place-eq-TENTH+else-byte-gt1 w ↦ omega arith
       | else-place-eq-TENTH-via-else-place-eq-TENTH w ↦ absurd (omega arith)
     ] in
-    let sum = added c.loop-place.number byte c.from.result place c.loop-place.invariant.below c.loop-place.invariant.at_most_ten tenth c.from.ensures in
-    ends_with place c.loop-place.number byte c.from.result _ c.args.bytes.now _ sum refl c.loop-place.invariant.at_most_ten (omega arith) c.if-byte-lt128.true tenth c.loop-place.invariant.told
+    let sum = added c.loop-place.number byte c.from-in-loop-place.result place c.loop-place.invariant.below c.loop-place.invariant.at_most_ten tenth c.from-in-loop-place.ensures in
+    ends_with place c.loop-place.number byte c.from-in-loop-place.result _ c.args.bytes.now _ sum refl c.loop-place.invariant.at_most_ten (omega arith) c.if-byte-lt128.true tenth c.loop-place.invariant.told
 
 pub loop-place-preserved : goal.loop-place-preserved
 loop-place-preserved c =
@@ -36,12 +36,16 @@ loop-place-preserved c =
       | else-place-eq-TENTH-via-else-place-eq-TENTH w ↦ absurd (omega arith)
     ] in
     let below = not_the_tenth place byte c.loop-place.invariant.at_most_ten tenth c.if-byte-lt128.false in
-    let sum = added c.loop-place.number byte c.from.result place c.loop-place.invariant.below c.loop-place.invariant.at_most_ten tenth c.from.ensures in
+    let sum = added c.loop-place.number byte c.from-in-loop-place.result place c.loop-place.invariant.below c.loop-place.invariant.at_most_ten tenth c.from-in-loop-place.ensures in
     record {
       at_most_ten = omega arith;
       below = sum.below;
-      told = goes_on_with place c.loop-place.number byte c.from.result _ c.args.bytes.now _ sum refl below (omega arith) c.if-byte-lt128.false c.loop-place.invariant.told;
+      told = goes_on_with place c.loop-place.number byte c.from-in-loop-place.result _ c.args.bytes.now _ sum refl below (omega arith) c.if-byte-lt128.false c.loop-place.invariant.told;
     }
 
 pub returns : goal.returns
-returns c = tells_truncated _ _ _ _ _ (omega arith) c.loop-place.invariant.told
+returns c = rw (c.in-Some.ensures.cases.0, c.from.ensures)
+    (within_last 9 c.in-Some.first.now c.in-Some.rest.now c.if-first-lt128.true (λ none. absurd (omega (arith, none))))
+
+pub returns-2 : goal.returns-2
+returns-2 c = tells_truncated _ _ _ _ _ (omega arith) c.loop-place.invariant.told
