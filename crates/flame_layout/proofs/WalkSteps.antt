@@ -9,7 +9,7 @@ use Rattle.std.proofs.lemmas.List.FromFn.{length-enumerate_from, get_or-enumerat
 use Rattle.flame_layout.specs.declared.walks.OpenRun.{OpenRun}
 use Rattle.merged_stacks.specs.Timeline.{Stack}
 use Rattle.flame_layout.specs.Chart.{names_shared}
-use Rattle.flame_layout.specs.checked.Walk.{Run, seen, names_of, box_of_run, boxes_of_runs}
+use Rattle.flame_layout.specs.checked.Walk.{Run, seen, names_of, shared_runs_of, box_of_run, boxes_of_runs}
 use Rattle.flame_layout.specs.declared.boxes.SpanBox.{SpanBox}
 
 pub shared_more : (a b : Stack) (i : ℕ) → i < length a → i < length b → get_or a i [] ≡ get_or b i [] → names_shared (drop i a) (drop i b) ≡ 1 + names_shared (drop (i + 1) a) (drop (i + 1) b)
@@ -30,6 +30,11 @@ shared_ends_right a b i h = rw (drop_all i b h) (shared_nil (drop i a))
 
 pub names_of-length : (runs : List OpenRun) → length (names_of runs) ≡ length runs - 1
 names_of-length runs = length-map (drop 1 runs) (λ run. run.name.now) ∙ length-drop 1 runs
+
+-- runs begin with the root's, which each sample shares
+pub shared_runs-some : (stack : Stack) (runs : List OpenRun) → 0 < length runs → shared_runs_of stack runs ≡ names_shared stack (names_of runs) + 1
+shared_runs-some stack [] some = omega (arith, some)
+shared_runs-some stack (run ∷ runs) some = refl
 
 pub names_of-at : (runs : List OpenRun) (i : ℕ) (d : OpenRun) → i + 1 < length runs → get_or (names_of runs) i [] ≡ (get_or runs (i + 1) d).name.now
 names_of-at [] i d h = absurd (omega arith)

@@ -1,13 +1,22 @@
 -- Heads that are known stay told while more is told.
-use Rattle.std.proofs.Common.{◌≡◌, ℕ, ◌<◌, ◌+◌, zero, suc, List, [], ◌∷◌, ◌++◌, length, None, slice_range, sym, ap, subst, ◌∙◌, arith, All, Contains, ⊎_elim, length-append, add-zero}
+use Rattle.std.proofs.Common.{◌≡◌, ℕ, ◌<◌, ◌≤◌, ◌+◌, zero, suc, cond, List, [], ◌∷◌, ◌++◌, length, Option, Some, None, slice_range, sym, ap, subst, ◌∙◌, arith, All, Contains, ⊎_elim, length-append, add-zero}
+use Rattle.std.proofs.lemmas.Bool.{le-ltb}
 use Rattle.std.proofs.lemmas.List.{append-nil, get_or_append_left, get_or-append-add}
 use Rattle.std.proofs.lemmas.List.Elements.{Contains-append_cases}
 use Rattle.stack_core.specs.Prefixes.{IsPrefixOf}
 use Rattle.stack_core.specs.Records.{names_at}
+use Rattle.stack_core.specs.RowReading.{sample_by}
+use Rattle.stack_core.specs.declared.endings.ReadKind.{ReadKind}
+use Rattle.stack_core.specs.declared.endings.ReadKind.TheVariants.{TotalTooLarge}
 use Rattle.sample_tables.specs.Rows.{ToldRows, stack_at}
-use Rattle.call_tree.specs.SpellingCache.{Spelling, GrowsByAtMost}
+use Rattle.sample_tables.specs.declared.samples.TheConstants.{WEIGHT_LIMIT}
+use Rattle.call_tree.specs.SpellingCache.{Spelling, IsRowOf, GrowsByAtMost}
 use Rattle.call_tree.proofs.NameNumbers.{numbers-longer, names_at-longer}
 use Rattle.folded_lines.specs.Lines.{names_of}
+use Rattle.folded_lines.specs.declared.lines.Line.{Line}
+use Rattle.folded_lines.specs.declared.lines.Line.TheVariants.{Fault, Sample}
+use Rattle.folded_lines.specs.checked.RowLines.{line_of_head}
+use Rattle.folded_lines.specs.checked.Scanning.{within_total}
 use Rattle.folded_lines.specs.checked.Telling.{head_fault, TellsStack, IsToldAs, AreToldAs}
 
 -- a row keeps its stack, and the stack its names
@@ -63,3 +72,18 @@ AreToldAs-told bytes told told' names frames spelling heads heads' row none tell
     (λ same. before (subst (λ (all : List Spelling). Contains all other) same known))
     (λ more. ⊎_elim before (λ new. last (only spelling other new)) (Contains-append_cases heads (spelling ∷ []) other (subst (λ (all : List Spelling). Contains all other) more known)))
     grows
+
+-- the row of a head that is known is the one that it was told as
+pub IsToldAs-known : (bytes : List ℕ) (told : ToldRows) (heads : List Spelling) (start end row : ℕ) → AreToldAs bytes told heads → IsRowOf heads bytes start end row
+    → IsToldAs told (slice_range bytes start end) row
+IsToldAs-known bytes told heads start end row were is =
+    subst (λ head. IsToldAs told head row) is.same_bytes (subst (IsToldAs told (slice_range bytes is.spelling.start is.spelling.end)) is.row_is (were is.spelling is.is_known))
+
+-- so the row and a weight are the line of the head
+pub line-known : (told : ToldRows) (head : List ℕ) (row weight total : ℕ) → IsToldAs told head row → total + weight ≤ WEIGHT_LIMIT
+    → Sample (sample_by told.names (stack_at told.stacks row) weight) ≡ within_total total (line_of_head head weight)
+line-known told head row weight total is fits =
+    let sample : List (List ℕ) → Line = λ stack. Sample (record { stack = stack; weight = weight }) in
+    let judged : Option ReadKind → Line = λ fault. elim fault [ None ↦ sample (names_of head) | Some kind ↦ Fault kind ] in
+    ap sample is.named
+    ∙ sym (ap (λ fault. within_total total (judged fault)) is.faultless ∙ ap (λ b. cond b (Fault TotalTooLarge) (sample (names_of head))) (le-ltb WEIGHT_LIMIT (total + weight) fits))

@@ -1,6 +1,7 @@
 //! Stacks by the ranks of their names, sorted and joined.
 
-ghost use Rattle.std.specs.Prelude.{◌≡◌, ◌+◌, ◌-◌, ◌<◌, ◌≤◌, ◌^◌, ◌++◌, ◌∷◌, ℕ, [], List, All, IfOk, OnOk, IsPermutation, length, map, reverse, sum_by, slice_index, slice_index_or, slice_range};
+ghost use Rattle.std.specs.Prelude.{◌≡◌, ◌+◌, ◌-◌, ◌<◌, ◌≤◌, ◌^◌, ◌++◌, ◌∷◌, ℕ, [], List, All, IfOk, OnOk, IsPermutation, length, map, nat_eq, reverse, sum_by, slice_index, slice_index_or, slice_range};
+ghost use Rattle.std.specs.Cmp.Lexicographic.{pointwise};
 ghost use Rattle.merged_stacks.specs.checked.Ranked.{Ranked, ranked_row, ranked_rows, AreWithin, ranked_entry, IsEntryOf, join_front, joined, AreAscending};
 
 use crate::sorting::{Alone, Sorting, nearly_sorted};
@@ -229,6 +230,15 @@ fn join(alloc: Global, frames: &[u32], entries: &[Entry<'_>]) -> Result<Vec<Rank
     Ok(rows)
 }
 
+/// Whether a row has these ranks.
+fn has_ranks(frames: &[u32], row: RankedRow, ranks: &[u32]) -> bool
+    requires start { row.start ≤ row.end }
+    requires end { row.end ≤ length frames.now }
+    ensures { result ≡ pointwise nat_eq (ranked_row frames.now row).0 ranks.now }
+{
+    &frames[row.start..row.end] == ranks
+}
+
 /// Puts a row in front of those that came before, the last of which comes next after it.
 fn put_in_front(
     rows: &mut Vec<RankedRow>,
@@ -250,7 +260,7 @@ fn put_in_front(
         rows.push(RankedRow { start, end, weight })?;
         return Ok(());
     };
-    if &frames[next.start..next.end] == ranks {
+    if has_ranks(frames, next, ranks) {
         let weight = next.weight + weight;
         rows.push(RankedRow { weight, ..next })?;
         return Ok(());

@@ -1,6 +1,6 @@
 -- What the drawings of a page stand for.
-use Rattle.std.proofs.Common.{◌≡◌, ◌<◌, ℕ, List, [], ◌∷◌, false, length, map, get_or, true, None, Some, Option, refl, ap, sym, subst, ◌∙◌}
-use Rattle.std.proofs.lemmas.List.{get_or-map}
+use Rattle.std.proofs.Common.{◌≡◌, ◌<◌, ◌+◌, ◌++◌, ℕ, List, [], ◌∷◌, false, length, map, get_or, take, true, None, Some, Option, refl, ap, sym, subst, ◌∙◌}
+use Rattle.std.proofs.lemmas.List.{get_or-map, map_more, map_push}
 use Rattle.sample_tables.specs.declared.samples.Sample.{Sample}
 use Rattle.merged_stacks.specs.Timeline.{total_weight}
 use Rattle.flame_layout.specs.declared.boxes.DrawnBox.{DrawnBox}
@@ -17,7 +17,9 @@ use Rattle.source_views.proofs.TextLemmas.{filled_counts}
 use Rattle.page_texts.specs.Page.{Moment, PageBox, PageDrawing}
 use Rattle.page_texts.specs.Drawn.{shown}
 use Rattle.page_views.specs.checked.DrawnProfiles.{IsDrawnOf, profile_drawing}
+use Rattle.page_views.specs.checked.DrawnRuns.{drawing_in}
 use Rattle.page_views.specs.declared.drawn_profiles.DrawnProfile.{DrawnProfile}
+use Rattle.page_views.specs.declared.drawn_runs.DrawnSnapshot.{DrawnSnapshot}
 use Rattle.page_views.specs.Pages.{compared_drawing, least_of, plain_drawing, snapshot_drawing}
 
 pub plain_boxes : (boxes : List DrawnBox) → map (shown span_of (λ box. 0)) boxes ≡ map (λ span. record { span = span; other = 0 }) (map span_of boxes)
@@ -79,3 +81,13 @@ snapshot_drawn place sources total every order lists names table snapshots snaps
 
     told : counts ≡ all_counts snapshot.at order lists
     told = counted ∙ (λ i. filled (all i) (here.counts i)) ∙ filled_counts (length lists) snapshot.at order
+
+-- one snapshot more is drawn
+pub snapshots_more : (least : Option ℕ) (lists : List (List Sample)) (order places : List ℕ) (place at : ℕ) (drawn : List DrawnSnapshot) (snapshot : DrawnSnapshot)
+    → place < length places → at ≡ place → map (drawing_in least) drawn ≡ map (snapshot_drawing least lists order) (take place places)
+    → drawing_in least snapshot ≡ snapshot_drawing least lists order (get_or places at 0)
+    → map (drawing_in least) (drawn ++ snapshot ∷ []) ≡ map (snapshot_drawing least lists order) (take (place + 1) places)
+snapshots_more least lists order places place at drawn snapshot below here before is =
+    map_push (drawing_in least) drawn snapshot
+    ∙ (λ i. before i ++ (is ∙ ap (λ at. snapshot_drawing least lists order (get_or places at 0)) here) i ∷ [])
+    ∙ sym (map_more (snapshot_drawing least lists order) places place 0 below)

@@ -1,14 +1,16 @@
 //! The repeated numbers of a sample's message.
 
-ghost use Rattle.std.specs.Prelude.{IfOk};
-ghost use Rattle.wire_fields.specs.Field.{seen_value};
+ghost use Rattle.std.specs.Prelude.{◌≡◌, ◌++◌, IfOk, OnOk};
+ghost use Rattle.wire_fields.specs.Field.{seen_field, seen_value};
 ghost use Rattle.profile_messages.specs.checked.Gathered.{IsGathered, IsRunGathered};
+ghost use Rattle.profile_messages.specs.Message.{first, repeated_from};
 ghost use Rattle.profile_messages.specs.SeenNumbers.{AreNumbersOf};
+ghost use Rattle.profile_messages.specs.Shapes.{faults_of_field, sample_shape};
 
 use crate::messages::read_kind;
 use stack_core::ReadKind;
 use std::alloc::{AllocError, Global};
-use wire_fields::{FieldValue, Fields, Packed};
+use wire_fields::{Field, FieldValue, Fields, Packed};
 
 /// Room for the locations of a usual stack.
 const USUAL_DEPTH: usize = 32;
@@ -54,6 +56,26 @@ fn append_numbers(
     }
 }
 
+/// Appends the numbers of a sample's field to those of its kind, up to its fault, which is answered.
+fn append_field(
+    ids: &mut Vec<u64>,
+    values: &mut Vec<u64>,
+    field: Field<'_>,
+) -> Result<Option<ReadKind>, AllocError>
+    ensures fault { IfOk result (λ fault.
+        fault ≡ first (faults_of_field sample_shape (seen_field field.entry))) }
+    ensures ids { OnOk result (ids.new.items
+        ≡ ids.old.items ++ repeated_from 1 (seen_field field.entry)) }
+    ensures values { OnOk result (values.new.items
+        ≡ values.old.items ++ repeated_from 2 (seen_field field.entry)) }
+{
+    match field.number {
+        1 => append_numbers(ids, field.value),
+        2 => append_numbers(values, field.value),
+        _ => Ok(None),
+    }
+}
+
 /// The numbers of a sample's message, or what is wrong with it.
 pub fn numbers_of(alloc: Global, sample: &[u8]) -> Result<Result<Numbers, ReadKind>, AllocError>
     ensures { IfOk result (AreNumbersOf sample.now) }
@@ -64,12 +86,7 @@ pub fn numbers_of(alloc: Global, sample: &[u8]) -> Result<Result<Numbers, ReadKi
     loop {
         match fields.next() {
             Ok(Some(field)) => {
-                let fault = match field.number {
-                    1 => append_numbers(&mut ids, field.value)?,
-                    2 => append_numbers(&mut values, field.value)?,
-                    _ => None,
-                };
-                if let Some(kind) = fault {
+                if let Some(kind) = append_field(&mut ids, &mut values, field)? {
                     return Ok(Err(kind));
                 }
             }

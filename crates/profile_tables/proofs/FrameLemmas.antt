@@ -1,9 +1,10 @@
 -- The frames of a location, as they are lent and named.
 use Rattle.std.proofs.Common.{◌≡◌, [], ◌∷◌, ◌++◌, ℕ, ◌-◌, ◌+◌, ◌<◌, ◌≤◌, List, length, Option, Some, None, refl, sym, ◌∙◌, ap, subst, take, drop, get_or, map, reverse}
-use Rattle.std.specs.Prelude.{◌⊎◌, option_map, unwrap_or, slice_range}
+use Rattle.std.specs.Prelude.{◌⊎◌, option_map, unwrap_or, slice_range, String, string_bytes}
+use Rattle.std.specs.declared.alloc.Global.{Global}
 use Rattle.std.specs.Slice.{IsGetRangeResult}
 use Rattle.std.specs.Borrow.{Bor}
-use Rattle.std.proofs.lemmas.List.{take-map, drop-map, take_more, length-map}
+use Rattle.std.proofs.lemmas.List.{append_assoc, reverse-append, take-map, drop-map, take_more, length-map}
 use Rattle.profile_messages.specs.declared.messages.Span.{Span}
 use Rattle.profile_messages.specs.SeenProfile.{items_in}
 use Rattle.profile_messages.proofs.ItemLemmas.{map-push}
@@ -57,3 +58,12 @@ stacks-more frames all spans k span lent d part stacks stacks' stack all_is lt a
     texts-or : (o : Option (Bor (List Frame))) → reverse (map (text_in frames) (unwrap_or o d).now) ≡ reverse (unwrap_or (option_map (λ (p : Bor (List Frame)). map (text_in frames) p.now) o) [])
     texts-or None = ap (λ (list : List Frame). reverse (map (text_in frames) list)) none
     texts-or (Some p) = refl
+
+-- the frame that was last among those left is named next
+pub last-named : (text : Frame → List ℕ) (names names' : List (String Global)) (name : String Global) (left before : List Frame) (frame : Frame) (whole : List (List ℕ)) → names' ≡ names ++ name ∷ [] → string_bytes name ≡ text frame → left ≡ before ++ frame ∷ [] → map string_bytes names ++ reverse (map text left) ≡ whole → map string_bytes names' ++ reverse (map text before) ≡ whole
+last-named text names names' name left before frame whole more name_is left_is is =
+    ap (λ list. map string_bytes list ++ reverse (map text before)) more
+    ∙ ap (λ list. list ++ reverse (map text before)) (map-push string_bytes names name ∙ ap (λ bytes. map string_bytes names ++ bytes ∷ []) name_is)
+    ∙ append_assoc (map string_bytes names) (text frame ∷ []) (reverse (map text before))
+    ∙ ap (λ list. map string_bytes names ++ list) (sym (ap (λ list. reverse (map text list)) left_is ∙ ap reverse (map-push text before frame) ∙ reverse-append (map text before) (text frame ∷ [])))
+    ∙ is

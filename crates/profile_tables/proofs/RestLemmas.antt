@@ -9,6 +9,7 @@ use Rattle.sample_tables.specs.declared.samples.Sample.{Sample}
 use Rattle.stack_core.specs.declared.endings.ReadKind.{ReadKind}
 use Rattle.stack_core.specs.declared.endings.ReadKind.TheVariants.{TooDeep, TotalTooLarge}
 use Rattle.stack_core.specs.declared.endings.ReadFault.{ReadFault}
+use Rattle.stack_core.specs.declared.endings.SourceEnd.TheVariants.{Fault}
 use Rattle.stack_core.specs.Reading.{Rest, IsSourceLimited}
 use Rattle.sample_tables.specs.Samples.{IsLimited}
 use Rattle.run_options.specs.declared.choices.Pick.{Pick}
@@ -20,6 +21,7 @@ use Rattle.profile_messages.specs.Tables.{samples_of}
 use Rattle.profile_messages.specs.Offsets.{offset_of, content_at, found_at}
 use Rattle.profile_tables.specs.Samples.{SampleTables, tables_of, weight_of, stack_of, value_faults, id_faults_of, weight_faults, depth_faults, total_faults, sample_faults, sample_of, with_sample, sample_then, read_samples, rest_of, read_pprof}
 use Rattle.profile_messages.specs.FileFaults.{file_faults}
+use Rattle.profile_tables.specs.checked.Rests.{ended}
 use Rattle.profile_messages.proofs.FirstLemmas.{first-none-parts}
 use Rattle.profile_messages.proofs.OffsetLemmas.{found-samples, few-fields}
 
@@ -40,6 +42,13 @@ next_is file tables places next total at sample lt at_is none sample_is =
     ap (λ list. read_samples tables total (map (found_at file) list)) (places-at places next lt ∙ ap (λ n. n ∷ drop (next + 1) places) (sym at_is))
     ∙ ap (λ o. sample_then o at (sample_of tables bytes) (read_samples tables (total + weight_of tables.chosen bytes) others)) none
     ∙ ap (λ (read : Sample). with_sample read (read_samples tables (total + read.weight) others)) (sym sample_is)
+
+pub fault_is : (file : List ℕ) (tables : SampleTables) (places : List ℕ) (next total at : ℕ) (kind : ReadKind) → next < length places → at ≡ get_or places next 0 → first (sample_faults tables total (content_at file at)) ≡ Some kind → read_samples tables total (map (found_at file) (drop next places)) ≡ ended (Fault (record { kind = kind; at = at }))
+fault_is file tables places next total at kind lt at_is fault =
+    let others : List Content = map (found_at file) (drop (next + 1) places) in
+    let bytes : List ℕ = content_at file at in
+    ap (λ list. read_samples tables total (map (found_at file) list)) (places-at places next lt ∙ ap (λ n. n ∷ drop (next + 1) places) (sym at_is))
+    ∙ ap (λ o. sample_then o at (sample_of tables bytes) (read_samples tables (total + weight_of tables.chosen bytes) others)) fault
 
 -- ---- the limits
 

@@ -26,24 +26,24 @@ use std::alloc::AllocError;
 use std::process::Abort;
 use std::test::Fail;
 
-const SMALLEST_SAYS: [Saying<'static>; 3] = [
+const SMALLEST_SAYS: &[Saying<'static>] = &[
     (&[SMALLEST], PLAIN, Question::Value, "0 of 1"),
     (&[SMALLEST], PLAIN, Question::Frames(1), "main"),
     (&[SMALLEST], PLAIN, Question::Frames(2), "no location"),
 ];
 
-const EMPTY_SAYS: [Saying<'static>; 1] = [(&[b""], PLAIN, Question::Value, "none of 0")];
+const EMPTY_SAYS: &[Saying<'static>] = &[(&[b""], PLAIN, Question::Value, "none of 0")];
 
 #[test]
 fn empty_sources(rt: HostRuntime) -> Result<(), Fail> {
     reads_plainly(&rt, &[b""], "clean")?;
-    say_so(&rt, &EMPTY_SAYS)
+    say_so(&rt, EMPTY_SAYS)
 }
 
 #[test]
 fn smallest_profile(rt: HostRuntime) -> Result<(), Fail> {
     reads_plainly(&rt, &[SMALLEST], "main 7\nclean")?;
-    say_so(&rt, &SMALLEST_SAYS)
+    say_so(&rt, SMALLEST_SAYS)
 }
 
 #[test]
@@ -58,7 +58,7 @@ fn inlined_frames(rt: HostRuntime) -> Result<(), Fail> {
     Ok(())
 }
 
-const PICKED: [Reading<'static>; 5] = [
+const PICKED: &[Reading<'static>] = &[
     (&[BASE], PLAIN, "f 9\nclean"),
     (&[BASE, b"\x70\x01"], PLAIN, "f 5\nclean"),
     (&[BASE, b"\x70\x03"], PLAIN, "f 9\nclean"),
@@ -68,17 +68,17 @@ const PICKED: [Reading<'static>; 5] = [
 
 #[test]
 fn picking_a_value(rt: HostRuntime) -> Result<(), Fail> {
-    read_so(&rt, &PICKED)
+    read_so(&rt, PICKED)
 }
 
-const ONE_NEGATIVE: [Reading<'static>; 2] = [
+const ONE_NEGATIVE: &[Reading<'static>] = &[
     (&[BASE, NEGATIVE], PLAIN, "f 9\nNegativeWeight at 48"),
     (&[BASE, NEGATIVE], BY_N, "f 5\nf 5\nclean"),
 ];
 
 #[test]
 fn negative_weight(rt: HostRuntime) -> Result<(), Fail> {
-    read_so(&rt, &ONE_NEGATIVE)
+    read_so(&rt, ONE_NEGATIVE)
 }
 
 /// What stands behind `BASE` reads so.
@@ -92,19 +92,19 @@ fn each_is_read(
     Ok(())
 }
 
-const FAULTS_ALONE: [Reading<'static>; 2] = [
+const FAULTS_ALONE: &[Reading<'static>] = &[
     (&[b"\x32\x01\x61"], PLAIN, "BadStringZero at 0"),
     (&[b"\x12\x00"], PLAIN, "NoSampleType at 2"),
 ];
 
 #[test]
 fn each_profile_fault(rt: HostRuntime) -> Result<(), Fail> {
-    each_is_read(&rt, &SAMPLE_FAULTS)?;
-    each_is_read(&rt, &TABLE_FAULTS)?;
-    read_so(&rt, &FAULTS_ALONE)
+    each_is_read(&rt, SAMPLE_FAULTS)?;
+    each_is_read(&rt, TABLE_FAULTS)?;
+    read_so(&rt, FAULTS_ALONE)
 }
 
-const ODD_NAMES: [Reading<'static>; 5] = [
+const ODD_NAMES: &[Reading<'static>] = &[
     (&[ADDRESS], PLAIN, "0x1f0 7\nclean"),
     (&[ADDRESS], LINES, "0x1f0 7\nclean"),
     (&[NO_FRAMES], PLAIN, " 7\nclean"),
@@ -114,7 +114,7 @@ const ODD_NAMES: [Reading<'static>; 5] = [
 
 #[test]
 fn address_frames_and_lossy_names(rt: HostRuntime) -> Result<(), Fail> {
-    read_so(&rt, &ODD_NAMES)
+    read_so(&rt, ODD_NAMES)
 }
 
 #[test]
@@ -123,7 +123,7 @@ fn greatest_location_id(rt: HostRuntime) -> Result<(), Fail> {
     Ok(())
 }
 
-const GREATEST: [Reading<'static>; 3] = [
+const GREATEST: &[Reading<'static>] = &[
     (&[GREATEST_LENGTH], PLAIN, "Truncated at 0"),
     (&[BASE, MINUS_ONE], PLAIN, "BadString at 48"),
     (&[BASE, LEAST_INDEX], PLAIN, "BadString at 48"),
@@ -131,27 +131,27 @@ const GREATEST: [Reading<'static>; 3] = [
 
 #[test]
 fn greatest_length_and_least_index(rt: HostRuntime) -> Result<(), Fail> {
-    read_so(&rt, &GREATEST)
+    read_so(&rt, GREATEST)
 }
 
-const INLINED_READ: [Reading<'static>; 2] = [
+const INLINED_READ: &[Reading<'static>] = &[
     (&[INLINED_LINES], PLAIN, "printf;memcpy 7\nclean"),
     (&[INLINED_LINES], LINES, "printf:40;memcpy:12 7\nclean"),
 ];
 
 #[test]
 fn lines_of_inlined_frames(rt: HostRuntime) -> Result<(), Fail> {
-    read_so(&rt, &INLINED_READ)
+    read_so(&rt, INLINED_READ)
 }
 
-const TWO_LINES_READ: [Reading<'static>; 2] = [
+const TWO_LINES_READ: &[Reading<'static>] = &[
     (&[TWO_LINES], PLAIN, "f 1\nf 1\nclean"),
     (&[TWO_LINES], LINES, "f:1 1\nf:2 1\nclean"),
 ];
 
 #[test]
 fn one_function_two_lines(rt: HostRuntime) -> Result<(), Fail> {
-    read_so(&rt, &TWO_LINES_READ)
+    read_so(&rt, TWO_LINES_READ)
 }
 
 /// A reader of this type goes to a thread of its own.

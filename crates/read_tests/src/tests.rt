@@ -1,3 +1,4 @@
 mod of_folded_lines;
 mod of_profile_messages;
 mod of_wire_fields;
+mod texts;

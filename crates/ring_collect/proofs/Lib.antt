@@ -2,6 +2,7 @@ pub mod CollectionLemmas
 pub mod IntakeLemmas
 pub mod LedgerLemmas
 pub mod NameOrder
+pub mod Outcomes
 pub mod Progress
 pub mod Records
 pub mod RoundLemmas

@@ -1,6 +1,6 @@
 //! The reader thread of a source: it tells the samples in order, each new name once, and then the close.
 
-ghost use Rattle.std.specs.Prelude.{◌≡◌, ◌++◌, ◌∷◌, [], IfSome, map};
+ghost use Rattle.std.specs.Prelude.{◌≡◌, ◌++◌, ◌∷◌, [], IfNone, IfSome, map};
 ghost use Rattle.rtrb.specs.Ring.{sent, SameProducer};
 ghost use Rattle.ring_collect.specs.checked.Rings.{IsLimitedRecord};
 ghost use Rattle.ring_collect.specs.checked.Tellers.{SentAll, ending_of, records_of};
@@ -14,6 +14,19 @@ use stack_core::{Close, Gate, Listed, RingRecord, RowReader, RowStep, SourceEnd,
 use std::alloc::Global;
 use std::sync::{Arc, Wait};
 
+/// Puts the record into the ring, or hands it back where the ring is full.
+fn push(producer: &mut RecordProducer, item: RingRecord) -> Option<RingRecord>
+    requires { IsLimitedRecord item }
+    ensures ring { SameProducer producer.old producer.new }
+    ensures sent { IfNone result (sent producer.new ≡ sent producer.old ++ item ∷ []) }
+    ensures full { IfSome result (λ back. (back ≡ item) × (sent producer.new ≡ sent producer.old)) }
+{
+    match producer.push(item) {
+        Ok(()) => None,
+        Err(PushError::Full(back)) => Some(back),
+    }
+}
+
 /// Waits until the record is in the ring. A wait is half as many turns as the ring holds records, so that the ring's ends seldom
 /// look at one another's work; but at most 64, so that the reader of a large ring comes back to it.
 fn push_waiting<W: Wait>(rt: &W, producer: &mut RecordProducer, item: RingRecord)
@@ -24,10 +37,10 @@ fn push_waiting<W: Wait>(rt: &W, producer: &mut RecordProducer, item: RingRecord
     let mut item = item;
     let mut pause = Pause::new();
     for _ in rt.forever() {
-        match producer.push(item) {
-            Ok(()) => return,
-            Err(PushError::Full(back)) => item = back,
-        }
+        let Some(back) = push(producer, item) else {
+            return;
+        };
+        item = back;
         pause.wait(rt, (producer.capacity() / 2).clamp(1, 64));
     }
     unreachable!()

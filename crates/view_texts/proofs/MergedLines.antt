@@ -1,5 +1,5 @@
 -- The lines of merged stacks, name by name and stack by stack.
-use Rattle.std.proofs.Common.{◌≡◌, ℕ, zero, suc, ◌+◌, ◌<◌, List, [], ◌∷◌, ◌++◌, ltb, length, take, get_or, All, T, refl, sym, ap, ◌∙◌, arith}
+use Rattle.std.proofs.Common.{◌≡◌, ℕ, zero, suc, ◌+◌, ◌<◌, List, [], ◌∷◌, ◌++◌, ltb, length, take, get_or, All, T, append_assoc, refl, sym, ap, ◌∙◌, arith}
 use Rattle.std.specs.List.{join_with_byte, AllByRecursion}
 use Rattle.std.proofs.lemmas.List.{take_more, length-take-le, map_more, append-nil, take-take, take_at, length-append}
 use Rattle.std.proofs.lemmas.Grind.{flat_map-append}
@@ -8,7 +8,7 @@ use Rattle.std.proofs.lemmas.Bool.{lt-ltb}
 use Rattle.sample_tables.specs.declared.samples.Sample.{Sample}
 use Rattle.std.specs.Io.{StartsWith}
 use Rattle.sample_tables.specs.Rows.{sample_at}
-use Rattle.folded_lines.specs.Writing.{line_of}
+use Rattle.folded_lines.specs.Writing.{column_of, line_of, pair_line_of}
 use Rattle.folded_lines.proofs.JoinLemmas.{join_with_byte-push}
 use Rattle.merged_stacks.specs.Timeline.{Stack}
 use Rattle.flame_layout.specs.Paths.{SameOwn}
@@ -33,6 +33,25 @@ pub further : (new middle start text : List ℕ) → StartsWith new middle → m
 further new middle start text front is =
     let long : length middle ≡ length start + length text = ap length is ∙ length-append start text in
     sym (take-take (length start) (length middle) new (omega arith)) ∙ ap (take (length start)) (front ∙ is) ∙ take_at start text (length start) refl
+
+-- the names of a stack, its weight and LF are its line
+pub line_written : (stack : Stack) (weight own : ℕ) (start named weighed new : List ℕ) → weight ≡ own
+    → named ≡ start ++ join_with_byte 59 stack → weighed ≡ named ++ column_of weight → new ≡ weighed ++ 10 ∷ [] → new ≡ start ++ line_of stack own
+line_written stack weight own start named weighed new same names column end =
+    end ∙ ap (λ text. text ++ 10 ∷ []) (column ∙ (λ i. names i ++ column_of (same i)))
+    ∙ append_assoc (start ++ join_with_byte 59 stack) (column_of own) (10 ∷ [])
+    ∙ append_assoc start (join_with_byte 59 stack) (column_of own ++ 10 ∷ [])
+
+-- the same with two weights
+pub pair_line_written : (shown stack : Stack) (one other before after : ℕ) (start named first second new : List ℕ) → shown ≡ stack → one ≡ before → other ≡ after
+    → named ≡ start ++ join_with_byte 59 shown → first ≡ named ++ column_of one → second ≡ first ++ column_of other → new ≡ second ++ 10 ∷ []
+    → new ≡ start ++ pair_line_of stack before after
+pair_line_written shown stack one other before after start named first second new same weighs against names column later end =
+    let pair = column_of after ++ 10 ∷ [] in
+    end ∙ ap (λ text. text ++ 10 ∷ []) (later ∙ (λ i. (column ∙ (λ j. (names ∙ ap (λ shown. start ++ join_with_byte 59 shown) same) j ++ column_of (weighs j))) i ++ column_of (against i)))
+    ∙ append_assoc ((start ++ join_with_byte 59 stack) ++ column_of before) (column_of after) (10 ∷ [])
+    ∙ append_assoc (start ++ join_with_byte 59 stack) (column_of before) pair
+    ∙ append_assoc start (join_with_byte 59 stack) (column_of before ++ pair)
 
 abbrev line : Weighed → List ℕ
 line row = line_of row.0 row.1

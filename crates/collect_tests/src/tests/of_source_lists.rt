@@ -1,5 +1,6 @@
 //! The sample types of worked sources.
 
+use super::texts::is_text;
 use profile_messages::SampleType;
 use run_options::{Filter, Format, Naming, Options, Pick, RingSize};
 use source_lists::{Source, chosen_types};
@@ -27,11 +28,18 @@ fn source_of(alloc: Global, format: Format, bytes: &[u8]) -> Result<Source, Allo
     Ok(Source { format, bytes })
 }
 
+const WORKED: &[(Format, &[u8])] = &[
+    (Format::Folded, b"a;b 2\n"),
+    (Format::Pprof, TWO_TYPES),
+    (Format::Pprof, WITH_DEFAULT),
+    (Format::Pprof, NO_SAMPLE),
+    (Format::Pprof, WITH_FAULT),
+];
+
 fn worked_sources(alloc: Global) -> Result<Vec<Source>, AllocError> {
     let mut sources = Vec::new(alloc);
-    sources.push(source_of(alloc, Format::Folded, b"a;b 2\n")?)?;
-    for file in [TWO_TYPES, WITH_DEFAULT, NO_SAMPLE, WITH_FAULT] {
-        sources.push(source_of(alloc, Format::Pprof, file)?)?;
+    for (format, bytes) in WORKED {
+        sources.push(source_of(alloc, *format, bytes)?)?;
     }
     Ok(sources)
 }
@@ -47,14 +55,14 @@ fn options_with(alloc: Global, pick: Pick) -> Options {
 }
 
 fn is_type(rt: &impl Abort, found: &SampleType, name: &str, unit: &str) {
-    assert_eq!(rt; found.name.get(), name);
-    assert_eq!(rt; found.unit.get(), unit);
+    is_text(rt, found.name.get(), name);
+    is_text(rt, found.unit.get(), unit);
 }
 
 /// The types have these names and units.
-fn are_types(rt: &impl Abort, types: &[SampleType], expected: &[(&str, &str); 5]) {
-    assert!(rt; types.len() == 5);
-    for k in 0..5 {
+fn are_types(rt: &impl Abort, types: &[SampleType], expected: &[(&str, &str)]) {
+    assert!(rt; types.len() == expected.len());
+    for k in 0..types.len() {
         let (name, unit) = expected[k];
         is_type(rt, &types[k], name, unit);
     }
@@ -63,39 +71,56 @@ fn are_types(rt: &impl Abort, types: &[SampleType], expected: &[(&str, &str); 5]
 fn choose_types(
     rt: &(impl Abort + AllocGlobal),
     options: &Options,
-    expected: &[(&str, &str); 5],
+    sources: &[Source],
+    expected: &[(&str, &str)],
 ) -> Result<(), AllocError> {
-    let sources = worked_sources(rt.alloc())?;
-    let types = chosen_types(rt.alloc(), &sources, options)?;
+    let types = chosen_types(rt.alloc(), sources, options)?;
     are_types(rt, &types, expected);
     Ok(())
+}
+
+fn choose_types_of_worked(
+    rt: &(impl Abort + AllocGlobal),
+    options: &Options,
+    expected: &[(&str, &str)],
+) -> Result<(), Fail> {
+    let sources = worked_sources(rt.alloc())?;
+    choose_types(rt, options, &sources, expected)?;
+    Ok(())
+}
+
+fn options_named(alloc: Global, name: &str) -> Result<Options, AllocError> {
+    let name = Text::from_str(alloc, name)?;
+    Ok(options_with(alloc, Pick::Named(name)))
 }
 
 fn choose_types_named(
     rt: &(impl Abort + AllocGlobal),
     name: &str,
-    expected: &[(&str, &str); 5],
+    expected: &[(&str, &str)],
 ) -> Result<(), Fail> {
-    let pick = Pick::Named(Text::from_str(rt.alloc(), name)?);
-    choose_types(rt, &options_with(rt.alloc(), pick), expected)?;
-    Ok(())
+    let options = options_named(rt.alloc(), name)?;
+    choose_types_of_worked(rt, &options, expected)
 }
+
+const PREFERRED: &[(&str, &str)] = &[("", ""), ("t", "s"), ("n", "ms"), ("", ""), ("", "")];
 
 #[test]
 fn types_of_worked_sources(rt: HostRuntime) -> Result<(), Fail> {
     let options = options_with(rt.alloc(), Pick::Preferred);
-    let expected = [("", ""), ("t", "s"), ("n", "ms"), ("", ""), ("", "")];
-    choose_types(&rt, &options, &expected)?;
-    Ok(())
+    choose_types_of_worked(&rt, &options, PREFERRED)
 }
+
+const NAMED_N: &[(&str, &str)] = &[("", ""), ("n", "ms"), ("n", "ms"), ("", ""), ("", "")];
 
 #[test]
 fn types_picked_by_name(rt: HostRuntime) -> Result<(), Fail> {
-    let expected = [("", ""), ("n", "ms"), ("n", "ms"), ("", ""), ("", "")];
-    choose_types_named(&rt, "n", &expected)
+    choose_types_named(&rt, "n", NAMED_N)
 }
+
+const NONE: &[(&str, &str)] = &[("", ""); 5];
 
 #[test]
 fn no_type_of_an_unknown_name(rt: HostRuntime) -> Result<(), Fail> {
-    choose_types_named(&rt, "other", &[("", ""); 5])
+    choose_types_named(&rt, "other", NONE)
 }

@@ -1,6 +1,6 @@
 //! The example of the README, and the texts of faults.
 
-use super::plans::{expect_defaults, planned, width};
+use super::plans::{expect_defaults, holds, planned, width};
 use command_line::{PlanFault, View};
 use std::alloc::Global;
 use std::test::Fail;
@@ -31,12 +31,12 @@ fn is_its_text(alloc: Global, fault: &PlanFault) -> Result<bool, PlanFault> {
     })
 }
 
-const FAULTS: [&str; 4] = ["graph --width 0", "compare a", "--help", "fold -h"];
+const FAULTS: &[&str] = &["graph --width 0", "compare a", "--help", "fold -h"];
 
 #[test]
 fn texts_of_faults(rt: HostRuntime) -> Result<(), Fail> {
-    for line in FAULTS.as_slice() {
-        assert!(rt; is_shown(rt.alloc(), line)?, "{line}");
+    for line in FAULTS {
+        holds(&rt, line, is_shown(rt.alloc(), line)?);
     }
     assert!(rt; is_its_text(rt.alloc(), &PlanFault::OutOfMemory)?);
     Ok(())

@@ -2,7 +2,7 @@
 
 use super::forms::are_refused;
 use super::help::show_help;
-use super::plans::{are, planned};
+use super::plans::{are, holds, planned};
 use command_line::{Plan, PlanFault};
 use std::alloc::Global;
 use std::process::Abort;
@@ -15,11 +15,11 @@ fn is_filtered(plan: &Plan) -> bool {
 
 fn expect_filtered(rt: &impl Abort, alloc: Global, line: &str) -> Result<(), PlanFault> {
     let plan = planned(alloc, line)?;
-    assert!(rt; is_filtered(&plan), "{line}");
+    holds(rt, line, is_filtered(&plan));
     Ok(())
 }
 
-const FILTERED: [&str; 4] = [
+const FILTERED: &[&str] = &[
     "fold --focus b --hide=c --focus a",
     "graph --focus b --hide=c --focus a",
     "chart --focus b --hide=c --focus a",
@@ -28,20 +28,22 @@ const FILTERED: [&str; 4] = [
 
 #[test]
 fn filters_of_each_command(rt: HostRuntime) -> Result<(), Fail> {
-    for line in FILTERED.as_slice() {
+    for line in FILTERED {
         expect_filtered(&rt, rt.alloc(), line)?;
     }
     Ok(())
 }
 
+const REFUSED: &[&str] = &["fold --focus", "graph --focus=", "compare a b --hide="];
+
 #[test]
 fn refused_filters(rt: HostRuntime) {
-    let lines = ["fold --focus", "graph --focus=", "compare a b --hide="];
-    are_refused(&rt, rt.alloc(), &lines);
+    are_refused(&rt, rt.alloc(), REFUSED);
 }
+
+const HEADING: &[(&str, &str)] = &[("fold --help", "\nFilters:\n      --focus <NAME> ")];
 
 #[test]
 fn filters_have_a_heading(rt: HostRuntime) {
-    let heading = ("fold --help", "\nFilters:\n      --focus <NAME> ");
-    show_help(&rt, rt.alloc(), &[heading]);
+    show_help(&rt, rt.alloc(), HEADING);
 }

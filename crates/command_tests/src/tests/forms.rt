@@ -1,6 +1,6 @@
 //! Worked command lines of what a run writes: pages, and sample types; and of runs that show no progress.
 
-use super::plans::{has_defaults, has_files, is_format, is_view, planned, width};
+use super::plans::{has_defaults, has_files, holds, is_format, is_view, planned, width};
 use command_line::{Form, Plan, PlanFault, View};
 use run_options::Format;
 use stack_core::Text;
@@ -23,7 +23,7 @@ fn is_refusal(text: &str, told: &str, part: &str) -> bool {
 // Each line is refused.
 pub(crate) fn are_refused(rt: &impl Abort, alloc: Global, lines: &[&str]) {
     for line in lines {
-        assert!(rt; is_refused(alloc, line, "error: ", ""), "{line}");
+        holds(rt, line, is_refused(alloc, line, "error: ", ""));
     }
 }
 
@@ -48,15 +48,15 @@ fn is_loud_text(plan: &Plan) -> bool {
 
 fn expect_loud_text(rt: &impl Abort, alloc: Global, line: &str) -> Result<(), PlanFault> {
     let plan = planned(alloc, line)?;
-    assert!(rt; is_loud_text(&plan), "{line}");
+    holds(rt, line, is_loud_text(&plan));
     Ok(())
 }
 
-const COMMANDS: [&str; 5] = ["fold", "graph", "chart", "compare a b", "top"];
+const COMMANDS: &[&str] = &["fold", "graph", "chart", "compare a b", "top"];
 
 #[test]
 fn texts_unless_a_page_is_asked_for(rt: HostRuntime) -> Result<(), Fail> {
-    for line in COMMANDS.as_slice() {
+    for line in COMMANDS {
         expect_loud_text(&rt, rt.alloc(), line)?;
     }
     Ok(())
@@ -68,11 +68,11 @@ fn is_quiet(plan: &Plan) -> bool {
 
 fn expect_quiet(rt: &impl Abort, alloc: Global, line: &str) -> Result<(), PlanFault> {
     let plan = planned(alloc, line)?;
-    assert!(rt; is_quiet(&plan), "{line}");
+    holds(rt, line, is_quiet(&plan));
     Ok(())
 }
 
-const QUIET: [&str; 5] = [
+const QUIET: &[&str] = &[
     "fold --quiet",
     "graph --quiet",
     "chart --quiet",
@@ -82,7 +82,7 @@ const QUIET: [&str; 5] = [
 
 #[test]
 fn quiet_runs(rt: HostRuntime) -> Result<(), Fail> {
-    for line in QUIET.as_slice() {
+    for line in QUIET {
         expect_quiet(&rt, rt.alloc(), line)?;
     }
     Ok(())
@@ -96,11 +96,11 @@ fn expect_page(
     least: Option<u64>,
 ) -> Result<(), PlanFault> {
     let plan = planned(alloc, line)?;
-    assert!(rt; is_page(&plan, title, least), "{line}");
+    holds(rt, line, is_page(&plan, title, least));
     Ok(())
 }
 
-const PAGES: [(&str, Option<&str>, Option<u64>); 5] = [
+const PAGES: &[(&str, Option<&str>, Option<u64>)] = &[
     ("graph --page", None, None),
     ("graph --page --title t", Some("t"), None),
     ("chart x --least 7 --page", None, Some(7)),
@@ -114,7 +114,7 @@ const PAGES: [(&str, Option<&str>, Option<u64>); 5] = [
 
 #[test]
 fn pages(rt: HostRuntime) -> Result<(), Fail> {
-    for (line, title, least) in PAGES.as_slice() {
+    for (line, title, least) in PAGES {
         expect_page(&rt, rt.alloc(), line, *title, *least)?;
     }
     Ok(())
@@ -126,7 +126,7 @@ fn is_page_of_boxes(plan: &Plan, view: View) -> bool {
 
 fn expect_boxes(rt: &impl Abort, alloc: Global, line: &str, view: View) -> Result<(), PlanFault> {
     let plan = planned(alloc, line)?;
-    assert!(rt; is_page_of_boxes(&plan, view), "{line}");
+    holds(rt, line, is_page_of_boxes(&plan, view));
     Ok(())
 }
 
@@ -153,7 +153,7 @@ fn is_of_types(plan: &Plan, file: &str) -> bool {
 
 fn expect_types(rt: &impl Abort, alloc: Global, line: &str, file: &str) -> Result<(), PlanFault> {
     let plan = planned(alloc, line)?;
-    assert!(rt; is_of_types(&plan, file), "{line}");
+    holds(rt, line, is_of_types(&plan, file));
     Ok(())
 }
 
@@ -165,7 +165,7 @@ fn sample_types_of_a_file(rt: HostRuntime) -> Result<(), Fail> {
     Ok(())
 }
 
-const REFUSED: [&str; 15] = [
+const REFUSED: &[&str] = &[
     "graph --title t",
     "chart --least 5",
     "compare a b --title t --least 5",
@@ -185,7 +185,7 @@ const REFUSED: [&str; 15] = [
 
 #[test]
 fn refused_forms(rt: HostRuntime) {
-    are_refused(&rt, rt.alloc(), &REFUSED);
+    are_refused(&rt, rt.alloc(), REFUSED);
 }
 
 #[test]

@@ -1,6 +1,6 @@
 //! Help, and the version.
 
-use super::plans::planned;
+use super::plans::{holds, planned};
 use command_line::PlanFault;
 use std::alloc::Global;
 use std::process::Abort;
@@ -16,11 +16,11 @@ fn helps(alloc: Global, line: &str, part: &str) -> bool {
 // Each line shows help that has its part.
 pub(crate) fn show_help(rt: &impl Abort, alloc: Global, rows: &[(&str, &str)]) {
     for (line, part) in rows {
-        assert!(rt; helps(alloc, line, part), "{line}");
+        holds(rt, line, helps(alloc, line, part));
     }
 }
 
-const USAGES: [(&str, &str); 10] = [
+const USAGES: &[(&str, &str)] = &[
     ("--help", "\nUsage: flamecollect <COMMAND>\n"),
     ("-h", "\nUsage: flamecollect <COMMAND>\n"),
     (
@@ -53,10 +53,10 @@ const USAGES: [(&str, &str); 10] = [
 
 #[test]
 fn help_of_each_command(rt: HostRuntime) {
-    show_help(&rt, rt.alloc(), &USAGES);
+    show_help(&rt, rt.alloc(), USAGES);
 }
 
-const COMMANDS: [(&str, &str); 6] = [
+const COMMANDS: &[(&str, &str)] = &[
     ("--help", "\n  fold "),
     ("--help", "\n  graph "),
     ("--help", "\n  chart "),
@@ -67,7 +67,7 @@ const COMMANDS: [(&str, &str); 6] = [
 
 #[test]
 fn help_lists_the_commands(rt: HostRuntime) {
-    show_help(&rt, rt.alloc(), &COMMANDS);
+    show_help(&rt, rt.alloc(), COMMANDS);
 }
 
 // One line is shown, which begins with the program's name and a year.
@@ -89,7 +89,7 @@ fn version(rt: HostRuntime) {
 }
 
 // The program's help tells the formats, and each command's has an example and the ring last.
-const PARTS: [(&str, &str); 19] = [
+const PARTS: &[(&str, &str)] = &[
     ("--help", "\nFormats:\n"),
     ("--help", "gzip -dc"),
     ("--help", "\nWithout a command, "),
@@ -113,5 +113,5 @@ const PARTS: [(&str, &str); 19] = [
 
 #[test]
 fn help_tells_formats_and_examples(rt: HostRuntime) {
-    show_help(&rt, rt.alloc(), &PARTS);
+    show_help(&rt, rt.alloc(), PARTS);
 }

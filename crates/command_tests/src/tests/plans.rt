@@ -6,6 +6,11 @@ use stack_core::Names;
 use std::alloc::{AllocError, Global};
 use std::process::Abort;
 
+// Holds of a line.
+pub(crate) fn holds(rt: &impl Abort, line: &str, answer: bool) {
+    assert!(rt; answer, "{line}");
+}
+
 // The words of a line, which stand between single spaces.
 fn words_of(alloc: Global, line: &str) -> Result<Vec<String>, AllocError> {
     let mut words = Vec::new(alloc);
@@ -62,11 +67,15 @@ pub(crate) fn has_defaults(plan: &Plan) -> bool {
 
 pub(crate) fn are(names: &Names, texts: &[&str]) -> bool {
     let names = names.get();
-    names.len() == texts.len()
-        && names
-            .iter()
-            .zip(texts)
-            .all(|(name, text)| name.as_str() == *text)
+    if names.len() != texts.len() {
+        return false;
+    }
+    for at in 0..names.len() {
+        if names[at].as_str() != texts[at] {
+            return false;
+        }
+    }
+    true
 }
 
 pub(crate) fn has_files(plan: &Plan, files: &[&str]) -> bool {
@@ -98,6 +107,6 @@ pub(crate) fn expect_defaults(
     files: &[&str],
 ) -> Result<(), PlanFault> {
     let plan = planned(alloc, line)?;
-    assert!(rt; is_default(&plan, view, files), "{line}");
+    holds(rt, line, is_default(&plan, view, files));
     Ok(())
 }

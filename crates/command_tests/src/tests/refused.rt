@@ -1,9 +1,10 @@
 //! Words that are refused, and what is said of them.
 
 use super::forms::{are_refused, is_refused};
+use super::plans::holds;
 use command_line::{PlanFault, plan};
 
-const REFUSED: [&str; 29] = [
+const REFUSED: &[&str] = &[
     "graph --width 0",
     "graph --width 65537",
     "graph --width -1",
@@ -37,10 +38,10 @@ const REFUSED: [&str; 29] = [
 
 #[test]
 fn refused_words(rt: HostRuntime) {
-    are_refused(&rt, rt.alloc(), &REFUSED);
+    are_refused(&rt, rt.alloc(), REFUSED);
 }
 
-const USAGES: [(&str, &str); 4] = [
+const USAGES: &[(&str, &str)] = &[
     (
         "fold --every 5",
         "\nUsage: flamecollect fold [OPTIONS] [FILE]...\n",
@@ -58,8 +59,8 @@ const USAGES: [(&str, &str); 4] = [
 
 #[test]
 fn usage_of_refused_words(rt: HostRuntime) {
-    for (line, usage) in USAGES.as_slice() {
-        assert!(rt; is_refused(rt.alloc(), line, "error: ", usage), "{line}");
+    for (line, usage) in USAGES {
+        holds(&rt, line, is_refused(rt.alloc(), line, "error: ", usage));
     }
 }
 

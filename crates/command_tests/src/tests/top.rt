@@ -12,7 +12,7 @@ const BY_OWN: TopTable = TopTable {
     is_json: false,
 };
 
-const TABLES: [(&str, TopTable); 7] = [
+const TABLES: &[(&str, TopTable)] = &[
     ("top", BY_OWN),
     ("top -n 3", TopTable { rows: 3, ..BY_OWN }),
     ("top -n1", TopTable { rows: 1, ..BY_OWN }),
@@ -42,7 +42,7 @@ const TABLES: [(&str, TopTable); 7] = [
 
 #[test]
 fn tables_of_functions(rt: HostRuntime) -> Result<(), Fail> {
-    for (line, table) in TABLES.as_slice() {
+    for (line, table) in TABLES {
         expect_defaults(&rt, rt.alloc(), line, View::Top(*table), &[])?;
     }
     Ok(())
@@ -71,7 +71,7 @@ fn options_of_top(rt: HostRuntime) -> Result<(), Fail> {
     Ok(())
 }
 
-const REFUSED: [&str; 15] = [
+const REFUSED: &[&str] = &[
     "top -n 0",
     "top -n -1",
     "top -n ten",
@@ -91,7 +91,7 @@ const REFUSED: [&str; 15] = [
 
 #[test]
 fn refused_tables(rt: HostRuntime) {
-    are_refused(&rt, rt.alloc(), &REFUSED);
+    are_refused(&rt, rt.alloc(), REFUSED);
 }
 
 #[test]

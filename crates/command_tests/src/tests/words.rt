@@ -1,7 +1,7 @@
 //! Worked command lines.
 
 use super::plans::{
-    NOTHING, Set, expect_defaults, has_defaults, has_files, has_options, is_format, is_view,
+    NOTHING, Set, expect_defaults, has_defaults, has_files, has_options, holds, is_format, is_view,
     planned, width,
 };
 use command_line::{Plan, PlanFault, View};
@@ -17,7 +17,7 @@ fn expect_names(
     files: &[&str],
 ) -> Result<(), PlanFault> {
     let plan = planned(alloc, line)?;
-    assert!(rt; has_files(&plan, files), "{line}");
+    holds(rt, line, has_files(&plan, files));
     Ok(())
 }
 
@@ -31,13 +31,35 @@ fn expect_files(rt: &impl Abort, alloc: Global, rows: &[(&str, &[&str])]) -> Res
 
 fn expect_view(rt: &impl Abort, alloc: Global, line: &str, view: View) -> Result<(), PlanFault> {
     let plan = planned(alloc, line)?;
-    assert!(rt; is_view(&plan, view), "{line}");
+    holds(rt, line, is_view(&plan, view));
     Ok(())
 }
 
-fn expect_views(rt: &impl Abort, alloc: Global, rows: &[(&str, View)]) -> Result<(), PlanFault> {
-    for (line, view) in rows {
-        expect_view(rt, alloc, line, *view)?;
+// A view that is drawn as boxes.
+#[derive(Clone, Copy)]
+enum Drawing {
+    Graph,
+    Chart,
+    PairBoxes,
+}
+
+fn view_of(rt: &impl Abort, drawing: Drawing, pixels: u32) -> View {
+    let width = width(rt, pixels);
+    match drawing {
+        Drawing::Graph => View::Graph(width),
+        Drawing::Chart => View::Chart(width),
+        Drawing::PairBoxes => View::PairBoxes(width),
+    }
+}
+
+// Each line has a view of this width.
+fn expect_widths(
+    rt: &impl Abort,
+    alloc: Global,
+    rows: &[(&str, Drawing, u32)],
+) -> Result<(), PlanFault> {
+    for (line, drawing, pixels) in rows {
+        expect_view(rt, alloc, line, view_of(rt, *drawing, *pixels))?;
     }
     Ok(())
 }
@@ -54,12 +76,12 @@ fn defaults_of_each_command(rt: HostRuntime) -> Result<(), Fail> {
 
 const WITH_A_WIDTH: &str = "graph --width 10 x.folded";
 
-const FILE_OF_A_WIDTH: [(&str, &[&str]); 1] = [(WITH_A_WIDTH, &["x.folded"])];
+const FILE_OF_A_WIDTH: &[(&str, &[&str])] = &[(WITH_A_WIDTH, &["x.folded"])];
 
 #[test]
 fn graph_with_a_width(rt: HostRuntime) -> Result<(), Fail> {
     expect_view(&rt, rt.alloc(), WITH_A_WIDTH, View::Graph(width(&rt, 10)))?;
-    expect_files(&rt, rt.alloc(), &FILE_OF_A_WIDTH)?;
+    expect_files(&rt, rt.alloc(), FILE_OF_A_WIDTH)?;
     Ok(())
 }
 
@@ -70,7 +92,7 @@ fn expect_options(
     set: &Set<'_>,
 ) -> Result<(), PlanFault> {
     let plan = planned(alloc, line)?;
-    assert!(rt; has_options(&plan, set), "{line}");
+    holds(rt, line, has_options(&plan, set));
     Ok(())
 }
 
@@ -88,7 +110,7 @@ const LINES_OF_CPU: Set<'static> = Set {
     every: None,
 };
 
-const OPTIONS: [(&str, Set<'static>); 4] = [
+const OPTIONS: &[(&str, Set<'static>)] = &[
     ("fold --type cpu --ring 7 --lines", LINES_OF_CPU),
     (
         "graph --width=10 --type=cpu --ring=7 --every=9 --lines",
@@ -106,25 +128,25 @@ const OPTIONS: [(&str, Set<'static>); 4] = [
 
 #[test]
 fn options_of_each_command(rt: HostRuntime) -> Result<(), Fail> {
-    expect_rows(&rt, rt.alloc(), &OPTIONS)?;
+    expect_rows(&rt, rt.alloc(), OPTIONS)?;
     Ok(())
 }
 
+const WIDTHS: &[(&str, Drawing, u32)] = &[
+    ("graph --width=10", Drawing::Graph, 10),
+    ("chart --width 10 --type cpu", Drawing::Chart, 10),
+    ("chart --width 1", Drawing::Chart, 1),
+    ("chart --width 65536", Drawing::Chart, 65_536),
+    ("compare --width 10 --boxes a b", Drawing::PairBoxes, 10),
+    ("compare --boxes --width 10 b a", Drawing::PairBoxes, 10),
+    ("compare b --boxes --width 10 a", Drawing::PairBoxes, 10),
+    ("compare b a --boxes --width 10", Drawing::PairBoxes, 10),
+];
+
 #[test]
 fn widths_of_each_command(rt: HostRuntime) -> Result<(), Fail> {
-    let ten = width(&rt, 10);
-    let lines = [
-        ("graph --width=10", View::Graph(ten)),
-        ("chart --width 10 --type cpu", View::Chart(ten)),
-        ("chart --width 1", View::Chart(width(&rt, 1))),
-        ("chart --width 65536", View::Chart(width(&rt, 65_536))),
-        ("compare --width 10 --boxes a b", View::PairBoxes(ten)),
-        ("compare --boxes --width 10 b a", View::PairBoxes(ten)),
-        ("compare b --boxes --width 10 a", View::PairBoxes(ten)),
-        ("compare b a --boxes --width 10", View::PairBoxes(ten)),
-        ("compare --width 10 b a", View::Pairs),
-    ];
-    expect_views(&rt, rt.alloc(), &lines)?;
+    expect_widths(&rt, rt.alloc(), WIDTHS)?;
+    expect_view(&rt, rt.alloc(), "compare --width 10 b a", View::Pairs)?;
     Ok(())
 }
 
@@ -139,11 +161,11 @@ fn expect_format(
     format: Option<Format>,
 ) -> Result<(), PlanFault> {
     let plan = planned(alloc, line)?;
-    assert!(rt; is_of_format(&plan, format), "{line}");
+    holds(rt, line, is_of_format(&plan, format));
     Ok(())
 }
 
-const FORMATS: [(&str, Option<Format>); 12] = [
+const FORMATS: &[(&str, Option<Format>)] = &[
     ("fold --format pprof", Some(Format::Pprof)),
     ("fold --format=folded", Some(Format::Folded)),
     ("fold x --format pprof y", Some(Format::Pprof)),
@@ -160,13 +182,13 @@ const FORMATS: [(&str, Option<Format>); 12] = [
 
 #[test]
 fn format_of_each_command(rt: HostRuntime) -> Result<(), Fail> {
-    for (line, format) in FORMATS.as_slice() {
+    for (line, format) in FORMATS {
         expect_format(&rt, rt.alloc(), line, *format)?;
     }
     Ok(())
 }
 
-const OF_THREE_FILES: [&str; 3] = [
+const OF_THREE_FILES: &[&str] = &[
     "graph --ring 7 --every 2 a b c",
     "graph a --ring 7 b --every 2 c",
     "graph a b c --ring 7 --every 2",
@@ -182,14 +204,14 @@ const THREE_FILES: &[&str] = &["a", "b", "c"];
 
 #[test]
 fn options_before_between_and_after_files(rt: HostRuntime) -> Result<(), Fail> {
-    for line in OF_THREE_FILES.as_slice() {
+    for line in OF_THREE_FILES {
         expect_options(&rt, rt.alloc(), line, &SEVEN_OF_TWO)?;
         expect_names(&rt, rt.alloc(), line, THREE_FILES)?;
     }
     Ok(())
 }
 
-const FILES: [(&str, &[&str]); 5] = [
+const FILES: &[(&str, &[&str])] = &[
     ("compare --width 10 b a", &["b", "a"]),
     ("compare --boxes --width 10 b a", &["b", "a"]),
     ("compare b --boxes --width 10 a", &["b", "a"]),
@@ -199,13 +221,13 @@ const FILES: [(&str, &[&str]); 5] = [
 
 #[test]
 fn files_in_their_order(rt: HostRuntime) -> Result<(), Fail> {
-    expect_files(&rt, rt.alloc(), &FILES)?;
+    expect_files(&rt, rt.alloc(), FILES)?;
     Ok(())
 }
 
 const ODD_OPTIONS: &str = "fold --lines -- --ring -x";
 
-const OF_ODD_NAMES: [(&str, &[&str]); 3] = [
+const OF_ODD_NAMES: &[(&str, &[&str])] = &[
     ("fold - -", &["-", "-"]),
     (ODD_OPTIONS, &["--ring", "-x"]),
     ("fold help graph", &["help", "graph"]),
@@ -218,12 +240,12 @@ const LINES_ALONE: Set<'static> = Set {
 
 #[test]
 fn files_of_odd_names(rt: HostRuntime) -> Result<(), Fail> {
-    expect_files(&rt, rt.alloc(), &OF_ODD_NAMES)?;
+    expect_files(&rt, rt.alloc(), OF_ODD_NAMES)?;
     expect_options(&rt, rt.alloc(), ODD_OPTIONS, &LINES_ALONE)?;
     Ok(())
 }
 
-const ENDS: [(&str, Set<'static>); 4] = [
+const ENDS: &[(&str, Set<'static>)] = &[
     ("fold --ring 1", Set { ring: 1, ..NOTHING }),
     (
         "fold --ring 65536",
@@ -250,6 +272,6 @@ const ENDS: [(&str, Set<'static>); 4] = [
 
 #[test]
 fn ends_of_each_range(rt: HostRuntime) -> Result<(), Fail> {
-    expect_rows(&rt, rt.alloc(), &ENDS)?;
+    expect_rows(&rt, rt.alloc(), ENDS)?;
     Ok(())
 }

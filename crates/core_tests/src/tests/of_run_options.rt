@@ -20,10 +20,8 @@ fn have_format(rt: &impl Abort, paths: &[&str], format: Format) {
 #[test]
 fn example_of_the_readme(rt: HostRuntime) -> Result<(), Fail> {
     let ring = RingSize::of(1_024).ok_or("no ring")?;
-    assert!(rt; ring.get() == 1_024);
-    assert!(rt; RingSize::of(0).is_none());
-    assert!(rt; Width::of(MAX_WIDTH).is_some());
-    assert!(rt; Width::of(MAX_WIDTH + 1).is_none());
+    assert!(rt; ring.get() == 1_024 && RingSize::of(0).is_none());
+    assert!(rt; Width::of(MAX_WIDTH).is_some() && Width::of(MAX_WIDTH + 1).is_none());
     have_format(&rt, &["cpu.pprof"], Format::Pprof);
     have_format(&rt, &["stacks.txt"], Format::Folded);
     Ok(())
@@ -99,37 +97,43 @@ fn samples_that_a_filter_keeps(rt: HostRuntime) -> Result<(), Fail> {
     Ok(())
 }
 
+const NO_FORMATS: &[&str] = &["", "Folded", "PPROF", "pprof ", "pb", "folded,pprof"];
+
 #[test]
 fn names_of_formats(rt: HostRuntime) {
     assert!(rt; matches!(Format::named("folded"), Some(Format::Folded)));
     assert!(rt; matches!(Format::named("pprof"), Some(Format::Pprof)));
-    for name in &["", "Folded", "PPROF", "pprof ", "pb", "folded,pprof"] {
+    for name in NO_FORMATS {
         holds(&rt, name, Format::named(name).is_none());
     }
 }
+
+const NO_ORDERS: &[&str] = &["", "Own", "TOTAL", "total ", "sum", "own,total"];
 
 #[test]
 fn names_of_orders(rt: HostRuntime) {
     assert!(rt; matches!(FunctionOrder::named("own"), Some(FunctionOrder::Own)));
     assert!(rt; matches!(FunctionOrder::named("total"), Some(FunctionOrder::Total)));
-    for name in &["", "Own", "TOTAL", "total ", "sum", "own,total"] {
+    for name in NO_ORDERS {
         holds(&rt, name, FunctionOrder::named(name).is_none());
     }
 }
 
+const OF_PROFILES: &[&str] = &["cpu.prof", "x.pprof", "x.pb", "a/b.c/d.pb", ".prof"];
+
+const OF_LINES: &[&str] = &[
+    "x.folded",
+    "-",
+    "",
+    "prof",
+    "x.prof.txt",
+    "x.PROF",
+    "pb",
+    "x.pb.gz",
+];
+
 #[test]
 fn formats_by_name(rt: HostRuntime) {
-    let of_profiles = ["cpu.prof", "x.pprof", "x.pb", "a/b.c/d.pb", ".prof"];
-    have_format(&rt, &of_profiles, Format::Pprof);
-    let of_lines = [
-        "x.folded",
-        "-",
-        "",
-        "prof",
-        "x.prof.txt",
-        "x.PROF",
-        "pb",
-        "x.pb.gz",
-    ];
-    have_format(&rt, &of_lines, Format::Folded);
+    have_format(&rt, OF_PROFILES, Format::Pprof);
+    have_format(&rt, OF_LINES, Format::Folded);
 }

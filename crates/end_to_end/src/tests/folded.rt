@@ -3,7 +3,7 @@
 use crate::tests::answers::{Case, SILENT, end_so};
 use std::test::Fail;
 
-const STORED: [Case<'static>; 1] = [Case {
+const STORED: &[Case<'static>] = &[Case {
     input: b"a;b 2\na 1\na;b 3\n",
     out: "a 1\na;b 5\n",
     ..SILENT
@@ -11,10 +11,10 @@ const STORED: [Case<'static>; 1] = [Case {
 
 #[test]
 fn stored_run(rt: HostRuntime) -> Result<(), Fail> {
-    end_so(&rt, &STORED)
+    end_so(&rt, STORED)
 }
 
-const EMPTY: [Case<'static>; 3] = [
+const EMPTY: &[Case<'static>] = &[
     SILENT,
     Case {
         words: &["fold", "x.pb"],
@@ -31,11 +31,11 @@ const EMPTY: [Case<'static>; 3] = [
 
 #[test]
 fn empty_sources(rt: HostRuntime) -> Result<(), Fail> {
-    end_so(&rt, &EMPTY)
+    end_so(&rt, EMPTY)
 }
 
 /// Odd stacks, and odd ends.
-const ODD: [Case<'static>; 2] = [
+const ODD: &[Case<'static>] = &[
     Case {
         input: b" 5\na; 1\na;;b 1\n\na x\na 5 \n",
         out: " 5\na 1\na;;b 1\n",
@@ -52,10 +52,10 @@ const ODD: [Case<'static>; 2] = [
 
 #[test]
 fn odd_lines(rt: HostRuntime) -> Result<(), Fail> {
-    end_so(&rt, &ODD)
+    end_so(&rt, ODD)
 }
 
-const REFUSED: [Case<'static>; 2] = [
+const REFUSED: &[Case<'static>] = &[
     Case {
         words: &["fold", "x.folded"],
         files: &[("x.folded", b"b 2\na 1.5\n")],
@@ -74,11 +74,11 @@ const REFUSED: [Case<'static>; 2] = [
 
 #[test]
 fn refused_counts(rt: HostRuntime) -> Result<(), Fail> {
-    end_so(&rt, &REFUSED)
+    end_so(&rt, REFUSED)
 }
 
 /// One source as heavy as it may be, and one that is too heavy.
-const WEIGHTS: [Case<'static>; 2] = [
+const WEIGHTS: &[Case<'static>] = &[
     Case {
         input: b"a 72057594037927935\nb 0\n",
         out: "a 72057594037927935\n",
@@ -118,11 +118,11 @@ fn limits_of_weights_and_depth_by_weights(rt: HostRuntime) -> Result<(), Fail> {
         words: &words,
         ..TOO_MANY
     };
-    end_so(&rt, &WEIGHTS)?;
+    end_so(&rt, WEIGHTS)?;
     end_so(&rt, &[most, too_many])
 }
 
-const COMPRESSED: [Case<'static>; 2] = [
+const COMPRESSED: &[Case<'static>] = &[
     Case {
         input: b"\x1f\x8b\x08",
         status: 1,
@@ -140,7 +140,7 @@ const COMPRESSED: [Case<'static>; 2] = [
 
 #[test]
 fn compressed_and_cut(rt: HostRuntime) -> Result<(), Fail> {
-    end_so(&rt, &COMPRESSED)
+    end_so(&rt, COMPRESSED)
 }
 
 /// Files of which two are faults.
@@ -154,7 +154,7 @@ const SEVERAL: Case<'static> = Case {
 };
 
 /// All three are read, and one of them beside files that are not there.
-const FAULTS: [Case<'static>; 2] = [
+const FAULTS: &[Case<'static>] = &[
     Case {
         words: &["fold", "bad", "good", "worse"],
         status: 1,
@@ -173,7 +173,7 @@ const FAULTS: [Case<'static>; 2] = [
 // All sources are told of, in order, before the run ends.
 #[test]
 fn faults_of_several_sources(rt: HostRuntime) -> Result<(), Fail> {
-    end_so(&rt, &FAULTS)
+    end_so(&rt, FAULTS)
 }
 
 const THREE_FILES: Case<'static> = Case {
@@ -187,7 +187,7 @@ const THREE_FILES: Case<'static> = Case {
 };
 
 /// In small rings, and in large ones.
-const RINGS: [Case<'static>; 2] = [
+const RINGS: &[Case<'static>] = &[
     Case {
         words: &["fold", "--ring", "1", "x", "y", "z"],
         ..THREE_FILES
@@ -201,5 +201,5 @@ const RINGS: [Case<'static>; 2] = [
 // The order of stacks does not depend on the order in which samples arrive.
 #[test]
 fn fold_of_several_sources(rt: HostRuntime) -> Result<(), Fail> {
-    end_so(&rt, &RINGS)
+    end_so(&rt, RINGS)
 }

@@ -12,7 +12,7 @@ use std::test::Fail;
 use std::thread::Threads;
 
 /// The graph, and the chart.
-const OF_THREE_LINES: [Case<'static>; 2] = [
+const OF_THREE_LINES: &[Case<'static>] = &[
     Case {
         words: &["graph", "--width", "10", "x"],
         out: GRAPH_OF_THREE_LINES,
@@ -27,11 +27,11 @@ const OF_THREE_LINES: [Case<'static>; 2] = [
 
 #[test]
 fn graph_of_three_lines(rt: HostRuntime) -> Result<(), Fail> {
-    end_over(&rt, &[("x", THREE_LINES.as_bytes())], &OF_THREE_LINES)
+    end_over(&rt, &[("x", THREE_LINES.as_bytes())], OF_THREE_LINES)
 }
 
 /// Lines, and boxes.
-const COMPARISONS: [Case<'static>; 2] = [
+const COMPARISONS: &[Case<'static>] = &[
     Case {
         words: &["compare", "x", "y"],
         out: COMPARISON_LINES,
@@ -47,10 +47,10 @@ const COMPARISONS: [Case<'static>; 2] = [
 #[test]
 fn comparison(rt: HostRuntime) -> Result<(), Fail> {
     let files = [("x", BEFORE.as_bytes()), ("y", AFTER.as_bytes())];
-    end_over(&rt, &files, &COMPARISONS)
+    end_over(&rt, &files, COMPARISONS)
 }
 
-const SNAPSHOTS: [Case<'static>; 1] = [Case {
+const SNAPSHOTS: &[Case<'static>] = &[Case {
     words: &["graph", "--width", "10", "--every", "2", "x"],
     out: SNAPSHOT_LINES,
     ..SILENT
@@ -58,11 +58,11 @@ const SNAPSHOTS: [Case<'static>; 1] = [Case {
 
 #[test]
 fn snapshots_of_one_source(rt: HostRuntime) -> Result<(), Fail> {
-    end_over(&rt, &[("x", FIVE_LINES.as_bytes())], &SNAPSHOTS)
+    end_over(&rt, &[("x", FIVE_LINES.as_bytes())], SNAPSHOTS)
 }
 
 /// The table, and the greatest totals.
-const TOPS: [Case<'static>; 2] = [
+const TOPS: &[Case<'static>] = &[
     Case {
         words: &["top", "x"],
         out: FUNCTIONS,
@@ -77,7 +77,7 @@ const TOPS: [Case<'static>; 2] = [
 
 #[test]
 fn functions_by_weight(rt: HostRuntime) -> Result<(), Fail> {
-    end_over(&rt, &[("x", CALLS.as_bytes())], &TOPS)
+    end_over(&rt, &[("x", CALLS.as_bytes())], TOPS)
 }
 
 /// A file and an input of one line each.
@@ -121,7 +121,7 @@ fn helps<T: Threads + Wait + AllocGlobal + Abort + Copy + Send + 'static>(
     Ok(())
 }
 
-const REFUSED_WORDS: [[&str; 3]; 4] = [
+const REFUSED_WORDS: &[[&str; 3]] = &[
     ["graph", "--width", "0"],
     ["fold", "--every", "2"],
     ["compare", "x", "--boxes"],
@@ -130,7 +130,7 @@ const REFUSED_WORDS: [[&str; 3]; 4] = [
 
 #[test]
 fn refused_words(rt: HostRuntime) -> Result<(), Fail> {
-    for words in &REFUSED_WORDS {
+    for words in REFUSED_WORDS {
         refuses(&rt, words)?;
     }
     helps(&rt)

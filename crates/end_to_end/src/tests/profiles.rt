@@ -26,7 +26,7 @@ const LOSSY: &[u8] = &[
 ];
 
 /// Under each name of profiles.
-const NAMED: [Case<'static>; 3] = [
+const NAMED: &[Case<'static>] = &[
     Case {
         words: &["fold", "cpu.prof"],
         files: &[("cpu.prof", SMALLEST)],
@@ -49,11 +49,11 @@ const NAMED: [Case<'static>; 3] = [
 
 #[test]
 fn smallest_profile(rt: HostRuntime) -> Result<(), Fail> {
-    end_so(&rt, &NAMED)
+    end_so(&rt, NAMED)
 }
 
 /// The preferred value, one by its name, and one that is not there.
-const PICKED: [Case<'static>; 3] = [
+const PICKED: &[Case<'static>] = &[
     Case {
         words: &["fold", "x.pb"],
         files: &[("x.pb", BASE)],
@@ -77,10 +77,10 @@ const PICKED: [Case<'static>; 3] = [
 
 #[test]
 fn picking_a_value(rt: HostRuntime) -> Result<(), Fail> {
-    end_so(&rt, &PICKED)
+    end_so(&rt, PICKED)
 }
 
-const ODD_NAMES: [Case<'static>; 3] = [
+const ODD_NAMES: &[Case<'static>] = &[
     Case {
         words: &["fold", "x.pb"],
         files: &[("x.pb", ADDRESS)],
@@ -103,10 +103,10 @@ const ODD_NAMES: [Case<'static>; 3] = [
 
 #[test]
 fn address_frames_and_lossy_names(rt: HostRuntime) -> Result<(), Fail> {
-    end_so(&rt, &ODD_NAMES)
+    end_so(&rt, ODD_NAMES)
 }
 
-const INLINED: [Case<'static>; 2] = [
+const INLINED: &[Case<'static>] = &[
     Case {
         words: &["fold", "x.pb"],
         files: &[("x.pb", INLINED_LINES)],
@@ -123,10 +123,10 @@ const INLINED: [Case<'static>; 2] = [
 
 #[test]
 fn lines_of_inlined_frames(rt: HostRuntime) -> Result<(), Fail> {
-    end_so(&rt, &INLINED)
+    end_so(&rt, INLINED)
 }
 
-const ONE_FUNCTION: [Case<'static>; 2] = [
+const ONE_FUNCTION: &[Case<'static>] = &[
     Case {
         words: &["fold", "x.pb"],
         files: &[("x.pb", TWO_LINES)],
@@ -143,10 +143,10 @@ const ONE_FUNCTION: [Case<'static>; 2] = [
 
 #[test]
 fn one_function_two_lines(rt: HostRuntime) -> Result<(), Fail> {
-    end_so(&rt, &ONE_FUNCTION)
+    end_so(&rt, ONE_FUNCTION)
 }
 
-const AS_TEXT: [Case<'static>; 1] = [Case {
+const AS_TEXT: &[Case<'static>] = &[Case {
     words: &["fold", "cpu.out"],
     files: &[("cpu.out", SMALLEST)],
     err: "flamecollect: cpu.out: ignored 3\n",
@@ -156,5 +156,5 @@ const AS_TEXT: [Case<'static>; 1] = [Case {
 // Under another name a profile is read as folded text, and almost all of it is ignored.
 #[test]
 fn profile_under_another_name(rt: HostRuntime) -> Result<(), Fail> {
-    end_so(&rt, &AS_TEXT)
+    end_so(&rt, AS_TEXT)
 }

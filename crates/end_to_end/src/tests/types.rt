@@ -5,7 +5,7 @@ use crate::tests::worked::{BASE, SMALLEST};
 use std::test::Fail;
 
 /// Of two types, and of one.
-const TYPES: [Case<'static>; 2] = [
+const TYPES: &[Case<'static>] = &[
     Case {
         words: &["types", "x.pb"],
         files: &[("x.pb", BASE)],
@@ -22,11 +22,11 @@ const TYPES: [Case<'static>; 2] = [
 
 #[test]
 fn types_of_profiles(rt: HostRuntime) -> Result<(), Fail> {
-    end_so(&rt, &TYPES)
+    end_so(&rt, TYPES)
 }
 
 /// A fault, and a file that is not there.
-const NO_PROFILES: [Case<'static>; 2] = [
+const NO_PROFILES: &[Case<'static>] = &[
     Case {
         words: &["types", "x.pb"],
         files: &[("x.pb", b"2\x01a")],
@@ -45,5 +45,5 @@ const NO_PROFILES: [Case<'static>; 2] = [
 
 #[test]
 fn types_of_no_profile(rt: HostRuntime) -> Result<(), Fail> {
-    end_so(&rt, &NO_PROFILES)
+    end_so(&rt, NO_PROFILES)
 }

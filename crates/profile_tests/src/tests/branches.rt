@@ -11,7 +11,7 @@ use std::alloc::{AllocError, Global};
 use std::process::Abort;
 use std::test::Fail;
 
-const NAMES: [Reading<'static>; 7] = [
+const NAMES: &[Reading<'static>] = &[
     (&[NAMELESS], PLAIN, "[unknown] 7\nclean"),
     (&[NAMELESS], LINES, "[unknown]:3 7\nclean"),
     (&[SYSTEM_NAME], PLAIN, "_m 7\nclean"),
@@ -23,21 +23,21 @@ const NAMES: [Reading<'static>; 7] = [
 
 #[test]
 fn names_and_addresses(rt: HostRuntime) -> Result<(), Fail> {
-    read_so(&rt, &NAMES)
+    read_so(&rt, NAMES)
 }
 
 /// The second is good, and the second is bad.
-const TWO_DEFAULTS: [Reading<'static>; 2] = [
+const TWO_DEFAULTS: &[Reading<'static>] = &[
     (&[BASE, b"\x70\x04\x70\x01"], PLAIN, "f 5\nclean"),
     (&[BASE, b"\x70\x01\x70\x04"], PLAIN, "BadString at 50"),
 ];
 
 #[test]
 fn default_twice(rt: HostRuntime) -> Result<(), Fail> {
-    read_so(&rt, &TWO_DEFAULTS)
+    read_so(&rt, TWO_DEFAULTS)
 }
 
-const ONE_NAME: [Reading<'static>; 3] = [
+const ONE_NAME: &[Reading<'static>] = &[
     (&[SAME_TYPES], BY_N, "f 5\nclean"),
     (&[SAME_TYPES, b"\x70\x01"], PLAIN, "f 5\nclean"),
     (&[SAME_TYPES], PLAIN, "f 9\nclean"),
@@ -45,7 +45,7 @@ const ONE_NAME: [Reading<'static>; 3] = [
 
 #[test]
 fn types_of_one_name(rt: HostRuntime) -> Result<(), Fail> {
-    read_so(&rt, &ONE_NAME)
+    read_so(&rt, ONE_NAME)
 }
 
 #[test]

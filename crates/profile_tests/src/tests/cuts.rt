@@ -10,29 +10,46 @@ use std::alloc::AllocError;
 use std::process::Abort;
 use std::test::Fail;
 
-/// How the smallest profile ends where only its first `len` bytes are there.
+/// How the smallest profile ends where fewer than so many of its first bytes are there, and no fewer than the row before says.
+const ENDINGS: &[(usize, &str)] = &[
+    (1, "clean"),
+    (6, "Truncated at 0"),
+    (7, "BadString at 0"),
+    (14, "Truncated at 6"),
+    (15, "BadString at 0"),
+    (22, "Truncated at 14"),
+    (23, "BadString at 0"),
+    (28, "Truncated at 22"),
+    (29, "BadString at 0"),
+    (30, "Truncated at 28"),
+    (31, "BadString at 0"),
+    (35, "Truncated at 30"),
+    (36, "BadString at 0"),
+    (39, "Truncated at 35"),
+    (40, "BadString at 22"),
+    (45, "Truncated at 39"),
+];
+
+/// How it ends where only its first `len` bytes are there.
 fn ending_of_cut(len: usize) -> &'static str {
-    match len {
-        0 => "clean",
-        6 | 14 | 22 | 28 | 30 | 35 => "BadString at 0",
-        39 => "BadString at 22",
-        1..6 => "Truncated at 0",
-        7..14 => "Truncated at 6",
-        15..22 => "Truncated at 14",
-        23..28 => "Truncated at 22",
-        29 => "Truncated at 28",
-        31..35 => "Truncated at 30",
-        36..39 => "Truncated at 35",
-        _ => "Truncated at 39",
+    for (limit, ending) in ENDINGS {
+        if len < *limit {
+            return ending;
+        }
     }
+    "no cut"
+}
+
+fn is_cut(rt: &(impl Abort + AllocGlobal), len: usize) -> Result<(), AllocError> {
+    let cut = SMALLEST.get(..len).expect(rt, "a cut");
+    reads_plainly(rt, &[cut], ending_of_cut(len))
 }
 
 #[test]
 fn compressed_and_cut(rt: HostRuntime) -> Result<(), Fail> {
     reads_plainly(&rt, &[b"\x1f\x8b\x08"], "Compressed at 0")?;
     for len in 0..45 {
-        let cut = SMALLEST.get(..len).expect(&rt, "a cut");
-        reads_plainly(&rt, &[cut], ending_of_cut(len))?;
+        is_cut(&rt, len)?;
     }
     Ok(())
 }
@@ -70,7 +87,7 @@ fn cuts_end(rt: &(impl Abort + AllocGlobal), files: &[&[&[u8]]]) -> Result<(), F
     Ok(())
 }
 
-const FILES: [&[&[u8]]; 12] = [
+const FILES: &[&[&[u8]]] = &[
     &[SMALLEST],
     &[UNPACKED],
     &[INLINED],
@@ -87,10 +104,10 @@ const FILES: [&[&[u8]]; 12] = [
 
 #[test]
 fn cut_profiles_end(rt: HostRuntime) -> Result<(), Fail> {
-    cuts_end(&rt, &FILES)
+    cuts_end(&rt, FILES)
 }
 
-const MORE_FILES: [&[&[u8]]; 7] = [
+const MORE_FILES: &[&[&[u8]]] = &[
     &[BASE, b"\x70\x01"],
     &[BASE, b"\x70\x03"],
     &[BASE, NEGATIVE],
@@ -113,7 +130,7 @@ fn cut_faults_end(
 
 #[test]
 fn cut_profiles_behind_base_end(rt: HostRuntime) -> Result<(), Fail> {
-    cut_faults_end(&rt, &SAMPLE_FAULTS)?;
-    cut_faults_end(&rt, &TABLE_FAULTS)?;
-    cuts_end(&rt, &MORE_FILES)
+    cut_faults_end(&rt, SAMPLE_FAULTS)?;
+    cut_faults_end(&rt, TABLE_FAULTS)?;
+    cuts_end(&rt, MORE_FILES)
 }

@@ -44,7 +44,7 @@ fn is_deep(
 }
 
 /// How often a sample names its location, how many lines that has, and what is read.
-const DEPTHS: [(usize, usize, &str); 4] = [
+const DEPTHS: &[(usize, usize, &str)] = &[
     (4_096, 1, "4096 frames"),
     (4_097, 1, "TooDeep at 6"),
     (1, 4_096, "4096 frames"),
@@ -53,7 +53,7 @@ const DEPTHS: [(usize, usize, &str); 4] = [
 
 #[test]
 fn limits_of_weights_and_depth_by_depth(rt: HostRuntime) -> Result<(), Fail> {
-    for (ids, lines, wanted) in &DEPTHS {
+    for (ids, lines, wanted) in DEPTHS {
         is_deep(&rt, *ids, *lines, wanted)?;
     }
     Ok(())

@@ -69,7 +69,7 @@ pub(super) const TWO_LINES: &[u8] = &[
     0x6e, 0x32, 0x01, 0x66,
 ];
 /// What gives a fault behind `BASE` before its samples are read, and the fault.
-pub(super) const TABLE_FAULTS: [(&[u8], &str); 8] = [
+pub(super) const TABLE_FAULTS: &[(&[u8], &str)] = &[
     (
         b"\x80\x80\x80\x80\x80\x80\x80\x80\x80\x02",
         "BadVarint at 48",
@@ -83,7 +83,7 @@ pub(super) const TABLE_FAULTS: [(&[u8], &str); 8] = [
     (b"\x70\x04", "BadString at 48"),
 ];
 /// What gives a fault behind `BASE` and its sample, and what is read.
-pub(super) const SAMPLE_FAULTS: [(&[u8], &str); 3] = [
+pub(super) const SAMPLE_FAULTS: &[(&[u8], &str)] = &[
     (b"\x12\x02\x0a\x05", "f 9\nTruncated at 48"),
     (b"\x12\x06\x0a\x01\x01\x12\x01\x07", "f 9\nValueCount at 48"),
     (

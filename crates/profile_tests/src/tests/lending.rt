@@ -91,7 +91,7 @@ pub(super) fn say_so(rt: &(impl Abort + AllocGlobal), sayings: &[Saying<'_>]) ->
     Ok(())
 }
 
-const FRAMES: [Saying<'static>; 7] = [
+const FRAMES: &[Saying<'static>] = &[
     (&[INLINED], PLAIN, Question::Frames(1), "printf;memcpy"),
     (&[INLINED], LINES, Question::Frames(1), "printf;memcpy"),
     (
@@ -113,11 +113,11 @@ const FRAMES: [Saying<'static>; 7] = [
 
 #[test]
 fn frames_of_locations(rt: HostRuntime) -> Result<(), Fail> {
-    say_so(&rt, &FRAMES)
+    say_so(&rt, FRAMES)
 }
 
 /// The place of the value that is picked from the two of `BASE`, also with more behind it.
-const CHOSEN: [Saying<'static>; 4] = [
+const CHOSEN: &[Saying<'static>] = &[
     (&[BASE], PLAIN, Question::Value, "1 of 2"),
     (&[BASE, b"\x70\x01"], PLAIN, Question::Value, "0 of 2"),
     (&[BASE, b"\x70\x03"], PLAIN, Question::Value, "1 of 2"),
@@ -126,10 +126,10 @@ const CHOSEN: [Saying<'static>; 4] = [
 
 #[test]
 fn chosen_of_tables(rt: HostRuntime) -> Result<(), Fail> {
-    say_so(&rt, &CHOSEN)
+    say_so(&rt, CHOSEN)
 }
 
-const REFUSED: [Saying<'static>; 4] = [
+const REFUSED: &[Saying<'static>] = &[
     (
         &[b"\x32\x01\x61"],
         PLAIN,
@@ -156,7 +156,7 @@ fn picks_of_base(
 }
 
 fn refused_behind_base(rt: &(impl Abort + AllocGlobal)) -> Result<(), AllocError> {
-    for (more, fault) in &TABLE_FAULTS {
+    for (more, fault) in TABLE_FAULTS {
         picks_of_base(rt, more, fault)?;
     }
     Ok(())
@@ -165,13 +165,13 @@ fn refused_behind_base(rt: &(impl Abort + AllocGlobal)) -> Result<(), AllocError
 #[test]
 fn faults_of_tables(rt: HostRuntime) -> Result<(), Fail> {
     refused_behind_base(&rt)?;
-    say_so(&rt, &REFUSED)
+    say_so(&rt, REFUSED)
 }
 
 /// A fault of a sample is none of the tables.
 #[test]
 fn samples_are_not_looked_at(rt: HostRuntime) -> Result<(), Fail> {
-    for (more, _) in &SAMPLE_FAULTS {
+    for (more, _) in SAMPLE_FAULTS {
         picks_of_base(&rt, more, "1 of 2")?;
     }
     Ok(())

@@ -64,6 +64,35 @@ impl Told {
         self.append_line(text, row, weight)
     }
 
+    /// Appends the line of a sample, or answers the ending.
+    fn append_step(
+        &mut self,
+        text: &mut String,
+        step: RowStep,
+    ) -> Result<Option<SourceEnd>, AllocError> {
+        match step {
+            RowStep::New {
+                names,
+                frames,
+                weight,
+            } => self.take(text, names, frames, weight)?,
+            RowStep::Again { row, weight } => self.append_line(text, row, weight)?,
+            RowStep::End(ending) => return Ok(Some(ending)),
+        }
+        Ok(None)
+    }
+
+    /// The same of the next step of a reader.
+    fn append_next<R: RowReader>(
+        &mut self,
+        alloc: Global,
+        reader: &mut R,
+        text: &mut String,
+    ) -> Result<Option<SourceEnd>, AllocError> {
+        let step = reader.next_row(alloc)?;
+        self.append_step(text, step)
+    }
+
     /// Appends the samples that a reader gives by rows, and the ending.
     fn append_all<R: RowReader>(
         &mut self,
@@ -72,14 +101,8 @@ impl Told {
         text: &mut String,
     ) -> Result<(), AllocError> {
         for _ in 0..100 {
-            match reader.next_row(alloc)? {
-                RowStep::New {
-                    names,
-                    frames,
-                    weight,
-                } => self.take(text, names, frames, weight)?,
-                RowStep::Again { row, weight } => self.append_line(text, row, weight)?,
-                RowStep::End(ending) => return append_end(alloc, reader, text, ending),
+            if let Some(ending) = self.append_next(alloc, reader, text)? {
+                return append_end(alloc, reader, text, ending);
             }
         }
         text.push_str(ENDLESS)

@@ -13,7 +13,7 @@ const NOTHING: &[u8] = b"\x12\x06\x0a\x01\x01\x12\x01\x00";
 /// A sample of weight 1.
 const ONE: &[u8] = b"\x12\x06\x0a\x01\x01\x12\x01\x01";
 
-const WEIGHTS: [Reading<'static>; 2] = [
+const WEIGHTS: &[Reading<'static>] = &[
     (
         &[SMALLEST, THE_REST, NOTHING],
         PLAIN,
@@ -28,5 +28,5 @@ const WEIGHTS: [Reading<'static>; 2] = [
 
 #[test]
 fn limits_of_weights_and_depth_by_weights(rt: HostRuntime) -> Result<(), Fail> {
-    read_so(&rt, &WEIGHTS)
+    read_so(&rt, WEIGHTS)
 }

@@ -5,14 +5,55 @@ mod rows;
 mod told;
 
 use folded_lines::{FoldedReader, append_line, append_pair_line};
-use stack_core::{ReadKind, SampleReader, SourceEnd, Step};
+use rows::{Telling, tells_all};
+use stack_core::{Names, ReadFault, ReadKind, SampleReader, SourceEnd, Step};
 use std::alloc::{AllocError, Global};
 use std::process::Abort;
 use std::test::Fail;
 use told::read_rows;
 
+/// What a reader gives.
+#[derive(Clone, Copy)]
+enum Given<'a> {
+    /// These lines of its samples, and then this ending.
+    Samples(&'a [u8], SourceEnd),
+    /// The same by rows.
+    Rows(&'a [u8], SourceEnd),
+    /// Rows of which this is told.
+    Tellings(&'a [Telling<'a>]),
+    /// No sample, and its ending again and again.
+    Ending,
+    /// Two samples, which are these lines, and then its ending.
+    Two(&'a [u8]),
+}
+
 fn reader_of(alloc: Global, text: &[u8]) -> Result<FoldedReader, AllocError> {
     Ok(FoldedReader::over(text.to_vec(alloc)?))
+}
+
+fn reader_gives(
+    rt: &(impl Abort + AllocGlobal),
+    reader: &mut FoldedReader,
+    given: &Given<'_>,
+) -> Result<(), AllocError> {
+    match given {
+        Given::Samples(lines, ending) => samples_are(rt, reader, lines, *ending),
+        Given::Rows(lines, ending) => rows_are(rt, reader, lines, *ending),
+        Given::Tellings(tellings) => tells_all(rt, reader, tellings),
+        Given::Ending => ends_thrice(rt, reader),
+        Given::Two(lines) => two_are(rt, reader, lines),
+    }
+}
+
+/// A reader of a text gives this. It alone owns a reader, and has one `?`: at each of them the proof writes out the drop of a reader,
+/// field by field.
+fn gives(
+    rt: &(impl Abort + AllocGlobal),
+    text: &[u8],
+    given: &Given<'_>,
+) -> Result<(), AllocError> {
+    let mut reader = reader_of(rt.alloc(), text)?;
+    reader_gives(rt, &mut reader, given)
 }
 
 /// Appends the line of a sample, as `append_line` writes it, or answers the ending.
@@ -89,55 +130,48 @@ fn rows_are(
     Ok(())
 }
 
-fn has_samples(
-    rt: &(impl Abort + AllocGlobal),
-    text: &[u8],
-    lines: &[u8],
-    ending: SourceEnd,
-) -> Result<(), AllocError> {
-    let mut reader = reader_of(rt.alloc(), text)?;
-    samples_are(rt, &mut reader, lines, ending)
-}
-
-fn has_rows(
-    rt: &(impl Abort + AllocGlobal),
-    text: &[u8],
-    lines: &[u8],
-    ending: SourceEnd,
-) -> Result<(), AllocError> {
-    let mut reader = reader_of(rt.alloc(), text)?;
-    rows_are(rt, &mut reader, lines, ending)
-}
-
 fn reads_as(
     rt: &(impl Abort + AllocGlobal),
     text: &[u8],
     lines: &[u8],
     ending: SourceEnd,
 ) -> Result<(), AllocError> {
-    has_samples(rt, text, lines, ending)?;
-    has_rows(rt, text, lines, ending)
+    gives(rt, text, &Given::Samples(lines, ending))?;
+    gives(rt, text, &Given::Rows(lines, ending))
 }
 
 fn clean(ignored: u64) -> SourceEnd {
     SourceEnd::Clean { ignored }
 }
 
-fn fault(kind: ReadKind, at: u64) -> SourceEnd {
-    SourceEnd::Fault(stack_core::ReadFault { kind, at })
+/// A text, the lines of its samples, and the fault that it ends with.
+type Fault<'a> = (&'a [u8], &'a [u8], ReadKind, u64);
+
+fn end_in_faults(rt: &(impl Abort + AllocGlobal), faults: &[Fault<'_>]) -> Result<(), AllocError> {
+    for (text, lines, kind, at) in faults {
+        let fault = ReadFault {
+            kind: *kind,
+            at: *at,
+        };
+        reads_as(rt, text, lines, SourceEnd::Fault(fault))?;
+    }
+    Ok(())
 }
 
 fn append_odd_line(alloc: Global, out: &mut Vec<u8>) -> Result<(), AllocError> {
-    let stack = [String::from_str(alloc, "a 1")?];
-    append_line(alloc, out, &stack, 2)
+    let stack = Names::from_strs(alloc, &["a 1"])?;
+    append_line(alloc, out, stack.get(), 2)
+}
+
+fn odd_line_is_fault(rt: &(impl Abort + AllocGlobal), out: &mut Vec<u8>) -> Result<(), AllocError> {
+    append_odd_line(rt.alloc(), out)?;
+    are_lines(rt, out, b"a 1 2\n");
+    end_in_faults(rt, &[(out, b"", ReadKind::TwoColumns, 1)])
 }
 
 #[test]
 fn lines_writers_and_limits(rt: HostRuntime) -> Result<(), Fail> {
-    let mut out = Vec::new(rt.alloc());
-    append_odd_line(rt.alloc(), &mut out)?;
-    are_lines(&rt, &out, b"a 1 2\n");
-    reads_as(&rt, out.as_slice(), b"", fault(ReadKind::TwoColumns, 1))?;
+    odd_line_is_fault(&rt, &mut Vec::new(rt.alloc()))?;
     Ok(())
 }
 
@@ -148,8 +182,8 @@ fn append_pair(
     before: u64,
     after: u64,
 ) -> Result<(), AllocError> {
-    let stack = [String::from_str(alloc, name)?];
-    append_pair_line(alloc, out, &stack, before, after)
+    let stack = Names::from_strs(alloc, &[name])?;
+    append_pair_line(alloc, out, stack.get(), before, after)
 }
 
 fn append_pairs(alloc: Global, out: &mut Vec<u8>) -> Result<(), AllocError> {
@@ -191,8 +225,7 @@ fn ends_thrice(
 
 #[test]
 fn ending_again(rt: HostRuntime) -> Result<(), Fail> {
-    let mut reader = reader_of(rt.alloc(), b"x\n")?;
-    ends_thrice(&rt, &mut reader)?;
+    gives(&rt, b"x\n", &Given::Ending)?;
     Ok(())
 }
 
@@ -206,20 +239,21 @@ fn append_two(
     Ok(())
 }
 
-fn reads_as_on_the_page(
+fn two_are(
     rt: &(impl Abort + AllocGlobal),
     reader: &mut FoldedReader,
+    lines: &[u8],
 ) -> Result<(), AllocError> {
     let mut again = Vec::new(rt.alloc());
     append_two(rt.alloc(), reader, &mut again)?;
-    are_lines(rt, &again, b"main;parse 5\nmain 2\n");
+    are_lines(rt, &again, lines);
     ends(rt, reader)
 }
 
 /// The lines of README.md.
 #[test]
 fn example_of_the_page(rt: HostRuntime) -> Result<(), Fail> {
-    let mut reader = reader_of(rt.alloc(), b"main;parse 5\nno count\nmain 2\n")?;
-    reads_as_on_the_page(&rt, &mut reader)?;
+    let two = Given::Two(b"main;parse 5\nmain 2\n");
+    gives(&rt, b"main;parse 5\nno count\nmain 2\n", &two)?;
     Ok(())
 }

@@ -1,5 +1,6 @@
 //! Small profiles, decoded.
 
+use super::texts::is_text;
 use profile_messages::{
     CheckedProfile, Index, Numbers, Profile, SampleType, SampleTypes, TableFault, chosen_type,
     content_at, numbers_of, sample_types, string_at,
@@ -15,8 +16,8 @@ const SMALLEST: &[u8] = b"\x0a\x04\x08\x01\x10\x02\x12\x06\x0a\x01\x01\x12\x01\x
 \x22\x06\x08\x01\x22\x02\x08\x01\x2a\x04\x08\x01\x10\x03\x32\x00\x32\x03cpu\x32\x02ns\x32\x04main";
 
 fn is_type(rt: &impl Abort, found: &SampleType, name: &str, unit: &str) {
-    assert_eq!(rt; found.name.get(), name);
-    assert_eq!(rt; found.unit.get(), unit);
+    is_text(rt, found.name.get(), name);
+    is_text(rt, found.unit.get(), unit);
 }
 
 fn are_of_the_page(rt: &impl Abort, found: &SampleTypes) {
@@ -50,26 +51,34 @@ fn types_of_two(rt: &(impl Abort + AllocGlobal), file: &[u8], default: usize) {
     are_two(rt, &found, default);
 }
 
-/// The two types, and with the first as the default.
-fn has_either_default(
-    rt: &(impl Abort + AllocGlobal),
-    file: &mut Vec<u8>,
-) -> Result<(), AllocError> {
-    types_of_two(rt, file, 1);
+/// A file with the first type as the default.
+fn with_first_as_default(alloc: Global, file: &[u8]) -> Result<Vec<u8>, AllocError> {
+    let mut file = file.to_vec(alloc)?;
     file.extend_from_slice(b"\x70\x01")?;
-    types_of_two(rt, file, 0);
+    Ok(file)
+}
+
+/// The two types, and with the first as the default.
+fn has_either_default(rt: &(impl Abort + AllocGlobal), file: &[u8]) -> Result<(), AllocError> {
+    types_of_two(rt, file, 1);
+    let first = with_first_as_default(rt.alloc(), file)?;
+    types_of_two(rt, first.as_slice(), 0);
     Ok(())
 }
 
 #[test]
 fn two_types(rt: HostRuntime) -> Result<(), Fail> {
-    let mut file = TWO_TYPES.to_vec(rt.alloc())?;
-    has_either_default(&rt, &mut file)?;
+    has_either_default(&rt, TWO_TYPES)?;
     Ok(())
 }
 
-fn is_fault(refused: Option<TableFault>, kind: ReadKind, at: u64) -> bool {
-    refused == Some(TableFault::Read(ReadFault { kind, at }))
+fn is_fault(rt: &impl Abort, refused: Option<TableFault>, kind: ReadKind, at: u64) {
+    assert!(rt; refused == Some(TableFault::Read(ReadFault { kind, at })));
+}
+
+/// The file is refused for this fault.
+fn types_are_refused(rt: &(impl Abort + AllocGlobal), file: &[u8], kind: ReadKind, at: u64) {
+    is_fault(rt, sample_types(rt.alloc(), file).err(), kind, at);
 }
 
 fn types_are(rt: &(impl Abort + AllocGlobal), file: &[u8], count: usize, default: Option<usize>) {
@@ -77,53 +86,67 @@ fn types_are(rt: &(impl Abort + AllocGlobal), file: &[u8], count: usize, default
     assert!(rt; found.types.get().len() == count && found.default == default);
 }
 
+/// The two types without their sample.
+const WITHOUT_SAMPLE: &[u8] = b"\x0a\x04\x08\x01\x10\x02\x0a\x02\x08\x03\
+\x32\x00\x32\x01n\x32\x02ms\x32\x02;\xff";
+
 #[test]
 fn types_without_samples(rt: HostRuntime) -> Result<(), Fail> {
-    let refused = sample_types(rt.alloc(), &SMALLEST[..6]).err();
-    assert!(rt; is_fault(refused, ReadKind::BadString, 0));
+    types_are_refused(&rt, b"\x0a\x04\x08\x01\x10\x02", ReadKind::BadString, 0);
     types_are(&rt, b"\x0a\x00", 1, Some(0));
     types_are(&rt, b"", 0, None);
-    // The same two without their sample, and with the first as the default.
-    let mut file = TWO_TYPES[..10].to_vec(rt.alloc())?;
-    file.extend_from_slice(&TWO_TYPES[14..])?;
-    has_either_default(&rt, &mut file)?;
+    has_either_default(&rt, WITHOUT_SAMPLE)?;
     Ok(())
 }
 
-/// The type of the value that is chosen by a name.
-fn chosen_by(
-    rt: &(impl Abort + AllocGlobal),
-    name: &str,
-) -> Result<Result<Option<SampleType>, TableFault>, AllocError> {
-    let pick = Pick::Named(Text::from_str(rt.alloc(), name)?);
-    Ok(chosen_type(rt.alloc(), TWO_TYPES, &pick))
+fn named(alloc: Global, name: &str) -> Result<Pick, AllocError> {
+    Ok(Pick::Named(Text::from_str(alloc, name)?))
 }
 
-fn is_chosen(
-    rt: &impl Abort,
-    found: Result<Option<SampleType>, TableFault>,
+/// The type of the value that is chosen of the two.
+fn is_chosen(rt: &(impl Abort + AllocGlobal), pick: &Pick, name: &str, unit: &str) {
+    let found = chosen_type(rt.alloc(), TWO_TYPES, pick).expect(rt, "a profile");
+    is_type(rt, &found.expect(rt, "the type"), name, unit);
+}
+
+fn is_chosen_by_name(
+    rt: &(impl Abort + AllocGlobal),
     name: &str,
     unit: &str,
-) {
-    let found = found.expect(rt, "a profile").expect(rt, "the type");
-    is_type(rt, &found, name, unit);
+) -> Result<(), AllocError> {
+    let pick = named(rt.alloc(), name)?;
+    is_chosen(rt, &pick, name, unit);
+    Ok(())
+}
+
+fn none_is_chosen(rt: &(impl Abort + AllocGlobal), file: &[u8]) {
+    let found = chosen_type(rt.alloc(), file, &Pick::Preferred);
+    assert!(rt; matches!(found, Ok(None)));
 }
 
 #[test]
 fn chosen_types(rt: HostRuntime) -> Result<(), Fail> {
-    is_chosen(&rt, chosen_by(&rt, "n")?, "n", "ms");
-    let preferred = chosen_type(rt.alloc(), TWO_TYPES, &Pick::Preferred);
-    is_chosen(&rt, preferred, ";\u{fffd}", "");
-    let none = chosen_type(rt.alloc(), b"\x0a\x00", &Pick::Preferred);
-    assert!(rt; matches!(none, Ok(None)));
+    is_chosen_by_name(&rt, "n", "ms")?;
+    is_chosen(&rt, &Pick::Preferred, ";\u{fffd}", "");
+    none_is_chosen(&rt, b"\x0a\x00");
     Ok(())
+}
+
+/// The fault of a choice of the two.
+fn fault_of_choice(alloc: Global, pick: &Pick) -> Option<TableFault> {
+    chosen_type(alloc, TWO_TYPES, pick).err()
 }
 
 #[test]
 fn faults_before_a_chosen_type(rt: HostRuntime) -> Result<(), Fail> {
-    let refused = chosen_by(&rt, "other")?.err();
+    let pick = named(rt.alloc(), "other")?;
     let end = TWO_TYPES.len() as u64;
-    assert!(rt; is_fault(refused, ReadKind::UnknownSampleType, end));
+    is_fault(
+        &rt,
+        fault_of_choice(rt.alloc(), &pick),
+        ReadKind::UnknownSampleType,
+        end,
+    );
     Ok(())
 }
 
@@ -174,19 +197,25 @@ fn fault_of(alloc: Global, file: &[u8]) -> Option<TableFault> {
     CheckedProfile::of(alloc, file, &Pick::Preferred).err()
 }
 
+fn has_fault(rt: &(impl Abort + AllocGlobal), file: &[u8], kind: ReadKind, at: u64) {
+    is_fault(rt, fault_of(rt.alloc(), file), kind, at);
+}
+
+fn has_no_fault(rt: &(impl Abort + AllocGlobal), file: &[u8]) {
+    assert!(rt; fault_of(rt.alloc(), file).is_none());
+}
+
+const OF_AN_UNKNOWN_FUNCTION: &[u8] = b"\x22\x06\x08\x01\x22\x02\x08\x07";
+
 #[test]
 fn faults_of_tables(rt: HostRuntime) {
-    let string_zero = fault_of(rt.alloc(), b"\x32\x01\x61");
-    let string = fault_of(rt.alloc(), b"\x32\x00\x70\x01");
-    let function = fault_of(rt.alloc(), b"\x22\x06\x08\x01\x22\x02\x08\x07");
-    assert!(rt; fault_of(rt.alloc(), SMALLEST).is_none());
-    assert!(rt; is_fault(string_zero, ReadKind::BadStringZero, 0));
-    assert!(rt; is_fault(string, ReadKind::BadString, 2));
-    assert!(rt; is_fault(function, ReadKind::UnknownFunction, 0));
+    has_no_fault(&rt, SMALLEST);
+    has_fault(&rt, b"\x32\x01\x61", ReadKind::BadStringZero, 0);
+    has_fault(&rt, b"\x32\x00\x70\x01", ReadKind::BadString, 2);
+    has_fault(&rt, OF_AN_UNKNOWN_FUNCTION, ReadKind::UnknownFunction, 0);
 }
 
 #[test]
 fn fault_of_a_message(rt: HostRuntime) {
-    let refused = fault_of(rt.alloc(), b"\x32\x00\x0a\x01\x08");
-    assert!(rt; is_fault(refused, ReadKind::Truncated, 2));
+    has_fault(&rt, b"\x32\x00\x0a\x01\x08", ReadKind::Truncated, 2);
 }

@@ -1,3 +1,4 @@
+use super::texts::is_written;
 use std::process::Abort;
 use std::test::*;
 use wire_fields::{Field, FieldValue, Fields, Packed, WireFault, WireKind, laws};
@@ -51,19 +52,28 @@ fn is_cut(rt: &impl Abort, packed: &mut Packed<'_>) {
 }
 
 fn ends_twice(rt: &impl Abort, fields: &mut Fields<'_>) {
-    gives(rt, fields, varint_field(1, 0, 150));
     ends(rt, fields);
     ends(rt, fields);
 }
 
-fn are_three(rt: &impl Abort, packed: &mut Packed<'_>) {
-    gives_numbers(rt, packed, &[1, 0, 300]);
-    ends_numbers(rt, packed);
+/// A message of one field.
+fn is_field(rt: &impl Abort, message: &[u8], field: Field<'_>) {
+    let mut fields = Fields::over(message);
+    gives(rt, &mut fields, field);
+    ends_twice(rt, &mut fields);
 }
 
-fn is_cut_twice(rt: &impl Abort, packed: &mut Packed<'_>) {
-    is_cut(rt, packed);
-    is_cut(rt, packed);
+/// A run of these numbers.
+fn are_numbers(rt: &impl Abort, run: &[u8], numbers: &[u64]) {
+    let mut packed = Packed::over(run);
+    gives_numbers(rt, &mut packed, numbers);
+    ends_numbers(rt, &mut packed);
+}
+
+fn is_cut_twice(rt: &impl Abort, run: &[u8]) {
+    let mut packed = Packed::over(run);
+    is_cut(rt, &mut packed);
+    is_cut(rt, &mut packed);
 }
 
 const LAST_NUMBER: &[u8] = &[0xf8, 0xff, 0xff, 0xff, 0x0f, 0x00];
@@ -78,15 +88,19 @@ const PAST_LARGEST: &[u8] = &[
     0x08, 0xff, 0xff, 0xff, 0xff, 0xff, 0xff, 0xff, 0xff, 0xff, 0x02,
 ];
 
+fn limits_of_fields(rt: &impl Abort) {
+    begins_with(rt, LAST_NUMBER, varint_field(536_870_911, 0, 0));
+    is_fault(rt, PAST_LAST_NUMBER, WireKind::BadFieldNumber);
+    begins_with(rt, LARGEST, varint_field(1, 0, u64::MAX));
+    is_fault(rt, PAST_LARGEST, WireKind::BadVarint);
+}
+
 #[test]
 fn fields_and_packed(rt: HostRuntime) {
-    ends_twice(&rt, &mut Fields::over(&[0x08, 0x96, 0x01]));
-    begins_with(&rt, LAST_NUMBER, varint_field(536_870_911, 0, 0));
-    is_fault(&rt, PAST_LAST_NUMBER, WireKind::BadFieldNumber);
-    begins_with(&rt, LARGEST, varint_field(1, 0, u64::MAX));
-    is_fault(&rt, PAST_LARGEST, WireKind::BadVarint);
-    are_three(&rt, &mut Packed::over(&[0x01, 0x80, 0x00, 0xac, 0x02]));
-    is_cut_twice(&rt, &mut Packed::over(&[0x80]));
+    is_field(&rt, b"\x08\x96\x01", varint_field(1, 0, 150));
+    limits_of_fields(&rt);
+    are_numbers(&rt, b"\x01\x80\x00\xac\x02", &[1, 0, 300]);
+    is_cut_twice(&rt, b"\x80");
 }
 
 // A length of 2^64-1.
@@ -124,12 +138,16 @@ const FOUR: Field<'static> = Field {
     value: FieldValue::Four([9, 10, 11, 12]),
 };
 
+fn faults_twice(rt: &impl Abort, fields: &mut Fields<'_>, kind: WireKind, at: usize) {
+    faults(rt, fields, kind, at);
+    faults(rt, fields, kind, at);
+}
+
 fn are_wire_types(rt: &impl Abort, fields: &mut Fields<'_>) {
     gives(rt, fields, STRING);
     gives(rt, fields, EIGHT);
     gives(rt, fields, FOUR);
-    faults(rt, fields, WireKind::BadWireType, 23);
-    faults(rt, fields, WireKind::BadWireType, 23);
+    faults_twice(rt, fields, WireKind::BadWireType, 23);
 }
 
 #[test]
@@ -147,10 +165,8 @@ fn laws_of_the_readings() {
 
 #[test]
 fn faults_are_written(rt: HostRuntime) -> Result<(), Fail> {
-    let text = fault(WireKind::BadVarint, 3).to_string(rt.alloc())?;
-    assert_eq!(rt; text.as_str(), "BadVarint at 3");
-    let text = WireKind::Truncated.to_string(rt.alloc())?;
-    assert_eq!(rt; text.as_str(), "Truncated");
+    is_written(&rt, &fault(WireKind::BadVarint, 3), "BadVarint at 3")?;
+    is_written(&rt, &WireKind::Truncated, "Truncated")?;
     Ok(())
 }
 
@@ -160,22 +176,22 @@ fn next<'a>(rt: &impl Abort, fields: &mut Fields<'a>) -> Field<'a> {
     field.expect(rt, "a field")
 }
 
-fn is_run_of_the_page(rt: &impl Abort, run: &[u8]) {
-    let mut packed = Packed::over(run);
-    gives_numbers(rt, &mut packed, &[5, 9]);
-    ends_numbers(rt, &mut packed);
+fn is_first_of_the_page(rt: &impl Abort, field: Field<'_>) {
+    assert!(rt; field.number == 1);
+    assert!(rt; field.value == FieldValue::Varint(150));
+}
+
+fn is_second_of_the_page(rt: &impl Abort, field: Field<'_>) {
+    assert!(rt; field.at == 3);
+    match field.value {
+        FieldValue::Bytes(run) => are_numbers(rt, run, &[5, 9]),
+        _ => assert!(rt; false, "a run of bytes"),
+    }
 }
 
 fn are_of_the_page(rt: &impl Abort, fields: &mut Fields<'_>) {
-    let field = next(rt, fields);
-    assert!(rt; field.number == 1);
-    assert!(rt; field.value == FieldValue::Varint(150));
-    let field = next(rt, fields);
-    assert!(rt; field.at == 3);
-    match field.value {
-        FieldValue::Bytes(run) => is_run_of_the_page(rt, run),
-        _ => assert!(rt; false, "a run of bytes"),
-    }
+    is_first_of_the_page(rt, next(rt, fields));
+    is_second_of_the_page(rt, next(rt, fields));
     ends(rt, fields);
 }
 

@@ -1,7 +1,7 @@
 //! Listings of trees by the names of a table.
 ghost use Rattle.call_tree.specs.Listing.{AreIn, HasNumbersOf};
 
-use super::add;
+use super::{add, intern_all};
 use call_tree::{CallTree, FrameTable, Visit};
 use std::alloc::{AllocError, Global};
 use std::process::Abort;
@@ -21,14 +21,6 @@ fn table_of(rt: &impl Abort, alloc: Global, names: &[&str]) -> Result<FrameTable
     let mut table = FrameTable::new(alloc);
     intern_all(rt, &mut table, names)?;
     Ok(table)
-}
-
-fn intern_all(rt: &impl Abort, table: &mut FrameTable, names: &[&str]) -> Result<(), AllocError> {
-    for (number, name) in names.iter().enumerate() {
-        let found = table.intern(name)?;
-        assert!(rt; found == number);
-    }
-    Ok(())
 }
 
 /// Adds a weight at each path.
@@ -60,85 +52,79 @@ fn listed(
     tree.listing(table)
 }
 
-/// The visits of the listing by name.
-const BY_NAME: [Visit; 4] = [
-    Visit {
-        depth: 0,
-        frame: 0,
-        total: 3,
-        own: 0,
-    },
-    Visit {
-        depth: 1,
-        frame: 1,
-        total: 1,
-        own: 0,
-    },
-    Visit {
-        depth: 2,
-        frame: 0,
-        total: 1,
-        own: 1,
-    },
-    Visit {
-        depth: 1,
-        frame: 0,
-        total: 2,
-        own: 2,
-    },
-];
+/// The depth, the frame, the total and the own weight of a visit.
+type Row = (usize, usize, u128, u128);
 
-fn lists_by_name(rt: &impl Abort, alloc: Global, table: &FrameTable) -> Result<(), Fail> {
-    let visits = listed(rt, alloc, table, &[(&[0], 2), (&[1, 0], 1)])?;
-    assert!(rt; visits.as_slice() == BY_NAME.as_slice());
+fn is_row(visit: &Visit, row: &Row) -> bool {
+    let (depth, frame, total, own) = row;
+    visit.depth == *depth && visit.frame == *frame && visit.total == *total && visit.own == *own
+}
+
+fn visits_are(rt: &impl Abort, visits: &[Visit], rows: &[Row]) {
+    assert!(rt; visits.len() == rows.len());
+    for at in 0..visits.len() {
+        assert!(rt; is_row(&visits[at], &rows[at]));
+    }
+}
+
+fn table_lists(
+    rt: &impl Abort,
+    alloc: Global,
+    table: &FrameTable,
+    weights: &[(&[usize], u64)],
+    rows: &[Row],
+) -> Result<(), Fail> {
+    let visits = listed(rt, alloc, table, weights)?;
+    visits_are(rt, &visits, rows);
     Ok(())
 }
+
+/// A tree of these weights, whose frames have these names, is listed so.
+fn lists(
+    rt: &(impl Abort + AllocGlobal),
+    names: &[&str],
+    weights: &[(&[usize], u64)],
+    rows: &[Row],
+) -> Result<(), Fail> {
+    let table = table_of(rt, rt.alloc(), names)?;
+    table_lists(rt, rt.alloc(), &table, weights, rows)
+}
+
+const TWO_PATHS: &[(&[usize], u64)] = &[(&[0], 2), (&[1, 0], 1)];
+
+const BY_NAME: &[Row] = &[(0, 0, 3, 0), (1, 1, 1, 0), (2, 0, 1, 1), (1, 0, 2, 2)];
 
 /// The numbers rise as the names fall, and a listing goes by the names.
 #[test]
 fn listing_by_name(rt: HostRuntime) -> Result<(), Fail> {
-    let table = table_of(&rt, rt.alloc(), &["b", "a"])?;
-    lists_by_name(&rt, rt.alloc(), &table)
+    lists(&rt, &["b", "a"], TWO_PATHS, BY_NAME)
 }
 
-/// Depths and frames of visits.
-fn visits_are(rt: &impl Abort, visits: &[Visit], expected: &[(usize, usize)]) {
-    assert!(rt; visits.len() == expected.len());
-    for at in 0..visits.len() {
-        assert!(rt; (visits[at].depth, visits[at].frame) == expected[at]);
-    }
-}
+const SIX_PATHS: &[(&[usize], u64)] = &[
+    (&[0, 1], 1),
+    (&[2], 1),
+    (&[0, 2, 1], 1),
+    (&[1], 1),
+    (&[0, 0], 1),
+    (&[2, 1], 1),
+];
 
-fn lists_levels(rt: &impl Abort, alloc: Global, table: &FrameTable) -> Result<(), Fail> {
-    let weights: [(&[usize], u64); 6] = [
-        (&[0, 1], 1),
-        (&[2], 1),
-        (&[0, 2, 1], 1),
-        (&[1], 1),
-        (&[0, 0], 1),
-        (&[2, 1], 1),
-    ];
-    let visits = listed(rt, alloc, table, &weights)?;
-    let expected = [
-        (0, 0),
-        (1, 1),
-        (1, 2),
-        (2, 1),
-        (1, 0),
-        (2, 1),
-        (2, 2),
-        (3, 1),
-        (2, 0),
-    ];
-    visits_are(rt, &visits, &expected);
-    Ok(())
-}
+const LEVELS: &[Row] = &[
+    (0, 0, 6, 0),
+    (1, 1, 1, 1),
+    (1, 2, 2, 1),
+    (2, 1, 1, 1),
+    (1, 0, 3, 0),
+    (2, 1, 1, 1),
+    (2, 2, 1, 0),
+    (3, 1, 1, 1),
+    (2, 0, 1, 1),
+];
 
 /// Nodes on three levels, made in another order than that of their names.
 #[test]
 fn listing_of_levels(rt: HostRuntime) -> Result<(), Fail> {
-    let table = table_of(&rt, rt.alloc(), &["c", "a", "b"])?;
-    lists_levels(&rt, rt.alloc(), &table)
+    lists(&rt, &["c", "a", "b"], SIX_PATHS, LEVELS)
 }
 
 /// One visit at each depth, of weight 1.
@@ -149,11 +135,20 @@ fn is_one_path(rt: &impl Abort, visits: &[Visit]) {
     }
 }
 
-fn lists_deep_path(rt: &impl Abort, alloc: Global, table: &FrameTable) -> Result<(), Fail> {
-    let path = vec![in alloc; 0; 4096]?;
-    let visits = listed(rt, alloc, table, &[(&path, 1)])?;
+fn lists_one_path(
+    rt: &impl Abort,
+    alloc: Global,
+    table: &FrameTable,
+    path: &[usize],
+) -> Result<(), Fail> {
+    let visits = listed(rt, alloc, table, &[(path, 1)])?;
     is_one_path(rt, &visits);
     Ok(())
+}
+
+fn lists_deep_path(rt: &impl Abort, alloc: Global, table: &FrameTable) -> Result<(), Fail> {
+    let path = vec![in alloc; 0; 4096]?;
+    lists_one_path(rt, alloc, table, path.as_slice())
 }
 
 /// The deepest path that a stack can have.

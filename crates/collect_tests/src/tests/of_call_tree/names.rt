@@ -1,11 +1,12 @@
 //! Names that were made to have one hash are numbered like any others.
+
+use super::intern_all;
 use call_tree::FrameTable;
-use std::alloc::AllocError;
 use std::process::Abort;
 use std::test::Fail;
 
 /// Names of one hash in std's hasher of fixed seed: at each of six places of 16 bytes one of two blocks that leave it in the same state.
-const NAMES: [&str; 40] = [
+const NAMES: &[&str] = &[
     "W$OMr%!qIhzkm27+*iU./W)pTUDykv-z[X.)Hr*Smi:Bw1yW0Y1Ja>FPyj`+.c2hOLT)w^(:+Z0&-.>th~K4,P#@%2x&tSZX",
     "c-SVsU'`fevfp'w|*iU./W)pTUDykv-z[X.)Hr*Smi:Bw1yW0Y1Ja>FPyj`+.c2hOLT)w^(:+Z0&-.>th~K4,P#@%2x&tSZX",
     "W$OMr%!qIhzkm27+IH'vv5wV!(AGbFL([X.)Hr*Smi:Bw1yW0Y1Ja>FPyj`+.c2hOLT)w^(:+Z0&-.>th~K4,P#@%2x&tSZX",
@@ -48,37 +49,15 @@ const NAMES: [&str; 40] = [
     "c-SVsU'`fevfp'w|IH'vv5wV!(AGbFL(=zr|rTYz2dTzQhO|0Y1Ja>FPyj`+.c2hOLT)w^(:+Z0&-.>tX!Ec-j=s-'/B#%Hy",
 ];
 
-/// Interns all names, of which none is known.
-fn intern_all(rt: &impl Abort, table: &mut FrameTable) -> Result<(), AllocError> {
-    for name in NAMES.as_slice() {
-        let len = table.len();
-        let number = table.intern(name)?;
-        assert!(rt; number == len);
-    }
-    Ok(())
-}
-
-fn has_name(table: &FrameTable, number: usize, name: &str) -> bool {
-    number < table.len() && table.name(number) == name
-}
-
-/// Interns all names again, of which each is known.
-fn find_all(rt: &impl Abort, table: &mut FrameTable) -> Result<(), AllocError> {
-    let len = table.len();
-    for name in NAMES.as_slice() {
-        let number = table.intern(name)?;
-        assert!(rt; number < len);
-        assert!(rt; has_name(table, number, name));
-    }
-    assert!(rt; table.len() == len);
+/// Interns names twice, which get the same numbers.
+fn intern_twice(rt: &impl Abort, table: &mut FrameTable, names: &[&str]) -> Result<(), Fail> {
+    intern_all(rt, table, names)?;
+    intern_all(rt, table, names)?;
     Ok(())
 }
 
 /// More of them than a walk has steps: each keeps the number that it got.
 #[test]
 fn names_of_one_hash_keep_their_numbers(rt: HostRuntime) -> Result<(), Fail> {
-    let mut table = FrameTable::new(rt.alloc());
-    intern_all(&rt, &mut table)?;
-    find_all(&rt, &mut table)?;
-    Ok(())
+    intern_twice(&rt, &mut FrameTable::new(rt.alloc()), NAMES)
 }

@@ -24,7 +24,8 @@ fn weighs_as_in_readme(
     weights_are(rt, tree, &[], 3, 0);
     add(rt, tree, &[main], 1)?;
     weights_are(rt, tree, &[main], 4, 1);
-    children_are(rt, tree, &[main], &[read])
+    children_are(rt, tree, &[main], &[read])?;
+    Ok(())
 }
 
 #[test]

@@ -137,16 +137,40 @@ fn lengths_are_told_apart(rt: HostRuntime) -> Result<(), Fail> {
     lengths_are_found(&rt, &mut cache)
 }
 
+/// Two spellings, and the first twice more.
+const FOUR: &[u8] = b"a;ba;ca;ba;b";
+
+/// Where spellings of `FOUR` stand that are looked for one after another, and under which numbers they are found.
+const SOUGHT: &[(usize, usize, Option<usize>)] = &[
+    (6, 9, Some(7)),
+    (9, 12, Some(7)),
+    (3, 6, Some(8)),
+    (0, 3, Some(7)),
+    (0, 2, None),
+];
+
+fn is_next(
+    rt: &impl Abort,
+    cache: &mut SpellingCache,
+    start: usize,
+    end: usize,
+    number: Option<usize>,
+) {
+    assert!(rt; start <= end && end <= FOUR.len());
+    assert!(rt; cache.find_next(FOUR, start, end) == number);
+}
+
+fn remember_two(cache: &mut SpellingCache) -> Result<(), AllocError> {
+    cache.remember(FOUR, 0, 3, 7)?;
+    cache.remember(FOUR, 3, 6, 8)
+}
+
 fn next_are_found(rt: &impl Abort, cache: &mut SpellingCache) -> Result<(), Fail> {
-    let text = b"a;ba;ca;ba;b";
-    assert!(rt; cache.find_next(text, 0, 3).is_none());
-    cache.remember(text, 0, 3, 7)?;
-    cache.remember(text, 3, 6, 8)?;
-    assert!(rt; cache.find_next(text, 6, 9) == Some(7));
-    assert!(rt; cache.find_next(text, 9, 12) == Some(7));
-    assert!(rt; cache.find_next(text, 3, 6) == Some(8));
-    assert!(rt; cache.find_next(text, 0, 3) == Some(7));
-    assert!(rt; cache.find_next(text, 0, 2).is_none());
+    is_next(rt, cache, 0, 3, None);
+    remember_two(cache)?;
+    for (start, end, number) in SOUGHT {
+        is_next(rt, cache, *start, *end, *number);
+    }
     Ok(())
 }
 
@@ -175,9 +199,13 @@ fn remember_colliding(
 /// How many of the spellings are known.
 fn known_of(rt: &impl Abort, cache: &SpellingCache, text: &[u8]) -> usize {
     assert!(rt; text.len() == COLLIDING * 16);
-    (0..COLLIDING)
-        .filter(|number| cache.find(text, number * 16, number * 16 + 16).is_some())
-        .count()
+    let mut known = 0usize;
+    for number in 0..COLLIDING {
+        if found(cache, text, number).is_some() {
+            known = known.saturating_add(1);
+        }
+    }
+    known
 }
 
 fn sixteen_are_kept(rt: &impl Abort, cache: &mut SpellingCache, text: &[u8]) -> Result<(), Fail> {

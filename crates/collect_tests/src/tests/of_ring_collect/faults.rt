@@ -1,5 +1,6 @@
 //! What is written of a fault.
 
+use crate::tests::texts::is_text;
 use ring_collect::CollectFault;
 use std::alloc::AllocError;
 use std::process::Abort;
@@ -11,7 +12,7 @@ fn says(
     text: &str,
 ) -> Result<(), AllocError> {
     let found = format!(in rt.alloc(); "{fault}")?;
-    assert_eq!(rt; found.as_str(), text);
+    is_text(rt, found.as_str(), text);
     Ok(())
 }
 

@@ -94,8 +94,7 @@ fn list_of_two_stacks(rt: &(impl Abort + AllocGlobal)) -> Result<SourceList, All
 }
 
 fn keeps_two_stacks(rt: &impl Abort, ledger: &Ledger) {
-    assert!(rt; ledger.stack_count() == 2);
-    assert!(rt; keeps(ledger, 1, [1].as_slice()));
+    assert!(rt; ledger.stack_count() == 2 && keeps(ledger, 1, &[1]));
     assert!(rt; numbers(ledger) == (3, 14, 2));
 }
 
@@ -108,11 +107,9 @@ fn stack_taken_again(rt: HostRuntime) -> Result<(), Fail> {
 }
 
 fn has_two_stacks(rt: &impl Abort, list: &SourceList) {
-    assert!(rt; sums_to(list, 3, 14));
-    assert!(rt; list.stack_count() == 2);
-    assert!(rt; has_stack(list, 0, 0, [0, 1].as_slice()));
-    assert!(rt; has_stack(list, 1, 1, [1].as_slice()));
-    assert!(rt; has_stack(list, 2, 0, [0, 1].as_slice()));
+    assert!(rt; sums_to(list, 3, 14) && list.stack_count() == 2);
+    assert!(rt; has_stack(list, 0, 0, &[0, 1]) && has_stack(list, 1, 1, &[1]));
+    assert!(rt; has_stack(list, 2, 0, &[0, 1]));
 }
 
 #[test]
@@ -123,8 +120,7 @@ fn list_of_a_stack_taken_again(rt: HostRuntime) -> Result<(), Fail> {
 }
 
 fn has_samples_of_two_stacks(rt: &impl Abort, list: &SourceList) {
-    assert!(rt; has_sample(list, 2, [0, 1].as_slice(), 7));
-    assert!(rt; has_name(list, 1, 0, "b"));
+    assert!(rt; has_sample(list, 2, &[0, 1], 7) && has_name(list, 1, 0, "b"));
     assert!(rt; sums_to(list, 3, 14));
 }
 
@@ -168,8 +164,7 @@ fn list_of_two_rows(
 }
 
 fn has_rows_of_the_page(rt: &impl Abort, list: &SourceList) {
-    assert!(rt; sums_to(list, 2, 3));
-    assert!(rt; has_name(list, 0, 1, "parse"));
+    assert!(rt; sums_to(list, 2, 3) && has_name(list, 0, 1, "parse"));
 }
 
 // The example of README.md.
@@ -181,8 +176,7 @@ fn example_of_the_page(rt: HostRuntime) -> Result<(), Fail> {
 }
 
 fn has_told_two(rt: &impl Abort, ledger: &Ledger) {
-    assert!(rt; numbers(ledger) == (2, 3, 2));
-    assert!(rt; has_told_name(ledger, 1, "b"));
+    assert!(rt; numbers(ledger) == (2, 3, 2) && has_told_name(ledger, 1, "b"));
 }
 
 #[test]
@@ -193,10 +187,8 @@ fn names_told_once(rt: HostRuntime) -> Result<(), Fail> {
 }
 
 fn has_two_rows(rt: &impl Abort, list: &SourceList) {
-    assert!(rt; sums_to(list, 2, 3));
-    assert!(rt; has_sample(list, 0, [0, 1].as_slice(), 2));
-    assert!(rt; has_sample(list, 1, [0].as_slice(), 1));
-    assert!(rt; *list.ending() == CLEAN);
+    assert!(rt; has_sample(list, 0, &[0, 1], 2) && has_sample(list, 1, &[0], 1));
+    assert!(rt; sums_to(list, 2, 3) && *list.ending() == CLEAN);
 }
 
 #[test]
@@ -207,10 +199,8 @@ fn list_of_names_told_once(rt: HostRuntime) -> Result<(), Fail> {
 }
 
 fn names_two_rows(rt: &impl Abort, list: &SourceList) {
-    assert!(rt; has_name(list, 0, 1, "b"));
-    assert!(rt; has_number(list, 1, 0, 0));
-    assert!(rt; list.told() == 2);
-    assert!(rt; has_told(list, 0, "a"));
+    assert!(rt; has_name(list, 0, 1, "b") && has_number(list, 1, 0, 0));
+    assert!(rt; list.told() == 2 && has_told(list, 0, "a"));
 }
 
 #[test]
@@ -245,8 +235,7 @@ fn close_after_two(rt: &impl Abort, ledger: &mut Ledger) {
     assert!(rt; !ledger.is_closed());
     let close = Close::Read(CLEAN);
     ledger.close(close);
-    assert!(rt; ledger.is_closed());
-    assert!(rt; ledger.closed() == Some(&close));
+    assert!(rt; ledger.is_closed() && ledger.closed() == Some(&close));
     assert!(rt; numbers(ledger) == (2, 4, 4));
 }
 
@@ -258,10 +247,8 @@ fn world_and_ledger(rt: HostRuntime) -> Result<(), Fail> {
 }
 
 fn has_equal_samples(rt: &impl Abort, list: &SourceList) {
-    assert!(rt; sums_to(list, 2, 4));
-    assert!(rt; has_name(list, 1, 0, "x"));
-    assert!(rt; has_name(list, 1, 1, "y"));
-    assert!(rt; has_number(list, 1, 1, 3));
+    assert!(rt; has_name(list, 1, 0, "x") && has_name(list, 1, 1, "y"));
+    assert!(rt; sums_to(list, 2, 4) && has_number(list, 1, 1, 3));
 }
 
 #[test]

@@ -55,7 +55,7 @@ fn received(alloc: Global, world: &World, source: usize) -> Result<String, Alloc
 }
 
 /// One list of one sample, through a queue of one.
-const ONE_SOURCE: [(Event, bool); 7] = [
+const ONE_SOURCE: &[(Event, bool)] = &[
     (Event::Push(0), true),
     (Event::Push(0), false),
     (Event::Pop(0), true),
@@ -84,13 +84,13 @@ fn has_received_all(rt: &(impl Abort + AllocGlobal), world: &World) -> Result<()
 #[test]
 fn world_and_ledger(rt: HostRuntime) -> Result<(), Fail> {
     let mut world = one_list(rt.alloc())?;
-    play(&rt, &mut world, ONE_SOURCE.as_slice());
+    play(&rt, &mut world, ONE_SOURCE);
     has_received_all(&rt, &world)?;
     Ok(())
 }
 
 /// Two lists, of two samples and of one, through queues of two.
-const TWO_SOURCES: [(Event, bool); 11] = [
+const TWO_SOURCES: &[(Event, bool)] = &[
     (Event::Push(0), true),
     (Event::Push(1), true),
     (Event::Push(0), true),
@@ -105,7 +105,7 @@ const TWO_SOURCES: [(Event, bool); 11] = [
 ];
 
 /// What comes after.
-const THE_REST: [(Event, bool); 4] = [
+const THE_REST: &[(Event, bool)] = &[
     (Event::Pop(0), true),
     (Event::Pop(0), true),
     (Event::Pop(0), false),
@@ -137,10 +137,10 @@ fn has_received(
 fn play_two_sources(rt: &(impl Abort + AllocGlobal), world: &mut World) -> Result<(), AllocError>
     requires { length world.old.lanes ≡ 2 }
 {
-    play(rt, world, TWO_SOURCES.as_slice());
+    play(rt, world, TWO_SOURCES);
     has_received(rt, world, 0, "a")?;
     has_received(rt, world, 1, "c.")?;
-    play(rt, world, THE_REST.as_slice());
+    play(rt, world, THE_REST);
     has_received(rt, world, 0, "ab.")
 }
 
@@ -151,14 +151,12 @@ fn two_sources(rt: HostRuntime) -> Result<(), Fail> {
     Ok(())
 }
 
+const NO_SOURCE: &[(Event, bool)] = &[(Event::Push(0), false), (Event::Pop(0), false)];
+
 #[test]
 fn no_sources(rt: HostRuntime) -> Result<(), Fail> {
     let mut world = World::new(rt.alloc(), Vec::new(rt.alloc()), 1)?;
-    play(
-        &rt,
-        &mut world,
-        &[(Event::Push(0), false), (Event::Pop(0), false)],
-    );
+    play(&rt, &mut world, NO_SOURCE);
     Ok(())
 }
 

@@ -7,7 +7,7 @@ use std::process::Abort;
 use std::test::Fail;
 
 /// Samples with their sources. Their names `a` to `e` get the numbers 0 to 4.
-const TAKEN: [(u32, &[&str], u64); 7] = [
+const TAKEN: &[(u32, &[&str], u64)] = &[
     (2, &["a"], 1),
     (0, &["a", "b"], 2),
     (2, &[], 4),
@@ -86,8 +86,9 @@ fn sums_of(tree: &CallTree) -> Sums {
     let mut totals = [0; 6];
     let mut owns = [0; 6];
     for place in 0..6 {
-        totals[place] = tree.total(STACKS[place]);
-        owns[place] = tree.own(STACKS[place]);
+        let stack = STACKS[place];
+        totals[place] = tree.total(stack);
+        owns[place] = tree.own(stack);
     }
     Sums {
         len: tree.len(),
@@ -145,9 +146,9 @@ fn take_all(rt: &impl Abort, alloc: Global, sink: &mut TreeSink) -> Result<bool,
     for (source, names, weight) in TAKEN {
         let sample = Sample {
             stack: Names::from_strs(alloc, names)?,
-            weight,
+            weight: *weight,
         };
-        refused |= take_again(rt, alloc, sink, source, &sample)?;
+        refused |= take_again(rt, alloc, sink, *source, &sample)?;
     }
     Ok(refused)
 }

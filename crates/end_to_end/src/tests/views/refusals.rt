@@ -9,7 +9,7 @@ use std::sync::{Arc, Wait};
 use std::test::Fail;
 use std::thread::Threads;
 
-const TEXTS: [&str; 2] = ["a;b 1\nc 2\na;b 3\n", "c 4\na 5\n"];
+const TEXTS: &[&str] = &["a;b 1\nc 2\na;b 3\n", "c 4\na 5\n"];
 
 /// What a run over both texts answers, with rings of one record and a snapshot after every two samples.
 fn run_both<T: Threads + Wait + Abort + Copy + Send + 'static>(
@@ -17,7 +17,7 @@ fn run_both<T: Threads + Wait + Abort + Copy + Send + 'static>(
     alloc: Global,
 ) -> Result<Result<Views, CollectFault>, AllocError> {
     let gate = Arc::new(alloc, OpenGate)?;
-    let sources = folded_sources(alloc, &TEXTS)?;
+    let sources = folded_sources(alloc, TEXTS)?;
     let options = plain(rt, alloc, 1, Some(2));
     Ok(run(rt, alloc, sources, &options, gate))
 }

@@ -76,9 +76,9 @@ fn shown_compared(
     Ok(text)
 }
 
-const OLD: [(&[&str], u64); 2] = [(&["a"], 3), (&["b"], 1)];
+const OLD: &[(&[&str], u64)] = &[(&["a"], 3), (&["b"], 1)];
 
-const NEW: [(&[&str], u64); 2] = [(&["a"], 1), (&["c"], 2)];
+const NEW: &[(&[&str], u64)] = &[(&["a"], 1), (&["c"], 2)];
 
 fn compares(
     rt: &impl Abort,
@@ -99,8 +99,8 @@ fn compares(
 
 #[test]
 fn comparison(rt: HostRuntime) -> Result<(), Fail> {
-    let before = list(&rt, rt.alloc(), &OLD)?;
-    let after = list(&rt, rt.alloc(), &NEW)?;
+    let before = list(&rt, rt.alloc(), OLD)?;
+    let after = list(&rt, rt.alloc(), NEW)?;
     compares(&rt, rt.alloc(), &before, &after)
 }
 
@@ -125,8 +125,8 @@ const BOXES: &str = "(4 0 all 0 3 0 0 10)(3 1 a 0 1 1 0 3)(0 1 c 1 2 2 3 10)";
 #[test]
 fn comparison_boxes(rt: HostRuntime) -> Result<(), Fail> {
     let width = Width::of(10).ok_or("no width")?;
-    let before = list(&rt, rt.alloc(), &OLD)?;
-    let after = list(&rt, rt.alloc(), &NEW)?;
+    let before = list(&rt, rt.alloc(), OLD)?;
+    let after = list(&rt, rt.alloc(), NEW)?;
     draws_comparison(&rt, rt.alloc(), &before, &after, width)
 }
 
@@ -148,7 +148,7 @@ fn draws_without_rows(
 #[test]
 fn comparison_boxes_without_rows(rt: HostRuntime) -> Result<(), Fail> {
     let width = Width::of(10).ok_or("no width")?;
-    let before = list(&rt, rt.alloc(), &OLD)?;
-    let after = list(&rt, rt.alloc(), &NEW)?;
+    let before = list(&rt, rt.alloc(), OLD)?;
+    let after = list(&rt, rt.alloc(), NEW)?;
     draws_without_rows(&rt, rt.alloc(), &before, &after, width)
 }

@@ -1,7 +1,7 @@
 use Rattle.std.proofs.Common.{◌≡◌, ◌∙◌, ◌<◌, ◌+◌, ◌++◌, ◌∷◌, [], ap, arith, get_or, length, refl, sym, take}
 use Rattle.std.proofs.lemmas.List.{get_or_default, length-map, length-set, take_more}
 use Rattle.sample_tables.specs.Rows.{sample_at}
-use Rattle.stack_core.specs.Interleaving.{count_of, interleaved}
+use Rattle.stack_core.specs.Interleaving.{count_of}
 use Rattle.stack_core.specs.Ledgers.{ListState}
 use Rattle.merged_stacks.specs.Timeline.{samples_of}
 use Rattle.source_lists.proofs.OrderLemmas.{count_at_most, counted_more, interleaved_all, interleaved_more, list_at, next_within}

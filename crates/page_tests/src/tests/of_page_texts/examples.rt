@@ -38,7 +38,7 @@ fn page_data<B: PageBox>(alloc: Global, page: &Page<'_, B>) -> Result<Vec<u8>, A
 }
 
 // The boxes of `main;read<int> 2` and `main 1`.
-const SMALL: [Row<'static>; 3] = [
+const SMALL: &[Row<'static>] = &[
     (0, "all", 0, 3, 0),
     (1, "main", 0, 3, 1),
     (2, "read<int>", 1, 2, 2),
@@ -51,7 +51,7 @@ fn data_of(
     moment: Option<Moment<'_>>,
     title: &str,
 ) -> Result<Vec<u8>, AllocError> {
-    let boxes = boxes_of(alloc, &SMALL)?;
+    let boxes = boxes_of(alloc, SMALL)?;
     let drawing = Drawing {
         boxes: &boxes,
         least,
@@ -115,7 +115,7 @@ fn compared_of(
 
 // The data of a page of a comparison.
 fn compared_data(alloc: Global, weights: &[u64; 3]) -> Result<Vec<u8>, AllocError> {
-    let boxes = compared_of(alloc, &SMALL, weights)?;
+    let boxes = compared_of(alloc, SMALL, weights)?;
     let drawing = Drawing {
         boxes: &boxes,
         least: 0,

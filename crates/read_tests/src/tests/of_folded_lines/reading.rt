@@ -1,10 +1,20 @@
 //! Texts, and the samples and the ending that they have.
 
-use super::{clean, fault, reads_as};
+use super::{Fault, clean, end_in_faults, reads_as};
 use stack_core::ReadKind;
 use std::alloc::{AllocError, Global};
 use std::process::Abort;
 use std::test::Fail;
+
+/// Texts that end without a fault, the lines of their samples, and how many lines are ignored.
+type Clean<'a> = (&'a [u8], &'a [u8], u64);
+
+fn end_clean(rt: &(impl Abort + AllocGlobal), texts: &[Clean<'_>]) -> Result<(), AllocError> {
+    for (text, lines, ignored) in texts {
+        reads_as(rt, text, lines, clean(*ignored))?;
+    }
+    Ok(())
+}
 
 #[test]
 fn empty_sources(rt: HostRuntime) -> Result<(), Fail> {
@@ -12,40 +22,37 @@ fn empty_sources(rt: HostRuntime) -> Result<(), Fail> {
     Ok(())
 }
 
+const ODD: &[Clean<'static>] = &[
+    (b" 5\na; 1\na;;b 1\n\na x\na 5 \n", b" 5\na 1\na;;b 1\n", 3),
+    (b"a 1\r\nc\t007\nb 2\r", b"a 1\nc 7\n", 1),
+];
+
 #[test]
 fn odd_lines(rt: HostRuntime) -> Result<(), Fail> {
-    reads_as(
-        &rt,
-        b" 5\na; 1\na;;b 1\n\na x\na 5 \n",
-        b" 5\na 1\na;;b 1\n",
-        clean(3),
-    )?;
-    reads_as(&rt, b"a 1\r\nc\t007\nb 2\r", b"a 1\nc 7\n", clean(1))?;
+    end_clean(&rt, ODD)?;
     Ok(())
 }
 
+const REFUSED_COUNTS: &[Fault<'static>] = &[
+    (b"b 2\na 1.5\n", b"b 2\n", ReadKind::DecimalWeight, 2),
+    (b"b 2\na 1 2\n", b"b 2\n", ReadKind::TwoColumns, 2),
+];
+
 #[test]
 fn refused_counts(rt: HostRuntime) -> Result<(), Fail> {
-    reads_as(
-        &rt,
-        b"b 2\na 1.5\n",
-        b"b 2\n",
-        fault(ReadKind::DecimalWeight, 2),
-    )?;
-    reads_as(
-        &rt,
-        b"b 2\na 1 2\n",
-        b"b 2\n",
-        fault(ReadKind::TwoColumns, 2),
-    )?;
+    end_in_faults(&rt, REFUSED_COUNTS)?;
     Ok(())
 }
+
+const REFUSED_STARTS: &[Fault<'static>] = &[
+    (b"a\t1 2\n", b"", ReadKind::TwoColumns, 1),
+    (b"\x1f\x8b", b"", ReadKind::Compressed, 1),
+];
 
 #[test]
 fn returns_and_tabs(rt: HostRuntime) -> Result<(), Fail> {
     reads_as(&rt, b"a 1\r\r\n", b"", clean(1))?;
-    reads_as(&rt, b"a\t1 2\n", b"", fault(ReadKind::TwoColumns, 1))?;
-    reads_as(&rt, b"\x1f\x8b", b"", fault(ReadKind::Compressed, 1))?;
+    end_in_faults(&rt, REFUSED_STARTS)?;
     Ok(())
 }
 
@@ -67,25 +74,31 @@ fn deepest_is_read(rt: &(impl Abort + AllocGlobal)) -> Result<(), AllocError> {
 
 fn deeper_is_fault(rt: &(impl Abort + AllocGlobal)) -> Result<(), AllocError> {
     let line = deep_line(rt.alloc(), 4_097)?;
-    reads_as(rt, line.as_slice(), b"", fault(ReadKind::TooDeep, 1))
+    end_in_faults(rt, &[(&line, b"", ReadKind::TooDeep, 1)])
 }
+
+/// The greatest weight, and one of nothing.
+const MOST: &[u8] = b"a 72057594037927935\nb 0\n";
+
+const TOO_HEAVY: &[Fault<'static>] = &[
+    (
+        b"a 72057594037927935\nb 1\n",
+        b"a 72057594037927935\n",
+        ReadKind::TotalTooLarge,
+        2,
+    ),
+    (
+        b"a 99999999999999999999999999999999999999999\n",
+        b"",
+        ReadKind::TotalTooLarge,
+        1,
+    ),
+];
 
 #[test]
 fn limits_of_weights_and_depth(rt: HostRuntime) -> Result<(), Fail> {
-    let most = b"a 72057594037927935\nb 0\n";
-    reads_as(&rt, most, most, clean(0))?;
-    reads_as(
-        &rt,
-        b"a 72057594037927935\nb 1\n",
-        b"a 72057594037927935\n",
-        fault(ReadKind::TotalTooLarge, 2),
-    )?;
-    reads_as(
-        &rt,
-        b"a 99999999999999999999999999999999999999999\n",
-        b"",
-        fault(ReadKind::TotalTooLarge, 1),
-    )?;
+    reads_as(&rt, MOST, MOST, clean(0))?;
+    end_in_faults(&rt, TOO_HEAVY)?;
     deepest_is_read(&rt)?;
     deeper_is_fault(&rt)?;
     Ok(())
@@ -93,31 +106,34 @@ fn limits_of_weights_and_depth(rt: HostRuntime) -> Result<(), Fail> {
 
 #[test]
 fn compressed_and_cut(rt: HostRuntime) -> Result<(), Fail> {
-    reads_as(
-        &rt,
-        &[0x1f, 0x8b, 0x08],
-        b"",
-        fault(ReadKind::Compressed, 1),
-    )?;
+    end_in_faults(&rt, &[(b"\x1f\x8b\x08", b"", ReadKind::Compressed, 1)])?;
     Ok(())
 }
 
+/// The text of a cut, its lines, and how many lines it has that are ignored.
+const CUTS: &[Clean<'static>] = &[
+    (b"", b"", 0),
+    (b"a", b"", 1),
+    (b"a;", b"", 1),
+    (b"a;b", b"", 1),
+    (b"a;b ", b"", 1),
+    (b"a;b 2", b"a;b 2\n", 0),
+    (b"a;b 2\n", b"a;b 2\n", 0),
+    (b"a;b 2\na", b"a;b 2\n", 1),
+    (b"a;b 2\na ", b"a;b 2\n", 1),
+    (b"a;b 2\na 1", b"a;b 2\na 1\n", 0),
+    (b"a;b 2\na 1\n", b"a;b 2\na 1\n", 0),
+    (b"a;b 2\na 1\na", b"a;b 2\na 1\n", 1),
+    (b"a;b 2\na 1\na;", b"a;b 2\na 1\n", 1),
+    (b"a;b 2\na 1\na;b", b"a;b 2\na 1\n", 1),
+    (b"a;b 2\na 1\na;b ", b"a;b 2\na 1\n", 1),
+    (b"a;b 2\na 1\na;b 3", b"a;b 2\na 1\na;b 3\n", 0),
+    (b"a;b 2\na 1\na;b 3\n", b"a;b 2\na 1\na;b 3\n", 0),
+];
+
 #[test]
 fn cut_folded_text(rt: HostRuntime) -> Result<(), Fail> {
-    let text = b"a;b 2\na 1\na;b 3\n";
-    for n in 0..17 {
-        let lines = match n {
-            0..5 => b"".as_slice(),
-            5..9 => b"a;b 2\n".as_slice(),
-            9..15 => b"a;b 2\na 1\n".as_slice(),
-            _ => text.as_slice(),
-        };
-        let ignored = match n {
-            1..=4 | 7 | 8 | 11..=14 => 1,
-            _ => 0,
-        };
-        reads_as(&rt, &text[..n], lines, clean(ignored))?;
-    }
+    end_clean(&rt, CUTS)?;
     Ok(())
 }
 
@@ -133,28 +149,21 @@ fn lossy_names(rt: HostRuntime) -> Result<(), Fail> {
     Ok(())
 }
 
+const OF_KNOWN_HEADS: &[Fault<'static>] = &[
+    (
+        b"a 72057594037927935\na 1\n",
+        b"a 72057594037927935\n",
+        ReadKind::TotalTooLarge,
+        2,
+    ),
+    (b"a 1\na 1.5\n", b"a 1\n", ReadKind::DecimalWeight, 2),
+    (b"a 1\na 1 2\n", b"a 1\n", ReadKind::TwoColumns, 2),
+];
+
 /// A line whose head is known has the faults that its count has.
 #[test]
 fn known_heads_have_faults(rt: HostRuntime) -> Result<(), Fail> {
-    let most = b"a 72057594037927935\n";
-    reads_as(
-        &rt,
-        b"a 72057594037927935\na 1\n",
-        most,
-        fault(ReadKind::TotalTooLarge, 2),
-    )?;
-    reads_as(
-        &rt,
-        b"a 1\na 1.5\n",
-        b"a 1\n",
-        fault(ReadKind::DecimalWeight, 2),
-    )?;
-    reads_as(
-        &rt,
-        b"a 1\na 1 2\n",
-        b"a 1\n",
-        fault(ReadKind::TwoColumns, 2),
-    )?;
+    end_in_faults(&rt, OF_KNOWN_HEADS)?;
     reads_as(&rt, b"a 1\na\na x\na 2\n", b"a 1\na 2\n", clean(2))?;
     Ok(())
 }

@@ -1,11 +1,33 @@
 //! What is told of a row that is new, and of one that was met before.
 
-use super::reader_of;
+use super::{Given, gives};
 use folded_lines::FoldedReader;
-use stack_core::{RowReader, RowStep, SourceEnd};
+use stack_core::{RowReader, RowStep, SourceEnd, Text};
 use std::alloc::AllocError;
 use std::process::Abort;
 use std::test::Fail;
+
+/// What is told of a row.
+pub(super) enum Telling<'a> {
+    /// New names, the numbers of all, and a weight.
+    New(&'a [&'a str], &'a [usize], u64),
+    /// The number of a row that was met before, and a weight.
+    Again(usize, u64),
+    /// The ending, with one ignored line.
+    End,
+}
+
+fn are_names(names: &[Text], wanted: &[&str]) -> bool {
+    if names.len() != wanted.len() {
+        return false;
+    }
+    for at in 0..names.len() {
+        if names[at].get() != wanted[at] {
+            return false;
+        }
+    }
+    true
+}
 
 /// Whether a stack is told with these new names and numbers.
 fn is_new(step: &RowStep, new: &[&str], numbers: &[usize], sum: u64) -> bool {
@@ -17,11 +39,7 @@ fn is_new(step: &RowStep, new: &[&str], numbers: &[usize], sum: u64) -> bool {
     else {
         return false;
     };
-    let names = names.get();
-    names.len() == new.len()
-        && names.iter().zip(new).all(|(name, new)| name.get() == *new)
-        && frames.get() == numbers
-        && *weight == sum
+    are_names(names.get(), new) && frames.get() == numbers && *weight == sum
 }
 
 /// Whether a row is told again.
@@ -32,57 +50,56 @@ fn is_again(step: &RowStep, number: usize, sum: u64) -> bool {
     *row == number && *weight == sum
 }
 
-fn tells_new(
+fn is_end(step: &RowStep) -> bool {
+    matches!(step, RowStep::End(SourceEnd::Clean { ignored: 1 }))
+}
+
+fn tells(step: &RowStep, telling: &Telling<'_>) -> bool {
+    match telling {
+        Telling::New(names, numbers, sum) => is_new(step, names, numbers, *sum),
+        Telling::Again(row, sum) => is_again(step, *row, *sum),
+        Telling::End => is_end(step),
+    }
+}
+
+fn tells_next(
     rt: &(impl Abort + AllocGlobal),
     reader: &mut FoldedReader,
-    new: &[&str],
-    numbers: &[usize],
-    sum: u64,
+    telling: &Telling<'_>,
 ) -> Result<(), AllocError> {
     let step = reader.next_row(rt.alloc())?;
-    assert!(rt; is_new(&step, new, numbers, sum));
+    assert!(rt; tells(&step, telling));
     Ok(())
 }
 
-fn tells_again(
+pub(super) fn tells_all(
     rt: &(impl Abort + AllocGlobal),
     reader: &mut FoldedReader,
-    row: usize,
-    sum: u64,
+    tellings: &[Telling<'_>],
 ) -> Result<(), AllocError> {
-    let step = reader.next_row(rt.alloc())?;
-    assert!(rt; is_again(&step, row, sum));
+    for telling in tellings {
+        tells_next(rt, reader, telling)?;
+    }
     Ok(())
 }
 
-/// Ends, with one ignored line.
-fn tells_ending(
-    rt: &(impl Abort + AllocGlobal),
-    reader: &mut FoldedReader,
-) -> Result<(), AllocError> {
-    let step = reader.next_row(rt.alloc())?;
-    assert!(rt; matches!(step, RowStep::End(SourceEnd::Clean { ignored: 1 })));
-    Ok(())
-}
-
-fn tells_rows(rt: &(impl Abort + AllocGlobal), reader: &mut FoldedReader) -> Result<(), Fail> {
-    tells_new(rt, reader, &["a", "b"], &[0, 1], 1)?;
-    tells_again(rt, reader, 0, 2)?;
-    tells_new(rt, reader, &["c"], &[1, 2, 1], 3)?;
-    tells_new(rt, reader, &[], &[0, 1], 4)?;
-    tells_again(rt, reader, 1, 5)?;
-    tells_new(rt, reader, &[], &[], 6)?;
-    tells_again(rt, reader, 2, 7)?;
-    tells_again(rt, reader, 3, 8)?;
-    tells_ending(rt, reader)?;
-    tells_ending(rt, reader)?;
-    Ok(())
-}
+const TOLD: &[Telling<'static>] = &[
+    Telling::New(&["a", "b"], &[0, 1], 1),
+    Telling::Again(0, 2),
+    Telling::New(&["c"], &[1, 2, 1], 3),
+    Telling::New(&[], &[0, 1], 4),
+    Telling::Again(1, 5),
+    Telling::New(&[], &[], 6),
+    Telling::Again(2, 7),
+    Telling::Again(3, 8),
+    Telling::End,
+    Telling::End,
+];
 
 /// A name is told once, and a head that was met is known by its bytes. Its weight is that of its own line.
 #[test]
 fn rows_are_told_once(rt: HostRuntime) -> Result<(), Fail> {
     let text = b"a;b 1\na;b 2\nno count\nb;c;b 3\na;b; 4\r\nb;c;b\t5\n 6\na;b; 7\n 8\n";
-    let mut reader = reader_of(rt.alloc(), text)?;
-    tells_rows(&rt, &mut reader)
+    gives(&rt, text, &Given::Tellings(TOLD))?;
+    Ok(())
 }

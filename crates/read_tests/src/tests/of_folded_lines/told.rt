@@ -60,6 +60,18 @@ impl Told {
         append_line(alloc, lines, stack.as_slice(), weight)
     }
 
+    /// Learns a row that is told, and answers its number.
+    fn learn_row(
+        &mut self,
+        names: Listed<Text>,
+        frames: Listed<usize>,
+    ) -> Result<usize, AllocError> {
+        let row = self.rows.len();
+        self.rows.push(frames)?;
+        self.learn(names.into_plain())?;
+        Ok(row)
+    }
+
     /// Learns what a step tells and appends its line, or answers the ending.
     fn append_step(
         &mut self,
@@ -67,21 +79,18 @@ impl Told {
         lines: &mut Vec<u8>,
         step: RowStep,
     ) -> Result<Option<SourceEnd>, AllocError> {
-        let (row, weight) = match step {
+        match step {
             RowStep::New {
                 names,
                 frames,
                 weight,
             } => {
-                let row = self.rows.len();
-                self.rows.push(frames)?;
-                self.learn(names.into_plain())?;
-                (row, weight)
+                let row = self.learn_row(names, frames)?;
+                self.append(alloc, lines, row, weight)?;
             }
-            RowStep::Again { row, weight } => (row, weight),
+            RowStep::Again { row, weight } => self.append(alloc, lines, row, weight)?,
             RowStep::End(ending) => return Ok(Some(ending)),
-        };
-        self.append(alloc, lines, row, weight)?;
+        }
         Ok(None)
     }
 }

@@ -1,4 +1,4 @@
-use Rattle.std.proofs.Common.{ap}
+use Rattle.std.proofs.Common.{ap, rules}
 use Rattle.std.proofs.lemmas.Result.{on_ok_weaker}
 use Rattle.byte_io.proofs.PieceTexts.{further}
 use Rattle.flame_layout.specs.Edges.{placed_at}
@@ -9,7 +9,7 @@ pub returns-clause-ok : goal.returns-clause-ok
 returns-clause-ok g c =
     on_ok_weaker c.append_behind_name.result
     (λ e. box_written (placed_at c.args.scale.now.total c.args.scale.now.width (g.B.FlameBox.span c.args.span.now)) _ _ _ _ _ _ _ _ _ _ _ _
-    c.depth.ensures (ap (λ edges. edges.0) c.edges-left.ensures) (ap (λ edges. edges.1) c.edges-left.ensures)
+    c.depth.ensures (ap (λ edges. edges.0) c.edges-left.ensures) (search rules)
     c.name.ensures c.own.ensures c.start.ensures c.weight.ensures
     c.in_ok-append_before_name.ensures.ok c.in_ok-append_quoted.ensures.ok e)
     c.append_behind_name.ensures.ok

@@ -1,5 +1,8 @@
+use Rattle.std.proofs.Common.{rules}
+use Rattle.sample_tables.specs.Rows.{sample_at}
 use Rattle.byte_io.proofs.PieceTexts.{further}
 use Rattle.view_texts.proofs.Fronts.{longer_front, same_front}
+use Rattle.view_texts.proofs.MergedLines.{line_written}
 use Rattle.view_texts.proofs.merged_lines.append_stack.Goals as goal
 
 pub returns-in_err-append_column-clause-front : goal.returns-in_err-append_column-clause-front
@@ -12,6 +15,11 @@ returns-in_err-push-clause-front c =
     let names = c.append_names.new.out.items in
     let column = c.append_column.new.out.items in
     further new names c.args.out.now.items _ (further new column names _ (same_front new column c.in_err-push.ensures.items) c.in_ok-append_column.ensures.ok) c.in_ok-append_names.ensures.ok
+
+pub returns-clause-ok : goal.returns-clause-ok
+returns-clause-ok c =
+    let sample = sample_at c.args.merged.now c.args.at in
+    line_written sample.stack _ sample.weight _ _ _ _ (search rules) c.in_ok-append_names.ensures.ok c.in_ok-append_column.ensures.ok c.in_ok-push.ensures.items
 
 pub returns-clause-front : goal.returns-clause-front
 returns-clause-front c =

@@ -164,7 +164,7 @@ const SECOND: &[Row<'static>] = &[
     (1, "c", 3, 2, 2),
 ];
 
-const OF_ONE_SOURCE: [Snapshot<'static>; 2] = [(2, &[2], FIRST, 2), (4, &[4], SECOND, 5)];
+const OF_ONE_SOURCE: &[Snapshot<'static>] = &[(2, &[2], FIRST, 2), (4, &[4], SECOND, 5)];
 
 #[test]
 fn snapshots_of_one_source(rt: HostRuntime) -> Result<(), Fail> {
@@ -183,11 +183,11 @@ fn snapshots_of_one_source(rt: HostRuntime) -> Result<(), Fail> {
         r#""counts":[4],"total":5,"view":"snapshot","width":10}"#,
         "\n",
     );
-    snapshots_are(&rt, "", &OF_ONE_SOURCE, lines)?;
+    snapshots_are(&rt, "", OF_ONE_SOURCE, lines)?;
     Ok(())
 }
 
-const OF_THREE_SOURCES: [Snapshot<'static>; 2] = [(12, &[0, 2, 10], &[], 0), (0, &[], &[], 0)];
+const OF_THREE_SOURCES: &[Snapshot<'static>] = &[(12, &[0, 2, 10], &[], 0), (0, &[], &[], 0)];
 
 #[test]
 fn counts_of_three_sources(rt: HostRuntime) -> Result<(), Fail> {
@@ -198,7 +198,7 @@ fn counts_of_three_sources(rt: HostRuntime) -> Result<(), Fail> {
         r#"{"at":0,"boxes":[],"counts":[],"total":0,"view":"snapshot","width":10}"#,
         "\n",
     );
-    snapshots_are(&rt, "before\n", &OF_THREE_SOURCES, lines)?;
+    snapshots_are(&rt, "before\n", OF_THREE_SOURCES, lines)?;
     Ok(())
 }
 

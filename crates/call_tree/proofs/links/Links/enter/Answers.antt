@@ -1,5 +1,6 @@
-use Rattle.std.proofs.Common.{rules, ◌≡◌, ◌<◌, ◌-◌, ◌∷◌, ◌++◌, [], length, min, vec_capacity, sym, subst, arith}
-use Rattle.call_tree.specs.checked.Links.{LinkList}
+use Rattle.std.proofs.Common.{rules, ◌≡◌, ◌<◌, ◌-◌, ◌∷◌, ◌++◌, [], List, length, min, vec_capacity, true≢false, sym, ap, subst, ◌∙◌, arith}
+use Rattle.call_tree.specs.declared.links.Link.{Link}
+use Rattle.call_tree.specs.checked.Links.{LinkList, IsKnownLink}
 use Rattle.call_tree.proofs.FoundLinks.{links_push}
 use Rattle.call_tree.proofs.links.Links.enter.Goals as goal
 
@@ -14,3 +15,11 @@ invariant_of-self c =
     let len = rw (c.push.ensures.slots, number) at c.push.ensures.len in
     let placed = rw (c.push.ensures.slots, number, c.hash_of-hash.ensures) at c.push.ensures.placed in
     rw (grown, c.push.ensures.slots) (links_push c.args.link c.self.invariant sound len (omega (arith, room)) c.push.ensures.keeps placed)
+
+pub returns-in-Ok-clause-known : goal.returns-in-Ok-clause-known
+returns-in-Ok-clause-known c =
+    let same = c.as_slice.ensures.value ∙ ap (λ (l : LinkList). l.keys) c.self.view_is in
+    λ _. subst (λ (links : List Link). IsKnownLink links links c.args.link c.in-Ok.number) same c.in-Ok.ensures.known
+
+pub returns-in-Ok-clause-new : goal.returns-in-Ok-clause-new
+returns-in-Ok-clause-new c = λ is. absurd (true≢false (sym is))

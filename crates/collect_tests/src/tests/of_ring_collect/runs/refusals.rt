@@ -1,7 +1,8 @@
 //! Runs in which a reader or the sink meets want of memory.
 
 use super::fakes::{CLEAN, Recorder, StopsAt, Tape};
-use super::{HUNDRED, THREE, collected, is_run, tapes};
+use super::lists::is_run;
+use super::{HUNDRED, THREE, collected, tapes};
 use ring_collect::{CollectFault, Collected};
 use stack_core::{Gate, OpenGate};
 use std::process::Abort;
@@ -44,24 +45,30 @@ fn has_first(rt: &impl Abort, sink: &Recorder, taken: u64) {
     assert!(rt; of_sources == taken);
 }
 
-/// Runs with a sink that refuses after so many samples.
-fn refuses_after<T: Threads + Wait + Abort + AllocGlobal + Copy + Send + 'static>(
-    rt: &T,
-    sink: &mut Recorder,
-    taken: u64,
-) -> Result<(), Fail> {
-    sink.refuses_after = Some(taken);
+fn runs_to_refusal<
+    T: Threads + Wait + Abort + AllocGlobal + Copy + Send + 'static,
+    G: Gate + Send + Sync + Drop + 'static,
+>(rt: &T, sink: &mut Recorder, taken: u64, gate: G) -> Result<(), Fail> {
     let readers = tapes(rt.alloc(), &sink.counts, &[THREE; 3])?;
-    runs_short(rt, sink, readers, OpenGate)?;
+    runs_short(rt, sink, readers, gate)?;
     has_first(rt, sink, taken);
     Ok(())
+}
+
+/// Runs with a sink that refuses after so many samples.
+fn refuses_after<
+    T: Threads + Wait + Abort + AllocGlobal + Copy + Send + 'static,
+    G: Gate + Send + Sync + Drop + 'static,
+>(rt: &T, taken: u64, gate: G) -> Result<(), Fail> {
+    let mut sink = Recorder::of_own(rt.alloc())?;
+    sink.refuses_after = Some(taken);
+    runs_to_refusal(rt, &mut sink, taken, gate)
 }
 
 #[test]
 fn sink_refuses(rt: HostRuntime) -> Result<(), Fail> {
     for taken in 0..9u64 {
-        let mut sink = Recorder::of_own(rt.alloc())?;
-        refuses_after(&rt, &mut sink, taken)?;
+        refuses_after(&rt, taken, OpenGate)?;
     }
     Ok(())
 }
@@ -123,23 +130,11 @@ fn every_reader_is_joined(rt: HostRuntime) -> Result<(), Fail> {
     is_whole_or_refused(&rt, answer, &sink)
 }
 
-fn refuses_beside_a_stop<T: Threads + Wait + Abort + AllocGlobal + Copy + Send + 'static>(
-    rt: &T,
-    sink: &mut Recorder,
-) -> Result<(), Fail> {
+#[test]
+fn sink_refuses_beside_a_stop(rt: HostRuntime) -> Result<(), Fail> {
     let gate = StopsAt {
         source: 1,
         index: 0,
     };
-    let readers = tapes(rt.alloc(), &sink.counts, &[THREE; 3])?;
-    runs_short(rt, sink, readers, gate)?;
-    has_first(rt, sink, 0);
-    Ok(())
-}
-
-#[test]
-fn sink_refuses_beside_a_stop(rt: HostRuntime) -> Result<(), Fail> {
-    let mut sink = Recorder::of_own(rt.alloc())?;
-    sink.refuses_after = Some(0);
-    refuses_beside_a_stop(&rt, &mut sink)
+    refuses_after(&rt, 0, gate)
 }

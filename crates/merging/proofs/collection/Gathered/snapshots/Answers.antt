@@ -1,8 +1,11 @@
-use Rattle.std.proofs.Common.{subst, All}
+use Rattle.std.proofs.Common.{◌∙◌, ap, subst, All}
 use Rattle.merging.specs.Gathered.{GatheredState}
 use Rattle.merging.specs.Sums.{IsDrawable}
 use Rattle.merging.proofs.GatherLemmas.{snapshots_drawable}
 use Rattle.merging.proofs.collection.Gathered.snapshots.Goals as goal
+
+pub returns-clause-snapshots : goal.returns-clause-snapshots
+returns-clause-snapshots c = c.snapshots.ensures.snapshots ∙ ap (λ (state : GatheredState). state.snapshots) c.self.view_is
 
 pub returns-clause-drawable : goal.returns-clause-drawable
 returns-clause-drawable c =

@@ -1,8 +1,13 @@
-use Rattle.std.proofs.Common.{refl, subst, sym, ◌∙◌}
+use Rattle.std.proofs.Common.{refl, subst, sym, ◌∙◌, append-nil}
 use Rattle.rtrb.specs.Ring.{sent}
-use Rattle.ring_collect.specs.checked.Tellers.{Stopped, TellsOne}
+use Rattle.stack_core.specs.Records.{stands_for}
+use Rattle.ring_collect.specs.checked.Tellers.{ShortOfMemory, Stopped, TellsOne}
 use Rattle.ring_collect.proofs.Records.{steps_sample, tells_step}
 use Rattle.ring_collect.proofs.tellers.Teller.tell_next.Goals as goal
+
+pub returns-in_default-clause-closes : goal.returns-in_default-clause-closes
+returns-in_default-clause-closes g c =
+    ShortOfMemory refl (record { stands = sym (append-nil (stands_for (sent c.args.self.now.producer))); well_told = λ well_told. well_told })
 
 pub returns-in-Stop-clause-closes : goal.returns-in-Stop-clause-closes
 returns-in-Stop-clause-closes g c =

@@ -6,16 +6,16 @@ use Rattle.sample_tables.specs.checked.Stacks.{with_fresh_stack}
 use Rattle.sample_tables.proofs.Spans.{fresh_kept, same_stacks}
 use Rattle.sample_tables.proofs.stacks.Stacks.add_fresh.Goals as goal
 
-pub invariant_of-self-in_err-number : goal.invariant_of-self-in_err-number
-invariant_of-self-in_err-number c =
-    let more = c.number.ensures.begins in
-    (same_stacks _ _ _ _ _ _ _ c.self.invariant (ap (map string_bytes) c.in_ok-reserve.ensures.items) (more.1 ∙ ap (λ x. x ++ more.0) c.in_ok-reserve-2.ensures.items) c.in_ok-reserve-3.ensures.items).spans_are
-
 pub returns-in_err-number-clause-refused : goal.returns-in_err-number-clause-refused
 returns-in_err-number-clause-refused c =
     let more = c.number.ensures.begins in
     let told = (same_stacks _ _ _ _ _ _ _ c.self.invariant (ap (map string_bytes) c.in_ok-reserve.ensures.items) (more.1 ∙ ap (λ x. x ++ more.0) c.in_ok-reserve-2.ensures.items) c.in_ok-reserve-3.ensures.items).told_is ∙ c.self.view_is in
     search (rules, told)
+
+pub invariant_of-self-in_err-number : goal.invariant_of-self-in_err-number
+invariant_of-self-in_err-number c =
+    let more = c.number.ensures.begins in
+    (same_stacks _ _ _ _ _ _ _ c.self.invariant (ap (map string_bytes) c.in_ok-reserve.ensures.items) (more.1 ∙ ap (λ x. x ++ more.0) c.in_ok-reserve-2.ensures.items) c.in_ok-reserve-3.ensures.items).spans_are
 
 pub invariant_of-self-2 : goal.invariant_of-self-2
 invariant_of-self-2 c =

@@ -1,0 +1,13 @@
+use Rattle.std.proofs.Common.{◌∙◌, [], List, ℕ, sym, ap, get_or, map, string_bytes, arith}
+use Rattle.std.proofs.lemmas.List.{get_or-map, length-map}
+use Rattle.merged_stacks.proofs.SweptRows.{paired_frame}
+use Rattle.merged_stacks.proofs.paired.PairedStacks.name.Goals as goal
+
+pub returns : goal.returns
+returns c =
+    let names : List (List ℕ) = map string_bytes c.self.inside.names.items in
+    let rank = get_or c.place_ranks.result.now c.args.frame 0 in
+    let one = paired_frame names c.self.inside.lefts c.self.inside.rights c.self.inside.places.items c.args.self.now c.args.at c.args.frame c.index.result.now c.place_ranks.result.now c.self.invariant c.self.view_is c.requires.at c.index.ensures c.place_ranks.ensures c.requires.deep in
+    c.as_str.ensures.value ∙ ap string_bytes c.index-2.ensures
+    ∙ sym (get_or-map string_bytes c.self.inside.names.items rank c.index-2.result.now [] (omega (arith, one.below, length-map c.self.inside.names.items string_bytes)))
+    ∙ sym one.name
