@@ -26,6 +26,13 @@ pub trait Files {
         ensures input { known_input self.new ≡ known_input self.old }
         ensures files { known_file self.new ≡ known_file self.old };
 
+    /// Is told which paths `named` is asked for next, in this order, and may load their files ahead.
+    /// What is not loaded ahead is loaded when it is asked for, and a fault is told only then.
+    fn prefetch(&mut self, _alloc: Global, _paths: &[String])
+        ensures input { known_input self.new ≡ known_input self.old }
+        ensures files { known_file self.new ≡ known_file self.old }
+    {}
+
     /// Whether the input is a terminal, where someone has to type it.
     fn is_input_terminal(&self) -> bool;
 

@@ -2,6 +2,7 @@
 //! over them, texts that go out piece by piece, and the files of a run.
 #![tactic(auto)]
 
+mod ahead_files;
 mod failure_counts;
 mod files;
 mod inlet;

@@ -2,11 +2,14 @@
 ghost use Rattle.std.specs.Prelude.{◌≡◌, ◌≤◌, vec_len, IfOk, IfSome};
 ghost use Rattle.byte_io.specs.Files.{unknown, unknown_files};
 
+use crate::ahead_files::{AheadFile, are_plain, load_ahead, take_loaded};
 use crate::files::Files;
 use crate::inlet::CountedReader;
 use crate::whole_input::{LoadFault, load};
 use std::alloc::Global;
+use std::fs::File;
 use std::io::IsTerminal;
+use std::thread::Threads;
 use std::{fs, rt};
 
 /// The most bytes of one source.
@@ -17,6 +20,7 @@ pub const SOURCE_LIMIT: usize = 1 << 30;
 pub struct MachineFiles<'a, T> {
     rt: &'a T,
     is_error_terminal: bool,
+    ahead: Option<Vec<AheadFile>>,
 }
 
 impl<'a, T: rt::Files + Input> MachineFiles<'a, T> {
@@ -25,6 +29,7 @@ impl<'a, T: rt::Files + Input> MachineFiles<'a, T> {
         MachineFiles {
             rt,
             is_error_terminal: false,
+            ahead: None,
         }
     }
 
@@ -33,11 +38,12 @@ impl<'a, T: rt::Files + Input> MachineFiles<'a, T> {
         MachineFiles {
             rt,
             is_error_terminal: error.is_terminal(),
+            ahead: None,
         }
     }
 }
 
-impl<T: rt::Files + Input> Files for MachineFiles<'_, T>
+impl<T: rt::Files<File = File> + Input + Threads> Files for MachineFiles<'_, T>
 where
     T::Reader: IsTerminal,
 {
@@ -51,6 +57,10 @@ where
         ensures files { unknown_files ≡ unknown_files }
         ensures within { IfOk result (λ bytes. vec_len bytes ≤ SOURCE_LIMIT) }
     {
+        let ahead = self.ahead.as_mut();
+        if let Some(bytes) = ahead.and_then(|files| take_loaded(files, path)) {
+            return Ok(bytes);
+        }
         match fs::open(self.rt, path) {
             Ok(file) => {
                 let mut reader = CountedReader::new(file);
@@ -68,6 +78,16 @@ where
     {
         let mut reader = CountedReader::new(self.rt.reader());
         load(alloc, &mut reader, SOURCE_LIMIT)
+    }
+
+    // A single file is read as soon where it is asked for.
+    fn prefetch(&mut self, alloc: Global, paths: &[String])
+        ensures input { unknown ≡ unknown }
+        ensures files { unknown_files ≡ unknown_files }
+    {
+        if paths.len() > 1 && are_plain(self.rt, paths) {
+            self.ahead = load_ahead(self.rt, alloc, paths).ok();
+        }
     }
 
     fn is_input_terminal(&self) -> bool {

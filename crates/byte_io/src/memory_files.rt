@@ -90,6 +90,14 @@ impl Files for MemoryFiles {
         copied(alloc, self.input.as_slice(), self.limit)
     }
 
+    fn prefetch(&mut self, _alloc: Global, _paths: &[String])
+        ensures input { Some (input_bytes self.new) ≡ Some (input_bytes self.old) }
+        ensures files { bytes_at self.new ≡ bytes_at self.old }
+        ensures unchanged { self.new ≡ self.old }
+    {
+        // They are in memory already.
+    }
+
     fn is_input_terminal(&self) -> bool
         ensures never { result ≡ false }
     {

@@ -1,5 +1,6 @@
 //! Worked examples, run through the whole program.
 mod answers;
+mod asked_files;
 mod folded;
 mod outputs;
 mod page;

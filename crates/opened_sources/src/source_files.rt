@@ -36,6 +36,7 @@ pub fn open_sources<F: Files>(
         add_source(&mut sources, input(alloc, files, asked)?)?;
         return Ok(sources);
     }
+    files.prefetch(alloc, paths);
     for path in paths {
         add_named(alloc, files, path, asked, &mut sources)?;
     }

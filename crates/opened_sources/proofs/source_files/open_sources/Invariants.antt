@@ -7,6 +7,6 @@ use Rattle.opened_sources.proofs.source_files.open_sources.Given as goal
 abbrev pub invariant-loop-path : goal.invariant-loop-path
 invariant-loop-path g l = record {
   count : length l.sources.items ≡ l.path-index;
-  files : g.F.Files.known_file l.files ≡ g.F.Files.known_file l.initial.files;
-  opened : AllZip (IsOpened l.asked (g.F.Files.known_file l.initial.files)) (map string_bytes (take l.path-index l.paths)) l.sources.items;
+  files : g.F.Files.known_file l.files ≡ g.F.Files.known_file l.fn.files;
+  opened : AllZip (IsOpened l.asked (g.F.Files.known_file l.fn.files)) (map string_bytes (take l.path-index l.paths)) l.sources.items;
 }

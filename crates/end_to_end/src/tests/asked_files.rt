@@ -1,0 +1,135 @@
+//! What a run asks its files for.
+ghost use Rattle.std.specs.Prelude.{None};
+
+use crate::tests::answers::{Outcome, are_bytes, run, texts};
+use flame_tool::{CountedWriter, Files, LoadFault};
+use std::alloc::{AllocError, Global};
+use std::process::Abort;
+use std::sync::Wait;
+use std::test::Fail;
+use std::thread::Threads;
+
+/// Files that note what they are asked for. All of them have the same line, but for those whose path ends in `gone`.
+#[derive(Drop)]
+struct NotingFiles {
+    calls: String,
+}
+
+impl NotingFiles {
+    fn note(&mut self, words: &[&str]) -> Result<(), AllocError> {
+        for word in words {
+            self.calls.push_str(word)?;
+        }
+        self.calls.push_str("\n")
+    }
+
+    fn note_all(&mut self, paths: &[String]) -> Result<(), AllocError> {
+        self.calls.push_str("next")?;
+        for path in paths {
+            self.calls.push_str(" ")?;
+            self.calls.push_str(path)?;
+        }
+        self.calls.push_str("\n")
+    }
+}
+
+impl Files for NotingFiles {
+    ghost known_input = { λ _. None };
+
+    ghost known_file = { λ _ _. None };
+
+    fn named(&mut self, alloc: Global, path: &str) -> Result<Vec<u8>, LoadFault> {
+        self.note(&["named ", path])?;
+        if path.ends_with("gone") {
+            return Err(LoadFault::Io);
+        }
+        Ok(b"a 1\n".to_vec(alloc)?)
+    }
+
+    fn input(&mut self, alloc: Global) -> Result<Vec<u8>, LoadFault> {
+        self.note(&["input"])?;
+        Ok(b"a 1\n".to_vec(alloc)?)
+    }
+
+    fn prefetch(&mut self, _alloc: Global, paths: &[String]) {
+        let _ = self.note_all(paths);
+    }
+
+    fn is_input_terminal(&self) -> bool {
+        false
+    }
+
+    fn is_error_terminal(&self) -> bool {
+        false
+    }
+}
+
+/// A run, and what it is to ask for and to say.
+struct Asking {
+    words: &'static [&'static str],
+    calls: &'static str,
+    err: &'static str,
+}
+
+const ASKING: &[Asking] = &[
+    Asking {
+        words: &["fold"],
+        calls: "input\n",
+        err: "",
+    },
+    Asking {
+        words: &["fold", "x"],
+        calls: "next x\nnamed x\n",
+        err: "",
+    },
+    Asking {
+        words: &["fold", "x", "y", "x"],
+        calls: "next x y x\nnamed x\nnamed y\nnamed x\n",
+        err: "",
+    },
+    // The first that fails is blamed, and no other is asked for.
+    Asking {
+        words: &["fold", "x", "b.gone", "a.gone", "y"],
+        calls: "next x b.gone a.gone y\nnamed x\nnamed b.gone\n",
+        err: "flamecollect: b.gone: cannot be read\n",
+    },
+];
+
+/// What a run over such files says on standard error, and what it asked them for in the place of its output.
+fn outcome<T: Threads + Wait + AllocGlobal + Copy + Send + 'static>(
+    rt: &T,
+    words: &[&str],
+) -> Result<Outcome, AllocError> {
+    let alloc = rt.alloc();
+    let words = texts(alloc, words)?;
+    let mut files = NotingFiles {
+        calls: String::new(alloc),
+    };
+    let mut out = CountedWriter::new(Vec::new(alloc));
+    let mut err = CountedWriter::new(Vec::new(alloc));
+    let status = run(rt, alloc, words, &mut files, &mut out, &mut err);
+    Ok(Outcome {
+        status,
+        out: files.calls.into_bytes(),
+        err: err.into_inner(),
+    })
+}
+
+fn asks_so<T: Threads + Wait + AllocGlobal + Abort + Copy + Send + 'static>(
+    rt: &T,
+    asking: &Asking,
+) -> Result<(), AllocError> {
+    let found = outcome(rt, asking.words)?;
+    are_bytes(rt, found.out.as_slice(), asking.calls.as_bytes());
+    are_bytes(rt, found.err.as_slice(), asking.err.as_bytes());
+    Ok(())
+}
+
+// All paths are told first, and then each file is asked for in its turn.
+#[test]
+fn files_are_asked_for_in_order(rt: HostRuntime) -> Result<(), Fail> {
+    for asking in ASKING {
+        asks_so(&rt, asking)?;
+    }
+    Ok(())
+}
