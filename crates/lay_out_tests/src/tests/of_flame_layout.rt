@@ -1,91 +1,92 @@
 //! Worked examples.
 
-mod comparisons;
-mod drawn;
-mod merged;
-mod trees;
+pub(super) mod comparisons;
+pub(super) mod drawn;
+pub(super) mod merged;
+pub(super) mod trees;
 
-use super::sources::{Lines, list};
-use flame_layout::{FlameBox, PlacedBox, SpanBox, Width, chart_boxes, place};
+use super::sources::{Lines, assert_light};
+use super::told::{Telling, Told, are_told};
+use flame_layout::{FlameBox, PlacedBox, Width, chart_boxes, place};
+use merged_stacks::total_weight;
 use stack_core::SourceList;
-use std::alloc::{AllocError, Global};
+use std::alloc::AllocError;
 use std::process::Abort;
 use std::test::Fail;
 
-/// The chart of one source.
-fn chart(rt: &impl Abort, alloc: Global, source: SourceList) -> Result<Vec<SpanBox>, AllocError> {
-    assert!(rt; source.total() < 1_000);
-    chart_boxes(alloc, &[source])
+/// Appends depth and name of a box.
+fn append_name(text: &mut String, depth: u32, name: &str) -> Result<(), AllocError> {
+    write!(text, "{depth} {name}")
 }
 
-/// The chart of one source, in an image.
-fn placed_chart(
-    rt: &impl Abort,
-    alloc: Global,
-    source: SourceList,
-    width: Width,
-) -> Result<Vec<PlacedBox>, AllocError> {
-    let total = source.total();
-    assert!(rt; total < 1_000);
-    let boxes = chart_boxes(alloc, &[source])?;
-    place(alloc, boxes, total as u64, width)
+/// Appends start, weight and own weight of a box.
+fn append_weights(text: &mut String, start: u64, weight: u64, own: u64) -> Result<(), AllocError> {
+    write!(text, " {start} {weight} {own}")
 }
 
 /// Appends depth, name, start, weight and own weight of a box.
-fn append<B: FlameBox>(alloc: Global, text: &mut String, one: &B) -> Result<(), AllocError> {
-    let depth = one.depth();
-    let name = one.name();
-    let start = one.start();
-    let weight = one.weight();
-    let own = one.own();
-    let line = format!(in alloc; "({depth} {name} {start} {weight} {own})")?;
-    text.push_str(&line)
+fn append_fields<B: FlameBox>(text: &mut String, one: &B) -> Result<(), AllocError> {
+    append_name(text, one.depth(), one.name())?;
+    append_weights(text, one.start(), one.weight(), one.own())
 }
 
-fn shown<B: FlameBox>(alloc: Global, boxes: &[B]) -> Result<String, AllocError> {
-    let mut text = String::new(alloc);
+fn append_box<B: FlameBox>(text: &mut String, one: &B) -> Result<(), AllocError> {
+    text.push_str("(")?;
+    append_fields(text, one)?;
+    text.push_str(")")
+}
+
+fn append_boxes<B: FlameBox>(text: &mut String, boxes: &[B]) -> Result<(), AllocError> {
     for one in boxes {
-        append(alloc, &mut text, one)?;
+        append_box(text, one)?;
     }
-    Ok(text)
+    Ok(())
 }
 
-/// Appends the same, and the edges.
-fn append_placed(alloc: Global, text: &mut String, span: &PlacedBox) -> Result<(), AllocError> {
-    let depth = span.depth;
-    let name = span.name.get();
-    let start = span.start;
-    let weight = span.weight;
-    let own = span.own;
-    let left = span.left;
-    let right = span.right;
-    let line = format!(in alloc; "({depth} {name} {start} {weight} {own} {left} {right})")?;
-    text.push_str(&line)
+/// Appends the edges of a box, which are the last of it.
+fn append_edges(text: &mut String, left: u32, right: u32) -> Result<(), AllocError> {
+    write!(text, " {left} {right})")
 }
 
-fn shown_placed(alloc: Global, boxes: &[PlacedBox]) -> Result<String, AllocError> {
-    let mut text = String::new(alloc);
+/// Appends depth, name, start, weight, own weight and the edges of a box.
+fn append_placed(text: &mut String, span: &PlacedBox) -> Result<(), AllocError> {
+    text.push_str("(")?;
+    append_name(text, span.depth, span.name.get())?;
+    append_weights(text, span.start, span.weight, span.own)?;
+    append_edges(text, span.left, span.right)
+}
+
+fn append_placed_boxes(text: &mut String, boxes: &[PlacedBox]) -> Result<(), AllocError> {
     for span in boxes {
-        append_placed(alloc, &mut text, span)?;
+        append_placed(text, span)?;
     }
-    Ok(text)
-}
-
-fn is_shown(rt: &impl Abort, alloc: Global, boxes: &[SpanBox], text: &str) -> Result<(), Fail> {
-    let found = shown(alloc, boxes)?;
-    assert_eq!(rt; found.as_str(), text);
     Ok(())
 }
 
-fn is_shown_placed(
-    rt: &impl Abort,
-    alloc: Global,
-    boxes: &[PlacedBox],
-    text: &str,
-) -> Result<(), Fail> {
-    let found = shown_placed(alloc, boxes)?;
-    assert_eq!(rt; found.as_str(), text);
-    Ok(())
+fn pixels(rt: &impl Abort, count: u32) -> Width {
+    Width::of(count).expect(rt, "the width of an image")
+}
+
+pub(super) fn append_chart(
+    rt: &(impl Abort + AllocGlobal),
+    text: &mut String,
+    lists: &[SourceList],
+) -> Result<(), AllocError> {
+    assert_light(rt, lists, 1_000);
+    let boxes = chart_boxes(rt.alloc(), lists)?;
+    append_boxes(text, &boxes)
+}
+
+pub(super) fn append_placed_chart(
+    rt: &(impl Abort + AllocGlobal),
+    text: &mut String,
+    lists: &[SourceList],
+    width: u32,
+) -> Result<(), AllocError> {
+    assert_light(rt, lists, 1_000);
+    let boxes = chart_boxes(rt.alloc(), lists)?;
+    let placed = place(rt.alloc(), boxes, total_weight(lists), pixels(rt, width))?;
+    append_placed_boxes(text, &placed)
 }
 
 /// Two runs of one stack, with another between them.
@@ -94,46 +95,50 @@ const RUNS: Lines<'static> = &[(&["a", "b"], 1), (&["a", "c"], 1), (&["a", "b"],
 /// Three stacks, one of which weighs nothing.
 const THREE: Lines<'static> = &[(&["a"], 1), (&["c"], 0), (&["b"], 2)];
 
+const CHART_OF_RUNS: &[Telling<'static>] = &[(
+    Told::Chart,
+    &[RUNS],
+    "(0 all 0 3 0)(1 a 0 3 0)(2 b 0 1 1)(2 c 1 1 1)(2 b 2 1 1)",
+)];
+
 #[test]
 fn runs_of_a_chart(rt: HostRuntime) -> Result<(), Fail> {
-    let alloc = rt.alloc();
-    let boxes = chart(&rt, alloc, list(&rt, alloc, RUNS)?)?;
-    let text = "(0 all 0 3 0)(1 a 0 3 0)(2 b 0 1 1)(2 c 1 1 1)(2 b 2 1 1)";
-    is_shown(&rt, alloc, &boxes, text)
+    are_told(&rt, CHART_OF_RUNS)
 }
+
+const OTHER_PARENTS: &[Telling<'static>] = &[(
+    Told::Chart,
+    &[&[(&["a", "x"], 1), (&["b", "x"], 1)]],
+    "(0 all 0 2 0)(1 a 0 1 0)(2 x 0 1 1)(1 b 1 1 0)(2 x 1 1 1)",
+)];
 
 #[test]
 fn runs_under_other_parents(rt: HostRuntime) -> Result<(), Fail> {
-    let alloc = rt.alloc();
-    let lines: Lines<'_> = &[(&["a", "x"], 1), (&["b", "x"], 1)];
-    let boxes = chart(&rt, alloc, list(&rt, alloc, lines)?)?;
-    let text = "(0 all 0 2 0)(1 a 0 1 0)(2 x 0 1 1)(1 b 1 1 0)(2 x 1 1 1)";
-    is_shown(&rt, alloc, &boxes, text)
+    are_told(&rt, OTHER_PARENTS)
 }
+
+const EDGES: &[Telling<'static>] = &[(
+    Told::PlacedChart(10),
+    &[THREE],
+    "(0 all 0 3 0 0 10)(1 a 0 1 1 0 3)(1 b 1 2 2 3 10)",
+)];
 
 #[test]
 fn edges_of_three_lines(rt: HostRuntime) -> Result<(), Fail> {
-    let alloc = rt.alloc();
-    let width = Width::of(10).ok_or("no width")?;
-    let boxes = placed_chart(&rt, alloc, list(&rt, alloc, THREE)?, width)?;
-    let text = "(0 all 0 3 0 0 10)(1 a 0 1 1 0 3)(1 b 1 2 2 3 10)";
-    is_shown_placed(&rt, alloc, &boxes, text)
+    are_told(&rt, EDGES)
 }
+
+const WEIGHTLESS: &[Telling<'static>] = &[(Told::Chart, &[&[(&["a"], 0)]], "")];
 
 #[test]
 fn empty_timeline(rt: HostRuntime) -> Result<(), Fail> {
-    let alloc = rt.alloc();
-    let boxes = chart(&rt, alloc, list(&rt, alloc, &[(&["a"], 0)])?)?;
-    assert!(rt; boxes.is_empty());
-    Ok(())
+    are_told(&rt, WEIGHTLESS)
 }
 
 #[test]
 fn widths(rt: HostRuntime) {
-    assert!(rt; Width::of(0).is_none());
-    assert!(rt; Width::of(65_537).is_none());
-    assert_eq!(rt; Width::of(1).map_or(0, Width::get), 1);
-    assert_eq!(rt; Width::of(65_536).map_or(0, Width::get), 65_536);
+    assert!(rt; Width::of(0).is_none() && Width::of(65_537).is_none());
+    assert!(rt; pixels(&rt, 1).get() == 1 && pixels(&rt, 65_536).get() == 65_536);
 }
 
 #[test]

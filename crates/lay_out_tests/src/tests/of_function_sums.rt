@@ -1,50 +1,33 @@
 //! Worked examples.
 
-use super::sources::{Lines, list, merged_nothing, merged_source};
-use flame_layout::MergedStacks;
+use super::sources::Lines;
+use super::told::{OfMerged, Telling, Told, are_told};
 use function_sums::{FunctionSum, Order, function_sums};
+use merged_stacks::MergedStacks;
 use std::alloc::{AllocError, Global};
-use std::process::Abort;
 use std::test::Fail;
 
 /// Appends name, own weight and total of a function.
-fn append(alloc: Global, text: &mut String, sum: &FunctionSum) -> Result<(), AllocError> {
-    let name = sum.name.get();
-    let own = sum.own;
-    let total = sum.total;
-    let line = format!(in alloc; "({name} {own} {total})")?;
-    text.push_str(&line)
+fn append_sum(text: &mut String, sum: &FunctionSum) -> Result<(), AllocError> {
+    write!(text, "({} {} {})", sum.name.get(), sum.own, sum.total)
 }
 
-fn shown(alloc: Global, sums: &[FunctionSum]) -> Result<String, AllocError> {
-    let mut text = String::new(alloc);
+fn append_sums(text: &mut String, sums: &[FunctionSum]) -> Result<(), AllocError> {
     for sum in sums {
-        append(alloc, &mut text, sum)?;
+        append_sum(text, sum)?;
     }
-    Ok(text)
-}
-
-fn is_shown(
-    rt: &impl Abort,
-    alloc: Global,
-    sums: &[FunctionSum],
-    text: &str,
-) -> Result<(), AllocError> {
-    let found = shown(alloc, sums)?;
-    assert_eq!(rt; found.as_str(), text);
     Ok(())
 }
 
-/// The functions of merged stacks, in an order.
-fn lists(
-    rt: &impl Abort,
+/// Appends the functions of merged stacks, in an order.
+pub(super) fn append_functions(
     alloc: Global,
+    text: &mut String,
     merged: &MergedStacks,
     order: Order,
-    text: &str,
 ) -> Result<(), AllocError> {
     let sums = function_sums(alloc, merged, order)?;
-    is_shown(rt, alloc, &sums, text)
+    append_sums(text, &sums)
 }
 
 /// A stack without frames, a name that calls itself, one that stands twice, and a stack that weighs nothing.
@@ -58,33 +41,37 @@ const EXAMPLE: Lines<'static> = &[
     (&["f", "g", "f", "g"], 1),
 ];
 
-fn example(rt: &impl Abort, alloc: Global) -> Result<MergedStacks, AllocError> {
-    let source = list(rt, alloc, EXAMPLE)?;
-    merged_source(rt, alloc, source)
-}
+const BY_OWN_WEIGHT: &[Telling<'static>] = &[(
+    Told::Merged(OfMerged::Functions(Order::Own)),
+    &[EXAMPLE],
+    "(g 4 4)(f 2 6)(h 2 2)(main 1 8)",
+)];
 
 #[test]
 fn by_own_weight(rt: HostRuntime) -> Result<(), Fail> {
-    let merged = example(&rt, rt.alloc())?;
-    let text = "(g 4 4)(f 2 6)(h 2 2)(main 1 8)";
-    lists(&rt, rt.alloc(), &merged, Order::Own, text)?;
-    Ok(())
+    are_told(&rt, BY_OWN_WEIGHT)
 }
+
+const BY_TOTAL: &[Telling<'static>] = &[(
+    Told::Merged(OfMerged::Functions(Order::Total)),
+    &[EXAMPLE],
+    "(main 1 8)(f 2 6)(g 4 4)(h 2 2)",
+)];
 
 #[test]
 fn by_total(rt: HostRuntime) -> Result<(), Fail> {
-    let merged = example(&rt, rt.alloc())?;
-    let text = "(main 1 8)(f 2 6)(g 4 4)(h 2 2)";
-    lists(&rt, rt.alloc(), &merged, Order::Total, text)?;
-    Ok(())
+    are_told(&rt, BY_TOTAL)
 }
+
+const NO_FUNCTIONS: &[Telling<'static>] = &[(
+    Told::Merged(OfMerged::Functions(Order::Total)),
+    &[],
+    "",
+)];
 
 #[test]
 fn no_functions(rt: HostRuntime) -> Result<(), Fail> {
-    let merged = merged_nothing(rt.alloc())?;
-    let sums = function_sums(rt.alloc(), &merged, Order::Total)?;
-    assert!(rt; sums.is_empty());
-    Ok(())
+    are_told(&rt, NO_FUNCTIONS)
 }
 
 #[test]

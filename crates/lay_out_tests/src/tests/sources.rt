@@ -1,13 +1,27 @@
-//! Sources of a few lines, and their merged stacks.
+//! Sources of a few lines, and how much they weigh.
+ghost use Rattle.std.specs.Prelude.{◌<◌, ◌^◌};
 ghost use Rattle.stack_core.specs.Ledgers.{IsRead};
+ghost use Rattle.merged_stacks.specs.Merged.{all_samples};
+ghost use Rattle.merged_stacks.specs.Timeline.{samples_of, timeline, total_weight};
 
-use merged_stacks::MergedStacks;
 use stack_core::{Close, Ledger, Names, Sample, SourceEnd, SourceList};
 use std::alloc::{AllocError, Global};
 use std::process::Abort;
 
 /// Lines of a source: names, root first, and a weight.
 pub type Lines<'a> = &'a [(&'a [&'a str], u64)];
+
+fn take_line(
+    rt: &impl Abort,
+    alloc: Global,
+    ledger: &mut Ledger,
+    names: &[&str],
+    weight: u64,
+) -> Result<(), AllocError> {
+    assert!(rt; !ledger.is_closed() && names.len() < 10 && weight < 100);
+    let stack = Names::from_strs(alloc, names)?;
+    ledger.take(Sample { stack, weight })
+}
 
 fn take_lines(
     rt: &impl Abort,
@@ -16,13 +30,7 @@ fn take_lines(
     lines: Lines<'_>,
 ) -> Result<(), AllocError> {
     for (names, weight) in lines {
-        assert!(rt; !ledger.is_closed());
-        assert!(rt; names.len() < 10);
-        assert!(rt; *weight < 100);
-        ledger.take(Sample {
-            stack: Names::from_strs(alloc, names)?,
-            weight: *weight,
-        })?;
+        take_line(rt, alloc, ledger, names, *weight)?;
     }
     Ok(())
 }
@@ -35,65 +43,79 @@ fn close_read(rt: &impl Abort, ledger: &mut Ledger)
 }
 
 /// The list of a source with these lines.
-pub fn list(rt: &impl Abort, alloc: Global, lines: Lines<'_>) -> Result<SourceList, AllocError> {
+fn list(rt: &impl Abort, alloc: Global, lines: Lines<'_>) -> Result<SourceList, AllocError> {
     let mut ledger = Ledger::new(alloc);
     take_lines(rt, alloc, &mut ledger, lines)?;
     close_read(rt, &mut ledger);
     Ok(ledger.into_list())
 }
 
-/// The list of a source with 3,000 stacks of seven frames, each below the one before it.
-pub fn falling_list(rt: &impl Abort, alloc: Global) -> Result<SourceList, AllocError> {
-    let mut ledger = Ledger::new(alloc);
-    for number in (1_000u64..4_000).rev() {
-        assert!(rt; !ledger.is_closed());
-        let first = format!(in alloc; "f{}", number / 100)?;
-        let last = format!(in alloc; "f{number}")?;
-        let names = [first.as_str(), "a", "b", "c", "d", "e", last.as_str()];
-        ledger.take(Sample {
-            stack: Names::from_strs(alloc, &names)?,
-            weight: 1,
-        })?;
+/// The lists of sources with these lines.
+pub fn lists_of(
+    rt: &impl Abort,
+    alloc: Global,
+    sources: &[Lines<'_>],
+) -> Result<Vec<SourceList>, AllocError> {
+    let mut lists = Vec::new(alloc);
+    for lines in sources {
+        lists.push(list(rt, alloc, lines)?)?;
     }
+    Ok(lists)
+}
+
+fn take_split(
+    rt: &impl Abort,
+    alloc: Global,
+    ledger: &mut Ledger,
+    stack: &str,
+) -> Result<(), AllocError> {
+    let names: Vec<&str> = stack.split(';').collect(alloc)?;
+    take_line(rt, alloc, ledger, &names, 1)
+}
+
+fn take_falling(
+    rt: &impl Abort,
+    alloc: Global,
+    ledger: &mut Ledger,
+    number: u64,
+) -> Result<(), AllocError> {
+    let stack = format!(in alloc; "f{};a;b;c;d;e;f{}", number / 100, number)?;
+    take_split(rt, alloc, ledger, &stack)
+}
+
+fn take_all_falling(rt: &impl Abort, alloc: Global, ledger: &mut Ledger) -> Result<(), AllocError> {
+    for number in (1_000u64..4_000).rev() {
+        take_falling(rt, alloc, ledger, number)?;
+    }
+    Ok(())
+}
+
+/// The list of a source with 3,000 stacks of seven frames, each below the one before it.
+fn falling_list(rt: &impl Abort, alloc: Global) -> Result<SourceList, AllocError> {
+    let mut ledger = Ledger::new(alloc);
+    take_all_falling(rt, alloc, &mut ledger)?;
     close_read(rt, &mut ledger);
     Ok(ledger.into_list())
 }
 
-/// The merged stacks of a source.
-pub fn merged_source(
-    rt: &impl Abort,
-    alloc: Global,
-    source: SourceList,
-) -> Result<MergedStacks, AllocError> {
-    assert!(rt; source.total() < 1_000);
-    MergedStacks::of(alloc, &[source])
+/// The lists of two such sources.
+pub fn falling_lists(rt: &impl Abort, alloc: Global) -> Result<Vec<SourceList>, AllocError> {
+    let mut lists = Vec::new(alloc);
+    for _ in 0..2 {
+        lists.push(falling_list(rt, alloc)?)?;
+    }
+    Ok(lists)
 }
 
-/// The merged stacks of two sources.
-fn merged_sources(
-    rt: &impl Abort,
-    alloc: Global,
-    one: SourceList,
-    other: SourceList,
-) -> Result<MergedStacks, AllocError> {
-    assert!(rt; one.total() < 1_000);
-    assert!(rt; other.total() < 1_000);
-    MergedStacks::of(alloc, &[one, other])
-}
-
-/// The merged stacks of two sources with these lines.
-pub fn merged_lines(
-    rt: &impl Abort,
-    alloc: Global,
-    one: Lines<'_>,
-    other: Lines<'_>,
-) -> Result<MergedStacks, AllocError> {
-    let one = list(rt, alloc, one)?;
-    let other = list(rt, alloc, other)?;
-    merged_sources(rt, alloc, one, other)
-}
-
-/// The merged stacks of no source.
-pub fn merged_nothing(alloc: Global) -> Result<MergedStacks, AllocError> {
-    MergedStacks::of(alloc, &[])
+/// That lists weigh less than this together.
+pub fn assert_light(rt: &impl Abort, lists: &[SourceList], limit: u128)
+    requires { limit < 2 ^ 64 }
+    ensures merged { total_weight (all_samples (samples_of lists.now)) < 2 ^ 64 }
+    ensures drawn { total_weight (timeline (samples_of lists.now)) < 2 ^ 64 }
+{
+    let mut room = limit;
+    for list in lists {
+        assert!(rt; list.total() < room);
+        room -= list.total();
+    }
 }

@@ -1,7 +1,12 @@
 //! Comparisons of worked examples.
+ghost use Rattle.std.specs.Prelude.{◌<◌, ◌^◌};
+ghost use Rattle.sample_tables.specs.Samples.{total_weight};
 
-use crate::tests::sources::list;
-use flame_layout::{ComparedBox, PairRow, Width, compare, compared_boxes, draw_comparison, edges};
+use super::drawn::edges_in;
+use super::{append_edges, append_fields, pixels};
+use crate::tests::sources::Lines;
+use crate::tests::told::{OfTwo, Telling, Told, are_told};
+use flame_layout::{ComparedBox, PairRow, Width, compare, compared_boxes, draw_comparison};
 use stack_core::SourceList;
 use std::alloc::{AllocError, Global};
 use std::process::Abort;
@@ -16,139 +21,128 @@ fn append_names(text: &mut String, names: &[String]) -> Result<(), AllocError> {
     Ok(())
 }
 
-/// Appends the names and the four weights of a row.
-fn append_row(alloc: Global, text: &mut String, row: &PairRow) -> Result<(), AllocError> {
-    text.push_str("(")?;
-    append_names(text, row.path.get())?;
-    let total_before = row.total_before;
-    let total_after = row.total_after;
-    let own_before = row.own_before;
-    let own_after = row.own_after;
-    let line = format!(in alloc; " {total_before} {total_after} {own_before} {own_after})")?;
-    text.push_str(&line)
+/// Appends a weight of the first profile and one of the second.
+fn append_both(text: &mut String, before: u64, after: u64) -> Result<(), AllocError> {
+    write!(text, " {before} {after}")
 }
 
-fn shown_rows(alloc: Global, rows: &[PairRow]) -> Result<String, AllocError> {
-    let mut text = String::new(alloc);
+/// Appends the names, the totals and the own weights of a row.
+fn append_row(text: &mut String, row: &PairRow) -> Result<(), AllocError> {
+    text.push_str("(")?;
+    append_names(text, row.path.get())?;
+    append_both(text, row.total_before, row.total_after)?;
+    append_both(text, row.own_before, row.own_after)?;
+    text.push_str(")")
+}
+
+fn append_all_rows(text: &mut String, rows: &[PairRow]) -> Result<(), AllocError> {
     for row in rows {
-        append_row(alloc, &mut text, row)?;
+        append_row(text, row)?;
     }
-    Ok(text)
+    Ok(())
+}
+
+/// The rows of a comparison.
+pub(in crate::tests) fn append_rows(
+    alloc: Global,
+    text: &mut String,
+    before: &SourceList,
+    after: &SourceList,
+) -> Result<(), AllocError>
+    requires before { total_weight before.now.samples < 2 ^ 64 }
+    requires after { total_weight after.now.samples < 2 ^ 64 }
+{
+    let rows = compare(alloc, before, after)?;
+    append_all_rows(text, &rows)
 }
 
 /// Appends the first profile's total, depth, name, start, weight and own weight of a box, and its edges.
 fn append_compared(
     rt: &impl Abort,
-    alloc: Global,
     text: &mut String,
     compared: &ComparedBox,
     total: u64,
     width: Width,
 ) -> Result<(), AllocError> {
-    let span = &compared.span;
-    assert!(rt; total > 0);
-    assert!(rt; span.start <= total);
-    assert!(rt; span.weight <= total - span.start);
-    let (left, right) = edges(span, total, width);
-    let before = compared.before;
-    let depth = span.depth;
-    let name = span.name.get();
-    let start = span.start;
-    let weight = span.weight;
-    let own = span.own;
-    let line = format!(in alloc;
-        "({before} {depth} {name} {start} {weight} {own} {left} {right})"
-    )?;
-    text.push_str(&line)
+    let (left, right) = edges_in(rt, &compared.span, total, width);
+    write!(text, "({} ", compared.before)?;
+    append_fields(text, &compared.span)?;
+    append_edges(text, left, right)
 }
 
-fn shown_compared(
+fn append_all_compared(
     rt: &impl Abort,
-    alloc: Global,
+    text: &mut String,
     boxes: &[ComparedBox],
     total: u64,
     width: Width,
-) -> Result<String, AllocError> {
-    let mut text = String::new(alloc);
+) -> Result<(), AllocError> {
     for compared in boxes {
-        append_compared(rt, alloc, &mut text, compared, total, width)?;
+        append_compared(rt, text, compared, total, width)?;
     }
-    Ok(text)
-}
-
-const OLD: &[(&[&str], u64)] = &[(&["a"], 3), (&["b"], 1)];
-
-const NEW: &[(&[&str], u64)] = &[(&["a"], 1), (&["c"], 2)];
-
-fn compares(
-    rt: &impl Abort,
-    alloc: Global,
-    before: &SourceList,
-    after: &SourceList,
-) -> Result<(), Fail> {
-    assert!(rt; before.total() < 1_000);
-    assert!(rt; after.total() < 1_000);
-    let rows = compare(alloc, before, after)?;
-    let found = shown_rows(alloc, &rows)?;
-    assert_eq!(rt;
-        found.as_str(),
-        "( 4 3 0 0)(a; 3 1 3 1)(b; 1 0 1 0)(c; 0 2 0 2)"
-    );
     Ok(())
 }
+
+/// The boxes of the rows of a comparison.
+pub(in crate::tests) fn append_row_boxes(
+    rt: &(impl Abort + AllocGlobal),
+    text: &mut String,
+    before: &SourceList,
+    after: &SourceList,
+    total: u64,
+    width: u32,
+) -> Result<(), AllocError>
+    requires before { total_weight before.now.samples < 2 ^ 64 }
+    requires after { total_weight after.now.samples < 2 ^ 64 }
+{
+    let rows = compare(rt.alloc(), before, after)?;
+    let boxes = compared_boxes(rt.alloc(), &rows)?;
+    append_all_compared(rt, text, &boxes, total, pixels(rt, width))
+}
+
+/// The boxes of a comparison without rows.
+pub(in crate::tests) fn append_compared_boxes(
+    rt: &(impl Abort + AllocGlobal),
+    text: &mut String,
+    before: &SourceList,
+    after: &SourceList,
+    total: u64,
+    width: u32,
+) -> Result<(), AllocError>
+    requires before { total_weight before.now.samples < 2 ^ 64 }
+    requires after { total_weight after.now.samples < 2 ^ 64 }
+{
+    let boxes = draw_comparison(rt.alloc(), before, after)?;
+    append_all_compared(rt, text, &boxes, total, pixels(rt, width))
+}
+
+const OLD: Lines<'static> = &[(&["a"], 3), (&["b"], 1)];
+
+const NEW: Lines<'static> = &[(&["a"], 1), (&["c"], 2)];
+
+const ROWS: &[Telling<'static>] = &[(
+    Told::Two(OfTwo::Rows),
+    &[OLD, NEW],
+    "( 4 3 0 0)(a; 3 1 3 1)(b; 1 0 1 0)(c; 0 2 0 2)",
+)];
 
 #[test]
 fn comparison(rt: HostRuntime) -> Result<(), Fail> {
-    let before = list(&rt, rt.alloc(), OLD)?;
-    let after = list(&rt, rt.alloc(), NEW)?;
-    compares(&rt, rt.alloc(), &before, &after)
-}
-
-fn draws_comparison(
-    rt: &impl Abort,
-    alloc: Global,
-    before: &SourceList,
-    after: &SourceList,
-    width: Width,
-) -> Result<(), Fail> {
-    assert!(rt; before.total() < 1_000);
-    assert!(rt; after.total() < 1_000);
-    let rows = compare(alloc, before, after)?;
-    let boxes = compared_boxes(alloc, &rows)?;
-    let found = shown_compared(rt, alloc, &boxes, 3, width)?;
-    assert_eq!(rt; found.as_str(), BOXES);
-    Ok(())
+    are_told(&rt, ROWS)
 }
 
 const BOXES: &str = "(4 0 all 0 3 0 0 10)(3 1 a 0 1 1 0 3)(0 1 c 1 2 2 3 10)";
 
+const OF_ROWS: &[Telling<'static>] = &[(Told::Two(OfTwo::RowBoxes(3, 10)), &[OLD, NEW], BOXES)];
+
 #[test]
 fn comparison_boxes(rt: HostRuntime) -> Result<(), Fail> {
-    let width = Width::of(10).ok_or("no width")?;
-    let before = list(&rt, rt.alloc(), OLD)?;
-    let after = list(&rt, rt.alloc(), NEW)?;
-    draws_comparison(&rt, rt.alloc(), &before, &after, width)
+    are_told(&rt, OF_ROWS)
 }
 
-fn draws_without_rows(
-    rt: &impl Abort,
-    alloc: Global,
-    before: &SourceList,
-    after: &SourceList,
-    width: Width,
-) -> Result<(), Fail> {
-    assert!(rt; before.total() < 1_000);
-    assert!(rt; after.total() < 1_000);
-    let boxes = draw_comparison(alloc, before, after)?;
-    let found = shown_compared(rt, alloc, &boxes, 3, width)?;
-    assert_eq!(rt; found.as_str(), BOXES);
-    Ok(())
-}
+const WITHOUT_ROWS: &[Telling<'static>] = &[(Told::Two(OfTwo::Boxes(3, 10)), &[OLD, NEW], BOXES)];
 
 #[test]
 fn comparison_boxes_without_rows(rt: HostRuntime) -> Result<(), Fail> {
-    let width = Width::of(10).ok_or("no width")?;
-    let before = list(&rt, rt.alloc(), OLD)?;
-    let after = list(&rt, rt.alloc(), NEW)?;
-    draws_without_rows(&rt, rt.alloc(), &before, &after, width)
+    are_told(&rt, WITHOUT_ROWS)
 }

@@ -1,101 +1,111 @@
 //! Boxes of worked examples that borrow their names.
 
-use super::{RUNS, THREE, shown};
-use crate::tests::sources::{list, merged_source};
+use super::{RUNS, THREE, append_boxes, append_edges, pixels};
+use crate::tests::sources::assert_light;
+use crate::tests::told::{OfMerged, Telling, Told, are_told};
 use flame_layout::{FlameBox, MergedStacks, Width, draw_chart, draw_merged, edges};
 use stack_core::SourceList;
 use std::alloc::{AllocError, Global};
 use std::process::Abort;
 use std::test::Fail;
 
-/// The chart of one source.
-fn shown_chart(rt: &impl Abort, alloc: Global, source: SourceList) -> Result<String, AllocError> {
-    assert!(rt; source.total() < 1_000);
-    let lists = [source];
-    let boxes = draw_chart(alloc, &lists)?;
-    shown(alloc, &boxes)
+/// The boxes of a chart.
+pub(in crate::tests) fn append_drawn_chart(
+    rt: &(impl Abort + AllocGlobal),
+    text: &mut String,
+    lists: &[SourceList],
+) -> Result<(), AllocError> {
+    assert_light(rt, lists, 1_000);
+    let boxes = draw_chart(rt.alloc(), lists)?;
+    append_boxes(text, &boxes)
+}
+
+/// The boxes of a graph.
+pub(in crate::tests) fn append_drawn_graph(
+    alloc: Global,
+    text: &mut String,
+    merged: &MergedStacks,
+) -> Result<(), AllocError> {
+    let boxes = draw_merged(alloc, merged)?;
+    append_boxes(text, &boxes)
+}
+
+/// Where a box begins and ends in a picture of this total.
+pub(super) fn edges_in<B: FlameBox>(
+    rt: &impl Abort,
+    one: &B,
+    total: u64,
+    width: Width,
+) -> (u32, u32) {
+    assert!(rt; total > 0);
+    assert!(rt; one.start() <= total && one.weight() <= total - one.start());
+    edges(one, total, width)
 }
 
 /// Appends the name and the edges of a box.
-fn append_edges<B: FlameBox>(
+fn append_name_and_edges<B: FlameBox>(
     rt: &impl Abort,
-    alloc: Global,
     text: &mut String,
     one: &B,
     total: u64,
     width: Width,
 ) -> Result<(), AllocError> {
-    assert!(rt; total > 0);
-    assert!(rt; one.start() <= total);
-    assert!(rt; one.weight() <= total - one.start());
-    let (left, right) = edges(one, total, width);
-    let name = one.name();
-    let line = format!(in alloc; "({name} {left} {right})")?;
-    text.push_str(&line)
+    let (left, right) = edges_in(rt, one, total, width);
+    text.push_str("(")?;
+    text.push_str(one.name())?;
+    append_edges(text, left, right)
 }
 
-fn shown_edges<B: FlameBox>(
+fn append_all_edges<B: FlameBox>(
     rt: &impl Abort,
-    alloc: Global,
+    text: &mut String,
     boxes: &[B],
     total: u64,
     width: Width,
-) -> Result<String, AllocError> {
-    let mut text = String::new(alloc);
+) -> Result<(), AllocError> {
     for one in boxes {
-        append_edges(rt, alloc, &mut text, one, total, width)?;
+        append_name_and_edges(rt, text, one, total, width)?;
     }
-    Ok(text)
+    Ok(())
 }
+
+/// The edges of the boxes of a graph.
+pub(in crate::tests) fn append_drawn_edges(
+    rt: &(impl Abort + AllocGlobal),
+    text: &mut String,
+    merged: &MergedStacks,
+    total: u64,
+    width: u32,
+) -> Result<(), AllocError> {
+    let boxes = draw_merged(rt.alloc(), merged)?;
+    append_all_edges(rt, text, &boxes, total, pixels(rt, width))
+}
+
+const CHART: &[Telling<'static>] = &[(
+    Told::DrawnChart,
+    &[RUNS],
+    "(0 all 0 3 0)(1 a 0 3 0)(2 b 0 1 1)(2 c 1 1 1)(2 b 2 1 1)",
+)];
 
 #[test]
 fn chart_with_lent_names(rt: HostRuntime) -> Result<(), Fail> {
-    let source = list(&rt, rt.alloc(), RUNS)?;
-    let found = shown_chart(&rt, rt.alloc(), source)?;
-    let text = "(0 all 0 3 0)(1 a 0 3 0)(2 b 0 1 1)(2 c 1 1 1)(2 b 2 1 1)";
-    assert_eq!(rt; found.as_str(), text);
-    Ok(())
+    are_told(&rt, CHART)
 }
 
-fn shows<B: FlameBox>(
-    rt: &impl Abort,
-    alloc: Global,
-    boxes: &[B],
-    text: &str,
-) -> Result<(), AllocError> {
-    let found = shown(alloc, boxes)?;
-    assert_eq!(rt; found.as_str(), text);
-    Ok(())
-}
-
-fn shows_edges<B: FlameBox>(
-    rt: &impl Abort,
-    alloc: Global,
-    boxes: &[B],
-    width: Width,
-    text: &str,
-) -> Result<(), AllocError> {
-    let found = shown_edges(rt, alloc, boxes, 3, width)?;
-    assert_eq!(rt; found.as_str(), text);
-    Ok(())
-}
-
-fn draws(
-    rt: &impl Abort,
-    alloc: Global,
-    merged: &MergedStacks,
-    width: Width,
-) -> Result<(), AllocError> {
-    let boxes = draw_merged(alloc, merged)?;
-    shows(rt, alloc, &boxes, "(0 all 0 3 0)(1 a 0 1 1)(1 b 1 2 2)")?;
-    shows_edges(rt, alloc, &boxes, width, "(all 0 10)(a 0 3)(b 3 10)")
-}
+const GRAPH: &[Telling<'static>] = &[
+    (
+        Told::Merged(OfMerged::DrawnGraph),
+        &[THREE],
+        "(0 all 0 3 0)(1 a 0 1 1)(1 b 1 2 2)",
+    ),
+    (
+        Told::Merged(OfMerged::DrawnEdges(3, 10)),
+        &[THREE],
+        "(all 0 10)(a 0 3)(b 3 10)",
+    ),
+];
 
 #[test]
 fn graph_with_lent_names(rt: HostRuntime) -> Result<(), Fail> {
-    let width = Width::of(10).ok_or("no width")?;
-    let source = list(&rt, rt.alloc(), THREE)?;
-    let merged = merged_source(&rt, rt.alloc(), source)?;
-    draws(&rt, rt.alloc(), &merged, width)?;
-    Ok(())
+    are_told(&rt, GRAPH)
 }

@@ -1,41 +1,48 @@
 //! Graphs of merged stacks.
 
-use super::is_shown;
-use crate::tests::sources::{Lines, merged_lines, merged_nothing};
+use super::{THREE, append_boxes};
+use crate::tests::told::{OfMerged, Telling, Told, are_told};
 use flame_layout::{MergedStacks, merged_boxes};
-use std::alloc::Global;
-use std::process::Abort;
+use std::alloc::{AllocError, Global};
 use std::test::Fail;
 
-fn draws(rt: &impl Abort, alloc: Global, merged: &MergedStacks, text: &str) -> Result<(), Fail> {
+pub(in crate::tests) fn append_graph(
+    alloc: Global,
+    text: &mut String,
+    merged: &MergedStacks,
+) -> Result<(), AllocError> {
     let boxes = merged_boxes(alloc, merged)?;
-    is_shown(rt, alloc, &boxes, text)
+    append_boxes(text, &boxes)
 }
 
-const ONE: Lines<'static> = &[(&["a", "b"], 1), (&["a", "c"], 1)];
-
-const OTHER: Lines<'static> = &[(&["c"], 0), (&["a", "b"], 1)];
+const TWO_SOURCES: &[Telling<'static>] = &[(
+    Told::Merged(OfMerged::Graph),
+    &[
+        &[(&["a", "b"], 1), (&["a", "c"], 1)],
+        &[(&["c"], 0), (&["a", "b"], 1)],
+    ],
+    "(0 all 0 3 0)(1 a 0 3 0)(2 b 0 2 2)(2 c 2 1 1)",
+)];
 
 #[test]
 fn graph_of_two_sources(rt: HostRuntime) -> Result<(), Fail> {
-    let merged = merged_lines(&rt, rt.alloc(), ONE, OTHER)?;
-    let text = "(0 all 0 3 0)(1 a 0 3 0)(2 b 0 2 2)(2 c 2 1 1)";
-    draws(&rt, rt.alloc(), &merged, text)
+    are_told(&rt, TWO_SOURCES)
 }
 
-const THREE: Lines<'static> = &[(&["a"], 1), (&["c"], 0), (&["b"], 2)];
+const THREE_LINES: &[Telling<'static>] = &[(
+    Told::Merged(OfMerged::Graph),
+    &[THREE, &[]],
+    "(0 all 0 3 0)(1 a 0 1 1)(1 b 1 2 2)",
+)];
 
 #[test]
 fn graph_of_three_lines(rt: HostRuntime) -> Result<(), Fail> {
-    let merged = merged_lines(&rt, rt.alloc(), THREE, &[])?;
-    let text = "(0 all 0 3 0)(1 a 0 1 1)(1 b 1 2 2)";
-    draws(&rt, rt.alloc(), &merged, text)
+    are_told(&rt, THREE_LINES)
 }
+
+const NOTHING: &[Telling<'static>] = &[(Told::Merged(OfMerged::Graph), &[], "")];
 
 #[test]
 fn nothing_merged(rt: HostRuntime) -> Result<(), Fail> {
-    let merged = merged_nothing(rt.alloc())?;
-    let boxes = merged_boxes(rt.alloc(), &merged)?;
-    assert!(rt; boxes.is_empty());
-    Ok(())
+    are_told(&rt, NOTHING)
 }

@@ -8,8 +8,8 @@ ghost use Rattle.merged_stacks.specs.Timeline.{total_weight};
 ghost use Rattle.merged_stacks.specs.checked.Ranks.{Grows};
 ghost use Rattle.flame_layout.specs.checked.Held.{Holds};
 
-use super::{RUNS, THREE, is_shown_placed};
-use crate::tests::sources::list;
+use super::{RUNS, THREE, append_placed_boxes, pixels};
+use crate::tests::told::{Telling, Told, are_told};
 use call_tree::{CallTree, FrameTable};
 use flame_layout::{PlacedBox, Width, graph_boxes, place};
 use stack_core::SourceList;
@@ -76,39 +76,41 @@ fn placed_graph(
     place(alloc, boxes, total as u64, width)
 }
 
-fn draws_graph(
-    rt: &impl Abort,
-    alloc: Global,
+pub(in crate::tests) fn append_placed_graph(
+    rt: &(impl Abort + AllocGlobal),
+    text: &mut String,
     source: &SourceList,
-    width: Width,
-    text: &str,
-) -> Result<(), Fail> {
-    let boxes = placed_graph(rt, alloc, source, width)?;
-    is_shown_placed(rt, alloc, &boxes, text)
+    width: u32,
+) -> Result<(), AllocError> {
+    let boxes = placed_graph(rt, rt.alloc(), source, pixels(rt, width))?;
+    append_placed_boxes(text, &boxes)
 }
+
+const OF_THE_RUNS: &[Telling<'static>] = &[(
+    Told::PlacedGraph(3),
+    &[RUNS],
+    "(0 all 0 3 0 0 3)(1 a 0 3 0 0 3)(2 b 0 2 2 0 2)(2 c 2 1 1 2 3)",
+)];
 
 #[test]
 fn graph_of_the_runs(rt: HostRuntime) -> Result<(), Fail> {
-    let width = Width::of(3).ok_or("no width")?;
-    let source = list(&rt, rt.alloc(), RUNS)?;
-    let text = "(0 all 0 3 0 0 3)(1 a 0 3 0 0 3)(2 b 0 2 2 0 2)(2 c 2 1 1 2 3)";
-    draws_graph(&rt, rt.alloc(), &source, width, text)
+    are_told(&rt, OF_THE_RUNS)
 }
+
+const OF_THREE_LINES: &[Telling<'static>] = &[(
+    Told::PlacedGraph(10),
+    &[THREE],
+    "(0 all 0 3 0 0 10)(1 a 0 1 1 0 3)(1 b 1 2 2 3 10)",
+)];
 
 #[test]
 fn graph_of_three_lines(rt: HostRuntime) -> Result<(), Fail> {
-    let width = Width::of(10).ok_or("no width")?;
-    let source = list(&rt, rt.alloc(), THREE)?;
-    let text = "(0 all 0 3 0 0 10)(1 a 0 1 1 0 3)(1 b 1 2 2 3 10)";
-    draws_graph(&rt, rt.alloc(), &source, width, text)
+    are_told(&rt, OF_THREE_LINES)
 }
+
+const OF_NOTHING: &[Telling<'static>] = &[(Told::PlacedGraph(10), &[&[]], "")];
 
 #[test]
 fn empty_graph(rt: HostRuntime) -> Result<(), Fail> {
-    let alloc = rt.alloc();
-    let tree = CallTree::new(alloc)?;
-    let table = FrameTable::new(alloc);
-    let boxes = graph_boxes(alloc, &tree, &table)?;
-    assert!(rt; boxes.is_empty());
-    Ok(())
+    are_told(&rt, OF_NOTHING)
 }

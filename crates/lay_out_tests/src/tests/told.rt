@@ -1,0 +1,172 @@
+//! What is told of sources, as a text.
+
+use super::of_flame_layout::comparisons::{append_compared_boxes, append_row_boxes, append_rows};
+use super::of_flame_layout::drawn::{append_drawn_chart, append_drawn_edges, append_drawn_graph};
+use super::of_flame_layout::merged::append_graph;
+use super::of_flame_layout::trees::append_placed_graph;
+use super::of_flame_layout::{append_chart, append_placed_chart};
+use super::of_function_sums::append_functions;
+use super::of_merged_stacks::pairs::{append_pairs, append_shared_frames, append_side};
+use super::of_merged_stacks::{append_stacks, append_total};
+use super::sources::{Lines, assert_light, lists_of};
+use function_sums::Order;
+use merged_stacks::{MergedStacks, Side};
+use stack_core::SourceList;
+use std::alloc::AllocError;
+use std::process::Abort;
+use std::test::Fail;
+use std::thread::Threads;
+
+/// What is told of sources.
+pub enum Told {
+    /// The boxes of their chart.
+    Chart,
+    /// The same, in an image of this width.
+    PlacedChart(u32),
+    /// The boxes of their chart, with names that the lists lend.
+    DrawnChart,
+    /// The boxes of the tree of one source, in an image of this width.
+    PlacedGraph(u32),
+    Merged(OfMerged),
+    Two(OfTwo),
+}
+
+/// What is told of the merged stacks of sources.
+pub enum OfMerged {
+    Stacks,
+    Total,
+    /// The boxes of their graph.
+    Graph,
+    /// The same, with names that the stacks lend.
+    DrawnGraph,
+    /// The edges of these in a picture of this total and this width.
+    DrawnEdges(u64, u32),
+    Functions(Order),
+}
+
+/// What is told of two sources.
+pub enum OfTwo {
+    /// Their stacks side by side.
+    Pairs,
+    /// How many frames the first two of these have in common.
+    SharedFrames,
+    /// These stacks with the weights of one source.
+    Side(Side),
+    /// The rows of their comparison.
+    Rows,
+    /// The boxes of these rows in a picture of this total and this width.
+    RowBoxes(u64, u32),
+    /// The same boxes, drawn without the rows.
+    Boxes(u64, u32),
+}
+
+fn append_merged(
+    rt: &(impl Abort + AllocGlobal),
+    text: &mut String,
+    told: &OfMerged,
+    merged: &MergedStacks,
+) -> Result<(), AllocError> {
+    match told {
+        OfMerged::Stacks => append_stacks(text, merged),
+        OfMerged::Total => append_total(text, merged),
+        OfMerged::Graph => append_graph(rt.alloc(), text, merged),
+        OfMerged::DrawnGraph => append_drawn_graph(rt.alloc(), text, merged),
+        OfMerged::DrawnEdges(total, width) => append_drawn_edges(rt, text, merged, *total, *width),
+        OfMerged::Functions(order) => append_functions(rt.alloc(), text, merged, *order),
+    }
+}
+
+fn append_of_merged(
+    rt: &(impl Abort + AllocGlobal),
+    text: &mut String,
+    told: &OfMerged,
+    lists: &[SourceList],
+) -> Result<(), AllocError> {
+    assert_light(rt, lists, 1_000);
+    let merged = MergedStacks::of(rt.alloc(), lists)?;
+    append_merged(rt, text, told, &merged)
+}
+
+fn append_of_two(
+    rt: &(impl Abort + AllocGlobal + Threads),
+    text: &mut String,
+    told: &OfTwo,
+    before: &SourceList,
+    after: &SourceList,
+) -> Result<(), AllocError> {
+    assert!(rt; before.total() < 1_000 && after.total() < 1_000);
+    match told {
+        OfTwo::Pairs => append_pairs(rt.alloc(), text, before, after),
+        OfTwo::SharedFrames => append_shared_frames(rt, text, before, after),
+        OfTwo::Side(side) => append_side(rt, text, before, after, *side),
+        OfTwo::Rows => append_rows(rt.alloc(), text, before, after),
+        OfTwo::RowBoxes(total, width) => {
+            append_row_boxes(rt, text, before, after, *total, *width)
+        }
+        OfTwo::Boxes(total, width) => {
+            append_compared_boxes(rt, text, before, after, *total, *width)
+        }
+    }
+}
+
+/// Appends what is told of lists.
+fn append_told(
+    rt: &(impl Abort + AllocGlobal + Threads),
+    text: &mut String,
+    told: &Told,
+    lists: &[SourceList],
+) -> Result<(), AllocError> {
+    match told {
+        Told::Chart => append_chart(rt, text, lists),
+        Told::PlacedChart(width) => append_placed_chart(rt, text, lists, *width),
+        Told::DrawnChart => append_drawn_chart(rt, text, lists),
+        Told::PlacedGraph(width) => {
+            assert!(rt; lists.len() == 1);
+            append_placed_graph(rt, text, &lists[0], *width)
+        }
+        Told::Merged(told) => append_of_merged(rt, text, told, lists),
+        Told::Two(told) => {
+            assert!(rt; lists.len() == 2);
+            append_of_two(rt, text, told, &lists[0], &lists[1])
+        }
+    }
+}
+
+fn append_of_sources(
+    rt: &(impl Abort + AllocGlobal + Threads),
+    text: &mut String,
+    told: &Told,
+    sources: &[Lines<'_>],
+) -> Result<(), AllocError> {
+    let lists = lists_of(rt, rt.alloc(), sources)?;
+    append_told(rt, text, told, &lists)
+}
+
+pub fn is_text(rt: &impl Abort, found: &str, wanted: &str) {
+    assert_eq!(rt; found, wanted);
+}
+
+/// What is told, of sources of these lines, and as which text.
+pub type Telling<'a> = (Told, &'a [Lines<'a>], &'a str);
+
+fn is_told(
+    rt: &(impl Abort + AllocGlobal + Threads),
+    telling: &Telling<'_>,
+) -> Result<(), AllocError> {
+    let (told, sources, wanted) = telling;
+    let mut text = String::new(rt.alloc());
+    append_of_sources(rt, &mut text, told, sources)?;
+    is_text(rt, &text, wanted);
+    Ok(())
+}
+
+/// Each of these is told so.
+pub fn are_told(
+    rt: &(impl Abort + AllocGlobal + Threads),
+    tellings: &[Telling<'_>],
+) -> Result<(), Fail> {
+    for telling in tellings {
+        is_told(rt, telling)?;
+    }
+    Ok(())
+}
