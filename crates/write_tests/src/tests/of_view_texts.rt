@@ -3,4 +3,5 @@ mod boxes;
 mod examples;
 mod fold;
 mod lines;
+mod sources;
 mod types;

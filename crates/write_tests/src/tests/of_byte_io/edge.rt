@@ -1,14 +1,16 @@
 //! Readers and writers that fail at each of their calls.
 use super::fakes::{Faulty, Full, Stingy};
+use crate::tests::texts::are_bytes;
 use byte_io::{
     CountedReader, CountedWriter, Files, LoadFault, MachineFiles, MemoryFiles, NamedFile,
     SendFault, load, send,
 };
 use std::alloc::{AllocError, Global};
+use std::fmt::Display;
 use std::io::{ErrorKind, Read, Write};
 use std::process::Abort;
 use std::test::Fail;
-use std::{env, fs};
+use std::{env, fs, rt};
 
 // The text goes out up to the first call that fails.
 fn sends_so_many<W: Write>(
@@ -17,13 +19,11 @@ fn sends_so_many<W: Write>(
     text: &[u8],
     written: usize,
 ) {
-    assert_eq!(rt; send(text, out), Err(SendFault { written }));
-    assert_eq!(rt; out.failures(), 1);
+    assert!(rt; send(text, out) == Err(SendFault { written }) && out.failures() == 1);
 }
 
 fn is_front(rt: &impl Abort, front: &[u8], text: &[u8], len: usize) {
-    assert!(rt; text.starts_with(front));
-    assert_eq!(rt; front.len(), len);
+    assert!(rt; text.starts_with(front) && front.len() == len);
 }
 
 // A writer with so much room takes as many bytes of the text.
@@ -41,8 +41,7 @@ fn loads<R: Read>(
     limit: usize,
     wanted: &[u8],
 ) -> Result<(), LoadFault> {
-    let whole = load(alloc, reader, limit)?;
-    assert_eq!(rt; whole.as_slice(), wanted);
+    are_bytes(rt, load(alloc, reader, limit)?.as_slice(), wanted);
     Ok(())
 }
 
@@ -69,8 +68,7 @@ fn lines_writers_and_limits(rt: HostRuntime) -> Result<(), Fail> {
 }
 
 fn is_sent(rt: &impl Abort, out: &mut CountedWriter<Vec<u8>>, text: &[u8]) {
-    assert_eq!(rt; send(text, out), Ok(()));
-    assert_eq!(rt; out.failures(), 0);
+    assert!(rt; send(text, out).is_ok() && out.failures() == 0);
 }
 
 fn vector_takes_all(rt: &impl Abort, alloc: Global, text: &[u8]) {
@@ -92,14 +90,13 @@ fn each_write_fails_in_turn(rt: HostRuntime) {
 
 fn read_fails(rt: &impl Abort, alloc: Global, errs_at: usize) {
     let mut reader = Faulty::counted(b"abcde", errs_at, ErrorKind::Other);
-    assert!(rt; load_fault(alloc, &mut reader, 5) == Some(LoadFault::Io));
-    assert_eq!(rt; reader.failures(), 1);
+    assert!(rt; load_fault(alloc, &mut reader, 5) == Some(LoadFault::Io) && reader.failures() == 1);
 }
 
 fn read_is_tried_again(rt: &impl Abort, alloc: Global, errs_at: usize) -> Result<(), LoadFault> {
     let mut reader = Faulty::counted(b"abcde", errs_at, ErrorKind::Interrupted);
     loads(rt, alloc, &mut reader, 5, b"abcde")?;
-    assert_eq!(rt; reader.failures(), 0);
+    assert!(rt; reader.failures() == 0);
     Ok(())
 }
 
@@ -115,25 +112,32 @@ fn each_read_fails_in_turn(rt: HostRuntime) -> Result<(), Fail> {
     Ok(())
 }
 
-fn is_written(
-    rt: &impl Abort,
-    alloc: Global,
-    fault: LoadFault,
+pub(super) fn is_written<D: Display>(
+    rt: &(impl Abort + AllocGlobal),
+    fault: &D,
     wanted: &str,
 ) -> Result<(), AllocError> {
-    let text = fault.to_string(alloc)?;
-    assert_eq!(rt; text.as_str(), wanted);
+    are_bytes(
+        rt,
+        fault.to_string(rt.alloc())?.as_bytes(),
+        wanted.as_bytes(),
+    );
     Ok(())
 }
+
+const LOAD_FAULTS: &[(LoadFault, &str)] = &[
+    (LoadFault::Io, "cannot be read"),
+    (LoadFault::TooLarge, "too large"),
+    (LoadFault::OutOfMemory, "out of memory"),
+];
 
 // The texts are those of the program's messages.
 #[test]
 fn faults_are_written(rt: HostRuntime) -> Result<(), Fail> {
-    is_written(&rt, rt.alloc(), LoadFault::Io, "cannot be read")?;
-    is_written(&rt, rt.alloc(), LoadFault::TooLarge, "too large")?;
-    is_written(&rt, rt.alloc(), LoadFault::OutOfMemory, "out of memory")?;
-    let text = SendFault { written: 3 }.to_string(rt.alloc())?;
-    assert_eq!(rt; text.as_str(), "output failed");
+    for (fault, wanted) in LOAD_FAULTS {
+        is_written(&rt, fault, wanted)?;
+    }
+    is_written(&rt, &SendFault { written: 3 }, "output failed")?;
     Ok(())
 }
 
@@ -155,8 +159,7 @@ fn input_is(
     files: &mut MemoryFiles,
     wanted: &[u8],
 ) -> Result<(), LoadFault> {
-    let bytes = files.input(alloc)?;
-    assert_eq!(rt; bytes.as_slice(), wanted);
+    are_bytes(rt, files.input(alloc)?.as_slice(), wanted);
     Ok(())
 }
 
@@ -167,8 +170,7 @@ fn file_is<F: Files>(
     path: &str,
     wanted: &[u8],
 ) -> Result<(), LoadFault> {
-    let bytes = files.named(alloc, path)?;
-    assert_eq!(rt; bytes.as_slice(), wanted);
+    are_bytes(rt, files.named(alloc, path)?.as_slice(), wanted);
     Ok(())
 }
 
@@ -193,8 +195,10 @@ fn three_files_are_had(
         input_is(rt, alloc, files, b"a 1\n")?;
         file_is(rt, alloc, files, "x", b"b 2\n")?;
     }
-    assert!(rt; file_fault(alloc, files, "y") == Some(LoadFault::TooLarge));
-    assert!(rt; file_fault(alloc, files, "z") == Some(LoadFault::Io));
+    assert!(rt;
+        file_fault(alloc, files, "y") == Some(LoadFault::TooLarge)
+            && file_fault(alloc, files, "z") == Some(LoadFault::Io)
+    );
     Ok(())
 }
 
@@ -206,17 +210,32 @@ fn files_in_memory(rt: HostRuntime) -> Result<(), Fail> {
     Ok(())
 }
 
+// The bytes of a file of the machine, which is written and then removed.
+fn had_once<R: rt::Files + AllocGlobal, F: Files>(
+    rt: &R,
+    files: &mut F,
+    path: &str,
+) -> Result<Vec<u8>, Fail> {
+    fs::write(rt, path, "a;b 3\n")?;
+    let found = files.named(rt.alloc(), path);
+    fs::remove_file(rt, path)?;
+    Ok(found?)
+}
+
+fn is_had_once<R: rt::Files + AllocGlobal + Abort, F: Files>(
+    rt: &R,
+    files: &mut F,
+    path: &str,
+) -> Result<(), Fail> {
+    are_bytes(rt, had_once(rt, files, path)?.as_slice(), b"a;b 3\n");
+    assert!(rt; file_fault(rt.alloc(), files, path) == Some(LoadFault::Io));
+    Ok(())
+}
+
 #[test]
 fn files_of_the_machine(rt: HostRuntime) -> Result<(), Fail> {
-    let alloc = rt.alloc();
     let mut path = env::temp_dir(&rt)?;
     path.push("byte_io_files_of_the_machine")?;
     let path = path.to_str().ok_or("a path that is no text")?;
-    fs::write(&rt, path, "a;b 3\n")?;
-    let mut files = MachineFiles::new(&rt);
-    let found = files.named(alloc, path);
-    fs::remove_file(&rt, path)?;
-    assert_eq!(rt; found?.as_slice(), b"a;b 3\n".as_slice());
-    assert!(rt; file_fault(alloc, &mut files, path) == Some(LoadFault::Io));
-    Ok(())
+    is_had_once(&rt, &mut MachineFiles::new(&rt), path)
 }

@@ -1,12 +1,13 @@
 //! The example of the crate's page.
+use crate::tests::texts::are_bytes;
 use byte_io::{Files, LoadFault, MemoryFiles, NamedFile};
 use std::alloc::Global;
 use std::process::Abort;
 use std::test::Fail;
 
 fn files_are_had(rt: &impl Abort, alloc: Global, files: &mut MemoryFiles) -> Result<(), LoadFault> {
-    assert_eq!(rt; files.named(alloc, "x")?.as_slice(), b"b 2\n".as_slice());
-    assert_eq!(rt; files.input(alloc)?.as_slice(), b"a 1\n".as_slice());
+    are_bytes(rt, files.named(alloc, "x")?.as_slice(), b"b 2\n");
+    are_bytes(rt, files.input(alloc)?.as_slice(), b"a 1\n");
     Ok(())
 }
 

@@ -1,8 +1,10 @@
 //! The example of the README, and bytes that are cut back.
 
+use crate::tests::texts::are_bytes;
 use flame_layout::PairRow;
 use stack_core::Names;
 use std::alloc::AllocError;
+use std::process::Abort;
 use std::test::Fail;
 use view_texts::{append_pairs_text, truncate_on_error};
 
@@ -18,16 +20,20 @@ fn example_of_the_readme(rt: HostRuntime) -> Result<(), Fail> {
     };
     let mut out = Vec::new(alloc);
     append_pairs_text(alloc, &mut out, &[row])?;
-    assert_eq!(rt; out.as_slice(), b"main;work 3 4\n".as_slice());
+    are_bytes(&rt, &out, b"main;work 3 4\n");
     Ok(())
+}
+
+fn is_cut_back(rt: &impl Abort, out: &mut Vec<u8>) {
+    assert!(rt; truncate_on_error(out, 2, Ok(())).is_ok());
+    are_bytes(rt, out, b"lines");
+    assert!(rt; truncate_on_error(out, 2, Err(AllocError)).is_err());
+    are_bytes(rt, out, b"li");
 }
 
 #[test]
 fn bytes_are_cut_back_on_an_error_alone(rt: HostRuntime) -> Result<(), Fail> {
     let mut out = Vec::from_slice(rt.alloc(), b"lines")?;
-    assert!(rt; truncate_on_error(&mut out, 2, Ok(())).is_ok());
-    assert_eq!(rt; out.as_slice(), b"lines".as_slice());
-    assert!(rt; truncate_on_error(&mut out, 2, Err(AllocError)).is_err());
-    assert_eq!(rt; out.as_slice(), b"li".as_slice());
+    is_cut_back(&rt, &mut out);
     Ok(())
 }

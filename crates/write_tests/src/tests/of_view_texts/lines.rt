@@ -1,101 +1,131 @@
 //! Worked examples.
 
-use super::boxes::{
-    Row, are_drawn_within, are_pairs_within, assert_within, boxes_of, pairs_of, scale_of,
-};
+use super::boxes::{Row, assert_within, boxes_of, pairs_of};
+use crate::tests::texts::are_bytes;
 use byte_io::append_pieces;
 use flame_layout::{DrawnBox, Width};
-use std::alloc::{AllocError, Global};
+use std::alloc::AllocError;
 use std::process::Abort;
 use std::test::Fail;
 use view_texts::{
     Scale, append_boxes_line, append_pair_boxes_line, append_snapshot_line, drawn_line,
 };
 
-// Appends the line of the boxes.
-fn append(
-    rt: &impl Abort,
-    alloc: Global,
+/// What is written as a line.
+enum Line<'a> {
+    /// A view and its boxes.
+    Boxes(&'a str, &'a [Row<'a>]),
+    /// The same with boxes whose names are lent.
+    Drawn(&'a str, &'a [DrawnBox<'a>]),
+    /// After how many samples a snapshot was taken, how many each source had given, and its boxes.
+    Snapshot(u64, &'a [u64], &'a [Row<'a>]),
+    /// What the first profile of a comparison weighs, and the boxes, each with what it weighs there.
+    Pairs(u64, &'a [(Row<'a>, u64)]),
+}
+
+fn append_boxes(
+    rt: &(impl Abort + AllocGlobal),
     out: &mut Vec<u8>,
     view: &str,
     rows: &[Row<'_>],
     scale: &Scale,
 ) -> Result<(), AllocError> {
-    let boxes = boxes_of(alloc, rows)?;
+    let boxes = boxes_of(rt.alloc(), rows)?;
     assert_within(rt, &boxes, scale.total);
-    append_boxes_line(alloc, out, view, &boxes, scale)
+    append_boxes_line(rt.alloc(), out, view, &boxes, scale)
 }
 
-// Each of these views has the line that is wanted, one after another.
-fn lines_are(
+fn append_drawn(
     rt: &(impl Abort + AllocGlobal),
-    views: &[&str],
-    rows: &[Row<'_>],
+    out: &mut Vec<u8>,
+    view: &str,
+    boxes: &[DrawnBox<'_>],
     scale: &Scale,
-    wanted: &str,
 ) -> Result<(), AllocError> {
-    let mut out = Vec::new(rt.alloc());
-    for view in views {
-        append(rt, rt.alloc(), &mut out, view, rows, scale)?;
-    }
-    assert_eq!(rt; out.as_slice(), wanted.as_bytes());
-    Ok(())
+    assert_within(rt, boxes, scale.total);
+    append_pieces(rt.alloc(), &drawn_line(view, boxes, *scale), out)
 }
 
-// After how many samples a snapshot was taken, how many each source had given, its boxes and their total.
-type Snapshot<'a> = (u64, &'a [u64], &'a [Row<'a>], u64);
-
-// Appends the line of a snapshot.
 fn append_snapshot(
     rt: &(impl Abort + AllocGlobal),
     out: &mut Vec<u8>,
-    snapshot: &Snapshot<'_>,
-    width: Width,
+    at: u64,
+    counts: &[u64],
+    rows: &[Row<'_>],
+    scale: &Scale,
 ) -> Result<(), AllocError> {
-    let (at, counts, rows, total) = snapshot;
-    let scale = Scale {
-        total: *total,
-        width,
-    };
     let boxes = boxes_of(rt.alloc(), rows)?;
     assert_within(rt, &boxes, scale.total);
-    append_snapshot_line(rt.alloc(), out, *at, counts, &boxes, &scale)
+    append_snapshot_line(rt.alloc(), out, at, counts, &boxes, scale)
 }
 
-// The lines of these snapshots stand behind what stood there.
-fn snapshots_are(
+fn append_pairs(
     rt: &(impl Abort + AllocGlobal),
-    front: &str,
-    snapshots: &[Snapshot<'_>],
-    wanted: &str,
-) -> Result<(), Fail> {
-    let width = Width::of(10).ok_or("no width")?;
-    let mut out = Vec::from_slice(rt.alloc(), front.as_bytes())?;
-    for snapshot in snapshots {
-        append_snapshot(rt, &mut out, snapshot, width)?;
-    }
-    assert_eq!(rt; out.as_slice(), wanted.as_bytes());
-    Ok(())
-}
-
-// Appends the line of a comparison, whose boxes have these totals before.
-fn append_pair_boxes(
-    rt: &impl Abort,
-    alloc: Global,
     out: &mut Vec<u8>,
     before: u64,
     rows: &[(Row<'_>, u64)],
-    scale: Scale,
+    scale: &Scale,
 ) -> Result<(), AllocError> {
-    let boxes = pairs_of(alloc, rows)?;
-    assert!(rt; are_pairs_within(&boxes, scale.total));
-    assert!(rt; scale.total > 0 || boxes.is_empty());
-    append_pair_boxes_line(alloc, out, before, &boxes, &scale)
+    let boxes = pairs_of(rt.alloc(), rows)?;
+    assert_within(rt, &boxes, scale.total);
+    append_pair_boxes_line(rt.alloc(), out, before, &boxes, scale)
 }
+
+fn append_line(
+    rt: &(impl Abort + AllocGlobal),
+    out: &mut Vec<u8>,
+    line: &Line<'_>,
+    scale: &Scale,
+) -> Result<(), AllocError> {
+    match line {
+        Line::Boxes(view, rows) => append_boxes(rt, out, view, rows, scale),
+        Line::Drawn(view, boxes) => append_drawn(rt, out, view, boxes, scale),
+        Line::Snapshot(at, counts, rows) => append_snapshot(rt, out, *at, counts, rows, scale),
+        Line::Pairs(before, rows) => append_pairs(rt, out, *before, rows, scale),
+    }
+}
+
+/// What is written, and the total and the width of its picture.
+type Written<'a> = (Line<'a>, u64, u32);
+
+fn scale_of(rt: &impl Abort, total: u64, width: u32) -> Scale {
+    let width = Width::of(width).expect(rt, "the width of an image");
+    Scale { total, width }
+}
+
+fn append_all(
+    rt: &(impl Abort + AllocGlobal),
+    out: &mut Vec<u8>,
+    all: &[Written<'_>],
+) -> Result<(), AllocError> {
+    for (line, total, width) in all {
+        append_line(rt, out, line, &scale_of(rt, *total, *width))?;
+    }
+    Ok(())
+}
+
+/// That these make these lines, one behind another, behind what stood there.
+fn make(
+    rt: &(impl Abort + AllocGlobal),
+    front: &str,
+    all: &[Written<'_>],
+    wanted: &str,
+) -> Result<(), Fail> {
+    let mut out = Vec::from_slice(rt.alloc(), front.as_bytes())?;
+    append_all(rt, &mut out, all)?;
+    are_bytes(rt, &out, wanted.as_bytes());
+    Ok(())
+}
+
+const THREE: &[Row<'static>] = &[(0, "all", 0, 3, 0), (1, "a", 0, 1, 1), (1, "b", 1, 2, 2)];
+
+const OF_THREE_LINES: &[Written<'static>] = &[
+    (Line::Boxes("graph", THREE), 3, 10),
+    (Line::Boxes("chart", THREE), 3, 10),
+];
 
 #[test]
 fn graph_of_three_lines(rt: HostRuntime) -> Result<(), Fail> {
-    let rows = [(0, "all", 0, 3, 0), (1, "a", 0, 1, 1), (1, "b", 1, 2, 2)];
     let lines = concat!(
         r#"{"boxes":[{"depth":0,"left":0,"name":"all","own":0,"right":10,"start":0,"weight":3},"#,
         r#"{"depth":1,"left":0,"name":"a","own":1,"right":3,"start":0,"weight":1},"#,
@@ -108,42 +138,30 @@ fn graph_of_three_lines(rt: HostRuntime) -> Result<(), Fail> {
         r#""total":3,"view":"chart","width":10}"#,
         "\n",
     );
-    lines_are(&rt, &["graph", "chart"], &rows, &scale_of(3, 10)?, lines)?;
-    Ok(())
+    make(&rt, "", OF_THREE_LINES, lines)
 }
 
-// The line of boxes whose names are lent.
-fn drawn_line_is(
-    rt: &(impl Abort + AllocGlobal),
-    boxes: &[DrawnBox<'_>],
-    scale: Scale,
-    wanted: &str,
-) -> Result<(), AllocError> {
-    assert!(rt; are_drawn_within(boxes, scale.total));
-    assert!(rt; scale.total > 0 || boxes.is_empty());
-    let mut out = Vec::new(rt.alloc());
-    append_pieces(rt.alloc(), &drawn_line("chart", boxes, scale), &mut out)?;
-    assert_eq!(rt; out.as_slice(), wanted.as_bytes());
-    Ok(())
-}
+const ALL: DrawnBox<'static> = DrawnBox {
+    depth: 0,
+    name: "all",
+    start: 0,
+    weight: 3,
+    own: 3,
+};
+
+const LENT: &[Written<'static>] = &[(Line::Drawn("chart", &[ALL]), 3, 10)];
 
 #[test]
 fn line_of_lent_names(rt: HostRuntime) -> Result<(), Fail> {
-    let all = DrawnBox {
-        depth: 0,
-        name: "all",
-        start: 0,
-        weight: 3,
-        own: 3,
-    };
     let line = concat!(
         r#"{"boxes":[{"depth":0,"left":0,"name":"all","own":3,"right":10,"start":0,"weight":3}],"#,
         r#""total":3,"view":"chart","width":10}"#,
         "\n"
     );
-    drawn_line_is(&rt, &[all], scale_of(3, 10)?, line)?;
-    Ok(())
+    make(&rt, "", LENT, line)
 }
+
+const EMPTY: &[Written<'static>] = &[(Line::Boxes("graph", &[]), 0, 1_200)];
 
 #[test]
 fn empty_graph(rt: HostRuntime) -> Result<(), Fail> {
@@ -151,8 +169,7 @@ fn empty_graph(rt: HostRuntime) -> Result<(), Fail> {
         r#"{"boxes":[],"total":0,"view":"graph","width":1200}"#,
         "\n"
     );
-    lines_are(&rt, &["graph"], &[], &scale_of(0, 1_200)?, line)?;
-    Ok(())
+    make(&rt, "", EMPTY, line)
 }
 
 const FIRST: &[Row<'static>] = &[(0, "all", 0, 2, 0), (1, "a", 0, 2, 1), (2, "b", 1, 1, 1)];
@@ -164,7 +181,10 @@ const SECOND: &[Row<'static>] = &[
     (1, "c", 3, 2, 2),
 ];
 
-const OF_ONE_SOURCE: &[Snapshot<'static>] = &[(2, &[2], FIRST, 2), (4, &[4], SECOND, 5)];
+const OF_ONE_SOURCE: &[Written<'static>] = &[
+    (Line::Snapshot(2, &[2], FIRST), 2, 10),
+    (Line::Snapshot(4, &[4], SECOND), 5, 10),
+];
 
 #[test]
 fn snapshots_of_one_source(rt: HostRuntime) -> Result<(), Fail> {
@@ -183,11 +203,13 @@ fn snapshots_of_one_source(rt: HostRuntime) -> Result<(), Fail> {
         r#""counts":[4],"total":5,"view":"snapshot","width":10}"#,
         "\n",
     );
-    snapshots_are(&rt, "", OF_ONE_SOURCE, lines)?;
-    Ok(())
+    make(&rt, "", OF_ONE_SOURCE, lines)
 }
 
-const OF_THREE_SOURCES: &[Snapshot<'static>] = &[(12, &[0, 2, 10], &[], 0), (0, &[], &[], 0)];
+const OF_THREE_SOURCES: &[Written<'static>] = &[
+    (Line::Snapshot(12, &[0, 2, 10], &[]), 0, 10),
+    (Line::Snapshot(0, &[], &[]), 0, 10),
+];
 
 #[test]
 fn counts_of_three_sources(rt: HostRuntime) -> Result<(), Fail> {
@@ -198,20 +220,19 @@ fn counts_of_three_sources(rt: HostRuntime) -> Result<(), Fail> {
         r#"{"at":0,"boxes":[],"counts":[],"total":0,"view":"snapshot","width":10}"#,
         "\n",
     );
-    snapshots_are(&rt, "before\n", OF_THREE_SOURCES, lines)?;
-    Ok(())
+    make(&rt, "before\n", OF_THREE_SOURCES, lines)
 }
+
+const COMPARED: &[(Row<'static>, u64)] = &[
+    ((0, "all", 0, 3, 0), 4),
+    ((1, "a", 0, 1, 1), 3),
+    ((1, "c", 1, 2, 2), 0),
+];
+
+const OF_TWO_PROFILES: &[Written<'static>] = &[(Line::Pairs(4, COMPARED), 3, 10)];
 
 #[test]
 fn comparison(rt: HostRuntime) -> Result<(), Fail> {
-    let rows = [
-        ((0, "all", 0, 3, 0), 4),
-        ((1, "a", 0, 1, 1), 3),
-        ((1, "c", 1, 2, 2), 0),
-    ];
-    let scale = scale_of(3, 10)?;
-    let mut out = Vec::new(rt.alloc());
-    append_pair_boxes(&rt, rt.alloc(), &mut out, 4, &rows, scale)?;
     let line = concat!(
         r#"{"before":4,"boxes":["#,
         r#"{"before":4,"depth":0,"left":0,"name":"all","own":0,"right":10,"start":0,"weight":3},"#,
@@ -220,19 +241,21 @@ fn comparison(rt: HostRuntime) -> Result<(), Fail> {
         r#""total":3,"view":"compare","width":10}"#,
         "\n",
     );
-    assert_eq!(rt; out.as_slice(), line.as_bytes());
-    Ok(())
+    make(&rt, "", OF_TWO_PROFILES, line)
 }
+
+const ODD_NAMES: &[Row<'static>] = &[
+    (1, "a\"b\\c", 0, 1, 1),
+    (1, "\u{1}\u{1f}\t\n\r\u{8}\u{c}\u{7f}", 1, 1, 1),
+    (1, "/é€𝄞\u{fffd}", 2, 1, 1),
+    (1, "", 3, 1, 1),
+];
+
+const ESCAPED: &[Written<'static>] = &[(Line::Boxes("graph", ODD_NAMES), 4, 4)];
 
 // A quote, a backslash and control characters are escaped, and other text stays as it is.
 #[test]
 fn escaped_names(rt: HostRuntime) -> Result<(), Fail> {
-    let rows = [
-        (1, "a\"b\\c", 0, 1, 1),
-        (1, "\u{1}\u{1f}\t\n\r\u{8}\u{c}\u{7f}", 1, 1, 1),
-        (1, "/é€𝄞\u{fffd}", 2, 1, 1),
-        (1, "", 3, 1, 1),
-    ];
     let line = concat!(
         r#"{"boxes":["#,
         r#"{"depth":1,"left":0,"name":"a\"b\\c","own":1,"right":1,"start":0,"weight":1},"#,
@@ -246,8 +269,7 @@ fn escaped_names(rt: HostRuntime) -> Result<(), Fail> {
         r#""total":4,"view":"graph","width":4}"#,
         "\n",
     );
-    lines_are(&rt, &["graph"], &rows, &scale_of(4, 4)?, line)?;
-    Ok(())
+    make(&rt, "", ESCAPED, line)
 }
 
 #[test]

@@ -1,5 +1,6 @@
 //! The text of sample types.
 
+use crate::tests::texts::are_bytes;
 use profile_messages::{SampleType, SampleTypes};
 use stack_core::{Listed, Text};
 use std::alloc::{AllocError, Global};
@@ -36,10 +37,7 @@ fn two_types(alloc: Global) -> Result<SampleTypes, AllocError> {
 fn expect_text(rt: &impl Abort, alloc: Global, types: &SampleTypes) -> Result<(), Fail> {
     let mut out = Vec::from_slice(alloc, b"> ")?;
     append_types_text(alloc, &mut out, types)?;
-    assert_eq!(rt;
-        out.as_slice(),
-        b"> samples\tcount\ncpu\tnanoseconds\tdefault\n".as_slice()
-    );
+    are_bytes(rt, &out, b"> samples\tcount\ncpu\tnanoseconds\tdefault\n");
     Ok(())
 }
 
