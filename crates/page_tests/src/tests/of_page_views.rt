@@ -1,9 +1,11 @@
 //! Pages of small sources, with the data of docs/PAGE-DATA.md.
 
+ghost use Rattle.std.specs.Prelude.{◌≡◌};
+
 mod data;
 
 use super::of_page_source::page_of;
-use byte_io::CountedWriter;
+use byte_io::{CountedWriter, PieceFault};
 use merging::{Source, SourceLists, read_sources};
 use page_views::{Heading, send_chart_page, send_comparison_page, send_graph_page};
 use run_options::{Filter, Format, Naming, Options, Pick, RingSize};
@@ -42,24 +44,40 @@ fn two_sources(alloc: Global, one: &[u8], other: &[u8]) -> Result<Vec<Source>, A
     Ok(vec![in alloc; first, second]?)
 }
 
-// What was collected of two folded texts.
+// Rings of a few items, and nothing else chosen but the snapshots.
+pub(crate) fn options_of(alloc: Global, every: Option<u64>) -> Options
+    ensures { result.every ≡ every }
+{
+    Options {
+        ring: RingSize::of(8).unwrap(),
+        pick: Pick::Preferred,
+        naming: Naming::Plain,
+        filter: Filter::everything(alloc),
+        every,
+    }
+}
+
+// What was collected of sources.
 fn collected<T: Threads + Wait + Abort + Copy + Send + 'static>(
+    rt: &T,
+    alloc: Global,
+    sources: Vec<Source>,
+    options: &Options,
+) -> Result<SourceLists, Fail> {
+    let gate = Arc::new(alloc, OpenGate)?;
+    assert!(rt; sources.len() <= 64);
+    Ok(read_sources(rt, alloc, sources, options, gate)?)
+}
+
+// What was collected of two folded texts.
+fn collected_of<T: Threads + Wait + Abort + Copy + Send + 'static>(
     rt: &T,
     alloc: Global,
     one: &[u8],
     other: &[u8],
 ) -> Result<SourceLists, Fail> {
-    let gate = Arc::new(alloc, OpenGate)?;
     let sources = two_sources(alloc, one, other)?;
-    assert!(rt; sources.len() <= 64);
-    let options = Options {
-        ring: RingSize::of(8).unwrap(),
-        pick: Pick::Preferred,
-        naming: Naming::Plain,
-        filter: Filter::everything(alloc),
-        every: None,
-    };
-    Ok(read_sources(rt, alloc, sources, &options, gate)?)
+    collected(rt, alloc, sources, &options_of(alloc, None))
 }
 
 // Whether a document is the head, these data and the tail.
@@ -69,86 +87,95 @@ fn is_page(rt: &impl Abort, alloc: Global, page: &[u8], data: &str) -> Result<()
     Ok(())
 }
 
-fn graph_page(alloc: Global, sources: &SourceLists) -> Result<Vec<u8>, Fail> {
+// Whose page is sent.
+enum Sent {
+    Graph,
+    Chart,
+    Comparison,
+}
+
+// The lists have small weights, as a comparison asks.
+fn send_comparison(
+    rt: &impl Abort,
+    alloc: Global,
+    lists: &[SourceList],
+    out: &mut CountedWriter<Vec<u8>>,
+) -> Result<(), PieceFault> {
+    assert!(rt; lists.len() == 2);
+    let (before, after) = (&lists[0], &lists[1]);
+    assert!(rt; before.total() < 1_000 && after.total() < 1_000);
+    send_comparison_page(alloc, before, after, &HEADING, out)
+}
+
+fn send(
+    rt: &impl Abort,
+    alloc: Global,
+    sent: &Sent,
+    sources: &SourceLists,
+    out: &mut CountedWriter<Vec<u8>>,
+) -> Result<(), PieceFault> {
+    match sent {
+        Sent::Graph => send_graph_page(alloc, sources, &HEADING, out),
+        Sent::Chart => send_chart_page(alloc, sources, &HEADING, out),
+        Sent::Comparison => send_comparison(rt, alloc, sources.lists(), out),
+    }
+}
+
+fn page_sent(
+    rt: &impl Abort,
+    alloc: Global,
+    sent: &Sent,
+    sources: &SourceLists,
+) -> Result<Vec<u8>, PieceFault> {
     let mut out = CountedWriter::new(Vec::new(alloc));
-    send_graph_page(alloc, sources, &HEADING, &mut out)?;
+    send(rt, alloc, sent, sources, &mut out)?;
     Ok(out.into_inner())
 }
 
-fn is_graph_page(
-    rt: &impl Abort,
-    alloc: Global,
+fn is_page_of(
+    rt: &(impl Abort + AllocGlobal),
+    sent: &Sent,
     sources: &SourceLists,
     data: &str,
 ) -> Result<(), Fail> {
-    let page = graph_page(alloc, sources)?;
-    is_page(rt, alloc, &page, data)?;
+    let page = page_sent(rt, rt.alloc(), sent, sources)?;
+    is_page(rt, rt.alloc(), &page, data)?;
     Ok(())
+}
+
+// The page of two folded texts has these data.
+fn has_data<T: Threads + Wait + AllocGlobal + Abort + Copy + Send + 'static>(
+    rt: &T,
+    sent: &Sent,
+    texts: &[&[u8]; 2],
+    data: &str,
+) -> Result<(), Fail> {
+    let sources = collected_of(rt, rt.alloc(), texts[0], texts[1])?;
+    is_page_of(rt, sent, &sources, data)
 }
 
 #[test]
 fn graph_of_two_lines(rt: HostRuntime) -> Result<(), Fail> {
-    let sources = collected(&rt, rt.alloc(), b"main;read<int> 2\n", b"main 1\n")?;
     let data =
         "{\"drawings\":[{\"depth\":[0,1,2],\"least\":0,\"left_out\":{\"boxes\":0,\"weight\":0},\"name\":[0,1,2],\"own\":[0,1,2],\"start\":[0,0,1],\"total\":3,\"weight\":[3,3,2]}],\"names\":[\"all\",\"main\",\"read\\u003cint\\u003e\"],\"sources\":[{\"name\":\"small.folded\",\"type\":\"\",\"unit\":\"\",\"weight\":3}],\"title\":\"small.folded\",\"view\":\"graph\",\"whole\":3}";
-    is_graph_page(&rt, rt.alloc(), &sources, data)
-}
-
-fn chart_page(alloc: Global, sources: &SourceLists) -> Result<Vec<u8>, Fail> {
-    let mut out = CountedWriter::new(Vec::new(alloc));
-    send_chart_page(alloc, sources, &HEADING, &mut out)?;
-    Ok(out.into_inner())
-}
-
-fn is_chart_page(
-    rt: &impl Abort,
-    alloc: Global,
-    sources: &SourceLists,
-    data: &str,
-) -> Result<(), Fail> {
-    let page = chart_page(alloc, sources)?;
-    is_page(rt, alloc, &page, data)?;
-    Ok(())
+    has_data(
+        &rt,
+        &Sent::Graph,
+        &[b"main;read<int> 2\n", b"main 1\n"],
+        data,
+    )
 }
 
 #[test]
 fn chart_of_two_lines(rt: HostRuntime) -> Result<(), Fail> {
-    let sources = collected(&rt, rt.alloc(), b"main;read 2\n", b"main 1\n")?;
     let data =
         "{\"drawings\":[{\"depth\":[0,1,2],\"least\":0,\"left_out\":{\"boxes\":0,\"weight\":0},\"name\":[0,1,2],\"own\":[0,1,2],\"start\":[0,0,0],\"total\":3,\"weight\":[3,3,2]}],\"names\":[\"all\",\"main\",\"read\"],\"sources\":[{\"name\":\"small.folded\",\"type\":\"\",\"unit\":\"\",\"weight\":3}],\"title\":\"small.folded\",\"view\":\"chart\",\"whole\":3}";
-    is_chart_page(&rt, rt.alloc(), &sources, data)
-}
-
-// The lists have small weights, as a comparison asks.
-fn compared(
-    rt: &impl Abort,
-    alloc: Global,
-    before: &SourceList,
-    after: &SourceList,
-) -> Result<Vec<u8>, Fail> {
-    assert!(rt; before.total() < 1_000);
-    assert!(rt; after.total() < 1_000);
-    let mut out = CountedWriter::new(Vec::new(alloc));
-    send_comparison_page(alloc, before, after, &HEADING, &mut out)?;
-    Ok(out.into_inner())
-}
-
-fn is_comparison_page(
-    rt: &impl Abort,
-    alloc: Global,
-    lists: &[SourceList],
-    data: &str,
-) -> Result<(), Fail> {
-    assert!(rt; lists.len() == 2);
-    let page = compared(rt, alloc, &lists[0], &lists[1])?;
-    is_page(rt, alloc, &page, data)?;
-    Ok(())
+    has_data(&rt, &Sent::Chart, &[b"main;read 2\n", b"main 1\n"], data)
 }
 
 #[test]
 fn comparison_of_two_lines(rt: HostRuntime) -> Result<(), Fail> {
-    let sources = collected(&rt, rt.alloc(), b"a;b 3\n", b"a 1\n")?;
     let data =
         "{\"drawings\":[{\"depth\":[0,1,2],\"least\":0,\"left_out\":{\"boxes\":0,\"weight\":0},\"name\":[0,1,2],\"other\":[1,1,0],\"own\":[0,0,3],\"start\":[0,0,0],\"total\":3,\"weight\":[3,3,3]},{\"depth\":[0,1],\"least\":0,\"left_out\":{\"boxes\":0,\"weight\":0},\"name\":[0,1],\"other\":[3,3],\"own\":[0,1],\"start\":[0,0],\"total\":1,\"weight\":[1,1]}],\"names\":[\"all\",\"a\",\"b\"],\"sources\":[{\"name\":\"small.folded\",\"type\":\"\",\"unit\":\"\",\"weight\":3}],\"title\":\"small.folded\",\"view\":\"compare\",\"whole\":3}";
-    is_comparison_page(&rt, rt.alloc(), sources.lists(), data)
+    has_data(&rt, &Sent::Comparison, &[b"a;b 3\n", b"a 1\n"], data)
 }

@@ -1,6 +1,7 @@
 //! The texts of small pages, as docs/PAGE-DATA.md has them.
 
 use crate::tests::of_page_source::page_of;
+use crate::tests::texts::are_bytes;
 use byte_io::{CountedWriter, PieceFault};
 use flame_layout::{ComparedBox, SpanBox};
 use page_texts::{Drawing, Moment, Page, PageBox, Source, append_page_data, send_page};
@@ -31,113 +32,151 @@ fn boxes_of(alloc: Global, rows: &[Row<'_>]) -> Result<Vec<SpanBox>, AllocError>
     Ok(boxes)
 }
 
-fn page_data<B: PageBox>(alloc: Global, page: &Page<'_, B>) -> Result<Vec<u8>, AllocError> {
-    let mut out = Vec::new(alloc);
-    append_page_data(alloc, &mut out, page)?;
-    Ok(out)
+// A page of one drawing, but for its boxes.
+struct Case<'a> {
+    least: u64,
+    total: u64,
+    moment: Option<Moment<'a>>,
+    sources: &'a [Source<'a>],
+    title: &'a str,
+    view: &'a str,
+    whole: u128,
 }
+
+fn drawing_of<'a, B: PageBox>(boxes: &'a [B], case: &Case<'a>) -> Drawing<'a, B> {
+    Drawing {
+        boxes,
+        least: case.least,
+        total: case.total,
+        moment: case.moment,
+    }
+}
+
+fn page_with<'a, B: PageBox>(drawings: &'a [Drawing<'a, B>], case: &Case<'a>) -> Page<'a, B> {
+    Page {
+        drawings,
+        sources: case.sources,
+        title: case.title,
+        view: case.view,
+        whole: case.whole,
+    }
+}
+
+// Appends the data of a page.
+fn append_data<B: PageBox>(
+    alloc: Global,
+    out: &mut Vec<u8>,
+    boxes: &[B],
+    case: &Case<'_>,
+) -> Result<(), AllocError> {
+    let drawings = [drawing_of(boxes, case)];
+    append_page_data(alloc, out, &page_with(&drawings, case))
+}
+
+const ALL: Row<'static> = (0, "all", 0, 3, 0);
+
+const MAIN: Row<'static> = (1, "main", 0, 3, 1);
+
+const READ: Row<'static> = (2, "read<int>", 1, 2, 2);
 
 // The boxes of `main;read<int> 2` and `main 1`.
-const SMALL: &[Row<'static>] = &[
-    (0, "all", 0, 3, 0),
-    (1, "main", 0, 3, 1),
-    (2, "read<int>", 1, 2, 2),
-];
+const SMALL: &[Row<'static>] = &[ALL, MAIN, READ];
 
-// The data of a page of one drawing.
-fn data_of(
-    alloc: Global,
-    least: u64,
-    moment: Option<Moment<'_>>,
-    title: &str,
-) -> Result<Vec<u8>, AllocError> {
+fn append_small(alloc: Global, out: &mut Vec<u8>, case: &Case<'_>) -> Result<(), AllocError> {
     let boxes = boxes_of(alloc, SMALL)?;
-    let drawing = Drawing {
-        boxes: &boxes,
-        least,
-        total: 3,
-        moment,
-    };
-    let source = Source {
-        name: "small.folded",
-        type_name: "",
-        unit: "",
-        weight: 3,
-    };
-    let page = Page {
-        drawings: &[drawing],
-        sources: &[source],
-        title,
-        view: "graph",
-        whole: 5,
-    };
-    page_data(alloc, &page)
+    append_data(alloc, out, &boxes, case)
 }
+
+// The data of a page of the small boxes are these.
+fn data_are(rt: &(impl Abort + AllocGlobal), case: &Case<'_>, wanted: &[u8]) -> Result<(), Fail> {
+    let mut out = Vec::new(rt.alloc());
+    append_small(rt.alloc(), &mut out, case)?;
+    are_bytes(rt, &out, wanted);
+    Ok(())
+}
+
+const SOURCE: Source<'static> = Source {
+    name: "small.folded",
+    type_name: "",
+    unit: "",
+    weight: 3,
+};
+
+const EXAMPLE: &Case<'static> = &Case {
+    least: 0,
+    total: 3,
+    moment: None,
+    sources: &[SOURCE],
+    title: "small.folded",
+    view: "graph",
+    whole: 5,
+};
 
 #[test]
 fn example_of_the_page(rt: HostRuntime) -> Result<(), Fail> {
-    let data = data_of(rt.alloc(), 0, None, "small.folded")?;
-    assert_eq!(rt;
-        data.as_slice(),
-        b"{\"drawings\":[{\"depth\":[0,1,2],\"least\":0,\"left_out\":{\"boxes\":0,\"weight\":0},\"name\":[0,1,2],\"own\":[0,1,2],\"start\":[0,0,1],\"total\":3,\"weight\":[3,3,2]}],\"names\":[\"all\",\"main\",\"read\\u003cint\\u003e\"],\"sources\":[{\"name\":\"small.folded\",\"type\":\"\",\"unit\":\"\",\"weight\":3}],\"title\":\"small.folded\",\"view\":\"graph\",\"whole\":5}".as_slice()
-    );
-    Ok(())
+    let wanted =
+        b"{\"drawings\":[{\"depth\":[0,1,2],\"least\":0,\"left_out\":{\"boxes\":0,\"weight\":0},\"name\":[0,1,2],\"own\":[0,1,2],\"start\":[0,0,1],\"total\":3,\"weight\":[3,3,2]}],\"names\":[\"all\",\"main\",\"read\\u003cint\\u003e\"],\"sources\":[{\"name\":\"small.folded\",\"type\":\"\",\"unit\":\"\",\"weight\":3}],\"title\":\"small.folded\",\"view\":\"graph\",\"whole\":5}";
+    data_are(&rt, EXAMPLE, wanted)
 }
+
+const NARROW: &Case<'static> = &Case {
+    least: 3,
+    total: 3,
+    moment: Some(Moment {
+        at: 2,
+        counts: &[2],
+    }),
+    sources: &[SOURCE],
+    title: "</script>&\u{2028}\u{2029}",
+    view: "graph",
+    whole: 5,
+};
 
 #[test]
 fn narrow_boxes_are_told(rt: HostRuntime) -> Result<(), Fail> {
-    let moment = Moment {
-        at: 2,
-        counts: &[2],
-    };
-    let data = data_of(rt.alloc(), 3, Some(moment), "</script>&\u{2028}\u{2029}")?;
-    assert_eq!(rt;
-        data.as_slice(),
-        b"{\"drawings\":[{\"at\":2,\"counts\":[2],\"depth\":[0,1],\"least\":3,\"left_out\":{\"boxes\":1,\"weight\":2},\"name\":[0,1],\"own\":[0,1],\"start\":[0,0],\"total\":3,\"weight\":[3,3]}],\"names\":[\"all\",\"main\"],\"sources\":[{\"name\":\"small.folded\",\"type\":\"\",\"unit\":\"\",\"weight\":3}],\"title\":\"\\u003c/script\\u003e\\u0026\\u2028\\u2029\",\"view\":\"graph\",\"whole\":5}".as_slice()
-    );
-    Ok(())
+    let wanted =
+        b"{\"drawings\":[{\"at\":2,\"counts\":[2],\"depth\":[0,1],\"least\":3,\"left_out\":{\"boxes\":1,\"weight\":2},\"name\":[0,1],\"own\":[0,1],\"start\":[0,0],\"total\":3,\"weight\":[3,3]}],\"names\":[\"all\",\"main\"],\"sources\":[{\"name\":\"small.folded\",\"type\":\"\",\"unit\":\"\",\"weight\":3}],\"title\":\"\\u003c/script\\u003e\\u0026\\u2028\\u2029\",\"view\":\"graph\",\"whole\":5}";
+    data_are(&rt, NARROW, wanted)
 }
 
-fn compared_of(
-    alloc: Global,
-    rows: &[Row<'_>],
-    weights: &[u64; 3],
-) -> Result<Vec<ComparedBox>, AllocError> {
+fn compared_of(alloc: Global, rows: &[(Row<'_>, u64)]) -> Result<Vec<ComparedBox>, AllocError> {
     let mut boxes = Vec::new(alloc);
-    for (row, before) in rows.iter().zip(weights) {
+    for (row, before) in rows {
+        let span = span_of(alloc, row)?;
         boxes.push(ComparedBox {
-            span: span_of(alloc, row)?,
+            span,
             before: *before,
         })?;
     }
     Ok(boxes)
 }
 
-// The data of a page of a comparison.
-fn compared_data(alloc: Global, weights: &[u64; 3]) -> Result<Vec<u8>, AllocError> {
-    let boxes = compared_of(alloc, SMALL, weights)?;
-    let drawing = Drawing {
-        boxes: &boxes,
-        least: 0,
-        total: 3,
-        moment: None,
-    };
-    let page = Page {
-        drawings: &[drawing],
-        sources: &[],
-        title: "",
-        view: "compare",
-        whole: 5,
-    };
-    page_data(alloc, &page)
+// The small boxes, with the other weights of a comparison.
+const COMPARED_BOXES: &[(Row<'static>, u64)] = &[(ALL, 7), (MAIN, 5), (READ, 0)];
+
+const COMPARED: &Case<'static> = &Case {
+    least: 0,
+    total: 3,
+    moment: None,
+    sources: &[],
+    title: "",
+    view: "compare",
+    whole: 5,
+};
+
+fn append_compared(alloc: Global, out: &mut Vec<u8>) -> Result<(), AllocError> {
+    let boxes = compared_of(alloc, COMPARED_BOXES)?;
+    append_data(alloc, out, &boxes, COMPARED)
 }
 
 #[test]
 fn comparison_has_the_other_weights(rt: HostRuntime) -> Result<(), Fail> {
-    let data = compared_data(rt.alloc(), &[7, 5, 0])?;
-    assert_eq!(rt;
-        data.as_slice(),
-        b"{\"drawings\":[{\"depth\":[0,1,2],\"least\":0,\"left_out\":{\"boxes\":0,\"weight\":0},\"name\":[0,1,2],\"other\":[7,5,0],\"own\":[0,1,2],\"start\":[0,0,1],\"total\":3,\"weight\":[3,3,2]}],\"names\":[\"all\",\"main\",\"read\\u003cint\\u003e\"],\"sources\":[],\"title\":\"\",\"view\":\"compare\",\"whole\":5}".as_slice()
+    let mut data = Vec::new(rt.alloc());
+    append_compared(rt.alloc(), &mut data)?;
+    are_bytes(
+        &rt,
+        &data,
+        b"{\"drawings\":[{\"depth\":[0,1,2],\"least\":0,\"left_out\":{\"boxes\":0,\"weight\":0},\"name\":[0,1,2],\"other\":[7,5,0],\"own\":[0,1,2],\"start\":[0,0,1],\"total\":3,\"weight\":[3,3,2]}],\"names\":[\"all\",\"main\",\"read\\u003cint\\u003e\"],\"sources\":[],\"title\":\"\",\"view\":\"compare\",\"whole\":5}",
     );
     Ok(())
 }
@@ -151,28 +190,26 @@ fn same_boxes(alloc: Global, count: usize) -> Result<Vec<SpanBox>, AllocError> {
     Ok(boxes)
 }
 
-// The data of a page of more numbers than a part has.
-fn long_data(alloc: Global) -> Result<Vec<u8>, AllocError> {
+const LONG: &Case<'static> = &Case {
+    least: 0,
+    total: 2500,
+    moment: None,
+    sources: &[],
+    title: "",
+    view: "chart",
+    whole: 5,
+};
+
+// Appends the data of a page of more numbers than a part has.
+fn append_long(alloc: Global, out: &mut Vec<u8>) -> Result<(), AllocError> {
     let boxes = same_boxes(alloc, 2500)?;
-    let drawing = Drawing {
-        boxes: &boxes,
-        least: 0,
-        total: 2500,
-        moment: None,
-    };
-    let page = Page {
-        drawings: &[drawing],
-        sources: &[],
-        title: "",
-        view: "chart",
-        whole: 5,
-    };
-    page_data(alloc, &page)
+    append_data(alloc, out, &boxes, LONG)
 }
 
 #[test]
 fn long_columns_are_whole(rt: HostRuntime) -> Result<(), Fail> {
-    let data = long_data(rt.alloc())?;
+    let mut data = Vec::new(rt.alloc());
+    append_long(rt.alloc(), &mut data)?;
     // Five columns of 2500 digits with 2499 commas, and what stands round them.
     assert!(rt; data.len() == 5 * (2500 + 2499) + 191);
     Ok(())
@@ -186,28 +223,36 @@ fn is_of_the_readme(rt: &impl Abort, alloc: Global, data: &[u8], sent: &[u8]) ->
     Ok(())
 }
 
-fn sent_page<B: PageBox>(alloc: Global, page: &Page<'_, B>) -> Result<Vec<u8>, PieceFault> {
+const README: &Case<'static> = &Case {
+    least: 0,
+    total: 3,
+    moment: None,
+    sources: &[],
+    title: "<small>",
+    view: "graph",
+    whole: 3,
+};
+
+// Sends the page of the README.
+fn send_readme(
+    alloc: Global,
+    boxes: &[SpanBox],
+    out: &mut CountedWriter<Vec<u8>>,
+) -> Result<(), PieceFault> {
+    let drawings = [drawing_of(boxes, README)];
+    send_page(alloc, &page_with(&drawings, README), out)
+}
+
+fn sent_readme(alloc: Global, boxes: &[SpanBox]) -> Result<Vec<u8>, PieceFault> {
     let mut out = CountedWriter::new(Vec::new(alloc));
-    send_page(alloc, page, &mut out)?;
+    send_readme(alloc, boxes, &mut out)?;
     Ok(out.into_inner())
 }
 
 fn sends_its_data(rt: &impl Abort, alloc: Global, boxes: &[SpanBox]) -> Result<(), Fail> {
-    let drawing = Drawing {
-        boxes,
-        least: 0,
-        total: 3,
-        moment: None,
-    };
-    let page = Page {
-        drawings: &[drawing],
-        sources: &[],
-        title: "<small>",
-        view: "graph",
-        whole: 3,
-    };
-    let data = page_data(alloc, &page)?;
-    let sent = sent_page(alloc, &page)?;
+    let mut data = Vec::new(alloc);
+    append_data(alloc, &mut data, boxes, README)?;
+    let sent = sent_readme(alloc, boxes)?;
     is_of_the_readme(rt, alloc, &data, &sent)
 }
 
