@@ -5,7 +5,7 @@ ghost use Rattle.wire_fields.specs.Field.{seen_value};
 ghost use Rattle.wire_fields.specs.Reading.{numbers_of};
 ghost use Rattle.profile_messages.specs.Message.{first, numbers_in};
 ghost use Rattle.profile_messages.specs.Shapes.{faults_of_value, repeated_shape};
-ghost use Rattle.profile_tables.specs.checked.Fronts.{with_value, with_values, IsNextPlace, IsFirstHeld, AreValuesBehind, IsFront};
+ghost use Rattle.profile_tables.specs.checked.Fronts.{with_value, with_values, IsFirstHeld, AreValuesIn, IsFront};
 ghost use Rattle.profile_tables.specs.checked.SeenOutline.{seen_outline};
 
 use crate::outline::Outline;
@@ -13,40 +13,32 @@ use profile_messages::Span;
 use wire_fields::{FieldValue, Fields, Packed};
 
 /// The first field of a message, where it holds bytes.
-#[derive(Clone, Copy)]
-struct FirstHeld {
+#[derive(Drop)]
+struct FirstHeld<'a> {
     number: u32,
     /// Where the bytes lie in the message.
     place: Span,
+    /// The fields behind it.
+    behind: Fields<'a>,
 }
 
-/// Where the next field begins, or where a message of this length ends. None at a fault.
-fn next_place(fields: &mut Fields<'_>, length: usize) -> Option<usize>
-    ensures { IfSome result (IsNextPlace length fields.old) }
+/// The first field of a message, where it holds bytes. The field behind it is not read.
+fn first_held(message: &[u8]) -> Option<FirstHeld<'_>>
+    ensures { IfSome result (λ held. IsFirstHeld message.now held.number held.place held.behind) }
 {
-    match fields.next() {
-        Ok(Some(next)) => Some(next.at),
-        Ok(None) => Some(length),
-        Err(_) => None,
-    }
-}
-
-/// The first field of a message, where it holds bytes and there is no fault at the field behind it.
-fn first_held(message: &[u8]) -> Option<FirstHeld>
-    ensures { IfSome result (λ held. IsFirstHeld message.now held.number held.place) }
-{
-    let mut fields = Fields::over(message);
-    let Ok(Some(first)) = fields.next() else {
+    let mut behind = Fields::over(message);
+    let Ok(Some(first)) = behind.next() else {
         return None;
     };
     let FieldValue::Bytes(bytes) = first.value else {
         return None;
     };
-    let end = next_place(&mut fields, message.len())?;
+    let end = behind.next_at().unwrap_or(message.len());
     let start = end - bytes.len();
     Some(FirstHeld {
         number: first.number,
         place: Span { start, end },
+        behind,
     })
 }
 
@@ -100,17 +92,13 @@ impl Values {
     }
 }
 
-/// The values of a sample, where all its location ids are in its first field, and no other field has a fault.
-fn values_behind(chosen: usize, message: &[u8]) -> Option<Values>
-    ensures { IfSome result (AreValuesBehind chosen message.now) }
+/// The values of a sample's further fields, where these have no location ids and no fault.
+fn values_in(chosen: usize, mut fields: Fields<'_>) -> Option<Values>
+    ensures { IfSome result (AreValuesIn chosen fields.entry) }
 {
     let mut values = Values {
         count: 0,
         weight: 0,
-    };
-    let mut fields = Fields::over(message);
-    let Ok(Some(_first)) = fields.next() else {
-        return None;
     };
     while let Some(field) = fields.next().ok()? {
         match field.number {
@@ -143,7 +131,7 @@ pub(crate) fn front_of(file: &[u8], at: usize, outline: &Outline) -> Option<Fron
     if ids.number != 1 {
         return None;
     }
-    let values = values_behind(outline.chosen.unwrap_or(0), sample)?;
+    let values = values_in(outline.chosen.unwrap_or(0), ids.behind)?;
     if values.count != outline.sample_types {
         return None;
     }

@@ -1,6 +1,6 @@
 -- A field is read where its bytes spell it, and else the first fault is answered.
-use Rattle.std.proofs.Common.{◌≡◌, ℕ, zero, suc, ◌+◌, ◌*◌, ◌/◌, ◌%◌, ◌^◌, ◌<◌, ◌≤◌, true, false, cond, List, [], ◌++◌, length, take, drop, Result, Ok, Err, refl, sym, ap, subst, ◌∙◌, arith, append_assoc, inl, inr, ◌⊎◌, lit<}
-use Rattle.std.specs.Prelude.{nat_lt, ◌||◌}
+use Rattle.std.proofs.Common.{◌≡◌, ℕ, zero, suc, ◌+◌, ◌*◌, ◌/◌, ◌%◌, ◌^◌, ◌<◌, ◌≤◌, true, false, cond, List, [], ◌++◌, length, take, drop, Option, Some, Result, Ok, Err, refl, sym, ap, subst, ◌∙◌, arith, append_assoc, inl, inr, ◌⊎◌, lit<}
+use Rattle.std.specs.Prelude.{nat_lt, ◌==◌, ◌||◌}
 use Rattle.std.proofs.lemmas.Bool.{cases_lt, lt-ltb, le-ltb, le-leb, lt-leb}
 use Rattle.std.proofs.lemmas.List.{length-append, length-take, take_at, drop_at, take-append-drop}
 use Rattle.wire_fields.specs.declared.fault.WireKind.{WireKind}
@@ -10,8 +10,8 @@ use Rattle.wire_fields.specs.Varint.{IsVarintOf, varint_at}
 use Rattle.wire_fields.specs.Field.{WireValue, varint_value, eight_bytes, delimited_bytes, four_bytes, WireField}
 use Rattle.wire_fields.specs.Spelling.{wire_type, IsValueOf, IsFieldOf, IsFieldAt}
 use Rattle.wire_fields.specs.Fault.{BeginsWith, IsTagInRange, IsUnknownType, FirstValueFault, bad_varint, fewer_than_eight, bad_length, fewer_than_length, fewer_than_four, FirstFault, bad_tag, bad_field_number, bad_wire_type, bad_value}
-use Rattle.wire_fields.specs.Reading.{part_at, value_at, field_at}
-use Rattle.wire_fields.proofs.Items.{IsReader, no_longer}
+use Rattle.wire_fields.specs.Reading.{Left, part_at, value_at, field_at, left_at, next_place}
+use Rattle.wire_fields.proofs.Items.{IsReader, no_longer, next_first, left_if_fault}
 use Rattle.wire_fields.proofs.NumberRead.{varint_taken, varint_only_fault, varint_not_empty, ReadsVarint, is_spelled, is_fault, reads_varint}
 
 -- ---- the first n bytes
@@ -313,6 +313,20 @@ field_reader = record {
   fault = λ at bytes kind e. subst (FoundAt at bytes) e (found_at at bytes (field_at at bytes) (reads_field at bytes));
   only_fault = λ at bytes kind h. field_only at bytes h;
 }
+
+-- ---- where what is left begins
+
+abbrev place_left : Left WireField → Option ℕ
+place_left left = next_place left.items left.fault
+
+begins_as_read : (at : ℕ) (bytes : List ℕ) → false ≡ (length bytes == 0) → (read : Result (WireField × List ℕ) WireKind) → field_at at bytes ≡ read → place_left (left_at field_at at 0 bytes) ≡ Some at
+begins_as_read at bytes some (Ok found) e =
+    ap place_left (next_first IsFieldAt FirstFault field_at field_reader at bytes found.0 found.1 e)
+    ∙ ap Some (field_reader.found at bytes found.0 found.1 e).2.place
+begins_as_read at bytes some (Err kind) e = ap place_left (left_if_fault field_at at bytes kind some e)
+
+pub begins_at : (at : ℕ) (bytes : List ℕ) → false ≡ (length bytes == 0) → place_left (left_at field_at at 0 bytes) ≡ Some at
+begins_at at bytes some = begins_as_read at bytes some (field_at at bytes) refl
 
 -- ---- the laws of fields
 

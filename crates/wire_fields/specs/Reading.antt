@@ -81,6 +81,12 @@ fields_of bytes = left_at field_at 0 0 bytes
 unfoldable pub numbers_of : List ℕ → Left ℕ
 numbers_of bytes = left_at number_at 0 0 bytes
 
+-- where the first of these fields begins, or the fault lies that stands in its place
+abbrev pub next_place : List WireField → Option WireFault → Option ℕ
+next_place [] None = None
+next_place [] (Some fault) = Some fault.at
+next_place (field ∷ behind) fault = Some field.at
+
 -- ---- one call of `next`
 
 -- Old is what was left before an answer, and new what is left after it.

@@ -2,7 +2,7 @@
 
 ghost use Rattle.std.specs.Prelude.{◌≡◌, ◌≤◌, length};
 ghost use Rattle.wire_fields.specs.Field.{seen_field};
-ghost use Rattle.wire_fields.specs.Reading.{Answers, IsReadingOfFields, fields_of};
+ghost use Rattle.wire_fields.specs.Reading.{Answers, IsReadingOfFields, fields_of, next_place};
 
 use crate::fault::WireFault;
 use crate::field::Field;
@@ -59,5 +59,16 @@ impl<'a> Fields<'a> {
             }
             Err(kind) => Err(WireFault { kind, at: self.at }),
         }
+    }
+
+    /// Where the next field begins, or the fault lies, without reading it. None behind the last field.
+    #[inline]
+    pub fn next_at(&self) -> Option<usize>
+        ensures { result ≡ next_place self.now.items self.now.fault }
+    {
+        if self.rest.is_empty() {
+            return None;
+        }
+        Some(self.at)
     }
 }

@@ -1,6 +1,5 @@
 -- The front of a sample: its location ids as one packed run, its first field.
-use Rattle.std.specs.Prelude.{◌≡◌, ◌≤◌, ◌+◌, ℕ, List, [], ◌∷◌, Option, None, length, drop, flat_map, slice_range, ◌==◌, if◌then◌else◌}
-use Rattle.wire_fields.specs.declared.fault.WireFault.{WireFault}
+use Rattle.std.specs.Prelude.{◌≡◌, ◌≤◌, ◌+◌, ℕ, List, [], ◌∷◌, None, length, flat_map, slice_range, ◌==◌, if◌then◌else◌}
 use Rattle.wire_fields.specs.Field.{WireField, delimited_bytes}
 use Rattle.wire_fields.specs.Reading.{Left, fields_of, numbers_of}
 use Rattle.profile_tables.specs.declared.fronts.Values.{Values}
@@ -14,21 +13,12 @@ use Rattle.profile_messages.specs.Offsets.{content_at}
 abbrev pub bytes_at : List ℕ → Span → List ℕ
 bytes_at bytes span = slice_range bytes span.start span.end
 
--- where the first of these fields begins, or a message of this length ends without a fault
-abbrev pub IsPlaceBefore : ℕ → List WireField → Option WireFault → ℕ → Type 0
-IsPlaceBefore size [] fault place = (fault ≡ None) × (place ≡ size)
-IsPlaceBefore size (field ∷ behind) fault place = place ≡ field.at
-
-abbrev pub IsNextPlace : ℕ → Left WireField → ℕ → Type 0
-IsNextPlace size left place = IsPlaceBefore size left.items left.fault place
-
--- the first field of a message has this number and holds the bytes at this place
-pub record IsFirstHeld (message : List ℕ) (number : ℕ) (place : Span) : Type 0 where
+-- the first field of a message has this number and holds the bytes at this place, and this is left behind it
+pub record IsFirstHeld (message : List ℕ) (number : ℕ) (place : Span) (behind : Left WireField) : Type 0 where
   pub order : place.start ≤ place.end
   pub within : place.end ≤ length message
   pub field : WireField
-  pub behind : List WireField
-  pub fields : (fields_of message).items ≡ field ∷ behind
+  pub fields : fields_of message ≡ record { items = field ∷ behind.items; fault = behind.fault }
   pub number_is : field.number ≡ number
   pub holds : field.value ≡ delimited_bytes (bytes_at message place)
 
@@ -46,12 +36,12 @@ with_values chosen values (value ∷ more) = with_values chosen (with_value chos
 abbrev pub no_values : Values
 no_values = record { count = 0; weight = 0 }
 
--- the values of a sample behind its first field, which has no other location ids and no fault
-pub record AreValuesBehind (chosen : ℕ) (message : List ℕ) (values : Values) : Type 0 where
-  pub no_fault : first (flat_map (faults_of_field sample_shape) (drop 1 (fields_of message).items)) ≡ None
-  pub no_end_fault : (fields_of message).fault ≡ None
-  pub no_ids : flat_map (repeated_from 1) (drop 1 (fields_of message).items) ≡ []
-  pub values_are : values ≡ with_values chosen no_values (flat_map (repeated_from 2) (drop 1 (fields_of message).items))
+-- the values of these fields, which have no location ids and no fault
+pub record AreValuesIn (chosen : ℕ) (left : Left WireField) (values : Values) : Type 0 where
+  pub no_fault : first (flat_map (faults_of_field sample_shape) left.items) ≡ None
+  pub no_end_fault : left.fault ≡ None
+  pub no_ids : flat_map (repeated_from 1) left.items ≡ []
+  pub values_are : values ≡ with_values chosen no_values (flat_map (repeated_from 2) left.items)
 
 -- ---- a front
 

@@ -155,6 +155,26 @@ fn each_wire_type(rt: HostRuntime) {
     are_wire_types(&rt, &mut Fields::over(WIRE_TYPES));
 }
 
+fn begins_at(rt: &impl Abort, fields: &Fields<'_>, at: Option<usize>) {
+    assert!(rt; fields.next_at() == at);
+}
+
+fn begin_where_they_stand(rt: &impl Abort, fields: &mut Fields<'_>) {
+    begins_at(rt, fields, Some(0));
+    gives(rt, fields, STRING);
+    begins_at(rt, fields, Some(9));
+    gives(rt, fields, EIGHT);
+    begins_at(rt, fields, Some(18));
+    gives(rt, fields, FOUR);
+    begins_at(rt, fields, Some(23));
+}
+
+#[test]
+fn where_fields_begin(rt: HostRuntime) {
+    begin_where_they_stand(&rt, &mut Fields::over(WIRE_TYPES));
+    begins_at(&rt, &Fields::over(b""), None);
+}
+
 #[test]
 fn laws_of_the_readings() {
     laws::fields_have_one_reading();
