@@ -1,11 +1,11 @@
 -- Texts of pieces, piece by piece, and their fronts.
-use Rattle.std.proofs.Common.{◌≡◌, ℕ, ◌+◌, ◌<◌, List, [], ◌∷◌, ◌++◌, length, take, drop, get_or, sym, ap, subst, ◌∙◌, append_assoc, append-nil, take-append-drop, arith}
-use Rattle.std.proofs.Math.Seq.{take-append_seam}
+use Rattle.std.proofs.Common.{◌≡◌, ℕ, ◌+◌, ◌-◌, ◌<◌, ◌≤◌, List, [], ◌∷◌, ◌++◌, length, take, drop, get_or, sym, ap, subst, ◌∙◌, append_assoc, append-nil, take-append-drop, arith}
+use Rattle.std.proofs.Math.Seq.{take-append_seam, take-add}
 use Rattle.std.proofs.KnownBytes.{Appends-trans}
-use Rattle.std.proofs.lemmas.List.{take_more, take-take, length-append}
+use Rattle.std.proofs.lemmas.List.{take_more, take-take, drop_more, get_or-drop, length-append, length-drop}
 use Rattle.std.proofs.lemmas.List.Folds.{concat-append}
 use Rattle.std.specs.Prelude.{Option, Result, Ok, Err, OnErr}
-use Rattle.std.specs.List.{concat}
+use Rattle.std.specs.List.{concat, slice_range}
 use Rattle.std.specs.Io.{StartsWith}
 use Rattle.std.specs.Io.KnownBytes.{Appends}
 use Rattle.byte_io.specs.Pieces.{AppendsFront}
@@ -44,14 +44,43 @@ pub sent_partly : (pieces : List (List ℕ)) (i count : ℕ) (sent waiting : Lis
 sent_partly pieces i count sent waiting old mid new is gone part =
     sent_front pieces i sent (take count waiting) (drop count waiting) old new (is ∙ ap (λ text. sent ++ text) (sym (take-append-drop count waiting))) (Appends-trans old mid new sent (take count waiting) gone part)
 
--- one piece more waits
-pub waits_more : (pieces : List (List ℕ)) (i : ℕ) (sent waiting longer : List ℕ) → i < length pieces → concat (take i pieces) ≡ sent ++ waiting → longer ≡ waiting ++ get_or pieces i []
-    → concat (take (i + 1) pieces) ≡ sent ++ longer
-waits_more pieces i sent waiting longer lt is more =
-    pieces_more pieces i lt ∙ ap (λ text. text ++ get_or pieces i []) is ∙ append_assoc sent waiting (get_or pieces i []) ∙ ap (λ text. sent ++ text) (sym more)
+-- some pieces more
+pub pieces_on : (pieces : List (List ℕ)) (at next : ℕ) → at ≤ next → concat (take next pieces) ≡ concat (take at pieces) ++ concat (slice_range pieces at next)
+pieces_on pieces at next le =
+    let sum : next ≡ at + (next - at) = omega arith in
+    ap (λ n. concat (take n pieces)) sum ∙ ap concat (take-add at (next - at) pieces) ∙ concat-append (take at pieces) (slice_range pieces at next)
+
+-- some pieces more wait
+pub waits_on : (pieces : List (List ℕ)) (at next : ℕ) (sent waiting longer : List ℕ) → at ≤ next → concat (take at pieces) ≡ sent ++ waiting → longer ≡ waiting ++ concat (slice_range pieces at next)
+    → concat (take next pieces) ≡ sent ++ longer
+waits_on pieces at next sent waiting longer le is more =
+    pieces_on pieces at next le ∙ ap (λ text. text ++ concat (slice_range pieces at next)) is ∙ append_assoc sent waiting (concat (slice_range pieces at next)) ∙ ap (λ text. sent ++ text) (sym more)
+
+-- one piece is what stands from its number to the next
+pub one_piece : (pieces : List (List ℕ)) (at : ℕ) → at < length pieces → concat (slice_range pieces at (at + 1)) ≡ get_or pieces at []
+one_piece pieces at lt =
+    let one : at + 1 - at ≡ 1 = omega arith in
+    ap (λ n. concat (take n (drop at pieces))) one ∙ ap (λ rest. concat (take 1 rest)) (drop_more pieces at [] lt) ∙ append-nil (get_or pieces at [])
 
 -- what begins with a text and more begins with the text
 pub further : (new middle start text : List ℕ) → StartsWith new middle → middle ≡ start ++ text → StartsWith new start
 further new middle start text front is =
     let long : length middle ≡ length start + length text = ap length is ∙ length-append start text in
     sym (take-take (length start) (length middle) new (omega arith)) ∙ ap (take (length start)) (front ∙ is) ∙ take-append_seam start text
+
+-- a piece more behind some
+pub range_more : (pieces : List (List ℕ)) (from at : ℕ) → from ≤ at → at < length pieces
+    → concat (slice_range pieces from (at + 1)) ≡ concat (slice_range pieces from at) ++ get_or pieces at []
+range_more pieces from at first within =
+    let rest = drop from pieces in
+    let count : at + 1 - from ≡ (at - from) + 1 = omega arith in
+    let place : from + (at - from) ≡ at = omega arith in
+    ap (λ n. concat (take n rest)) count
+    ∙ pieces_more rest (at - from) (omega (arith, length-drop from pieces))
+    ∙ ap (λ piece. concat (take (at - from) rest) ++ piece) (get_or-drop from pieces (at - from) [] ∙ ap (λ n. get_or pieces n []) place)
+
+-- and none
+pub range_none : (pieces : List (List ℕ)) (from : ℕ) → concat (slice_range pieces from from) ≡ []
+range_none pieces from =
+    let none : from - from ≡ 0 = omega arith in
+    ap (λ n. concat (take n (drop from pieces))) none

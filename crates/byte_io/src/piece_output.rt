@@ -79,8 +79,10 @@ pub fn send_pieces<P: Pieces, W: Outlet>(
     ensures unfailed { result ≢ Err PieceFault.Output → W.failures out.new ≡ W.failures out.old }
 {
     let mut waiting = Vec::new(alloc);
-    for at in 0..text.count() {
-        text.append_piece(alloc, at, &mut waiting)?;
+    let count = text.count();
+    let mut at = 0;
+    'each: while at < count {
+        at = text.append_some(alloc, at, &mut waiting)?;
         send_long(&mut waiting, out)?;
     }
     send(waiting.as_slice(), out)?;
@@ -124,8 +126,10 @@ fn append_each<P: Pieces>(alloc: Global, text: &P, out: &mut Vec<u8>) -> Result<
     ensures ok { OnOk result (out.new.items ≡ out.old.items ++ concat (P.pieces text.now)) }
     ensures front { StartsWith out.new.items out.old.items }
 {
-    for at in 0..text.count() {
-        text.append_piece(alloc, at, out)?;
+    let count = text.count();
+    let mut at = 0;
+    'each: while at < count {
+        at = text.append_some(alloc, at, out)?;
     }
     Ok(())
 }

@@ -1,5 +1,6 @@
 //! Texts that are made piece by piece.
-ghost use Rattle.std.specs.Prelude.{◌≡◌, ◌<◌, ◌^◌, ◌++◌, [], ◌∷◌, ℕ, List, OnOk, length, slice_index_or};
+ghost use Rattle.std.specs.Prelude.{◌≡◌, ◌<◌, ◌≤◌, ◌^◌, ◌++◌, [], ◌∷◌, ℕ, List, OnOk, IfOk, length, slice_index_or, slice_range};
+ghost use Rattle.std.specs.List.{concat};
 ghost use Rattle.std.specs.Io.{StartsWith};
 
 use std::alloc::{AllocError, Global};
@@ -21,6 +22,22 @@ pub trait Pieces {
         ensures ok { OnOk result
             (out.new.items ≡ out.old.items ++ slice_index_or (pieces self.now) at []) }
         ensures front { StartsWith out.new.items out.old.items };
+
+    /// Appends the piece of a number and perhaps some that follow it, and answers the number of the next one. A
+    /// text that needs the same work for each of its pieces can do it once for these. An `Err` may leave a
+    /// part of them.
+    fn append_some(&self, alloc: Global, at: usize, out: &mut Vec<u8>) -> Result<usize, AllocError>
+        requires few { length (pieces self.now) < 2 ^ 64 }
+        requires there { at < length (pieces self.now) }
+        ensures ok { IfOk result (λ next. out.new.items
+            ≡ out.old.items ++ concat (slice_range (pieces self.now) at next)) }
+        ensures further { IfOk result (λ next. at < next) }
+        ensures within { IfOk result (λ next. next ≤ length (pieces self.now)) }
+        ensures front { StartsWith out.new.items out.old.items }
+    {
+        self.append_piece(alloc, at, out)?;
+        Ok(at + 1)
+    }
 }
 
 /// Some bytes, as one piece.

@@ -1,5 +1,5 @@
 -- The texts of members, piece by piece.
-use Rattle.std.proofs.Common.{◌≡◌, ℕ, ◌+◌, ◌≤◌, List, [], ◌∷◌, ◌++◌, false, length, take, drop, codes, decimal, refl, sym, ap, ◌∙◌, append_assoc, length-take-le, drop-drop, drop_at, arith}
+use Rattle.std.proofs.Common.{◌≡◌, ℕ, ◌+◌, ◌≤◌, List, [], ◌∷◌, ◌++◌, false, length, take, drop, codes, decimal, refl, sym, ap, ◌∙◌, append_assoc, append-nil, length-take-le, drop-drop, drop_at, arith}
 use borrow.Rule.Slice.PartMut.{put_mid}
 use Rattle.json.specs.Print.{escape_byte}
 use Rattle.serde_json.specs.Data.{string}
@@ -52,7 +52,33 @@ box_written b opening depth left right own start weight name o o1 o2 o3 d l r n 
     ∙ (λ i. ((o ++ before_name opening (d i) (l i)) ++ compact_text (string (n i))) ++ behind_name (w i) (r i) (s i) (g i))
     ∙ box_parts o opening b
 
+-- the same, appended at once
+pub box_written_at_once : (b : PlacedBox) (opening left right : ℕ) (o text o1 : List ℕ) → left ≡ b.left → right ≡ b.right
+    → text ≡ before_name opening b.depth left ++ (compact_text (string b.name) ++ behind_name b.own right b.start b.weight)
+    → o1 ≡ o ++ text
+    → o1 ≡ o ++ opening ∷ members_text false (box_members b)
+box_written_at_once b opening left right o text o1 l r is e =
+    let before = before_name opening b.depth b.left in
+    let behind = behind_name b.own b.right b.start b.weight in
+    e
+    ∙ ap (λ t. o ++ t) (is ∙ (λ i. before_name opening b.depth (l i) ++ (compact_text (string b.name) ++ behind_name b.own (r i) b.start b.weight)))
+    ∙ sym (append_assoc o before (compact_text (string b.name) ++ behind))
+    ∙ sym (append_assoc (o ++ before) (compact_text (string b.name)) behind)
+    ∙ box_parts o opening b
+
 -- ---- what is put into a buffer from its end to its front
+
+-- the parts of a box, from the last to the first, before what has no more bytes
+pub members_put : (opening left right depth own start weight d o s w : ℕ) (name n text named behind rest : List ℕ)
+    → d ≡ depth → n ≡ name → o ≡ own → s ≡ start → w ≡ weight → rest ≡ []
+    → text ≡ before_name opening d left ++ named
+    → named ≡ compact_text (string n) ++ behind
+    → behind ≡ behind_name o right s w ++ rest
+    → text ≡ before_name opening depth left ++ (compact_text (string name) ++ behind_name own right start weight)
+members_put opening left right depth own start weight d o s w name n text named behind rest hd hn ho hs hw none e1 e2 e3 =
+    e1
+    ∙ ap (λ t. before_name opening d left ++ t) (e2 ∙ ap (λ t. compact_text (string n) ++ t) (e3 ∙ ap (λ t. behind_name o right s w ++ t) none ∙ append-nil (behind_name o right s w)))
+    ∙ (λ i. before_name opening (hd i) left ++ (compact_text (string (hn i)) ++ behind_name (ho i) right (hs i) (hw i)))
 
 -- a piece before what stands there
 pub piece_put : (start count end : ℕ) (bytes piece copy : List ℕ) → copy ≡ piece → start + count ≡ end → end ≤ length bytes → drop start (put_mid start count bytes copy) ≡ piece ++ drop end bytes

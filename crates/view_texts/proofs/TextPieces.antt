@@ -1,9 +1,9 @@
 -- The pieces of the texts one after another, and each by itself.
-use Rattle.std.proofs.Common.{◌≡◌, ℕ, zero, suc, ◌+◌, ◌-◌, ◌<◌, List, [], ◌∷◌, ◌++◌, Bool, true, false, ltb, length, get_or, cond, map, refl, sym, ap, ◌∙◌, arith, append_assoc, append-nil}
-use Rattle.std.proofs.lemmas.List.{get_or-map, length-map, get_or_append_left, get_or-append_right, length-append}
+use Rattle.std.proofs.Common.{◌≡◌, ℕ, zero, suc, ◌+◌, ◌-◌, ◌<◌, ◌≤◌, List, [], ◌∷◌, ◌++◌, Bool, true, false, ltb, length, get_or, take, drop, cond, map, refl, sym, ap, ◌∙◌, arith, append_assoc, append-nil}
+use Rattle.std.proofs.lemmas.List.{get_or-map, length-map, get_or_append_left, get_or-append_right, length-append, take-append-le, drop-append-le, length-drop}
 use Rattle.std.proofs.lemmas.List.Folds.{concat-append}
 use Rattle.std.proofs.lemmas.Bool.{lt-ltb}
-use Rattle.std.specs.List.{concat}
+use Rattle.std.specs.List.{concat, slice_range}
 use Rattle.sample_tables.specs.declared.samples.Sample.{Sample}
 use Rattle.sample_tables.specs.Rows.{sample_at}
 use Rattle.serde_json.specs.Data.{Data}
@@ -56,7 +56,7 @@ row_line-at rows at row within is = get_or-map row_line rows at row [] within �
 
 -- ---- a line of JSON
 
-length-value_pieces : (later : Bool) (values : List Data) → length (value_pieces later values) ≡ length values
+pub length-value_pieces : (later : Bool) (values : List Data) → length (value_pieces later values) ≡ length values
 length-value_pieces later [] = refl
 length-value_pieces later (value ∷ values) = ap suc (length-value_pieces true values)
 
@@ -93,6 +93,25 @@ box_piece object boxes head tail at place item e within =
   where
     suc_is : (n : ℕ) → n + 1 ≡ suc n
     suc_is n = omega arith
+
+-- the same among the pieces of the boxes alone
+pub item_piece : {B : Type 0} (object : B → Data) (boxes : List B) (place : ℕ) (item : B) → place < length boxes → item ≡ get_or boxes place item
+    → get_or (value_pieces false (map object boxes)) place [] ≡ comma_if (ltb 0 place) ++ compact_text (object item)
+item_piece object boxes place item within is =
+    value_piece (map object boxes) place (object item) (omega (arith, length-map boxes object))
+    ∙ ap (λ value. comma_if (ltb 0 place) ++ compact_text value) (get_or-map object boxes place item (object item) within ∙ ap object (sym is))
+
+-- the pieces of some boxes
+pub items_pieces : (head tail : List ℕ) (values : List Data) (at place end next : ℕ) → at ≡ place + 1 → next ≡ end + 1 → place ≤ end → end ≤ length values
+    → slice_range (line_pieces head values tail) at next ≡ slice_range (value_pieces false values) place end
+items_pieces head tail values at place end next is then first last =
+    let pieces = value_pieces false values in
+    let long : length pieces ≡ length values = length-value_pieces false values in
+    let count : next - at ≡ end - place = omega (arith, is, then) in
+    let suc_is : at ≡ suc place = omega (arith, is) in
+    (λ i. take (count i) (drop (suc_is i) (line_pieces head values tail)))
+    ∙ ap (take (end - place)) (drop-append-le place pieces (tail ∷ []) (omega (arith, long)))
+    ∙ take-append-le (end - place) (drop place pieces) (tail ∷ []) (omega (arith, long, length-drop place pieces))
 
 -- the last piece
 pub tail_piece : (values : List Data) (head tail : List ℕ) (at : ℕ) → at ≡ length values + 1 → get_or (line_pieces head values tail) at [] ≡ tail

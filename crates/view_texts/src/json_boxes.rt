@@ -1,6 +1,7 @@
 //! Boxes in JSON.
 
-ghost use Rattle.std.specs.Prelude.{◌≡◌, ℕ, ◌+◌, ◌<◌, ◌≤◌, ◌∷◌, ◌++◌, false, OnOk};
+ghost use Rattle.std.specs.Prelude.{◌≡◌, ℕ, ◌+◌, ◌<◌, ◌≤◌, ◌∷◌, ◌++◌, false, length, All, OnOk};
+ghost use Rattle.std.specs.Bool.{OnTrue};
 ghost use Rattle.std.specs.Io.{StartsWith};
 ghost use Rattle.serde_json.specs.Data.{Data};
 ghost use Rattle.serde_json.specs.Written.{compact_text, members_text};
@@ -8,10 +9,12 @@ ghost use Rattle.flame_layout.specs.Boxes.{compared_of, span_of};
 ghost use Rattle.flame_layout.specs.Edges.{placed_at};
 ghost use Rattle.view_texts.specs.Json.{box_data, box_members, compared_box_data};
 ghost use Rattle.view_texts.specs.checked.BoxParts.{before_name, behind_name};
+ghost use Rattle.view_texts.specs.checked.PlainTexts.{IsPlainByte};
 
 use crate::json_pieces::{append_number, append_quoted};
-use crate::put_pieces::{put_number, put_piece};
+use crate::plain_texts::is_plain;
 use crate::scales::Scale;
+use crate::sheets::{Sheet, put_before_name, put_behind_name, put_members};
 use flame_layout::{ComparedBox, DrawnBox, DrawnPair, FlameBox, SpanBox, edges};
 use std::alloc::{AllocError, Global};
 
@@ -23,13 +26,30 @@ pub trait JsonBox {
     // Where the box ends.
     ghost end: { Self → ℕ };
 
+    /// Appends the object, put together on a sheet. An `Err` may leave a part of it.
+    fn append_on(
+        &self,
+        alloc: Global,
+        text: &mut Vec<u8>,
+        scale: &Scale,
+        sheet: &mut Sheet,
+    ) -> Result<(), AllocError>
+        requires within { end self.now ≤ scale.now.total }
+        requires positive { 0 < scale.now.total }
+        ensures ok { OnOk result (text.new.items
+            ≡ text.old.items ++ compact_text (object_of scale.now.total scale.now.width self.now)) }
+        ensures front { StartsWith text.new.items text.old.items };
+
     /// Appends the object. An `Err` may leave a part of it.
     fn append(&self, alloc: Global, text: &mut Vec<u8>, scale: &Scale) -> Result<(), AllocError>
         requires within { end self.now ≤ scale.now.total }
         requires positive { 0 < scale.now.total }
         ensures ok { OnOk result (text.new.items
             ≡ text.old.items ++ compact_text (object_of scale.now.total scale.now.width self.now)) }
-        ensures front { StartsWith text.new.items text.old.items };
+        ensures front { StartsWith text.new.items text.old.items }
+    {
+        self.append_on(alloc, text, scale, &mut Sheet::new())
+    }
 }
 
 impl JsonBox for SpanBox {
@@ -37,8 +57,14 @@ impl JsonBox for SpanBox {
 
     ghost end = { λ span. span.start + span.weight };
 
-    fn append(&self, alloc: Global, text: &mut Vec<u8>, scale: &Scale) -> Result<(), AllocError> {
-        append_members(alloc, text, b'{', self, scale)
+    fn append_on(
+        &self,
+        alloc: Global,
+        text: &mut Vec<u8>,
+        scale: &Scale,
+        sheet: &mut Sheet,
+    ) -> Result<(), AllocError> {
+        append_members(alloc, text, b'{', self, scale, sheet)
     }
 }
 
@@ -47,8 +73,14 @@ impl<'a> JsonBox for DrawnBox<'a> {
 
     ghost end = { λ drawn. drawn.start + drawn.weight };
 
-    fn append(&self, alloc: Global, text: &mut Vec<u8>, scale: &Scale) -> Result<(), AllocError> {
-        append_members(alloc, text, b'{', self, scale)
+    fn append_on(
+        &self,
+        alloc: Global,
+        text: &mut Vec<u8>,
+        scale: &Scale,
+        sheet: &mut Sheet,
+    ) -> Result<(), AllocError> {
+        append_members(alloc, text, b'{', self, scale, sheet)
     }
 }
 
@@ -57,8 +89,14 @@ impl JsonBox for ComparedBox {
 
     ghost end = { λ compared. compared.span.start + compared.span.weight };
 
-    fn append(&self, alloc: Global, text: &mut Vec<u8>, scale: &Scale) -> Result<(), AllocError> {
-        append_compared(alloc, text, self.before, &self.span, scale)
+    fn append_on(
+        &self,
+        alloc: Global,
+        text: &mut Vec<u8>,
+        scale: &Scale,
+        sheet: &mut Sheet,
+    ) -> Result<(), AllocError> {
+        append_compared(alloc, text, self.before, &self.span, scale, sheet)
     }
 }
 
@@ -67,8 +105,14 @@ impl<'a> JsonBox for DrawnPair<'a> {
 
     ghost end = { λ pair. pair.drawn.start + pair.drawn.weight };
 
-    fn append(&self, alloc: Global, text: &mut Vec<u8>, scale: &Scale) -> Result<(), AllocError> {
-        append_compared(alloc, text, self.total_before, &self.drawn, scale)
+    fn append_on(
+        &self,
+        alloc: Global,
+        text: &mut Vec<u8>,
+        scale: &Scale,
+        sheet: &mut Sheet,
+    ) -> Result<(), AllocError> {
+        append_compared(alloc, text, self.total_before, &self.drawn, scale, sheet)
     }
 }
 
@@ -79,6 +123,7 @@ fn append_compared<B: FlameBox>(
     before: u64,
     span: &B,
     scale: &Scale,
+    sheet: &mut Sheet,
 ) -> Result<(), AllocError>
     requires within { (B.span span.now).start + (B.span span.now).weight ≤ scale.now.total }
     requires positive { 0 < scale.now.total }
@@ -88,7 +133,7 @@ fn append_compared<B: FlameBox>(
     ensures front { StartsWith text.new.items text.old.items }
 {
     append_number(text, b"{\"before\":", before)?;
-    append_members(alloc, text, b',', span, scale)
+    append_members(alloc, text, b',', span, scale, sheet)
 }
 
 // Appends a byte, the members of a box, and the bracket after them.
@@ -98,6 +143,7 @@ fn append_members<B: FlameBox>(
     opening: u8,
     span: &B,
     scale: &Scale,
+    sheet: &mut Sheet,
 ) -> Result<(), AllocError>
     requires within { (B.span span.now).start + (B.span span.now).weight ≤ scale.now.total }
     requires positive { 0 < scale.now.total }
@@ -106,9 +152,21 @@ fn append_members<B: FlameBox>(
     ensures front { StartsWith text.new.items text.old.items }
 {
     let (left, right) = edges(span, scale.total, scale.width);
+    if is_short_and_plain(span.name()) {
+        let at = put_members(&mut sheet.bytes, opening, span, left, right);
+        return text.extend_from_slice(&sheet.bytes[at..]);
+    }
     append_before_name(text, opening, span.depth(), left)?;
     append_quoted(alloc, text, span.name())?;
     append_behind_name(text, span.own(), right, span.start(), span.weight())
+}
+
+// Whether a name fits on a sheet as it is.
+fn is_short_and_plain(name: &str) -> bool
+    ensures short { OnTrue result (length name.now ≤ 256) }
+    ensures plain { OnTrue result (All IsPlainByte name.now) }
+{
+    name.len() <= 256 && is_plain(name.as_bytes())
 }
 
 // Appends what stands before the name, at once.
@@ -122,10 +180,7 @@ fn append_before_name(
     ensures front { StartsWith text.new.items text.old.items }
 {
     let mut bytes = [0; 80];
-    let at = put_piece(&mut bytes, 80, b",\"name\":");
-    let at = put_number(&mut bytes, at, b",\"left\":", u64::from(left));
-    let at = put_number(&mut bytes, at, b"\"depth\":", u64::from(depth));
-    let at = put_piece(&mut bytes, at, &[opening]);
+    let at = put_before_name(&mut bytes, 80, opening, depth, left);
     text.extend_from_slice(&bytes[at..])
 }
 
@@ -141,10 +196,6 @@ fn append_behind_name(
     ensures front { StartsWith text.new.items text.old.items }
 {
     let mut bytes = [0; 128];
-    let at = put_piece(&mut bytes, 128, b"}");
-    let at = put_number(&mut bytes, at, b",\"weight\":", weight);
-    let at = put_number(&mut bytes, at, b",\"start\":", start);
-    let at = put_number(&mut bytes, at, b",\"right\":", u64::from(right));
-    let at = put_number(&mut bytes, at, b",\"own\":", own);
+    let at = put_behind_name(&mut bytes, 128, own, right, start, weight);
     text.extend_from_slice(&bytes[at..])
 }

@@ -1,16 +1,17 @@
 //! A line of JSON, piece by piece.
 
-ghost use Rattle.std.specs.Prelude.{◌≡◌, ◌+◌, ◌<◌, ◌≤◌, ◌^◌, ◌++◌, All, length, map, OnOk};
+ghost use Rattle.std.specs.Prelude.{◌≡◌, ◌+◌, ◌<◌, ◌≤◌, ◌^◌, ◌++◌, false, All, length, map, slice_range, OnOk};
 ghost use Rattle.std.specs.Io.{StartsWith};
 ghost use Rattle.std.specs.List.{concat};
 ghost use Rattle.serde_json.specs.Written.{comma_if, compact_text};
 ghost use Rattle.view_texts.specs.Lines.{head_of, counts_of, tail_of, ending_of, line_text};
-ghost use Rattle.view_texts.specs.Pieces.{line_pieces};
+ghost use Rattle.view_texts.specs.Pieces.{line_pieces, value_pieces};
 
 use crate::json_boxes::JsonBox;
 use crate::json_pieces::{append_comma, append_number, append_numbers, append_text};
 use crate::line_kinds::LineKind;
 use crate::scales::Scale;
+use crate::sheets::Sheet;
 use byte_io::Pieces;
 use std::alloc::{AllocError, Global};
 
@@ -67,11 +68,69 @@ impl<B: JsonBox> Pieces for JsonLine<'_, B> {
             append_head(out, self.kind)
         } else if at <= self.boxes.len() {
             let place = at - 1;
-            append_item(alloc, out, place > 0, &self.boxes[place], &self.scale)
+            let sheet = &mut Sheet::new();
+            append_item(
+                alloc,
+                out,
+                place > 0,
+                &self.boxes[place],
+                &self.scale,
+                sheet,
+            )
         } else {
             append_tail(alloc, out, self.kind, self.view, self.counts, &self.scale)
         }
     }
+
+    /// Up to 64 boxes at a time are put together on one sheet.
+    fn append_some(
+        &self,
+        alloc: Global,
+        at: usize,
+        out: &mut Vec<u8>,
+    ) -> Result<usize, AllocError> {
+        let last = self.boxes.len();
+        if at == 0 || at > last {
+            self.append_piece(alloc, at, out)?;
+            return Ok(at + 1);
+        }
+        let end = end_of_some(at, last);
+        append_items(alloc, out, self.boxes, at - 1, end, &self.scale)?;
+        Ok(end + 1)
+    }
+}
+
+// Up to which box those from number `at` on are appended together.
+fn end_of_some(at: usize, last: usize) -> usize
+    requires { at ≤ last }
+    ensures least { at ≤ result }
+    ensures most { result ≤ last }
+{
+    if last - at < 64 { last } else { at + 63 }
+}
+
+// Appends the boxes from a place on, each after a comma where another stands before it.
+fn append_items<B: JsonBox>(
+    alloc: Global,
+    out: &mut Vec<u8>,
+    boxes: &[B],
+    from: usize,
+    end: usize,
+    scale: &Scale,
+) -> Result<(), AllocError>
+    requires from { from ≤ end }
+    requires end { end ≤ length boxes.now }
+    requires within { All (λ item. B.end item ≤ scale.now.total) boxes.now }
+    requires positive { 0 < scale.now.total }
+    ensures ok { OnOk result (out.new.items ≡ out.old.items ++ concat (slice_range
+        (value_pieces false (map (B.object_of scale.now.total scale.now.width) boxes.now)) from end)) }
+    ensures front { StartsWith out.new.items out.old.items }
+{
+    let mut sheet = Sheet::new();
+    for place in from..end {
+        append_item(alloc, out, place > 0, &boxes[place], scale, &mut sheet)?;
+    }
+    Ok(())
 }
 
 // Appends what stands before the boxes.
@@ -99,6 +158,7 @@ fn append_item<B: JsonBox>(
     later: bool,
     item: &B,
     scale: &Scale,
+    sheet: &mut Sheet,
 ) -> Result<(), AllocError>
     requires within { B.end item.now ≤ scale.now.total }
     requires positive { 0 < scale.now.total }
@@ -107,7 +167,7 @@ fn append_item<B: JsonBox>(
     ensures front { StartsWith out.new.items out.old.items }
 {
     append_comma(out, later)?;
-    item.append(alloc, out, scale)
+    item.append_on(alloc, out, scale, sheet)
 }
 
 // Appends what stands after the boxes.

@@ -14,6 +14,7 @@ mod pair_lines;
 mod plain_texts;
 mod put_pieces;
 mod scales;
+mod sheets;
 mod stack_pairs;
 mod type_lines;
 
@@ -28,5 +29,6 @@ pub use json_lines::{
 pub use merged_lines::{FoldedText, append_merged_text};
 pub use pair_lines::{PairsText, append_pairs_text};
 pub use scales::Scale;
+pub use sheets::Sheet;
 pub use stack_pairs::PairedText;
 pub use type_lines::{TypesText, append_types_text};
