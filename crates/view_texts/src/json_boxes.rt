@@ -1,21 +1,16 @@
 //! Boxes in JSON.
 
-ghost use Rattle.std.specs.Prelude.{◌≡◌, ℕ, ◌+◌, ◌<◌, ◌≤◌, ◌∷◌, ◌++◌, false, length, All, OnOk};
-ghost use Rattle.std.specs.Bool.{OnTrue};
+ghost use Rattle.std.specs.Prelude.{◌≡◌, ℕ, ◌+◌, ◌<◌, ◌≤◌, ◌++◌, OnOk};
 ghost use Rattle.std.specs.Io.{StartsWith};
 ghost use Rattle.serde_json.specs.Data.{Data};
-ghost use Rattle.serde_json.specs.Written.{compact_text, members_text};
+ghost use Rattle.serde_json.specs.Written.{compact_text};
 ghost use Rattle.flame_layout.specs.Boxes.{compared_of, span_of};
-ghost use Rattle.flame_layout.specs.Edges.{placed_at};
-ghost use Rattle.view_texts.specs.Json.{box_data, box_members, compared_box_data};
-ghost use Rattle.view_texts.specs.checked.BoxParts.{before_name, behind_name};
-ghost use Rattle.view_texts.specs.checked.PlainTexts.{IsPlainByte};
+ghost use Rattle.view_texts.specs.Json.{box_data, compared_box_data};
 
-use crate::json_pieces::{append_number, append_quoted};
-use crate::plain_texts::is_plain;
+use crate::json_pieces::append_number;
 use crate::scales::Scale;
-use crate::sheets::{Sheet, put_before_name, put_behind_name, put_members};
-use flame_layout::{ComparedBox, DrawnBox, DrawnPair, FlameBox, SpanBox, edges};
+use crate::sheets::Sheet;
+use flame_layout::{ComparedBox, DrawnBox, DrawnPair, FlameBox, SpanBox};
 use std::alloc::{AllocError, Global};
 
 /// A box of a line of JSON, which is an object there.
@@ -26,19 +21,19 @@ pub trait JsonBox {
     // Where the box ends.
     ghost end: { Self → ℕ };
 
-    /// Appends the object, put together on a sheet. An `Err` may leave a part of it.
+    /// Appends the object, in the image of a sheet. An `Err` may leave a part of it.
     fn append_on(
         &self,
         alloc: Global,
         text: &mut Vec<u8>,
-        scale: &Scale,
         sheet: &mut Sheet,
     ) -> Result<(), AllocError>
-        requires within { end self.now ≤ scale.now.total }
-        requires positive { 0 < scale.now.total }
+        requires within { end self.now ≤ sheet.old.total }
+        requires positive { 0 < sheet.old.total }
         ensures ok { OnOk result (text.new.items
-            ≡ text.old.items ++ compact_text (object_of scale.now.total scale.now.width self.now)) }
-        ensures front { StartsWith text.new.items text.old.items };
+            ≡ text.old.items ++ compact_text (object_of sheet.old.total sheet.old.width self.now)) }
+        ensures front { StartsWith text.new.items text.old.items }
+        ensures scale { sheet.new ≡ sheet.old };
 
     /// Appends the object. An `Err` may leave a part of it.
     fn append(&self, alloc: Global, text: &mut Vec<u8>, scale: &Scale) -> Result<(), AllocError>
@@ -48,7 +43,7 @@ pub trait JsonBox {
             ≡ text.old.items ++ compact_text (object_of scale.now.total scale.now.width self.now)) }
         ensures front { StartsWith text.new.items text.old.items }
     {
-        self.append_on(alloc, text, scale, &mut Sheet::new())
+        self.append_on(alloc, text, &mut Sheet::of(*scale))
     }
 }
 
@@ -61,10 +56,9 @@ impl JsonBox for SpanBox {
         &self,
         alloc: Global,
         text: &mut Vec<u8>,
-        scale: &Scale,
         sheet: &mut Sheet,
     ) -> Result<(), AllocError> {
-        append_members(alloc, text, b'{', self, scale, sheet)
+        sheet.append_members(alloc, text, b'{', self)
     }
 }
 
@@ -77,10 +71,9 @@ impl<'a> JsonBox for DrawnBox<'a> {
         &self,
         alloc: Global,
         text: &mut Vec<u8>,
-        scale: &Scale,
         sheet: &mut Sheet,
     ) -> Result<(), AllocError> {
-        append_members(alloc, text, b'{', self, scale, sheet)
+        sheet.append_members(alloc, text, b'{', self)
     }
 }
 
@@ -93,10 +86,9 @@ impl JsonBox for ComparedBox {
         &self,
         alloc: Global,
         text: &mut Vec<u8>,
-        scale: &Scale,
         sheet: &mut Sheet,
     ) -> Result<(), AllocError> {
-        append_compared(alloc, text, self.before, &self.span, scale, sheet)
+        append_compared(alloc, text, self.before, &self.span, sheet)
     }
 }
 
@@ -109,10 +101,9 @@ impl<'a> JsonBox for DrawnPair<'a> {
         &self,
         alloc: Global,
         text: &mut Vec<u8>,
-        scale: &Scale,
         sheet: &mut Sheet,
     ) -> Result<(), AllocError> {
-        append_compared(alloc, text, self.total_before, &self.drawn, scale, sheet)
+        append_compared(alloc, text, self.total_before, &self.drawn, sheet)
     }
 }
 
@@ -122,80 +113,16 @@ fn append_compared<B: FlameBox>(
     text: &mut Vec<u8>,
     before: u64,
     span: &B,
-    scale: &Scale,
     sheet: &mut Sheet,
 ) -> Result<(), AllocError>
-    requires within { (B.span span.now).start + (B.span span.now).weight ≤ scale.now.total }
-    requires positive { 0 < scale.now.total }
+    requires within { (B.span span.now).start + (B.span span.now).weight ≤ sheet.old.total }
+    requires positive { 0 < sheet.old.total }
     ensures ok { OnOk result (text.new.items ≡ text.old.items ++ compact_text
-        (compared_box_data scale.now.total scale.now.width
+        (compared_box_data sheet.old.total sheet.old.width
         (record { span = B.span span.now; before = before }))) }
     ensures front { StartsWith text.new.items text.old.items }
+    ensures scale { sheet.new ≡ sheet.old }
 {
     append_number(text, b"{\"before\":", before)?;
-    append_members(alloc, text, b',', span, scale, sheet)
-}
-
-// Appends a byte, the members of a box, and the bracket after them.
-fn append_members<B: FlameBox>(
-    alloc: Global,
-    text: &mut Vec<u8>,
-    opening: u8,
-    span: &B,
-    scale: &Scale,
-    sheet: &mut Sheet,
-) -> Result<(), AllocError>
-    requires within { (B.span span.now).start + (B.span span.now).weight ≤ scale.now.total }
-    requires positive { 0 < scale.now.total }
-    ensures ok { OnOk result (text.new.items ≡ text.old.items ++ opening ∷ members_text false
-        (box_members (placed_at scale.now.total scale.now.width (B.span span.now)))) }
-    ensures front { StartsWith text.new.items text.old.items }
-{
-    let (left, right) = edges(span, scale.total, scale.width);
-    if is_short_and_plain(span.name()) {
-        let at = put_members(&mut sheet.bytes, opening, span, left, right);
-        return text.extend_from_slice(&sheet.bytes[at..]);
-    }
-    append_before_name(text, opening, span.depth(), left)?;
-    append_quoted(alloc, text, span.name())?;
-    append_behind_name(text, span.own(), right, span.start(), span.weight())
-}
-
-// Whether a name fits on a sheet as it is.
-fn is_short_and_plain(name: &str) -> bool
-    ensures short { OnTrue result (length name.now ≤ 256) }
-    ensures plain { OnTrue result (All IsPlainByte name.now) }
-{
-    name.len() <= 256 && is_plain(name.as_bytes())
-}
-
-// Appends what stands before the name, at once.
-fn append_before_name(
-    text: &mut Vec<u8>,
-    opening: u8,
-    depth: u32,
-    left: u32,
-) -> Result<(), AllocError>
-    ensures ok { OnOk result (text.new.items ≡ text.old.items ++ before_name opening depth left) }
-    ensures front { StartsWith text.new.items text.old.items }
-{
-    let mut bytes = [0; 80];
-    let at = put_before_name(&mut bytes, 80, opening, depth, left);
-    text.extend_from_slice(&bytes[at..])
-}
-
-// Appends what stands behind the name, at once.
-fn append_behind_name(
-    text: &mut Vec<u8>,
-    own: u64,
-    right: u32,
-    start: u64,
-    weight: u64,
-) -> Result<(), AllocError>
-    ensures ok { OnOk result (text.new.items ≡ text.old.items ++ behind_name own right start weight) }
-    ensures front { StartsWith text.new.items text.old.items }
-{
-    let mut bytes = [0; 128];
-    let at = put_behind_name(&mut bytes, 128, own, right, start, weight);
-    text.extend_from_slice(&bytes[at..])
+    sheet.append_members(alloc, text, b',', span)
 }

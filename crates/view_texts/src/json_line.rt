@@ -68,15 +68,8 @@ impl<B: JsonBox> Pieces for JsonLine<'_, B> {
             append_head(out, self.kind)
         } else if at <= self.boxes.len() {
             let place = at - 1;
-            let sheet = &mut Sheet::new();
-            append_item(
-                alloc,
-                out,
-                place > 0,
-                &self.boxes[place],
-                &self.scale,
-                sheet,
-            )
+            let sheet = &mut Sheet::of(self.scale);
+            append_item(alloc, out, place > 0, &self.boxes[place], sheet)
         } else {
             append_tail(alloc, out, self.kind, self.view, self.counts, &self.scale)
         }
@@ -126,9 +119,9 @@ fn append_items<B: JsonBox>(
         (value_pieces false (map (B.object_of scale.now.total scale.now.width) boxes.now)) from end)) }
     ensures front { StartsWith out.new.items out.old.items }
 {
-    let mut sheet = Sheet::new();
+    let mut sheet = Sheet::of(*scale);
     for place in from..end {
-        append_item(alloc, out, place > 0, &boxes[place], scale, &mut sheet)?;
+        append_item(alloc, out, place > 0, &boxes[place], &mut sheet)?;
     }
     Ok(())
 }
@@ -157,17 +150,17 @@ fn append_item<B: JsonBox>(
     out: &mut Vec<u8>,
     later: bool,
     item: &B,
-    scale: &Scale,
     sheet: &mut Sheet,
 ) -> Result<(), AllocError>
-    requires within { B.end item.now ≤ scale.now.total }
-    requires positive { 0 < scale.now.total }
+    requires within { B.end item.now ≤ sheet.old.total }
+    requires positive { 0 < sheet.old.total }
     ensures ok { OnOk result (out.new.items ≡ out.old.items
-        ++ (comma_if later ++ compact_text (B.object_of scale.now.total scale.now.width item.now))) }
+        ++ (comma_if later ++ compact_text (B.object_of sheet.old.total sheet.old.width item.now))) }
     ensures front { StartsWith out.new.items out.old.items }
+    ensures scale { sheet.new ≡ sheet.old }
 {
     append_comma(out, later)?;
-    item.append_on(alloc, out, scale, sheet)
+    item.append_on(alloc, out, sheet)
 }
 
 // Appends what stands after the boxes.

@@ -2,6 +2,7 @@
 //! JSON; and the sample types of a profile.
 #![tactic(auto)]
 
+mod desks;
 mod fold_lines;
 mod json_boxes;
 mod json_line;

@@ -1,99 +1,66 @@
-//! The text of a box, put together before it is appended.
+//! Sheets, on which the boxes of a line are written.
 
-ghost use Rattle.std.specs.Prelude.{◌≡◌, ◌+◌, ◌≤◌, ◌++◌, All, drop, length};
-ghost use Rattle.serde_json.specs.Data.{string};
-ghost use Rattle.serde_json.specs.Written.{compact_text};
-ghost use Rattle.view_texts.specs.checked.BoxParts.{before_name, behind_name};
-ghost use Rattle.view_texts.specs.checked.PlainTexts.{IsPlainByte};
+ghost use Rattle.std.specs.Prelude.{◌≡◌, ◌+◌, ◌<◌, ◌≤◌, ◌∷◌, ◌++◌, false, OnOk};
+ghost use Rattle.std.specs.Io.{StartsWith};
+ghost use Rattle.serde_json.specs.Written.{members_text};
+ghost use Rattle.flame_layout.specs.Edges.{placed_at};
+ghost use Rattle.view_texts.specs.Json.{box_members};
 
-use crate::put_pieces::{put_number, put_piece};
+use crate::desks::{Desk, append_ready, turn_to};
+use crate::scales::Scale;
 use flame_layout::FlameBox;
+use std::alloc::{AllocError, Global};
+use std::marker::Model;
 
-/// Memory on which the text of a box is put together. It is cleared when it is made, and then serves one
-/// box after another.
+/// What boxes of an image are written on. It keeps the text of the last box, of which the next one may have a
+/// part in common. Contracts see the scale of the image.
 #[derive(Drop)]
 pub struct Sheet {
-    pub(crate) bytes: [u8; 448],
+    scale: Scale,
+    desk: Desk,
+}
+
+impl Model for Sheet {
+    ghost use Rattle.std.specs.Prelude.{◌<◌};
+    ghost use Rattle.view_texts.specs.declared.scales.Scale.{Scale};
+    ghost use Rattle.view_texts.specs.checked.Desks.{IsDesk};
+
+    ghost Value = { Scale };
+
+    ghost view = { λ sheet. sheet.scale };
+
+    ghost invariant = { λ sheet. 0 < sheet.scale.total
+        → IsDesk sheet.scale.total sheet.scale.width sheet.desk };
 }
 
 impl Sheet {
-    /// A sheet for any box.
-    pub fn new() -> Sheet {
-        Sheet { bytes: [0; 448] }
+    /// A sheet for the boxes of an image.
+    pub fn of(scale: Scale) -> Sheet
+        ensures { result ≡ scale }
+    {
+        Sheet {
+            scale,
+            desk: Desk::new(),
+        }
     }
-}
 
-// Puts the members of a box with a plain name of up to 256 bytes, after a byte, and answers where they begin.
-pub(crate) fn put_members<B: FlameBox>(
-    bytes: &mut [u8; 448],
-    opening: u8,
-    span: &B,
-    left: u32,
-    right: u32,
-) -> usize
-    requires short { length (B.span span.now).name ≤ 256 }
-    requires plain { All IsPlainByte (B.span span.now).name }
-    ensures text { drop result bytes.new ≡ before_name opening (B.span span.now).depth left
-        ++ (compact_text (string (B.span span.now).name)
-        ++ behind_name (B.span span.now).own right (B.span span.now).start (B.span span.now).weight) }
-    ensures within { result ≤ 448 }
-{
-    let at = put_behind_name(bytes, 448, span.own(), right, span.start(), span.weight());
-    let at = put_quoted(bytes, at, span.name().as_bytes());
-    put_before_name(bytes, at, opening, span.depth(), left)
-}
-
-// Puts a plain text in quotes before what stands from `end` on, and answers where it begins.
-fn put_quoted(bytes: &mut [u8], end: usize, text: &[u8]) -> usize
-    requires plain { All IsPlainByte text.now }
-    requires room { length text.now + 2 ≤ end }
-    requires within { end ≤ length bytes.old }
-    ensures text { drop result bytes.new ≡ compact_text (string text.now) ++ drop end bytes.old }
-    ensures start { result + (length text.now + 2) ≡ end }
-{
-    let at = put_piece(bytes, end, b"\"");
-    let at = put_piece(bytes, at, text);
-    put_piece(bytes, at, b"\"")
-}
-
-// Puts what stands before the name of a box before what stands from `end` on, and answers where it begins.
-pub(crate) fn put_before_name(
-    bytes: &mut [u8],
-    end: usize,
-    opening: u8,
-    depth: u32,
-    left: u32,
-) -> usize
-    requires room { 65 ≤ end }
-    requires within { end ≤ length bytes.old }
-    ensures text { drop result bytes.new ≡ before_name opening depth left ++ drop end bytes.old }
-    ensures within { result ≤ end }
-{
-    let at = put_piece(bytes, end, b",\"name\":");
-    let at = put_number(bytes, at, b",\"left\":", u64::from(left));
-    let at = put_number(bytes, at, b"\"depth\":", u64::from(depth));
-    put_piece(bytes, at, &[opening])
-}
-
-// Puts what stands behind the name of a box before what stands from `end` on, and answers where it begins.
-pub(crate) fn put_behind_name(
-    bytes: &mut [u8],
-    end: usize,
-    own: u64,
-    right: u32,
-    start: u64,
-    weight: u64,
-) -> usize
-    requires room { 116 ≤ end }
-    requires within { end ≤ length bytes.old }
-    ensures text { drop result bytes.new
-        ≡ behind_name own right start weight ++ drop end bytes.old }
-    ensures start { end ≤ result + 116 }
-    ensures within { result ≤ end }
-{
-    let at = put_piece(bytes, end, b"}");
-    let at = put_number(bytes, at, b",\"weight\":", weight);
-    let at = put_number(bytes, at, b",\"start\":", start);
-    let at = put_number(bytes, at, b",\"right\":", u64::from(right));
-    put_number(bytes, at, b",\"own\":", own)
+    // Appends a byte, the members of a box, and the bracket after them.
+    pub(crate) fn append_members<B: FlameBox>(
+        &mut self,
+        alloc: Global,
+        text: &mut Vec<u8>,
+        opening: u8,
+        span: &B,
+    ) -> Result<(), AllocError>
+        requires within { (B.span span.now).start + (B.span span.now).weight ≤ self.old.total }
+        requires positive { 0 < self.old.total }
+        ensures ok { OnOk result (text.new.items ≡ text.old.items ++ opening ∷ members_text false
+            (box_members (placed_at self.old.total self.old.width (B.span span.now)))) }
+        ensures front { StartsWith text.new.items text.old.items }
+        ensures scale { self.new ≡ self.old }
+    {
+        let scale = self.scale;
+        turn_to(&mut self.desk, span, &scale);
+        append_ready(&mut self.desk, alloc, text, opening, span)
+    }
 }

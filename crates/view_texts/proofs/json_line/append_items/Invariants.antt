@@ -7,4 +7,7 @@ use Rattle.view_texts.proofs.json_line.append_items.Given as goal
 abbrev pub invariant-loop-place : goal.invariant-loop-place
 invariant-loop-place g l =
     let object = g.B.JsonBox.object_of l.scale.total l.scale.width in
-    l.out.items ≡ l.initial.out.items ++ concat (slice_range (value_pieces false (map object l.boxes)) l.from l.place)
+    record {
+      appended : l.out.items ≡ l.initial.out.items ++ concat (slice_range (value_pieces false (map object l.boxes)) l.from l.place);
+      scale : l.sheet ≡ l.scale;
+    }
