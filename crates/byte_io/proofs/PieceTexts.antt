@@ -1,8 +1,8 @@
 -- Texts of pieces, piece by piece, and their fronts.
 use Rattle.std.proofs.Common.{◌≡◌, ℕ, ◌+◌, ◌-◌, ◌<◌, ◌≤◌, List, [], ◌∷◌, ◌++◌, length, take, drop, get_or, sym, ap, subst, ◌∙◌, append_assoc, append-nil, take-append-drop, arith}
-use Rattle.std.proofs.Math.Seq.{take-append_seam, take-add}
+use Rattle.std.proofs.Math.Seq.{take-append_seam, drop-append_seam, take-add}
 use Rattle.std.proofs.KnownBytes.{Appends-trans}
-use Rattle.std.proofs.lemmas.List.{take_more, take-take, drop_more, get_or-drop, length-append, length-drop}
+use Rattle.std.proofs.lemmas.List.{take_more, take-take, take-append-le, drop_more, drop-append-le, drop-drop, get_or-drop, length-append, length-drop}
 use Rattle.std.proofs.lemmas.List.Folds.{concat-append}
 use Rattle.std.specs.Prelude.{Option, Result, Ok, Err, OnErr}
 use Rattle.std.specs.List.{concat, slice_range}
@@ -84,3 +84,15 @@ pub range_none : (pieces : List (List ℕ)) (from : ℕ) → concat (slice_range
 range_none pieces from =
     let none : from - from ≡ 0 = omega arith in
     ap (λ n. concat (take n (drop from pieces))) none
+
+-- pieces of the first of two texts
+pub range_first : (first then : List (List ℕ)) (at next : ℕ) → at ≤ next → next ≤ length first → slice_range (first ++ then) at next ≡ slice_range first at next
+range_first first then at next le within =
+    ap (take (next - at)) (drop-append-le at first then (omega arith)) ∙ take-append-le (next - at) (drop at first) then (omega (arith, length-drop at first))
+
+-- pieces of the second
+pub range_then : (first then : List (List ℕ)) (at place next end : ℕ) → at ≡ length first + place → next ≡ length first + end → slice_range (first ++ then) at next ≡ slice_range then place end
+range_then first then at place next end is last =
+    let count : next - at ≡ end - place = omega arith in
+    (λ i. take (count i) (drop (is i) (first ++ then)))
+    ∙ ap (take (end - place)) (sym (drop-drop place (length first) (first ++ then)) ∙ ap (drop place) (drop-append_seam first then))

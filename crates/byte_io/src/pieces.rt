@@ -85,4 +85,19 @@ impl<A: Pieces, B: Pieces> Pieces for Chain<A, B> {
             self.then.append_piece(alloc, at - turn, out)
         }
     }
+    /// Those of one of the texts alone.
+    fn append_some(
+        &self,
+        alloc: Global,
+        at: usize,
+        out: &mut Vec<u8>,
+    ) -> Result<usize, AllocError> {
+        let turn = self.first.count();
+        if at < turn {
+            let next = self.first.append_some(alloc, at, out)?;
+            return Ok(next);
+        }
+        let next = self.then.append_some(alloc, at - turn, out)?;
+        Ok(turn + next)
+    }
 }
