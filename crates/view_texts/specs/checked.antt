@@ -1,6 +1,6 @@
 -- Definitions that no public contract cites: not to be believed, but checked with the code that cites them.
 pub mod BoxParts
-pub mod Desks
+pub mod BoxBuffers
 pub mod Joined
 pub mod PlainTexts
 pub mod Visited

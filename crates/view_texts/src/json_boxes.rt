@@ -7,9 +7,9 @@ ghost use Rattle.serde_json.specs.Written.{compact_text};
 ghost use Rattle.flame_layout.specs.Boxes.{compared_of, span_of};
 ghost use Rattle.view_texts.specs.Json.{box_data, compared_box_data};
 
+use crate::box_writers::BoxWriter;
 use crate::json_pieces::append_number;
 use crate::scales::Scale;
-use crate::sheets::Sheet;
 use flame_layout::{ComparedBox, DrawnBox, DrawnPair, FlameBox, SpanBox};
 use std::alloc::{AllocError, Global};
 
@@ -21,19 +21,19 @@ pub trait JsonBox {
     // Where the box ends.
     ghost end: { Self → ℕ };
 
-    /// Appends the object, in the image of a sheet. An `Err` may leave a part of it.
-    fn append_on(
+    /// Appends the object, in the image of a writer. An `Err` may leave a part of it.
+    fn append_with(
         &self,
         alloc: Global,
         text: &mut Vec<u8>,
-        sheet: &mut Sheet,
+        writer: &mut BoxWriter,
     ) -> Result<(), AllocError>
-        requires within { end self.now ≤ sheet.old.total }
-        requires positive { 0 < sheet.old.total }
+        requires within { end self.now ≤ writer.old.total }
+        requires positive { 0 < writer.old.total }
         ensures ok { OnOk result (text.new.items
-            ≡ text.old.items ++ compact_text (object_of sheet.old.total sheet.old.width self.now)) }
+            ≡ text.old.items ++ compact_text (object_of writer.old.total writer.old.width self.now)) }
         ensures front { StartsWith text.new.items text.old.items }
-        ensures scale { sheet.new ≡ sheet.old };
+        ensures scale { writer.new ≡ writer.old };
 
     /// Appends the object. An `Err` may leave a part of it.
     fn append(&self, alloc: Global, text: &mut Vec<u8>, scale: &Scale) -> Result<(), AllocError>
@@ -43,7 +43,7 @@ pub trait JsonBox {
             ≡ text.old.items ++ compact_text (object_of scale.now.total scale.now.width self.now)) }
         ensures front { StartsWith text.new.items text.old.items }
     {
-        self.append_on(alloc, text, &mut Sheet::of(*scale))
+        self.append_with(alloc, text, &mut BoxWriter::of(*scale))
     }
 }
 
@@ -52,13 +52,13 @@ impl JsonBox for SpanBox {
 
     ghost end = { λ span. span.start + span.weight };
 
-    fn append_on(
+    fn append_with(
         &self,
         alloc: Global,
         text: &mut Vec<u8>,
-        sheet: &mut Sheet,
+        writer: &mut BoxWriter,
     ) -> Result<(), AllocError> {
-        sheet.append_members(alloc, text, b'{', self)
+        writer.append_members(alloc, text, b'{', self)
     }
 }
 
@@ -67,13 +67,13 @@ impl<'a> JsonBox for DrawnBox<'a> {
 
     ghost end = { λ drawn. drawn.start + drawn.weight };
 
-    fn append_on(
+    fn append_with(
         &self,
         alloc: Global,
         text: &mut Vec<u8>,
-        sheet: &mut Sheet,
+        writer: &mut BoxWriter,
     ) -> Result<(), AllocError> {
-        sheet.append_members(alloc, text, b'{', self)
+        writer.append_members(alloc, text, b'{', self)
     }
 }
 
@@ -82,13 +82,13 @@ impl JsonBox for ComparedBox {
 
     ghost end = { λ compared. compared.span.start + compared.span.weight };
 
-    fn append_on(
+    fn append_with(
         &self,
         alloc: Global,
         text: &mut Vec<u8>,
-        sheet: &mut Sheet,
+        writer: &mut BoxWriter,
     ) -> Result<(), AllocError> {
-        append_compared(alloc, text, self.before, &self.span, sheet)
+        append_compared(alloc, text, self.before, &self.span, writer)
     }
 }
 
@@ -97,13 +97,13 @@ impl<'a> JsonBox for DrawnPair<'a> {
 
     ghost end = { λ pair. pair.drawn.start + pair.drawn.weight };
 
-    fn append_on(
+    fn append_with(
         &self,
         alloc: Global,
         text: &mut Vec<u8>,
-        sheet: &mut Sheet,
+        writer: &mut BoxWriter,
     ) -> Result<(), AllocError> {
-        append_compared(alloc, text, self.total_before, &self.drawn, sheet)
+        append_compared(alloc, text, self.total_before, &self.drawn, writer)
     }
 }
 
@@ -113,16 +113,16 @@ fn append_compared<B: FlameBox>(
     text: &mut Vec<u8>,
     before: u64,
     span: &B,
-    sheet: &mut Sheet,
+    writer: &mut BoxWriter,
 ) -> Result<(), AllocError>
-    requires within { (B.span span.now).start + (B.span span.now).weight ≤ sheet.old.total }
-    requires positive { 0 < sheet.old.total }
+    requires within { (B.span span.now).start + (B.span span.now).weight ≤ writer.old.total }
+    requires positive { 0 < writer.old.total }
     ensures ok { OnOk result (text.new.items ≡ text.old.items ++ compact_text
-        (compared_box_data sheet.old.total sheet.old.width
+        (compared_box_data writer.old.total writer.old.width
         (record { span = B.span span.now; before = before }))) }
     ensures front { StartsWith text.new.items text.old.items }
-    ensures scale { sheet.new ≡ sheet.old }
+    ensures scale { writer.new ≡ writer.old }
 {
     append_number(text, b"{\"before\":", before)?;
-    sheet.append_members(alloc, text, b',', span)
+    writer.append_members(alloc, text, b',', span)
 }

@@ -7,11 +7,11 @@ ghost use Rattle.serde_json.specs.Written.{comma_if, compact_text};
 ghost use Rattle.view_texts.specs.Lines.{head_of, counts_of, tail_of, ending_of, line_text};
 ghost use Rattle.view_texts.specs.Pieces.{line_pieces, value_pieces};
 
+use crate::box_writers::BoxWriter;
 use crate::json_boxes::JsonBox;
 use crate::json_pieces::{append_comma, append_number, append_numbers, append_text};
 use crate::line_kinds::LineKind;
 use crate::scales::Scale;
-use crate::sheets::Sheet;
 use byte_io::Pieces;
 use std::alloc::{AllocError, Global};
 
@@ -68,14 +68,14 @@ impl<B: JsonBox> Pieces for JsonLine<'_, B> {
             append_head(out, self.kind)
         } else if at <= self.boxes.len() {
             let place = at - 1;
-            let sheet = &mut Sheet::of(self.scale);
-            append_item(alloc, out, place > 0, &self.boxes[place], sheet)
+            let writer = &mut BoxWriter::of(self.scale);
+            append_item(alloc, out, place > 0, &self.boxes[place], writer)
         } else {
             append_tail(alloc, out, self.kind, self.view, self.counts, &self.scale)
         }
     }
 
-    /// Up to 64 boxes at a time are put together on one sheet.
+    /// Up to 64 boxes at a time are put together on one writer.
     fn append_some(
         &self,
         alloc: Global,
@@ -119,9 +119,9 @@ fn append_items<B: JsonBox>(
         (value_pieces false (map (B.object_of scale.now.total scale.now.width) boxes.now)) from end)) }
     ensures front { StartsWith out.new.items out.old.items }
 {
-    let mut sheet = Sheet::of(*scale);
+    let mut writer = BoxWriter::of(*scale);
     for place in from..end {
-        append_item(alloc, out, place > 0, &boxes[place], &mut sheet)?;
+        append_item(alloc, out, place > 0, &boxes[place], &mut writer)?;
     }
     Ok(())
 }
@@ -150,17 +150,17 @@ fn append_item<B: JsonBox>(
     out: &mut Vec<u8>,
     later: bool,
     item: &B,
-    sheet: &mut Sheet,
+    writer: &mut BoxWriter,
 ) -> Result<(), AllocError>
-    requires within { B.end item.now ≤ sheet.old.total }
-    requires positive { 0 < sheet.old.total }
+    requires within { B.end item.now ≤ writer.old.total }
+    requires positive { 0 < writer.old.total }
     ensures ok { OnOk result (out.new.items ≡ out.old.items
-        ++ (comma_if later ++ compact_text (B.object_of sheet.old.total sheet.old.width item.now))) }
+        ++ (comma_if later ++ compact_text (B.object_of writer.old.total writer.old.width item.now))) }
     ensures front { StartsWith out.new.items out.old.items }
-    ensures scale { sheet.new ≡ sheet.old }
+    ensures scale { writer.new ≡ writer.old }
 {
     append_comma(out, later)?;
-    item.append_on(alloc, out, sheet)
+    item.append_with(alloc, out, writer)
 }
 
 // Appends what stands after the boxes.

@@ -2,7 +2,8 @@
 //! JSON; and the sample types of a profile.
 #![tactic(auto)]
 
-mod desks;
+mod box_buffers;
+mod box_writers;
 mod fold_lines;
 mod json_boxes;
 mod json_line;
@@ -15,10 +16,10 @@ mod pair_lines;
 mod plain_texts;
 mod put_pieces;
 mod scales;
-mod sheets;
 mod stack_pairs;
 mod type_lines;
 
+pub use box_writers::BoxWriter;
 pub use byte_io::truncate_on_error;
 pub use fold_lines::append_fold_text;
 pub use json_boxes::JsonBox;
@@ -30,6 +31,5 @@ pub use json_lines::{
 pub use merged_lines::{FoldedText, append_merged_text};
 pub use pair_lines::{PairsText, append_pairs_text};
 pub use scales::Scale;
-pub use sheets::Sheet;
 pub use stack_pairs::PairedText;
 pub use type_lines::{TypesText, append_types_text};

@@ -9,5 +9,5 @@ invariant-loop-place g l =
     let object = g.B.JsonBox.object_of l.scale.total l.scale.width in
     record {
       appended : l.out.items ≡ l.initial.out.items ++ concat (slice_range (value_pieces false (map object l.boxes)) l.from l.place);
-      scale : l.sheet ≡ l.scale;
+      scale : l.writer ≡ l.scale;
     }

@@ -1,7 +1,7 @@
 use Rattle.std.proofs.Common.{arith}
 use Rattle.view_texts.specs.checked.BoxParts.{own_text}
 use Rattle.view_texts.proofs.JsonMembers.{kept_behind}
-use Rattle.view_texts.proofs.desks.put_own.Goals as goal
+use Rattle.view_texts.proofs.box_buffers.put_own.Goals as goal
 
 pub returns-clause-kept : goal.returns-clause-kept
 returns-clause-kept c =

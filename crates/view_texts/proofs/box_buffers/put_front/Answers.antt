@@ -3,7 +3,7 @@ use Rattle.serde_json.specs.Data.{string}
 use Rattle.serde_json.specs.Written.{compact_text}
 use Rattle.view_texts.specs.checked.BoxParts.{before_name, own_text}
 use Rattle.view_texts.proofs.JsonMembers.{front_put, kept_edges}
-use Rattle.view_texts.proofs.desks.put_front.Goals as goal
+use Rattle.view_texts.proofs.box_buffers.put_front.Goals as goal
 
 pub returns-clause-text : goal.returns-clause-text
 returns-clause-text g c =

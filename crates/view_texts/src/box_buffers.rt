@@ -6,7 +6,7 @@ ghost use Rattle.std.specs.Io.{StartsWith};
 ghost use Rattle.serde_json.specs.Data.{string};
 ghost use Rattle.serde_json.specs.Written.{compact_text};
 ghost use Rattle.view_texts.specs.checked.BoxParts.{before_name, own_text, edge_text};
-ghost use Rattle.view_texts.specs.checked.Desks.{IsDesk};
+ghost use Rattle.view_texts.specs.checked.BoxBuffers.{IsBoxBuffer};
 ghost use Rattle.view_texts.specs.checked.PlainTexts.{IsPlainByte};
 
 use crate::json_pieces::append_quoted;
@@ -19,7 +19,7 @@ use std::alloc::{AllocError, Global};
 // What a box has behind its own weight stays at the end of the bytes: where it ends in the image, where it
 // begins, and its weight. Boxes that are alike in these often come one after another.
 #[derive(Drop)]
-pub(crate) struct Desk {
+pub(crate) struct BoxBuffer {
     pub(crate) start: u64,
     pub(crate) weight: u64,
     // Where a box of that start begins in the image.
@@ -29,14 +29,14 @@ pub(crate) struct Desk {
     pub(crate) bytes: [u8; 448],
 }
 
-impl Desk {
-    // The desk for a box that begins at 0 and weighs nothing.
-    pub(crate) fn new() -> Desk
-        ensures { (total width : ℕ) → 0 < total → IsDesk total width result }
+impl BoxBuffer {
+    // The buffer for a box that begins at 0 and weighs nothing.
+    pub(crate) fn new() -> BoxBuffer
+        ensures { (total width : ℕ) → 0 < total → IsBoxBuffer total width result }
     {
         let mut bytes = [0; 448];
         let tail = put_edges(&mut bytes, 448, 0, 0, 0);
-        Desk {
+        BoxBuffer {
             start: 0,
             weight: 0,
             left: 0,
@@ -46,55 +46,55 @@ impl Desk {
     }
 }
 
-// Makes the desk ready for a box.
-pub(crate) fn turn_to<B: FlameBox>(desk: &mut Desk, span: &B, scale: &Scale)
+// Makes the buffer ready for a box.
+pub(crate) fn turn_to<B: FlameBox>(buffer: &mut BoxBuffer, span: &B, scale: &Scale)
     requires within { (B.span span.now).start + (B.span span.now).weight ≤ scale.now.total }
     requires positive { 0 < scale.now.total }
-    requires ready { IsDesk scale.now.total scale.now.width desk.old }
-    ensures ready { IsDesk scale.now.total scale.now.width desk.new }
-    ensures start { desk.new.start ≡ (B.span span.now).start }
-    ensures weight { desk.new.weight ≡ (B.span span.now).weight }
+    requires ready { IsBoxBuffer scale.now.total scale.now.width buffer.old }
+    ensures ready { IsBoxBuffer scale.now.total scale.now.width buffer.new }
+    ensures start { buffer.new.start ≡ (B.span span.now).start }
+    ensures weight { buffer.new.weight ≡ (B.span span.now).weight }
 {
     let (start, weight) = (span.start(), span.weight());
-    if start == desk.start && weight == desk.weight {
+    if start == buffer.start && weight == buffer.weight {
         return;
     }
     let (left, right) = edges(span, scale.total, scale.width);
-    desk.tail = put_edges(&mut desk.bytes, 448, right, start, weight);
-    desk.left = left;
-    desk.start = start;
-    desk.weight = weight;
+    buffer.tail = put_edges(&mut buffer.bytes, 448, right, start, weight);
+    buffer.left = left;
+    buffer.start = start;
+    buffer.weight = weight;
 }
 
-// Appends a byte and the members of the box that the desk is ready for, and the bracket after them.
+// Appends a byte and the members of the box that the buffer is ready for, and the bracket after them.
 pub(crate) fn append_ready<B: FlameBox>(
-    desk: &mut Desk,
+    buffer: &mut BoxBuffer,
     alloc: Global,
     text: &mut Vec<u8>,
     opening: u8,
     span: &B,
 ) -> Result<(), AllocError>
-    requires low { 359 ≤ desk.old.tail }
-    requires high { desk.old.tail ≤ 448 }
+    requires low { 359 ≤ buffer.old.tail }
+    requires high { buffer.old.tail ≤ 448 }
     ensures ok { OnOk result (text.new.items ≡ text.old.items
-        ++ (before_name opening (B.span span.now).depth desk.old.left
+        ++ (before_name opening (B.span span.now).depth buffer.old.left
         ++ (compact_text (string (B.span span.now).name)
-        ++ (own_text (B.span span.now).own ++ drop desk.old.tail desk.old.bytes)))) }
+        ++ (own_text (B.span span.now).own ++ drop buffer.old.tail buffer.old.bytes)))) }
     ensures front { StartsWith text.new.items text.old.items }
-    ensures kept { drop desk.old.tail desk.new.bytes ≡ drop desk.old.tail desk.old.bytes }
-    ensures same { desk.new ≡ record desk.old { bytes = desk.new.bytes } }
+    ensures kept { drop buffer.old.tail buffer.new.bytes ≡ drop buffer.old.tail buffer.old.bytes }
+    ensures same { buffer.new ≡ record buffer.old { bytes = buffer.new.bytes } }
 {
     if is_short_and_plain(span.name()) {
-        let at = put_front(&mut desk.bytes, desk.tail, opening, span, desk.left);
-        return text.extend_from_slice(&desk.bytes[at..]);
+        let at = put_front(&mut buffer.bytes, buffer.tail, opening, span, buffer.left);
+        return text.extend_from_slice(&buffer.bytes[at..]);
     }
-    append_before_name(text, opening, span.depth(), desk.left)?;
+    append_before_name(text, opening, span.depth(), buffer.left)?;
     append_quoted(alloc, text, span.name())?;
-    let at = put_own(&mut desk.bytes, desk.tail, span.own());
-    text.extend_from_slice(&desk.bytes[at..])
+    let at = put_own(&mut buffer.bytes, buffer.tail, span.own());
+    text.extend_from_slice(&buffer.bytes[at..])
 }
 
-// Whether a name fits on the desk as it is.
+// Whether a name fits on the buffer as it is.
 fn is_short_and_plain(name: &str) -> bool
     ensures short { OnTrue result (length name.now ≤ 256) }
     ensures plain { OnTrue result (All IsPlainByte name.now) }

@@ -1,4 +1,4 @@
-//! Sheets, on which the boxes of a line are written.
+//! What writes the boxes of a line.
 
 ghost use Rattle.std.specs.Prelude.{◌≡◌, ◌+◌, ◌<◌, ◌≤◌, ◌∷◌, ◌++◌, false, OnOk};
 ghost use Rattle.std.specs.Io.{StartsWith};
@@ -6,41 +6,41 @@ ghost use Rattle.serde_json.specs.Written.{members_text};
 ghost use Rattle.flame_layout.specs.Edges.{placed_at};
 ghost use Rattle.view_texts.specs.Json.{box_members};
 
-use crate::desks::{Desk, append_ready, turn_to};
+use crate::box_buffers::{BoxBuffer, append_ready, turn_to};
 use crate::scales::Scale;
 use flame_layout::FlameBox;
 use std::alloc::{AllocError, Global};
 use std::marker::Model;
 
-/// What boxes of an image are written on. It keeps the text of the last box, of which the next one may have a
-/// part in common. Contracts see the scale of the image.
+/// Writes the boxes of an image. It keeps the text of the last box, of which the next one may have a part in
+/// common. Contracts see the scale of the image.
 #[derive(Drop)]
-pub struct Sheet {
+pub struct BoxWriter {
     scale: Scale,
-    desk: Desk,
+    buffer: BoxBuffer,
 }
 
-impl Model for Sheet {
+impl Model for BoxWriter {
     ghost use Rattle.std.specs.Prelude.{◌<◌};
     ghost use Rattle.view_texts.specs.declared.scales.Scale.{Scale};
-    ghost use Rattle.view_texts.specs.checked.Desks.{IsDesk};
+    ghost use Rattle.view_texts.specs.checked.BoxBuffers.{IsBoxBuffer};
 
     ghost Value = { Scale };
 
-    ghost view = { λ sheet. sheet.scale };
+    ghost view = { λ writer. writer.scale };
 
-    ghost invariant = { λ sheet. 0 < sheet.scale.total
-        → IsDesk sheet.scale.total sheet.scale.width sheet.desk };
+    ghost invariant = { λ writer. 0 < writer.scale.total
+        → IsBoxBuffer writer.scale.total writer.scale.width writer.buffer };
 }
 
-impl Sheet {
-    /// A sheet for the boxes of an image.
-    pub fn of(scale: Scale) -> Sheet
+impl BoxWriter {
+    /// A writer for the boxes of an image.
+    pub fn of(scale: Scale) -> BoxWriter
         ensures { result ≡ scale }
     {
-        Sheet {
+        BoxWriter {
             scale,
-            desk: Desk::new(),
+            buffer: BoxBuffer::new(),
         }
     }
 
@@ -60,7 +60,7 @@ impl Sheet {
         ensures scale { self.new ≡ self.old }
     {
         let scale = self.scale;
-        turn_to(&mut self.desk, span, &scale);
-        append_ready(&mut self.desk, alloc, text, opening, span)
+        turn_to(&mut self.buffer, span, &scale);
+        append_ready(&mut self.buffer, alloc, text, opening, span)
     }
 }
