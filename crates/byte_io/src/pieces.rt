@@ -85,6 +85,7 @@ impl<A: Pieces, B: Pieces> Pieces for Chain<A, B> {
             self.then.append_piece(alloc, at - turn, out)
         }
     }
+
     /// Those of one of the texts alone.
     fn append_some(
         &self,
