@@ -4,7 +4,7 @@ use super::boxes::{Row, assert_within, boxes_of, pairs_of};
 use crate::tests::texts::are_bytes;
 use byte_io::append_pieces;
 use flame_layout::{DrawnBox, Width};
-use std::alloc::AllocError;
+use std::alloc::{AllocError, Global};
 use std::process::Abort;
 use std::test::Fail;
 use view_texts::{
@@ -159,6 +159,27 @@ fn line_of_lent_names(rt: HostRuntime) -> Result<(), Fail> {
         "\n"
     );
     make(&rt, "", LENT, line)
+}
+
+/// More boxes than are put together at a time.
+const OF_MANY: &[Written<'static>] = &[(Line::Drawn("chart", &[ALL; 130]), 3, 10)];
+
+/// The line of so many boxes that are alike, of which this is one.
+fn line_of_many(alloc: Global, one: &str, many: usize) -> Result<String, AllocError> {
+    let mut line = String::from_str(alloc, r#"{"boxes":["#)?;
+    for at in 0..many {
+        line.push_str(if at > 0 { "," } else { "" })?;
+        line.push_str(one)?;
+    }
+    line.push_str("],\"total\":3,\"view\":\"chart\",\"width\":10}\n")?;
+    Ok(line)
+}
+
+#[test]
+fn line_of_many_boxes(rt: HostRuntime) -> Result<(), Fail> {
+    let one = r#"{"depth":0,"left":0,"name":"all","own":3,"right":10,"start":0,"weight":3}"#;
+    let line = line_of_many(rt.alloc(), one, 130)?;
+    make(&rt, "", OF_MANY, line.as_str())
 }
 
 const EMPTY: &[Written<'static>] = &[(Line::Boxes("graph", &[]), 0, 1_200)];
