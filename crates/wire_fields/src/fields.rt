@@ -44,7 +44,8 @@ impl<'a> Fields<'a> {
 
     /// The next field, and None behind the last one. A fault, which lies at the field's tag, repeats and moves
     /// nothing, and so does the end.
-    #[inline]
+    // With what it calls it is inlined, so that the field goes to its reader in registers.
+    #[inline(always)]
     pub fn next(&mut self) -> Result<Option<Field<'a>>, WireFault>
         ensures { Answers seen_field result self.old self.new }
     {

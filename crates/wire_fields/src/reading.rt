@@ -33,6 +33,7 @@ fn four(bytes: &[u8]) -> Result<([u8; 4], &[u8]), WireKind>
     Ok((<[u8; 4]>::try_from(front).unwrap(), rest))
 }
 
+#[inline(always)]
 #[tactic(auto, unfolding(crate::specs::Reading::value_at))]
 fn value(wire_type: u64, bytes: &[u8]) -> Result<(FieldValue<'_>, &[u8]), WireKind>
     ensures { Gives (λ x. (seen_value x.0, x.1.now)) result (value_at wire_type bytes.now) }
@@ -60,6 +61,7 @@ fn value(wire_type: u64, bytes: &[u8]) -> Result<(FieldValue<'_>, &[u8]), WireKi
 }
 
 /// The field at the front of the bytes, which begin at offset `at`, and the bytes after it.
+#[inline(always)]
 #[tactic(auto, unfolding(crate::specs::Reading::field_at))]
 pub(crate) fn field(at: usize, bytes: &[u8]) -> Result<(Field<'_>, &[u8]), WireKind>
     ensures { Gives (λ x. (seen_field x.0, x.1.now)) result (field_at at bytes.now) }

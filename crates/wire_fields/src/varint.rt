@@ -9,17 +9,11 @@ use crate::fault::WireKind;
 /// The place of the tenth byte, which holds the 64th bit alone.
 const TENTH: usize = 9;
 
-/// The number at the front, and the bytes after it.
-#[inline]
-pub(crate) fn varint(bytes: &[u8]) -> Result<(u64, &[u8]), WireKind>
+/// The number at the front, whatever its length, and the bytes after it.
+#[inline(never)]
+fn any_varint(bytes: &[u8]) -> Result<(u64, &[u8]), WireKind>
     ensures { Gives (λ x. (x.0, x.1.now)) result (varint_at bytes.now) }
 {
-    // most numbers of a profile have one byte
-    if let Some((first, rest)) = bytes.split_first()
-        && *first < 0x80
-    {
-        return Ok((u64::from(*first), rest));
-    }
     let mut number: u64 = 0;
     for (place, byte) in bytes.iter().enumerate() {
         if place == TENTH && *byte > 1 {
@@ -31,4 +25,16 @@ pub(crate) fn varint(bytes: &[u8]) -> Result<(u64, &[u8]), WireKind>
         }
     }
     Err(WireKind::Truncated)
+}
+
+/// The number at the front, and the bytes after it.
+// Most numbers of a profile have one byte: that alone is inlined.
+#[inline(always)]
+pub(crate) fn varint(bytes: &[u8]) -> Result<(u64, &[u8]), WireKind>
+    ensures { Gives (λ x. (x.0, x.1.now)) result (varint_at bytes.now) }
+{
+    match bytes.split_first() {
+        Some((first, rest)) if *first < 0x80 => Ok((u64::from(*first), rest)),
+        _ => any_varint(bytes),
+    }
 }

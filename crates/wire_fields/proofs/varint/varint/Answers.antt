@@ -1,51 +1,7 @@
-use Rattle.std.proofs.Common.{◌≡◌, ◌≤◌, get_or, refl, arith}
-use Rattle.wire_fields.proofs.Groups.{within_last, tells_truncated, tells_bad, added, ends_with, goes_on_with, not_the_tenth}
+use Rattle.std.proofs.Common.{arith}
+use Rattle.wire_fields.proofs.Groups.{within_last}
 use Rattle.wire_fields.proofs.varint.varint.Goals as goal
-use Rattle.wire_fields.proofs.varint.varint.Goals.{else-place-eq-TENTH-via-then-place-eq-TENTH+else-byte-gt1, else-place-eq-TENTH-via-else-place-eq-TENTH}
 
-pub returns-then-byte-gt1 : goal.returns-then-byte-gt1
-returns-then-byte-gt1 c = tells_bad _ _ _ _ _ c.if-place-eq-TENTH.true (omega arith) c.if-byte-gt1.true c.loop-place.invariant.told
-
-pub overflow_add-number : goal.overflow_add-number
-overflow_add-number c =
-    let byte = get_or c.args.bytes.now c.loop-place.place 0 in
-    let tenth : c.loop-place.place ≡ 9 → byte ≤ 1 = λ nine. elim c.else-place-eq-TENTH.branch [
-      | else-place-eq-TENTH-via-then-place-eq-TENTH+else-byte-gt1 w ↦ omega arith
-      | else-place-eq-TENTH-via-else-place-eq-TENTH w ↦ absurd (omega arith)
-    ] in
-    let sum = added c.loop-place.number byte c.from-in-loop-place.result c.loop-place.place c.loop-place.invariant.below c.loop-place.invariant.at_most_ten tenth c.from-in-loop-place.ensures in
-    omega (arith, sum.fits)
-
-pub returns-then-byte-lt128 : goal.returns-then-byte-lt128
-returns-then-byte-lt128 c =
-    let place = c.loop-place.place in
-    let byte = get_or c.args.bytes.now place 0 in
-    let tenth : place ≡ 9 → byte ≤ 1 = λ nine. elim c.else-place-eq-TENTH.branch [
-      | else-place-eq-TENTH-via-then-place-eq-TENTH+else-byte-gt1 w ↦ omega arith
-      | else-place-eq-TENTH-via-else-place-eq-TENTH w ↦ absurd (omega arith)
-    ] in
-    let sum = added c.loop-place.number byte c.from-in-loop-place.result place c.loop-place.invariant.below c.loop-place.invariant.at_most_ten tenth c.from-in-loop-place.ensures in
-    ends_with place c.loop-place.number byte c.from-in-loop-place.result _ c.args.bytes.now _ sum refl c.loop-place.invariant.at_most_ten (omega arith) c.if-byte-lt128.true tenth c.loop-place.invariant.told
-
-pub loop-place-preserved : goal.loop-place-preserved
-loop-place-preserved c =
-    let place = c.loop-place.place in
-    let byte = get_or c.args.bytes.now place 0 in
-    let tenth : place ≡ 9 → byte ≤ 1 = λ nine. elim c.else-place-eq-TENTH.branch [
-      | else-place-eq-TENTH-via-then-place-eq-TENTH+else-byte-gt1 w ↦ omega arith
-      | else-place-eq-TENTH-via-else-place-eq-TENTH w ↦ absurd (omega arith)
-    ] in
-    let below = not_the_tenth place byte c.loop-place.invariant.at_most_ten tenth c.if-byte-lt128.false in
-    let sum = added c.loop-place.number byte c.from-in-loop-place.result place c.loop-place.invariant.below c.loop-place.invariant.at_most_ten tenth c.from-in-loop-place.ensures in
-    record {
-      at_most_ten = omega arith;
-      below = sum.below;
-      told = goes_on_with place c.loop-place.number byte c.from-in-loop-place.result _ c.args.bytes.now _ sum refl below (omega arith) c.if-byte-lt128.false c.loop-place.invariant.told;
-    }
-
-pub returns : goal.returns
-returns c = rw (c.in-Some.ensures.cases.0, c.from.ensures)
+pub returns-in-Some : goal.returns-in-Some
+returns-in-Some c = rw (c.in-Some.ensures.cases.0, c.from.ensures)
     (within_last 9 c.in-Some.first.now c.in-Some.rest.now c.if-first-lt128.true (λ none. absurd (omega (arith, none))))
-
-pub returns-2 : goal.returns-2
-returns-2 c = tells_truncated _ _ _ _ _ (omega arith) c.loop-place.invariant.told

@@ -1,7 +1,7 @@
 use Rattle.std.proofs.Common.{◌≡◌, ◌-◌, ◌*◌, ◌^◌, ◌<◌, ◌≤◌, drop}
 use Rattle.wire_fields.specs.Varint.{varint_within, varint_at}
 use Rattle.wire_fields.proofs.Groups.{with_low}
-use Rattle.wire_fields.proofs.varint.varint.Given as goal
+use Rattle.wire_fields.proofs.varint.any_varint.Given as goal
 
 -- the groups so far and those to come are the whole number
 abbrev pub invariant-loop-place : goal.invariant-loop-place
