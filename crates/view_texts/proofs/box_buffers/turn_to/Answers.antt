@@ -1,4 +1,4 @@
-use Rattle.std.proofs.Common.{◌≡◌, ◌+◌, ◌*◌, ◌/◌, ◌++◌, ◌∙◌, [], drop, ap, sym, append-nil, arith}
+use Rattle.std.proofs.Common.{◌≡◌, ◌+◌, ◌*◌, ◌/◌, ◌++◌, ◌∙◌, [], drop, ap, sym, append-nil, arith, rules}
 use Rattle.std.proofs.lemmas.List.{drop_all}
 use Rattle.view_texts.specs.checked.BoxParts.{edge_text}
 use Rattle.view_texts.proofs.box_buffers.turn_to.Goals as goal
@@ -19,3 +19,6 @@ returns-clause-ready g c =
       low = omega (arith, c.put_edges-buffer.ensures.start);
       high = c.put_edges-buffer.ensures.within;
     }
+
+pub returns-then-weight-buffer-clause-weight : goal.returns-then-weight-buffer-clause-weight
+returns-then-weight-buffer-clause-weight g c = search rules
