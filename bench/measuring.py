@@ -3,12 +3,15 @@ import filecmp
 import functools
 import os
 import pathlib
+import shutil
 import subprocess
 from dataclasses import dataclass
 
 BENCH = pathlib.Path(__file__).resolve().parent
 TOP = BENCH.parent
 OUT = BENCH / "out"
+# a folder that the system keeps in memory
+MEMORY = pathlib.Path("/dev/shm")
 
 
 def program(name):
@@ -90,14 +93,21 @@ def turn_about(sides, turns, given=os.devnull):
 
 
 def answer(at):
-    """Where the output of a side goes."""
-    return OUT / f"answer.{at}"
+    """Where the output of a side goes: into memory where it can, or else the disk is measured too."""
+    return (MEMORY if MEMORY.is_dir() else OUT) / f"flamecollect-answer.{at}"
 
 
 def same(one, other):
-    """Refuses two sides that wrote something else."""
+    """Refuses two sides that wrote something else, and keeps what they wrote."""
     if not filecmp.cmp(answer(one), answer(other), shallow=False):
-        raise Failed(f"the outputs differ: {answer(one)} and {answer(other)}")
+        kept = [shutil.move(answer(at), OUT / f"answer.{at}") for at in (one, other)]
+        raise Failed(f"the outputs differ: {kept[0]} and {kept[1]}")
+
+
+def forget_answers():
+    """Takes away what the last row's sides wrote."""
+    for at in range(3):
+        answer(at).unlink(missing_ok=True)
 
 
 def heading(ours, theirs):
