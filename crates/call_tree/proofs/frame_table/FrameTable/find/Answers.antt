@@ -38,6 +38,3 @@ returns c =
     let e : n ≡ c.in_ok-number.field-0.now = cc in
     other (subst (λ m. HasAt c.args.name.now m names) e (lt, at)) in
     rw (← c.self.view_is) none
-
-pub returns-then-has_name : goal.returns-then-has_name
-returns-then-has_name c = search rules
