@@ -1,8 +1,8 @@
 -- Texts of pieces, piece by piece, and their fronts.
-use Rattle.std.proofs.Common.{◌≡◌, ℕ, ◌+◌, ◌-◌, ◌<◌, ◌≤◌, List, [], ◌∷◌, ◌++◌, length, take, drop, get_or, sym, ap, subst, ◌∙◌, append_assoc, append-nil, take-append-drop, arith}
+use Rattle.std.proofs.Common.{◌≡◌, ◌≢◌, ℕ, ◌+◌, ◌-◌, ◌<◌, ◌≤◌, List, [], ◌∷◌, ◌++◌, length, take, drop, get_or, sym, ap, subst, ◌∙◌, append_assoc, append-nil, take-append-drop, arith}
 use Rattle.std.proofs.Math.Seq.{take-append_seam, drop-append_seam, take-add}
 use Rattle.std.proofs.KnownBytes.{Appends-trans}
-use Rattle.std.proofs.lemmas.List.{take_more, take-take, take-append-le, drop_more, drop-append-le, drop-drop, get_or-drop, length-append, length-drop}
+use Rattle.std.proofs.lemmas.List.{take_more, take_all, take-take, take-append-le, drop_more, drop-append-le, drop-drop, get_or-drop, length-append, length-drop}
 use Rattle.std.proofs.lemmas.List.Folds.{concat-append}
 use Rattle.std.specs.Prelude.{Option, Result, Ok, Err, OnErr}
 use Rattle.std.specs.List.{concat, slice_range}
@@ -14,6 +14,10 @@ use Rattle.byte_io.specs.Pieces.{AppendsFront}
 pub on_err : {T E P : Type 0} (result : Result T E) → P → OnErr result P
 on_err (Ok value) holds = tt
 on_err (Err error) holds = holds
+
+-- an `Ok` is no `Err`
+pub ok_no_err : {T E : Type 0} (result : Result T E) (value : T) (error : E) → result ≡ Ok value → result ≢ Err error
+ok_no_err result value error ok err = cc
 
 -- one piece more
 pub pieces_more : (pieces : List (List ℕ)) (i : ℕ) → i < length pieces → concat (take (i + 1) pieces) ≡ concat (take i pieces) ++ get_or pieces i []
@@ -43,6 +47,10 @@ pub sent_partly : (pieces : List (List ℕ)) (i count : ℕ) (sent waiting : Lis
     → AppendsFront (concat pieces) old new
 sent_partly pieces i count sent waiting old mid new is gone part =
     sent_front pieces i sent (take count waiting) (drop count waiting) old new (is ∙ ap (λ text. sent ++ text) (sym (take-append-drop count waiting))) (Appends-trans old mid new sent (take count waiting) gone part)
+
+-- and where all of a text went out
+pub all_front : (text : List ℕ) (old new : Option (List ℕ)) → Appends old new text → AppendsFront text old new
+all_front text old new gone = (length text, subst (Appends old new) (sym (take_all (length text) text (omega arith))) gone)
 
 -- some pieces more
 pub pieces_on : (pieces : List (List ℕ)) (at next : ℕ) → at ≤ next → concat (take next pieces) ≡ concat (take at pieces) ++ concat (slice_range pieces at next)
@@ -96,3 +104,19 @@ range_then first then at place next end is last =
     let count : next - at ≡ end - place = omega arith in
     (λ i. take (count i) (drop (is i) (first ++ then)))
     ∙ ap (take (end - place)) (sym (drop-drop place (length first) (first ++ then)) ∙ ap (drop place) (drop-append_seam first then))
+
+-- some pieces more behind some
+pub range_on : (pieces : List (List ℕ)) (from at next : ℕ) → from ≤ at → at ≤ next
+    → concat (slice_range pieces from next) ≡ concat (slice_range pieces from at) ++ concat (slice_range pieces at next)
+range_on pieces from at next first then =
+    let count : next - from - (at - from) ≡ next - at = omega arith in
+    let place : from + (at - from) ≡ at = omega arith in
+    pieces_on (drop from pieces) (at - from) (next - from) (omega arith)
+    ∙ ap (λ rest. concat (slice_range pieces from at) ++ concat rest)
+    (ap (take (next - from - (at - from))) (drop-drop (at - from) from pieces ∙ ap (λ n. drop n pieces) place) ∙ ap (λ n. take n (drop at pieces)) count)
+
+-- all that waited was sent, and other pieces wait
+pub waits_anew : (pieces : List (List ℕ)) (at next : ℕ) (sent waiting made : List ℕ) → at ≤ next → concat (take at pieces) ≡ sent ++ waiting → made ≡ concat (slice_range pieces at next)
+    → concat (take next pieces) ≡ (sent ++ waiting) ++ made
+waits_anew pieces at next sent waiting made le is more =
+    pieces_on pieces at next le ∙ ap (λ text. text ++ concat (slice_range pieces at next)) is ∙ ap (λ text. (sent ++ waiting) ++ text) (sym more)

@@ -5,3 +5,4 @@ pub mod Files
 pub mod Inlet
 pub mod Outlet
 pub mod Pieces
+pub mod checked

@@ -4,7 +4,10 @@ ghost use Rattle.std.specs.Io.KnownBytes.{Appends};
 ghost use Rattle.merged_stacks.specs.Timeline.{samples_of};
 ghost use Rattle.command_line.specs.Plans.{IsComparison};
 ghost use Rattle.command_line.specs.declared.plans.PageForm.{PageForm as AskedPage};
+ghost use Rattle.ring_collect.specs.Collection.{AreWhole};
+ghost use Rattle.source_lists.specs.Sources.{rests_of, weight_of_sources};
 ghost use Rattle.source_lists.specs.Types.{source_type};
+ghost use Rattle.stack_core.specs.Interleaving.{IsInterleaving};
 ghost use Rattle.flame_tool.specs.KnownFacts.{known_facts};
 ghost use Rattle.flame_tool.specs.Requests.{known_rests};
 ghost use Rattle.sent_views.specs.Pages.{page_text, shown_text};
@@ -19,9 +22,11 @@ use crate::progress::Progress;
 use byte_io::{Files, Outlet};
 use command_line::{Form, PageForm, Plan, View};
 use flame_layout::Width;
-use merging::{Gathered, Source, SourceLists, read_whole_sources};
+use merging::{Gathered, Source, SourceLists, WholeRun, read_in_parts, read_whole_sources};
 use opened_sources::{Failure, any_fault, open_sources, report_endings};
 use profile_messages::SampleType;
+use ring_collect::CollectFault;
+use run_options::Options;
 use sent_views::{
     RunFacts, send_asked_page, send_asked_view, send_graph_with_snapshots, send_snapshots,
 };
@@ -112,13 +117,35 @@ fn show_sources<T: Threads + Wait + Copy + Send + 'static, W: Outlet, E: Outlet>
         result }
 {
     let types = told_types(alloc, plan, &sources)?;
-    let run = read_whole_sources(rt, alloc, sources, &plan.options, progress)?;
+    let run = read_asked(rt, alloc, sources, &plan.options, progress)?;
     report_endings(progress.messages(), plan.files.get(), run.kept.lists());
     let facts = RunFacts {
         whole: run.whole_weight,
         types: Listed::of(types),
     };
     send_lists(rt, alloc, run.kept, plan, &facts, out)
+}
+
+// Reads the sources. Snapshots alone ask in which order the samples came.
+fn read_asked<T: Threads + Wait + Copy + Send + 'static, E: Outlet>(
+    rt: &T,
+    alloc: Global,
+    sources: Vec<Source>,
+    options: &Options,
+    progress: &mut Progress<'_, E>,
+) -> Result<WholeRun, CollectFault>
+    requires { length sources.items ≤ 64 }
+    ensures whole_lists { IfOk result (λ run.
+        AreWhole (rests_of options.now sources.items) run.kept.lists) }
+    ensures order { IfOk result (λ run.
+        IsInterleaving run.kept.order (samples_of run.kept.lists)) }
+    ensures whole_weight { IfOk result (λ run.
+        run.whole_weight ≡ weight_of_sources options.now sources.items) }
+{
+    match options.every {
+        Some(_) => read_whole_sources(rt, alloc, sources, options, progress),
+        None => read_in_parts(rt, alloc, sources, options, progress),
+    }
 }
 
 // The sample types of the weights of sources, which pages alone tell.

@@ -12,6 +12,7 @@ pub mod NameLemmas
 pub mod NamesBack
 pub mod NumberLemmas
 pub mod OnePassLemmas
+pub mod PartReaders
 pub mod PartReading
 pub mod ReadLemmas
 pub mod RowLemmas

@@ -2,7 +2,7 @@
 use Rattle.std.specs.Prelude.{◌≡◌, ◌⊎◌, ℕ, List, [], ◌∷◌, ◌++◌, All, sum_by}
 use Rattle.std.specs.List.{flat_map}
 use Rattle.sample_tables.specs.declared.samples.Sample.{Sample}
-use Rattle.stack_core.specs.declared.endings.SourceEnd.{SourceEnd}
+use Rattle.stack_core.specs.Parts.{ignored_of}
 use Rattle.stack_core.specs.declared.endings.SourceEnd.TheVariants as ends
 use Rattle.folded_lines.specs.Reading.{read_folded}
 
@@ -19,12 +19,6 @@ AreCutAtLines (part ∷ next ∷ parts) = IsWholeLines part × AreCutAtLines (ne
 -- all of it is read
 abbrev pub IsFaultless : List ℕ → Type 0
 IsFaultless text = (ignored : ℕ) × ((read_folded text).ending ≡ ends.Clean ignored)
-
--- how many lines were ignored
-abbrev pub ignored_of : SourceEnd → ℕ
-ignored_of (ends.Clean ignored) = ignored
-ignored_of (ends.Fault fault) = 0
-ignored_of (ends.Stopped after) = 0
 
 -- the samples of the parts, one part after another
 abbrev pub samples_of_parts : List (List ℕ) → List Sample

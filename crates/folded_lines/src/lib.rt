@@ -9,6 +9,7 @@ mod lines;
 mod names;
 mod numbering;
 mod parse;
+mod parts;
 mod reader;
 mod row_lines;
 mod row_steps;

@@ -1,6 +1,7 @@
 //! Folded text, read line by line.
 
 ghost use Rattle.std.specs.Prelude.{◌≡◌, ◌≢◌, ℕ, [], IsTrue};
+ghost use Rattle.stack_core.specs.Parts.{bytes_of};
 ghost use Rattle.stack_core.specs.Reading.{IsSourceLimited};
 ghost use Rattle.stack_core.specs.declared.endings.SourceEnd.TheVariants.{Stopped};
 ghost use Rattle.folded_lines.specs.Reading.{read_folded, begins_compressed};
@@ -8,7 +9,10 @@ ghost use Rattle.folded_lines.specs.Reading.{read_folded, begins_compressed};
 use crate::cursor::{Cursor, next_step};
 use crate::row_steps::next_row_step;
 use crate::telling::Telling;
-use stack_core::{ReadFault, ReadKind, RowReader, RowStep, SampleReader, SourceEnd, Step};
+use bytes::Bytes;
+use stack_core::{
+    ReadFault, ReadKind, RowReader, RowStep, SampleReader, SourceBytes, SourceEnd, Step,
+};
 use std::alloc::{AllocError, Global};
 use std::marker::Model;
 
@@ -18,7 +22,7 @@ use std::marker::Model;
 /// to give, and whether it has come to the ending: compressed bytes are at it from the start.
 #[derive(Debug, Drop)]
 pub struct FoldedReader {
-    bytes: Vec<u8>,
+    bytes: SourceBytes,
     cursor: Cursor,
     ended: Option<SourceEnd>,
     telling: Telling,
@@ -52,7 +56,30 @@ impl FoldedReader {
         ensures unstopped { (after : ℕ) → (read_folded bytes.items).ending ≢ Stopped after }
     {
         let telling = Telling::new(*bytes.allocator());
-        let ended = begins_compressed(&bytes).then_some(SourceEnd::Fault(ReadFault {
+        FoldedReader::of(SourceBytes::Own(bytes), telling)
+    }
+
+    /// A reader of folded text that others share, from its first line. It takes no memory.
+    pub fn over_shared(alloc: Global, bytes: Bytes) -> Self
+        ensures rest { result.rest ≡ read_folded bytes }
+        ensures limits { IsSourceLimited (read_folded bytes).samples }
+        ensures told { result.told ≡ record { names = []; stacks = [] } }
+        ensures unstopped { (after : ℕ) → (read_folded bytes).ending ≢ Stopped after }
+    {
+        FoldedReader::of(SourceBytes::Shared(bytes), Telling::new(alloc))
+    }
+
+    fn of(bytes: SourceBytes, telling: Telling) -> Self
+        requires names { telling.names ≡ [] }
+        requires heads { telling.heads ≡ [] }
+        requires stacks { telling.stacks ≡ 0 }
+        requires history { telling.history ≡ [] }
+        ensures rest { result.rest ≡ read_folded (bytes_of bytes) }
+        ensures limits { IsSourceLimited (read_folded (bytes_of bytes)).samples }
+        ensures told { result.told ≡ record { names = []; stacks = [] } }
+        ensures unstopped { (after : ℕ) → (read_folded (bytes_of bytes)).ending ≢ Stopped after }
+    {
+        let ended = begins_compressed(bytes.as_slice()).then_some(SourceEnd::Fault(ReadFault {
             kind: ReadKind::Compressed,
             at: 1,
         }));

@@ -13,5 +13,7 @@ mod tree_sink;
 pub use collection::{Gathered, gather, gather_observed};
 pub use observers::Observer;
 pub use snapshots::Snapshot;
-pub use source_lists::{Source, SourceLists, WholeRun, read_sources, read_whole_sources};
+pub use source_lists::{
+    Source, SourceLists, WholeRun, read_in_parts, read_sources, read_whole_sources,
+};
 pub use tree_sink::TreeSink;

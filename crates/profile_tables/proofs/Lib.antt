@@ -8,6 +8,7 @@ pub mod FrameNameLemmas
 pub mod NumberLemmas
 pub mod SampleLemmas
 pub mod RestLemmas
+pub mod PartLemmas
 pub mod RowLemmas
 pub mod StepLemmas
 pub mod ReaderLemmas

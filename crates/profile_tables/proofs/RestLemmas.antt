@@ -108,14 +108,21 @@ all-at [] all k d lt = absurd (omega arith)
 all-at (sample ∷ samples) all zero d lt = all.0
 all-at (sample ∷ samples) all (suc k) d lt = all-at samples all.1 k d (omega arith)
 
+source-limited : (samples : List Sample) → AreLimited 0 samples → IsSourceLimited samples
+source-limited samples is =
+    let sum : weight_sum samples ≡ sum_by (λ sample. sample.weight) samples = weight_sum-is samples in
+    let le : 0 + weight_sum samples ≤ WEIGHT_LIMIT = is.sum in
+    record { each = λ k d lt. all-at samples is.each k d lt; total = omega (arith, sum, le) }
+
+-- any samples that are read
+pub read-limited : (tables : SampleTables) (samples : List Content) → IsSourceLimited (read_samples tables 0 samples).samples
+read-limited tables samples = source-limited (read_samples tables 0 samples).samples (all-limited tables 0 samples (omega arith))
+
 -- the samples of any file
 pub pprof-limited : (file : List ℕ) (pick : Pick) (naming : Naming) → IsSourceLimited (read_pprof file pick naming).samples
 pprof-limited file pick naming =
-    let is : AreLimited 0 (read_pprof file pick naming).samples =
-    file-limited (first (file_faults file pick)) _ (all-limited (tables_of file pick naming) 0 (samples_of file) (omega arith)) in
-    let sum : weight_sum (read_pprof file pick naming).samples ≡ sum_by (λ sample. sample.weight) (read_pprof file pick naming).samples = weight_sum-is _ in
-    let le : 0 + weight_sum (read_pprof file pick naming).samples ≤ WEIGHT_LIMIT = is.sum in
-    record { each = λ k d lt. all-at _ is.each k d lt; total = omega (arith, sum, le) }
+    source-limited (read_pprof file pick naming).samples
+    (file-limited (first (file_faults file pick)) _ (all-limited (tables_of file pick naming) 0 (samples_of file) (omega arith)))
 
 -- ---- no more samples than bytes
 

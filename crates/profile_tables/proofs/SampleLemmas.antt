@@ -37,7 +37,7 @@ same_length m n e = grind (arith, common_steps)
 below : (m n : ℕ) → m < n → nat_lt m n ≡ true
 below m n lt = grind (arith, common_steps)
 
-not_below : (m n : ℕ) → n ≤ m → nat_lt m n ≡ false
+pub not_below : (m n : ℕ) → n ≤ m → nat_lt m n ≡ false
 not_below m n le = grind (arith, common_steps)
 
 pub weight-passed : (tables : SampleTables) (sample values ids : List ℕ) (weight : ℕ) → Passes tables sample values ids weight → weight ≡ weight_of tables.chosen sample
@@ -65,7 +65,7 @@ no_deep_fault tables sample deep = rw deep refl
 total_fault : (tables : SampleTables) (total : ℕ) (sample : List ℕ) → nat_lt WEIGHT_LIMIT (total + weight_of tables.chosen sample) ≡ true → first (total_faults tables total sample) ≡ Some TotalTooLarge
 total_fault tables total sample large = rw large refl
 
-no_total_fault : (tables : SampleTables) (total : ℕ) (sample : List ℕ) → nat_lt WEIGHT_LIMIT (total + weight_of tables.chosen sample) ≡ false → first (total_faults tables total sample) ≡ None
+pub no_total_fault : (tables : SampleTables) (total : ℕ) (sample : List ℕ) → nat_lt WEIGHT_LIMIT (total + weight_of tables.chosen sample) ≡ false → first (total_faults tables total sample) ≡ None
 no_total_fault tables total sample large = rw large refl
 
 -- as many frames in any order of the ids

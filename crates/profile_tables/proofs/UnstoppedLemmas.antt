@@ -36,3 +36,6 @@ pub unstopped-read_pprof : (file : List ℕ) (pick : Pick) (naming : Naming) (af
 unstopped-read_pprof file pick naming after stopped =
     subst IsUnstopped stopped
     (by_file_fault (first (file_faults file pick)) _ (unstopped_samples (tables_of file pick naming) 0 (samples_of file)))
+
+pub unstopped-read_samples : (tables : SampleTables) (total : ℕ) (samples : List Content) (after : ℕ) → (read_samples tables total samples).ending ≢ Stopped after
+unstopped-read_samples tables total samples after stopped = subst IsUnstopped stopped (unstopped_samples tables total samples)

@@ -4,6 +4,8 @@ pub mod Frames
 pub mod Fronts
 pub mod Functions
 pub mod Outcome
+pub mod PartReaders
+pub mod Places
 pub mod Rests
 pub mod RowSteps
 pub mod SeenOutline

@@ -10,6 +10,7 @@ pub mod laws;
 mod lines;
 mod naming;
 mod outline;
+mod part;
 mod reader;
 mod row_steps;
 mod samples;

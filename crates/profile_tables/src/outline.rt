@@ -1,6 +1,6 @@
 //! What the samples of a profile are read with.
 
-ghost use Rattle.std.specs.Prelude.{◌≡◌, ℕ, List, None, map, IfOk, IfErr};
+ghost use Rattle.std.specs.Prelude.{◌≡◌, ℕ, List, [], None, map, take, drop, IfOk, IfErr, MatchOption};
 ghost use Rattle.profile_messages.specs.Message.{first};
 ghost use Rattle.profile_messages.specs.Records.{function_id};
 ghost use Rattle.profile_messages.specs.Tables.{samples_of};
@@ -13,6 +13,7 @@ ghost use Rattle.profile_messages.specs.SeenIndex.{code_location_id, IsIndexOf};
 ghost use Rattle.profile_messages.specs.SeenProfile.{IsProfileOf};
 ghost use Rattle.profile_tables.specs.Naming.{frames_of as frames_of_file};
 ghost use Rattle.profile_tables.specs.checked.Frames.{frames_at, IsWhole};
+ghost use Rattle.profile_tables.specs.checked.Places.{IsPlace};
 ghost use Rattle.profile_tables.specs.checked.SeenOutline.{seen_outline};
 
 use crate::frames::Frames;
@@ -31,6 +32,29 @@ pub(crate) struct Outline {
     pub(crate) frames: Frames,
     /// The offset of each sample's tag.
     pub(crate) samples: Vec<usize>,
+}
+
+/// The samples that a reader still has to give: those from `next` on, up to the one that is `past`.
+#[derive(Clone, Copy)]
+pub(crate) struct Stretch {
+    pub(crate) next: usize,
+    pub(crate) past: usize,
+}
+
+impl Outline {
+    /// The offset of the next sample's tag. None where the samples have ended.
+    #[inline]
+    pub(crate) fn place(&self, left: Stretch) -> Option<usize>
+        ensures { MatchOption result
+            (drop left.next (take left.past self.now.samples.items) ≡ [])
+            (λ at. IsPlace (take left.past self.now.samples.items) left.next left.past at) }
+    {
+        if left.past <= left.next {
+            return None;
+        }
+        let at = self.samples.get(left.next)?;
+        Some(*at)
+    }
 }
 
 /// The frames of a profile's locations, where its functions and locations have these places.

@@ -1,6 +1,7 @@
 //! A pprof profile, read sample by sample, or by rows of numbers.
 
 ghost use Rattle.std.specs.Prelude.{◌≡◌, ◌≢◌, ◌<◌, ◌^◌, ℕ, length, IfOk, OnErr, IsOk, IsTrue};
+ghost use Rattle.stack_core.specs.Parts.{bytes_of};
 ghost use Rattle.stack_core.specs.Reading.{Steps, IsEnd, IsWithinLimits, IsSourceLimited};
 ghost use Rattle.stack_core.specs.declared.endings.SourceEnd.TheVariants.{Stopped};
 ghost use Rattle.profile_tables.specs.Samples.{read_pprof};
@@ -8,32 +9,34 @@ ghost use Rattle.profile_messages.specs.SampleTypes.{chosen_type};
 ghost use Rattle.profile_tables.specs.SeenTables.{LendsType};
 ghost use Rattle.profile_tables.specs.State.{nothing_told, told_type, HasRead};
 
+mod parts;
 mod rows;
 
-use crate::outline::Outline;
-use crate::steps::{next_step, open};
+use crate::part::Part;
+use crate::steps::open;
 use crate::tellers::Teller;
+use bytes::Bytes;
 use profile_messages::SampleType;
 use run_options::{Naming, Pick};
-use stack_core::{SampleReader, SourceEnd, Step};
+use stack_core::{SampleReader, SourceBytes, SourceEnd, Step};
 use std::alloc::{AllocError, Global};
 use std::marker::Model;
 
 /// Reads the samples of a pprof profile that is not compressed. Contracts see what it still has to give, and whether it has answered
 /// the ending.
 ///
-/// It keeps the file, and of its tables no more than a few times the file's size: each name once, however many frames have it. The
+/// It keeps the file, or shares it, and of its tables no more than a few times the file's size: each name once, however many frames have it. The
 /// frames of a sample are counted before they are made.
 #[derive(Debug, Drop)]
 pub struct PprofReader {
-    bytes: Vec<u8>,
+    bytes: SourceBytes,
     pick: Pick,
     naming: Naming,
     /// None before the tables were read.
-    outline: Option<Outline>,
-    /// How many samples were given.
+    part: Option<Part>,
+    /// The samples before this one were given, or are those of other parts.
     given: usize,
-    /// Their weights together.
+    /// The weights together of those that were given.
     total: u64,
     ended: Option<SourceEnd>,
     /// None before the first row was asked for.
@@ -62,11 +65,30 @@ impl PprofReader {
         ensures unstopped { (after : ℕ)
             → (read_pprof bytes.items pick naming).ending ≢ Stopped after }
     {
+        PprofReader::unread(SourceBytes::Own(bytes), pick, naming)
+    }
+
+    /// A reader of a file's bytes that others share. It takes no memory either.
+    pub fn over_shared(bytes: Bytes, pick: Pick, naming: Naming) -> Self
+        ensures rest { result.rest ≡ read_pprof bytes pick naming }
+        ensures told { result.told ≡ nothing_told }
+        ensures chosen_type { result.chosen_type ≡ chosen_type bytes pick }
+        ensures limits { IsSourceLimited (read_pprof bytes pick naming).samples }
+        ensures unstopped { (after : ℕ) → (read_pprof bytes pick naming).ending ≢ Stopped after }
+    {
+        PprofReader::unread(SourceBytes::Shared(bytes), pick, naming)
+    }
+
+    fn unread(bytes: SourceBytes, pick: Pick, naming: Naming) -> Self
+        ensures rest { result.rest ≡ read_pprof (bytes_of bytes) pick naming }
+        ensures told { result.told ≡ nothing_told }
+        ensures chosen_type { result.chosen_type ≡ chosen_type (bytes_of bytes) pick }
+    {
         PprofReader {
             bytes,
             pick,
             naming,
-            outline: None,
+            part: None,
             given: 0,
             total: 0,
             ended: None,
@@ -80,7 +102,7 @@ impl PprofReader {
     pub fn chosen_type(&self) -> Option<&SampleType>
         ensures { LendsType (told_type self.now) result }
     {
-        self.outline.as_ref()?.chosen_type.as_ref()
+        self.part.as_ref()?.outline.chosen_type.as_ref()
     }
 }
 
@@ -103,21 +125,16 @@ impl SampleReader for PprofReader {
         if let Some(ending) = self.ended {
             return Ok(Step::End(ending));
         }
-        if let Some(fault) = open(
-            alloc,
-            &mut self.outline,
-            &self.bytes,
-            &self.pick,
-            self.naming,
-        )? {
+        let file = self.bytes.as_slice();
+        if let Some(fault) = open(alloc, &mut self.part, file, &self.pick, self.naming)? {
             let ending = SourceEnd::Fault(fault);
             self.ended = Some(ending);
             return Ok(Step::End(ending));
         }
-        let Some(outline) = &self.outline else {
+        let Some(part) = &self.part else {
             unreachable!();
         };
-        let step = next_step(alloc, &self.bytes, outline, self.given, self.total)?;
+        let step = part.next_step(alloc, file, self.given, self.total)?;
         match &step {
             Step::Sample(sample) => {
                 self.given += 1;

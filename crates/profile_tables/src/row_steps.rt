@@ -1,6 +1,6 @@
 //! The steps of a reader of rows.
 
-ghost use Rattle.std.specs.Prelude.{◌≡◌, ◌<◌, ◌≤◌, ◌+◌, ◌^◌, Some, length, option_map, IfOk, IfSome, OnOk, OnErr};
+ghost use Rattle.std.specs.Prelude.{◌≡◌, ◌<◌, ◌≤◌, ◌+◌, ◌^◌, length, option_map, IfOk, IfSome, OnOk, OnErr};
 ghost use Rattle.stack_core.specs.Prefixes.{IsPrefixOf};
 ghost use Rattle.stack_core.specs.RowReading.{IsLastStep};
 ghost use Rattle.profile_messages.specs.Offsets.{content_at as content_in};
@@ -8,10 +8,10 @@ ghost use Rattle.profile_tables.specs.checked.Fronts.{IsFront};
 ghost use Rattle.profile_tables.specs.checked.SeenOutline.{seen_outline};
 ghost use Rattle.profile_tables.specs.checked.Tellers.{told_of, IsTeller};
 ghost use Rattle.profile_tables.specs.checked.RowSteps.{IsKnownBy, IsToldSample, IsNextRow};
-ghost use Rattle.profile_tables.specs.checked.View.{told_by, IsTellerOf};
+ghost use Rattle.profile_tables.specs.checked.View.{told_by, IsTellerBy};
 
 use crate::fronts::{Front, front_of};
-use crate::outline::Outline;
+use crate::outline::{Outline, Stretch};
 use crate::samples::checked_sample;
 use crate::tellers::{NewRow, Teller};
 use profile_messages::{Span, content_at};
@@ -83,35 +83,35 @@ fn tell_sample(
     }
 }
 
-/// The next sample of a file by rows, where `next` of them, of this total weight, were given, or the ending. A stack that was told
-/// before takes no memory, and its location ids are not decoded again.
+/// The next of the samples that are left, by rows, behind samples of this total weight, or the ending. A stack that was told before
+/// takes no memory, and its location ids are not decoded again.
 fn next_row(
     alloc: Global,
     file: &[u8],
     outline: &Outline,
     teller: &mut Teller,
-    next: usize,
+    left: Stretch,
     total: u64,
 ) -> Result<RowStep, AllocError>
     requires total { total ≤ WEIGHT_LIMIT }
     requires teller { IsTeller file.now outline.now.frames teller.old }
-    requires count { teller.old.count ≤ next }
+    requires count { teller.old.count ≤ left.next }
     ensures step { IfOk result
-        (IsNextRow file.now outline.now next total (told_of teller.old) (told_of teller.new)) }
+        (IsNextRow file.now outline.now left.past left.next total (told_of teller.old) (told_of teller.new)) }
     ensures teller { IsTeller file.now outline.now.frames teller.new }
-    ensures count { teller.new.count ≤ next + 1 }
-    ensures refused { OnErr result (teller.new.count ≤ next) }
+    ensures count { teller.new.count ≤ left.next + 1 }
+    ensures refused { OnErr result (teller.new.count ≤ left.next) }
     ensures stacks { OnErr result ((told_of teller.new).stacks ≡ (told_of teller.old).stacks) }
     ensures names { IsPrefixOf (told_of teller.old).names (told_of teller.new).names }
 {
-    let Some(at) = outline.samples.get(next) else {
+    let Some(at) = outline.place(left) else {
         return Ok(RowStep::End(SourceEnd::Clean { ignored: 0 }));
     };
-    let front = front_of(file, *at, outline);
+    let front = front_of(file, at, outline);
     if let Some(KnownRow { row, weight }) = known_row(file, teller, front, total) {
         return Ok(RowStep::Again { row, weight });
     }
-    match tell_sample(alloc, file, outline, teller, *at, front, total)? {
+    match tell_sample(alloc, file, outline, teller, at, front, total)? {
         Ok(
             NewRow {
                 names,
@@ -124,7 +124,7 @@ fn next_row(
             weight,
         }),
         Err(kind) => {
-            let at = *at as u64;
+            let at = at as u64;
             Ok(RowStep::End(SourceEnd::Fault(ReadFault { kind, at })))
         }
     }
@@ -136,25 +136,25 @@ pub(crate) fn step_by_rows(
     file: &[u8],
     outline: &Outline,
     teller: &mut Option<Teller>,
-    next: usize,
+    left: Stretch,
     total: u64,
 ) -> Result<RowStep, AllocError>
     requires total { total ≤ WEIGHT_LIMIT }
-    requires teller { IsTellerOf file.now (Some outline.now) next teller.old }
+    requires teller { IsTellerBy file.now outline.now left.next teller.old }
     ensures step { IfOk result
-        (IsNextRow file.now outline.now next total (told_by teller.old) (told_by teller.new)) }
+        (IsNextRow file.now outline.now left.past left.next total (told_by teller.old) (told_by teller.new)) }
     ensures ended { IfOk result (λ step. IsLastStep step →
-        IsTellerOf file.now (Some outline.now) next teller.new) }
-    ensures teller { IsTellerOf file.now (Some outline.now) (next + 1) teller.new }
-    ensures refused { OnErr result (IsTellerOf file.now (Some outline.now) next teller.new) }
+        IsTellerBy file.now outline.now left.next teller.new) }
+    ensures teller { IsTellerBy file.now outline.now (left.next + 1) teller.new }
+    ensures refused { OnErr result (IsTellerBy file.now outline.now left.next teller.new) }
     ensures stacks { OnErr result ((told_by teller.new).stacks ≡ (told_by teller.old).stacks) }
     ensures names { IsPrefixOf (told_by teller.old).names (told_by teller.new).names }
 {
     match teller {
-        Some(teller) => next_row(alloc, file, outline, teller, next, total),
+        Some(teller) => next_row(alloc, file, outline, teller, left, total),
         None => {
             let mut first = Teller::new(alloc, &outline.frames)?;
-            let step = next_row(alloc, file, outline, &mut first, next, total)?;
+            let step = next_row(alloc, file, outline, &mut first, left, total)?;
             *teller = Some(first);
             Ok(step)
         }

@@ -4,7 +4,8 @@ ghost use Rattle.std.specs.Prelude.{◌≡◌, ◌≤◌, IfOk, OnErr};
 ghost use Rattle.profile_tables.specs.checked.Rests.{IsStart, IsNext};
 ghost use Rattle.profile_tables.specs.checked.View.{IsOpened};
 
-use crate::outline::{Outline, outline_of};
+use crate::outline::{Outline, Stretch, outline_of};
+use crate::part::Part;
 use crate::samples::read_sample;
 use profile_messages::{TableFault, content_at};
 use run_options::{Naming, Pick};
@@ -13,17 +14,25 @@ use std::alloc::{AllocError, Global};
 
 /// What reading the tables of a file gives.
 #[derive(Drop)]
-enum Start {
-    Outline(Outline),
+pub(crate) enum Start {
+    Part(Part),
     Fault(ReadFault),
 }
 
 /// Reads the tables of a file.
-fn start_of(alloc: Global, file: &[u8], pick: &Pick, naming: Naming) -> Result<Start, AllocError>
+pub(crate) fn start_of(
+    alloc: Global,
+    file: &[u8],
+    pick: &Pick,
+    naming: Naming,
+) -> Result<Start, AllocError>
     ensures { IfOk result (IsStart file.now pick.now naming) }
 {
     match outline_of(alloc, file, pick, naming) {
-        Ok(outline) => Ok(Start::Outline(outline)),
+        Ok(outline) => {
+            let whole = Part::whole(alloc, outline)?;
+            Ok(Start::Part(whole))
+        }
         Err(TableFault::Read(fault)) => Ok(Start::Fault(fault)),
         Err(TableFault::OutOfMemory) => Err(AllocError),
     }
@@ -32,44 +41,44 @@ fn start_of(alloc: Global, file: &[u8], pick: &Pick, naming: Naming) -> Result<S
 /// Reads the tables of a file, where that was not done before, and answers the fault that they have.
 pub(crate) fn open(
     alloc: Global,
-    outline: &mut Option<Outline>,
+    part: &mut Option<Part>,
     file: &[u8],
     pick: &Pick,
     naming: Naming,
 ) -> Result<Option<ReadFault>, AllocError>
-    ensures ok { IfOk result (IsOpened file.now pick.now naming outline.old outline.new) }
-    ensures refused { OnErr result (outline.new ≡ outline.old) }
+    ensures ok { IfOk result (IsOpened file.now pick.now naming part.old part.new) }
+    ensures refused { OnErr result (part.new ≡ part.old) }
 {
-    if outline.is_some() {
+    if part.is_some() {
         return Ok(None);
     }
     match start_of(alloc, file, pick, naming)? {
-        Start::Outline(found) => {
-            *outline = Some(found);
+        Start::Part(whole) => {
+            *part = Some(whole);
             Ok(None)
         }
         Start::Fault(fault) => Ok(Some(fault)),
     }
 }
 
-/// The next sample of a file, where `next` of them, of this total weight, were given, or the ending.
+/// The next of the samples that are left, behind samples of this total weight, or the ending.
 pub(crate) fn next_step(
     alloc: Global,
     file: &[u8],
     outline: &Outline,
-    next: usize,
+    left: Stretch,
     total: u64,
 ) -> Result<Step, AllocError>
     requires { total ≤ WEIGHT_LIMIT }
-    ensures { IfOk result (IsNext file.now outline.now next total) }
+    ensures { IfOk result (IsNext file.now outline.now left.past left.next total) }
 {
-    let Some(at) = outline.samples.get(next) else {
+    let Some(at) = outline.place(left) else {
         return Ok(Step::End(SourceEnd::Clean { ignored: 0 }));
     };
-    match read_sample(alloc, outline, total, content_at(file, *at))? {
+    match read_sample(alloc, outline, total, content_at(file, at))? {
         Ok(sample) => Ok(Step::Sample(sample)),
         Err(kind) => {
-            let at = *at as u64;
+            let at = at as u64;
             Ok(Step::End(SourceEnd::Fault(ReadFault { kind, at })))
         }
     }

@@ -12,7 +12,7 @@ ghost use Rattle.opened_sources.specs.Failures.{Flushes, Sends};
 ghost use Rattle.stack_core.specs.Interleaving.{list_of};
 
 use crate::run_facts::{RunFacts, told_whole};
-use byte_io::{Outlet, Pieces, send_pieces};
+use byte_io::{Outlet, Pieces, send_pieces, send_pieces_in_threads};
 use command_line::{Plan, TopTable, View};
 use flame_layout::{Width, draw_merged, draw_paired};
 use merged_stacks::PairedStacks;
@@ -61,7 +61,7 @@ fn send_plain_view<T: Threads, W: Outlet>(
     match view {
         View::Fold => send_fold(rt, alloc, sources, out),
         View::Graph(width) => send_graph(rt, alloc, sources, width, out),
-        View::Chart(width) => send_chart(alloc, sources, width, out),
+        View::Chart(width) => send_chart(rt, alloc, sources, width, out),
         View::Pairs => send_pairs(rt, alloc, sources, out),
         View::PairBoxes(width) => {
             let lists = sources.lists();
@@ -84,7 +84,7 @@ fn send_fold<T: Threads, W: Outlet>(
         result }
 {
     let merged = merge_in_threads(rt, alloc, sources)?;
-    send_text(alloc, &FoldedText::of(&merged), out)
+    send_long_text(rt, alloc, &FoldedText::of(&merged), out)
 }
 
 // Sends the line of the graph alone.
@@ -102,11 +102,12 @@ fn send_graph<T: Threads, W: Outlet>(
 {
     let merged = merge_in_threads(rt, alloc, sources)?;
     let boxes = draw_merged(alloc, &merged)?;
-    send_text(alloc, &drawn_graph(sources, &boxes, width), out)
+    send_long_text(rt, alloc, &drawn_graph(sources, &boxes, width), out)
 }
 
 // Sends the line of the chart.
-fn send_chart<W: Outlet>(
+fn send_chart<T: Threads, W: Outlet>(
+    rt: &T,
     alloc: Global,
     sources: &SourceLists,
     width: Width,
@@ -118,7 +119,7 @@ fn send_chart<W: Outlet>(
         result }
 {
     let boxes = lend_chart(alloc, sources)?;
-    send_text(alloc, &drawn_chart(sources, &boxes, width), out)
+    send_long_text(rt, alloc, &drawn_chart(sources, &boxes, width), out)
 }
 
 // Sends the two-column text of the first two sources.
@@ -159,7 +160,7 @@ fn send_compared<T: Threads, W: Outlet>(
     let boxes = draw_paired(alloc, &stacks, before, after)?;
     let total = after.total() as u64;
     let line = drawn_comparison_line(before.total() as u64, &boxes, Scale { total, width });
-    send_text(alloc, &line, out)
+    send_long_text(rt, alloc, &line, out)
 }
 
 // Sends the heaviest functions, as a table or as a line of JSON.
@@ -182,6 +183,22 @@ pub(crate) fn send_top<W: Outlet>(
     } else {
         send_text(alloc, &SumTable::of(&sums, top.rows, whole, all), out)
     }
+}
+
+// Sends a text while it is made, where it is long in threads of their own.
+fn send_long_text<T: Threads, P: Pieces + Sync, W: Outlet>(
+    rt: &T,
+    alloc: Global,
+    text: &P,
+    out: &mut W,
+) -> Result<(), Failure>
+    requires { length (P.pieces text.now) < 2 ^ 64 }
+    ensures sent { Sends (concat (P.pieces text.now)) (W.contents out.old) (W.contents out.new) result }
+    ensures flushed { Flushes (W.is_flushed out.new) (W.failures out.old) (W.failures out.new)
+        result }
+{
+    send_pieces_in_threads(rt, alloc, text, out)?;
+    Ok(())
 }
 
 /// Sends a text while it is made.

@@ -1,13 +1,9 @@
 -- What a filter keeps of lists, by the numbers of names and stacks.
-use Rattle.std.proofs.Common.{◌≡◌, ◌∙◌, ◌<◌, ◌≤◌, ◌+◌, ◌||◌, ◌&&◌, ℕ, zero, suc, Bool, true, false, cond, not, refl, sym, ap, subst, arith, List, [], ◌∷◌, ◌++◌, length, take, drop, map, get_or, set, All, inl, inr}
-use Rattle.std.specs.List.{filter, list_any, slice_get}
-use Rattle.std.specs.Option.{option_map}
+use Rattle.std.proofs.Common.{◌≡◌, ◌∙◌, ◌<◌, ◌≤◌, ◌+◌, ◌||◌, ◌&&◌, ℕ, zero, suc, Bool, true, false, cond, not, refl, sym, ap, subst, arith, List, [], ◌∷◌, ◌++◌, length, take, map, get_or, All}
+use Rattle.std.specs.List.{filter, list_any}
 use Rattle.std.specs.Prelude.{Option, Some, None, nat_eq}
-use Rattle.std.proofs.lemmas.Bool.{cases_eq, cases_lt}
-use Rattle.std.proofs.lemmas.List.{map_push, get_or-map, get_or_past, get_or-set_same, get_or-set_other, take_all, take_more, take-append-drop, length-map, length-take-le, map-append}
+use Rattle.std.proofs.lemmas.List.{map_push, get_or-map, take_all, take_more, length-map, map-append}
 use Rattle.std.proofs.lemmas.List.Elements.{All-head, All-tail, All-map, filter-append, filter_more}
-use Rattle.std.proofs.lemmas.List.Sums.{count_by-le-length}
-use Rattle.std.proofs.lemmas.Option.{get_or_from_slice_get, slice_get-get_or}
 use Rattle.std.proofs.lemmas.Simd.{map-map}
 use Rattle.sample_tables.specs.declared.samples.Sample.{Sample}
 use Rattle.sample_tables.specs.Rows.{AreNamed, Row, name_at, named, row_at, row_by, sample_at, stack_at}
@@ -17,7 +13,7 @@ use Rattle.stack_core.specs.Reading.{IsSourceLimited, Rest}
 use Rattle.stack_core.specs.declared.endings.Close.{Close}
 use Rattle.stack_core.specs.declared.endings.Close.TheVariants.{NoMemory, Read}
 use Rattle.stack_core.specs.declared.endings.SourceEnd.{SourceEnd}
-use Rattle.stack_core.proofs.InterleavingLemmas.{AreOf-interleaved, AreOf-IsInterleaving, IsInterleaving-AreOf, count_of-append, slice_get-interleaved, sources_of-interleaved}
+use Rattle.stack_core.proofs.InterleavingLemmas.{AreOf-interleaved, AreOf-IsInterleaving, IsInterleaving-AreOf}
 use Rattle.run_options.specs.Filters.{has_match, has_text, is_everything, is_none, keeps, kept_rest, kept_samples}
 use Rattle.run_options.proofs.FilterLemmas.{all_is_kept, keeps_each, limited_kept}
 use Rattle.run_options.specs.declared.filters.Filter.{Filter}

@@ -3,4 +3,5 @@ mod FilteredSources
 mod KeptLemmas
 pub mod ListLemmas
 pub mod OrderLemmas
+pub mod PartLemmas
 pub mod ReaderThreads

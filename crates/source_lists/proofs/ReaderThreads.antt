@@ -1,8 +1,13 @@
 -- The readers of both formats may go to other threads.
-use denote.Param.Send.{AllSend, IsSend, recorded_send, sendable, struct_send, view_send}
+use denote.Param.Send.{AllSend, IsSend, IsSync, owning_send, recorded_send, sendable, struct_send, view_send}
 use denote.Struct.Declared.{shape}
+use Rattle.std.proofs.Common.{drop}
 use Rattle.std.proofs.Crossing.{crosses}
 use Rattle.std.proofs.MapsCrossing as maps
+use Rattle.std.proofs.Crossing as crossing
+use Rattle.bytes.proofs.Crosses.{block-send, block-sync, seen_owns-keyless}
+use Rattle.bytes.specs.contracts.block.Seen as seen
+use Rattle.stack_core.specs.contracts.source_bytes.SourceBytes as source_bytes
 use Rattle.call_tree.specs.contracts.frame_table.FrameTable as table
 use Rattle.call_tree.specs.contracts.spellings.SpellingCache as cache
 use Rattle.call_tree.specs.contracts.histories.StackHistory as history
@@ -10,6 +15,7 @@ use Rattle.folded_lines.specs.contracts.telling.Telling as telling
 use Rattle.folded_lines.specs.contracts.reader.FoldedReader as folded
 use Rattle.folded_lines.specs.contracts.reader.FoldedReader.TheInside as folded_inside
 use Rattle.profile_tables.specs.contracts.outline.Outline as outline
+use Rattle.profile_tables.specs.contracts.part.Part as part
 use Rattle.profile_tables.specs.contracts.tellers.Teller as teller
 use Rattle.profile_tables.specs.contracts.reader.PprofReader as pprof
 use Rattle.profile_tables.specs.contracts.reader.PprofReader.TheInside as pprof_inside
@@ -29,8 +35,14 @@ history_send = search (sendable, crosses, maps.crosses) depth 30
 telling_send : IsSend (telling.the_field).row
 telling_send = search (sendable, crosses, maps.crosses, table_send, cache_send, history_send) depth 30
 
+seen_send : IsSend seen.the_row
+seen_send = owning_send seen.the_type tt (λ s. seen_owns-keyless s.life (drop s.at s.names) s.ptr s.items) (λ k x w. tt)
+
+bytes_send : IsSend (source_bytes.the_field).row
+bytes_send = search (view_send, sendable, crosses, crossing.send, crossing.frees, block-send, block-sync, seen_send) depth 60
+
 folded_fields_send : AllSend (shape folded_inside.the_type).fields
-folded_fields_send = (search (sendable, crosses) depth 20, (search (sendable, crosses) depth 20, (search sendable depth 90 fits 30000, (telling_send, tt))))
+folded_fields_send = (bytes_send, (search (sendable, crosses) depth 20, (search sendable depth 90 fits 30000, (telling_send, tt))))
 
 folded_inside_send : IsSend folded_inside.the_row
 folded_inside_send = recorded_send _ _ _ (folded_inside.the_type).to_one (struct_send (shape folded_inside.the_type) folded_fields_send)
@@ -44,8 +56,14 @@ teller_send = search (sendable, crosses, maps.crosses, table_send, cache_send, h
 outline_send : IsSend outline.the_row
 outline_send = search (sendable, crosses, maps.crosses) depth 30
 
+outline_sync : IsSync outline.the_row
+outline_sync = search (sendable, crosses, maps.crosses) depth 30
+
+part_send : IsSend part.the_row
+part_send = search (sendable, crosses, outline_send, outline_sync) depth 30
+
 pprof_fields_send : AllSend (shape pprof_inside.the_type).fields
-pprof_fields_send = (search (sendable, crosses) depth 20, (search (sendable, crosses, maps.crosses) depth 20, (search (sendable, crosses) depth 20, (search (sendable, outline_send) depth 20, (search (sendable) depth 20, (search (sendable) depth 20, (search sendable depth 90 fits 30000, (search (sendable, teller_send) depth 20, tt))))))))
+pprof_fields_send = (bytes_send, (search (sendable, crosses, maps.crosses) depth 20, (search (sendable, crosses) depth 20, (search (sendable, part_send) depth 20, (search (sendable) depth 20, (search (sendable) depth 20, (search sendable depth 90 fits 30000, (search (sendable, teller_send) depth 20, tt))))))))
 
 pprof_inside_send : IsSend pprof_inside.the_row
 pprof_inside_send = recorded_send _ _ _ (pprof_inside.the_type).to_one (struct_send (shape pprof_inside.the_type) pprof_fields_send)

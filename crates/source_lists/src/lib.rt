@@ -6,6 +6,9 @@ mod kept_lists;
 mod kept_order;
 mod kept_stacks;
 pub mod laws;
+mod part_lists;
+mod part_readers;
+mod part_runs;
 mod reader_runs;
 mod reading;
 mod source_lists;
@@ -16,6 +19,7 @@ mod sources;
 mod unkept_samples;
 mod whole_runs;
 
+pub use part_runs::read_in_parts;
 pub use reading::{read_into, read_sources};
 pub use source_lists::SourceLists;
 pub use source_types::chosen_types;

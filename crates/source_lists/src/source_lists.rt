@@ -1,7 +1,8 @@
 //! What a run collected of its sources.
 
-ghost use Rattle.std.specs.Prelude.{◌≡◌, ◌<◌, ◌^◌, IfOk, map};
+ghost use Rattle.std.specs.Prelude.{◌≡◌, ◌<◌, ◌^◌, ◌∷◌, [], IfOk, map};
 ghost use Rattle.stack_core.specs.Interleaving.{IsInterleaving, interleaved};
+ghost use Rattle.stack_core.specs.Reading.{IsSourceLimited};
 ghost use Rattle.merged_stacks.specs.Merged.{all_samples};
 ghost use Rattle.merged_stacks.specs.Timeline.{samples_of, timeline, total_weight};
 ghost use Rattle.ring_collect.specs.Collection.{seen_as_rest};
@@ -47,6 +48,17 @@ impl SourceLists {
             lists: run.lists,
             order: run.order,
         }
+    }
+
+    /// The one list of a run, whatever the order in which its samples came.
+    pub(crate) fn of_one(alloc: Global, list: SourceList) -> Result<SourceLists, AllocError>
+        requires { IsSourceLimited list.samples }
+        ensures { IfOk result (λ run. run.lists ≡ list ∷ []) }
+    {
+        let order = vec![in alloc; 0u32; list.len()]?;
+        let mut lists = Vec::new(alloc);
+        lists.push(list)?;
+        Ok(SourceLists { lists, order })
     }
 
     /// What a filter keeps of the samples, in the order in which they came.

@@ -2,9 +2,10 @@
 
 ghost use Rattle.std.specs.Prelude.{◌≡◌, [], IfOk, OnOk};
 ghost use Rattle.stack_core.specs.Reading.{IsSourceLimited};
-ghost use Rattle.source_lists.specs.Sources.{whole_rest};
+ghost use Rattle.source_lists.specs.Sources.{read_bytes, whole_rest};
 
 use crate::sources::Source;
+use bytes::Bytes;
 use folded_lines::FoldedReader;
 use profile_tables::PprofReader;
 use run_options::{Format, Options};
@@ -37,6 +38,31 @@ impl SourceReader {
             Format::Pprof => {
                 let pick = options.pick.copy(alloc)?;
                 let reader = PprofReader::over(source.bytes, pick, options.naming);
+                Ok(SourceReader::Pprof(reader))
+            }
+        }
+    }
+}
+
+impl SourceReader {
+    ghost use Rattle.source_lists.specs.checked.Readers.{reader_rest, reader_told};
+
+    /// A reader of bytes that others share, which has told nothing.
+    pub(crate) fn over_shared(
+        alloc: Global,
+        format: Format,
+        bytes: Bytes,
+        options: &Options,
+    ) -> Result<SourceReader, AllocError>
+        ensures rest { IfOk result (λ reader. reader_rest reader
+            ≡ read_bytes format bytes options.now.pick options.now.naming) }
+        ensures told { IfOk result (λ reader. reader_told reader ≡ record { names = []; stacks = [] }) }
+    {
+        match format {
+            Format::Folded => Ok(SourceReader::Folded(FoldedReader::over_shared(alloc, bytes))),
+            Format::Pprof => {
+                let pick = options.pick.copy(alloc)?;
+                let reader = PprofReader::over_shared(bytes, pick, options.naming);
                 Ok(SourceReader::Pprof(reader))
             }
         }

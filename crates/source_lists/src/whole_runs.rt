@@ -1,11 +1,13 @@
 //! A run of sources that are read to their ends.
 
-ghost use Rattle.std.specs.Prelude.{◌≡◌, ◌≤◌, ◌<◌, ◌++◌, ℕ, IfOk, IsErrOf, length};
+ghost use Rattle.std.specs.Prelude.{◌≡◌, ◌≤◌, ◌<◌, ◌++◌, ℕ, IfOk, IsErrOf, length, map};
 ghost use Rattle.stack_core.specs.Interleaving.{IsInterleaving, interleaved};
-ghost use Rattle.merged_stacks.specs.Timeline.{samples_of};
-ghost use Rattle.ring_collect.specs.Collection.{AreWhole};
+ghost use Rattle.merged_stacks.specs.Merged.{all_samples};
+ghost use Rattle.merged_stacks.specs.Timeline.{samples_of, total_weight};
+ghost use Rattle.ring_collect.specs.Collection.{AreWhole, seen_as_rest};
+ghost use Rattle.run_options.specs.Filters.{kept_rest};
 ghost use Rattle.source_lists.specs.Sources.{rests_of, weight_of_sources, whole_rests_of};
-ghost use Rattle.source_lists.specs.WholeRuns.{GainsAll, GainsInOrder};
+ghost use Rattle.source_lists.specs.WholeRuns.{GainsAll, GainsInOrder, kept_pairs};
 
 use crate::reader_runs::run_rows;
 use crate::source_lists::SourceLists;
@@ -28,7 +30,7 @@ pub struct WholeRun {
 }
 
 /// Collects all samples of the sources, whatever the filter.
-fn collect_all<T: Threads + Wait + Copy + Send + 'static, S: RowSink>(
+pub(crate) fn collect_all<T: Threads + Wait + Copy + Send + 'static, S: RowSink>(
     rt: &T,
     alloc: Global,
     sources: Vec<Source>,
@@ -52,7 +54,7 @@ fn collect_all<T: Threads + Wait + Copy + Send + 'static, S: RowSink>(
     Ok(SourceLists::of(run))
 }
 
-fn open_gate(alloc: Global) -> Result<Arc<OpenGate>, AllocError> {
+pub(crate) fn open_gate(alloc: Global) -> Result<Arc<OpenGate>, AllocError> {
     Ok(Arc::new(alloc, OpenGate)?)
 }
 
@@ -89,6 +91,25 @@ pub fn read_whole_sources<T: Threads + Wait + Copy + Send + 'static, S: RowSink>
         → source < length sources.items }
 {
     let whole = collect_all(rt, alloc, sources, options, sink)?;
+    Ok(kept_run(alloc, whole, options)?)
+}
+
+/// What the filter of the options keeps of a run.
+pub(crate) fn kept_run(
+    alloc: Global,
+    whole: SourceLists,
+    options: &Options,
+) -> Result<WholeRun, AllocError>
+    ensures lists { IfOk result (λ run. map seen_as_rest run.kept.lists
+        ≡ map (kept_rest options.now.filter) (map seen_as_rest whole.lists)) }
+    ensures order { IfOk result (λ run.
+        IsInterleaving run.kept.order (samples_of run.kept.lists)) }
+    ensures whole_weight { IfOk result (λ run.
+        run.whole_weight ≡ total_weight (all_samples (samples_of whole.lists))) }
+    ensures in_order { IfOk result (λ run.
+        kept_pairs options.now.filter (interleaved whole.order (samples_of whole.lists))
+        ≡ interleaved run.kept.order (samples_of run.kept.lists)) }
+{
     let whole_weight = whole.total();
     let kept = whole.kept(alloc, &options.filter)?;
     Ok(WholeRun { kept, whole_weight })

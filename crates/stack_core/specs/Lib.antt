@@ -2,6 +2,7 @@ pub mod Faults
 pub mod Interleaving
 pub mod Ledgers
 pub mod NamesInOrder
+pub mod Parts
 pub mod Prefixes
 pub mod Reading
 pub mod Records

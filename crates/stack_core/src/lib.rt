@@ -11,6 +11,7 @@ mod lists;
 mod readers;
 mod records;
 mod sinks;
+mod source_bytes;
 mod worlds;
 
 pub use endings::{Close, Item, ReadFault, ReadKind, SourceEnd};
@@ -21,4 +22,5 @@ pub use readers::{RowReader, RowStep, SampleReader, Step};
 pub use records::RingRecord;
 pub use sample_tables::{FRAME_LIMIT, Listed, Names, Sample, Text, WEIGHT_LIMIT};
 pub use sinks::{NoSink, RowSink, Sink};
+pub use source_bytes::SourceBytes;
 pub use worlds::{Event, World};

@@ -1,5 +1,7 @@
 //! The sample types of worked sources.
 
+mod parts;
+
 use super::texts::is_text;
 use profile_messages::SampleType;
 use run_options::{Filter, Format, Naming, Options, Pick, RingSize};

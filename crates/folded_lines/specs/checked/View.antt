@@ -1,6 +1,7 @@
 -- The state of a reader, by its fields.
-use Rattle.std.specs.Prelude.{◌≤◌, true, false, Option, Some, None, List, ℕ, length}
+use Rattle.std.specs.Prelude.{◌<◌, ◌≤◌, ◌^◌, true, false, Option, Some, None, List, ℕ, length}
 use Rattle.sample_tables.specs.Rows.{ToldRows}
+use Rattle.stack_core.specs.Parts.{bytes_of}
 use Rattle.stack_core.specs.declared.endings.SourceEnd.{SourceEnd}
 use Rattle.folded_lines.specs.declared.cursor.Cursor.{Cursor}
 use Rattle.folded_lines.specs.State.{State}
@@ -13,9 +14,10 @@ state_at bytes cursor None told = record { rest = rest_at bytes cursor; has_ende
 state_at bytes cursor (Some ending) told = record { rest = ended ending; has_ended = true; told = told }
 
 abbrev pub state_of : Inside → State
-state_of reader = state_at reader.bytes.items reader.cursor reader.ended (told_of reader.telling)
+state_of reader = state_at (bytes_of reader.bytes) reader.cursor reader.ended (told_of reader.telling)
 
 pub record IsReader (reader : Inside) : Type 0 where
-  pub place : IsPlace reader.bytes.items reader.cursor
-  pub telling : IsTelling reader.bytes.items reader.telling
+  pub small : length (bytes_of reader.bytes) < 2 ^ 64
+  pub place : IsPlace (bytes_of reader.bytes) reader.cursor
+  pub telling : IsTelling (bytes_of reader.bytes) reader.telling
   pub room : length reader.telling.history ≤ reader.cursor.taken

@@ -1,5 +1,5 @@
 -- What the next sample gives by rows.
-use Rattle.std.specs.Prelude.{◌≡◌, ℕ, ◌+◌, ◌<◌, ◌≤◌, List, length, Option, Some, None, Result, Ok, Err}
+use Rattle.std.specs.Prelude.{◌≡◌, ℕ, ◌+◌, ◌<◌, ◌≤◌, List, Option, Some, None, Result, Ok, Err}
 use Rattle.sample_tables.specs.declared.samples.TheConstants.{WEIGHT_LIMIT}
 use Rattle.stack_core.specs.declared.endings.ReadKind.{ReadKind}
 use Rattle.stack_core.specs.declared.readers.RowStep.{RowStep}
@@ -37,16 +37,16 @@ IsToldSample tables total sample told told' (Ok row) =
 IsToldSample tables total sample told told' (Err kind) = (first (sample_faults tables total sample) ≡ Some kind) × (told' ≡ told)
 
 -- the sample may follow samples of this total weight
-pub record IsOneMore (outline : Outline) (next total weight : ℕ) : Type 0 where
+pub record IsOneMore (past next total weight : ℕ) : Type 0 where
   pub total_limit : total + weight ≤ WEIGHT_LIMIT
-  pub is_there : next < length outline.samples.items
+  pub is_there : next < past
 
-abbrev pub IsNextRow : List ℕ → Outline → ℕ → ℕ → ToldRows → ToldRows → RowStep → Type 0
-IsNextRow file outline next total told told' (step.New names frames weight) =
-    TellsNew told told' names frames weight (rest_from file outline next total) (rest_from file outline (next + 1) (total + weight))
-    × IsLimitedStep (step.New names frames weight) × IsOneMore outline next total weight
-IsNextRow file outline next total told told' (step.Again row weight) =
-    TellsAgain told told' row weight (rest_from file outline next total) (rest_from file outline (next + 1) (total + weight))
-    × IsLimitedStep (step.Again row weight) × IsOneMore outline next total weight
-IsNextRow file outline next total told told' (step.End ending) =
-    (rest_from file outline next total ≡ ended ending) × (told' ≡ told)
+abbrev pub IsNextRow : List ℕ → Outline → ℕ → ℕ → ℕ → ToldRows → ToldRows → RowStep → Type 0
+IsNextRow file outline past next total told told' (step.New names frames weight) =
+    TellsNew told told' names frames weight (rest_from file outline past next total) (rest_from file outline past (next + 1) (total + weight))
+    × IsLimitedStep (step.New names frames weight) × IsOneMore past next total weight
+IsNextRow file outline past next total told told' (step.Again row weight) =
+    TellsAgain told told' row weight (rest_from file outline past next total) (rest_from file outline past (next + 1) (total + weight))
+    × IsLimitedStep (step.Again row weight) × IsOneMore past next total weight
+IsNextRow file outline past next total told told' (step.End ending) =
+    (rest_from file outline past next total ≡ ended ending) × (told' ≡ told)

@@ -1,5 +1,5 @@
 -- What a reader's fields stand for.
-use Rattle.std.specs.Prelude.{◌≡◌, ◌≤◌, ℕ, List, length, Option, Some, None, is_some, IsSome}
+use Rattle.std.specs.Prelude.{◌≡◌, ◌≤◌, ℕ, List, Option, Some, None, is_some, IsSome}
 use Rattle.sample_tables.specs.declared.samples.TheConstants.{WEIGHT_LIMIT}
 use Rattle.stack_core.specs.declared.endings.ReadFault.{ReadFault}
 use Rattle.stack_core.specs.declared.endings.SourceEnd.{SourceEnd}
@@ -7,7 +7,10 @@ use Rattle.stack_core.specs.Reading.{Rest}
 use Rattle.run_options.specs.declared.choices.Pick.{Pick}
 use Rattle.run_options.specs.declared.choices.Naming.{Naming}
 use Rattle.profile_messages.specs.SampleTypes.{chosen_type}
+use Rattle.std.specs.Arc.{arc_value}
+use Rattle.stack_core.specs.Parts.{bytes_of}
 use Rattle.profile_tables.specs.declared.outline.Outline.{Outline}
+use Rattle.profile_tables.specs.declared.part.Part.{Part}
 use Rattle.profile_tables.specs.declared.reader.PprofReader.TheInside.{Inside}
 use Rattle.profile_tables.specs.Samples.{no_samples, read_pprof}
 use Rattle.profile_tables.specs.checked.Rests.{rest_from, ended}
@@ -17,9 +20,9 @@ use Rattle.sample_tables.specs.Rows.{ToldRows}
 use Rattle.profile_tables.specs.State.{State, nothing_told}
 
 -- before the tables were read the rest is the whole file's
-abbrev pub rest_by : List ℕ → Pick → Naming → Option Outline → ℕ → ℕ → Rest
+abbrev pub rest_by : List ℕ → Pick → Naming → Option Part → ℕ → ℕ → Rest
 rest_by file pick naming None given total = read_pprof file pick naming
-rest_by file pick naming (Some outline) given total = rest_from file outline given total
+rest_by file pick naming (Some part) given total = rest_from file (arc_value part.outline) part.past given total
 
 abbrev pub rest_or_ended : Option SourceEnd → Rest → Rest
 rest_or_ended None rest = rest
@@ -31,31 +34,34 @@ told_by (Some teller) = told_of teller
 
 abbrev pub state_of : Inside → State
 state_of a = record {
-  rest = rest_or_ended a.ended (rest_by a.bytes.items a.pick a.naming a.outline a.given a.total);
+  rest = rest_or_ended a.ended (rest_by (bytes_of a.bytes) a.pick a.naming a.part a.given a.total);
   told = told_by a.teller;
   has_ended = is_some a.ended;
-  chosen_type = chosen_type a.bytes.items a.pick;
-  has_tables = is_some a.outline;
+  chosen_type = chosen_type (bytes_of a.bytes) a.pick;
+  has_tables = is_some a.part;
 }
 
 -- the type of the chosen value is the file's
-abbrev pub IsTypeOf : List ℕ → Pick → Option Outline → Type 0
+abbrev pub IsTypeOf : List ℕ → Pick → Option Part → Type 0
 IsTypeOf file pick None = Unit {0}
-IsTypeOf file pick (Some outline) = outline.chosen_type ≡ chosen_type file pick
+IsTypeOf file pick (Some part) = (arc_value part.outline).chosen_type ≡ chosen_type file pick
 
-abbrev pub GivenBefore : Option Outline → ℕ → ℕ → Type 0
+abbrev pub GivenBefore : Option Part → ℕ → ℕ → Type 0
 GivenBefore None given total = (given ≡ 0) × (total ≡ 0)
-GivenBefore (Some outline) given total = given ≤ length outline.samples.items
+GivenBefore (Some part) given total = given ≤ part.past
 
 -- no more stacks were told than samples were given
-abbrev pub IsTellerOf : List ℕ → Option Outline → ℕ → Option Teller → Type 0
+abbrev pub IsTellerBy : List ℕ → Outline → ℕ → Option Teller → Type 0
+IsTellerBy file outline given None = Unit {0}
+IsTellerBy file outline given (Some teller) = IsTeller file outline.frames teller × (teller.count ≤ given)
+
+abbrev pub IsTellerOf : List ℕ → Option Part → ℕ → Option Teller → Type 0
 IsTellerOf file None given None = Unit {0}
 IsTellerOf file None given (Some teller) = ⊥
-IsTellerOf file (Some outline) given None = Unit {0}
-IsTellerOf file (Some outline) given (Some teller) = IsTeller file outline.frames teller × (teller.count ≤ given)
+IsTellerOf file (Some part) given teller = IsTellerBy file (arc_value part.outline) given teller
 
--- the outline is there, and nothing else is new
-pub record IsOpen (file : List ℕ) (pick : Pick) (naming : Naming) (old new : Option Outline) : Type 0 where
+-- the tables are there, and nothing else is new
+pub record IsOpen (file : List ℕ) (pick : Pick) (naming : Naming) (old new : Option Part) : Type 0 where
   pub opened : IsSome new
   pub rest : (given total : ℕ) → GivenBefore old given total → rest_by file pick naming new given total ≡ rest_by file pick naming old given total
   pub given : (given total : ℕ) → GivenBefore old given total → GivenBefore new given total
@@ -63,13 +69,13 @@ pub record IsOpen (file : List ℕ) (pick : Pick) (naming : Naming) (old new : O
   pub chosen : IsTypeOf file pick old → IsTypeOf file pick new
 
 -- the same, or the file's fault is answered
-abbrev pub IsOpened : List ℕ → Pick → Naming → Option Outline → Option Outline → Option ReadFault → Type 0
+abbrev pub IsOpened : List ℕ → Pick → Naming → Option Part → Option Part → Option ReadFault → Type 0
 IsOpened file pick naming old new None = IsOpen file pick naming old new
 IsOpened file pick naming old new (Some fault) = (old ≡ None) × (new ≡ None) × (no_samples fault ≡ read_pprof file pick naming)
 
 -- the samples that were given are some of the file's, and weigh no more than a source may
 pub record IsReader (a : Inside) : Type 0 where
-  pub given : GivenBefore a.outline a.given a.total
+  pub given : GivenBefore a.part a.given a.total
   pub total : a.total ≤ WEIGHT_LIMIT
-  pub teller : IsTellerOf a.bytes.items a.outline a.given a.teller
-  pub chosen : IsTypeOf a.bytes.items a.pick a.outline
+  pub teller : IsTellerOf (bytes_of a.bytes) a.part a.given a.teller
+  pub chosen : IsTypeOf (bytes_of a.bytes) a.pick a.part

@@ -6,7 +6,6 @@ ghost use Rattle.stack_core.specs.RowReading.{StepsByRows, IsLastStep, IsLimited
 ghost use Rattle.profile_tables.specs.State.{HasReadRow};
 
 use super::PprofReader;
-use crate::row_steps::step_by_rows;
 use crate::steps::open;
 use stack_core::{RowReader, RowStep, SourceEnd};
 use std::alloc::{AllocError, Global};
@@ -37,22 +36,16 @@ impl RowReader for PprofReader {
         if let Some(ending) = self.ended {
             return Ok(RowStep::End(ending));
         }
-        if let Some(fault) = open(
-            alloc,
-            &mut self.outline,
-            &self.bytes,
-            &self.pick,
-            self.naming,
-        )? {
+        let file = self.bytes.as_slice();
+        if let Some(fault) = open(alloc, &mut self.part, file, &self.pick, self.naming)? {
             let ending = SourceEnd::Fault(fault);
             self.ended = Some(ending);
             return Ok(RowStep::End(ending));
         }
-        let Some(outline) = &self.outline else {
+        let Some(part) = &self.part else {
             unreachable!();
         };
-        let teller = &mut self.teller;
-        let step = step_by_rows(alloc, &self.bytes, outline, teller, self.given, self.total)?;
+        let step = part.next_row(alloc, file, &mut self.teller, self.given, self.total)?;
         match &step {
             RowStep::New { weight, .. } | RowStep::Again { weight, .. } => {
                 self.given += 1;

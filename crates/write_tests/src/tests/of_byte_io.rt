@@ -4,3 +4,4 @@ mod edge;
 mod fakes;
 mod page;
 mod pieces;
+mod threads;

@@ -11,4 +11,4 @@ pub returns-clause-sent : goal.returns-clause-sent
 returns-clause-sent g c =
     let samples = all_samples (samples_of c.args.sources.now.lists) in
     let text = ap (λ (m : List Sample). concat (stack_lines m)) c.of.ensures.stacks ∙ c.of.ensures.text samples c.in_ok-merged.ensures in
-    subst (λ (text : List ℕ). Sends text (g.W.Outlet.contents c.args.out.now) (g.W.Outlet.contents c.send_text.new.out) c.send_text.result) text c.send_text.ensures.sent
+    subst (λ (text : List ℕ). Sends text (g.W.Outlet.contents c.args.out.now) (g.W.Outlet.contents c.send_long_text.new.out) c.send_long_text.result) text c.send_long_text.ensures.sent

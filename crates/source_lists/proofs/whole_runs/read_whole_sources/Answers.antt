@@ -13,13 +13,13 @@ use Rattle.source_lists.proofs.whole_runs.read_whole_sources.Goals as goal
 pub returns-clause-whole_lists : goal.returns-clause-whole_lists
 returns-clause-whole_lists g c =
     let options = c.args.options.now in
-    c.in_ok-kept.ensures.lists
+    c.in_ok-kept_run.ensures.lists
     ∙ (ap (map (kept_rest options.filter)) c.in_ok-whole.ensures.whole
     ∙ map-map (kept_rest options.filter) (whole_rest options) c.args.sources.items)
 
 pub returns-clause-whole_weight : goal.returns-clause-whole_weight
 returns-clause-whole_weight g c =
-    c.total-whole_weight.ensures.total
+    c.in_ok-kept_run.ensures.whole_weight
     ∙ ap (λ (samples : List (List Sample)). total_weight (all_samples samples))
     (samples_of_rests c.in_ok-whole.whole.lists (whole_rests_of c.args.options.now c.args.sources.items) c.in_ok-whole.ensures.whole)
 
@@ -27,5 +27,5 @@ pub returns-clause-in_order : goal.returns-clause-in_order
 returns-clause-in_order g c = record {
   pairs = interleaved c.in_ok-whole.whole.order (samples_of c.in_ok-whole.whole.lists);
   gained = c.in_ok-whole.ensures.in_order;
-  kept = c.in_ok-kept.ensures.in_order;
+  kept = c.in_ok-kept_run.ensures.in_order;
 }

@@ -1,4 +1,3 @@
-use Rattle.std.proofs.Common.{refl}
 use Rattle.profile_tables.proofs.RestLemmas.{pprof-limited}
 use Rattle.profile_tables.proofs.UnstoppedLemmas.{unstopped-read_pprof}
 use Rattle.profile_tables.proofs.reader.PprofReader.over.Goals as goal
@@ -8,6 +7,3 @@ returns-clause-limits c = pprof-limited c.args.bytes.items c.args.pick c.args.na
 
 pub returns-clause-unstopped : goal.returns-clause-unstopped
 returns-clause-unstopped c = unstopped-read_pprof c.args.bytes.items c.args.pick c.args.naming
-
-pub returns-clause-rest : goal.returns-clause-rest
-returns-clause-rest c = refl

@@ -1,0 +1,66 @@
+-- Lists of the parts of a source, one after another.
+use Rattle.std.proofs.Common.{◌≡◌, ◌∙◌, ◌<◌, ◌+◌, ◌*◌, ℕ, zero, suc, refl, ap, arith, List, [], ◌∷◌, ◌++◌, length, map, replicate, cond, false}
+use Rattle.std.specs.Prelude.{nat_eq}
+use Rattle.std.proofs.lemmas.Bool.Decides.{nat_tests}
+use Rattle.std.proofs.lemmas.List.{append-nil, get_or-append-add, get_or-map}
+use Rattle.std.proofs.lemmas.List.Folds.{sum_by-replicate}
+use Rattle.std.proofs.lemmas.List.Sums.{sum_by_push}
+use Rattle.std.proofs.lemmas.Grind.{flat_map-append}
+use Rattle.sample_tables.specs.Rows.{AreNamed, name_at, named, row_at, row_by, sample_at, stack_at}
+use Rattle.stack_core.specs.Interleaving.{IsInterleaving, count_of, list_of}
+use Rattle.stack_core.specs.Ledgers.{ListState}
+use Rattle.stack_core.specs.Parts.{ignored_of, samples_of_parts}
+use Rattle.stack_core.specs.Reading.{IsSourceLimited, Rest}
+use Rattle.run_options.specs.declared.choices.Naming.{Naming}
+use Rattle.run_options.specs.declared.choices.Pick.{Pick}
+use Rattle.run_options.specs.declared.formats.Format.{Format}
+use Rattle.run_options.specs.declared.formats.Format.TheVariants.{Folded, Pprof}
+use Rattle.folded_lines.proofs.ReadLemmas.{IsSourceLimited-read_folded}
+use Rattle.profile_tables.proofs.RestLemmas.{pprof-limited}
+use Rattle.merged_stacks.specs.Timeline.{samples_of}
+use Rattle.source_lists.specs.Sources.{read_bytes}
+use Rattle.source_lists.specs.checked.Parts.{ignored_by, moved}
+use Rattle.source_lists.proofs.KeptLemmas.{taken_again}
+
+-- ---- samples of stacks that stand behind others
+
+name_behind : (names told : List (List ℕ)) (frames : List ℕ) → map (name_at (names ++ told)) (moved (length names) frames) ≡ map (name_at told) frames
+name_behind names told [] = refl
+name_behind names told (k ∷ frames) = λ i. get_or-append-add names told k [] i ∷ name_behind names told frames i
+
+-- a sample that is taken again by its stack, which stands behind others
+pub taken_behind : (names stacks : List (List ℕ)) (list : ListState) (i n w : ℕ) → AreNamed list.told list.rows list.samples → i < length list.samples → n < length list.stacks
+    → stack_at list.stacks n ≡ (row_at list.rows i).frames → w ≡ (sample_at list.samples i).weight
+    → named (names ++ list.told) (row_by (stacks ++ map (moved (length names)) list.stacks) (record { stack = length stacks + n; weight = w })) ≡ sample_at list.samples i
+taken_behind names stacks list i n w h within kept same weight =
+    let behind : stack_at (stacks ++ map (moved (length names)) list.stacks) (length stacks + n) ≡ moved (length names) (stack_at list.stacks n) =
+    get_or-append-add stacks (map (moved (length names)) list.stacks) n [] ∙ get_or-map (moved (length names)) list.stacks n [] [] kept in
+    (λ j. record { stack = map (name_at (names ++ list.told)) (behind j); weight = w })
+    ∙ ((λ j. record { stack = name_behind names list.told (stack_at list.stacks n) j; weight = w })
+    ∙ taken_again list i n w h within same weight)
+
+-- ---- one part more
+
+pub samples_more : (parts : List Rest) (part : Rest) → samples_of_parts (parts ++ part ∷ []) ≡ samples_of_parts parts ++ part.samples
+samples_more parts part =
+    flat_map-append (λ (part : Rest). part.samples) parts (part ∷ []) ∙ ap (λ t. samples_of_parts parts ++ t) (append-nil part.samples)
+
+pub ignored_more : (parts : List Rest) (part : Rest) → ignored_by (parts ++ part ∷ []) ≡ ignored_by parts + ignored_of part.ending
+ignored_more parts part = sum_by_push (λ (part : Rest). ignored_of part.ending) parts part
+
+-- ---- one list
+
+-- any order is one of one list
+pub order_of_one : (list : ListState) (order : List ℕ) → order ≡ replicate (length list.samples) 0 → IsInterleaving order (samples_of (list ∷ []))
+order_of_one list order is = record { as_often = λ source. ap (count_of source) is ∙ often source }
+  where
+    often : (source : ℕ) → count_of source (replicate (length list.samples) 0) ≡ length (list_of (samples_of (list ∷ [])) source)
+    often zero = sum_by-replicate (λ entry. cond (nat_eq entry 0) 1 0) (length list.samples) 0 ∙ omega arith
+    often (suc source) =
+        let apart : nat_eq 0 (suc source) ≡ false = grind (arith, nat_tests) in
+        sum_by-replicate (λ entry. cond (nat_eq entry (suc source)) 1 0) (length list.samples) 0
+        ∙ (ap (λ b. length list.samples * cond b 1 0) apart ∙ omega arith)
+
+pub limited_bytes : (format : Format) (bytes : List ℕ) (pick : Pick) (naming : Naming) → IsSourceLimited (read_bytes format bytes pick naming).samples
+limited_bytes Folded bytes pick naming = IsSourceLimited-read_folded bytes
+limited_bytes Pprof bytes pick naming = pprof-limited bytes pick naming

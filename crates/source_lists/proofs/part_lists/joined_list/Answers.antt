@@ -1,0 +1,6 @@
+use Rattle.std.proofs.Common.{ap}
+use Rattle.stack_core.specs.Ledgers.{LedgerState}
+use Rattle.source_lists.proofs.part_lists.joined_list.Goals as goal
+
+pub into_list-requires : goal.into_list-requires
+into_list-requires c = (_, ap (λ (ledger : LedgerState). ledger.close) c.close.ensures)
