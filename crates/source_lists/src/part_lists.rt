@@ -1,6 +1,6 @@
 //! The lists of the parts of a source, put together.
 
-ghost use Rattle.std.specs.Prelude.{◌≡◌, ◌≤◌, ◌<◌, ◌+◌, ◌++◌, ℕ, All, None, IfOk, IfSome, OnOk, length, map};
+ghost use Rattle.std.specs.Prelude.{◌≡◌, ◌≤◌, ◌<◌, ◌+◌, ◌++◌, All, None, IfOk, IfSome, OnOk, length, map};
 ghost use Rattle.sample_tables.specs.Samples.{total_weight};
 ghost use Rattle.sample_tables.specs.declared.samples.TheConstants.{WEIGHT_LIMIT as MOST};
 ghost use Rattle.stack_core.specs.Parts.{IsClean, joined, samples_of_parts};

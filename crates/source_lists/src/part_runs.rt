@@ -2,7 +2,6 @@
 
 ghost use Rattle.std.specs.Prelude.{◌≡◌, ◌≤◌, ◌<◌, ℕ, [], ◌∷◌, IfOk, IfSome, IsErrOf, MatchResult, length};
 ghost use Rattle.stack_core.specs.Interleaving.{IsInterleaving};
-ghost use Rattle.stack_core.specs.Reading.{IsSourceLimited};
 ghost use Rattle.merged_stacks.specs.Timeline.{samples_of};
 ghost use Rattle.ring_collect.specs.Collection.{AreWhole, seen_as_rest};
 ghost use Rattle.source_lists.specs.Sources.{read_bytes, rests_of, weight_of_sources, whole_rest, whole_rests_of};
