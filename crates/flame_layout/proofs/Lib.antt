@@ -1,5 +1,6 @@
 pub mod Ascending
 pub mod Chained
+pub mod ChartFronts
 pub mod ChartLaws
 pub mod ComparedBoxes
 pub mod Depths
@@ -8,8 +9,10 @@ pub mod Geometry
 pub mod GraphBoxes
 pub mod Held
 pub mod InStep
+pub mod KeptRuns
 pub mod LawProofs
 pub mod MergedSums
+pub mod NamedRuns
 pub mod Order
 pub mod PairedRows
 pub mod PathWords

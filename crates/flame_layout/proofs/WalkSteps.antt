@@ -42,14 +42,14 @@ names_of-at (x ∷ xs) i d h =
     get_or-map (λ run. run.name.now) xs i d [] (omega arith) ∙ (rw (add-one i) refl)
 
 -- a run that is taken off the end of those that are left
-pub popped_left : (all now new : List OpenRun) (r : OpenRun) → now ≡ take (length now) all → now ≡ new ++ r ∷ [] → new ≡ take (length new) all
+pub popped_left : {A : Type 0} (all now new : List A) (r : A) → now ≡ take (length now) all → now ≡ new ++ r ∷ [] → new ≡ take (length new) all
 popped_left all now new r e h =
     let longer : length now ≡ length new + 1 = ap length h ∙ length_push new r in
     let cut : take (length new) (take (length now) all) ≡ take (length new) all = take-take (length new) (length now) all (omega arith) in
     let front : take (length new) (new ++ r ∷ []) ≡ new = take_at new (r ∷ []) (length new) refl in
     sym front ∙ (ap (take (length new)) (sym h ∙ e) ∙ cut)
 
-pub popped_run : (all now new : List OpenRun) (r d : OpenRun) → now ≡ take (length now) all → now ≡ new ++ r ∷ [] → get_or all (length new) d ≡ r
+pub popped_run : {A : Type 0} (all now new : List A) (r d : A) → now ≡ take (length now) all → now ≡ new ++ r ∷ [] → get_or all (length new) d ≡ r
 popped_run all now new r d e h =
     let longer : length now ≡ length new + 1 = ap length h ∙ length_push new r in
     let last : get_or (new ++ r ∷ []) (length new) d ≡ r = get_or_at new r [] d (length new) refl in

@@ -22,7 +22,7 @@ pub record GoOn (keep : ℕ) (stack : Stack) (start : ℕ) (runs : List Run) (re
   pub same : (k : ℕ) (d : Run) → k < keep → get_or runs k d ≡ run_of stack start rest k
   pub others : (k : ℕ) → keep ≤ k → run_at k stack rest ≡ []
 
-box_name-alike : (k : ℕ) (a b : Stack) → IsAlike k a b → box_name k a ≡ box_name k b
+pub box_name-alike : (k : ℕ) (a b : Stack) → IsAlike k a b → box_name k a ≡ box_name k b
 box_name-alike zero a b h = refl
 box_name-alike (suc k) a b h =
     sym (get_or-take (suc k) a k [] (omega arith)) ∙ (ap (λ s. get_or s k []) h.same ∙ get_or-take (suc k) b k [] (omega arith))

@@ -3,6 +3,9 @@
 #![tactic(auto)]
 
 mod boxes;
+mod chart;
+mod chart_runs;
+mod chart_walks;
 mod charts;
 mod comparisons;
 mod flame_boxes;
@@ -12,6 +15,7 @@ pub mod laws;
 mod walks;
 
 pub use boxes::{ComparedBox, DrawnBox, DrawnPair, PairRow, PlacedBox, SpanBox};
+pub use chart::Chart;
 pub use charts::{chart_boxes, draw_chart};
 pub use comparisons::{compare, compared_boxes, draw_comparison, draw_paired};
 pub use flame_boxes::FlameBox;

@@ -48,7 +48,7 @@ fn shared<S: StackRows>(list: &S, at: usize, runs: &[OpenRun<'_>]) -> usize
 }
 
 /// With how many names the stacks of two samples of a list begin alike.
-fn shared_in_list<S: StackRows>(list: &S, at: usize, later: usize) -> usize
+pub(crate) fn shared_in_list<S: StackRows>(list: &S, at: usize, later: usize) -> usize
     requires at { at < length (S.samples list.now) }
     requires later { later < length (S.samples list.now) }
     ensures is { result ≡ names_shared (sample_at (S.samples list.now) at).stack
@@ -60,6 +60,25 @@ fn shared_in_list<S: StackRows>(list: &S, at: usize, later: usize) -> usize
     let most = list.depth(at).min(list.depth(later));
     for frame in 0..most {
         if !list.is_same_name(at, later, frame) {
+            return frame;
+        }
+    }
+    most
+}
+
+/// With how many names the stacks of samples of two lists begin alike.
+pub(crate) fn shared_between<S: StackRows>(list: &S, at: usize, other: &S, later: usize) -> usize
+    requires at { at < length (S.samples list.now) }
+    requires later { later < length (S.samples other.now) }
+    ensures is { result ≡ names_shared (sample_at (S.samples list.now) at).stack
+        (sample_at (S.samples other.now) later).stack }
+    ensures deep { result ≤ length (sample_at (S.samples list.now) at).stack }
+    ensures wide { result ≤ length (sample_at (S.samples other.now) later).stack }
+    ensures small { result ≤ FRAME_LIMIT }
+{
+    let most = list.depth(at).min(other.depth(later));
+    for frame in 0..most {
+        if list.name(at, frame) != other.name(later, frame) {
             return frame;
         }
     }
@@ -151,7 +170,7 @@ pub(crate) fn open_runs<'a, S: StackRows>(
     Ok(())
 }
 
-fn frame_name<S: StackRows>(list: &S, at: usize, depth: usize) -> &str
+pub(crate) fn frame_name<S: StackRows>(list: &S, at: usize, depth: usize) -> &str
     requires at { at < length (S.samples list.now) }
     requires deep { depth ≤ length (sample_at (S.samples list.now) at).stack }
     ensures { result.now ≡ box_name depth (sample_at (S.samples list.now) at).stack }

@@ -1,5 +1,6 @@
 //! Worked examples.
 
+pub(super) mod charts;
 pub(super) mod comparisons;
 pub(super) mod drawn;
 pub(super) mod merged;

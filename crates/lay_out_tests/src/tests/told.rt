@@ -1,5 +1,6 @@
 //! What is told of sources, as a text.
 
+use super::of_flame_layout::charts::append_compact_chart;
 use super::of_flame_layout::comparisons::{append_compared_boxes, append_row_boxes, append_rows};
 use super::of_flame_layout::drawn::{append_drawn_chart, append_drawn_edges, append_drawn_graph};
 use super::of_flame_layout::merged::append_graph;
@@ -25,6 +26,8 @@ pub enum Told {
     PlacedChart(u32),
     /// The boxes of their chart, with names that the lists lend.
     DrawnChart,
+    /// The same boxes, kept in little memory.
+    CompactChart,
     /// The boxes of the tree of one source, in an image of this width.
     PlacedGraph(u32),
     Merged(OfMerged),
@@ -120,6 +123,7 @@ fn append_told(
         Told::Chart => append_chart(rt, text, lists),
         Told::PlacedChart(width) => append_placed_chart(rt, text, lists, *width),
         Told::DrawnChart => append_drawn_chart(rt, text, lists),
+        Told::CompactChart => append_compact_chart(rt, text, lists),
         Told::PlacedGraph(width) => {
             assert!(rt; lists.len() == 1);
             append_placed_graph(rt, text, &lists[0], *width)
