@@ -52,7 +52,8 @@ impl<'a> Chart<'a> {
 
     /// How many boxes there are.
     pub fn len(&self) -> usize
-        ensures { result ≡ length self.now }
+        ensures count { result ≡ length self.now }
+        ensures few { length self.now < 2 ^ 63 }
     {
         self.runs.len()
     }

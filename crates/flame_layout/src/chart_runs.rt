@@ -1,6 +1,6 @@
 //! The boxes of a chart by the samples at which they begin.
 
-ghost use Rattle.std.specs.Prelude.{◌≡◌, ℕ, ◌<◌, ◌≤◌, ◌++◌, ◌∷◌, [], List, IfOk, OnOk, length, slice_index_or};
+ghost use Rattle.std.specs.Prelude.{◌≡◌, ℕ, ◌<◌, ◌≤◌, ◌^◌, ◌++◌, ◌∷◌, [], List, IfOk, OnOk, length, slice_index_or};
 ghost use Rattle.flame_layout.specs.declared.boxes.SpanBox.{SpanBox as Span};
 ghost use Rattle.flame_layout.specs.declared.chart_runs.RunStart.{RunStart as Start};
 ghost use Rattle.flame_layout.specs.Boxes.{span_of};
@@ -72,7 +72,8 @@ impl<'a> ChartRuns<'a> {
     }
 
     pub(crate) fn len(&self) -> usize
-        ensures { result ≡ length self.now.spans }
+        ensures count { result ≡ length self.now.spans }
+        ensures few { length self.now.spans < 2 ^ 63 }
     {
         self.runs.len()
     }
