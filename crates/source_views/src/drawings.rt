@@ -1,13 +1,12 @@
 //! The boxes of what was collected.
-ghost use Rattle.std.specs.Prelude.{◌≡◌, IfOk, map};
-ghost use Rattle.flame_layout.specs.Boxes.{span_of};
+ghost use Rattle.std.specs.Prelude.{◌≡◌, IfOk};
 ghost use Rattle.flame_layout.specs.Chart.{chart_of};
 ghost use Rattle.flame_layout.specs.Graph.{graph_of};
 ghost use Rattle.flame_layout.specs.Paths.{SameOwn};
 ghost use Rattle.merged_stacks.specs.Timeline.{samples_of, timeline};
 ghost use Rattle.merging.specs.Sums.{all_samples};
 
-use flame_layout::{DrawnBox, MergedStacks, SpanBox, chart_boxes, merged_boxes};
+use flame_layout::{Chart, MergedStacks, SpanBox, chart_boxes, merged_boxes};
 use merging::SourceLists;
 use std::alloc::{AllocError, Global};
 use std::thread::Threads;
@@ -47,13 +46,9 @@ pub(crate) fn draw_chart(alloc: Global, sources: &SourceLists) -> Result<Vec<Spa
     chart_boxes(alloc, sources.lists())
 }
 
-/// The same boxes, with names that the sources lend.
-pub fn lend_chart<'a>(
-    alloc: Global,
-    sources: &'a SourceLists,
-) -> Result<Vec<DrawnBox<'a>>, AllocError>
-    ensures { IfOk result (λ boxes.
-        map span_of boxes.items ≡ chart_of (timeline (samples_of sources.now.lists))) }
+/// The same boxes in little memory, with names that the sources lend.
+pub fn lend_chart<'a>(alloc: Global, sources: &'a SourceLists) -> Result<Chart<'a>, AllocError>
+    ensures { IfOk result (λ chart. chart ≡ chart_of (timeline (samples_of sources.now.lists))) }
 {
-    flame_layout::draw_chart(alloc, sources.lists())
+    Chart::of(alloc, sources.lists())
 }

@@ -24,11 +24,11 @@ pub(crate) fn chart_line<'a>(
     sources: &SourceLists,
     boxes: &'a [SpanBox],
     width: Width,
-) -> JsonLine<'a, SpanBox>
+) -> JsonLine<'a, &'a [SpanBox]>
     requires boxes { boxes.now ≡ chart_of (timeline (samples_of sources.now.lists)) }
-    ensures text { concat (⟦<JsonLine<'a, SpanBox> as Pieces>⟧.pieces result)
+    ensures text { concat (⟦<JsonLine<'a, &'a [SpanBox]> as Pieces>⟧.pieces result)
         ≡ chart_text width (samples_of sources.now.lists) }
-    ensures few { length (⟦<JsonLine<'a, SpanBox> as Pieces>⟧.pieces result) < 2 ^ 64 }
+    ensures few { length (⟦<JsonLine<'a, &'a [SpanBox]> as Pieces>⟧.pieces result) < 2 ^ 64 }
 {
     let total = sources.total();
     picture_line("chart", boxes, Scale { total, width })
@@ -39,13 +39,13 @@ pub(crate) fn graph_line<'a>(
     sources: &SourceLists,
     boxes: &'a [SpanBox],
     width: Width,
-) -> JsonLine<'a, SpanBox>
+) -> JsonLine<'a, &'a [SpanBox]>
     requires boxes { boxes.now ≡ graph_of (all_samples (samples_of sources.now.lists)) }
-    ensures text { concat (⟦<JsonLine<'a, SpanBox> as Pieces>⟧.pieces result)
+    ensures text { concat (⟦<JsonLine<'a, &'a [SpanBox]> as Pieces>⟧.pieces result)
         ≡ graph_line width (all_samples (samples_of sources.now.lists)) }
-    ensures count { length (⟦<JsonLine<'a, SpanBox> as Pieces>⟧.pieces result)
+    ensures count { length (⟦<JsonLine<'a, &'a [SpanBox]> as Pieces>⟧.pieces result)
         ≡ length boxes.now + 2 }
-    ensures few { length (⟦<JsonLine<'a, SpanBox> as Pieces>⟧.pieces result) < 2 ^ 64 }
+    ensures few { length (⟦<JsonLine<'a, &'a [SpanBox]> as Pieces>⟧.pieces result) < 2 ^ 64 }
 {
     let total = sources.total();
     picture_line("graph", boxes, Scale { total, width })
@@ -72,7 +72,7 @@ impl Pieces for SnapshotLines<'_> {
 }
 
 // The text of a graph: the lines of its snapshots, and then its own.
-pub(crate) type GraphText<'a> = Chain<SnapshotLines<'a>, JsonLine<'a, SpanBox>>;
+pub(crate) type GraphText<'a> = Chain<SnapshotLines<'a>, JsonLine<'a, &'a [SpanBox]>>;
 
 // The line of each snapshot, and then that of the graph.
 pub(crate) fn graph_text<'a>(

@@ -1,3 +1,4 @@
+pub mod BoxLists
 pub mod FoldRows
 pub mod Fronts
 pub mod JsonBytes

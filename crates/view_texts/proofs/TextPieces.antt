@@ -70,7 +70,8 @@ later_piece [] at d within = absurd (omega arith)
 later_piece (value ∷ values) zero d within = refl
 later_piece (value ∷ values) (suc at) d within = later_piece values at d (omega arith)
 
-value_piece : (values : List Data) (at : ℕ) (d : Data) → at < length values → get_or (value_pieces false values) at [] ≡ comma_if (ltb 0 at) ++ compact_text (get_or values at d)
+-- the piece of a value among those of the values alone
+pub value_piece : (values : List Data) (at : ℕ) (d : Data) → at < length values → get_or (value_pieces false values) at [] ≡ comma_if (ltb 0 at) ++ compact_text (get_or values at d)
 value_piece [] at d within = absurd (omega arith)
 value_piece (value ∷ values) zero d within = refl
 value_piece (value ∷ values) (suc at) d within = later_piece values at d (omega arith) ∙ ap (λ later. comma_if later ++ compact_text (get_or values at d)) (sym (lt-ltb 0 (suc at) (omega arith)))
@@ -82,24 +83,20 @@ line_pieces-text head tail values =
 pub length-line_pieces : (head tail : List ℕ) (values : List Data) → length (line_pieces head values tail) ≡ length values + 2
 length-line_pieces head tail values = omega (arith, length-append (value_pieces false values) (tail ∷ []), length-value_pieces false values)
 
--- the piece of a box
+-- the same in a line
+pub piece_in_line : (head tail : List ℕ) (values : List Data) (at place : ℕ) → at ≡ place + 1 → place < length values → get_or (line_pieces head values tail) at [] ≡ get_or (value_pieces false values) place []
+piece_in_line head tail values at place is within =
+    let suc_is : at ≡ suc place = omega (arith, is) in
+    ap (λ n. get_or (line_pieces head values tail) n []) suc_is ∙ get_or_append_left (value_pieces false values) (tail ∷ []) [] place (omega (arith, length-value_pieces false values))
+
+-- the piece of a box there
 pub box_piece : {B : Type 0} (object : B → Data) (boxes : List B) (head tail : List ℕ) (at place : ℕ) (item : B) → at ≡ place + 1 → place < length boxes
     → get_or (line_pieces head (map object boxes) tail) at [] ≡ comma_if (ltb 0 place) ++ compact_text (object (get_or boxes place item))
-box_piece object boxes head tail at place item e within =
+box_piece object boxes head tail at place item is within =
     let values = map object boxes in
-    ap (λ n. get_or (line_pieces head values tail) n []) (e ∙ suc_is place) ∙ get_or_append_left (value_pieces false values) (tail ∷ []) [] place (omega (arith, length-value_pieces false values, length-map boxes object))
-    ∙ value_piece values place (object item) (omega (arith, length-map boxes object))
+    let there : place < length values = omega (arith, length-map boxes object) in
+    piece_in_line head tail values at place is there ∙ value_piece values place (object item) there
     ∙ ap (λ value. comma_if (ltb 0 place) ++ compact_text value) (get_or-map object boxes place item (object item) within)
-  where
-    suc_is : (n : ℕ) → n + 1 ≡ suc n
-    suc_is n = omega arith
-
--- the same among the pieces of the boxes alone
-pub item_piece : {B : Type 0} (object : B → Data) (boxes : List B) (place : ℕ) (item : B) → place < length boxes → item ≡ get_or boxes place item
-    → get_or (value_pieces false (map object boxes)) place [] ≡ comma_if (ltb 0 place) ++ compact_text (object item)
-item_piece object boxes place item within is =
-    value_piece (map object boxes) place (object item) (omega (arith, length-map boxes object))
-    ∙ ap (λ value. comma_if (ltb 0 place) ++ compact_text value) (get_or-map object boxes place item (object item) within ∙ ap object (sym is))
 
 -- the pieces of some boxes
 pub items_pieces : (head tail : List ℕ) (values : List Data) (at place end next : ℕ) → at ≡ place + 1 → next ≡ end + 1 → place ≤ end → end ≤ length values

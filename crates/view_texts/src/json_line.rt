@@ -1,14 +1,13 @@
 //! A line of JSON, piece by piece.
 
-ghost use Rattle.std.specs.Prelude.{◌≡◌, ◌+◌, ◌<◌, ◌≤◌, ◌^◌, ◌++◌, false, All, length, map, slice_range, OnOk};
+ghost use Rattle.std.specs.Prelude.{◌≡◌, ◌+◌, ◌<◌, ◌≤◌, ◌^◌, ◌++◌, [], false, All, length, slice_index_or, slice_range, OnOk};
 ghost use Rattle.std.specs.Io.{StartsWith};
 ghost use Rattle.std.specs.List.{concat};
-ghost use Rattle.serde_json.specs.Written.{comma_if, compact_text};
 ghost use Rattle.view_texts.specs.Lines.{head_of, counts_of, tail_of, ending_of, line_text};
 ghost use Rattle.view_texts.specs.Pieces.{line_pieces, value_pieces};
 
+use crate::box_lists::JsonBoxes;
 use crate::box_writers::BoxWriter;
-use crate::json_boxes::JsonBox;
 use crate::json_pieces::{append_comma, append_number, append_numbers, append_text};
 use crate::line_kinds::LineKind;
 use crate::scales::Scale;
@@ -17,32 +16,32 @@ use std::alloc::{AllocError, Global};
 
 /// A line of JSON with boxes. What stands before them, each box, and what stands after them is a piece.
 #[derive(Drop)]
-pub struct JsonLine<'a, B: JsonBox> {
+pub struct JsonLine<'a, L: JsonBoxes> {
     kind: LineKind,
     view: &'a str,
     counts: &'a [u64],
-    boxes: &'a [B],
+    boxes: L,
     scale: Scale,
-    ghost within: { All (λ item. B.end item ≤ scale.total) boxes.now },
-    ghost positive: { 0 < length boxes.now → 0 < scale.total },
+    ghost within: { All (λ end. end ≤ scale.total) (L.ends boxes) },
+    ghost positive: { 0 < L.count boxes → 0 < scale.total },
 }
 
-impl<'a, B: JsonBox> JsonLine<'a, B> {
+impl<'a, L: JsonBoxes> JsonLine<'a, L> {
     // The line of these boxes, in an image of that scale. Counts are those of a snapshot.
     pub(crate) fn of(
         kind: LineKind,
         view: &'a str,
         counts: &'a [u64],
-        boxes: &'a [B],
+        boxes: L,
         scale: Scale,
-    ) -> JsonLine<'a, B>
-        requires within { All (λ item. B.end item ≤ scale.total) boxes.now }
-        requires positive { 0 < length boxes.now → 0 < scale.total }
-        ensures text { concat (⟦<JsonLine<'a, B> as Pieces>⟧.pieces result)
+    ) -> JsonLine<'a, L>
+        requires within { All (λ end. end ≤ scale.total) (L.ends boxes) }
+        requires positive { 0 < L.count boxes → 0 < scale.total }
+        ensures text { concat (⟦<JsonLine<'a, L> as Pieces>⟧.pieces result)
             ≡ line_text kind counts.now view.now scale.total scale.width
-            (map (B.object_of scale.total scale.width) boxes.now) }
-        ensures count { length (⟦<JsonLine<'a, B> as Pieces>⟧.pieces result)
-            ≡ length boxes.now + 2 }
+            (L.objects scale.total scale.width boxes) }
+        ensures count { length (⟦<JsonLine<'a, L> as Pieces>⟧.pieces result)
+            ≡ L.count boxes + 2 }
     {
         JsonLine {
             kind,
@@ -54,22 +53,21 @@ impl<'a, B: JsonBox> JsonLine<'a, B> {
     }
 }
 
-impl<B: JsonBox> Pieces for JsonLine<'_, B> {
+impl<L: JsonBoxes> Pieces for JsonLine<'_, L> {
     ghost pieces = { λ line. line_pieces (head_of line.kind)
-        (map (B.object_of line.scale.total line.scale.width) line.boxes.now)
+        (L.objects line.scale.total line.scale.width line.boxes)
         (tail_of line.kind line.counts.now line.view.now line.scale.total line.scale.width) };
 
     fn count(&self) -> usize {
-        self.boxes.len() + 2
+        self.boxes.count() + 2
     }
 
     fn append_piece(&self, alloc: Global, at: usize, out: &mut Vec<u8>) -> Result<(), AllocError> {
         if at == 0 {
             append_head(out, self.kind)
-        } else if at <= self.boxes.len() {
-            let place = at - 1;
+        } else if at <= self.boxes.count() {
             let writer = &mut BoxWriter::of(self.scale);
-            append_item(alloc, out, place > 0, &self.boxes[place], writer)
+            append_item(alloc, out, &self.boxes, at - 1, writer)
         } else {
             append_tail(alloc, out, self.kind, self.view, self.counts, &self.scale)
         }
@@ -82,13 +80,13 @@ impl<B: JsonBox> Pieces for JsonLine<'_, B> {
         at: usize,
         out: &mut Vec<u8>,
     ) -> Result<usize, AllocError> {
-        let last = self.boxes.len();
+        let last = self.boxes.count();
         if at == 0 || at > last {
             self.append_piece(alloc, at, out)?;
             return Ok(at + 1);
         }
         let end = end_of_some(at, last);
-        append_items(alloc, out, self.boxes, at - 1, end, &self.scale)?;
+        append_items(alloc, out, &self.boxes, at - 1, end, &self.scale)?;
         Ok(end + 1)
     }
 }
@@ -103,27 +101,47 @@ fn end_of_some(at: usize, last: usize) -> usize
 }
 
 // Appends the boxes from a place on, each after a comma where another stands before it.
-fn append_items<B: JsonBox>(
+fn append_items<L: JsonBoxes>(
     alloc: Global,
     out: &mut Vec<u8>,
-    boxes: &[B],
+    boxes: &L,
     from: usize,
     end: usize,
     scale: &Scale,
 ) -> Result<(), AllocError>
     requires from { from ≤ end }
-    requires end { end ≤ length boxes.now }
-    requires within { All (λ item. B.end item ≤ scale.now.total) boxes.now }
+    requires end { end ≤ L.count boxes.now }
+    requires within { All (λ end. end ≤ scale.now.total) (L.ends boxes.now) }
     requires positive { 0 < scale.now.total }
     ensures ok { OnOk result (out.new.items ≡ out.old.items ++ concat (slice_range
-        (value_pieces false (map (B.object_of scale.now.total scale.now.width) boxes.now)) from end)) }
+        (value_pieces false (L.objects scale.now.total scale.now.width boxes.now)) from end)) }
     ensures front { StartsWith out.new.items out.old.items }
 {
     let mut writer = BoxWriter::of(*scale);
     for place in from..end {
-        append_item(alloc, out, place > 0, &boxes[place], &mut writer)?;
+        append_item(alloc, out, boxes, place, &mut writer)?;
     }
     Ok(())
+}
+
+// Appends the box at a place, after a comma where another stands before it.
+fn append_item<L: JsonBoxes>(
+    alloc: Global,
+    out: &mut Vec<u8>,
+    boxes: &L,
+    place: usize,
+    writer: &mut BoxWriter,
+) -> Result<(), AllocError>
+    requires there { place < L.count boxes.now }
+    requires within { All (λ end. end ≤ writer.old.total) (L.ends boxes.now) }
+    requires positive { 0 < writer.old.total }
+    ensures ok { OnOk result (out.new.items ≡ out.old.items ++ slice_index_or
+        (value_pieces false (L.objects writer.old.total writer.old.width boxes.now)) place []) }
+    ensures front { StartsWith out.new.items out.old.items }
+    ensures scale { writer.new ≡ writer.old }
+{
+    append_comma(out, place > 0)?;
+    boxes.append_box(alloc, out, place, writer)
 }
 
 // Appends what stands before the boxes.
@@ -142,25 +160,6 @@ fn append_head(out: &mut Vec<u8>, kind: LineKind) -> Result<(), AllocError>
             out.extend_from_slice(b",\"boxes\":[")
         }
     }
-}
-
-// Appends a box, after a comma where another stands before it.
-fn append_item<B: JsonBox>(
-    alloc: Global,
-    out: &mut Vec<u8>,
-    later: bool,
-    item: &B,
-    writer: &mut BoxWriter,
-) -> Result<(), AllocError>
-    requires within { B.end item.now ≤ writer.old.total }
-    requires positive { 0 < writer.old.total }
-    ensures ok { OnOk result (out.new.items ≡ out.old.items
-        ++ (comma_if later ++ compact_text (B.object_of writer.old.total writer.old.width item.now))) }
-    ensures front { StartsWith out.new.items out.old.items }
-    ensures scale { writer.new ≡ writer.old }
-{
-    append_comma(out, later)?;
-    item.append_with(alloc, out, writer)
 }
 
 // Appends what stands after the boxes.

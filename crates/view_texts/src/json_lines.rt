@@ -10,18 +10,22 @@ use crate::json_line::JsonLine;
 use crate::line_kinds::LineKind;
 use crate::scales::Scale;
 use byte_io::{Pieces, append_pieces};
-use flame_layout::{ComparedBox, DrawnBox, DrawnPair, SpanBox};
+use flame_layout::{Chart, ComparedBox, DrawnBox, DrawnPair, SpanBox};
 use std::alloc::{AllocError, Global};
 
 /// The line of a picture, as `append_boxes_line` appends it.
-pub fn picture_line<'a>(view: &'a str, boxes: &'a [SpanBox], scale: Scale) -> JsonLine<'a, SpanBox>
+pub fn picture_line<'a>(
+    view: &'a str,
+    boxes: &'a [SpanBox],
+    scale: Scale,
+) -> JsonLine<'a, &'a [SpanBox]>
     requires within { All (λ span. span.start + span.weight ≤ scale.total) boxes.now }
     requires positive { 0 < length boxes.now → 0 < scale.total }
-    ensures text { concat (⟦<JsonLine<'a, SpanBox> as Pieces>⟧.pieces result)
+    ensures text { concat (⟦<JsonLine<'a, &'a [SpanBox]> as Pieces>⟧.pieces result)
         ≡ boxes_line view.now scale.total scale.width boxes.now }
-    ensures count { length (⟦<JsonLine<'a, SpanBox> as Pieces>⟧.pieces result)
+    ensures count { length (⟦<JsonLine<'a, &'a [SpanBox]> as Pieces>⟧.pieces result)
         ≡ length boxes.now + 2 }
-    ensures few { length (⟦<JsonLine<'a, SpanBox> as Pieces>⟧.pieces result) < 2 ^ 64 }
+    ensures few { length (⟦<JsonLine<'a, &'a [SpanBox]> as Pieces>⟧.pieces result) < 2 ^ 64 }
 {
     let _count = boxes.len();
     JsonLine::of(LineKind::Picture, view, &[], boxes, scale)
@@ -32,18 +36,36 @@ pub fn drawn_line<'a>(
     view: &'a str,
     boxes: &'a [DrawnBox<'a>],
     scale: Scale,
-) -> JsonLine<'a, DrawnBox<'a>>
+) -> JsonLine<'a, &'a [DrawnBox<'a>]>
     requires within { All (λ drawn. drawn.start + drawn.weight ≤ scale.total) boxes.now }
     requires positive { 0 < length boxes.now → 0 < scale.total }
-    ensures text { concat (⟦<JsonLine<'a, DrawnBox<'a>> as Pieces>⟧.pieces result)
+    ensures text { concat (⟦<JsonLine<'a, &'a [DrawnBox<'a>]> as Pieces>⟧.pieces result)
         ≡ boxes_line view.now scale.total scale.width (map span_of boxes.now) }
-    ensures count { length (⟦<JsonLine<'a, DrawnBox<'a>> as Pieces>⟧.pieces result)
+    ensures count { length (⟦<JsonLine<'a, &'a [DrawnBox<'a>]> as Pieces>⟧.pieces result)
         ≡ length boxes.now + 2 }
-    ensures few { length (⟦<JsonLine<'a, DrawnBox<'a>> as Pieces>⟧.pieces result) < 2 ^ 64 }
+    ensures few { length (⟦<JsonLine<'a, &'a [DrawnBox<'a>]> as Pieces>⟧.pieces result) < 2 ^ 64 }
 {
     let _count = boxes.len();
     let kind = LineKind::Picture;
     JsonLine::of(kind, view, &[], boxes, scale)
+}
+
+/// The line of `picture_line`, of the boxes of a chart.
+pub fn drawn_chart_line<'a, 'n>(
+    view: &'a str,
+    chart: &'a Chart<'n>,
+    scale: Scale,
+) -> JsonLine<'a, &'a Chart<'n>>
+    requires within { All (λ span. span.start + span.weight ≤ scale.total) chart.now }
+    requires positive { 0 < length chart.now → 0 < scale.total }
+    ensures text { concat (⟦<JsonLine<'a, &'a Chart<'n>> as Pieces>⟧.pieces result)
+        ≡ boxes_line view.now scale.total scale.width chart.now }
+    ensures count { length (⟦<JsonLine<'a, &'a Chart<'n>> as Pieces>⟧.pieces result)
+        ≡ length chart.now + 2 }
+    ensures few { length (⟦<JsonLine<'a, &'a Chart<'n>> as Pieces>⟧.pieces result) < 2 ^ 64 }
+{
+    let _count = chart.len();
+    JsonLine::of(LineKind::Picture, view, &[], chart, scale)
 }
 
 /// The line of a comparison, as `append_pair_boxes_line` appends it.
@@ -51,13 +73,13 @@ pub fn comparison_line<'a>(
     before: u64,
     boxes: &'a [ComparedBox],
     scale: Scale,
-) -> JsonLine<'a, ComparedBox>
+) -> JsonLine<'a, &'a [ComparedBox]>
     requires within { All (λ compared.
         compared.span.start + compared.span.weight ≤ scale.total) boxes.now }
     requires positive { 0 < length boxes.now → 0 < scale.total }
-    ensures text { concat (⟦<JsonLine<'a, ComparedBox> as Pieces>⟧.pieces result)
+    ensures text { concat (⟦<JsonLine<'a, &'a [ComparedBox]> as Pieces>⟧.pieces result)
         ≡ pair_boxes_line before scale.total scale.width boxes.now }
-    ensures few { length (⟦<JsonLine<'a, ComparedBox> as Pieces>⟧.pieces result) < 2 ^ 64 }
+    ensures few { length (⟦<JsonLine<'a, &'a [ComparedBox]> as Pieces>⟧.pieces result) < 2 ^ 64 }
 {
     let _count = boxes.len();
     let kind = LineKind::Comparison { before };
@@ -69,12 +91,12 @@ pub fn drawn_comparison_line<'a>(
     before: u64,
     boxes: &'a [DrawnPair<'a>],
     scale: Scale,
-) -> JsonLine<'a, DrawnPair<'a>>
+) -> JsonLine<'a, &'a [DrawnPair<'a>]>
     requires within { All (λ pair. pair.drawn.start + pair.drawn.weight ≤ scale.total) boxes.now }
     requires positive { 0 < length boxes.now → 0 < scale.total }
-    ensures text { concat (⟦<JsonLine<'a, DrawnPair<'a>> as Pieces>⟧.pieces result)
+    ensures text { concat (⟦<JsonLine<'a, &'a [DrawnPair<'a>]> as Pieces>⟧.pieces result)
         ≡ pair_boxes_line before scale.total scale.width (map compared_of boxes.now) }
-    ensures few { length (⟦<JsonLine<'a, DrawnPair<'a>> as Pieces>⟧.pieces result) < 2 ^ 64 }
+    ensures few { length (⟦<JsonLine<'a, &'a [DrawnPair<'a>]> as Pieces>⟧.pieces result) < 2 ^ 64 }
 {
     let _count = boxes.len();
     JsonLine::of(
@@ -92,12 +114,12 @@ pub fn drawn_snapshot_line<'a>(
     counts: &'a [u64],
     boxes: &'a [DrawnBox<'a>],
     scale: Scale,
-) -> JsonLine<'a, DrawnBox<'a>>
+) -> JsonLine<'a, &'a [DrawnBox<'a>]>
     requires within { All (λ drawn. drawn.start + drawn.weight ≤ scale.total) boxes.now }
     requires positive { 0 < length boxes.now → 0 < scale.total }
-    ensures text { concat (⟦<JsonLine<'a, DrawnBox<'a>> as Pieces>⟧.pieces result)
+    ensures text { concat (⟦<JsonLine<'a, &'a [DrawnBox<'a>]> as Pieces>⟧.pieces result)
         ≡ snapshot_line at counts.now scale.total scale.width (map span_of boxes.now) }
-    ensures few { length (⟦<JsonLine<'a, DrawnBox<'a>> as Pieces>⟧.pieces result) < 2 ^ 64 }
+    ensures few { length (⟦<JsonLine<'a, &'a [DrawnBox<'a>]> as Pieces>⟧.pieces result) < 2 ^ 64 }
 {
     let _count = boxes.len();
     JsonLine::of(LineKind::Snapshot { at }, "snapshot", counts, boxes, scale)

@@ -3,6 +3,7 @@
 #![tactic(auto)]
 
 mod box_buffers;
+mod box_lists;
 mod box_writers;
 mod fold_lines;
 mod json_boxes;
@@ -19,6 +20,7 @@ mod scales;
 mod stack_pairs;
 mod type_lines;
 
+pub use box_lists::JsonBoxes;
 pub use box_writers::BoxWriter;
 pub use byte_io::truncate_on_error;
 pub use fold_lines::append_fold_text;
@@ -26,7 +28,7 @@ pub use json_boxes::JsonBox;
 pub use json_line::JsonLine;
 pub use json_lines::{
     append_boxes_line, append_pair_boxes_line, append_snapshot_line, comparison_line,
-    drawn_comparison_line, drawn_line, drawn_snapshot_line, picture_line,
+    drawn_chart_line, drawn_comparison_line, drawn_line, drawn_snapshot_line, picture_line,
 };
 pub use merged_lines::{FoldedText, append_merged_text};
 pub use pair_lines::{PairsText, append_pairs_text};

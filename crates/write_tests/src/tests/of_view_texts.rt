@@ -1,5 +1,6 @@
 //! Worked texts.
 mod boxes;
+mod charts;
 mod examples;
 mod fold;
 mod lines;

@@ -1,7 +1,12 @@
-use Rattle.std.proofs.Common.{◌++◌, ◌∙◌, ap}
+use Rattle.std.proofs.Common.{◌+◌, ◌++◌, ◌∙◌, ap}
 use Rattle.std.proofs.lemmas.Result.{on_ok_weaker}
+use Rattle.flame_layout.specs.declared.boxes.SpanBox.{SpanBox}
 use Rattle.view_texts.proofs.JsonFrames.{snapshot_is}
+use Rattle.view_texts.proofs.BoxLists.{all_within}
 use Rattle.view_texts.proofs.json_lines.append_snapshot_line.Goals as goal
+
+pub of-line-requires-clause-within : goal.of-line-requires-clause-within
+of-line-requires-clause-within c = all_within (λ (box : SpanBox). box.start + box.weight) c.args.boxes.now c.args.scale.now.total c.requires.within
 
 pub returns-clause-ok : goal.returns-clause-ok
 returns-clause-ok c =

@@ -2,7 +2,7 @@
 ghost use Rattle.std.specs.Prelude.{◌<◌, ◌^◌};
 ghost use Rattle.stack_core.specs.Ledgers.{IsRead};
 ghost use Rattle.merged_stacks.specs.Merged.{all_samples};
-ghost use Rattle.merged_stacks.specs.Timeline.{samples_of, total_weight};
+ghost use Rattle.merged_stacks.specs.Timeline.{samples_of, timeline, total_weight};
 
 use stack_core::{Close, Ledger, Names, Sample, SourceEnd, SourceList};
 use std::alloc::{AllocError, Global};
@@ -65,7 +65,8 @@ pub(super) fn lists_of(
 
 /// That lists don't weigh much together.
 pub(super) fn assert_light(rt: &impl Abort, lists: &[SourceList])
-    ensures { total_weight (all_samples (samples_of lists.now)) < 2 ^ 64 }
+    ensures merged { total_weight (all_samples (samples_of lists.now)) < 2 ^ 64 }
+    ensures drawn { total_weight (timeline (samples_of lists.now)) < 2 ^ 64 }
 {
     let mut room = 2_000;
     for list in lists {

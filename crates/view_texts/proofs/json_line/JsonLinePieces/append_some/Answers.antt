@@ -1,6 +1,5 @@
-use Rattle.std.proofs.Common.{◌+◌, ◌-◌, ◌++◌, ◌∙◌, map, sym, ap, arith}
+use Rattle.std.proofs.Common.{◌+◌, ◌-◌, ◌++◌, ◌∙◌, sym, ap, arith}
 use Rattle.std.specs.List.{concat}
-use Rattle.std.proofs.lemmas.List.{length-map}
 use Rattle.byte_io.proofs.PieceTexts.{one_piece}
 use Rattle.view_texts.specs.Lines.{head_of, tail_of}
 use Rattle.view_texts.specs.Pieces.{line_pieces}
@@ -10,30 +9,29 @@ use Rattle.view_texts.proofs.json_line.JsonLinePieces.append_some.Goals as goal
 pub returns-then-at-eq0-clause-ok : goal.returns-then-at-eq0-clause-ok
 returns-then-at-eq0-clause-ok g c =
     let line = c.args.self.now in
-    let values = map (g.B.JsonBox.object_of line.scale.total line.scale.width) line.boxes.now in
+    let values = g.L.JsonBoxes.objects line.scale.total line.scale.width line.boxes in
     let tail = tail_of line.kind line.counts.now line.view.now line.scale.total line.scale.width in
     c.in_ok-append_piece.ensures.ok ∙ ap (λ text. c.args.out.now.items ++ text) (sym (one_piece (line_pieces (head_of line.kind) values tail) c.args.at c.requires.there))
 
 pub overflow_add-result-2 : goal.overflow_add-result-2
 overflow_add-result-2 g c =
     let line = c.args.self.now in
-    let object = g.B.JsonBox.object_of line.scale.total line.scale.width in
+    let values = g.L.JsonBoxes.objects line.scale.total line.scale.width line.boxes in
     let tail = tail_of line.kind line.counts.now line.view.now line.scale.total line.scale.width in
-    omega (arith, c.requires.few, c.end_of_some-end.ensures.most, length-line_pieces (head_of line.kind) tail (map object line.boxes.now), length-map line.boxes.now object)
+    omega (arith, c.requires.few, c.end_of_some-end.ensures.most, length-line_pieces (head_of line.kind) tail values, g.met.L.JsonBoxes.counted line.scale.total line.scale.width line.boxes)
 
 pub returns-clause-ok : goal.returns-clause-ok
 returns-clause-ok g c =
     let line = c.args.self.now in
-    let object = g.B.JsonBox.object_of line.scale.total line.scale.width in
-    let values = map object line.boxes.now in
+    let values = g.L.JsonBoxes.objects line.scale.total line.scale.width line.boxes in
     let tail = tail_of line.kind line.counts.now line.view.now line.scale.total line.scale.width in
     let end = c.end_of_some-end.result in
-    let some = items_pieces (head_of line.kind) tail values c.args.at (c.args.at - 1) end (end + 1) (omega (arith, c.if-at-eq0.false)) (omega arith) (omega (arith, c.if-at-eq0.false, c.end_of_some-end.ensures.least)) (omega (arith, c.end_of_some-end.ensures.most, length-map line.boxes.now object)) in
+    let some = items_pieces (head_of line.kind) tail values c.args.at (c.args.at - 1) end (end + 1) (omega (arith, c.if-at-eq0.false)) (omega arith) (omega (arith, c.if-at-eq0.false, c.end_of_some-end.ensures.least)) (omega (arith, c.end_of_some-end.ensures.most, g.met.L.JsonBoxes.counted line.scale.total line.scale.width line.boxes)) in
     c.in_ok-append_items.ensures.ok ∙ ap (λ pieces. c.args.out.now.items ++ concat pieces) (sym some)
 
 pub returns-clause-within : goal.returns-clause-within
 returns-clause-within g c =
     let line = c.args.self.now in
-    let object = g.B.JsonBox.object_of line.scale.total line.scale.width in
+    let values = g.L.JsonBoxes.objects line.scale.total line.scale.width line.boxes in
     let tail = tail_of line.kind line.counts.now line.view.now line.scale.total line.scale.width in
-    omega (arith, c.end_of_some-end.ensures.most, length-line_pieces (head_of line.kind) tail (map object line.boxes.now), length-map line.boxes.now object)
+    omega (arith, c.end_of_some-end.ensures.most, length-line_pieces (head_of line.kind) tail values, g.met.L.JsonBoxes.counted line.scale.total line.scale.width line.boxes)

@@ -10,8 +10,14 @@ loop-list-preserved g c =
     let more = timeline_weight-take c.args.lists.now c.loop-list.list-index c.list-item.result c.loop-list-test.true c.list-item.is in
     omega (arith, more, c.total.ensures, c.total-room.ensures, c.loop-list.invariant)
 
-pub returns : goal.returns
-returns g c =
+pub returns-clause-merged : goal.returns-clause-merged
+returns-clause-merged g c =
     let lists = c.args.lists.now in
     let all = ap (λ front. total_weight (timeline (samples_of front))) (take_all c.loop-list.list-index lists c.loop-list-test.false) in
     omega (arith, all, timeline_weight lists, all_weight lists, c.loop-list.invariant)
+
+pub returns-clause-drawn : goal.returns-clause-drawn
+returns-clause-drawn g c =
+    let lists = c.args.lists.now in
+    let all = ap (λ front. total_weight (timeline (samples_of front))) (take_all c.loop-list.list-index lists c.loop-list-test.false) in
+    omega (arith, all, c.loop-list.invariant)
