@@ -2,6 +2,7 @@
 #![tactic(auto)]
 
 mod frame_table;
+mod hints;
 mod histories;
 pub mod laws;
 mod links;

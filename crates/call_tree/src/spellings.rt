@@ -4,6 +4,9 @@ ghost use Rattle.std.specs.List.{slice_index_or};
 ghost use Rattle.call_tree.specs.SpellingCache.{Spelling, IsRowOf, GrowsByAtMost};
 ghost use Rattle.call_tree.specs.checked.Spellings.{IsSpelledAt};
 
+mod ahead;
+
+use crate::hints::Hints;
 use crate::spelling_hash::hash_of;
 use std::alloc::{AllocError, Global};
 use std::marker::Model;
@@ -62,6 +65,7 @@ pub struct SpellingCache {
     slots: Vec<u32>,
     /// The place of the entry that was found last.
     last: usize,
+    hints: Hints,
 }
 
 impl Model for SpellingCache {
@@ -84,6 +88,7 @@ impl SpellingCache {
             entries: Vec::new(alloc),
             slots: Vec::new(alloc),
             last: 0,
+            hints: Hints::new(),
         }
     }
 
@@ -112,12 +117,17 @@ impl SpellingCache {
         None
     }
 
-    /// The same, where the spelling that was found last is looked at first.
-    fn next_place_of(&self, text: &[u8], spelling: &[u8]) -> Option<usize>
+    /// The same, where the spelling that was found last is looked at first, and then that of a hint.
+    fn next_place_of(&self, text: &[u8], spelling: &[u8], hint: Option<usize>) -> Option<usize>
         ensures { IfSome result (IsSpelledAt self.now text.now spelling.now) }
     {
         if self.is_at(text, spelling, self.last) {
             return Some(self.last);
+        }
+        if let Some(place) = hint
+            && self.is_at(text, spelling, place)
+        {
+            return Some(place);
         }
         self.place_of(text, spelling)
     }
@@ -141,14 +151,15 @@ impl SpellingCache {
     }
 
     /// The same, for who looks for one spelling after another: the one that was found last is looked at first, since many samples
-    /// have the stack of the sample before.
+    /// have the stack of the sample before, and then the one that looking ahead found.
     pub fn find_next(&mut self, text: &[u8], start: usize, end: usize) -> Option<usize>
         requires order { start ≤ end }
         requires within { end ≤ length text.now }
         ensures row { IfSome result (λ row. IsRowOf self.old text.now start end row) }
         ensures same { self.new ≡ self.old }
     {
-        let place = self.next_place_of(text, &text[start..end])?;
+        let hint = self.hints.take(start);
+        let place = self.next_place_of(text, &text[start..end], hint)?;
         let row = self.row_at(place);
         self.last = place;
         Some(row)

@@ -2,6 +2,7 @@
 //! write them. Read as samples, and written.
 #![tactic(auto)]
 
+mod ahead;
 mod columns;
 mod cursor;
 pub mod laws;

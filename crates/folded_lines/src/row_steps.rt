@@ -8,6 +8,7 @@ ghost use Rattle.folded_lines.specs.checked.Scanning.{rest_at, place_after, rest
 ghost use Rattle.folded_lines.specs.checked.Telling.{told_of, IsTelling};
 ghost use Rattle.folded_lines.specs.checked.RowLines.{line_by, weight_by, left_after, TellsLine};
 
+use crate::ahead::look_ahead;
 use crate::cursor::{Cursor, first_line};
 use crate::row_lines::{RowLine, read_row_line};
 use crate::telling::Telling;
@@ -92,6 +93,7 @@ pub(crate) fn next_row_step(
     ensures names { OnErr result (IsPrefixOf telling.old.names telling.new.names) }
 {
     let mut cursor = cursor;
+    look_ahead(bytes, cursor.position, &mut telling.heads);
     while cursor.position < bytes.len() {
         let (line, next) = take_row_line(alloc, bytes, cursor, telling)?;
         match line {

@@ -14,16 +14,16 @@ use wire_fields::{FieldValue, Fields, Packed};
 
 /// The first field of a message, where it holds bytes.
 #[derive(Drop)]
-struct FirstHeld<'a> {
+pub(crate) struct FirstHeld<'a> {
     number: u32,
     /// Where the bytes lie in the message.
-    place: Span,
+    pub(crate) place: Span,
     /// The fields behind it.
     behind: Fields<'a>,
 }
 
 /// The first field of a message, where it holds bytes. The field behind it is not read.
-fn first_held(message: &[u8]) -> Option<FirstHeld<'_>>
+pub(crate) fn first_held(message: &[u8]) -> Option<FirstHeld<'_>>
     ensures { IfSome result (λ held. IsFirstHeld message.now held.number held.place held.behind) }
 {
     let mut behind = Fields::over(message);

@@ -1,6 +1,7 @@
 //! pprof profiles: their tables, and a reader of their samples.
 #![tactic(auto)]
 
+mod ahead;
 mod frame_numbers;
 mod frames;
 mod fronts;

@@ -107,6 +107,7 @@ fn next_row(
     let Some(at) = outline.place(left) else {
         return Ok(RowStep::End(SourceEnd::Clean { ignored: 0 }));
     };
+    teller.look_ahead(file, outline.samples.as_slice(), left);
     let front = front_of(file, at, outline);
     if let Some(KnownRow { row, weight }) = known_row(file, teller, front, total) {
         return Ok(RowStep::Again { row, weight });

@@ -11,8 +11,10 @@ ghost use Rattle.profile_tables.specs.checked.Frames.{frames_at};
 ghost use Rattle.profile_tables.specs.checked.Fronts.{bytes_at};
 ghost use Rattle.profile_tables.specs.checked.Tellers.{told_of, IsStackOf, IsTeller, IsRunOf, Remembers, TellsStack};
 
+use crate::ahead::look_ahead;
 use crate::frame_numbers::FrameNumbers;
 use crate::frames::Frames;
+use crate::outline::Stretch;
 use crate::samples::CheckedSample;
 use call_tree::{SpellingCache, StackHistory};
 use profile_messages::Span;
@@ -78,6 +80,13 @@ impl Teller {
             count: 0,
             told: StackHistory::new(),
         })
+    }
+
+    /// Looks for the stacks of the next samples, whose tags have these offsets, before they are asked for.
+    pub(crate) fn look_ahead(&mut self, file: &[u8], samples: &[usize], left: Stretch)
+        ensures { self.new ≡ self.old }
+    {
+        look_ahead(file, samples, left, &mut self.spellings);
     }
 
     /// The number of the stack that a run of location ids spells. None says nothing.

@@ -181,6 +181,34 @@ fn next_spellings_are_told_apart(rt: HostRuntime) -> Result<(), Fail> {
     next_are_found(&rt, &mut cache)
 }
 
+/// What is looked ahead for: what is sought, in its order and in that of the text, what is not known, and what the text does not have.
+const AHEAD: &[&[(usize, usize)]] = &[
+    &[(6, 9), (9, 12), (3, 6), (0, 3), (0, 2)],
+    &[(0, 3), (3, 6), (6, 9), (9, 12)],
+    &[(0, 2), (1, 4), (2, 5), (4, 7)],
+    &[(20, 30), (3, 1), (9, 13)],
+    &[],
+];
+
+fn hinted_are_found(rt: &impl Abort, cache: &mut SpellingCache) -> Result<(), Fail> {
+    remember_two(cache)?;
+    for spellings in AHEAD {
+        cache.look_ahead(FOUR, spellings);
+        for (start, end, number) in SOUGHT {
+            is_next(rt, cache, *start, *end, *number);
+        }
+    }
+    Ok(())
+}
+
+/// Whatever is looked ahead for, each spelling is told apart.
+#[test]
+fn hinted_spellings_are_told_apart(rt: HostRuntime) -> Result<(), Fail> {
+    let mut cache = SpellingCache::new(rt.alloc());
+    assert!(rt; cache.wants_hints());
+    hinted_are_found(&rt, &mut cache)
+}
+
 /// Remembers spellings with one hash, each of which is found right after.
 fn remember_colliding(
     rt: &impl Abort,

@@ -1,9 +1,9 @@
-use Rattle.std.proofs.Common.{◌≡◌, ◌<◌, length, Ok, get_or, take, ap, subst, refl, arith}
+use Rattle.std.proofs.Common.{◌≡◌, ◌<◌, length, Ok, get_or, take, ◌∙◌, ap, subst, refl, arith}
 use Rattle.stack_core.specs.Records.{names_at}
 use Rattle.sample_tables.specs.Rows.{stack_at}
 use Rattle.profile_tables.specs.Samples.{stack_of, weight_of}
 use Rattle.profile_messages.specs.Offsets.{content_at}
-use Rattle.profile_tables.specs.checked.RowSteps.{IsToldSample}
+use Rattle.profile_tables.specs.checked.RowSteps.{IsKnownBy, IsToldSample}
 use Rattle.profile_tables.specs.checked.SeenOutline.{seen_outline}
 use Rattle.profile_tables.specs.checked.Tellers.{told_of}
 use Rattle.profile_tables.proofs.RestLemmas.{within}
@@ -16,13 +16,13 @@ returns-in-Some-known_row-clause-step c =
     let places = take c.args.left.past outline.samples.items in
     let told = told_of c.args.teller.now in
     let known = c.in-Some-known_row.field-0 in
-    let is = known-again c.args.file.now c.in-Some.at outline c.args.teller.now c.front_of-front.result c.args.total known c.front_of-front.ensures c.in-Some-known_row.ensures.known c.requires.teller in
+    let is = known-again c.args.file.now c.in-Some.at outline c.args.teller.now c.front_of-front.result c.args.total known c.front_of-front.ensures (subst (λ teller. IsKnownBy c.args.file.now teller c.front_of-front.result c.args.total known) c.look_ahead.ensures c.in-Some-known_row.ensures.known) c.requires.teller in
     let lt : c.args.left.next < length places = c.in-Some.ensures.is_there in
     let at_is : c.in-Some.at ≡ get_or places c.args.left.next 0 = c.in-Some.ensures.is in
     let fits = is.fits in (
       record {
         known = is.was_told;
-        same = ap told_of c.in-Some-known_row.ensures.same;
+        same = ap told_of (c.in-Some-known_row.ensures.same ∙ c.look_ahead.ensures);
         gives = gives-next c.args.file.now (seen_outline outline) places c.args.left.next c.args.total c.in-Some.at (names_at told.names (stack_at told.stacks known.row)) known.weight lt at_is is.none is.stack is.weight_is;
       },
       omega (arith, fits),
@@ -41,7 +41,7 @@ returns-in-Ok-clause-step c =
     let sample = content_at c.args.file.now at in
     let found : IsToldSample tables c.args.total sample (told_of c.known_row.new.teller) told' (Ok row) =
     subst (IsToldSample tables c.args.total sample (told_of c.known_row.new.teller) told') c.in-Ok.is c.in_ok-names.ensures.told in
-    let is = subst (λ before. IsToldSample tables c.args.total sample before told' (Ok row)) (ap told_of c.known_row.ensures.same) found in
+    let is = subst (λ before. IsToldSample tables c.args.total sample before told' (Ok row)) (ap told_of (c.known_row.ensures.same ∙ c.look_ahead.ensures)) found in
     let stack = stack_of tables.frames (content_at c.args.file.now at) in
     let lt : c.args.left.next < length places = c.in-Some.ensures.is_there in
     let at_is : at ≡ get_or places c.args.left.next 0 = c.in-Some.ensures.is in
