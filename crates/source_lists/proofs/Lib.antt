@@ -1,5 +1,6 @@
 pub mod BackLemmas
 mod FilteredSources
+pub mod JoinLemmas
 mod KeptLemmas
 pub mod ListLemmas
 pub mod OrderLemmas

@@ -1,12 +1,11 @@
 -- Lists of the parts of a source, one after another.
-use Rattle.std.proofs.Common.{◌≡◌, ◌∙◌, ◌<◌, ◌+◌, ◌*◌, ℕ, zero, suc, refl, ap, arith, List, [], ◌∷◌, ◌++◌, length, map, replicate, cond, false}
+use Rattle.std.proofs.Common.{◌≡◌, ◌∙◌, ◌+◌, ◌*◌, ℕ, zero, suc, ap, arith, List, [], ◌∷◌, ◌++◌, length, replicate, cond, false}
 use Rattle.std.specs.Prelude.{nat_eq}
 use Rattle.std.proofs.lemmas.Bool.Decides.{nat_tests}
-use Rattle.std.proofs.lemmas.List.{append-nil, get_or-append-add, get_or-map}
+use Rattle.std.proofs.lemmas.List.{append-nil}
 use Rattle.std.proofs.lemmas.List.Folds.{sum_by-replicate}
 use Rattle.std.proofs.lemmas.List.Sums.{sum_by_push}
 use Rattle.std.proofs.lemmas.Grind.{flat_map-append}
-use Rattle.sample_tables.specs.Rows.{AreNamed, name_at, named, row_at, row_by, sample_at, stack_at}
 use Rattle.stack_core.specs.Interleaving.{IsInterleaving, count_of, list_of}
 use Rattle.stack_core.specs.Ledgers.{ListState}
 use Rattle.stack_core.specs.Parts.{ignored_of, samples_of_parts}
@@ -19,25 +18,7 @@ use Rattle.folded_lines.proofs.ReadLemmas.{IsSourceLimited-read_folded}
 use Rattle.profile_tables.proofs.RestLemmas.{pprof-limited}
 use Rattle.merged_stacks.specs.Timeline.{samples_of}
 use Rattle.source_lists.specs.Sources.{read_bytes}
-use Rattle.source_lists.specs.checked.Parts.{ignored_by, moved}
-use Rattle.source_lists.proofs.KeptLemmas.{taken_again}
-
--- ---- samples of stacks that stand behind others
-
-name_behind : (names told : List (List ℕ)) (frames : List ℕ) → map (name_at (names ++ told)) (moved (length names) frames) ≡ map (name_at told) frames
-name_behind names told [] = refl
-name_behind names told (k ∷ frames) = λ i. get_or-append-add names told k [] i ∷ name_behind names told frames i
-
--- a sample that is taken again by its stack, which stands behind others
-pub taken_behind : (names stacks : List (List ℕ)) (list : ListState) (i n w : ℕ) → AreNamed list.told list.rows list.samples → i < length list.samples → n < length list.stacks
-    → stack_at list.stacks n ≡ (row_at list.rows i).frames → w ≡ (sample_at list.samples i).weight
-    → named (names ++ list.told) (row_by (stacks ++ map (moved (length names)) list.stacks) (record { stack = length stacks + n; weight = w })) ≡ sample_at list.samples i
-taken_behind names stacks list i n w h within kept same weight =
-    let behind : stack_at (stacks ++ map (moved (length names)) list.stacks) (length stacks + n) ≡ moved (length names) (stack_at list.stacks n) =
-    get_or-append-add stacks (map (moved (length names)) list.stacks) n [] ∙ get_or-map (moved (length names)) list.stacks n [] [] kept in
-    (λ j. record { stack = map (name_at (names ++ list.told)) (behind j); weight = w })
-    ∙ ((λ j. record { stack = name_behind names list.told (stack_at list.stacks n) j; weight = w })
-    ∙ taken_again list i n w h within same weight)
+use Rattle.source_lists.specs.checked.Parts.{ignored_by}
 
 -- ---- one part more
 

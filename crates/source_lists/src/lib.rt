@@ -2,10 +2,13 @@
 #![tactic(auto)]
 
 mod filtered_reader;
+mod joined_names;
+mod joined_stacks;
 mod kept_lists;
 mod kept_order;
 mod kept_stacks;
 pub mod laws;
+mod number_cache;
 mod part_lists;
 mod part_readers;
 mod part_runs;

@@ -1,13 +1,17 @@
 //! The lists of the parts of a source, put together.
 
-ghost use Rattle.std.specs.Prelude.{◌≡◌, ◌≤◌, ◌<◌, ◌+◌, ◌++◌, All, None, IfOk, IfSome, OnOk, length, map};
+ghost use Rattle.std.specs.Prelude.{◌≡◌, ◌≤◌, ◌++◌, [], All, None, IfOk, IfSome, OnOk, map};
 ghost use Rattle.sample_tables.specs.Samples.{total_weight};
 ghost use Rattle.sample_tables.specs.declared.samples.TheConstants.{WEIGHT_LIMIT as MOST};
 ghost use Rattle.stack_core.specs.Parts.{IsClean, joined, samples_of_parts};
 ghost use Rattle.ring_collect.specs.Collection.{seen_as_rest};
-ghost use Rattle.source_lists.specs.checked.Parts.{ignored_by, moved, HoldsBehind};
+ghost use Rattle.source_lists.specs.checked.Joining.{AreFound, named_stacks};
+ghost use Rattle.source_lists.specs.checked.Parts.{ignored_by};
 
-use stack_core::{Close, Ledger, SourceEnd, SourceList, Text, WEIGHT_LIMIT};
+use crate::joined_names::numbers_of_names;
+use crate::joined_stacks::numbers_of_stacks;
+use crate::number_cache::NumberCache;
+use stack_core::{Close, Ledger, SourceEnd, SourceList, WEIGHT_LIMIT};
 use std::alloc::{AllocError, Global};
 
 /// How many lines the parts of a source ignored. `None` where one has a fault, or where all weigh more together than a source may.
@@ -32,80 +36,64 @@ pub(crate) fn ignored_by_clean(parts: &[SourceList]) -> Option<u64>
     }
 }
 
-/// Tells a ledger the names of a list.
-fn tell_names(alloc: Global, ledger: &mut Ledger, list: &SourceList) -> Result<(), AllocError>
-    requires { ledger.old.close ≡ None }
-    ensures { OnOk result (ledger.new
-        ≡ record ledger.old { told = ledger.old.told ++ list.now.told }) }
-{
-    for number in 0..list.told() {
-        ledger.tell(Text::from_str(alloc, list.told_name(number))?)?;
-    }
-    Ok(())
+/// What helps to find the names and the stacks that a ledger has.
+#[derive(Drop)]
+struct Known {
+    names: NumberCache,
+    stacks: NumberCache,
 }
 
-/// The numbers of a stack, where its names got numbers that are greater by this. A number past the last one is refused as memory is.
-fn moved_numbers(numbers: &mut Vec<usize>, stack: &[u32], by: usize) -> Result<(), AllocError>
-    ensures { OnOk result (numbers.new.items ≡ moved by stack.now) }
-{
-    numbers.clear();
-    for number in stack {
-        let number = by.checked_add(*number as usize).ok_or(AllocError)?;
-        numbers.push(number)?;
+impl Known {
+    /// Nothing is known, and there is room for what these lists have.
+    fn with_room(alloc: Global, parts: &[SourceList]) -> Result<Known, AllocError> {
+        let mut names = 0usize;
+        let mut stacks = 0usize;
+        for part in parts {
+            names = names.saturating_add(part.told());
+            stacks = stacks.saturating_add(part.stack_count());
+        }
+        Ok(Known {
+            names: NumberCache::with_room(alloc, names)?,
+            stacks: NumberCache::with_room(alloc, stacks)?,
+        })
     }
-    Ok(())
 }
 
-/// Keeps the stacks of a list in a ledger that was told the names of the list, from this number on.
-fn keep_stacks(
-    alloc: Global,
-    ledger: &mut Ledger,
-    list: &SourceList,
-    first: usize,
-) -> Result<(), AllocError>
+/// Takes the samples of a list into a ledger that has the stacks of the list under these numbers.
+fn take_samples(ledger: &mut Ledger, list: &SourceList, stacks: &[u32]) -> Result<(), AllocError>
     requires open { ledger.old.close ≡ None }
-    requires told { first + length list.now.told ≤ length ledger.old.told }
-    ensures { OnOk result (ledger.new ≡ record ledger.old
-        { stacks = ledger.old.stacks ++ map (moved first) list.now.stacks }) }
-{
-    let mut numbers = Vec::new(alloc);
-    for number in 0..list.stack_count() {
-        moved_numbers(&mut numbers, list.stack(number), first)?;
-        ledger.keep(&numbers)?;
-    }
-    Ok(())
-}
-
-/// Takes the samples of a list into a ledger that keeps the stacks of the list, from this number on.
-fn take_samples(ledger: &mut Ledger, list: &SourceList, first: usize) -> Result<(), AllocError>
-    requires open { ledger.old.close ≡ None }
-    requires behind { HoldsBehind ledger.old list.now first }
+    requires stacks { AreFound [] (named_stacks ledger.old.told ledger.old.stacks) stacks.now
+        (named_stacks list.now.told list.now.stacks) }
     ensures open { OnOk result (ledger.new.close ≡ None) }
     ensures samples { OnOk result
         (ledger.new.samples ≡ ledger.old.samples ++ list.now.samples) }
 {
     for at in 0..list.len() {
-        let stack = first.checked_add(list.stack_number(at)).ok_or(AllocError)?;
+        let stack = stacks[list.stack_number(at)] as usize;
         ledger.take_again(stack, list.weight(at))?;
     }
     Ok(())
 }
 
-/// Takes all samples of a list, with names and stacks of their own.
-fn take_list(alloc: Global, ledger: &mut Ledger, list: &SourceList) -> Result<(), AllocError>
+/// Takes all samples of a list. Names and stacks that are known are not kept again.
+fn take_list(
+    alloc: Global,
+    ledger: &mut Ledger,
+    known: &mut Known,
+    list: &SourceList,
+) -> Result<(), AllocError>
     requires { ledger.old.close ≡ None }
     ensures open { OnOk result (ledger.new.close ≡ None) }
     ensures samples { OnOk result
         (ledger.new.samples ≡ ledger.old.samples ++ list.now.samples) }
 {
-    let names = ledger.told();
-    let stacks = ledger.stack_count();
-    tell_names(alloc, ledger, list)?;
-    keep_stacks(alloc, ledger, list, names)?;
-    take_samples(ledger, list, stacks)
+    let names = numbers_of_names(alloc, ledger, &mut known.names, list)?;
+    let stacks = numbers_of_stacks(alloc, ledger, &mut known.stacks, list, &names)?;
+    take_samples(ledger, list, &stacks)
 }
 
-/// The lists of the parts of a source as one, where they ignored so many lines. A name or a stack of several parts is kept once for each.
+/// The lists of the parts of a source as one, where they ignored so many lines. Names and stacks of several parts are
+/// kept once, as far as they are known again.
 pub(crate) fn joined_list(
     alloc: Global,
     parts: Vec<SourceList>,
@@ -114,9 +102,10 @@ pub(crate) fn joined_list(
     requires { ignored ≡ ignored_by (map seen_as_rest parts.items) }
     ensures { IfOk result (λ list. seen_as_rest list ≡ joined (map seen_as_rest parts.items)) }
 {
+    let mut known = Known::with_room(alloc, &parts)?;
     let mut ledger = Ledger::new(alloc);
     for part in parts {
-        take_list(alloc, &mut ledger, &part)?;
+        take_list(alloc, &mut ledger, &mut known, &part)?;
     }
     ledger.close(Close::Read(SourceEnd::Clean { ignored }));
     Ok(ledger.into_list())
