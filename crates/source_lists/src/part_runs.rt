@@ -21,11 +21,26 @@ use std::alloc::{AllocError, Global};
 use std::sync::Wait;
 use std::thread::Threads;
 
-/// How many readers read the parts of a source.
-const READERS: usize = 4;
+/// How many readers read the parts of a source at most. With the thread that collects they keep four processors busy; a fourth brought
+/// little, and stacks that stand in all parts are told once for each.
+const READERS: usize = 3;
 
-/// How many bytes a source has that is read in parts. For fewer the threads cost more than they bring.
-const LONG: usize = 1 << 20;
+/// How many bytes of a format there are for each reader. For fewer a thread costs more than it brings.
+fn part_len(format: Format) -> usize
+    ensures { 0 < result }
+{
+    match format {
+        Format::Folded => 1 << 22,
+        Format::Pprof => 1 << 21,
+    }
+}
+
+/// How many readers read so many bytes that come alone.
+fn reader_count(format: Format, len: usize) -> usize
+    ensures { (0 < result) × (result ≤ 64) }
+{
+    (len / part_len(format)).clamp(1, READERS)
+}
 
 /// The lists of the parts of a source, which have no fault, and how many lines they ignored.
 #[derive(Drop)]
@@ -49,7 +64,8 @@ fn read_parts<T: Threads + Wait + Copy + Send + 'static, S: RowSink>(
         parts.lists.items parts.ignored)) }
     ensures setting { S.setting sink.new ≡ S.setting sink.old }
 {
-    let readers = part_readers(alloc, format, bytes.clone()?, options, READERS)?;
+    let count = reader_count(format, bytes.len());
+    let readers = part_readers(alloc, format, bytes.clone()?, options, count)?;
     let gate = open_gate(alloc)?;
     match run_rows(rt, alloc, readers, options.ring, gate, sink) {
         Ok(run) => {
@@ -111,12 +127,12 @@ fn read_source<T: Threads + Wait + Copy + Send + 'static, S: RowSink>(
     }
 }
 
-/// The one source, if it is so long that it is read in parts.
+/// The one source, if it is so long that it is read by several readers.
 fn one_long(sources: Vec<Source>) -> Result<Source, Vec<Source>>
     ensures { MatchResult result (λ source. sources.items ≡ source ∷ []) (λ same. same ≡ sources) }
 {
     match sources.as_slice() {
-        [source] if source.bytes.len() >= LONG => {}
+        [source] if reader_count(source.format, source.bytes.len()) > 1 => {}
         _ => return Err(sources),
     }
     let mut sources = sources;
