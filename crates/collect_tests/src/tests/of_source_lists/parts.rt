@@ -96,16 +96,21 @@ fn append_often(out: &mut Vec<u8>, bytes: &[u8], times: usize) -> Result<(), All
     Ok(())
 }
 
-/// Four lines, of which the third is ignored.
-const LINES: &[u8] =
-    b"main;parse;read_a_line_of_text 1\nmain;merge 2\n# a comment of some length\nmain;parse;cut 3\n";
+/// Four lines, of which the third is ignored, and so long that a text of 2,000 times these lines has three readers.
+fn four_lines(alloc: Global) -> Result<Vec<u8>, AllocError> {
+    let mut lines = b"main;parse;read_a_line_of_text 1\nmain;merge 2\n#".to_vec(alloc)?;
+    append_often(&mut lines, b" a long comment", 450)?;
+    lines.extend_from_slice(b"\nmain;parse;cut 3\n")?;
+    Ok(lines)
+}
 
 /// A long text, with a line after three quarters of it.
 fn long_text(alloc: Global, line: &[u8]) -> Result<Vec<u8>, AllocError> {
+    let lines = four_lines(alloc)?;
     let mut text = Vec::new(alloc);
-    append_often(&mut text, LINES, 15_000)?;
+    append_often(&mut text, &lines, 1_500)?;
     text.extend_from_slice(line)?;
-    append_often(&mut text, LINES, 5_000)?;
+    append_often(&mut text, &lines, 500)?;
     Ok(text)
 }
 
@@ -113,11 +118,11 @@ fn fault(kind: ReadKind, at: u64) -> SourceEnd {
     SourceEnd::Fault(ReadFault { kind, at })
 }
 
-/// A line after 60,000 others, and how the text ends.
+/// A line after 6,000 others, and how the text ends.
 const TEXTS: &[(&[u8], SourceEnd)] = &[
-    (b"other;name 7\n", SourceEnd::Clean { ignored: 20_000 }),
-    (b"\x1f\x8b 7\n", SourceEnd::Clean { ignored: 20_000 }),
-    (b"\n", SourceEnd::Clean { ignored: 20_001 }),
+    (b"other;name 7\n", SourceEnd::Clean { ignored: 2_000 }),
+    (b"\x1f\x8b 7\n", SourceEnd::Clean { ignored: 2_000 }),
+    (b"\n", SourceEnd::Clean { ignored: 2_001 }),
 ];
 
 #[test]
@@ -129,7 +134,7 @@ fn long_texts_in_parts(rt: HostRuntime) -> Result<(), Fail> {
     Ok(())
 }
 
-/// A line with a fault after 60,000 others.
+/// A line with a fault after 6,000 others.
 const FAULTS: &[(&[u8], ReadKind)] = &[
     (b"main 1.5\n", ReadKind::DecimalWeight),
     (b"main 1 2\n", ReadKind::TwoColumns),
@@ -140,7 +145,7 @@ const FAULTS: &[(&[u8], ReadKind)] = &[
 fn fault_of_a_long_text(rt: HostRuntime) -> Result<(), Fail> {
     for (line, kind) in FAULTS {
         let text = long_text(rt.alloc(), line)?;
-        let ending = fault(*kind, 60_001);
+        let ending = fault(*kind, 6_001);
         read_both_ways(&rt, rt.alloc(), (Format::Folded, text.as_slice(), ending))?;
     }
     Ok(())
@@ -150,16 +155,16 @@ fn fault_of_a_long_text(rt: HostRuntime) -> Result<(), Fail> {
 #[test]
 fn long_text_that_weighs_too_much(rt: HostRuntime) -> Result<(), Fail> {
     let mut text = b"main 36028797018963968\n".to_vec(rt.alloc())?;
-    append_often(&mut text, LINES, 20_000)?;
+    append_often(&mut text, &four_lines(rt.alloc())?, 2_000)?;
     text.extend_from_slice(b"main 36028797018963968\n")?;
-    let ending = fault(ReadKind::TotalTooLarge, 80_002);
+    let ending = fault(ReadKind::TotalTooLarge, 8_002);
     read_both_ways(&rt, rt.alloc(), (Format::Folded, text.as_slice(), ending))
 }
 
 #[test]
 fn long_compressed_text(rt: HostRuntime) -> Result<(), Fail> {
     let mut text = b"\x1f\x8b".to_vec(rt.alloc())?;
-    append_often(&mut text, LINES, 20_000)?;
+    append_often(&mut text, &four_lines(rt.alloc())?, 2_000)?;
     let ending = fault(ReadKind::Compressed, 1);
     read_both_ways(&rt, rt.alloc(), (Format::Folded, text.as_slice(), ending))
 }
@@ -177,17 +182,20 @@ const TABLES: &[u8] = b"\x22\x06\x08\x01\x22\x02\x08\x01\x22\x06\x08\x02\x22\x02
 /// A long profile, with a sample after three quarters of it.
 fn long_profile(alloc: Global, sample: &[u8]) -> Result<Vec<u8>, AllocError> {
     let mut profile = TYPE.to_vec(alloc)?;
-    for _ in 0..50_000 {
+    for _ in 0..5_000 {
         profile.extend_from_slice(ONE_SAMPLE)?;
         profile.extend_from_slice(OTHER_SAMPLE)?;
     }
     profile.extend_from_slice(sample)?;
-    append_often(&mut profile, OTHER_SAMPLE, 35_000)?;
+    append_often(&mut profile, OTHER_SAMPLE, 3_500)?;
     profile.extend_from_slice(TABLES)?;
+    // A string that nothing names makes it so long that it has three readers.
+    profile.extend_from_slice(b"\x32\x80\x80\x80\x03")?;
+    append_often(&mut profile, &[b' '; 1024], 6 << 10)?;
     Ok(profile)
 }
 
-/// A sample that stands at 850,006, and how the profile ends.
+/// A sample that stands at 85,006, and how the profile ends.
 const PROFILES: &[(&[u8], SourceEnd)] = &[
     (
         b"\x12\x06\x0a\x01\x02\x12\x01\x09",
@@ -197,14 +205,14 @@ const PROFILES: &[(&[u8], SourceEnd)] = &[
         b"\x12\x06\x0a\x01\x03\x12\x01\x09",
         SourceEnd::Fault(ReadFault {
             kind: ReadKind::UnknownLocation,
-            at: 850_006,
+            at: 85_006,
         }),
     ),
     (
         b"\x12\x03\x0a\x01\x02",
         SourceEnd::Fault(ReadFault {
             kind: ReadKind::ValueCount,
-            at: 850_006,
+            at: 85_006,
         }),
     ),
 ];
@@ -230,4 +238,31 @@ fn long_profile_of_bad_tables(rt: HostRuntime) -> Result<(), Fail> {
     let at = profile.len() as u64 - 4;
     let ending = fault(ReadKind::ZeroId, at);
     read_both_ways(&rt, rt.alloc(), (Format::Pprof, profile.as_slice(), ending))
+}
+
+/// How many names and stacks the one list of a run has.
+fn expect_counts(rt: &impl Abort, run: &WholeRun, names: usize, stacks: usize) {
+    let lists = run.kept.lists();
+    assert!(rt; lists.len() == 1);
+    assert!(rt; lists[0].told() == names && lists[0].stack_count() == stacks);
+}
+
+/// Each part has the same names and stacks, but for those of one line.
+#[test]
+fn names_and_stacks_of_parts_of_a_text(rt: HostRuntime) -> Result<(), Fail> {
+    let text = long_text(rt.alloc(), b"other;name 7\n")?;
+    let options = options_with(rt.alloc(), Pick::Preferred);
+    let run = read_as_parts(&rt, rt.alloc(), Format::Folded, text.as_slice(), &options)?;
+    expect_counts(&rt, &run, 7, 4);
+    Ok(())
+}
+
+/// A sample of its own stands in the last part, whose stack is a function that other stacks have too.
+#[test]
+fn names_and_stacks_of_parts_of_a_profile(rt: HostRuntime) -> Result<(), Fail> {
+    let profile = long_profile(rt.alloc(), b"\x12\x06\x0a\x01\x02\x12\x01\x09")?;
+    let options = options_with(rt.alloc(), Pick::Preferred);
+    let run = read_as_parts(&rt, rt.alloc(), Format::Pprof, profile.as_slice(), &options)?;
+    expect_counts(&rt, &run, 2, 3);
+    Ok(())
 }
