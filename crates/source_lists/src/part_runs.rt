@@ -21,9 +21,8 @@ use std::alloc::{AllocError, Global};
 use std::sync::Wait;
 use std::thread::Threads;
 
-/// How many readers read the parts of a source at most. With the thread that collects they keep four processors busy; a fourth brought
-/// little, and stacks that stand in all parts are told once for each.
-const READERS: usize = 3;
+/// How many readers read the parts of a source at most. A stack that stands in all parts is told once for each.
+const READERS: usize = 4;
 
 /// How many bytes of a format there are for each reader. For fewer a thread costs more than it brings.
 fn part_len(format: Format) -> usize

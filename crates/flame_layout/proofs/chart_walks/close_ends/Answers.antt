@@ -1,7 +1,6 @@
-use Rattle.std.proofs.Common.{◌≡◌, ℕ, ◌≤◌, ◌<◌, ◌+◌, ◌-◌, List, ◌∙◌, sym, ap, length, take, drop, map, reverse, get_or, ◌++◌, ◌∷◌, [], arith, refl, subst}
+use Rattle.std.proofs.Common.{◌≡◌, ◌<◌, ◌+◌, ◌-◌, List, ◌∙◌, sym, ap, length, drop, map, reverse, get_or, ◌++◌, ◌∷◌, [], arith, refl, subst}
 use Rattle.std.proofs.lemmas.List.{take_all, drop_all, append-nil, length-map, length_push, append_assoc}
 use Rattle.stack_core.specs.Ledgers.{ListState}
-use Rattle.flame_layout.specs.declared.chart_walks.OpenEnd.{OpenEnd}
 use Rattle.flame_layout.specs.declared.walks.OpenRun.{OpenRun}
 use Rattle.flame_layout.specs.checked.Walk.{seen, box_of_run, boxes_of_runs}
 use Rattle.flame_layout.specs.checked.ChartRuns.{IsThere, RunsState, span_from, stack_at}

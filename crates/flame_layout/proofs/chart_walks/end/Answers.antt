@@ -1,4 +1,4 @@
-use Rattle.std.proofs.Common.{◌∙◌, sym, ap, arith, length, reverse}
+use Rattle.std.proofs.Common.{◌∙◌, ap, arith, length, reverse}
 use Rattle.flame_layout.specs.checked.ChartRuns.{RunsState, stack_at}
 use Rattle.flame_layout.proofs.ChartFronts.{chart-ends, chart-ends-none, front-runs}
 use Rattle.flame_layout.proofs.NamedRuns.{named_runs-length}

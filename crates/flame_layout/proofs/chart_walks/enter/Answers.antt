@@ -1,14 +1,12 @@
-use Rattle.std.proofs.Common.{◌≡◌, ℕ, ◌+◌, ◌-◌, ◌≤◌, ◌<◌, ◌++◌, ◌∙◌, List, sym, ap, arith, length, map, take, get_or, set, refl, subst}
+use Rattle.std.proofs.Common.{◌≡◌, ◌+◌, ◌-◌, ◌++◌, ◌∙◌, List, sym, ap, arith, length, map, get_or, set, refl, subst}
 use Rattle.std.specs.List.{range_with_len}
-use Rattle.sample_tables.specs.declared.samples.Sample.{Sample}
 use Rattle.sample_tables.specs.Rows.{sample_at}
 use Rattle.stack_core.specs.Interleaving.{list_of}
 use Rattle.stack_core.specs.Ledgers.{ListState}
 use Rattle.merged_stacks.specs.Timeline.{samples_of}
 use Rattle.flame_layout.specs.declared.chart_runs.RunStart.{RunStart}
-use Rattle.flame_layout.specs.declared.chart_walks.OpenEnd.{OpenEnd}
 use Rattle.flame_layout.specs.checked.Walk.{new_run, seen}
-use Rattle.flame_layout.specs.checked.ChartRuns.{IsThere, stack_at, stack_in}
+use Rattle.flame_layout.specs.checked.ChartRuns.{IsThere, stack_at}
 use Rattle.flame_layout.specs.checked.ChartWalks.{named_runs}
 use Rattle.flame_layout.proofs.ChartFronts.{chart-entered, entry-length, entry-room, samples-are}
 use Rattle.flame_layout.proofs.chart_walks.enter.Goals as goal

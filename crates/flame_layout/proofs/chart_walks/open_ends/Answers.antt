@@ -1,8 +1,7 @@
-use Rattle.std.proofs.Common.{◌≡◌, List, ◌+◌, ◌-◌, ◌≤◌, ◌++◌, ◌∷◌, [], ◌∙◌, sym, ap, map, length, arith}
+use Rattle.std.proofs.Common.{◌≡◌, List, ◌+◌, ◌-◌, ◌++◌, ◌∷◌, [], ◌∙◌, sym, ap, map, length, arith}
 use Rattle.std.specs.List.{range_with_len}
 use Rattle.std.proofs.lemmas.List.{append_assoc, append-nil, length_push}
 use Rattle.std.proofs.lemmas.List.FromFn.{map-range_with_len_more}
-use Rattle.merged_stacks.specs.Timeline.{Stack}
 use Rattle.flame_layout.specs.checked.Walk.{Run, new_run, seen}
 use Rattle.flame_layout.specs.checked.ChartWalks.{named_runs}
 use Rattle.flame_layout.proofs.NamedRuns.{seen-pushed}

@@ -1,4 +1,4 @@
-use Rattle.std.proofs.Common.{◌≡◌, ◌+◌, ◌-◌, ◌≤◌, map, length, ◌++◌}
+use Rattle.std.proofs.Common.{◌≡◌, ◌-◌, ◌≤◌, map, length, ◌++◌}
 use Rattle.std.specs.List.{range_with_len}
 use Rattle.merged_stacks.specs.Timeline.{Stack}
 use Rattle.flame_layout.specs.checked.Walk.{seen, new_run}

@@ -1,4 +1,4 @@
-use Rattle.std.proofs.Common.{[], ◌≡◌, ℕ, ◌+◌, ◌-◌, ◌<◌, ◌≤◌, ◌++◌, ◌∙◌, refl, sym, ap, arith, drop, length, reverse, subst, List, All}
+use Rattle.std.proofs.Common.{[], ◌≡◌, ℕ, ◌+◌, ◌-◌, ◌<◌, ◌≤◌, ◌++◌, ◌∙◌, sym, ap, arith, drop, length, subst, List, All}
 use Rattle.std.proofs.lemmas.List.{drop_all}
 use Rattle.sample_tables.specs.declared.samples.Sample.{Sample}
 use Rattle.stack_core.specs.Interleaving.{list_of}
@@ -7,7 +7,6 @@ use Rattle.merged_stacks.specs.Timeline.{drawn, timeline, samples_of, total_weig
 use Rattle.merged_stacks.proofs.Timelines.{timeline-drop, timeline_weight-drop, timeline_weight-drop_le}
 use Rattle.flame_layout.specs.declared.boxes.SpanBox.{SpanBox}
 use Rattle.flame_layout.specs.declared.chart_walks.ChartWalk.{ChartWalk}
-use Rattle.flame_layout.specs.Chart.{chart_of}
 use Rattle.flame_layout.specs.checked.ChartWalks.{IsChartWalk}
 use Rattle.flame_layout.proofs.ChartFronts.{list-there}
 use Rattle.flame_layout.proofs.Geometry.{chart-within}

@@ -2,7 +2,7 @@ use Rattle.std.proofs.Common.{◌≡◌, ◌≤◌, ◌++◌, ◌∷◌, [], All
 use Rattle.std.proofs.lemmas.List.{map_push}
 use Rattle.std.proofs.lemmas.List.Elements.{All-same, All-push}
 use Rattle.flame_layout.specs.declared.chart_runs.ChartRun.{ChartRun}
-use Rattle.flame_layout.specs.checked.ChartRuns.{IsRun, IsThere, RunsState, no_start, span_from, span_of_run, stack_at, start_of}
+use Rattle.flame_layout.specs.checked.ChartRuns.{IsRun, IsThere, RunsState, span_from, span_of_run, stack_at}
 use Rattle.flame_layout.proofs.KeptRuns.{runs_stay, spans_stay}
 use Rattle.flame_layout.proofs.chart_runs.ChartRuns.push.Goals as goal
 
