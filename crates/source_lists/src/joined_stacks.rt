@@ -11,6 +11,9 @@ use std::alloc::{AllocError, Global};
 
 const MULTIPLIER: u64 = 0x9e37_79b9_7f4a_7c15;
 
+/// How many stacks of a list are looked for before it is asked whether that pays.
+const TRIED: usize = 1_024;
+
 fn hash_of(numbers: &[usize]) -> u64 {
     let mut hash = numbers.len() as u64;
     for number in numbers {
@@ -109,14 +112,21 @@ pub(crate) fn numbers_of_stacks(
     ensures keeps { OnOk result (KeepsMore ledger.old ledger.new) }
 {
     let count = list.stack_count();
+    let others = ledger.stack_count();
     // Where most samples have a stack of their own, it is hardly ever known.
-    let looks_up = count <= list.len() / 2;
+    let mut looks_up = count <= list.len() / 2;
+    let mut found = 0usize;
     let mut numbers = Vec::with_capacity(alloc, count)?;
     let mut stack = Vec::new(alloc);
     for at in 0..count {
         renumber(&mut stack, list.stack(at), names)?;
         let number = number_of_stack(ledger, known, &stack, looks_up)?;
         append_number(&mut numbers, number)?;
+        found = found.saturating_add((number < others) as usize);
+        // The first list finds none, but is found by those behind it.
+        if at == TRIED && others > 0 && found < TRIED / 8 {
+            looks_up = false;
+        }
     }
     Ok(numbers)
 }

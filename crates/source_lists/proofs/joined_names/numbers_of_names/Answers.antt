@@ -1,4 +1,4 @@
-use Rattle.std.proofs.Common.{◌≡◌, ◌∙◌, ◌<◌, ◌+◌, [], ℕ, List, ap, arith, length, subst, sym, take}
+use Rattle.std.proofs.Common.{◌<◌, ◌+◌, [], ℕ, List, arith, length, subst, sym, take}
 use Rattle.source_lists.specs.checked.Joining.{AreFound, IsFound}
 use Rattle.source_lists.proofs.JoinLemmas.{names_more, tells_on}
 use Rattle.source_lists.proofs.joined_names.numbers_of_names.Goals as goal

@@ -1,4 +1,4 @@
-use Rattle.std.proofs.Common.{◌≡◌, ◌∙◌, ◌<◌, ◌+◌, [], ℕ, List, All, ap, arith, length, map, subst, sym, take}
+use Rattle.std.proofs.Common.{◌∙◌, ◌<◌, ◌+◌, [], ℕ, List, All, ap, arith, length, map, subst, sym, take}
 use Rattle.std.specs.Prelude.{slice_index}
 use Rattle.stack_core.specs.Ledgers.{LedgerState}
 use Rattle.source_lists.specs.checked.Joining.{AreFound, named_stacks}

@@ -1,4 +1,4 @@
-use Rattle.std.proofs.Common.{◌≡◌, ◌∙◌, ◌<◌, ◌+◌, ◌++◌, ◌∷◌, [], List, ap, append_assoc, arith, get_or, length, sym, take}
+use Rattle.std.proofs.Common.{◌≡◌, ◌∙◌, ◌<◌, ◌++◌, ◌∷◌, [], List, ap, append_assoc, arith, get_or, length, sym, take}
 use Rattle.std.proofs.lemmas.List.{take_more}
 use Rattle.sample_tables.specs.Rows.{named, row_by, sample_at}
 use Rattle.sample_tables.specs.declared.samples.Sample.{Sample}
