@@ -1,5 +1,6 @@
 -- Definitions that no public contract cites: not to be believed, but checked with the code that cites them.
 pub mod Cutting
+pub mod Pieces
 pub mod RowLines
 pub mod Scanning
 pub mod Telling

@@ -17,5 +17,6 @@ mod row_steps;
 mod telling;
 mod writing;
 
+pub use parts::cut_pieces;
 pub use reader::FoldedReader;
 pub use writing::{append_line, append_pair_line};

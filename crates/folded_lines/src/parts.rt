@@ -1,10 +1,11 @@
 //! A text that is cut at line ends, and read by several readers that share it.
 
-ghost use Rattle.std.specs.Prelude.{◌≡◌, ◌≤◌, ◌<◌, [], All, IfOk, length, map, take};
+ghost use Rattle.std.specs.Prelude.{◌≡◌, ◌≤◌, ◌<◌, ◌++◌, [], All, IfOk, drop, length, map, take};
 ghost use Rattle.std.specs.List.{concat};
 ghost use Rattle.stack_core.specs.Parts.{ReadsInParts};
 ghost use Rattle.folded_lines.specs.Reading.{read_folded};
 ghost use Rattle.folded_lines.specs.TextParts.{IsWholeLines, AreCutAtLines};
+ghost use Rattle.folded_lines.specs.checked.Pieces.{text_of_cut};
 
 use crate::reader::FoldedReader;
 use bytes::Bytes;
@@ -42,7 +43,103 @@ fn cut_at_lines(alloc: Global, text: Bytes, count: usize) -> Result<Vec<Bytes>, 
     Ok(parts)
 }
 
+/// The bytes from `begin` on.
+fn bytes_from(bytes: Vec<u8>, begin: usize) -> Result<Bytes, AllocError>
+    requires { begin ≤ length bytes.items }
+    ensures { IfOk result (λ rest. rest ≡ drop begin bytes.items) }
+{
+    let mut rest = Bytes::from_vec(bytes).map_err(|_| AllocError)?;
+    rest.advance(begin);
+    Ok(rest)
+}
+
+/// A text that is cut at line ends, as far as its pieces came.
+#[derive(Drop)]
+struct CutText {
+    /// Whole lines.
+    parts: Vec<Bytes>,
+    /// What comes behind them, from `begin` on.
+    last: Vec<u8>,
+    begin: usize,
+}
+
+impl CutText {
+    /// With one piece more. The part before it ends behind the first line that ends in it.
+    fn with_piece(self, piece: Vec<u8>) -> Result<CutText, AllocError>
+        requires begin { self.begin ≤ length self.last.items }
+        requires lines { All IsWholeLines self.parts.items }
+        ensures begin { IfOk result (λ cut. cut.begin ≤ length cut.last.items) }
+        ensures lines { IfOk result (λ cut. All IsWholeLines cut.parts.items) }
+        ensures text { IfOk result (λ cut. text_of_cut cut ≡ text_of_cut self ++ piece.items) }
+    {
+        let CutText {
+            mut parts,
+            mut last,
+            begin,
+        } = self;
+        if last.is_empty() {
+            return Ok(CutText {
+                parts,
+                last: piece,
+                begin: 0,
+            });
+        }
+        let end = part_end(&piece, 0);
+        if end == 0 {
+            last.extend_from_slice(&piece)?;
+            return Ok(CutText { parts, last, begin });
+        }
+        last.extend_from_slice(&piece[..end])?;
+        parts.push(bytes_from(last, begin)?)?;
+        Ok(CutText {
+            parts,
+            last: piece,
+            begin: end,
+        })
+    }
+}
+
+/// The pieces of a text, cut anew: each part but the last is whole lines. A piece is not copied, but for its first line, which goes
+/// to the part before it.
+pub fn cut_pieces(alloc: Global, pieces: Vec<Vec<u8>>) -> Result<Vec<Bytes>, AllocError>
+    ensures whole { IfOk result (λ parts. concat parts.items ≡ concat (map (λ piece. piece.items) pieces.items)) }
+    ensures lines { IfOk result (λ parts. AreCutAtLines parts.items) }
+{
+    let mut cut = CutText {
+        parts: Vec::with_capacity(alloc, pieces.len())?,
+        last: Vec::new(alloc),
+        begin: 0,
+    };
+    for piece in pieces {
+        cut = cut.with_piece(piece)?;
+    }
+    let CutText {
+        mut parts,
+        last,
+        begin,
+    } = cut;
+    parts.push(bytes_from(last, begin)?)?;
+    Ok(parts)
+}
+
 impl FoldedReader {
+    /// A reader of each part of a text that is cut at line ends, in their order. Where no part has a fault, what they give one after
+    /// another is what the text stands for. The line that a fault names is counted from the beginning of its part.
+    pub fn of_parts(alloc: Global, parts: &[Bytes]) -> Result<Vec<FoldedReader>, AllocError>
+        requires { AreCutAtLines parts.now }
+        ensures parts { IfOk result (λ readers.
+            ReadsInParts (read_folded (concat parts.now)) (map (λ reader. reader.rest) readers.items)) }
+        ensures count { IfOk result (λ readers. length readers.items ≡ length parts.now) }
+        ensures told { IfOk result (λ readers. All (λ reader. reader.told ≡ record { names = []; stacks = [] })
+            readers.items) }
+    {
+        let mut readers = Vec::with_capacity(alloc, parts.len())?;
+        for part in parts {
+            readers.push(FoldedReader::over_shared(alloc, part.clone()?))?;
+        }
+        Ok(readers)
+    }
+
     /// Readers of so many parts of a text, one after another. The parts are cut at line ends, share the text, and are about equal where no
     /// line is long. Where no part has a fault, what they give one after another is what the text stands for. The line that a fault names
     /// is counted from the beginning of its part.
@@ -54,10 +151,6 @@ impl FoldedReader {
         ensures told { IfOk result (λ readers. All (λ reader. reader.told ≡ record { names = []; stacks = [] })
             readers.items) }
     {
-        let mut readers = Vec::with_capacity(alloc, count)?;
-        for part in cut_at_lines(alloc, text, count)? {
-            readers.push(FoldedReader::over_shared(alloc, part))?;
-        }
-        Ok(readers)
+        FoldedReader::of_parts(alloc, &cut_at_lines(alloc, text, count)?)
     }
 }

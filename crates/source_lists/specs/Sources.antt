@@ -1,5 +1,7 @@
 -- What the bytes of sources stand for.
-use Rattle.std.specs.Prelude.{ℕ, List, map}
+use Rattle.std.specs.Prelude.{ℕ, List, Vec, map}
+use Rattle.std.specs.Global.{Global}
+use Rattle.std.specs.List.{concat}
 use Rattle.stack_core.specs.Reading.{Rest}
 use Rattle.folded_lines.specs.Reading.{read_folded}
 use Rattle.run_options.specs.declared.choices.Pick.{Pick}
@@ -12,6 +14,10 @@ use Rattle.source_lists.specs.declared.sources.Source.{Source}
 use Rattle.run_options.specs.declared.options.Options.{Options}
 use Rattle.sample_tables.specs.Samples.{total_weight}
 use Rattle.merged_stacks.specs.Merged.{all_samples}
+
+-- the text that comes in pieces
+abbrev pub text_of : List (Vec ℕ Global) → List ℕ
+text_of pieces = concat (map (λ piece. piece.items) pieces)
 
 -- the samples and the ending for which bytes of a format stand
 abbrev pub read_bytes : Format → List ℕ → Pick → Naming → Rest

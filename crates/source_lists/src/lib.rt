@@ -19,6 +19,7 @@ mod source_reader;
 mod source_readers;
 mod source_types;
 mod sources;
+mod text_runs;
 mod unkept_samples;
 mod whole_runs;
 
@@ -27,4 +28,5 @@ pub use reading::{read_into, read_sources};
 pub use source_lists::SourceLists;
 pub use source_types::chosen_types;
 pub use sources::Source;
+pub use text_runs::read_text;
 pub use whole_runs::{WholeRun, read_whole_sources};

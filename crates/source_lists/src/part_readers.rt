@@ -1,7 +1,10 @@
 //! The readers of the parts of a source.
 
 ghost use Rattle.std.specs.Prelude.{◌≡◌, ◌≤◌, ◌<◌, ◌∷◌, [], All, IfOk, length, map};
+ghost use Rattle.std.specs.List.{concat};
 ghost use Rattle.stack_core.specs.Parts.{ReadsInParts};
+ghost use Rattle.folded_lines.specs.Reading.{read_folded};
+ghost use Rattle.folded_lines.specs.TextParts.{AreCutAtLines};
 ghost use Rattle.profile_tables.specs.State.{nothing_told};
 ghost use Rattle.source_lists.specs.Sources.{read_bytes};
 ghost use Rattle.source_lists.specs.checked.Readers.{reader_rest, reader_told};
@@ -36,6 +39,21 @@ pub(crate) fn part_readers(
             of_profiles(alloc, parts)
         }
     }
+}
+
+/// Readers of parts of a text that is cut at line ends, in their order, which have told nothing.
+pub(crate) fn text_readers(
+    alloc: Global,
+    parts: &[Bytes],
+) -> Result<Vec<SourceReader>, AllocError>
+    requires { AreCutAtLines parts.now }
+    ensures parts { IfOk result (λ readers.
+        ReadsInParts (read_folded (concat parts.now)) (map reader_rest readers.items)) }
+    ensures count { IfOk result (λ readers. length readers.items ≡ length parts.now) }
+    ensures told { IfOk result (λ readers.
+        All (λ reader. reader_told reader ≡ record { names = []; stacks = [] }) readers.items) }
+{
+    of_texts(alloc, FoldedReader::of_parts(alloc, parts)?)
 }
 
 fn of_texts(alloc: Global, texts: Vec<FoldedReader>) -> Result<Vec<SourceReader>, AllocError>

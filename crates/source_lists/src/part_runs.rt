@@ -1,16 +1,20 @@
 //! Runs of which the order of the samples is not asked for, so that one source can be read in parts.
 
-ghost use Rattle.std.specs.Prelude.{◌≡◌, ◌≤◌, ◌<◌, ℕ, [], ◌∷◌, IfOk, IfSome, IsErrOf, MatchResult, length};
+ghost use Rattle.std.specs.Prelude.{◌≡◌, ◌≤◌, ◌<◌, ℕ, [], ◌∷◌, All, IfOk, IfSome, IsErrOf, MatchResult, length, map};
 ghost use Rattle.stack_core.specs.Interleaving.{IsInterleaving};
+ghost use Rattle.stack_core.specs.Parts.{ReadsInParts};
+ghost use Rattle.stack_core.specs.Reading.{Rest};
 ghost use Rattle.merged_stacks.specs.Timeline.{samples_of};
 ghost use Rattle.ring_collect.specs.Collection.{AreWhole, seen_as_rest};
 ghost use Rattle.source_lists.specs.Sources.{read_bytes, rests_of, weight_of_sources, whole_rest, whole_rests_of};
 ghost use Rattle.source_lists.specs.checked.Parts.{ArePartsOf};
+ghost use Rattle.source_lists.specs.checked.Readers.{reader_rest, reader_told};
 
 use crate::part_lists::{ignored_by_clean, joined_list};
 use crate::part_readers::{lone_reader, part_readers};
 use crate::reader_runs::run_rows;
 use crate::source_lists::SourceLists;
+use crate::source_reader::SourceReader;
 use crate::sources::Source;
 use crate::whole_runs::{WholeRun, collect_all, kept_run, open_gate};
 use bytes::Bytes;
@@ -43,13 +47,43 @@ fn reader_count(format: Format, len: usize) -> usize
 
 /// The lists of the parts of a source, which have no fault, and how many lines they ignored.
 #[derive(Drop)]
-struct CleanParts {
-    lists: Vec<SourceList>,
-    ignored: u64,
+pub(crate) struct CleanParts {
+    pub(crate) lists: Vec<SourceList>,
+    pub(crate) ignored: u64,
 }
 
-/// Reads the parts of a source at the same time. `None` where it has to be read as one: where a part has a fault or all weigh too
-/// much together, so that the fault is told where it stands, and where a thread was refused.
+/// Reads parts of a source at the same time, each by its reader. `None` where the source has to be read as one: where a part has a fault or
+/// all weigh too much together, so that the fault is told where it stands, and where a thread was refused.
+pub(crate) fn read_clean<T: Threads + Wait + Copy + Send + 'static, S: RowSink>(
+    rt: &T,
+    alloc: Global,
+    readers: Vec<SourceReader>,
+    options: &Options,
+    sink: &mut S,
+) -> Result<Option<CleanParts>, AllocError>
+    requires few { length readers.items ≤ 64 }
+    requires told { All (λ reader. reader_told reader ≡ record { names = []; stacks = [] })
+        readers.items }
+    ensures parts { (whole : Rest) → ReadsInParts whole (map reader_rest readers.items)
+        → IfOk result (λ found. IfSome found (λ parts.
+        ArePartsOf whole parts.lists.items parts.ignored)) }
+    ensures setting { S.setting sink.new ≡ S.setting sink.old }
+{
+    let gate = open_gate(alloc)?;
+    match run_rows(rt, alloc, readers, options.ring, gate, sink) {
+        Ok(run) => {
+            let lists = run.lists;
+            match ignored_by_clean(&lists) {
+                Some(ignored) => Ok(Some(CleanParts { lists, ignored })),
+                None => Ok(None),
+            }
+        }
+        Err(CollectFault::OutOfMemory) => Err(AllocError),
+        Err(CollectFault::NoThread | CollectFault::Unfinished { .. }) => Ok(None),
+    }
+}
+
+/// Reads a source in parts, as `read_clean` does.
 fn read_parts<T: Threads + Wait + Copy + Send + 'static, S: RowSink>(
     rt: &T,
     alloc: Global,
@@ -65,22 +99,11 @@ fn read_parts<T: Threads + Wait + Copy + Send + 'static, S: RowSink>(
 {
     let count = reader_count(format, bytes.len());
     let readers = part_readers(alloc, format, bytes.clone()?, options, count)?;
-    let gate = open_gate(alloc)?;
-    match run_rows(rt, alloc, readers, options.ring, gate, sink) {
-        Ok(run) => {
-            let lists = run.lists;
-            match ignored_by_clean(&lists) {
-                Some(ignored) => Ok(Some(CleanParts { lists, ignored })),
-                None => Ok(None),
-            }
-        }
-        Err(CollectFault::OutOfMemory) => Err(AllocError),
-        Err(CollectFault::NoThread | CollectFault::Unfinished { .. }) => Ok(None),
-    }
+    read_clean(rt, alloc, readers, options, sink)
 }
 
 /// Reads a source by one reader.
-fn read_alone<T: Threads + Wait + Copy + Send + 'static>(
+pub(crate) fn read_alone<T: Threads + Wait + Copy + Send + 'static>(
     rt: &T,
     alloc: Global,
     format: Format,

@@ -1,25 +1,12 @@
-use Rattle.std.proofs.Common.{◌≡◌, ◌∙◌, ◌≤◌, ℕ, List, All, ap, map, subst, sym}
-use Rattle.sample_tables.specs.Samples.{total_weight}
-use Rattle.sample_tables.specs.declared.samples.TheConstants.{WEIGHT_LIMIT}
-use Rattle.stack_core.specs.Ledgers.{ListState}
-use Rattle.stack_core.specs.Parts.{IsClean, ReadsInParts, samples_of_parts}
+use Rattle.std.proofs.Common.{List, map, subst, ℕ}
+use Rattle.stack_core.specs.Parts.{ReadsInParts}
 use Rattle.stack_core.specs.Reading.{Rest}
-use Rattle.ring_collect.specs.Collection.{seen_as_rest}
 use Rattle.source_lists.specs.Sources.{read_bytes}
-use Rattle.source_lists.specs.checked.Parts.{ignored_by}
+use Rattle.source_lists.specs.checked.Readers.{reader_rest}
 use Rattle.source_lists.proofs.part_runs.read_parts.Goals as goal
 
--- the gate never stops
-pub returns-in-Some-clause-parts : goal.returns-in-Some-clause-parts
-returns-in-Some-clause-parts g c =
+pub returns-clause-parts : goal.returns-clause-parts
+returns-clause-parts g c =
     let read : List ℕ → Rest = λ bytes. read_bytes c.args.format bytes c.args.options.now.pick c.args.options.now.naming in
-    let lists = c.in-Ok.run'.lists.items in
-    let whole = c.in-Ok.ensures.whole (λ source index stops. stops) in
-    let clean =
-    subst (λ (lists : List ListState). All IsClean (map seen_as_rest lists) × (total_weight (samples_of_parts (map seen_as_rest lists)) ≤ WEIGHT_LIMIT) × (c.in-Some.ignored ≡ ignored_by (map seen_as_rest lists))) c.deref.ensures.value
-    c.in-Some.ensures in
-    let reads = subst (λ (rests : List Rest). ReadsInParts (read c.in_ok-clone.field-0) rests) (sym whole) c.in_ok-readers.ensures.parts in
-    record {
-      whole_is = ap read (sym c.in_ok-clone.ensures.cases) ∙ reads clean.0 clean.1;
-      ignored_is = clean.2;
-    }
+    c.read_clean.ensures.parts (read c.args.bytes.now)
+    (subst (λ (bytes : List ℕ). ReadsInParts (read bytes) (map reader_rest c.in_ok-readers.readers.items)) c.in_ok-clone.ensures.cases c.in_ok-readers.ensures.parts)
