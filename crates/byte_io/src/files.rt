@@ -1,5 +1,6 @@
 //! Where a run gets its sources: named files and the input.
-ghost use Rattle.std.specs.Prelude.{◌≡◌, ℕ, List, Option, IfOk, IfSome};
+ghost use Rattle.std.specs.Prelude.{◌≡◌, ℕ, List, map, Option, IfOk, IfSome};
+ghost use Rattle.std.specs.List.{concat};
 
 use crate::whole_input::LoadFault;
 use std::alloc::Global;
@@ -32,6 +33,17 @@ pub trait Files {
         ensures input { known_input self.new ≡ known_input self.old }
         ensures files { known_file self.new ≡ known_file self.old }
     {}
+
+    /// The bytes of the file of a path in pieces, one after another, where the file is long and can be loaded by
+    /// several threads at the same time. `None` where it is to be asked for by `named`, which also tells a fault.
+    fn pieces(&mut self, _alloc: Global, _path: &str) -> Option<Vec<Vec<u8>>>
+        ensures bytes { IfSome result (λ pieces. IfSome (known_file self.old _path.now) (λ known.
+            concat (map (λ piece. piece.items) pieces.items) ≡ known)) }
+        ensures input { known_input self.new ≡ known_input self.old }
+        ensures files { known_file self.new ≡ known_file self.old }
+    {
+        None
+    }
 
     /// Whether the input is a terminal, where someone has to type it.
     fn is_input_terminal(&self) -> bool;
