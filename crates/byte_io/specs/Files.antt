@@ -16,6 +16,10 @@ named_files files = files.named.items
 abbrev pub byte_limit : MemoryFiles → ℕ
 byte_limit files = files.limit
 
+-- how long the pieces are that a file is given in, if it is
+abbrev pub piece_length : MemoryFiles → Option ℕ
+piece_length files = files.piece_length
+
 -- the first file of a path
 abbrev pub file_at : List NamedFile → List ℕ → Option NamedFile
 file_at files path = find (λ file. pointwise nat_eq (string_bytes file.path) path) files

@@ -84,14 +84,19 @@ fn load_in_turn(alloc: Global, files: &mut [AheadFile]) {
 /// Whether it makes no difference in which order these are opened and read, and all of them may be
 /// loaded: they are plain files, and none of them is too large.
 pub(crate) fn are_plain<R: rt::Files>(rt: &R, paths: &[String]) -> bool {
-    paths.iter().all(|path| is_plain(rt, path))
+    paths.iter().all(|path| plain_length(rt, path).is_some())
 }
 
-fn is_plain<R: rt::Files>(rt: &R, path: &str) -> bool {
-    match fs::metadata(rt, path) {
-        Ok(metadata) => metadata.is_file() && metadata.len() <= SOURCE_LIMIT as u64,
-        Err(_) => false,
-    }
+/// How many bytes a plain file has that is not too large.
+pub(crate) fn plain_length<R: rt::Files>(rt: &R, path: &str) -> Option<usize> {
+    let metadata = fs::metadata(rt, path).ok()?;
+    let is_plain = metadata.is_file() && metadata.len() <= SOURCE_LIMIT as u64;
+    is_plain.then_some(metadata.len() as usize)
+}
+
+/// Whether the file of a path is among them.
+pub(crate) fn is_ahead(files: &[AheadFile], path: &str) -> bool {
+    files.iter().any(|file| file.path.as_str() == path)
 }
 
 /// Takes out the first file of a path, and answers its bytes, if it was loaded.

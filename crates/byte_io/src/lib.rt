@@ -4,18 +4,23 @@
 
 mod ahead_files;
 mod failure_counts;
+mod file_pieces;
 mod files;
 mod inlet;
+mod long_files;
 mod machine_files;
 mod memory_files;
 mod outlet;
 mod piece_output;
 mod piece_threads;
 mod pieces;
+mod positioned_read;
+mod range_reader;
 mod rollback;
 mod whole_input;
 mod whole_output;
 
+pub use file_pieces::load_in_pieces;
 pub use files::Files;
 pub use inlet::{CountedReader, Inlet};
 pub use machine_files::{MachineFiles, SOURCE_LIMIT};
@@ -24,6 +29,7 @@ pub use outlet::{CountedWriter, Outlet};
 pub use piece_output::{PieceFault, append_pieces, send_pieces};
 pub use piece_threads::send_pieces_in_threads;
 pub use pieces::{Chain, Literal, Pieces};
+pub use positioned_read::PositionedRead;
 pub use rollback::truncate_on_error;
 pub use whole_input::{LoadFault, load};
 pub use whole_output::{SendFault, send};

@@ -1,10 +1,12 @@
 //! The files and the standard input of the machine.
-ghost use Rattle.std.specs.Prelude.{◌≡◌, ◌≤◌, vec_len, IfOk, IfSome};
+ghost use Rattle.std.specs.Prelude.{◌≡◌, ◌≤◌, length, map, vec_len, IfOk, IfSome};
+ghost use Rattle.std.specs.List.{concat};
 ghost use Rattle.byte_io.specs.Files.{unknown, unknown_files};
 
-use crate::ahead_files::{AheadFile, are_plain, load_ahead, take_loaded};
+use crate::ahead_files::{AheadFile, are_plain, is_ahead, load_ahead, take_loaded};
 use crate::files::Files;
 use crate::inlet::CountedReader;
+use crate::long_files::load_long;
 use crate::whole_input::{LoadFault, load};
 use std::alloc::Global;
 use std::fs::File;
@@ -88,6 +90,22 @@ where
         if paths.len() > 1 && are_plain(self.rt, paths) {
             self.ahead = load_ahead(self.rt, alloc, paths).ok();
         }
+    }
+
+    // `named` gives what was loaded ahead.
+    fn pieces(&mut self, alloc: Global, path: &str) -> Option<Vec<Vec<u8>>>
+        ensures bytes { IfSome result (λ pieces. IfSome unknown (λ known.
+            concat (map (λ piece. piece.items) pieces.items) ≡ known)) }
+        ensures input { unknown ≡ unknown }
+        ensures files { unknown_files ≡ unknown_files }
+        ensures within { IfSome result (λ pieces.
+            length (concat (map (λ piece. piece.items) pieces.items)) ≤ SOURCE_LIMIT) }
+    {
+        let ahead = self.ahead.as_ref();
+        if ahead.is_some_and(|files| is_ahead(files, path)) {
+            return None;
+        }
+        load_long(self.rt, alloc, path)
     }
 
     fn is_input_terminal(&self) -> bool {

@@ -1,6 +1,7 @@
 //! Files and an input in memory.
-ghost use Rattle.std.specs.Prelude.{◌≡◌, ◌≢◌, ◌<◌, ◌≤◌, [], ◌∷◌, ◌++◌, length, vec_len, false, Some, OnOk, OnErr, IfOk, IfSome, IsErrOf, IsNone};
-ghost use Rattle.byte_io.specs.Files.{input_bytes, named_files, byte_limit, file_at, bytes_at};
+ghost use Rattle.std.specs.Prelude.{◌≡◌, ◌≢◌, ◌-◌, ◌<◌, ◌≤◌, [], ◌∷◌, ◌++◌, max, All, length, map, take, vec_len, false, Some, None, OnOk, OnErr, IfOk, IfSome, IsErrOf, IsNone};
+ghost use Rattle.byte_io.specs.Files.{input_bytes, named_files, byte_limit, piece_length, file_at, bytes_at};
+ghost use Rattle.std.specs.List.{concat};
 ghost use Rattle.std.specs.Option.{option_copied};
 
 use crate::files::Files;
@@ -20,6 +21,8 @@ pub struct MemoryFiles {
     input: Vec<u8>,
     named: Vec<NamedFile>,
     limit: usize,
+    // How long the pieces of a file are, where it is to be given in pieces.
+    piece_length: Option<usize>,
 }
 
 impl MemoryFiles {
@@ -28,12 +31,25 @@ impl MemoryFiles {
         ensures input { input_bytes result ≡ input.items }
         ensures files { named_files result ≡ [] }
         ensures limit { byte_limit result ≡ limit }
+        ensures pieces { piece_length result ≡ None }
     {
         MemoryFiles {
             input,
             named: Vec::new(alloc),
             limit,
+            piece_length: None,
         }
+    }
+
+    /// The same, but that `pieces` gives a file of more than `length` bytes in pieces of so many, 0 counting as 1.
+    pub fn in_pieces_of(mut self, length: usize) -> MemoryFiles
+        ensures pieces { piece_length result ≡ Some length }
+        ensures input { input_bytes result ≡ input_bytes self }
+        ensures files { named_files result ≡ named_files self }
+        ensures limit { byte_limit result ≡ byte_limit self }
+    {
+        self.piece_length = Some(length);
+        self
     }
 
     /// Adds a file. Of two files of one path the one that was added first is found.
@@ -42,6 +58,7 @@ impl MemoryFiles {
         ensures err { OnErr result (named_files self.new ≡ named_files self.old) }
         ensures input { input_bytes self.new ≡ input_bytes self.old }
         ensures limit { byte_limit self.new ≡ byte_limit self.old }
+        ensures pieces { piece_length self.new ≡ piece_length self.old }
     {
         self.named.push(file)?;
         Ok(())
@@ -98,6 +115,27 @@ impl Files for MemoryFiles {
         // They are in memory already.
     }
 
+    fn pieces(&mut self, alloc: Global, path: &str) -> Option<Vec<Vec<u8>>>
+        ensures bytes { IfSome result (λ pieces. IfSome (bytes_at self.old path.now) (λ known.
+            concat (map (λ piece. piece.items) pieces.items) ≡ known)) }
+        ensures input { Some (input_bytes self.new) ≡ Some (input_bytes self.old) }
+        ensures files { bytes_at self.new ≡ bytes_at self.old }
+        ensures unchanged { self.new ≡ self.old }
+        ensures absent { IsNone (file_at (named_files self.old) path.now) → IsNone result }
+        ensures unasked { IsNone (piece_length self.old) → IsNone result }
+        ensures within { IfSome result (λ pieces.
+            length (concat (map (λ piece. piece.items) pieces.items)) ≤ byte_limit self.old) }
+        ensures full { IfSome result (λ pieces. IfSome (piece_length self.old) (λ length.
+            All (λ piece. vec_len piece ≡ max 1 length) (take (vec_len pieces - 1) pieces.items))) }
+    {
+        let length = self.piece_length?.max(1);
+        let file = first_at(self.named.as_slice(), path)?;
+        if file.bytes.len() <= length || file.bytes.len() > self.limit {
+            return None;
+        }
+        cut(alloc, file.bytes.as_slice(), length).ok()
+    }
+
     fn is_input_terminal(&self) -> bool
         ensures never { result ≡ false }
     {
@@ -129,4 +167,23 @@ fn copied(alloc: Global, bytes: &[u8], limit: usize) -> Result<Vec<u8>, LoadFaul
         return Err(LoadFault::TooLarge);
     }
     Ok(Vec::from_slice(alloc, bytes)?)
+}
+
+// The bytes again, in pieces of a length and a last one of what is left.
+fn cut(alloc: Global, bytes: &[u8], length: usize) -> Result<Vec<Vec<u8>>, AllocError>
+    requires { 0 < length }
+    ensures same { IfOk result (λ pieces.
+        concat (map (λ piece. piece.items) pieces.items) ≡ bytes.now) }
+    ensures full { IfOk result (λ pieces.
+        All (λ piece. vec_len piece ≡ length) (take (vec_len pieces - 1) pieces.items)) }
+{
+    let mut pieces = Vec::new(alloc);
+    let mut rest = bytes;
+    'each: while rest.len() > length {
+        let (piece, others) = rest.split_at(length);
+        pieces.push(Vec::from_slice(alloc, piece)?)?;
+        rest = others;
+    }
+    pieces.push(Vec::from_slice(alloc, rest)?)?;
+    Ok(pieces)
 }
