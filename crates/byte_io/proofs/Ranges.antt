@@ -1,11 +1,11 @@
 -- Ranges of bytes, from a place on.
-use Rattle.std.proofs.Common.{◌≡◌, ℕ, zero, suc, ◌+◌, ◌-◌, ◌<◌, ◌≤◌, List, ◌∷◌, ◌++◌, Option, Some, None, IfSome, length, take, drop, refl, sym, ap, subst, ◌∙◌, arith}
+use Rattle.std.proofs.Common.{◌≡◌, ℕ, zero, suc, ◌+◌, ◌-◌, ◌<◌, ◌≤◌, List, ◌∷◌, ◌++◌, Option, Some, None, IfSome, length, take, drop, refl, sym, ap, subst, map, Vec, Global, vec_len, ◌∙◌, arith}
 use Rattle.std.proofs.Math.Seq.{take-add}
-use Rattle.std.proofs.lemmas.List.{drop-drop, drop_all, take-append-le}
+use Rattle.std.proofs.lemmas.List.{drop-drop, drop_all, take-append-le, length-append}
 use Rattle.std.proofs.lemmas.List.Elements.{All-cons}
-use Rattle.std.specs.List.{All}
+use Rattle.std.specs.List.{All, concat}
 use Rattle.std.specs.Io.KnownBytes.{Consumes, IsAtEnd}
-use Rattle.byte_io.specs.checked.Ranges.{known_range}
+use Rattle.byte_io.specs.checked.Ranges.{known_range, IsFull, AreRange}
 
 -- the front of a range, and what is behind it
 pub range_parts : (all : List ℕ) (at count left : ℕ) → count ≤ left → take left (drop at all) ≡ take count (drop at all) ++ take (left - count) (drop (at + count) all)
@@ -42,3 +42,13 @@ pub full_first : {X : Type 0} (IsFull : X → Type 0) (count : ℕ) (first : X) 
 full_first IsFull count first others many is full =
     let more : count - 1 ≡ suc (count - 1 - 1) = omega arith in
     subst (λ n. All IsFull (take n (first ∷ others))) (sym more) (All-cons IsFull first (take (count - 1 - 1) others) is full)
+
+-- a full piece, and the pieces of what is behind it
+pub range_pieces : (known : Option (List ℕ)) (at left size count : ℕ) (first : Vec ℕ Global) (others : List (Vec ℕ Global)) → size ≤ left → 1 < count → IsFull (known_range known at size) size first
+    → AreRange (known_range known (at + size) (left - size)) (left - size) size (count - 1) others → AreRange (known_range known at left) left size count (first ∷ others)
+range_pieces known at left size count first others within many is rest = record {
+  whole = range_joined known at size left first.items (concat (map (λ piece. piece.items) others)) within is.whole rest.whole;
+  below = omega (arith, length-append first.items (concat (map (λ piece. piece.items) others)), first.ok.0, is.full, rest.below);
+  full = full_first (λ (piece : Vec ℕ Global). vec_len piece ≡ size) count first others many is.full rest.full;
+  counted = omega (arith, rest.counted);
+}

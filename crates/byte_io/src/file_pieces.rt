@@ -1,7 +1,7 @@
 //! Long bytes that several threads load, a piece each.
-ghost use Rattle.std.specs.Prelude.{◌≡◌, ◌∷◌, ◌+◌, ◌-◌, ◌<◌, ◌≤◌, ◌^◌, max, All, length, map, take, vec_len, IfSome};
+ghost use Rattle.std.specs.Prelude.{◌≡◌, ◌∷◌, ◌+◌, ◌-◌, ◌<◌, ◌≤◌, ◌^◌, max, All, length, map, ℕ, take, vec_len, IfSome};
 ghost use Rattle.std.specs.List.{concat};
-ghost use Rattle.byte_io.specs.checked.Ranges.{known_range, range_left};
+ghost use Rattle.byte_io.specs.checked.Ranges.{known_range, range_left, IsFull, AreRange};
 
 use crate::inlet::CountedReader;
 use crate::positioned_read::PositionedRead;
@@ -31,11 +31,7 @@ pub fn load_in_pieces<R: Threads, B: PositionedRead + Sync>(
     ensures count { IfSome result (λ pieces. vec_len pieces ≡ max 1 count) }
 {
     // A byte more than the limit shows that there are too many.
-    let range = RangeReader {
-        bytes,
-        at: 0,
-        left: limit + 1,
-    };
+    let range = RangeReader::new(bytes, 0, limit + 1);
     load_range(rt, alloc, range, size, count)
 }
 
@@ -48,14 +44,8 @@ fn load_range<R: Threads, B: PositionedRead + Sync>(
     size: usize,
     count: usize,
 ) -> Option<Vec<Vec<u8>>>
-    ensures known { IfSome result (λ pieces.
-        IfSome (range_left B.content range.entry) (λ known.
-        concat (map (λ piece. piece.items) pieces.items) ≡ known)) }
-    ensures below { IfSome result (λ pieces.
-        length (concat (map (λ piece. piece.items) pieces.items)) < range.entry.left) }
-    ensures full { IfSome result (λ pieces.
-        All (λ piece. vec_len piece ≡ size) (take (count - 1) pieces.items)) }
-    ensures count { IfSome result (λ pieces. vec_len pieces ≡ max 1 count) }
+    ensures { IfSome result (λ pieces.
+        AreRange (range_left B.content range.entry) range.entry.left size count pieces.items) }
 {
     if count <= 1 {
         return load_last(alloc, range);
@@ -70,34 +60,15 @@ fn load_range<R: Threads, B: PositionedRead + Sync>(
     let theirs = alloc;
     let load_first = move || -> Option<Vec<u8>>
         requires { at + size < 2 ^ 64 }
-        ensures known { IfSome result (λ piece.
-            IfSome (known_range (B.content bytes.entry.now) at size) (λ known.
-            piece.items ≡ known)) }
-        ensures full { IfSome result (λ piece. vec_len piece ≡ size) }
-    {
-        let front = RangeReader {
-            bytes,
-            at,
-            left: size,
-        };
-        load_full(theirs, front)
-    };
+        ensures { IfSome result (λ piece.
+            IsFull (known_range (B.content bytes.entry.now) at size) size piece) }
+    { load_full(theirs, RangeReader::new(bytes, at, size)) };
     let load_others = move || -> Option<Vec<Vec<u8>>>
         requires { (1 < count) × (next + rest < 2 ^ 64) }
-        ensures known { IfSome result (λ pieces.
-            IfSome (known_range (B.content bytes.entry.now) next rest) (λ known.
-            concat (map (λ piece. piece.items) pieces.items) ≡ known)) }
-        ensures below { IfSome result (λ pieces.
-            length (concat (map (λ piece. piece.items) pieces.items)) < rest) }
-        ensures full { IfSome result (λ pieces.
-            All (λ piece. vec_len piece ≡ size) (take (count - 1 - 1) pieces.items)) }
-        ensures count { IfSome result (λ pieces. vec_len pieces ≡ max 1 (count - 1)) }
+        ensures { IfSome result (λ pieces.
+            AreRange (known_range (B.content bytes.entry.now) next rest) rest size (count - 1) pieces.items) }
     {
-        let back = RangeReader {
-            bytes,
-            at: next,
-            left: rest,
-        };
+        let back = RangeReader::new(bytes, next, rest);
         load_range(rt, alloc, back, size, count - 1)
     };
     let (first, others) = join(rt, load_first, load_others);
@@ -118,8 +89,7 @@ fn join_pieces(first: Vec<u8>, mut others: Vec<Vec<u8>>) -> Option<Vec<Vec<u8>>>
 // The bytes of a range, up to its end.
 fn load_all<B: PositionedRead>(alloc: Global, range: RangeReader<'_, B>) -> Option<Vec<u8>>
     ensures known { IfSome result (λ piece.
-        IfSome (range_left B.content range.entry) (λ known.
-        piece.items ≡ known)) }
+        IfSome (range_left B.content range.entry) (λ known. piece.items ≡ known)) }
     ensures within { IfSome result (λ piece. vec_len piece ≤ range.entry.left) }
 {
     let limit = range.left;
@@ -129,10 +99,8 @@ fn load_all<B: PositionedRead>(alloc: Global, range: RangeReader<'_, B>) -> Opti
 
 // The bytes of a range that has all that were asked for. A file that was cut meanwhile has fewer.
 fn load_full<B: PositionedRead>(alloc: Global, range: RangeReader<'_, B>) -> Option<Vec<u8>>
-    ensures known { IfSome result (λ piece.
-        IfSome (range_left B.content range.entry) (λ known.
-        piece.items ≡ known)) }
-    ensures full { IfSome result (λ piece. vec_len piece ≡ range.entry.left) }
+    ensures { IfSome result (λ piece.
+        IsFull (range_left B.content range.entry) range.entry.left piece) }
 {
     let size = range.left;
     let piece = load_all(alloc, range)?;
@@ -144,12 +112,8 @@ fn load_full<B: PositionedRead>(alloc: Global, range: RangeReader<'_, B>) -> Opt
 
 // The bytes of a range that ends behind them, as the only piece.
 fn load_last<B: PositionedRead>(alloc: Global, range: RangeReader<'_, B>) -> Option<Vec<Vec<u8>>>
-    ensures known { IfSome result (λ pieces.
-        IfSome (range_left B.content range.entry) (λ known.
-        concat (map (λ piece. piece.items) pieces.items) ≡ known)) }
-    ensures below { IfSome result (λ pieces.
-        length (concat (map (λ piece. piece.items) pieces.items)) < range.entry.left) }
-    ensures count { IfSome result (λ pieces. vec_len pieces ≡ 1) }
+    ensures { (size count : ℕ) → count ≤ 1 → IfSome result (λ pieces.
+        AreRange (range_left B.content range.entry) range.entry.left size count pieces.items) }
 {
     let end = range.left;
     let piece = load_all(alloc, range)?;

@@ -1,5 +1,5 @@
 //! Ranges of bytes that can be read from any place.
-ghost use Rattle.std.specs.Prelude.{◌≡◌, ◌<◌, ◌+◌, ◌^◌, IfSome};
+ghost use Rattle.std.specs.Prelude.{◌≡◌, ◌<◌, ◌+◌, ◌^◌};
 
 use crate::positioned_read::PositionedRead;
 use std::io;
@@ -12,6 +12,18 @@ pub(crate) struct RangeReader<'a, B> {
     pub at: u64,
     pub left: usize,
     ghost ends: { at + left < 2 ^ 64 },
+}
+
+impl<'a, B> RangeReader<'a, B> {
+    /// At most `left` bytes from a place on.
+    pub fn new(bytes: &'a B, at: u64, left: usize) -> RangeReader<'a, B>
+        requires { at + left < 2 ^ 64 }
+        ensures bytes { result.bytes ≡ bytes.entry }
+        ensures at { result.at ≡ at }
+        ensures left { result.left ≡ left }
+    {
+        RangeReader { bytes, at, left }
+    }
 }
 
 impl<B: PositionedRead> Read for RangeReader<'_, B> {

@@ -8,6 +8,7 @@ returns-clause-bytes g c =
     let front = c.read_from.new.buf in
     let back = drop c.min-room.result c.args.buf.now in
     let read = c.in_ok-count.ensures in
-    let long : length front ≡ min c.args.self.now.left (length c.args.buf.now) = omega (arith, c.read_from.auto.buf, c.min-room.ensures, length-take c.min-room.result c.args.buf.now) in
-    (front_read _ _ _ _ front back (omega (arith, read.bound.0, long)) read.bound.0 read.bytes,
-    λ none room. range_end _ _ _ _ (λ some. read.end (ap Ok none) (omega (arith, long, length-append front back, length-drop c.min-room.result c.args.buf.now))))
+    let long : length front ≡ min c.args.self.now.left (length c.args.buf.now) = omega (arith, c.read_from.auto.buf, c.min-room.ensures, length-take c.min-room.result c.args.buf.now) in (
+      front_read _ _ _ _ front back (omega (arith, read.bound.0, long)) read.bound.0 read.bytes,
+      λ none room. range_end _ _ _ _ (λ some. read.end (ap Ok none) (omega (arith, long, length-append front back, length-drop c.min-room.result c.args.buf.now))),
+    )
