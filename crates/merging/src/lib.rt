@@ -14,6 +14,6 @@ pub use collection::{Gathered, gather, gather_observed};
 pub use observers::Observer;
 pub use snapshots::Snapshot;
 pub use source_lists::{
-    Source, SourceLists, WholeRun, read_in_parts, read_sources, read_whole_sources,
+    Source, SourceLists, WholeRun, read_in_parts, read_sources, read_text, read_whole_sources,
 };
 pub use tree_sink::TreeSink;

@@ -1,25 +1,43 @@
 -- What is loaded for the paths of a run.
-use Rattle.std.specs.Prelude.{◌≡◌, ℕ, List, [], ◌∷◌, Option, IfSome, unwrap_or}
+use Rattle.std.specs.Prelude.{◌≡◌, ℕ, List, [], ◌∷◌, Option, IfSome, map, unwrap_or}
 use Rattle.std.specs.List.{AllZip}
 use Rattle.run_options.specs.Formats.{format_at}
 use Rattle.run_options.specs.declared.formats.Format.{Format}
 use Rattle.run_options.specs.declared.formats.Format.TheVariants.{Folded}
+use Rattle.source_lists.specs.Sources.{text_of}
 use Rattle.source_lists.specs.declared.sources.Source.{Source}
+use Rattle.opened_sources.specs.declared.loaded.Loaded.{Loaded}
+use Rattle.opened_sources.specs.declared.loaded.Loaded.TheVariants.{Sources, Text}
 
--- one source: the input, which is folded text unless another format was asked for
-abbrev pub IsInput : Option Format → List Source → List ℕ → Type 0
-IsInput asked [] input = ⊥
-IsInput asked (source ∷ []) input =
-    (source.format ≡ unwrap_or asked Folded) × (source.bytes.items ≡ input)
-IsInput asked (source ∷ another ∷ more) input = ⊥
+abbrev pub format_and_bytes : Source → Format × List ℕ
+format_and_bytes source = (source.format, source.bytes.items)
+
+-- the same of each source that is loaded
+abbrev pub loaded_bytes : Loaded → List (Format × List ℕ)
+loaded_bytes (Sources sources) = map format_and_bytes sources.items
+loaded_bytes (Text pieces) = (Folded, text_of pieces.items) ∷ []
+
+-- one source, by its format and its bytes: the input, which is folded text unless another format was asked for
+abbrev pub IsLoadedInput : Option Format → List (Format × List ℕ) → List ℕ → Type 0
+IsLoadedInput asked [] input = ⊥
+IsLoadedInput asked (source ∷ []) input = (source.0 ≡ unwrap_or asked Folded) × (source.1 ≡ input)
+IsLoadedInput asked (source ∷ another ∷ more) input = ⊥
 
 -- the source of a path: its format is that which was asked for or else that of the name, and its bytes are the file's, where
 -- they are known
+abbrev pub IsLoaded : Option Format → (List ℕ → Option (List ℕ)) → List ℕ → Format × List ℕ → Type 0
+IsLoaded asked files path source =
+    (source.0 ≡ unwrap_or asked (format_at path)) × IfSome (files path) (λ bytes. source.1 ≡ bytes)
+
+-- the source of each path, in order, or the input where there is no path
+abbrev pub AreLoaded : Option Format → Option (List ℕ) → (List ℕ → Option (List ℕ)) → List (List ℕ) → List (Format × List ℕ) → Type 0
+AreLoaded asked input files [] sources = IfSome input (IsLoadedInput asked sources)
+AreLoaded asked input files (path ∷ paths) sources = AllZip (IsLoaded asked files) (path ∷ paths) sources
+
+-- the source of a path
 abbrev pub IsOpened : Option Format → (List ℕ → Option (List ℕ)) → List ℕ → Source → Type 0
-IsOpened asked files path source =
-    (source.format ≡ unwrap_or asked (format_at path)) × IfSome (files path) (λ bytes. source.bytes.items ≡ bytes)
+IsOpened asked files path source = IsLoaded asked files path (format_and_bytes source)
 
 -- the source of each path, in order, or the input where there is no path
 abbrev pub AreOpened : Option Format → Option (List ℕ) → (List ℕ → Option (List ℕ)) → List (List ℕ) → List Source → Type 0
-AreOpened asked input files [] sources = IfSome input (IsInput asked sources)
-AreOpened asked input files (path ∷ paths) sources = AllZip (IsOpened asked files) (path ∷ paths) sources
+AreOpened asked input files paths sources = AreLoaded asked input files paths (map format_and_bytes sources)

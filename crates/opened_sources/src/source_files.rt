@@ -1,6 +1,6 @@
 //! The sources of a run, loaded.
 ghost use Rattle.std.specs.Prelude.{◌≡◌, ◌≢◌, ◌≤◌, [], ◌∷◌, ◌++◌, IfOk, IfErr, IfSome, OnOk, length, map, string_bytes};
-ghost use Rattle.opened_sources.specs.Opening.{AreOpened, IsInput, IsOpened};
+ghost use Rattle.opened_sources.specs.Opening.{AreOpened, IsLoadedInput, IsOpened, format_and_bytes};
 ghost use Rattle.opened_sources.specs.Failures.{IsOfLoad, IsOpening};
 
 use crate::failures::Failure;
@@ -72,7 +72,7 @@ fn add_source(sources: &mut Vec<Source>, source: Source) -> Result<(), AllocErro
 // The input, which is folded text unless another format was asked for.
 fn input<F: Files>(alloc: Global, files: &mut F, asked: Option<Format>) -> Result<Source, Failure>
     ensures input { IfOk result (λ source.
-        IfSome (F.known_input files.old) (IsInput asked (source ∷ []))) }
+        IfSome (F.known_input files.old) (IsLoadedInput asked (format_and_bytes source ∷ []))) }
     ensures err { IfErr result (IsOfLoad 0) }
 {
     match files.input(alloc) {

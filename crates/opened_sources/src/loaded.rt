@@ -1,0 +1,63 @@
+//! The sources of a run as they are loaded.
+ghost use Rattle.std.specs.Prelude.{◌≡◌, ◌≢◌, ◌≤◌, ℕ, List, Option, [], ◌∷◌, IfErr, IfOk, IfSome, length, map, string_bytes};
+ghost use Rattle.run_options.specs.declared.formats.Format.TheVariants.{Folded as IsFolded};
+ghost use Rattle.source_lists.specs.Sources.{text_of};
+ghost use Rattle.opened_sources.specs.Failures.{IsOpening};
+ghost use Rattle.opened_sources.specs.Opening.{AreLoaded, loaded_bytes};
+
+use crate::failures::Failure;
+use crate::source_files::open_sources;
+use byte_io::Files;
+use run_options::{Format, format_of};
+use source_lists::Source;
+use std::alloc::Global;
+
+/// What is loaded for a run.
+#[derive(Drop)]
+pub enum Loaded {
+    /// Sources, each with its bytes in one vector.
+    Sources(Vec<Source>),
+    /// The only source, a long folded text: its pieces, one after another.
+    Text(Vec<Vec<u8>>),
+}
+
+/// As `open_sources`, but a long folded text that comes alone is loaded by several threads at the same time, a piece each.
+pub fn load_sources<F: Files>(
+    alloc: Global,
+    files: &mut F,
+    paths: &[String],
+    asked: Option<Format>,
+) -> Result<Loaded, Failure>
+    ensures few { IfOk result (λ loaded. length (loaded_bytes loaded) ≤ 64) }
+    ensures count { IfOk result (λ loaded.
+        length paths.now ≡ 2 → length (loaded_bytes loaded) ≡ 2) }
+    ensures loaded { IfOk result (λ loaded. AreLoaded asked (F.known_input files.old)
+        (F.known_file files.old) (map string_bytes paths.now) (loaded_bytes loaded)) }
+    ensures err { IfErr result (IsOpening (length paths.now)) }
+    ensures within { result ≢ Err Failure.TooManyFiles → length paths.now ≤ 64 }
+{
+    match long_text(alloc, files, paths, asked) {
+        Some(pieces) => Ok(Loaded::Text(pieces)),
+        None => Ok(Loaded::Sources(open_sources(alloc, files, paths, asked)?)),
+    }
+}
+
+// The pieces of the only file, if it is a long folded text.
+fn long_text<F: Files>(
+    alloc: Global,
+    files: &mut F,
+    paths: &[String],
+    asked: Option<Format>,
+) -> Option<Vec<Vec<u8>>>
+    ensures text { IfSome result (λ pieces. (input : Option (List ℕ)) → AreLoaded asked input
+        (F.known_file files.old) (map string_bytes paths.now)
+        ((IsFolded, text_of pieces.items) ∷ [])) }
+    ensures one { IfSome result (λ _. length paths.now ≡ 1) }
+    ensures input { F.known_input files.new ≡ F.known_input files.old }
+    ensures files { F.known_file files.new ≡ F.known_file files.old }
+{
+    match paths {
+        [path] if asked.unwrap_or(format_of(path)) == Format::Folded => files.pieces(alloc, path),
+        _ => None,
+    }
+}
