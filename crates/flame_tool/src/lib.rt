@@ -3,6 +3,7 @@
 #![tactic(auto)]
 
 mod exits;
+mod loaded_runs;
 mod program;
 mod progress;
 mod types_run;

@@ -1,38 +1,30 @@
 //! The samples of the sources of a plan, collected and shown.
-ghost use Rattle.std.specs.Prelude.{◌≡◌, ◌≢◌, ◌≤◌, ◌<◌, ℕ, List, Option, false, IfOk, IfSome, IfErr, IsErrOf, IsNone, OnOk, length, map, true};
+ghost use Rattle.std.specs.Prelude.{◌≡◌, ◌≢◌, ◌≤◌, ◌<◌, ℕ, List, Option, false, IfOk, IfSome, IfErr, IsErrOf, IsNone, OnOk, length, true};
 ghost use Rattle.std.specs.Io.KnownBytes.{Appends};
 ghost use Rattle.merged_stacks.specs.Timeline.{samples_of};
 ghost use Rattle.command_line.specs.Plans.{IsComparison};
-ghost use Rattle.command_line.specs.declared.plans.PageForm.{PageForm as AskedPage};
-ghost use Rattle.ring_collect.specs.Collection.{AreWhole};
-ghost use Rattle.source_lists.specs.Sources.{rests_of, weight_of_sources};
-ghost use Rattle.source_lists.specs.Types.{source_type};
-ghost use Rattle.stack_core.specs.Interleaving.{IsInterleaving};
 ghost use Rattle.flame_tool.specs.KnownFacts.{known_facts};
 ghost use Rattle.flame_tool.specs.Requests.{known_rests};
 ghost use Rattle.sent_views.specs.Pages.{page_text, shown_text};
 ghost use Rattle.source_views.specs.Texts.{IsOrderless};
 ghost use Rattle.flame_tool.specs.Runs.{Shows};
-ghost use Rattle.opened_sources.specs.Opening.{AreOpened};
+ghost use Rattle.opened_sources.specs.Opening.{AreLoaded, loaded_bytes};
 ghost use Rattle.flame_tool.specs.checked.Failures.{Fails, FailsToShow, KeepsOutput};
 ghost use Rattle.opened_sources.specs.Failures.{has_fault, Flushes, Sends};
 ghost use Rattle.flame_tool.specs.checked.Forms.{IsOfView};
 
+use crate::loaded_runs::{read_loaded, told_types};
 use crate::progress::Progress;
 use byte_io::{Files, Outlet};
 use command_line::{Form, PageForm, Plan, View};
 use flame_layout::Width;
-use merging::{Gathered, Source, SourceLists, WholeRun, read_in_parts, read_whole_sources};
-use opened_sources::{Failure, any_fault, open_sources, report_endings};
-use profile_messages::SampleType;
-use ring_collect::CollectFault;
-use run_options::Options;
+use merging::{Gathered, SourceLists};
+use opened_sources::{Failure, Loaded, any_fault, load_sources, report_endings};
 use sent_views::{
     RunFacts, send_asked_page, send_asked_view, send_graph_with_snapshots, send_snapshots,
 };
-use source_lists::chosen_types;
 use stack_core::Listed;
-use std::alloc::{AllocError, Global};
+use std::alloc::Global;
 use std::sync::Wait;
 use std::thread::Threads;
 
@@ -62,10 +54,10 @@ pub(crate) fn show_views<T: Threads + Wait + Copy + Send + 'static, F: Files, W:
     ensures flushed { Flushes (W.is_flushed out.new) (W.failures out.old) (W.failures out.new)
         result }
 {
-    let sources = open_sources(alloc, files, plan.files.get(), plan.format)?;
+    let loaded = load_sources(alloc, files, plan.files.get(), plan.format)?;
     let is_shown = !plan.is_quiet && files.is_error_terminal();
     let mut progress = Progress::new(err, plan.files.get(), is_shown);
-    let shown = show_sources(rt, alloc, plan, sources, out, &mut progress);
+    let shown = show_sources(rt, alloc, plan, loaded, out, &mut progress);
     progress.clear();
     shown
 }
@@ -94,20 +86,20 @@ fn show_sources<T: Threads + Wait + Copy + Send + 'static, W: Outlet, E: Outlet>
     rt: &T,
     alloc: Global,
     plan: &Plan,
-    sources: Vec<Source>,
+    loaded: Loaded,
     out: &mut W,
     progress: &mut Progress<'_, E>,
 ) -> Result<(), Failure>
-    requires few { length sources.items ≤ 64 }
-    requires pairs { IsComparison plan.now.view → length sources.items ≡ 2 }
+    requires few { length (loaded_bytes loaded) ≤ 64 }
+    requires pairs { IsComparison plan.now.view → length (loaded_bytes loaded) ≡ 2 }
     requires every { IfSome plan.now.options.every (λ every. 1 ≤ every) }
     ensures ok { (input : Option (List ℕ)) (files : List ℕ → Option (List ℕ))
-        → AreOpened plan.now.format input files plan.now.files sources.items
+        → AreLoaded plan.now.format input files plan.now.files (loaded_bytes loaded)
         → OnOk result (IfSome (known_rests plan.now input files)
         (Shows plan.now (known_facts plan.now input files)
         (W.contents out.old) (W.contents out.new))) }
     ensures err { (input : Option (List ℕ)) (files : List ℕ → Option (List ℕ))
-        → AreOpened plan.now.format input files plan.now.files sources.items
+        → AreLoaded plan.now.format input files plan.now.files (loaded_bytes loaded)
         → IfErr result (λ failure. IfSome (known_rests plan.now input files)
         (Fails plan.now (known_facts plan.now input files) (W.contents out.old) (W.contents out.new) failure)) }
     ensures kept { IfErr result (λ failure.
@@ -116,47 +108,14 @@ fn show_sources<T: Threads + Wait + Copy + Send + 'static, W: Outlet, E: Outlet>
     ensures flushed { Flushes (W.is_flushed out.new) (W.failures out.old) (W.failures out.new)
         result }
 {
-    let types = told_types(alloc, plan, &sources)?;
-    let run = read_asked(rt, alloc, sources, &plan.options, progress)?;
+    let types = told_types(alloc, plan, &loaded)?;
+    let run = read_loaded(rt, alloc, loaded, &plan.options, progress)?;
     report_endings(progress.messages(), plan.files.get(), run.kept.lists());
     let facts = RunFacts {
         whole: run.whole_weight,
         types: Listed::of(types),
     };
     send_lists(rt, alloc, run.kept, plan, &facts, out)
-}
-
-// Reads the sources. Snapshots alone ask in which order the samples came.
-fn read_asked<T: Threads + Wait + Copy + Send + 'static, E: Outlet>(
-    rt: &T,
-    alloc: Global,
-    sources: Vec<Source>,
-    options: &Options,
-    progress: &mut Progress<'_, E>,
-) -> Result<WholeRun, CollectFault>
-    requires { length sources.items ≤ 64 }
-    ensures whole_lists { IfOk result (λ run.
-        AreWhole (rests_of options.now sources.items) run.kept.lists) }
-    ensures order { IfOk result (λ run.
-        IsInterleaving run.kept.order (samples_of run.kept.lists)) }
-    ensures whole_weight { IfOk result (λ run.
-        run.whole_weight ≡ weight_of_sources options.now sources.items) }
-{
-    match options.every {
-        Some(_) => read_whole_sources(rt, alloc, sources, options, progress),
-        None => read_in_parts(rt, alloc, sources, options, progress),
-    }
-}
-
-// The sample types of the weights of sources, which pages alone tell.
-fn told_types(alloc: Global, plan: &Plan, sources: &[Source]) -> Result<Vec<SampleType>, AllocError>
-    ensures { IfOk result (λ types. (page : AskedPage) → plan.now.form ≡ Form.Page page
-        → types.items ≡ map (source_type plan.now.options) sources.now) }
-{
-    match plan.form {
-        Form::Page(_) => chosen_types(alloc, sources, &plan.options),
-        Form::Text | Form::Types => Ok(Vec::new(alloc)),
-    }
 }
 
 // Sends what a plan asks for of the lists of a run, unless a source has a fault.

@@ -26,7 +26,7 @@ mod whole_runs;
 pub use part_runs::read_in_parts;
 pub use reading::{read_into, read_sources};
 pub use source_lists::SourceLists;
-pub use source_types::chosen_types;
+pub use source_types::{chosen_types, no_type};
 pub use sources::Source;
 pub use text_runs::read_text;
 pub use whole_runs::{WholeRun, read_whole_sources};

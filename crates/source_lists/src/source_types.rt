@@ -10,8 +10,8 @@ use run_options::{Format, Options, Pick};
 use stack_core::Text;
 use std::alloc::{AllocError, Global};
 
-/// The type of a source that has none.
-fn no_type(alloc: Global) -> SampleType
+/// The type of a source that has none, as folded text: name and unit are empty.
+pub fn no_type(alloc: Global) -> SampleType
     ensures { result ≡ no_type }
 {
     SampleType {

@@ -1,6 +1,7 @@
 //! The sample types of worked sources.
 
 mod parts;
+mod pieces;
 
 use super::texts::is_text;
 use profile_messages::SampleType;

@@ -93,19 +93,37 @@ pub(super) fn status_of<
     Ok(run(rt, alloc, words, &mut files, out, err))
 }
 
-/// Runs the program over what a case gives it.
-pub(super) fn answer<T: Threads + Wait + AllocGlobal + Copy + Send + 'static>(
+/// Runs the program over the files of a case.
+fn answer_over<T: Threads + Wait + AllocGlobal + Copy + Send + 'static>(
     rt: &T,
     case: &Case<'_>,
+    mut files: MemoryFiles,
 ) -> Result<Outcome, AllocError> {
     let mut out = CountedWriter::new(Vec::new(rt.alloc()));
     let mut err = CountedWriter::new(Vec::new(rt.alloc()));
-    let status = status_of(rt, case, &mut out, &mut err)?;
+    let words = texts(rt.alloc(), case.words)?;
+    let status = run(rt, rt.alloc(), words, &mut files, &mut out, &mut err);
     Ok(Outcome {
         status,
         out: out.into_inner(),
         err: err.into_inner(),
     })
+}
+
+/// Runs the program over what a case gives it.
+pub(super) fn answer<T: Threads + Wait + AllocGlobal + Copy + Send + 'static>(
+    rt: &T,
+    case: &Case<'_>,
+) -> Result<Outcome, AllocError> {
+    answer_over(rt, case, files_of(rt.alloc(), case)?)
+}
+
+/// The same where a file that is longer than some bytes can be had in pieces of so many.
+fn answer_in_pieces<T: Threads + Wait + AllocGlobal + Copy + Send + 'static>(
+    rt: &T,
+    case: &Case<'_>,
+) -> Result<Outcome, AllocError> {
+    answer_over(rt, case, files_of(rt.alloc(), case)?.in_pieces_of(5))
 }
 
 /// The bytes that were found are these.
@@ -124,6 +142,8 @@ fn ends_so<T: Threads + Wait + AllocGlobal + Abort + Copy + Send + 'static>(
     case: &Case<'_>,
 ) -> Result<(), AllocError> {
     let outcome = answer(rt, case)?;
+    is_as_wanted(rt, &outcome, case);
+    let outcome = answer_in_pieces(rt, case)?;
     is_as_wanted(rt, &outcome, case);
     Ok(())
 }

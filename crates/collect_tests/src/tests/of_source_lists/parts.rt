@@ -36,7 +36,7 @@ fn read_as_parts<T: Threads + Wait + Copy + Send + 'static>(
     Ok(read_in_parts(rt, alloc, sources, options, &mut NoSink::new())?)
 }
 
-fn read_as_one<T: Threads + Wait + Copy + Send + 'static>(
+pub(super) fn read_as_one<T: Threads + Wait + Copy + Send + 'static>(
     rt: &T,
     alloc: Global,
     format: Format,
@@ -68,7 +68,7 @@ fn are_same_samples(one: &SourceList, other: &SourceList) -> bool {
     one.len() == other.len()
 }
 
-fn expect_the_same(rt: &impl Abort, parts: &WholeRun, one: &WholeRun, ending: SourceEnd) {
+pub(super) fn expect_the_same(rt: &impl Abort, parts: &WholeRun, one: &WholeRun, ending: SourceEnd) {
     let (parts, one) = (parts.kept.lists(), one.kept.lists());
     assert!(rt; parts.len() == 1 && one.len() == 1);
     assert!(rt; are_same_samples(&parts[0], &one[0]));
