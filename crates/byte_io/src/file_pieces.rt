@@ -10,9 +10,9 @@ use crate::whole_input::load;
 use std::alloc::Global;
 use std::thread::{Threads, join};
 
-/// Loads all of some bytes in so many pieces, one after another, each in a thread of its own. Each but the last has
-/// `size` bytes, and the last goes on up to the end. `None` where there are too few bytes for that, or more than
-/// `limit`, and where they can't be read or there is no memory for them.
+/// Loads all of some bytes in so many pieces, one after another, each in a thread of its own where one can be made.
+/// Each but the last has `size` bytes, and the last goes on up to the end. A `count` of 0 is 1. `None` where there
+/// are too few bytes for that, or more than `limit`, and where they can't be read or there is no memory for them.
 pub fn load_in_pieces<R: Threads, B: PositionedRead + Sync>(
     rt: &R,
     alloc: Global,
@@ -74,8 +74,7 @@ fn load_range<R: Threads, B: PositionedRead + Sync>(
     let (first, others) = join(rt, load_first, load_others);
     let first = first?;
     let others = others?;
-    let pieces = join_pieces(first, others)?;
-    Some(pieces)
+    join_pieces(first, others)
 }
 
 // A piece, and those behind it.
