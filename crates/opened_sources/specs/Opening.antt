@@ -4,7 +4,7 @@ use Rattle.std.specs.List.{AllZip}
 use Rattle.run_options.specs.Formats.{format_at}
 use Rattle.run_options.specs.declared.formats.Format.{Format}
 use Rattle.run_options.specs.declared.formats.Format.TheVariants.{Folded}
-use Rattle.source_lists.specs.Sources.{text_of}
+use Rattle.source_lists.specs.Sources.{joined_pieces}
 use Rattle.source_lists.specs.declared.sources.Source.{Source}
 use Rattle.opened_sources.specs.declared.loaded.Loaded.{Loaded}
 use Rattle.opened_sources.specs.declared.loaded.Loaded.TheVariants.{Sources, Text}
@@ -15,7 +15,7 @@ format_and_bytes source = (source.format, source.bytes.items)
 -- the same of each source that is loaded
 abbrev pub loaded_bytes : Loaded → List (Format × List ℕ)
 loaded_bytes (Sources sources) = map format_and_bytes sources.items
-loaded_bytes (Text pieces) = (Folded, text_of pieces.items) ∷ []
+loaded_bytes (Text pieces) = (Folded, joined_pieces pieces.items) ∷ []
 
 -- one source, by its format and its bytes: the input, which is folded text unless another format was asked for
 abbrev pub IsLoadedInput : Option Format → List (Format × List ℕ) → List ℕ → Type 0

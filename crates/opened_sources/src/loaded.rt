@@ -1,7 +1,7 @@
 //! The sources of a run as they are loaded.
 ghost use Rattle.std.specs.Prelude.{◌≡◌, ◌≢◌, ◌≤◌, ℕ, List, Option, [], ◌∷◌, IfErr, IfOk, IfSome, length, map, string_bytes};
 ghost use Rattle.run_options.specs.declared.formats.Format.TheVariants.{Folded as IsFolded};
-ghost use Rattle.source_lists.specs.Sources.{text_of};
+ghost use Rattle.source_lists.specs.Sources.{joined_pieces};
 ghost use Rattle.opened_sources.specs.Failures.{IsOpening};
 ghost use Rattle.opened_sources.specs.Opening.{AreLoaded, loaded_bytes};
 
@@ -51,7 +51,7 @@ fn long_text<F: Files>(
 ) -> Option<Vec<Vec<u8>>>
     ensures text { IfSome result (λ pieces. (input : Option (List ℕ)) → AreLoaded asked input
         (F.known_file files.old) (map string_bytes paths.now)
-        ((IsFolded, text_of pieces.items) ∷ [])) }
+        ((IsFolded, joined_pieces pieces.items) ∷ [])) }
     ensures one { IfSome result (λ _. length paths.now ≡ 1) }
     ensures input { F.known_input files.new ≡ F.known_input files.old }
     ensures files { F.known_file files.new ≡ F.known_file files.old }

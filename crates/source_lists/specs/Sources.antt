@@ -15,9 +15,9 @@ use Rattle.run_options.specs.declared.options.Options.{Options}
 use Rattle.sample_tables.specs.Samples.{total_weight}
 use Rattle.merged_stacks.specs.Merged.{all_samples}
 
--- the text that comes in pieces
-abbrev pub text_of : List (Vec ℕ Global) → List ℕ
-text_of pieces = concat (map (λ piece. piece.items) pieces)
+-- the bytes that come in pieces, one piece after another
+abbrev pub joined_pieces : List (Vec ℕ Global) → List ℕ
+joined_pieces pieces = concat (map (λ piece. piece.items) pieces)
 
 -- the samples and the ending for which bytes of a format stand
 abbrev pub read_bytes : Format → List ℕ → Pick → Naming → Rest

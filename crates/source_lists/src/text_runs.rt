@@ -9,7 +9,7 @@ ghost use Rattle.merged_stacks.specs.Timeline.{samples_of};
 ghost use Rattle.folded_lines.specs.Reading.{read_folded};
 ghost use Rattle.ring_collect.specs.Collection.{AreWhole, seen_as_rest};
 ghost use Rattle.run_options.specs.declared.formats.Format.TheVariants.{Folded};
-ghost use Rattle.source_lists.specs.Sources.{asked_rest, text_of};
+ghost use Rattle.source_lists.specs.Sources.{asked_rest, joined_pieces};
 
 use crate::part_lists::joined_list;
 use crate::part_readers::text_readers;
@@ -47,7 +47,7 @@ fn read_pieces<T: Threads + Wait + Copy + Send + 'static, S: RowSink>(
     options: &Options,
     sink: &mut S,
 ) -> Result<SourceList, CollectFault>
-    ensures list { IfOk result (λ list. seen_as_rest list ≡ read_folded (text_of pieces.items)) }
+    ensures list { IfOk result (λ list. seen_as_rest list ≡ read_folded (joined_pieces pieces.items)) }
     ensures unfinished { (at : ℕ) → IsErrOf result (CollectFault.Unfinished at) → at < 1 }
     ensures setting { S.setting sink.new ≡ S.setting sink.old }
 {
@@ -75,11 +75,11 @@ pub fn read_text<T: Threads + Wait + Copy + Send + 'static, S: RowSink>(
 ) -> Result<WholeRun, CollectFault>
     // The one list is the samples that the text stands for, all that the filter keeps.
     ensures whole_lists { IfOk result (λ run.
-        AreWhole (asked_rest options.now Folded (text_of pieces.items) ∷ []) run.kept.lists) }
+        AreWhole (asked_rest options.now Folded (joined_pieces pieces.items) ∷ []) run.kept.lists) }
     ensures order { IfOk result (λ run.
         IsInterleaving run.kept.order (samples_of run.kept.lists)) }
     ensures whole_weight { IfOk result (λ run. run.whole_weight
-        ≡ total_weight (all_samples ((read_folded (text_of pieces.items)).samples ∷ []))) }
+        ≡ total_weight (all_samples ((read_folded (joined_pieces pieces.items)).samples ∷ []))) }
 
     ensures setting { S.setting sink.new ≡ S.setting sink.old }
     ensures refused { (source : ℕ) → IsErrOf result (CollectFault.Unfinished source) → source < 1 }
