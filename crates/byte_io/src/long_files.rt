@@ -12,7 +12,7 @@ use std::thread::Threads;
 use std::{fs, rt};
 
 // A file of fewer bytes is not worth the threads.
-const LONG: usize = 16 * 1024 * 1024;
+const LONG: usize = 4 * 1024 * 1024;
 
 // How many pieces a long file is loaded in.
 const PIECES: usize = 4;
