@@ -67,7 +67,11 @@ fn read_asked<T: Threads + Wait + Copy + Send + 'static, E: Outlet>(
 }
 
 /// The sample types of the weights of sources, which pages alone tell.
-pub(crate) fn told_types(alloc: Global, plan: &Plan, loaded: &Loaded) -> Result<Vec<SampleType>, AllocError>
+pub(crate) fn told_types(
+    alloc: Global,
+    plan: &Plan,
+    loaded: &Loaded,
+) -> Result<Vec<SampleType>, AllocError>
     ensures { IfOk result (λ types. (page : AskedPage) → plan.now.form ≡ Form.Page page
         → types.items ≡ types_of plan.now.options (loaded_bytes loaded.now)) }
 {

@@ -42,10 +42,7 @@ pub(crate) fn part_readers(
 }
 
 /// Readers of parts of a text that is cut at line ends, in their order, which have told nothing.
-pub(crate) fn text_readers(
-    alloc: Global,
-    parts: &[Bytes],
-) -> Result<Vec<SourceReader>, AllocError>
+pub(crate) fn text_readers(alloc: Global, parts: &[Bytes]) -> Result<Vec<SourceReader>, AllocError>
     requires { AreCutAtLines parts.now }
     ensures parts { IfOk result (λ readers.
         ReadsInParts (read_folded (concat parts.now)) (map reader_rest readers.items)) }

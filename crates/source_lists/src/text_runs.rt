@@ -54,13 +54,21 @@ fn read_pieces<T: Threads + Wait + Copy + Send + 'static, S: RowSink>(
     let parts = cut_pieces(alloc, pieces)?;
     if parts.len() <= READERS {
         let readers = text_readers(alloc, &parts)?;
-        if let Some(CleanParts { lists, ignored }) = read_clean(rt, alloc, readers, options, sink)? {
+        if let Some(CleanParts { lists, ignored }) = read_clean(
+            rt, alloc, readers, options, sink,
+        )? {
             // The text is given back before the lists are copied.
             drop(parts);
             return Ok(joined_list(alloc, lists, ignored)?);
         }
     }
-    read_alone(rt, alloc, Format::Folded, whole_text(alloc, parts)?, options)
+    read_alone(
+        rt,
+        alloc,
+        Format::Folded,
+        whole_text(alloc, parts)?,
+        options,
+    )
 }
 
 /// As `read_in_parts` of one source, the folded text of these pieces one after another. Each piece is read by a reader of its own, at the

@@ -68,7 +68,12 @@ fn are_same_samples(one: &SourceList, other: &SourceList) -> bool {
     one.len() == other.len()
 }
 
-pub(super) fn expect_the_same(rt: &impl Abort, parts: &WholeRun, one: &WholeRun, ending: SourceEnd) {
+pub(super) fn expect_the_same(
+    rt: &impl Abort,
+    parts: &WholeRun,
+    one: &WholeRun,
+    ending: SourceEnd,
+) {
     let (parts, one) = (parts.kept.lists(), one.kept.lists());
     assert!(rt; parts.len() == 1 && one.len() == 1);
     assert!(rt; are_same_samples(&parts[0], &one[0]));

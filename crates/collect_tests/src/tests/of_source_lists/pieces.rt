@@ -47,15 +47,9 @@ const TEXTS: &[(&[u8], SourceEnd)] = &[
         b"main;parse 1\nmain;merge 2\n# a comment\nmain;parse;cut 3",
         SourceEnd::Clean { ignored: 1 },
     ),
-    (
-        b"a 1\r\n\r\nb 2\r\n",
-        SourceEnd::Clean { ignored: 1 },
-    ),
+    (b"a 1\r\n\r\nb 2\r\n", SourceEnd::Clean { ignored: 1 }),
     // A piece may begin as gzip does, and a text may not.
-    (
-        b"a 1\n\x1f\x8b 7\nb 1\n",
-        SourceEnd::Clean { ignored: 0 },
-    ),
+    (b"a 1\n\x1f\x8b 7\nb 1\n", SourceEnd::Clean { ignored: 0 }),
     (b"\x1f\x8b 7\na 1\n", fault(ReadKind::Compressed, 1)),
     (b"a 1\nb 1.5\nc 1\n", fault(ReadKind::DecimalWeight, 2)),
     (b"a 1\nb 1\nc 1 2", fault(ReadKind::TwoColumns, 3)),
