@@ -2,6 +2,7 @@
 mod ahead;
 mod edge;
 mod fakes;
+mod files_in_pieces;
 mod page;
 mod pieces;
 mod threads;

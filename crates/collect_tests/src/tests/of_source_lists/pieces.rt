@@ -35,10 +35,6 @@ fn read_both_ways<T: Threads + Wait + Abort + Copy + Send + 'static>(
     Ok(())
 }
 
-const fn fault(kind: ReadKind, at: u64) -> SourceEnd {
-    SourceEnd::Fault(ReadFault { kind, at })
-}
-
 /// Texts, and how they end.
 const TEXTS: &[(&[u8], SourceEnd)] = &[
     (b"", SourceEnd::Clean { ignored: 0 }),
@@ -50,12 +46,33 @@ const TEXTS: &[(&[u8], SourceEnd)] = &[
     (b"a 1\r\n\r\nb 2\r\n", SourceEnd::Clean { ignored: 1 }),
     // A piece may begin as gzip does, and a text may not.
     (b"a 1\n\x1f\x8b 7\nb 1\n", SourceEnd::Clean { ignored: 0 }),
-    (b"\x1f\x8b 7\na 1\n", fault(ReadKind::Compressed, 1)),
-    (b"a 1\nb 1.5\nc 1\n", fault(ReadKind::DecimalWeight, 2)),
-    (b"a 1\nb 1\nc 1 2", fault(ReadKind::TwoColumns, 3)),
+    (
+        b"\x1f\x8b 7\na 1\n",
+        SourceEnd::Fault(ReadFault {
+            kind: ReadKind::Compressed,
+            at: 1,
+        }),
+    ),
+    (
+        b"a 1\nb 1.5\nc 1\n",
+        SourceEnd::Fault(ReadFault {
+            kind: ReadKind::DecimalWeight,
+            at: 2,
+        }),
+    ),
+    (
+        b"a 1\nb 1\nc 1 2",
+        SourceEnd::Fault(ReadFault {
+            kind: ReadKind::TwoColumns,
+            at: 3,
+        }),
+    ),
     (
         b"a 72057594037927935\nb 1\n",
-        fault(ReadKind::TotalTooLarge, 2),
+        SourceEnd::Fault(ReadFault {
+            kind: ReadKind::TotalTooLarge,
+            at: 2,
+        }),
     ),
 ];
 
