@@ -28,21 +28,14 @@ use std::thread::Threads;
 /// How many readers read the parts of a source at most. A stack that stands in all parts is told once for each.
 const READERS: usize = 4;
 
-/// How many bytes of a format there are for each reader. For fewer a thread costs more than it brings.
-fn part_len(format: Format) -> usize
-    ensures { 0 < result }
-{
-    match format {
-        Format::Folded => 1 << 22,
-        Format::Pprof => 1 << 21,
-    }
-}
+/// How many bytes there are for each reader. For fewer a thread costs more than it brings.
+const PART_LEN: usize = 1 << 20;
 
 /// How many readers read so many bytes that come alone.
-fn reader_count(format: Format, len: usize) -> usize
+fn reader_count(len: usize) -> usize
     ensures { (0 < result) × (result ≤ 64) }
 {
-    (len / part_len(format)).clamp(1, READERS)
+    (len / PART_LEN).clamp(1, READERS)
 }
 
 /// The lists of the parts of a source, which have no fault, and how many lines they ignored.
@@ -97,7 +90,7 @@ fn read_parts<T: Threads + Wait + Copy + Send + 'static, S: RowSink>(
         parts.lists.items parts.ignored)) }
     ensures setting { S.setting sink.new ≡ S.setting sink.old }
 {
-    let count = reader_count(format, bytes.len());
+    let count = reader_count(bytes.len());
     let readers = part_readers(alloc, format, bytes.clone()?, options, count)?;
     read_clean(rt, alloc, readers, options, sink)
 }
@@ -154,7 +147,7 @@ fn one_long(sources: Vec<Source>) -> Result<Source, Vec<Source>>
     ensures { MatchResult result (λ source. sources.items ≡ source ∷ []) (λ same. same ≡ sources) }
 {
     match sources.as_slice() {
-        [source] if reader_count(source.format, source.bytes.len()) > 1 => {}
+        [source] if reader_count(source.bytes.len()) > 1 => {}
         _ => return Err(sources),
     }
     let mut sources = sources;

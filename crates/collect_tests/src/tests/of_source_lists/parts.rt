@@ -101,7 +101,7 @@ fn append_often(out: &mut Vec<u8>, bytes: &[u8], times: usize) -> Result<(), All
     Ok(())
 }
 
-/// Four lines, of which the third is ignored, and so long that a text of 2,000 times these lines has three readers.
+/// Four lines, of which the third is ignored, and so long that a text of 2,000 times these lines has four readers.
 fn four_lines(alloc: Global) -> Result<Vec<u8>, AllocError> {
     let mut lines = b"main;parse;read_a_line_of_text 1\nmain;merge 2\n#".to_vec(alloc)?;
     append_often(&mut lines, b" a long comment", 450)?;
@@ -194,7 +194,7 @@ fn long_profile(alloc: Global, sample: &[u8]) -> Result<Vec<u8>, AllocError> {
     profile.extend_from_slice(sample)?;
     append_often(&mut profile, OTHER_SAMPLE, 3_500)?;
     profile.extend_from_slice(TABLES)?;
-    // A string that nothing names makes it so long that it has three readers.
+    // A string that nothing names makes it so long that it has four readers.
     profile.extend_from_slice(b"\x32\x80\x80\x80\x03")?;
     append_often(&mut profile, &[b' '; 1024], 6 << 10)?;
     Ok(profile)
