@@ -10,7 +10,7 @@ use clap::Command;
 use std::alloc::{AllocError, Global};
 
 // The day of the newest entry in CHANGELOG.md.
-const VERSION: &str = "2026-11-26";
+const VERSION: &str = "2026-11-27";
 
 const NOTES: &str = "\
 Formats:
