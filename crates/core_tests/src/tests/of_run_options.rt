@@ -1,139 +1,171 @@
 //! The example of the README, and what no contract says.
 
+use super::answers::{all, holds, none_fails};
 use run_options::{Filter, Format, FunctionOrder, MAX_WIDTH, Pick, RingSize, Width, format_of};
 use stack_core::{Names, Text};
 use std::alloc::{AllocError, Global};
-use std::process::Abort;
 use std::test::Fail;
 
-/// Holds at a row of a test.
-fn holds(rt: &impl Abort, row: &str, answer: bool) {
-    assert!(rt; answer, "{row}");
+fn has_sizes_of_the_readme() -> bool {
+    matches!(RingSize::of(1_024), Some(ring) if ring.get() == 1_024)
+        && RingSize::of(0).is_none()
+        && Width::of(MAX_WIDTH).is_some()
+        && Width::of(MAX_WIDTH + 1).is_none()
 }
 
-fn have_format(rt: &impl Abort, paths: &[&str], format: Format) {
-    for path in paths {
-        holds(rt, path, format_of(path) == format);
+/// The first path that is of another format than is said beside it.
+fn of_another_format<'a>(rows: &[(&'a str, Format)]) -> Option<&'a str> {
+    for (path, format) in rows {
+        if format_of(path) != *format {
+            return Some(*path);
+        }
     }
+    None
 }
+
+const FORMATS_OF_THE_README: &[(&str, Format)] = &[
+    ("cpu.pprof", Format::Pprof),
+    ("stacks.txt", Format::Folded),
+];
 
 #[test]
-fn example_of_the_readme(rt: HostRuntime) -> Result<(), Fail> {
-    let ring = RingSize::of(1_024).ok_or("no ring")?;
-    assert!(rt; ring.get() == 1_024 && RingSize::of(0).is_none());
-    assert!(rt; Width::of(MAX_WIDTH).is_some() && Width::of(MAX_WIDTH + 1).is_none());
-    have_format(&rt, &["cpu.pprof"], Format::Pprof);
-    have_format(&rt, &["stacks.txt"], Format::Folded);
-    Ok(())
-}
-
-fn is_named(pick: &Pick, wanted: &str) -> bool {
-    matches!(pick, Pick::Named(name) if name.get() == wanted)
+fn example_of_the_readme(rt: HostRuntime) {
+    assert!(rt; has_sizes_of_the_readme());
+    none_fails(&rt, of_another_format(FORMATS_OF_THE_README));
 }
 
 // A copy is made where there is memory.
-#[test]
-fn copy_of_a_named_choice(rt: HostRuntime) -> Result<(), Fail> {
-    let pick = Pick::Named(Text::from_str(rt.alloc(), "cpu")?);
-    let copy = pick.copy(rt.alloc())?;
-    assert!(rt; is_named(&copy, "cpu"));
-    Ok(())
+fn copy_of_cpu(alloc: Global) -> Result<Pick, AllocError> {
+    Pick::Named(Text::from_str(alloc, "cpu")?).copy(alloc)
 }
 
-fn filter_of(alloc: Global, focus: &[&str], hide: &[&str]) -> Result<Filter, AllocError> {
-    let focus = Names::from_strs(alloc, focus)?;
-    let hide = Names::from_strs(alloc, hide)?;
+fn is_named(pick: Result<Pick, AllocError>, wanted: &str) -> Result<bool, AllocError> {
+    Ok(matches!(&pick?, Pick::Named(name) if name.get() == wanted))
+}
+
+#[test]
+fn copy_of_a_named_choice(rt: HostRuntime) -> Result<(), Fail> {
+    holds(&rt, is_named(copy_of_cpu(rt.alloc()), "cpu"))
+}
+
+fn some(alloc: Global) -> Result<Filter, AllocError> {
+    let focus = Names::from_strs(alloc, &["lay", "pars"])?;
+    let hide = Names::from_strs(alloc, &["read"])?;
     Ok(Filter { focus, hide })
 }
 
-fn keeps(alloc: Global, filter: &Filter, names: &[&str]) -> Result<bool, AllocError> {
-    let stack = Names::from_strs(alloc, names)?;
-    Ok(filter.keeps(stack.get()))
+fn copy_of_some(alloc: Global) -> Result<Filter, AllocError> {
+    some(alloc)?.copy(alloc)
 }
 
-/// Which of three stacks a filter keeps.
-fn kept(alloc: Global, filter: &Filter) -> Result<[bool; 3], AllocError> {
-    let token = keeps(alloc, filter, &["main", "parse", "token"])?;
-    let reader = keeps(alloc, filter, &["main", "parse", "reader"])?;
-    let upper = keeps(alloc, filter, &["main", "Parse", "token"])?;
-    Ok([token, reader, upper])
+fn keeps(alloc: Global, filter: &Filter, stack: &[&str]) -> Result<bool, AllocError> {
+    Ok(filter.keeps(Names::from_strs(alloc, stack)?.get()))
 }
 
+const STACKS: &[&[&str]] = &[
+    &["main", "parse", "token"],
+    &["main", "parse", "reader"],
+    &["main", "Parse", "token"],
+];
+
+fn are_kept(alloc: Global, filter: &Filter, kept: [bool; 3]) -> Result<bool, AllocError> {
+    for at in 0..3usize {
+        if keeps(alloc, filter, STACKS[at])? != kept[at] {
+            return Ok(false);
+        }
+    }
+    Ok(true)
+}
+
+/// Whether a filter keeps those of the stacks that it should, and only that of everything says that it is.
 fn keeps_these(
-    rt: &(impl Abort + AllocGlobal),
-    filter: &Filter,
-    stacks: [bool; 3],
-) -> Result<(), AllocError> {
-    let found = kept(rt.alloc(), filter)?;
-    assert!(rt; found == stacks);
-    Ok(())
+    alloc: Global,
+    filter: Result<Filter, AllocError>,
+    is_everything: bool,
+    kept: [bool; 3],
+) -> Result<bool, AllocError> {
+    let filter = filter?;
+    let is_told = filter.is_everything() == is_everything;
+    all(&[Ok(is_told), are_kept(alloc, &filter, kept)])
 }
 
-fn copy_keeps_these(
-    rt: &(impl Abort + AllocGlobal),
-    filter: &Filter,
-    stacks: [bool; 3],
-) -> Result<(), AllocError> {
-    let copy = filter.copy(rt.alloc())?;
-    keeps_these(rt, &copy, stacks)
-}
-
-fn keeps_some(rt: &(impl Abort + AllocGlobal), filter: &Filter) -> Result<(), AllocError> {
-    assert!(rt; !filter.is_everything());
-    keeps_these(rt, filter, [true, false, false])?;
-    copy_keeps_these(rt, filter, [true, false, false])
-}
-
-fn keeps_all(rt: &(impl Abort + AllocGlobal), filter: &Filter) -> Result<(), AllocError> {
-    assert!(rt; filter.is_everything());
-    keeps_these(rt, filter, [true, true, true])
+fn filters_keep_theirs(alloc: Global) -> Result<bool, AllocError> {
+    let first = [true, false, false];
+    all(&[
+        keeps_these(alloc, Ok(Filter::everything(alloc)), true, [true; 3]),
+        keeps_these(alloc, some(alloc), false, first),
+        keeps_these(alloc, copy_of_some(alloc), false, first),
+    ])
 }
 
 #[test]
 fn samples_that_a_filter_keeps(rt: HostRuntime) -> Result<(), Fail> {
-    keeps_all(&rt, &Filter::everything(rt.alloc()))?;
-    let filter = filter_of(rt.alloc(), &["lay", "pars"], &["read"])?;
-    keeps_some(&rt, &filter)?;
-    Ok(())
+    holds(&rt, filters_keep_theirs(rt.alloc()))
+}
+
+fn has_its_formats() -> bool {
+    matches!(Format::named("folded"), Some(Format::Folded))
+        && matches!(Format::named("pprof"), Some(Format::Pprof))
+}
+
+/// The first name that is one of a format.
+fn of_a_format<'a>(names: &[&'a str]) -> Option<&'a str> {
+    for name in names {
+        if Format::named(name).is_some() {
+            return Some(*name);
+        }
+    }
+    None
 }
 
 const NO_FORMATS: &[&str] = &["", "Folded", "PPROF", "pprof ", "pb", "folded,pprof"];
 
 #[test]
 fn names_of_formats(rt: HostRuntime) {
-    assert!(rt; matches!(Format::named("folded"), Some(Format::Folded)));
-    assert!(rt; matches!(Format::named("pprof"), Some(Format::Pprof)));
-    for name in NO_FORMATS {
-        holds(&rt, name, Format::named(name).is_none());
+    assert!(rt; has_its_formats());
+    none_fails(&rt, of_a_format(NO_FORMATS));
+}
+
+fn has_its_orders() -> bool {
+    matches!(FunctionOrder::named("own"), Some(FunctionOrder::Own))
+        && matches!(FunctionOrder::named("total"), Some(FunctionOrder::Total))
+}
+
+/// The first name that is one of an order.
+fn of_an_order<'a>(names: &[&'a str]) -> Option<&'a str> {
+    for name in names {
+        if FunctionOrder::named(name).is_some() {
+            return Some(*name);
+        }
     }
+    None
 }
 
 const NO_ORDERS: &[&str] = &["", "Own", "TOTAL", "total ", "sum", "own,total"];
 
 #[test]
 fn names_of_orders(rt: HostRuntime) {
-    assert!(rt; matches!(FunctionOrder::named("own"), Some(FunctionOrder::Own)));
-    assert!(rt; matches!(FunctionOrder::named("total"), Some(FunctionOrder::Total)));
-    for name in NO_ORDERS {
-        holds(&rt, name, FunctionOrder::named(name).is_none());
-    }
+    assert!(rt; has_its_orders());
+    none_fails(&rt, of_an_order(NO_ORDERS));
 }
 
-const OF_PROFILES: &[&str] = &["cpu.prof", "x.pprof", "x.pb", "a/b.c/d.pb", ".prof"];
-
-const OF_LINES: &[&str] = &[
-    "x.folded",
-    "-",
-    "",
-    "prof",
-    "x.prof.txt",
-    "x.PROF",
-    "pb",
-    "x.pb.gz",
+const FORMATS: &[(&str, Format)] = &[
+    ("cpu.prof", Format::Pprof),
+    ("x.pprof", Format::Pprof),
+    ("x.pb", Format::Pprof),
+    ("a/b.c/d.pb", Format::Pprof),
+    (".prof", Format::Pprof),
+    ("x.folded", Format::Folded),
+    ("-", Format::Folded),
+    ("", Format::Folded),
+    ("prof", Format::Folded),
+    ("x.prof.txt", Format::Folded),
+    ("x.PROF", Format::Folded),
+    ("pb", Format::Folded),
+    ("x.pb.gz", Format::Folded),
 ];
 
 #[test]
 fn formats_by_name(rt: HostRuntime) {
-    have_format(&rt, OF_PROFILES, Format::Pprof);
-    have_format(&rt, OF_LINES, Format::Folded);
+    none_fails(&rt, of_another_format(FORMATS));
 }

@@ -1,70 +1,74 @@
+ghost use Rattle.std.specs.Prelude.{◌≡◌};
+
+use crate::tests::answers::holds;
 use sample_tables::{Names, RowTable, Text};
-use std::alloc::AllocError;
+use std::alloc::{AllocError, Global};
 use std::process::Abort;
 use std::test::Fail;
 
-fn add_name(rt: &impl AllocGlobal, table: &mut RowTable, name: &str) -> Result<(), AllocError> {
-    table.add_name(Text::from_str(rt.alloc(), name)?)
+/// A table that has nothing yet takes what a test gives it, and then has what it should.
+fn table_holds(
+    rt: &(impl Abort + AllocGlobal),
+    takes: fn(Global, &mut RowTable) -> Result<bool, AllocError>,
+) -> Result<(), Fail>
+    requires { IsAlwaysCallable takes }
+{
+    holds(rt, takes(rt.alloc(), &mut RowTable::new(rt.alloc())))
 }
 
-/// Adds two names.
-fn add_names(rt: &impl AllocGlobal, table: &mut RowTable) -> Result<(), AllocError> {
-    add_name(rt, table, "main")?;
-    add_name(rt, table, "parse")
+fn add_name(alloc: Global, table: &mut RowTable, name: &str) -> Result<(), AllocError> {
+    table.add_name(Text::from_str(alloc, name)?)
 }
 
-/// Takes two samples of one stack.
-fn take_samples(rt: &impl Abort, table: &mut RowTable) -> Result<(), AllocError> {
-    assert!(rt; table.name_count() == 2);
+/// Takes two samples of one stack, where there are two names.
+fn takes_samples(table: &mut RowTable) -> Result<bool, AllocError> {
+    if table.name_count() != 2 {
+        return Ok(false);
+    }
     table.take_row([0, 1].as_slice(), 5)?;
-    table.take_again(0, 2)
+    table.take_again(0, 2)?;
+    Ok(table.len() == 2 && table.frames(1) == [0, 1].as_slice() && table.total() == 7)
 }
 
-fn has_samples(rt: &impl Abort, table: &RowTable) {
-    assert!(rt; table.len() == 2 && table.frames(1) == [0, 1].as_slice());
-    assert!(rt; table.total() == 7);
-}
-
-fn takes_as_on_the_page(rt: &(impl Abort + AllocGlobal), table: &mut RowTable) -> Result<(), Fail> {
-    add_names(rt, table)?;
-    take_samples(rt, table)?;
-    has_samples(rt, table);
-    Ok(())
+fn takes_as_on_the_page(alloc: Global, table: &mut RowTable) -> Result<bool, AllocError> {
+    add_name(alloc, table, "main")?;
+    add_name(alloc, table, "parse")?;
+    takes_samples(table)
 }
 
 // The example of README.md.
 #[test]
 fn example_of_the_page(rt: HostRuntime) -> Result<(), Fail> {
-    takes_as_on_the_page(&rt, &mut RowTable::new(rt.alloc()))
+    table_holds(&rt, takes_as_on_the_page)
 }
 
 /// The only sample, whose names were told with it.
-fn has_named_sample(rt: &impl Abort, table: &RowTable) {
-    assert!(rt; table.name_count() == 2 && table.name(1) == "b");
-    assert!(rt; table.stack_count() == 1 && table.stack(0) == [0, 1].as_slice());
-    assert!(rt; table.len() == 1 && table.weight(0) == 3);
+fn has_named_sample(table: &RowTable) -> bool {
+    table.name_count() == 2
+        && table.name(1) == "b"
+        && table.stack_count() == 1
+        && table.stack(0) == [0, 1].as_slice()
+        && table.len() == 1
+        && table.weight(0) == 3
 }
 
-fn takes_names(rt: &(impl Abort + AllocGlobal), table: &mut RowTable) -> Result<(), Fail> {
-    table.take(Names::from_strs(rt.alloc(), &["a", "b"])?, 3)?;
-    has_named_sample(rt, table);
-    Ok(())
+fn takes_names(alloc: Global, table: &mut RowTable) -> Result<bool, AllocError> {
+    table.take(Names::from_strs(alloc, &["a", "b"])?, 3)?;
+    Ok(has_named_sample(table))
 }
 
 #[test]
 fn samples_with_names_of_their_own(rt: HostRuntime) -> Result<(), Fail> {
-    takes_names(&rt, &mut RowTable::new(rt.alloc()))
+    table_holds(&rt, takes_names)
 }
 
-fn keeps_before_it_takes(rt: &impl Abort, table: &mut RowTable) -> Result<(), Fail> {
+fn keeps_before_it_takes(_: Global, table: &mut RowTable) -> Result<bool, AllocError> {
     table.keep([].as_slice())?;
     table.take_row([].as_slice(), 1)?;
-    assert!(rt; table.stack_count() == 2);
-    assert!(rt; table.len() == 1 && table.stack_number(0) == 1);
-    Ok(())
+    Ok(table.stack_count() == 2 && table.len() == 1 && table.stack_number(0) == 1)
 }
 
 #[test]
 fn kept_stacks_have_no_sample(rt: HostRuntime) -> Result<(), Fail> {
-    keeps_before_it_takes(&rt, &mut RowTable::new(rt.alloc()))
+    table_holds(&rt, keeps_before_it_takes)
 }

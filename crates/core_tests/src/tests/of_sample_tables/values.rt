@@ -1,93 +1,94 @@
-use crate::tests::copies::equals_its_copy;
-use crate::tests::texts::is_text;
-use sample_tables::{Listed, Names, Sample, Text};
+use crate::tests::answers::{all, holds};
+use crate::tests::copies::are_told_apart;
+use crate::tests::samples::sample;
+use sample_tables::{Listed, Names, Text};
 use std::alloc::{AllocError, Global};
-use std::process::Abort;
 use std::test::Fail;
 
-/// A sample of these names and this weight.
-fn sample(alloc: Global, names: &[&str], weight: u64) -> Result<Sample, AllocError> {
-    let stack = Names::from_strs(alloc, names)?;
-    Ok(Sample { stack, weight })
-}
-
-fn differs_from(
-    rt: &(impl Abort + AllocGlobal),
-    heavy: &Sample,
-    names: &[&str],
-    weight: u64,
-) -> Result<(), AllocError> {
-    let other = sample(rt.alloc(), names, weight)?;
-    assert!(rt; *heavy != other);
-    Ok(())
-}
-
-fn is_told_apart(rt: &(impl Abort + AllocGlobal), heavy: &Sample) -> Result<(), Fail> {
-    equals_its_copy(rt, heavy)?;
-    differs_from(rt, heavy, &["a", ""], 1)?;
-    differs_from(rt, heavy, &["a"], 2)?;
-    Ok(())
+fn samples_are_told_apart(alloc: Global) -> Result<bool, AllocError> {
+    all(&[
+        are_told_apart(sample(alloc, &["a", ""], 2), sample(alloc, &["a", ""], 1)),
+        are_told_apart(sample(alloc, &["a", ""], 2), sample(alloc, &["a"], 2)),
+    ])
 }
 
 #[test]
 fn copies_equal_their_sources(rt: HostRuntime) -> Result<(), Fail> {
-    let heavy = sample(rt.alloc(), &["a", ""], 2)?;
-    is_told_apart(&rt, &heavy)
+    holds(&rt, samples_are_told_apart(rt.alloc()))
 }
 
-fn text_is_told_apart(rt: &(impl Abort + AllocGlobal), text: &Text) -> Result<(), AllocError> {
-    is_text(rt, text.get(), "ab");
-    equals_its_copy(rt, text)?;
-    let other = Text::from_str(rt.alloc(), "ba")?;
-    assert!(rt; *text != other);
-    Ok(())
+fn text(alloc: Global) -> Result<Text, AllocError> {
+    Ok(Text::of(String::from_str(alloc, "ab")?))
+}
+
+fn is_plain(text: Result<Text, AllocError>) -> Result<bool, AllocError> {
+    let text = text?;
+    let is_lent = text.get() == "ab";
+    Ok(text.into_plain().as_str() == "ab" && is_lent)
+}
+
+fn texts_hold(alloc: Global) -> Result<bool, AllocError> {
+    all(&[
+        is_plain(text(alloc)),
+        are_told_apart(text(alloc), Text::from_str(alloc, "ba")),
+    ])
 }
 
 #[test]
 fn texts_are_what_they_hold(rt: HostRuntime) -> Result<(), Fail> {
-    let text = Text::of(String::from_str(rt.alloc(), "ab")?);
-    text_is_told_apart(&rt, &text)?;
-    is_text(&rt, text.into_plain().as_str(), "ab");
-    Ok(())
+    holds(&rt, texts_hold(rt.alloc()))
 }
 
-fn names_are_told_apart(rt: &(impl Abort + AllocGlobal), names: &Names) -> Result<(), AllocError> {
-    assert!(rt; names.get().len() == 2);
-    is_text(rt, names.get()[0].as_str(), "root");
-    let other = Names::from_strs(rt.alloc(), &["leaf", "root"])?;
-    assert!(rt; *names != other);
-    Ok(())
+fn names(alloc: Global) -> Result<Names, AllocError> {
+    Names::from_strs(alloc, &["root", "leaf"])
 }
 
-fn names_are_made_of_plain_ones(rt: &impl Abort, names: &Names) -> Result<(), AllocError> {
-    let again = Names::of(names.clone()?.into_plain());
-    assert!(rt; again == *names);
-    Ok(())
+fn are_from_the_root(names: &Names) -> bool {
+    names.get().len() == 2 && names.get()[0].as_str() == "root"
+}
+
+fn are_made_of_plain_ones(names: &Names) -> Result<bool, AllocError> {
+    Ok(Names::of(names.clone()?.into_plain()) == *names)
+}
+
+fn are_plain(names: Result<Names, AllocError>) -> Result<bool, AllocError> {
+    let names = names?;
+    all(&[
+        Ok(are_from_the_root(&names)),
+        are_made_of_plain_ones(&names),
+    ])
+}
+
+fn names_hold(alloc: Global) -> Result<bool, AllocError> {
+    all(&[
+        are_plain(names(alloc)),
+        are_told_apart(names(alloc), Names::from_strs(alloc, &["leaf", "root"])),
+    ])
 }
 
 #[test]
 fn names_are_what_they_hold(rt: HostRuntime) -> Result<(), Fail> {
-    let names = Names::from_strs(rt.alloc(), &["root", "leaf"])?;
-    names_are_told_apart(&rt, &names)?;
-    names_are_made_of_plain_ones(&rt, &names)?;
-    Ok(())
+    holds(&rt, names_hold(rt.alloc()))
 }
 
-fn numbers_are_told_apart(
-    rt: &(impl Abort + AllocGlobal),
-    listed: &Listed<usize>,
-) -> Result<(), AllocError> {
-    assert!(rt; listed.get() == [0, 1].as_slice());
-    equals_its_copy(rt, listed)?;
-    let other = Listed::of(vec![in rt.alloc(); 1, 0]?);
-    assert!(rt; *listed != other);
-    Ok(())
+fn listed(alloc: Global, first: usize, second: usize) -> Result<Listed<usize>, AllocError> {
+    Ok(Listed::of(vec![in alloc; first, second]?))
+}
+
+fn are_in_order(numbers: Result<Listed<usize>, AllocError>) -> Result<bool, AllocError> {
+    let numbers = numbers?;
+    let are_lent = numbers.get() == [0, 1].as_slice();
+    Ok(numbers.into_plain().as_slice() == [0, 1].as_slice() && are_lent)
+}
+
+fn lists_hold(alloc: Global) -> Result<bool, AllocError> {
+    all(&[
+        are_in_order(listed(alloc, 0, 1)),
+        are_told_apart(listed(alloc, 0, 1), listed(alloc, 1, 0)),
+    ])
 }
 
 #[test]
 fn lists_are_what_they_hold(rt: HostRuntime) -> Result<(), Fail> {
-    let listed = Listed::of(vec![in rt.alloc(); 0, 1]?);
-    numbers_are_told_apart(&rt, &listed)?;
-    assert!(rt; listed.into_plain().as_slice() == [0, 1].as_slice());
-    Ok(())
+    holds(&rt, lists_hold(rt.alloc()))
 }

@@ -2,25 +2,20 @@
 
 ghost use Rattle.std.specs.Prelude.{◌≡◌, ◌<◌, length, IfOk};
 
-use crate::tests::texts::is_text;
-use stack_core::{Close, Event, Item, Names, OpenGate, Sample, SourceEnd, World, laws};
+use crate::tests::answers::holds;
+use crate::tests::samples::sample;
+use stack_core::{Close, Event, Item, OpenGate, Sample, SourceEnd, World, laws};
 use std::alloc::{AllocError, Global};
 use std::process::Abort;
 use std::test::Fail;
 
 const CLEAN: Close = Close::Read(SourceEnd::Clean { ignored: 0 });
 
-// A sample of one frame.
-fn sample(alloc: Global, name: &str) -> Result<Item, AllocError> {
-    let stack = Names::from_strs(alloc, &[name])?;
-    Ok(Item::Sample(Sample { stack, weight: 1 }))
-}
-
 // A told list of samples of these names, which was read to its end.
 fn told(alloc: Global, names: &[&str]) -> Result<Vec<Item>, AllocError> {
     let mut items = Vec::new(alloc);
     for name in names {
-        items.push(sample(alloc, *name)?)?;
+        items.push(Item::Sample(sample(alloc, &[*name], 1)?))?;
     }
     items.push(Item::Close(CLEAN))?;
     Ok(items)
@@ -73,20 +68,17 @@ fn one_list(alloc: Global) -> Result<World, AllocError>
     World::new(alloc, lists, 1)
 }
 
-fn has_received_all(rt: &(impl Abort + AllocGlobal), world: &World) -> Result<(), AllocError>
+fn has_received_all(alloc: Global, world: &World) -> Result<bool, AllocError>
     requires { length world.now.lanes ≡ 1 }
 {
-    let whole = told(rt.alloc(), &["x"])?;
-    assert!(rt; world.received(0) == whole.as_slice());
-    Ok(())
+    Ok(world.received(0) == told(alloc, &["x"])?.as_slice())
 }
 
 #[test]
 fn world_and_ledger(rt: HostRuntime) -> Result<(), Fail> {
     let mut world = one_list(rt.alloc())?;
     play(&rt, &mut world, ONE_SOURCE);
-    has_received_all(&rt, &world)?;
-    Ok(())
+    holds(&rt, has_received_all(rt.alloc(), &world))
 }
 
 /// Two lists, of two samples and of one, through queues of two.
@@ -121,34 +113,35 @@ fn two_lists(alloc: Global) -> Result<World, AllocError>
     World::new(alloc, lists, 2)
 }
 
-fn has_received(
-    rt: &(impl Abort + AllocGlobal),
-    world: &World,
-    source: usize,
-    text: &str,
-) -> Result<(), AllocError>
+fn has_received(alloc: Global, world: &World, source: usize, text: &str) -> Result<bool, AllocError>
     requires { source < length world.now.lanes }
 {
-    let found = received(rt.alloc(), world, source)?;
-    is_text(rt, found.as_str(), text);
-    Ok(())
+    Ok(received(alloc, world, source)?.as_str() == text)
 }
 
-fn play_two_sources(rt: &(impl Abort + AllocGlobal), world: &mut World) -> Result<(), AllocError>
+fn have_received(
+    alloc: Global,
+    world: &World,
+    first: &str,
+    second: &str,
+) -> Result<bool, AllocError>
+    requires { length world.now.lanes ≡ 2 }
+{
+    Ok(has_received(alloc, world, 0, first)? && has_received(alloc, world, 1, second)?)
+}
+
+fn plays_two_sources(rt: &(impl Abort + AllocGlobal), world: &mut World) -> Result<(), Fail>
     requires { length world.old.lanes ≡ 2 }
 {
     play(rt, world, TWO_SOURCES);
-    has_received(rt, world, 0, "a")?;
-    has_received(rt, world, 1, "c.")?;
+    holds(rt, have_received(rt.alloc(), world, "a", "c."))?;
     play(rt, world, THE_REST);
-    has_received(rt, world, 0, "ab.")
+    holds(rt, has_received(rt.alloc(), world, 0, "ab."))
 }
 
 #[test]
 fn two_sources(rt: HostRuntime) -> Result<(), Fail> {
-    let mut world = two_lists(rt.alloc())?;
-    play_two_sources(&rt, &mut world)?;
-    Ok(())
+    plays_two_sources(&rt, &mut two_lists(rt.alloc())?)
 }
 
 const NO_SOURCE: &[(Event, bool)] = &[(Event::Push(0), false), (Event::Pop(0), false)];

@@ -1,72 +1,43 @@
 //! Calls of a ledger that are asked again where memory was refused, after a look that nothing changed.
 
-use stack_core::{Ledger, Listed, Names, Sample, Text};
-use std::alloc::AllocError;
-use std::process::Abort;
+use super::calls::{Call, is_made, numbers};
+use stack_core::Ledger;
+use std::alloc::{AllocError, Global};
 
-/// What a ledger says of itself: its samples, their weight and its names.
-pub fn numbers(ledger: &Ledger) -> (u64, u128, usize) {
-    (ledger.count(), ledger.weight(), ledger.told())
-}
-
-fn is_unchanged(rt: &impl Abort, ledger: &Ledger, before: (u64, u128, usize)) {
-    assert!(rt; numbers(ledger) == before);
-}
-
-fn tell(rt: &(impl Abort + AllocGlobal), ledger: &mut Ledger) -> Result<(), AllocError> {
-    assert!(rt; !ledger.is_closed());
-    ledger.tell(Text::from_str(rt.alloc(), "a")?)
-}
-
-/// Takes a row of the first name.
-pub fn take_row(
-    rt: &(impl Abort + AllocGlobal),
-    ledger: &mut Ledger,
-    weight: u64,
-) -> Result<(), AllocError> {
-    assert!(rt; !ledger.is_closed());
-    assert!(rt; ledger.told() > 0);
-    assert!(rt; weight < 9);
-    ledger.take_row(Listed::of(vec![in rt.alloc(); 0]?), weight)
-}
-
-fn take(
-    rt: &(impl Abort + AllocGlobal),
-    ledger: &mut Ledger,
-    weight: u64,
-) -> Result<(), AllocError> {
-    assert!(rt; !ledger.is_closed());
-    assert!(rt; weight < 9);
-    let stack = Names::from_strs(rt.alloc(), &["b", "c"])?;
-    ledger.take(Sample { stack, weight })
-}
-
-/// Tells a name, and asks again where it is refused. Says whether it was told in the end.
-pub fn tell_again(rt: &(impl Abort + AllocGlobal), ledger: &mut Ledger) -> bool {
+/// Makes a call, and again where it is refused and changed nothing.
+fn is_made_again(alloc: Global, ledger: &mut Ledger, call: &Call<'_>) -> Result<bool, AllocError> {
     let before = numbers(ledger);
-    if tell(rt, ledger).is_ok() {
-        return true;
+    if let Ok(made) = is_made(alloc, ledger, call) {
+        return Ok(made);
     }
-    is_unchanged(rt, ledger, before);
-    tell(rt, ledger).is_ok()
+    if numbers(ledger) != before {
+        return Ok(false);
+    }
+    is_made(alloc, ledger, call)
 }
 
-/// The same for a row.
-pub fn take_row_again(rt: &(impl Abort + AllocGlobal), ledger: &mut Ledger, weight: u64) -> bool {
-    let before = numbers(ledger);
-    if take_row(rt, ledger, weight).is_ok() {
-        return true;
+/// Tells a name, and takes a row of the first name and a sample, both of this weight.
+fn takes_each(alloc: Global, ledger: &mut Ledger, weight: u64) -> Result<bool, AllocError> {
+    let calls = [
+        Call::Tell("a"),
+        Call::Row(&[0], weight),
+        Call::Sample(&["b", "c"], weight),
+    ];
+    for call in &calls {
+        if !is_made_again(alloc, ledger, call)? {
+            return Ok(false);
+        }
     }
-    is_unchanged(rt, ledger, before);
-    take_row(rt, ledger, weight).is_ok()
+    Ok(true)
 }
 
-/// The same for a sample.
-pub fn take_again(rt: &(impl Abort + AllocGlobal), ledger: &mut Ledger, weight: u64) -> bool {
-    let before = numbers(ledger);
-    if take(rt, ledger, weight).is_ok() {
-        return true;
+/// Makes such calls until one is refused again. Nothing is wrong where one is.
+pub fn takes_all(alloc: Global, ledger: &mut Ledger) -> Result<bool, AllocError> {
+    for weight in 0..9u64 {
+        match takes_each(alloc, ledger, weight) {
+            Ok(true) => {}
+            found => return Ok(found.is_err()),
+        }
     }
-    is_unchanged(rt, ledger, before);
-    take(rt, ledger, weight).is_ok()
+    Ok(numbers(ledger) == (18, 72, 27))
 }
