@@ -1,9 +1,11 @@
 //! Worked command lines.
 mod examples;
+mod faults;
 mod filters;
 mod forms;
 mod help;
-mod plans;
+mod lines;
 mod refused;
 mod top;
+mod wanted;
 mod words;

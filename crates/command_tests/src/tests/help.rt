@@ -1,117 +1,114 @@
 //! Help, and the version.
 
-use super::plans::{holds, planned};
-use command_line::PlanFault;
-use std::alloc::Global;
-use std::process::Abort;
+use super::lines::are_answered;
+use super::wanted::Wanted;
+use std::test::Fail;
 
-// Help is shown, and has this part.
-fn helps(alloc: Global, line: &str, part: &str) -> bool {
-    match planned(alloc, line) {
-        Err(PlanFault::Help(text)) => text.as_str().contains(part),
-        _ => false,
-    }
-}
-
-// Each line shows help that has its part.
-pub(crate) fn show_help(rt: &impl Abort, alloc: Global, rows: &[(&str, &str)]) {
-    for (line, part) in rows {
-        holds(rt, line, helps(alloc, line, part));
-    }
-}
-
-const USAGES: &[(&str, &str)] = &[
-    ("--help", "\nUsage: flamecollect <COMMAND>\n"),
-    ("-h", "\nUsage: flamecollect <COMMAND>\n"),
+const USAGES: &[(&str, Wanted<'static>)] = &[
+    ("--help", Wanted::Help("\nUsage: flamecollect <COMMAND>\n")),
+    ("-h", Wanted::Help("\nUsage: flamecollect <COMMAND>\n")),
     (
         "fold --help",
-        "\nUsage: flamecollect fold [OPTIONS] [FILE]...\n",
+        Wanted::Help("\nUsage: flamecollect fold [OPTIONS] [FILE]...\n"),
     ),
     (
         "graph x --help",
-        "\nUsage: flamecollect graph [OPTIONS] [FILE]...\n",
+        Wanted::Help("\nUsage: flamecollect graph [OPTIONS] [FILE]...\n"),
     ),
     (
         "chart -h",
-        "\nUsage: flamecollect chart [OPTIONS] [FILE]...\n",
+        Wanted::Help("\nUsage: flamecollect chart [OPTIONS] [FILE]...\n"),
     ),
     (
         "compare --help",
-        "\nUsage: flamecollect compare [OPTIONS] <BEFORE> <AFTER>\n",
+        Wanted::Help("\nUsage: flamecollect compare [OPTIONS] <BEFORE> <AFTER>\n"),
     ),
     (
         "top --help",
-        "\nUsage: flamecollect top [OPTIONS] [FILE]...\n",
+        Wanted::Help("\nUsage: flamecollect top [OPTIONS] [FILE]...\n"),
     ),
-    ("types --help", "\nUsage: flamecollect types <FILE>\n"),
-    ("help", "\nUsage: flamecollect <COMMAND>\n"),
+    (
+        "types --help",
+        Wanted::Help("\nUsage: flamecollect types <FILE>\n"),
+    ),
+    ("help", Wanted::Help("\nUsage: flamecollect <COMMAND>\n")),
     (
         "help graph",
-        "\nUsage: flamecollect graph [OPTIONS] [FILE]...\n",
+        Wanted::Help("\nUsage: flamecollect graph [OPTIONS] [FILE]...\n"),
     ),
 ];
 
 #[test]
-fn help_of_each_command(rt: HostRuntime) {
-    show_help(&rt, rt.alloc(), USAGES);
+fn help_of_each_command(rt: HostRuntime) -> Result<(), Fail> {
+    are_answered(&rt, USAGES)
 }
 
-const COMMANDS: &[(&str, &str)] = &[
-    ("--help", "\n  fold "),
-    ("--help", "\n  graph "),
-    ("--help", "\n  chart "),
-    ("--help", "\n  compare "),
-    ("--help", "\n  top "),
-    ("--help", "\n  types "),
+const COMMANDS: &[(&str, Wanted<'static>)] = &[
+    ("--help", Wanted::Help("\n  fold ")),
+    ("--help", Wanted::Help("\n  graph ")),
+    ("--help", Wanted::Help("\n  chart ")),
+    ("--help", Wanted::Help("\n  compare ")),
+    ("--help", Wanted::Help("\n  top ")),
+    ("--help", Wanted::Help("\n  types ")),
 ];
 
 #[test]
-fn help_lists_the_commands(rt: HostRuntime) {
-    show_help(&rt, rt.alloc(), COMMANDS);
+fn help_lists_the_commands(rt: HostRuntime) -> Result<(), Fail> {
+    are_answered(&rt, COMMANDS)
 }
 
-// One line is shown, which begins with the program's name and a year.
-fn shows_the_version(alloc: Global, line: &str) -> bool {
-    match planned(alloc, line) {
-        Err(PlanFault::Help(text)) => is_version(text.as_str()),
-        _ => false,
-    }
-}
-
-fn is_version(text: &str) -> bool {
-    text.starts_with("flamecollect 2") && text.lines().count() == 1
-}
+const VERSIONS: &[(&str, Wanted<'static>)] = &[
+    ("--version", Wanted::Version),
+    ("-V", Wanted::Version),
+];
 
 #[test]
-fn version(rt: HostRuntime) {
-    assert!(rt; shows_the_version(rt.alloc(), "--version"));
-    assert!(rt; shows_the_version(rt.alloc(), "-V"));
+fn version(rt: HostRuntime) -> Result<(), Fail> {
+    are_answered(&rt, VERSIONS)
 }
 
 // The program's help tells the formats, and each command's has an example and the ring last.
-const PARTS: &[(&str, &str)] = &[
-    ("--help", "\nFormats:\n"),
-    ("--help", "gzip -dc"),
-    ("--help", "\nWithout a command, "),
-    ("fold --help", "\nExample: flamecollect fold "),
-    ("fold --help", "\nCompressed: gzip -dc "),
-    ("graph --help", "\nExample: flamecollect graph "),
-    ("graph --help", "\nCompressed: gzip -dc "),
-    ("chart --help", "\nExample: flamecollect chart "),
-    ("chart --help", "\nCompressed: gzip -dc "),
-    ("compare --help", "\nExample: flamecollect compare "),
-    ("compare --help", "\nCompressed: gzip -dk "),
-    ("top --help", "\nExample: flamecollect top "),
-    ("top --help", "\nCompressed: gzip -dc "),
-    ("top --help", "\n  -n, --number <N> "),
-    ("types --help", "\nExample: flamecollect types "),
-    ("types --help", "\nCompressed: gzip -dk "),
-    ("graph --help", "\nPages:\n      --page "),
-    ("fold --help", "\nRarely needed:\n      --ring <N> "),
-    ("compare --help", "\nRarely needed:\n      --ring <N> "),
+const PARTS: &[(&str, Wanted<'static>)] = &[
+    ("--help", Wanted::Help("\nFormats:\n")),
+    ("--help", Wanted::Help("gzip -dc")),
+    ("--help", Wanted::Help("\nWithout a command, ")),
+    ("fold --help", Wanted::Help("\nExample: flamecollect fold ")),
+    ("fold --help", Wanted::Help("\nCompressed: gzip -dc ")),
+    (
+        "graph --help",
+        Wanted::Help("\nExample: flamecollect graph "),
+    ),
+    ("graph --help", Wanted::Help("\nCompressed: gzip -dc ")),
+    (
+        "chart --help",
+        Wanted::Help("\nExample: flamecollect chart "),
+    ),
+    ("chart --help", Wanted::Help("\nCompressed: gzip -dc ")),
+    (
+        "compare --help",
+        Wanted::Help("\nExample: flamecollect compare "),
+    ),
+    ("compare --help", Wanted::Help("\nCompressed: gzip -dk ")),
+    ("top --help", Wanted::Help("\nExample: flamecollect top ")),
+    ("top --help", Wanted::Help("\nCompressed: gzip -dc ")),
+    ("top --help", Wanted::Help("\n  -n, --number <N> ")),
+    (
+        "types --help",
+        Wanted::Help("\nExample: flamecollect types "),
+    ),
+    ("types --help", Wanted::Help("\nCompressed: gzip -dk ")),
+    ("graph --help", Wanted::Help("\nPages:\n      --page ")),
+    (
+        "fold --help",
+        Wanted::Help("\nRarely needed:\n      --ring <N> "),
+    ),
+    (
+        "compare --help",
+        Wanted::Help("\nRarely needed:\n      --ring <N> "),
+    ),
 ];
 
 #[test]
-fn help_tells_formats_and_examples(rt: HostRuntime) {
-    show_help(&rt, rt.alloc(), PARTS);
+fn help_tells_formats_and_examples(rt: HostRuntime) -> Result<(), Fail> {
+    are_answered(&rt, PARTS)
 }

@@ -1,71 +1,82 @@
 //! Words that are refused, and what is said of them.
 
-use super::forms::{are_refused, is_refused};
-use super::plans::holds;
-use command_line::{PlanFault, plan};
+use super::lines::are_answered;
+use super::wanted::{REFUSED, Wanted};
+use std::test::Fail;
 
-const REFUSED: &[&str] = &[
-    "graph --width 0",
-    "graph --width 65537",
-    "graph --width -1",
-    "graph --width ten",
-    "fold --ring 0",
-    "fold --ring=65537",
-    "graph --every 0",
-    "graph --every 1000000001",
-    "graph --every 18446744073709551616",
-    "fold --format svg",
-    "graph --format=",
-    "chart --format PPROF",
-    "compare a b --format",
-    "fold --format pprof --format pprof",
-    "graph --width",
-    "graph --width 1 --width 1",
-    "fold --every 5",
-    "chart --every 5",
-    "fold --width 5",
-    "fold --boxes",
-    "compare a",
-    "compare",
-    "compare a b c",
-    "draw a",
-    "--ring 5 fold",
-    "fold --version",
-    "version",
-    "--",
-    "-- fold",
+const REFUSED_LINES: &[(&str, Wanted<'static>)] = &[
+    ("graph --width 0", REFUSED),
+    ("graph --width 65537", REFUSED),
+    ("graph --width -1", REFUSED),
+    ("graph --width ten", REFUSED),
+    ("fold --ring 0", REFUSED),
+    ("fold --ring=65537", REFUSED),
+    ("graph --every 0", REFUSED),
+    ("graph --every 1000000001", REFUSED),
+    ("graph --every 18446744073709551616", REFUSED),
+    ("fold --format svg", REFUSED),
+    ("graph --format=", REFUSED),
+    ("chart --format PPROF", REFUSED),
+    ("compare a b --format", REFUSED),
+    ("fold --format pprof --format pprof", REFUSED),
+    ("graph --width", REFUSED),
+    ("graph --width 1 --width 1", REFUSED),
+    ("fold --every 5", REFUSED),
+    ("chart --every 5", REFUSED),
+    ("fold --width 5", REFUSED),
+    ("fold --boxes", REFUSED),
+    ("compare a", REFUSED),
+    ("compare", REFUSED),
+    ("compare a b c", REFUSED),
+    ("draw a", REFUSED),
+    ("--ring 5 fold", REFUSED),
+    ("fold --version", REFUSED),
+    ("version", REFUSED),
+    ("--", REFUSED),
+    ("-- fold", REFUSED),
 ];
 
 #[test]
-fn refused_words(rt: HostRuntime) {
-    are_refused(&rt, rt.alloc(), REFUSED);
+fn refused_words(rt: HostRuntime) -> Result<(), Fail> {
+    are_answered(&rt, REFUSED_LINES)
 }
 
-const USAGES: &[(&str, &str)] = &[
+const USAGES: &[(&str, Wanted<'static>)] = &[
     (
         "fold --every 5",
-        "\nUsage: flamecollect fold [OPTIONS] [FILE]...\n",
+        Wanted::Refused(
+            "error: ",
+            "\nUsage: flamecollect fold [OPTIONS] [FILE]...\n",
+        ),
     ),
     (
         "compare a",
-        "\nUsage: flamecollect compare <BEFORE> <AFTER>\n",
+        Wanted::Refused(
+            "error: ",
+            "\nUsage: flamecollect compare <BEFORE> <AFTER>\n",
+        ),
     ),
-    ("draw a", "\nUsage: flamecollect <COMMAND>\n"),
+    (
+        "draw a",
+        Wanted::Refused("error: ", "\nUsage: flamecollect <COMMAND>\n"),
+    ),
     (
         "fold --format svg",
-        "error: invalid value 'svg' for '--format <FORMAT>'\n  [possible values: folded, pprof]\n",
+        Wanted::Refused(
+            "error: ",
+            "error: invalid value 'svg' for '--format <FORMAT>'\n  [possible values: folded, pprof]\n",
+        ),
     ),
 ];
 
 #[test]
-fn usage_of_refused_words(rt: HostRuntime) {
-    for (line, usage) in USAGES {
-        holds(&rt, line, is_refused(rt.alloc(), line, "error: ", usage));
-    }
+fn usage_of_refused_words(rt: HostRuntime) -> Result<(), Fail> {
+    are_answered(&rt, USAGES)
 }
 
+const NO_WORDS: &[(&str, Wanted<'static>)] = &[("", Wanted::Refused("", ""))];
+
 #[test]
-fn no_words(rt: HostRuntime) {
-    let answer = plan(rt.alloc(), &[]);
-    assert!(rt; matches!(answer, Err(PlanFault::Words(_))));
+fn no_words(rt: HostRuntime) -> Result<(), Fail> {
+    are_answered(&rt, NO_WORDS)
 }

@@ -1,8 +1,8 @@
 //! Worked command lines of tables of functions.
 
-use super::forms::{are_refused, is_refused};
-use super::plans::{are, expect_defaults, has_files, is_view, planned};
-use command_line::{Plan, TopTable, View};
+use super::lines::are_answered;
+use super::wanted::{NOTHING, REFUSED, Set, Shown, Wanted};
+use command_line::TopTable;
 use run_options::FunctionOrder;
 use std::test::Fail;
 
@@ -12,90 +12,106 @@ const BY_OWN: TopTable = TopTable {
     is_json: false,
 };
 
-const TABLES: &[(&str, TopTable)] = &[
-    ("top", BY_OWN),
-    ("top -n 3", TopTable { rows: 3, ..BY_OWN }),
-    ("top -n1", TopTable { rows: 1, ..BY_OWN }),
+const TABLES: &[(&str, Wanted<'static>)] = &[
+    ("top", Wanted::Defaults(Shown::Top(BY_OWN), &[])),
+    (
+        "top -n 3",
+        Wanted::Defaults(Shown::Top(TopTable { rows: 3, ..BY_OWN }), &[]),
+    ),
+    (
+        "top -n1",
+        Wanted::Defaults(Shown::Top(TopTable { rows: 1, ..BY_OWN }), &[]),
+    ),
     (
         "top --number 1000000000",
-        TopTable {
-            rows: 1_000_000_000,
-            ..BY_OWN
-        },
+        Wanted::Defaults(
+            Shown::Top(TopTable {
+                rows: 1_000_000_000,
+                ..BY_OWN
+            }),
+            &[],
+        ),
     ),
-    ("top --by own", BY_OWN),
+    ("top --by own", Wanted::Defaults(Shown::Top(BY_OWN), &[])),
     (
         "top --by=total",
-        TopTable {
-            by: FunctionOrder::Total,
-            ..BY_OWN
-        },
+        Wanted::Defaults(
+            Shown::Top(TopTable {
+                by: FunctionOrder::Total,
+                ..BY_OWN
+            }),
+            &[],
+        ),
     ),
     (
         "top --json",
-        TopTable {
-            is_json: true,
-            ..BY_OWN
-        },
+        Wanted::Defaults(
+            Shown::Top(TopTable {
+                is_json: true,
+                ..BY_OWN
+            }),
+            &[],
+        ),
     ),
 ];
 
 #[test]
 fn tables_of_functions(rt: HostRuntime) -> Result<(), Fail> {
-    for (line, table) in TABLES {
-        expect_defaults(&rt, rt.alloc(), line, View::Top(*table), &[])?;
-    }
-    Ok(())
+    are_answered(&rt, TABLES)
 }
 
-// Whether a plan is what the words of the test below ask for.
-fn is_asked_for(plan: &Plan) -> bool {
-    let table = TopTable {
-        by: FunctionOrder::Total,
-        rows: 7,
-        is_json: true,
-    };
-    let filter = &plan.options.filter;
-    is_view(plan, View::Top(table))
-        && are(&filter.focus, &["f"])
-        && are(&filter.hide, &["g"])
-        && plan.options.ring.get() == 8
-        && has_files(plan, &["a", "b"])
-}
+const ALL_OPTIONS: &str = "top a --json --focus f -n 7 b --by total --hide=g --ring 8";
 
-#[test]
-fn options_of_top(rt: HostRuntime) -> Result<(), Fail> {
-    let line = "top a --json --focus f -n 7 b --by total --hide=g --ring 8";
-    let plan = planned(rt.alloc(), line)?;
-    assert!(rt; is_asked_for(&plan));
-    Ok(())
-}
+const ASKED_FOR: TopTable = TopTable {
+    by: FunctionOrder::Total,
+    rows: 7,
+    is_json: true,
+};
 
-const REFUSED: &[&str] = &[
-    "top -n 0",
-    "top -n -1",
-    "top -n ten",
-    "top --number=1000000001",
-    "top -n 1 -n 1",
-    "top --by name",
-    "top --by=",
-    "top --by Own",
-    "top --by own --by own",
-    "top --json=yes",
-    "top --width 5",
-    "top --every 5",
-    "fold -n 5",
-    "fold --by own",
-    "graph --json",
+const PARTS: &[(&str, Wanted<'static>)] = &[
+    (ALL_OPTIONS, Wanted::View(Shown::Top(ASKED_FOR))),
+    (ALL_OPTIONS, Wanted::Filter(&["f"], &["g"])),
+    (ALL_OPTIONS, Wanted::Options(Set { ring: 8, ..NOTHING })),
+    (ALL_OPTIONS, Wanted::Files(&["a", "b"])),
 ];
 
 #[test]
-fn refused_tables(rt: HostRuntime) {
-    are_refused(&rt, rt.alloc(), REFUSED);
+fn options_of_top(rt: HostRuntime) -> Result<(), Fail> {
+    are_answered(&rt, PARTS)
 }
 
+const REFUSED_LINES: &[(&str, Wanted<'static>)] = &[
+    ("top -n 0", REFUSED),
+    ("top -n -1", REFUSED),
+    ("top -n ten", REFUSED),
+    ("top --number=1000000001", REFUSED),
+    ("top -n 1 -n 1", REFUSED),
+    ("top --by name", REFUSED),
+    ("top --by=", REFUSED),
+    ("top --by Own", REFUSED),
+    ("top --by own --by own", REFUSED),
+    ("top --json=yes", REFUSED),
+    ("top --width 5", REFUSED),
+    ("top --every 5", REFUSED),
+    ("fold -n 5", REFUSED),
+    ("fold --by own", REFUSED),
+    ("graph --json", REFUSED),
+];
+
 #[test]
-fn text_of_an_unknown_order(rt: HostRuntime) {
-    let told = "error: invalid value 'name' for '--by <WEIGHT>'\n  [possible values: own, total]\n";
-    assert!(rt; is_refused(rt.alloc(), "top --by name", told, ""));
+fn refused_tables(rt: HostRuntime) -> Result<(), Fail> {
+    are_answered(&rt, REFUSED_LINES)
+}
+
+const UNKNOWN_ORDER: &[(&str, Wanted<'static>)] = &[(
+    "top --by name",
+    Wanted::Refused(
+        "error: invalid value 'name' for '--by <WEIGHT>'\n  [possible values: own, total]\n",
+        "",
+    ),
+)];
+
+#[test]
+fn text_of_an_unknown_order(rt: HostRuntime) -> Result<(), Fail> {
+    are_answered(&rt, UNKNOWN_ORDER)
 }

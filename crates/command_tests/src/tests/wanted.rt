@@ -1,0 +1,158 @@
+//! What a test wants of a line's plan, or of the fault in its place.
+
+use command_line::{Form, Plan, TopTable, View};
+use run_options::{Format, Naming, Options, Pick, Width};
+use stack_core::{Names, Text};
+
+/// A view, whose width is a number.
+#[derive(Clone, Copy)]
+pub(crate) enum Shown {
+    Fold,
+    Graph(u32),
+    Chart(u32),
+    Pairs,
+    PairBoxes(u32),
+    Top(TopTable),
+}
+
+/// What words set of the options.
+#[derive(Clone, Copy)]
+pub(crate) struct Set<'a> {
+    pub(crate) ring: u32,
+    pub(crate) name: Option<&'a str>,
+    pub(crate) naming: Naming,
+    pub(crate) every: Option<u64>,
+}
+
+/// What is set where no word sets it.
+pub(crate) const NOTHING: Set<'static> = Set {
+    ring: 1_024,
+    name: None,
+    naming: Naming::Plain,
+    every: None,
+};
+
+/// What a test wants of a line.
+#[derive(Clone, Copy)]
+pub(crate) enum Wanted<'a> {
+    /// This view.
+    View(Shown),
+    /// These files, in this order.
+    Files(&'a [&'a str]),
+    /// This view of these files, with no other option.
+    Defaults(Shown, &'a [&'a str]),
+    /// These options.
+    Options(Set<'a>),
+    /// The names that are focused and hidden.
+    Filter(&'a [&'a str], &'a [&'a str]),
+    /// This format, with no other option.
+    Format(Option<Format>),
+    /// A text, and progress.
+    LoudText,
+    /// No progress, with no other option.
+    Quiet,
+    /// A page, with this title and this least weight.
+    Page(Option<&'a str>, Option<u64>),
+    /// The sample types of this file, with progress and no other option.
+    Types(&'a str),
+    /// Words that are refused, with a text that begins so, has this part, and tells how to get help.
+    Refused(&'a str, &'a str),
+    /// Help, which has this part.
+    Help(&'a str),
+    /// One line, which begins with the program's name and a year.
+    Version,
+}
+
+/// Words that are refused, whatever is said of them.
+pub(crate) const REFUSED: Wanted<'static> = Wanted::Refused("error: ", "");
+
+fn view_of(shown: Shown) -> Option<View> {
+    Some(match shown {
+        Shown::Fold => View::Fold,
+        Shown::Graph(pixels) => View::Graph(Width::of(pixels)?),
+        Shown::Chart(pixels) => View::Chart(Width::of(pixels)?),
+        Shown::Pairs => View::Pairs,
+        Shown::PairBoxes(pixels) => View::PairBoxes(Width::of(pixels)?),
+        Shown::Top(table) => View::Top(table),
+    })
+}
+
+fn is_view(view: View, shown: Shown) -> bool {
+    view_of(shown) == Some(view)
+}
+
+fn are(names: &Names, texts: &[&str]) -> bool {
+    let names = names.get();
+    if names.len() != texts.len() {
+        return false;
+    }
+    for at in 0..names.len() {
+        if names[at].as_str() != texts[at] {
+            return false;
+        }
+    }
+    true
+}
+
+fn is_picked(pick: &Pick, name: Option<&str>) -> bool {
+    match pick {
+        Pick::Preferred => name.is_none(),
+        Pick::Named(text) => name == Some(text.get()),
+    }
+}
+
+fn options_are(options: &Options, set: &Set<'_>) -> bool {
+    options.ring.get() == set.ring
+        && is_picked(&options.pick, set.name)
+        && options.naming == set.naming
+        && options.every == set.every
+}
+
+fn has_defaults(plan: &Plan) -> bool {
+    options_are(&plan.options, &NOTHING) && plan.options.filter.is_everything()
+}
+
+fn is_filtered(plan: &Plan, focus: &[&str], hide: &[&str]) -> bool {
+    are(&plan.options.filter.focus, focus) && are(&plan.options.filter.hide, hide)
+}
+
+fn is_titled(found: &Option<Text>, title: Option<&str>) -> bool {
+    match found {
+        Some(text) => title == Some(text.get()),
+        None => title.is_none(),
+    }
+}
+
+fn is_page(form: &Form, title: Option<&str>, least: Option<u64>) -> bool {
+    match form {
+        Form::Page(page) => page.least == least && is_titled(&page.title, title),
+        Form::Text | Form::Types => false,
+    }
+}
+
+fn is_of_types(plan: &Plan, file: &str) -> bool {
+    !plan.is_quiet
+        && matches!(&plan.form, Form::Types)
+        && plan.format == Some(Format::Pprof)
+        && has_defaults(plan)
+        && are(&plan.files, &[file])
+}
+
+/// Whether a plan has this.
+pub(crate) fn has(plan: &Plan, wanted: &Wanted<'_>) -> bool {
+    match *wanted {
+        Wanted::View(shown) => is_view(plan.view, shown),
+        Wanted::Files(files) => are(&plan.files, files),
+        Wanted::Defaults(shown, files) => {
+            is_view(plan.view, shown) && has_defaults(plan) && are(&plan.files, files)
+        }
+        Wanted::Options(set) => options_are(&plan.options, &set),
+        Wanted::Filter(focus, hide) => is_filtered(plan, focus, hide),
+        Wanted::Format(format) => plan.format == format && has_defaults(plan),
+        Wanted::LoudText => !plan.is_quiet && matches!(&plan.form, Form::Text),
+        Wanted::Quiet => plan.is_quiet && has_defaults(plan),
+        Wanted::Page(title, least) => is_page(&plan.form, title, least),
+        Wanted::Types(file) => is_of_types(plan, file),
+        Wanted::Refused(..) | Wanted::Help(_) | Wanted::Version => false,
+    }
+}
