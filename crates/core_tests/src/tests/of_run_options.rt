@@ -103,50 +103,56 @@ fn samples_that_a_filter_keeps(rt: HostRuntime) -> Result<(), Fail> {
     holds(&rt, filters_keep_theirs(rt.alloc()))
 }
 
-fn has_its_formats() -> bool {
-    matches!(Format::named("folded"), Some(Format::Folded))
-        && matches!(Format::named("pprof"), Some(Format::Pprof))
-}
-
-/// The first name that is one of a format.
-fn of_a_format<'a>(names: &[&'a str]) -> Option<&'a str> {
-    for name in names {
-        if Format::named(name).is_some() {
+/// The first name that is not of the format beside it.
+fn misnamed_format<'a>(rows: &[(&'a str, Option<Format>)]) -> Option<&'a str> {
+    for (name, format) in rows {
+        if Format::named(name) != *format {
             return Some(*name);
         }
     }
     None
 }
 
-const NO_FORMATS: &[&str] = &["", "Folded", "PPROF", "pprof ", "pb", "folded,pprof"];
+const NAMES_OF_FORMATS: &[(&str, Option<Format>)] = &[
+    ("folded", Some(Format::Folded)),
+    ("pprof", Some(Format::Pprof)),
+    ("", None),
+    ("Folded", None),
+    ("PPROF", None),
+    ("pprof ", None),
+    ("pb", None),
+    ("folded,pprof", None),
+];
 
 #[test]
 fn names_of_formats(rt: HostRuntime) {
-    assert!(rt; has_its_formats());
-    none_fails(&rt, of_a_format(NO_FORMATS));
+    none_fails(&rt, misnamed_format(NAMES_OF_FORMATS));
 }
 
-fn has_its_orders() -> bool {
-    matches!(FunctionOrder::named("own"), Some(FunctionOrder::Own))
-        && matches!(FunctionOrder::named("total"), Some(FunctionOrder::Total))
-}
-
-/// The first name that is one of an order.
-fn of_an_order<'a>(names: &[&'a str]) -> Option<&'a str> {
-    for name in names {
-        if FunctionOrder::named(name).is_some() {
+/// The first name that is not of the order beside it.
+fn misnamed_order<'a>(rows: &[(&'a str, Option<FunctionOrder>)]) -> Option<&'a str> {
+    for (name, order) in rows {
+        if FunctionOrder::named(name) != *order {
             return Some(*name);
         }
     }
     None
 }
 
-const NO_ORDERS: &[&str] = &["", "Own", "TOTAL", "total ", "sum", "own,total"];
+const NAMES_OF_ORDERS: &[(&str, Option<FunctionOrder>)] = &[
+    ("own", Some(FunctionOrder::Own)),
+    ("total", Some(FunctionOrder::Total)),
+    ("", None),
+    ("Own", None),
+    ("TOTAL", None),
+    ("total ", None),
+    ("sum", None),
+    ("own,total", None),
+];
 
 #[test]
 fn names_of_orders(rt: HostRuntime) {
-    assert!(rt; has_its_orders());
-    none_fails(&rt, of_an_order(NO_ORDERS));
+    none_fails(&rt, misnamed_order(NAMES_OF_ORDERS));
 }
 
 const FORMATS: &[(&str, Format)] = &[

@@ -3,7 +3,6 @@ ghost use Rattle.std.specs.Prelude.{◌≡◌, None};
 use crate::tests::answers::{all, holds};
 use stack_core::{Close, Ledger, SourceEnd, SourceList};
 use std::alloc::{AllocError, Global};
-use std::process::Abort;
 use std::test::Fail;
 
 mod asked_again;
@@ -45,14 +44,17 @@ fn list_after(
     all(&[are_made, Ok(list_is(ledger, is_right))])
 }
 
-/// A ledger that has nothing yet takes what a test gives it, and then has what it should.
-fn ledger_holds(
-    rt: &(impl Abort + AllocGlobal),
-    takes: fn(Global, &mut Ledger) -> Result<bool, AllocError>,
-) -> Result<(), Fail>
-    requires { IsAlwaysCallable takes }
+/// Whether all of these calls are made, and the ledger is then as it should be.
+fn ledger_after(
+    alloc: Global,
+    calls: &[Call<'_>],
+    is_right: fn(&mut Ledger) -> bool,
+) -> Result<bool, AllocError>
+    requires { IsAlwaysCallable is_right }
 {
-    holds(rt, takes(rt.alloc(), &mut Ledger::new(rt.alloc())))
+    let mut ledger = Ledger::new(alloc);
+    let are_made = are_made(alloc, &mut ledger, calls);
+    all(&[are_made, Ok(is_right(&mut ledger))])
 }
 
 /// Whether the stack of this number has these names' numbers.
@@ -75,19 +77,14 @@ const TWO_STACKS: &[Call<'static>] = &[
     Call::Again(0, 7),
 ];
 
-fn keeps_two_stacks(alloc: Global, ledger: &mut Ledger) -> Result<bool, AllocError> {
-    Ok(
-        are_made(alloc, ledger, TWO_STACKS)?
-            && ledger.stack_count() == 2
-            && keeps(ledger, 1, &[1])
-            && numbers(ledger) == (3, 14, 2),
-    )
+fn keeps_two_stacks(ledger: &mut Ledger) -> bool {
+    ledger.stack_count() == 2 && keeps(ledger, 1, &[1]) && numbers(ledger) == (3, 14, 2)
 }
 
 // A stack is kept once, and samples are taken of it again, with weights of their own.
 #[test]
 fn stack_taken_again(rt: HostRuntime) -> Result<(), Fail> {
-    ledger_holds(&rt, keeps_two_stacks)
+    holds(&rt, ledger_after(rt.alloc(), TWO_STACKS, keeps_two_stacks))
 }
 
 fn has_two_stacks(list: &SourceList) -> bool {
@@ -143,17 +140,13 @@ const TWO_ROWS: &[Call<'static>] = &[
     Call::Row(&[0], 1),
 ];
 
-fn tells_two(alloc: Global, ledger: &mut Ledger) -> Result<bool, AllocError> {
-    Ok(
-        are_made(alloc, ledger, TWO_ROWS)?
-            && numbers(ledger) == (2, 3, 2)
-            && has_told_name(ledger, 1, "b"),
-    )
+fn has_told_two(ledger: &mut Ledger) -> bool {
+    numbers(ledger) == (2, 3, 2) && has_told_name(ledger, 1, "b")
 }
 
 #[test]
 fn names_told_once(rt: HostRuntime) -> Result<(), Fail> {
-    ledger_holds(&rt, tells_two)
+    holds(&rt, ledger_after(rt.alloc(), TWO_ROWS, has_told_two))
 }
 
 fn has_two_rows(list: &SourceList) -> bool {
@@ -185,22 +178,21 @@ const EQUAL_SAMPLES: &[Call<'static>] = &[
     Call::Sample(&["x", "y"], 2),
 ];
 
-fn closes(ledger: &mut Ledger) -> bool {
+fn closes_after_two(ledger: &mut Ledger) -> bool {
     if ledger.is_closed() {
         return false;
     }
     let close = Close::Read(CLEAN);
     ledger.close(close);
-    ledger.is_closed() && ledger.closed() == Some(&close)
-}
-
-fn closes_after_two(alloc: Global, ledger: &mut Ledger) -> Result<bool, AllocError> {
-    Ok(are_made(alloc, ledger, EQUAL_SAMPLES)? && closes(ledger) && numbers(ledger) == (2, 4, 4))
+    ledger.is_closed() && ledger.closed() == Some(&close) && numbers(ledger) == (2, 4, 4)
 }
 
 #[test]
 fn world_and_ledger(rt: HostRuntime) -> Result<(), Fail> {
-    ledger_holds(&rt, closes_after_two)
+    holds(
+        &rt,
+        ledger_after(rt.alloc(), EQUAL_SAMPLES, closes_after_two),
+    )
 }
 
 fn has_equal_samples(list: &SourceList) -> bool {
@@ -218,9 +210,13 @@ fn names_told_anew(rt: HostRuntime) -> Result<(), Fail> {
     )
 }
 
+fn new_ledger_takes_all(alloc: Global) -> Result<bool, AllocError> {
+    takes_all(alloc, &mut Ledger::new(alloc))
+}
+
 /// Runs through with ample memory, and where an allocation fails once: a refused call leaves what stood
 /// before, and is asked again. Where it is refused again, no more is asked.
 #[test]
 fn refusals_change_nothing(rt: HostRuntime) -> Result<(), Fail> {
-    ledger_holds(&rt, takes_all)
+    holds(&rt, new_ledger_takes_all(rt.alloc()))
 }

@@ -6,7 +6,6 @@ use crate::tests::answers::holds;
 use crate::tests::samples::sample;
 use stack_core::{Close, Event, Item, OpenGate, Sample, SourceEnd, World, laws};
 use std::alloc::{AllocError, Global};
-use std::process::Abort;
 use std::test::Fail;
 
 const CLEAN: Close = Close::Read(SourceEnd::Clean { ignored: 0 });
@@ -21,32 +20,40 @@ fn told(alloc: Global, names: &[&str]) -> Result<Vec<Item>, AllocError> {
     Ok(items)
 }
 
-// Makes events happen, and compares the answers.
-fn play(rt: &impl Abort, world: &mut World, events: &[(Event, bool)])
+// Makes events happen, and says whether each answer is the one beside it.
+fn plays(world: &mut World, events: &[(Event, bool)]) -> bool
     ensures { length world.new.lanes ≡ length world.old.lanes }
 {
     for (event, possible) in events {
-        let answer = world.step(*event);
-        assert!(rt; answer == *possible, "{event:?}");
+        if world.step(*event) != *possible {
+            return false;
+        }
+    }
+    true
+}
+
+fn is_alone(names: &[String], name: &str) -> bool {
+    names.len() == 1 && names[0].as_str() == name
+}
+
+// Whether an item is a sample of this name alone, or a close, for which a full stop stands.
+fn is_item(item: &Item, name: &str) -> bool {
+    match item {
+        Item::Sample(sample) => is_alone(sample.stack.get(), name),
+        Item::Close(_) => name == ".",
     }
 }
 
-// The names that were received of a source, one after another, and a full stop for a close.
-fn received(alloc: Global, world: &World, source: usize) -> Result<String, AllocError>
-    requires { source < length world.now.lanes }
-{
-    let mut text = String::new(alloc);
-    for item in world.received(source) {
-        match item {
-            Item::Sample(sample) => {
-                for name in sample.stack.get() {
-                    text.push_str(name.as_str())?;
-                }
-            }
-            Item::Close(_) => text.push_str(".")?,
+fn are_items(items: &[Item], names: &[&str]) -> bool {
+    if items.len() != names.len() {
+        return false;
+    }
+    for at in 0..names.len() {
+        if !is_item(&items[at], names[at]) {
+            return false;
         }
     }
-    Ok(text)
+    true
 }
 
 /// One list of one sample, through a queue of one.
@@ -63,22 +70,23 @@ const ONE_SOURCE: &[(Event, bool)] = &[
 fn one_list(alloc: Global) -> Result<World, AllocError>
     ensures { IfOk result (λ world. length world.lanes ≡ 1) }
 {
-    let mut lists = Vec::new(alloc);
-    lists.push(told(alloc, &["x"])?)?;
-    World::new(alloc, lists, 1)
+    World::new(alloc, vec![in alloc; told(alloc, &["x"])?]?, 1)
 }
 
-fn has_received_all(alloc: Global, world: &World) -> Result<bool, AllocError>
-    requires { length world.now.lanes ≡ 1 }
+fn plays_one_source(world: &mut World, whole: &[Item]) -> bool
+    requires { length world.old.lanes ≡ 1 }
 {
-    Ok(world.received(0) == told(alloc, &["x"])?.as_slice())
+    plays(world, ONE_SOURCE) && world.received(0) == whole
+}
+
+fn one_source_is_played(alloc: Global) -> Result<bool, AllocError> {
+    let whole = told(alloc, &["x"])?;
+    Ok(plays_one_source(&mut one_list(alloc)?, whole.as_slice()))
 }
 
 #[test]
 fn world_and_ledger(rt: HostRuntime) -> Result<(), Fail> {
-    let mut world = one_list(rt.alloc())?;
-    play(&rt, &mut world, ONE_SOURCE);
-    holds(&rt, has_received_all(rt.alloc(), &world))
+    holds(&rt, one_source_is_played(rt.alloc()))
 }
 
 /// Two lists, of two samples and of one, through queues of two.
@@ -107,50 +115,39 @@ const THE_REST: &[(Event, bool)] = &[
 fn two_lists(alloc: Global) -> Result<World, AllocError>
     ensures { IfOk result (λ world. length world.lanes ≡ 2) }
 {
-    let mut lists = Vec::new(alloc);
-    lists.push(told(alloc, &["a", "b"])?)?;
-    lists.push(told(alloc, &["c"])?)?;
+    let lists = vec![in alloc; told(alloc, &["a", "b"])?, told(alloc, &["c"])?]?;
     World::new(alloc, lists, 2)
 }
 
-fn has_received(alloc: Global, world: &World, source: usize, text: &str) -> Result<bool, AllocError>
-    requires { source < length world.now.lanes }
-{
-    Ok(received(alloc, world, source)?.as_str() == text)
-}
-
-fn have_received(
-    alloc: Global,
-    world: &World,
-    first: &str,
-    second: &str,
-) -> Result<bool, AllocError>
-    requires { length world.now.lanes ≡ 2 }
-{
-    Ok(has_received(alloc, world, 0, first)? && has_received(alloc, world, 1, second)?)
-}
-
-fn plays_two_sources(rt: &(impl Abort + AllocGlobal), world: &mut World) -> Result<(), Fail>
+fn plays_two_sources(world: &mut World) -> bool
     requires { length world.old.lanes ≡ 2 }
 {
-    play(rt, world, TWO_SOURCES);
-    holds(rt, have_received(rt.alloc(), world, "a", "c."))?;
-    play(rt, world, THE_REST);
-    holds(rt, has_received(rt.alloc(), world, 0, "ab."))
+    plays(world, TWO_SOURCES)
+        && are_items(world.received(0), &["a"])
+        && are_items(world.received(1), &["c", "."])
+        && plays(world, THE_REST)
+        && are_items(world.received(0), &["a", "b", "."])
+}
+
+fn two_sources_are_played(alloc: Global) -> Result<bool, AllocError> {
+    Ok(plays_two_sources(&mut two_lists(alloc)?))
 }
 
 #[test]
 fn two_sources(rt: HostRuntime) -> Result<(), Fail> {
-    plays_two_sources(&rt, &mut two_lists(rt.alloc())?)
+    holds(&rt, two_sources_are_played(rt.alloc()))
 }
 
 const NO_SOURCE: &[(Event, bool)] = &[(Event::Push(0), false), (Event::Pop(0), false)];
 
+fn no_source_is_played(alloc: Global) -> Result<bool, AllocError> {
+    let mut world = World::new(alloc, Vec::new(alloc), 1)?;
+    Ok(plays(&mut world, NO_SOURCE))
+}
+
 #[test]
 fn no_sources(rt: HostRuntime) -> Result<(), Fail> {
-    let mut world = World::new(rt.alloc(), Vec::new(rt.alloc()), 1)?;
-    play(&rt, &mut world, NO_SOURCE);
-    Ok(())
+    holds(&rt, no_source_is_played(rt.alloc()))
 }
 
 #[test]

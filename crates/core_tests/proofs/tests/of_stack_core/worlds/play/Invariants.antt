@@ -1,5 +1,0 @@
-use Rattle.std.proofs.Common.{◌≡◌, length}
-use Rattle.core_tests.proofs.tests.of_stack_core.worlds.play.Given as goal
-
-abbrev pub invariant-loop-event : goal.invariant-loop-event
-invariant-loop-event g l = length l.world.lanes ≡ length l.initial.world.lanes
