@@ -1,6 +1,6 @@
 //! Worked examples.
 
-use super::texts::are_bytes;
+use super::texts::is_text;
 use function_sums::FunctionSum;
 use stack_core::Text;
 use std::alloc::{AllocError, Global};
@@ -11,21 +11,26 @@ use sum_texts::{append_sum_line, append_sum_table};
 /// Names, own weights and totals of functions.
 type Rows<'a> = &'a [(&'a str, u64, u64)];
 
-fn sum_of(alloc: Global, row: &(&str, u64, u64)) -> Result<FunctionSum, AllocError> {
+fn add_sum(
+    alloc: Global,
+    sums: &mut Vec<FunctionSum>,
+    row: &(&str, u64, u64),
+) -> Result<(), AllocError> {
     let (name, own, total) = row;
-    Ok(FunctionSum {
-        name: Text::from_str(alloc, name)?,
+    let name = Text::from_str(alloc, name)?;
+    sums.push(FunctionSum {
+        name,
         own: *own,
         total: *total,
-    })
+    })?;
+    Ok(())
 }
 
-fn sums_of(alloc: Global, rows: Rows<'_>) -> Result<Vec<FunctionSum>, AllocError> {
-    let mut sums = Vec::new(alloc);
+fn add_sums(alloc: Global, sums: &mut Vec<FunctionSum>, rows: Rows<'_>) -> Result<(), AllocError> {
     for row in rows {
-        sums.push(sum_of(alloc, row)?)?;
+        add_sum(alloc, sums, row)?;
     }
-    Ok(sums)
+    Ok(())
 }
 
 /// How functions are written.
@@ -37,35 +42,34 @@ enum Form {
 /// In which form which functions are written, how many of them at most, what the samples weigh, and what they weigh without a filter.
 type Written<'a> = (Form, Rows<'a>, u64, u64, Option<u64>);
 
-fn append(alloc: Global, out: &mut Vec<u8>, written: &Written<'_>) -> Result<(), AllocError> {
+fn append(
+    alloc: Global,
+    out: &mut Vec<u8>,
+    sums: &mut Vec<FunctionSum>,
+    written: &Written<'_>,
+) -> Result<(), AllocError> {
     let (form, rows, count, total, whole) = written;
-    let sums = sums_of(alloc, rows)?;
+    add_sums(alloc, sums, rows)?;
     match form {
-        Form::Table => append_sum_table(alloc, out, &sums, *count, *total, *whole),
-        Form::Line => append_sum_line(alloc, out, &sums, *count, *total, *whole),
+        Form::Table => append_sum_table(alloc, out, sums, *count, *total, *whole),
+        Form::Line => append_sum_line(alloc, out, sums, *count, *total, *whole),
     }
 }
 
+/// Appends these texts to a line that stands there before.
 fn append_all(alloc: Global, out: &mut Vec<u8>, all: &[Written<'_>]) -> Result<(), AllocError> {
+    out.extend_from_slice(b"before\n")?;
     for written in all {
-        append(alloc, out, written)?;
+        append(alloc, out, &mut Vec::new(alloc), written)?;
     }
     Ok(())
-}
-
-/// That this text stands behind what stood there.
-fn is_behind(rt: &impl Abort, out: &[u8], wanted: &str) {
-    let (front, text) = out.split_at(out.len().min(7));
-    assert!(rt; front == b"before\n".as_slice());
-    are_bytes(rt, text, wanted.as_bytes());
 }
 
 /// That these make this text, one behind another.
 fn make(rt: &(impl Abort + AllocGlobal), all: &[Written<'_>], wanted: &str) -> Result<(), Fail> {
-    let mut out = Vec::from_slice(rt.alloc(), b"before\n")?;
-    append_all(rt.alloc(), &mut out, all)?;
-    is_behind(rt, &out, wanted);
-    Ok(())
+    let mut out = Vec::new(rt.alloc());
+    let made = append_all(rt.alloc(), &mut out, all);
+    is_text(rt, made, &out, wanted.as_bytes())
 }
 
 const READ_AND_MAIN: Rows<'static> = &[("read", 7, 7), ("main", 1, 8)];
@@ -77,7 +81,8 @@ const EXAMPLE: &[Written<'static>] = &[
 
 #[test]
 fn example_of_the_readme(rt: HostRuntime) -> Result<(), Fail> {
-    let wanted = "own    own%  total   total%  whole%  name
+    let wanted = "before
+own    own%  total   total%  whole%  name
   7  87.50%      7   87.50%  21.88%  read
   1  12.50%      8  100.00%  25.00%  main
 {\"functions\":[{\"name\":\"read\",\"own\":7,\"total\":7}],\"total\":8,\"view\":\"top\",\"whole\":32}
@@ -95,7 +100,8 @@ const WIDEST: &[Written<'static>] = &[(
 
 #[test]
 fn as_wide_as_the_widest(rt: HostRuntime) -> Result<(), Fail> {
-    let wanted = "     own   own%       total  total%  name
+    let wanted = "before
+     own   own%       total  total%  name
 10000000  0.00%  1000000000   0.10%  a b
        0  0.00%           1   0.00%  c
 ";
@@ -112,7 +118,8 @@ const HIDDEN: &[Written<'static>] = &[(
 
 #[test]
 fn hidden_functions_take_no_room(rt: HostRuntime) -> Result<(), Fail> {
-    let wanted = "own   own%  total  total%  name
+    let wanted = "before
+own   own%  total  total%  name
   5  0.05%      5   0.05%  a
 ";
     make(&rt, HIDDEN, wanted)
@@ -126,7 +133,8 @@ const HALVES: &[Written<'static>] = &[
 
 #[test]
 fn halves_are_rounded_up(rt: HostRuntime) -> Result<(), Fail> {
-    let wanted = "own   own%  total  total%  name
+    let wanted = "before
+own   own%  total  total%  name
   1  0.01%      3   0.02%  a
 own   own%  total  total%  name
   1  0.00%      2   0.01%  a
@@ -138,7 +146,8 @@ const THIRDS: &[Written<'static>] = &[(Form::Table, &[("a", 1, 2)], 1, 3, None)]
 
 #[test]
 fn thirds(rt: HostRuntime) -> Result<(), Fail> {
-    let wanted = "own    own%  total  total%  name
+    let wanted = "before
+own    own%  total  total%  name
   1  33.33%      2  66.67%  a
 ";
     make(&rt, THIRDS, wanted)
@@ -154,7 +163,8 @@ const GREATEST: &[Written<'static>] = &[(
 
 #[test]
 fn greatest_weights(rt: HostRuntime) -> Result<(), Fail> {
-    let wanted = "                 own     own%                 total   total%  name
+    let wanted = "before
+                 own     own%                 total   total%  name
 18446744073709551615  100.00%  18446744073709551615  100.00%  a
 ";
     make(&rt, GREATEST, wanted)
@@ -168,6 +178,7 @@ const NOTHING: &[Written<'static>] = &[
 #[test]
 fn no_functions(rt: HostRuntime) -> Result<(), Fail> {
     let wanted = concat!(
+        "before\n",
         "own  own%  total  total%  name\n",
         "{\"functions\":[],\"total\":0,\"view\":\"top\"}\n",
     );
@@ -178,7 +189,7 @@ const WHOLE_OF_NOTHING: &[Written<'static>] = &[(Form::Table, &[("a", 1, 2)], 1,
 
 #[test]
 fn a_whole_of_nothing(rt: HostRuntime) -> Result<(), Fail> {
-    let wanted = "own   own%  total  total%  name\n  1  0.00%      2   0.00%  a\n";
+    let wanted = "before\nown   own%  total  total%  name\n  1  0.00%      2   0.00%  a\n";
     make(&rt, WHOLE_OF_NOTHING, wanted)
 }
 
@@ -192,7 +203,8 @@ const WHOLES: &[Written<'static>] = &[
 
 #[test]
 fn the_column_of_the_whole_is_as_wide_as_needed(rt: HostRuntime) -> Result<(), Fail> {
-    let wanted = "own     own%  total   total%   whole%  name
+    let wanted = "before
+own     own%  total   total%   whole%  name
   3  100.00%      3  100.00%  100.00%  a
   0    0.00%      1   33.33%   33.33%  b
 own     own%  total   total%  whole%  name
@@ -214,7 +226,7 @@ const ESCAPED: &[Written<'static>] = &[(
 #[test]
 fn escaped_names(rt: HostRuntime) -> Result<(), Fail> {
     let wanted =
-        "{\"functions\":[{\"name\":\"a\\\"\\u0001\",\"own\":1,\"total\":2},{\"name\":\"é\",\"own\":0,\"total\":1}],\"total\":3,\"view\":\"top\"}\n";
+        "before\n{\"functions\":[{\"name\":\"a\\\"\\u0001\",\"own\":1,\"total\":2},{\"name\":\"é\",\"own\":0,\"total\":1}],\"total\":3,\"view\":\"top\"}\n";
     make(&rt, ESCAPED, wanted)
 }
 

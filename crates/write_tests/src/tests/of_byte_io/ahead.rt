@@ -1,36 +1,30 @@
 //! Files of the machine that are loaded before they are asked for.
+use super::asked::{file_fails, file_is, temporary_path};
+use crate::tests::texts::holds;
 use byte_io::{Files, LoadFault, MachineFiles};
-use std::alloc::{AllocError, Global};
+use std::alloc::Global;
+use std::fs::File;
+use std::io::IsTerminal;
 use std::process::Abort;
 use std::rt::Env;
 use std::test::Fail;
-use std::{env, fs, io, rt};
+use std::thread::Threads;
+use std::{fs, io, rt};
 
 // More files than threads that load them.
-const NAMES: &[&str] = &["a", "b", "c", "d", "e", "f"];
+const NAMES: &[&str] = &[
+    "ahead_a", "ahead_b", "ahead_c", "ahead_d", "ahead_e", "ahead_f",
+];
 
-// A path in the folder for files that are soon gone.
-fn path_of<R: Env + AllocGlobal>(rt: &R, name: &str) -> Result<String, Fail> {
-    let folder = env::temp_dir(rt)?;
-    let mut path = String::from_str(rt.alloc(), folder.as_str())?;
-    path.push_str("/byte_io_ahead_")?;
-    path.push_str(name)?;
-    Ok(path)
-}
-
-fn paths_of<R: Env + AllocGlobal>(rt: &R, names: &[&str]) -> Result<Vec<String>, Fail> {
-    let mut paths = Vec::new(rt.alloc());
+fn add_paths<R: Env + AllocGlobal>(
+    rt: &R,
+    paths: &mut Vec<String>,
+    names: &[&str],
+) -> Result<(), Fail> {
     for name in names {
-        paths.push(path_of(rt, name)?)?;
+        paths.push(temporary_path(rt, name)?)?;
     }
-    Ok(paths)
-}
-
-fn pair(alloc: Global, first: &str, second: &str) -> Result<Vec<String>, AllocError> {
-    let mut paths = Vec::new(alloc);
-    paths.push(String::from_str(alloc, first)?)?;
-    paths.push(String::from_str(alloc, second)?)?;
-    Ok(paths)
+    Ok(())
 }
 
 // Each file has its own path as its text.
@@ -48,86 +42,110 @@ fn remove_each(rt: &impl rt::Files, paths: &[String]) -> io::Result<()> {
     Ok(())
 }
 
-fn is_had<F: Files>(
-    rt: &impl Abort,
-    alloc: Global,
+// The files in front are there while it is told what is asked for next, and then they are gone.
+fn load_ahead<F: Files>(
+    rt: &(impl rt::Files + AllocGlobal),
     files: &mut F,
-    path: &str,
-) -> Result<(), LoadFault> {
-    let bytes = files.named(alloc, path)?;
-    assert_eq!(rt; bytes.as_slice(), path.as_bytes());
-    Ok(())
+    paths: &[String],
+    written: usize,
+) -> io::Result<()> {
+    let (written, _) = paths.split_at(written.min(paths.len()));
+    write_each(rt, written)?;
+    files.prefetch(rt.alloc(), paths);
+    remove_each(rt, written)
 }
 
-fn is_gone<F: Files>(rt: &impl Abort, alloc: Global, files: &mut F, path: &str) {
-    assert!(rt; files.named(alloc, path).err() == Some(LoadFault::Io));
+fn are_had<F: Files>(alloc: Global, files: &mut F, paths: &[String]) -> Result<bool, LoadFault> {
+    let mut all = true;
+    for path in paths.iter().rev() {
+        all &= file_is(alloc, files, path, path.as_bytes())?;
+    }
+    Ok(all)
 }
 
+fn are_gone<F: Files>(alloc: Global, files: &mut F, paths: &[String]) -> bool {
+    let mut all = true;
+    for path in paths {
+        all &= file_fails(alloc, files, path, LoadFault::Io);
+    }
+    all
+}
+
+// They are asked for in another order.
 fn are_had_once<F: Files>(
-    rt: &impl Abort,
     alloc: Global,
     files: &mut F,
     paths: &[String],
-) -> Result<(), LoadFault> {
-    for path in paths.iter().rev() {
-        is_had(rt, alloc, files, path)?;
-    }
-    for path in paths {
-        is_gone(rt, alloc, files, path);
-    }
-    Ok(())
+) -> Result<bool, LoadFault> {
+    Ok(are_had(alloc, files, paths)? && are_gone(alloc, files, paths))
 }
 
-// They are removed before they are asked for, in another order.
+fn are_loaded_ahead<F: Files>(
+    rt: &(impl rt::Files + AllocGlobal + Abort),
+    files: &mut F,
+    paths: &[String],
+    written: usize,
+) -> Result<(), Fail> {
+    load_ahead(rt, files, paths, written)?;
+    holds(rt, are_had_once(rt.alloc(), files, paths))
+}
+
+fn names_are_loaded_ahead<R>(rt: &R, names: &[&str], written: usize) -> Result<(), Fail>
+where
+    R: rt::Files<File = File> + Input + Env + Threads + AllocGlobal + Abort,
+    R::Reader: IsTerminal,
+{
+    let mut paths = Vec::new(rt.alloc());
+    add_paths(rt, &mut paths, names)?;
+    are_loaded_ahead(rt, &mut MachineFiles::new(rt), &paths, written)
+}
+
 #[test]
 fn files_are_loaded_ahead(rt: HostRuntime) -> Result<(), Fail> {
-    let alloc = rt.alloc();
-    let paths = paths_of(&rt, NAMES)?;
-    write_each(&rt, &paths)?;
-    let mut files = MachineFiles::new(&rt);
-    files.prefetch(alloc, &paths);
-    remove_each(&rt, &paths)?;
-    are_had_once(&rt, alloc, &mut files, &paths)?;
-    Ok(())
+    names_are_loaded_ahead(&rt, NAMES, NAMES.len())
 }
 
-fn is_had_twice<F: Files>(
-    rt: &impl Abort,
-    alloc: Global,
-    files: &mut F,
-    path: &str,
-) -> Result<(), LoadFault> {
-    is_had(rt, alloc, files, path)?;
-    is_had(rt, alloc, files, path)?;
-    is_gone(rt, alloc, files, path);
-    Ok(())
-}
+const TWICE: &[&str] = &["ahead_twice", "ahead_twice"];
 
 #[test]
 fn one_file_is_loaded_ahead_twice(rt: HostRuntime) -> Result<(), Fail> {
-    let alloc = rt.alloc();
-    let path = path_of(&rt, "twice")?;
-    let path = path.as_str();
-    fs::write(&rt, path, path)?;
-    let mut files = MachineFiles::new(&rt);
-    files.prefetch(alloc, &pair(alloc, path, path)?);
-    fs::remove_file(&rt, path)?;
-    is_had_twice(&rt, alloc, &mut files, path)?;
+    names_are_loaded_ahead(&rt, TWICE, 1)
+}
+
+const BESIDE: &[&str] = &["ahead_beside"];
+
+fn add_beside<R: Env + AllocGlobal>(
+    rt: &R,
+    paths: &mut Vec<String>,
+    other: &str,
+) -> Result<(), Fail> {
+    add_paths(rt, paths, BESIDE)?;
+    paths.push(String::from_str(rt.alloc(), other)?)?;
     Ok(())
+}
+
+fn first_is_gone<F: Files>(
+    rt: &(impl rt::Files + AllocGlobal),
+    files: &mut F,
+    paths: &[String],
+) -> io::Result<bool> {
+    load_ahead(rt, files, paths, 1)?;
+    Ok(are_gone(rt.alloc(), files, paths.split_at(paths.len().min(1)).0))
+}
+
+fn is_not_loaded_ahead<R>(rt: &R, other: &str) -> Result<(), Fail>
+where
+    R: rt::Files<File = File> + Input + Env + Threads + AllocGlobal + Abort,
+    R::Reader: IsTerminal,
+{
+    let mut paths = Vec::new(rt.alloc());
+    add_beside(rt, &mut paths, other)?;
+    holds(rt, first_is_gone(rt, &mut MachineFiles::new(rt), &paths))
 }
 
 // Beside a folder, or what is missing, no file is loaded ahead.
 #[test]
 fn files_are_not_loaded_ahead(rt: HostRuntime) -> Result<(), Fail> {
-    let alloc = rt.alloc();
-    let path = path_of(&rt, "beside")?;
-    let path = path.as_str();
-    for other in ["/", "/byte_io_missing"] {
-        fs::write(&rt, path, path)?;
-        let mut files = MachineFiles::new(&rt);
-        files.prefetch(alloc, &pair(alloc, path, other)?);
-        fs::remove_file(&rt, path)?;
-        is_gone(&rt, alloc, &mut files, path);
-    }
-    Ok(())
+    is_not_loaded_ahead(&rt, "/")?;
+    is_not_loaded_ahead(&rt, "/byte_io_missing")
 }

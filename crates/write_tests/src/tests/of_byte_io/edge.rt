@@ -1,128 +1,136 @@
 //! Readers and writers that fail at each of their calls.
-use super::fakes::{Faulty, Full, Stingy};
-use crate::tests::texts::are_bytes;
+use super::asked::{NamedBytes, add_files, file_fails, file_is, input_is, temporary_path};
+use super::fakes::{Faulty, Stingy};
+use crate::tests::texts::holds;
 use byte_io::{
-    CountedReader, CountedWriter, Files, LoadFault, MachineFiles, MemoryFiles, NamedFile,
-    SendFault, load, send,
+    CountedReader, CountedWriter, Files, LoadFault, MachineFiles, MemoryFiles, SendFault, load,
+    send,
 };
 use std::alloc::{AllocError, Global};
 use std::fmt::Display;
 use std::io::{ErrorKind, Read, Write};
 use std::process::Abort;
 use std::test::Fail;
-use std::{env, fs, rt};
+use std::{fs, rt};
 
-// The text goes out up to the first call that fails.
-fn sends_so_many<W: Write>(
-    rt: &impl Abort,
+// Whether the sending ends so, after so many calls that failed.
+fn sends<W: Write>(
     out: &mut CountedWriter<W>,
     text: &[u8],
-    written: usize,
-) {
-    assert!(rt; send(text, out) == Err(SendFault { written }) && out.failures() == 1);
+    answer: Result<(), SendFault>,
+    failures: u64,
+) -> bool {
+    send(text, out) == answer && out.failures() == failures
 }
 
-fn is_front(rt: &impl Abort, front: &[u8], text: &[u8], len: usize) {
-    assert!(rt; text.starts_with(front) && front.len() == len);
+pub(super) fn is_front(front: &[u8], text: &[u8], len: usize) -> bool {
+    text.starts_with(front) && front.len() == len
 }
 
-// A writer with so much room takes as many bytes of the text.
-fn stingy_takes(rt: &impl Abort, alloc: Global, text: &[u8], room: usize, flushes: bool) {
-    let mut out = Stingy::counted(alloc, room, flushes);
-    sends_so_many(rt, &mut out, text, room);
-    is_front(rt, &out.into_inner().taken, text, room);
+// The text goes out up to the first call that fails, as many bytes of it as the writer has room for.
+fn stops_at(alloc: Global, text: &[u8], room: usize, errs: bool, flushes: bool) -> bool {
+    let mut out = Stingy::counted(alloc, room, errs, flushes);
+    let fault = SendFault { written: room };
+    sends(&mut out, text, Err(fault), 1) & is_front(&out.into_inner().taken, text, room)
 }
 
-// The bytes that are loaded within a limit.
+// Whether these bytes are loaded within a limit.
 fn loads<R: Read>(
-    rt: &impl Abort,
     alloc: Global,
     reader: &mut CountedReader<R>,
     limit: usize,
     wanted: &[u8],
-) -> Result<(), LoadFault> {
-    are_bytes(rt, load(alloc, reader, limit)?.as_slice(), wanted);
-    Ok(())
+) -> Result<bool, LoadFault> {
+    Ok(load(alloc, reader, limit)?.as_slice() == wanted)
 }
 
-// The fault with which nothing is loaded.
-fn load_fault<R: Read>(
+// Whether nothing is loaded, for this fault.
+fn load_fails<R: Read>(
     alloc: Global,
     reader: &mut CountedReader<R>,
     limit: usize,
-) -> Option<LoadFault> {
-    load(alloc, reader, limit).err()
+    fault: LoadFault,
+) -> bool {
+    load(alloc, reader, limit).err() == Some(fault)
+}
+
+fn limits_hold(alloc: Global) -> Result<bool, LoadFault> {
+    let mut reader = CountedReader::new(b"abcd".as_slice());
+    let mut longer = CountedReader::new(b"abcde".as_slice());
+    Ok(
+        loads(alloc, &mut reader, 4, b"abcd")?
+            && load_fails(alloc, &mut longer, 4, LoadFault::TooLarge),
+    )
+}
+
+fn lines_end(alloc: Global) -> Result<bool, LoadFault> {
+    let mut faulty = Faulty::counted(b"abcd", 1, ErrorKind::Other);
+    Ok(
+        limits_hold(alloc)?
+            && load_fails(alloc, &mut faulty, 4, LoadFault::Io)
+            && stops_at(alloc, b"abcde", 3, true, true),
+    )
 }
 
 #[test]
 fn lines_writers_and_limits(rt: HostRuntime) -> Result<(), Fail> {
-    let alloc = rt.alloc();
-    stingy_takes(&rt, alloc, b"abcde", 3, true);
-    let mut reader = CountedReader::new(b"abcd".as_slice());
-    loads(&rt, alloc, &mut reader, 4, b"abcd")?;
-    let mut longer = CountedReader::new(b"abcde".as_slice());
-    assert!(rt; load_fault(alloc, &mut longer, 4) == Some(LoadFault::TooLarge));
-    let mut faulty = Faulty::counted(b"abcd", 1, ErrorKind::Other);
-    assert!(rt; load_fault(alloc, &mut faulty, 4) == Some(LoadFault::Io));
-    Ok(())
+    holds(&rt, lines_end(rt.alloc()))
 }
 
-fn is_sent(rt: &impl Abort, out: &mut CountedWriter<Vec<u8>>, text: &[u8]) {
-    assert!(rt; send(text, out).is_ok() && out.failures() == 0);
-}
-
-fn vector_takes_all(rt: &impl Abort, alloc: Global, text: &[u8]) {
+fn vector_takes_all(alloc: Global, text: &[u8]) -> bool {
     let mut out = CountedWriter::new(Vec::new(alloc));
-    is_sent(rt, &mut out, text);
-    is_front(rt, &out.into_inner(), text, text.len());
+    sends(&mut out, text, Ok(()), 0) & (out.into_inner().as_slice() == text)
 }
 
-// The ten bytes go out up to the failing call, and no further.
+// The text has ten bytes.
+fn each_write_fails(alloc: Global, text: &[u8]) -> bool {
+    let mut all = stops_at(alloc, text, 0, false, true);
+    for room in 0..11usize {
+        all &= stops_at(alloc, text, room, true, false);
+    }
+    all
+}
+
+// The bytes go out up to the failing call, and no further.
 #[test]
 fn each_write_fails_in_turn(rt: HostRuntime) {
     let text = b"a 1\na;b 5\n".as_slice();
-    for room in 0..11usize {
-        stingy_takes(&rt, rt.alloc(), text, room, false);
-    }
-    sends_so_many(&rt, &mut CountedWriter::new(Full), text, 0);
-    vector_takes_all(&rt, rt.alloc(), text);
+    assert!(rt; each_write_fails(rt.alloc(), text) && vector_takes_all(rt.alloc(), text));
 }
 
-fn read_fails(rt: &impl Abort, alloc: Global, errs_at: usize) {
+fn read_fails(alloc: Global, errs_at: usize) -> bool {
     let mut reader = Faulty::counted(b"abcde", errs_at, ErrorKind::Other);
-    assert!(rt; load_fault(alloc, &mut reader, 5) == Some(LoadFault::Io) && reader.failures() == 1);
+    load_fails(alloc, &mut reader, 5, LoadFault::Io) && reader.failures() == 1
 }
 
-fn read_is_tried_again(rt: &impl Abort, alloc: Global, errs_at: usize) -> Result<(), LoadFault> {
+fn read_is_tried_again(alloc: Global, errs_at: usize) -> Result<bool, LoadFault> {
     let mut reader = Faulty::counted(b"abcde", errs_at, ErrorKind::Interrupted);
-    loads(rt, alloc, &mut reader, 5, b"abcde")?;
-    assert!(rt; reader.failures() == 0);
-    Ok(())
+    Ok(loads(alloc, &mut reader, 5, b"abcde")? && reader.failures() == 0)
 }
 
 // Five bytes take three reads, and a fourth finds the end.
-#[test]
-fn each_read_fails_in_turn(rt: HostRuntime) -> Result<(), Fail> {
+fn each_read_fails(alloc: Global) -> Result<bool, LoadFault> {
+    let mut all = true;
     for errs_at in 0..4usize {
-        read_fails(&rt, rt.alloc(), errs_at);
+        all &= read_fails(alloc, errs_at);
     }
     for errs_at in 0..5usize {
-        read_is_tried_again(&rt, rt.alloc(), errs_at)?;
+        all &= read_is_tried_again(alloc, errs_at)?;
     }
-    Ok(())
+    Ok(all)
+}
+
+#[test]
+fn each_read_fails_in_turn(rt: HostRuntime) -> Result<(), Fail> {
+    holds(&rt, each_read_fails(rt.alloc()))
 }
 
 pub(super) fn is_written<D: Display>(
-    rt: &(impl Abort + AllocGlobal),
+    alloc: Global,
     fault: &D,
     wanted: &str,
-) -> Result<(), AllocError> {
-    are_bytes(
-        rt,
-        fault.to_string(rt.alloc())?.as_bytes(),
-        wanted.as_bytes(),
-    );
-    Ok(())
+) -> Result<bool, AllocError> {
+    Ok(fault.to_string(alloc)?.as_str() == wanted)
 }
 
 const LOAD_FAULTS: &[(LoadFault, &str)] = &[
@@ -132,110 +140,58 @@ const LOAD_FAULTS: &[(LoadFault, &str)] = &[
 ];
 
 // The texts are those of the program's messages.
+fn are_written(alloc: Global) -> Result<bool, AllocError> {
+    let mut all = is_written(alloc, &SendFault { written: 3 }, "output failed")?;
+    for (fault, wanted) in LOAD_FAULTS {
+        all &= is_written(alloc, fault, wanted)?;
+    }
+    Ok(all)
+}
+
 #[test]
 fn faults_are_written(rt: HostRuntime) -> Result<(), Fail> {
-    for (fault, wanted) in LOAD_FAULTS {
-        is_written(&rt, fault, wanted)?;
-    }
-    is_written(&rt, &SendFault { written: 3 }, "output failed")?;
-    Ok(())
+    holds(&rt, are_written(rt.alloc()))
 }
 
-fn file_of(alloc: Global, path: &str, bytes: &[u8]) -> Result<NamedFile, AllocError> {
-    let path = String::from_str(alloc, path)?;
-    Ok(NamedFile {
-        path,
-        bytes: bytes.to_vec(alloc)?,
-    })
+const IN_MEMORY: &[NamedBytes<'static>] = &[("x", b"b 2\n"), ("y", b"c 31\n"), ("x", b"d 4\n")];
+
+fn input_and_first_are_had(alloc: Global, files: &mut MemoryFiles) -> Result<bool, LoadFault> {
+    Ok(input_is(alloc, files, b"a 1\n")? && file_is(alloc, files, "x", b"b 2\n")?)
 }
 
-fn add(alloc: Global, files: &mut MemoryFiles, path: &str, bytes: &[u8]) -> Result<(), AllocError> {
-    files.add(file_of(alloc, path, bytes)?)
-}
-
-fn input_is(
-    rt: &impl Abort,
-    alloc: Global,
-    files: &mut MemoryFiles,
-    wanted: &[u8],
-) -> Result<(), LoadFault> {
-    are_bytes(rt, files.input(alloc)?.as_slice(), wanted);
-    Ok(())
-}
-
-fn file_is<F: Files>(
-    rt: &impl Abort,
-    alloc: Global,
-    files: &mut F,
-    path: &str,
-    wanted: &[u8],
-) -> Result<(), LoadFault> {
-    are_bytes(rt, files.named(alloc, path)?.as_slice(), wanted);
-    Ok(())
-}
-
-// The fault with which a file isn't had.
-fn file_fault<F: Files>(alloc: Global, files: &mut F, path: &str) -> Option<LoadFault> {
-    files.named(alloc, path).err()
-}
-
-fn add_three(alloc: Global, files: &mut MemoryFiles) -> Result<(), AllocError> {
-    add(alloc, files, "x", b"b 2\n")?;
-    add(alloc, files, "y", b"c 31\n")?;
-    add(alloc, files, "x", b"d 4\n")
-}
-
-fn three_files_are_had(
-    rt: &impl Abort,
-    alloc: Global,
-    files: &mut MemoryFiles,
-) -> Result<(), LoadFault> {
-    add_three(alloc, files)?;
-    for _ in 0..2 {
-        input_is(rt, alloc, files, b"a 1\n")?;
-        file_is(rt, alloc, files, "x", b"b 2\n")?;
-    }
-    assert!(rt;
-        file_fault(alloc, files, "y") == Some(LoadFault::TooLarge)
-            && file_fault(alloc, files, "z") == Some(LoadFault::Io)
-    );
-    Ok(())
+// The bytes are at most four.
+fn are_had(alloc: Global, files: &mut MemoryFiles) -> Result<bool, LoadFault> {
+    add_files(alloc, files, IN_MEMORY)?;
+    Ok(
+        input_and_first_are_had(alloc, files)?
+            && input_and_first_are_had(alloc, files)?
+            && file_fails(alloc, files, "y", LoadFault::TooLarge)
+            && file_fails(alloc, files, "z", LoadFault::Io),
+    )
 }
 
 #[test]
 fn files_in_memory(rt: HostRuntime) -> Result<(), Fail> {
     let input = b"a 1\n".to_vec(rt.alloc())?;
     let mut files = MemoryFiles::new(rt.alloc(), input, 4);
-    three_files_are_had(&rt, rt.alloc(), &mut files)?;
-    Ok(())
+    holds(&rt, are_had(rt.alloc(), &mut files))
 }
 
-// The bytes of a file of the machine, which is written and then removed.
-fn had_once<R: rt::Files + AllocGlobal, F: Files>(
-    rt: &R,
-    files: &mut F,
-    path: &str,
-) -> Result<Vec<u8>, Fail> {
-    fs::write(rt, path, "a;b 3\n")?;
-    let found = files.named(rt.alloc(), path);
-    fs::remove_file(rt, path)?;
-    Ok(found?)
-}
-
-fn is_had_once<R: rt::Files + AllocGlobal + Abort, F: Files>(
-    rt: &R,
+// The file of the machine is written and then removed.
+fn is_had_once<F: Files>(
+    rt: &(impl rt::Files + AllocGlobal + Abort),
     files: &mut F,
     path: &str,
 ) -> Result<(), Fail> {
-    are_bytes(rt, had_once(rt, files, path)?.as_slice(), b"a;b 3\n");
-    assert!(rt; file_fault(rt.alloc(), files, path) == Some(LoadFault::Io));
-    Ok(())
+    fs::write(rt, path, "a;b 3\n")?;
+    let found = file_is(rt.alloc(), files, path, b"a;b 3\n");
+    fs::remove_file(rt, path)?;
+    assert!(rt; file_fails(rt.alloc(), files, path, LoadFault::Io));
+    holds(rt, found)
 }
 
 #[test]
 fn files_of_the_machine(rt: HostRuntime) -> Result<(), Fail> {
-    let mut path = env::temp_dir(&rt)?;
-    path.push("byte_io_files_of_the_machine")?;
-    let path = path.to_str().ok_or("a path that is no text")?;
-    is_had_once(&rt, &mut MachineFiles::new(&rt), path)
+    let path = temporary_path(&rt, "files_of_the_machine")?;
+    is_had_once(&rt, &mut MachineFiles::new(&rt), path.as_str())
 }

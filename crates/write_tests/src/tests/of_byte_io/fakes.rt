@@ -42,19 +42,26 @@ impl Read for Faulty<'_> {
     }
 }
 
-// A writer that takes so many bytes, at most three at a time, and then errs.
+// A writer that takes so many bytes, at most three at a time, and then errs or takes none.
 #[derive(Drop)]
 pub(crate) struct Stingy {
     pub(crate) taken: Vec<u8>,
-    pub(crate) room: usize,
-    pub(crate) flushes: bool,
+    room: usize,
+    errs: bool,
+    flushes: bool,
 }
 
 impl Stingy {
-    pub(crate) fn counted(alloc: Global, room: usize, flushes: bool) -> CountedWriter<Stingy> {
+    pub(crate) fn counted(
+        alloc: Global,
+        room: usize,
+        errs: bool,
+        flushes: bool,
+    ) -> CountedWriter<Stingy> {
         CountedWriter::new(Stingy {
             taken: Vec::new(alloc),
             room,
+            errs,
             flushes,
         })
     }
@@ -62,7 +69,7 @@ impl Stingy {
 
 impl Write for Stingy {
     fn write(&mut self, bytes: &[u8]) -> io::Result<usize> {
-        if self.room == 0 {
+        if self.errs && self.room == 0 {
             return Err(io::Error::from(ErrorKind::BrokenPipe));
         }
         let count = bytes.len().min(self.room).min(3);
@@ -77,19 +84,5 @@ impl Write for Stingy {
         } else {
             Err(io::Error::from(ErrorKind::BrokenPipe))
         }
-    }
-}
-
-// A writer that takes nothing and doesn't err.
-#[derive(Drop)]
-pub(crate) struct Full;
-
-impl Write for Full {
-    fn write(&mut self, _bytes: &[u8]) -> io::Result<usize> {
-        Ok(0)
-    }
-
-    fn flush(&mut self) -> io::Result<()> {
-        Ok(())
     }
 }

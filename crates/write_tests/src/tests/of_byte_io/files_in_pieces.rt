@@ -1,28 +1,46 @@
 //! Bytes that are loaded in pieces.
-use crate::tests::texts::are_bytes;
-use byte_io::{Files, MachineFiles, MemoryFiles, NamedFile, load_in_pieces};
+use super::asked::{NamedBytes, add_files, temporary_path};
+use crate::tests::texts::holds;
+use byte_io::{Files, MachineFiles, MemoryFiles, load_in_pieces};
 use std::alloc::{AllocError, Global};
-use std::process::Abort;
 use std::test::Fail;
-use std::{env, fs, rt};
+use std::thread::Threads;
+use std::{fs, io, rt};
 
-/// The pieces with a bar between two of them, or `none`.
-fn shown(alloc: Global, pieces: Option<Vec<Vec<u8>>>) -> Result<Vec<u8>, AllocError> {
-    let Some(pieces) = pieces else {
-        return b"none".to_vec(alloc);
-    };
-    let mut text = Vec::new(alloc);
+/// Appends the pieces with a bar between two of them.
+fn append_barred(text: &mut Vec<u8>, pieces: &[Vec<u8>]) -> Result<(), AllocError> {
     for piece in pieces {
         if text.len() > 0 {
             text.push(b'|')?;
         }
-        text.extend_from_slice(&piece)?;
+        text.extend_from_slice(piece)?;
     }
-    Ok(text)
+    Ok(())
+}
+
+/// Appends the pieces with bars, or `none`.
+fn show(text: &mut Vec<u8>, pieces: &Option<Vec<Vec<u8>>>) -> Result<(), AllocError> {
+    match pieces {
+        Some(pieces) => append_barred(text, pieces),
+        None => text.extend_from_slice(b"none"),
+    }
+}
+
+/// Whether these are the pieces that are wanted.
+fn are_pieces(
+    alloc: Global,
+    pieces: &Option<Vec<Vec<u8>>>,
+    wanted: &[u8],
+) -> Result<bool, AllocError> {
+    let mut text = Vec::new(alloc);
+    show(&mut text, pieces)?;
+    Ok(text.as_slice() == wanted)
 }
 
 /// How long a piece is to be, how many there are, the most bytes of all, and what comes of ten bytes.
-const LOADED: &[(usize, usize, usize, &[u8])] = &[
+type Loaded<'a> = (usize, usize, usize, &'a [u8]);
+
+const LOADED: &[Loaded<'static>] = &[
     (4, 3, 10, b"abcd|efgh|ij"),
     (5, 2, 10, b"abcde|fghij"),
     (5, 3, 10, b"abcde|fghij|"),
@@ -33,126 +51,149 @@ const LOADED: &[(usize, usize, usize, &[u8])] = &[
     (4, 3, 9, b"none"),
 ];
 
-fn are_pieces(
-    rt: &impl Abort,
-    alloc: Global,
-    pieces: Option<Vec<Vec<u8>>>,
-    wanted: &[u8],
-) -> Result<(), AllocError> {
-    let found = shown(alloc, pieces)?;
-    are_bytes(rt, found.as_slice(), wanted);
-    Ok(())
+fn is_loaded(
+    rt: &(impl Threads + AllocGlobal),
+    bytes: &Vec<u8>,
+    loaded: &Loaded<'_>,
+) -> Result<bool, AllocError> {
+    let (size, count, limit, wanted) = loaded;
+    let limit = (*limit).min(100);
+    let pieces = load_in_pieces(rt, rt.alloc(), bytes, *size, *count, limit);
+    are_pieces(rt.alloc(), &pieces, wanted)
+}
+
+fn are_loaded(rt: &(impl Threads + AllocGlobal), bytes: &Vec<u8>) -> Result<bool, AllocError> {
+    let mut all = true;
+    for loaded in LOADED {
+        all &= is_loaded(rt, bytes, loaded)?;
+    }
+    Ok(all)
 }
 
 #[test]
 fn pieces_of_ten_bytes(rt: HostRuntime) -> Result<(), Fail> {
     let bytes = b"abcdefghij".to_vec(rt.alloc())?;
-    for (size, count, limit, wanted) in LOADED {
-        let limit = (*limit).min(100);
-        let pieces = load_in_pieces(&rt, rt.alloc(), &bytes, *size, *count, limit);
-        are_pieces(&rt, rt.alloc(), pieces, wanted)?;
-    }
-    Ok(())
+    holds(&rt, are_loaded(&rt, &bytes))
 }
 
-fn add(alloc: Global, files: &mut MemoryFiles, path: &str, bytes: &[u8]) -> Result<(), AllocError> {
-    files.add(NamedFile {
-        path: String::from_str(alloc, path)?,
-        bytes: bytes.to_vec(alloc)?,
-    })
-}
+const IN_MEMORY: &[NamedBytes<'static>] = &[
+    ("short", b"a 1\n"),
+    ("long", b"a;b 21\n"),
+    ("longest", b"a;b;c 21\n"),
+];
 
-/// A path, and what comes of its file.
-const IN_MEMORY: &[(&str, &[u8])] = &[
+/// A path, and what comes of its file as a whole.
+const WHOLE: &[NamedBytes<'static>] = &[
+    ("short", b"none"),
+    ("long", b"none"),
+    ("longest", b"none"),
+    ("gone", b"none"),
+];
+
+/// The same in pieces of four bytes.
+const IN_PIECES: &[NamedBytes<'static>] = &[
     ("short", b"none"),
     ("long", b"a;b |21\n"),
     ("longest", b"none"),
     ("gone", b"none"),
 ];
 
-fn files_in_memory(alloc: Global) -> Result<MemoryFiles, AllocError> {
-    let mut files = MemoryFiles::new(alloc, Vec::new(alloc), 8);
-    add(alloc, &mut files, "short", b"a 1\n")?;
-    add(alloc, &mut files, "long", b"a;b 21\n")?;
-    add(alloc, &mut files, "longest", b"a;b;c 21\n")?;
-    Ok(files)
+fn file_gives<F: Files>(
+    alloc: Global,
+    files: &mut F,
+    path: &str,
+    wanted: &[u8],
+) -> Result<bool, AllocError> {
+    are_pieces(alloc, &files.pieces(alloc, path), wanted)
+}
+
+fn files_give(
+    alloc: Global,
+    files: &mut MemoryFiles,
+    wanted: &[NamedBytes<'_>],
+) -> Result<bool, AllocError> {
+    add_files(alloc, files, IN_MEMORY)?;
+    let mut all = true;
+    for (path, pieces) in wanted {
+        all &= file_gives(alloc, files, path, pieces)?;
+    }
+    Ok(all)
 }
 
 #[test]
 fn pieces_of_files_in_memory(rt: HostRuntime) -> Result<(), Fail> {
-    let mut whole = files_in_memory(rt.alloc())?;
-    let mut files = files_in_memory(rt.alloc())?.in_pieces_of(4);
-    for (path, wanted) in IN_MEMORY {
-        let pieces = whole.pieces(rt.alloc(), path);
-        are_pieces(&rt, rt.alloc(), pieces, b"none")?;
-        let pieces = files.pieces(rt.alloc(), path);
-        are_pieces(&rt, rt.alloc(), pieces, wanted)?;
-    }
-    Ok(())
+    let alloc = rt.alloc();
+    let mut whole = MemoryFiles::new(alloc, Vec::new(alloc), 8);
+    holds(&rt, files_give(alloc, &mut whole, WHOLE))?;
+    let mut files = MemoryFiles::new(alloc, Vec::new(alloc), 8).in_pieces_of(4);
+    holds(&rt, files_give(alloc, &mut files, IN_PIECES))
 }
 
-/// Bytes of which no two pieces are the same.
-fn long_bytes(alloc: Global, len: usize) -> Result<Vec<u8>, AllocError> {
-    let mut bytes = Vec::with_capacity(alloc, len)?;
+/// Appends bytes of which no two pieces are the same.
+fn append_long(bytes: &mut Vec<u8>, len: usize) -> Result<(), AllocError> {
     for at in 0..len {
         bytes.push((at % 251) as u8)?;
     }
-    Ok(bytes)
+    Ok(())
 }
 
-/// The pieces of a file of the machine, which is written and then removed.
-fn pieces_once<R: rt::Files + AllocGlobal, F: Files>(
-    rt: &R,
+/// Whether these are so many pieces, which are the bytes one after another, or none where there are to be none.
+fn are_whole(
+    alloc: Global,
+    pieces: &Option<Vec<Vec<u8>>>,
+    count: usize,
+    bytes: &[u8],
+) -> Result<bool, AllocError> {
+    match pieces {
+        Some(pieces) => Ok(pieces.len() == count && pieces.concat(alloc)?.as_slice() == bytes),
+        None => Ok(count == 0),
+    }
+}
+
+/// The file of the machine is written and then removed.
+fn is_whole_once<F: Files>(
+    rt: &(impl rt::Files + AllocGlobal),
     files: &mut F,
     path: &str,
     bytes: &[u8],
-) -> Result<Option<Vec<Vec<u8>>>, Fail> {
-    fs::write(rt, path, bytes)?;
-    let pieces = files.pieces(rt.alloc(), path);
-    fs::remove_file(rt, path)?;
-    Ok(pieces)
-}
-
-/// There are so many pieces, which are these bytes one after another.
-fn is_whole(
-    rt: &impl Abort,
-    alloc: Global,
-    pieces: &[Vec<u8>],
     count: usize,
-    bytes: &[u8],
-) -> Result<(), AllocError> {
-    let mut whole = Vec::new(alloc);
-    for piece in pieces {
-        whole.extend_from_slice(piece)?;
-    }
-    assert!(rt; pieces.len() == count);
-    are_bytes(rt, whole.as_slice(), bytes);
-    Ok(())
+) -> io::Result<bool> {
+    fs::write(rt, path, bytes)?;
+    let found = are_whole(rt.alloc(), &files.pieces(rt.alloc(), path), count, bytes);
+    fs::remove_file(rt, path)?;
+    Ok(found?)
 }
 
-/// A file of four MiB is long.
+fn long_file_is_whole<F: Files>(
+    rt: &(impl rt::Files + AllocGlobal),
+    files: &mut F,
+    path: &str,
+    len: usize,
+    count: usize,
+) -> io::Result<bool> {
+    let mut bytes = Vec::new(rt.alloc());
+    append_long(&mut bytes, len)?;
+    is_whole_once(rt, files, path, &bytes, count)
+}
+
+/// How long a file is, and in how many pieces it is given. One of four MiB is long.
+const LENGTHS: &[(usize, usize)] = &[((4 << 20) - 1, 0), (4 << 20, 4), ((4 << 20) + 3, 4)];
+
+fn long_files_are_whole<F: Files>(
+    rt: &(impl rt::Files + AllocGlobal),
+    files: &mut F,
+    path: &str,
+) -> io::Result<bool> {
+    let mut all = true;
+    for (len, count) in LENGTHS {
+        all &= long_file_is_whole(rt, files, path, *len, *count)?;
+    }
+    Ok(all && file_gives(rt.alloc(), files, path, b"none")?)
+}
+
 #[test]
 fn pieces_of_files_of_the_machine(rt: HostRuntime) -> Result<(), Fail> {
-    let mut path = env::temp_dir(&rt)?;
-    path.push("byte_io_pieces_of_files")?;
-    let path = path.to_str().ok_or("a path that is no text")?;
+    let path = temporary_path(&rt, "pieces_of_files")?;
     let mut files = MachineFiles::new(&rt);
-    for (len, count) in [((4 << 20) - 1, 0), (4 << 20, 4), ((4 << 20) + 3, 4)] {
-        let bytes = long_bytes(rt.alloc(), len)?;
-        let pieces = pieces_once(&rt, &mut files, path, bytes.as_slice())?;
-        let wanted = if count == 0 {
-            b"".as_slice()
-        } else {
-            bytes.as_slice()
-        };
-        is_whole(
-            &rt,
-            rt.alloc(),
-            pieces.unwrap_or(Vec::new(rt.alloc())).as_slice(),
-            count,
-            wanted,
-        )?;
-    }
-    are_pieces(&rt, rt.alloc(), files.pieces(rt.alloc(), path), b"none")?;
-    Ok(())
+    holds(&rt, long_files_are_whole(&rt, &mut files, path.as_str()))
 }

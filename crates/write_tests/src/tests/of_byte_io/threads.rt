@@ -1,8 +1,10 @@
 //! Long texts, which are made in a thread while they are written in another.
 
-ghost use Rattle.std.specs.Prelude.{◌≡◌, ◌<◌, ◌^◌, length, replicate};
+ghost use Rattle.std.specs.Prelude.{◌≡◌, ◌+◌, ◌<◌, ◌^◌, length, replicate};
 
+use super::edge::is_front;
 use super::fakes::Stingy;
+use crate::tests::texts::holds;
 use byte_io::{Chain, CountedWriter, Literal, PieceFault, Pieces, send_pieces_in_threads};
 use std::alloc::{AllocError, Global};
 use std::process::Abort;
@@ -10,7 +12,7 @@ use std::test::Fail;
 use std::thread::Threads;
 
 /// One line, so often.
-#[derive(Clone, Copy, Debug)]
+#[derive(Clone, Copy)]
 struct Repeated {
     line: &'static [u8],
     times: usize,
@@ -48,16 +50,23 @@ const BETWEEN: Literal<'static> = Literal { bytes: b"# here\n" };
 /// A text of 2,760,007 bytes.
 type Long = Chain<Repeated, Chain<Literal<'static>, Repeated>>;
 
-fn long_text() -> Long
+fn chained(first: Repeated, between: Literal<'static>, last: Repeated) -> Long
+    requires { first.times + last.times < 2 ^ 63 }
     ensures { length (⟦<Long as Pieces>⟧.pieces result) < 2 ^ 64 }
 {
     Chain {
-        first: FIRST,
+        first,
         then: Chain {
-            first: BETWEEN,
-            then: LAST,
+            first: between,
+            then: last,
         },
     }
+}
+
+fn long_text() -> Long
+    ensures { length (⟦<Long as Pieces>⟧.pieces result) < 2 ^ 64 }
+{
+    chained(FIRST, BETWEEN, LAST)
 }
 
 fn append_all(out: &mut Vec<u8>, text: Repeated) -> Result<(), AllocError> {
@@ -67,47 +76,59 @@ fn append_all(out: &mut Vec<u8>, text: Repeated) -> Result<(), AllocError> {
     Ok(())
 }
 
-fn whole(alloc: Global) -> Result<Vec<u8>, AllocError> {
-    let mut out = Vec::new(alloc);
-    append_all(&mut out, FIRST)?;
+fn append_whole(out: &mut Vec<u8>) -> Result<(), AllocError> {
+    append_all(out, FIRST)?;
     out.extend_from_slice(BETWEEN.bytes)?;
-    append_all(&mut out, LAST)?;
-    Ok(out)
+    append_all(out, LAST)
 }
 
-fn send_all(
-    rt: &(impl Abort + Threads),
-    alloc: Global,
+fn is_sent(
+    rt: &(impl Threads + AllocGlobal),
     out: &mut CountedWriter<Vec<u8>>,
-) -> Result<(), PieceFault> {
-    send_pieces_in_threads(rt, alloc, &long_text(), out)?;
-    assert!(rt; out.failures() == 0);
-    Ok(())
+) -> Result<bool, PieceFault> {
+    send_pieces_in_threads(rt, rt.alloc(), &long_text(), out)?;
+    Ok(out.failures() == 0)
+}
+
+fn goes_out_whole(rt: &(impl Threads + AllocGlobal), text: &[u8]) -> Result<bool, PieceFault> {
+    let mut out = CountedWriter::new(Vec::new(rt.alloc()));
+    let sent = is_sent(rt, &mut out);
+    let is_whole = out.into_inner().as_slice() == text;
+    Ok(sent? && is_whole)
 }
 
 #[test]
 fn long_text_goes_out_whole(rt: HostRuntime) -> Result<(), Fail> {
-    let mut out = CountedWriter::new(Vec::new(rt.alloc()));
-    send_all(&rt, rt.alloc(), &mut out)?;
-    assert!(rt; out.into_inner() == whole(rt.alloc())?);
-    Ok(())
+    let mut text = Vec::new(rt.alloc());
+    append_whole(&mut text)?;
+    holds(&rt, goes_out_whole(&rt, &text))
 }
 
-fn write_fails(rt: &(impl Abort + Threads), alloc: Global, out: &mut CountedWriter<Stingy>) {
-    let answer = send_pieces_in_threads(rt, alloc, &long_text(), out);
-    assert!(rt; answer == Err(PieceFault::Output) && out.failures() == 1);
+fn write_fails(rt: &(impl Threads + AllocGlobal), out: &mut CountedWriter<Stingy>) -> bool {
+    let answer = send_pieces_in_threads(rt, rt.alloc(), &long_text(), out);
+    answer == Err(PieceFault::Output) && out.failures() == 1
+}
+
+fn stops_at(rt: &(impl Threads + AllocGlobal), text: &[u8], room: usize) -> bool {
+    let mut out = Stingy::counted(rt.alloc(), room, true, false);
+    write_fails(rt, &mut out) & is_front(&out.into_inner().taken, text, room)
 }
 
 /// So many bytes go out before the output fails.
 const ROOMS: &[usize] = &[0, 65_536, 100_000, 1_600_000, 2_760_006, 2_760_007];
 
+fn stops_in_each_room(rt: &(impl Threads + AllocGlobal), text: &[u8]) -> bool {
+    let mut all = true;
+    for room in ROOMS {
+        all &= stops_at(rt, text, *room);
+    }
+    all
+}
+
 #[test]
 fn long_text_stops_where_the_output_fails(rt: HostRuntime) -> Result<(), Fail> {
-    let text = whole(rt.alloc())?;
-    for room in ROOMS {
-        let mut out = Stingy::counted(rt.alloc(), *room, false);
-        write_fails(&rt, rt.alloc(), &mut out);
-        assert!(rt; Some(out.into_inner().taken.as_slice()) == text.get(..*room));
-    }
+    let mut text = Vec::new(rt.alloc());
+    append_whole(&mut text)?;
+    assert!(rt; stops_in_each_room(&rt, &text));
     Ok(())
 }

@@ -5,7 +5,6 @@ ghost use Rattle.std.specs.Prelude.{◌+◌, ◌<◌, ◌≤◌, All, IsTrue, le
 use flame_layout::{ComparedBox, FlameBox, SpanBox};
 use stack_core::Text;
 use std::alloc::{AllocError, Global};
-use std::process::Abort;
 
 /// Depth, name, start, weight and own weight of a box.
 pub(super) type Row<'a> = (u32, &'a str, u64, u64, u64);
@@ -21,12 +20,15 @@ fn span_of(alloc: Global, row: &Row<'_>) -> Result<SpanBox, AllocError> {
     })
 }
 
-pub(super) fn boxes_of(alloc: Global, rows: &[Row<'_>]) -> Result<Vec<SpanBox>, AllocError> {
-    let mut boxes = Vec::new(alloc);
+pub(super) fn add_boxes(
+    alloc: Global,
+    boxes: &mut Vec<SpanBox>,
+    rows: &[Row<'_>],
+) -> Result<(), AllocError> {
     for row in rows {
         boxes.push(span_of(alloc, row)?)?;
     }
-    Ok(boxes)
+    Ok(())
 }
 
 fn pair_of(alloc: Global, row: &Row<'_>, before: u64) -> Result<ComparedBox, AllocError> {
@@ -34,15 +36,15 @@ fn pair_of(alloc: Global, row: &Row<'_>, before: u64) -> Result<ComparedBox, All
     Ok(ComparedBox { span, before })
 }
 
-pub(super) fn pairs_of(
+pub(super) fn add_pairs(
     alloc: Global,
+    boxes: &mut Vec<ComparedBox>,
     rows: &[(Row<'_>, u64)],
-) -> Result<Vec<ComparedBox>, AllocError> {
-    let mut boxes = Vec::new(alloc);
+) -> Result<(), AllocError> {
     for (row, before) in rows {
         boxes.push(pair_of(alloc, row, *before)?)?;
     }
-    Ok(boxes)
+    Ok(())
 }
 
 /// Whether a box ends within the total.
@@ -52,17 +54,10 @@ fn is_within<B: FlameBox>(one: &B, total: u64) -> bool
     one.start() <= total && one.weight() <= total - one.start()
 }
 
-fn are_within<B: FlameBox>(boxes: &[B], total: u64) -> bool
-    ensures { IsTrue result → All (λ one. (B.span one).start + (B.span one).weight ≤ total) boxes.now }
+/// Whether boxes can be drawn in this total.
+pub(super) fn are_within<B: FlameBox>(boxes: &[B], total: u64) -> bool
+    ensures within { IsTrue result → All (λ one. (B.span one).start + (B.span one).weight ≤ total) boxes.now }
+    ensures positive { IsTrue result → 0 < length boxes.now → 0 < total }
 {
-    boxes.iter().all(|one| is_within(one, total))
-}
-
-/// That boxes are drawn in this total.
-pub(super) fn assert_within<B: FlameBox>(rt: &impl Abort, boxes: &[B], total: u64)
-    ensures within { All (λ one. (B.span one).start + (B.span one).weight ≤ total) boxes.now }
-    ensures positive { 0 < length boxes.now → 0 < total }
-{
-    assert!(rt; are_within(boxes, total));
-    assert!(rt; total > 0 || boxes.is_empty());
+    (total > 0 || boxes.is_empty()) && boxes.iter().all(|one| is_within(one, total))
 }

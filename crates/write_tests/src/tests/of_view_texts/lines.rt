@@ -1,9 +1,9 @@
 //! Worked examples.
 
-use super::boxes::{Row, assert_within, boxes_of, pairs_of};
-use crate::tests::texts::are_bytes;
+use super::boxes::{Row, add_boxes, add_pairs, are_within};
+use crate::tests::texts::{is_text, refuse};
 use byte_io::append_pieces;
-use flame_layout::{DrawnBox, Width};
+use flame_layout::{ComparedBox, DrawnBox, SpanBox, Width};
 use std::alloc::{AllocError, Global};
 use std::process::Abort;
 use std::test::Fail;
@@ -23,83 +23,107 @@ enum Line<'a> {
     Pairs(u64, &'a [(Row<'a>, u64)]),
 }
 
+/// The boxes are added to none, as those of the other lines.
 fn append_boxes(
-    rt: &(impl Abort + AllocGlobal),
+    alloc: Global,
     out: &mut Vec<u8>,
     view: &str,
     rows: &[Row<'_>],
     scale: &Scale,
+    boxes: &mut Vec<SpanBox>,
 ) -> Result<(), AllocError> {
-    let boxes = boxes_of(rt.alloc(), rows)?;
-    assert_within(rt, &boxes, scale.total);
-    append_boxes_line(rt.alloc(), out, view, &boxes, scale)
+    add_boxes(alloc, boxes, rows)?;
+    if !are_within(boxes, scale.total) {
+        return refuse(out);
+    }
+    append_boxes_line(alloc, out, view, boxes, scale)
 }
 
 fn append_drawn(
-    rt: &(impl Abort + AllocGlobal),
+    alloc: Global,
     out: &mut Vec<u8>,
     view: &str,
     boxes: &[DrawnBox<'_>],
     scale: &Scale,
 ) -> Result<(), AllocError> {
-    assert_within(rt, boxes, scale.total);
-    append_pieces(rt.alloc(), &drawn_line(view, boxes, *scale), out)
+    if !are_within(boxes, scale.total) {
+        return refuse(out);
+    }
+    append_pieces(alloc, &drawn_line(view, boxes, *scale), out)
 }
 
 fn append_snapshot(
-    rt: &(impl Abort + AllocGlobal),
+    alloc: Global,
     out: &mut Vec<u8>,
     at: u64,
     counts: &[u64],
     rows: &[Row<'_>],
     scale: &Scale,
+    boxes: &mut Vec<SpanBox>,
 ) -> Result<(), AllocError> {
-    let boxes = boxes_of(rt.alloc(), rows)?;
-    assert_within(rt, &boxes, scale.total);
-    append_snapshot_line(rt.alloc(), out, at, counts, &boxes, scale)
+    add_boxes(alloc, boxes, rows)?;
+    if !are_within(boxes, scale.total) {
+        return refuse(out);
+    }
+    append_snapshot_line(alloc, out, at, counts, boxes, scale)
 }
 
 fn append_pairs(
-    rt: &(impl Abort + AllocGlobal),
+    alloc: Global,
     out: &mut Vec<u8>,
     before: u64,
     rows: &[(Row<'_>, u64)],
     scale: &Scale,
+    boxes: &mut Vec<ComparedBox>,
 ) -> Result<(), AllocError> {
-    let boxes = pairs_of(rt.alloc(), rows)?;
-    assert_within(rt, &boxes, scale.total);
-    append_pair_boxes_line(rt.alloc(), out, before, &boxes, scale)
+    add_pairs(alloc, boxes, rows)?;
+    if !are_within(boxes, scale.total) {
+        return refuse(out);
+    }
+    append_pair_boxes_line(alloc, out, before, boxes, scale)
 }
 
 fn append_line(
-    rt: &(impl Abort + AllocGlobal),
+    alloc: Global,
     out: &mut Vec<u8>,
     line: &Line<'_>,
     scale: &Scale,
 ) -> Result<(), AllocError> {
     match line {
-        Line::Boxes(view, rows) => append_boxes(rt, out, view, rows, scale),
-        Line::Drawn(view, boxes) => append_drawn(rt, out, view, boxes, scale),
-        Line::Snapshot(at, counts, rows) => append_snapshot(rt, out, *at, counts, rows, scale),
-        Line::Pairs(before, rows) => append_pairs(rt, out, *before, rows, scale),
+        Line::Boxes(view, rows) => {
+            append_boxes(alloc, out, view, rows, scale, &mut Vec::new(alloc))
+        }
+        Line::Drawn(view, boxes) => append_drawn(alloc, out, view, boxes, scale),
+        Line::Snapshot(at, counts, rows) => {
+            append_snapshot(alloc, out, *at, counts, rows, scale, &mut Vec::new(alloc))
+        }
+        Line::Pairs(before, rows) => {
+            append_pairs(alloc, out, *before, rows, scale, &mut Vec::new(alloc))
+        }
     }
 }
 
 /// What is written, and the total and the width of its picture.
 type Written<'a> = (Line<'a>, u64, u32);
 
-fn scale_of(rt: &impl Abort, total: u64, width: u32) -> Scale {
-    let width = Width::of(width).expect(rt, "the width of an image");
-    Scale { total, width }
+fn append(alloc: Global, out: &mut Vec<u8>, written: &Written<'_>) -> Result<(), AllocError> {
+    let (line, total, width) = written;
+    let total = *total;
+    match Width::of(*width) {
+        Some(width) => append_line(alloc, out, line, &Scale { total, width }),
+        None => refuse(out),
+    }
 }
 
 fn append_all(
-    rt: &(impl Abort + AllocGlobal),
+    alloc: Global,
     out: &mut Vec<u8>,
+    front: &str,
     all: &[Written<'_>],
 ) -> Result<(), AllocError> {
-    for (line, total, width) in all {
-        append_line(rt, out, line, &scale_of(rt, *total, *width))?;
+    out.extend_from_slice(front.as_bytes())?;
+    for written in all {
+        append(alloc, out, written)?;
     }
     Ok(())
 }
@@ -111,10 +135,9 @@ fn make(
     all: &[Written<'_>],
     wanted: &str,
 ) -> Result<(), Fail> {
-    let mut out = Vec::from_slice(rt.alloc(), front.as_bytes())?;
-    append_all(rt, &mut out, all)?;
-    are_bytes(rt, &out, wanted.as_bytes());
-    Ok(())
+    let mut out = Vec::new(rt.alloc());
+    let made = append_all(rt.alloc(), &mut out, front, all);
+    is_text(rt, made, &out, wanted.as_bytes())
 }
 
 const THREE: &[Row<'static>] = &[(0, "all", 0, 3, 0), (1, "a", 0, 1, 1), (1, "b", 1, 2, 2)];
@@ -164,21 +187,27 @@ fn line_of_lent_names(rt: HostRuntime) -> Result<(), Fail> {
 /// More boxes than are put together at a time.
 const OF_MANY: &[Written<'static>] = &[(Line::Drawn("chart", &[ALL; 130]), 3, 10)];
 
-/// The line of so many boxes that are alike, of which this is one.
-fn line_of_many(alloc: Global, one: &str, many: usize) -> Result<String, AllocError> {
-    let mut line = String::from_str(alloc, r#"{"boxes":["#)?;
+/// Appends so many boxes that are alike, of which this is one.
+fn push_many(line: &mut String, one: &str, many: usize) -> Result<(), AllocError> {
     for at in 0..many {
         line.push_str(if at > 0 { "," } else { "" })?;
         line.push_str(one)?;
     }
-    line.push_str("],\"total\":3,\"view\":\"chart\",\"width\":10}\n")?;
-    Ok(line)
+    Ok(())
+}
+
+/// Appends the line of these boxes.
+fn push_line_of_many(line: &mut String, one: &str, many: usize) -> Result<(), AllocError> {
+    line.push_str(r#"{"boxes":["#)?;
+    push_many(line, one, many)?;
+    line.push_str("],\"total\":3,\"view\":\"chart\",\"width\":10}\n")
 }
 
 #[test]
 fn line_of_many_boxes(rt: HostRuntime) -> Result<(), Fail> {
     let one = r#"{"depth":0,"left":0,"name":"all","own":3,"right":10,"start":0,"weight":3}"#;
-    let line = line_of_many(rt.alloc(), one, 130)?;
+    let mut line = String::new(rt.alloc());
+    push_line_of_many(&mut line, one, 130)?;
     make(&rt, "", OF_MANY, line.as_str())
 }
 

@@ -1,77 +1,75 @@
 //! Sources of a few samples.
-ghost use Rattle.std.specs.Prelude.{◌<◌, ◌^◌};
+ghost use Rattle.std.specs.Prelude.{◌≡◌, ◌<◌, ◌^◌, IsTrue, None, OnOk};
 ghost use Rattle.stack_core.specs.Ledgers.{IsRead};
 ghost use Rattle.merged_stacks.specs.Merged.{all_samples};
 ghost use Rattle.merged_stacks.specs.Timeline.{samples_of, timeline, total_weight};
 
 use stack_core::{Close, Ledger, Names, Sample, SourceEnd, SourceList};
 use std::alloc::{AllocError, Global};
-use std::process::Abort;
 
 /// Stacks, root first, with their weights.
 pub(super) type Rows<'a> = &'a [(&'a [&'a str], u64)];
 
+/// Takes a sample, if it is a small one.
 fn take_row(
-    rt: &impl Abort,
     alloc: Global,
     ledger: &mut Ledger,
     names: &[&str],
     weight: u64,
-) -> Result<(), AllocError> {
-    assert!(rt; !ledger.is_closed() && names.len() < 10 && weight < 100);
+) -> Result<(), AllocError>
+    requires { ledger.old.close ≡ None }
+    ensures { OnOk result (ledger.new.close ≡ None) }
+{
+    if names.len() >= 10 || weight >= 100 {
+        return Ok(());
+    }
     let stack = Names::from_strs(alloc, names)?;
     ledger.take(Sample { stack, weight })
 }
 
-fn take_all(
-    rt: &impl Abort,
-    alloc: Global,
-    ledger: &mut Ledger,
-    rows: Rows<'_>,
-) -> Result<(), AllocError> {
+/// Takes all samples, and closes the ledger.
+fn fill(alloc: Global, ledger: &mut Ledger, rows: Rows<'_>) -> Result<(), AllocError>
+    requires { ledger.old.close ≡ None }
+    ensures { OnOk result (IsRead ledger.new.close) }
+{
     for (names, weight) in rows {
-        take_row(rt, alloc, ledger, names, *weight)?;
+        take_row(alloc, ledger, names, *weight)?;
+    }
+    ledger.close(Close::Read(SourceEnd::Clean { ignored: 0 }));
+    Ok(())
+}
+
+/// The list of a source with these samples.
+fn list(alloc: Global, rows: Rows<'_>) -> Result<SourceList, AllocError> {
+    let mut ledger = Ledger::new(alloc);
+    fill(alloc, &mut ledger, rows)?;
+    Ok(ledger.into_list())
+}
+
+/// Adds the lists of sources.
+pub(super) fn add_lists(
+    alloc: Global,
+    lists: &mut Vec<SourceList>,
+    sources: &[Rows<'_>],
+) -> Result<(), AllocError> {
+    for rows in sources {
+        lists.push(list(alloc, rows)?)?;
     }
     Ok(())
 }
 
-fn close_read(rt: &impl Abort, ledger: &mut Ledger)
-    ensures { IsRead ledger.new.close }
-{
-    assert!(rt; !ledger.is_closed());
-    ledger.close(Close::Read(SourceEnd::Clean { ignored: 0 }));
-}
-
-/// The list of a source with these samples.
-fn list(rt: &impl Abort, alloc: Global, rows: Rows<'_>) -> Result<SourceList, AllocError> {
-    let mut ledger = Ledger::new(alloc);
-    take_all(rt, alloc, &mut ledger, rows)?;
-    close_read(rt, &mut ledger);
-    Ok(ledger.into_list())
-}
-
-/// The lists of two sources.
-pub(super) fn lists_of(
-    rt: &impl Abort,
-    alloc: Global,
-    one: Rows<'_>,
-    other: Rows<'_>,
-) -> Result<Vec<SourceList>, AllocError> {
-    let mut lists = Vec::new(alloc);
-    lists.push(list(rt, alloc, one)?)?;
-    lists.push(list(rt, alloc, other)?)?;
-    Ok(lists)
-}
-
-/// That lists don't weigh much together.
-pub(super) fn assert_light(rt: &impl Abort, lists: &[SourceList])
-    ensures merged { total_weight (all_samples (samples_of lists.now)) < 2 ^ 64 }
-    ensures drawn { total_weight (timeline (samples_of lists.now)) < 2 ^ 64 }
+/// Whether lists don't weigh much together.
+pub(super) fn are_light(lists: &[SourceList]) -> bool
+    ensures merged { IsTrue result → total_weight (all_samples (samples_of lists.now)) < 2 ^ 64 }
+    ensures drawn { IsTrue result → total_weight (timeline (samples_of lists.now)) < 2 ^ 64 }
 {
     let mut room = 2_000;
     for list in lists {
-        assert!(rt; list.total() < 1_000);
-        assert!(rt; list.total() < room);
-        room -= list.total();
+        let weight = list.total();
+        if weight >= room {
+            return false;
+        }
+        room -= weight;
     }
+    true
 }
