@@ -33,6 +33,12 @@ fn add_sums(alloc: Global, sums: &mut Vec<FunctionSum>, rows: Rows<'_>) -> Resul
     Ok(())
 }
 
+fn sums_of(alloc: Global, rows: Rows<'_>) -> Result<Vec<FunctionSum>, AllocError> {
+    let mut sums = Vec::new(alloc);
+    add_sums(alloc, &mut sums, rows)?;
+    Ok(sums)
+}
+
 /// How functions are written.
 enum Form {
     Table,
@@ -42,25 +48,29 @@ enum Form {
 /// In which form which functions are written, how many of them at most, what the samples weigh, and what they weigh without a filter.
 type Written<'a> = (Form, Rows<'a>, u64, u64, Option<u64>);
 
-fn append(
+fn append_sums(
     alloc: Global,
     out: &mut Vec<u8>,
-    sums: &mut Vec<FunctionSum>,
+    sums: &[FunctionSum],
     written: &Written<'_>,
 ) -> Result<(), AllocError> {
-    let (form, rows, count, total, whole) = written;
-    add_sums(alloc, sums, rows)?;
+    let (form, _, count, total, whole) = written;
     match form {
         Form::Table => append_sum_table(alloc, out, sums, *count, *total, *whole),
         Form::Line => append_sum_line(alloc, out, sums, *count, *total, *whole),
     }
 }
 
+fn append(alloc: Global, out: &mut Vec<u8>, written: &Written<'_>) -> Result<(), AllocError> {
+    let sums = sums_of(alloc, written.1)?;
+    append_sums(alloc, out, &sums, written)
+}
+
 /// Appends these texts to a line that stands there before.
 fn append_all(alloc: Global, out: &mut Vec<u8>, all: &[Written<'_>]) -> Result<(), AllocError> {
     out.extend_from_slice(b"before\n")?;
     for written in all {
-        append(alloc, out, &mut Vec::new(alloc), written)?;
+        append(alloc, out, written)?;
     }
     Ok(())
 }

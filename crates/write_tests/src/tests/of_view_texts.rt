@@ -1,6 +1,7 @@
 //! Worked texts.
 mod boxes;
 mod charts;
+mod drawings;
 mod examples;
 mod fold;
 mod joined;

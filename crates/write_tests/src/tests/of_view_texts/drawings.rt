@@ -1,0 +1,128 @@
+//! Lines of pictures.
+
+use super::boxes::{Row, add_boxes, add_pairs, are_within};
+use crate::tests::texts::refuse;
+use byte_io::append_pieces;
+use flame_layout::{ComparedBox, DrawnBox, SpanBox, Width};
+use std::alloc::{AllocError, Global};
+use view_texts::{
+    Scale, append_boxes_line, append_pair_boxes_line, append_snapshot_line, drawn_line,
+};
+
+/// What is written as a line.
+pub(super) enum Line<'a> {
+    /// A view and its boxes.
+    Boxes(&'a str, &'a [Row<'a>]),
+    /// The same with boxes whose names are lent.
+    Drawn(&'a str, &'a [DrawnBox<'a>]),
+    /// After how many samples a snapshot was taken, how many each source had given, and its boxes.
+    Snapshot(u64, &'a [u64], &'a [Row<'a>]),
+    /// What the first profile of a comparison weighs, and the boxes, each with what it weighs there.
+    Pairs(u64, &'a [(Row<'a>, u64)]),
+}
+
+/// The boxes are added to none, as those of the other lines.
+fn append_boxes(
+    alloc: Global,
+    out: &mut Vec<u8>,
+    view: &str,
+    rows: &[Row<'_>],
+    scale: &Scale,
+    boxes: &mut Vec<SpanBox>,
+) -> Result<(), AllocError> {
+    add_boxes(alloc, boxes, rows)?;
+    if !are_within(boxes, scale.total) {
+        return refuse(out);
+    }
+    append_boxes_line(alloc, out, view, boxes, scale)
+}
+
+fn append_drawn(
+    alloc: Global,
+    out: &mut Vec<u8>,
+    view: &str,
+    boxes: &[DrawnBox<'_>],
+    scale: &Scale,
+) -> Result<(), AllocError> {
+    if !are_within(boxes, scale.total) {
+        return refuse(out);
+    }
+    append_pieces(alloc, &drawn_line(view, boxes, *scale), out)
+}
+
+fn append_snapshot(
+    alloc: Global,
+    out: &mut Vec<u8>,
+    at: u64,
+    counts: &[u64],
+    rows: &[Row<'_>],
+    scale: &Scale,
+    boxes: &mut Vec<SpanBox>,
+) -> Result<(), AllocError> {
+    add_boxes(alloc, boxes, rows)?;
+    if !are_within(boxes, scale.total) {
+        return refuse(out);
+    }
+    append_snapshot_line(alloc, out, at, counts, boxes, scale)
+}
+
+fn append_pairs(
+    alloc: Global,
+    out: &mut Vec<u8>,
+    before: u64,
+    rows: &[(Row<'_>, u64)],
+    scale: &Scale,
+    boxes: &mut Vec<ComparedBox>,
+) -> Result<(), AllocError> {
+    add_pairs(alloc, boxes, rows)?;
+    if !are_within(boxes, scale.total) {
+        return refuse(out);
+    }
+    append_pair_boxes_line(alloc, out, before, boxes, scale)
+}
+
+fn append_line(
+    alloc: Global,
+    out: &mut Vec<u8>,
+    line: &Line<'_>,
+    scale: &Scale,
+) -> Result<(), AllocError> {
+    match line {
+        Line::Boxes(view, rows) => {
+            append_boxes(alloc, out, view, rows, scale, &mut Vec::new(alloc))
+        }
+        Line::Drawn(view, boxes) => append_drawn(alloc, out, view, boxes, scale),
+        Line::Snapshot(at, counts, rows) => {
+            append_snapshot(alloc, out, *at, counts, rows, scale, &mut Vec::new(alloc))
+        }
+        Line::Pairs(before, rows) => {
+            append_pairs(alloc, out, *before, rows, scale, &mut Vec::new(alloc))
+        }
+    }
+}
+
+/// What is written, and the total and the width of its picture.
+pub(super) type Written<'a> = (Line<'a>, u64, u32);
+
+fn append(alloc: Global, out: &mut Vec<u8>, written: &Written<'_>) -> Result<(), AllocError> {
+    let (line, total, width) = written;
+    let total = *total;
+    match Width::of(*width) {
+        Some(width) => append_line(alloc, out, line, &Scale { total, width }),
+        None => refuse(out),
+    }
+}
+
+/// Appends these lines behind what stands in front.
+pub(super) fn append_all(
+    alloc: Global,
+    out: &mut Vec<u8>,
+    front: &str,
+    all: &[Written<'_>],
+) -> Result<(), AllocError> {
+    out.extend_from_slice(front.as_bytes())?;
+    for written in all {
+        append(alloc, out, written)?;
+    }
+    Ok(())
+}
