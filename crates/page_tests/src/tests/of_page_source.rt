@@ -1,37 +1,50 @@
 //! Where the data stand between the two parts.
 
+use super::texts::holds;
 use page_source::{head, tail};
 use std::alloc::{AllocError, Global};
-use std::process::Abort;
 use std::test::Fail;
 
 /// The head, these data and the tail.
-pub(crate) fn page_of(alloc: Global, data: &str) -> Result<String, AllocError> {
+fn page_of(alloc: Global, data: &str) -> Result<String, AllocError> {
     let head = head().concat(alloc)?;
     let tail = tail().concat(alloc)?;
     format!(in alloc; "{head}{data}{tail}")
 }
 
-fn opens_an_element(rt: &impl Abort, head: &str) {
-    assert!(rt; head.starts_with("<!doctype html>\n"));
-    assert!(rt; head.ends_with("<script type=\"application/json\" id=\"data\">"));
+fn opens_an_element(head: &str) -> bool {
+    head.starts_with("<!doctype html>\n")
+        && head.ends_with("<script type=\"application/json\" id=\"data\">")
 }
 
-fn closes_an_element(rt: &impl Abort, tail: &str) {
-    assert!(rt; tail.starts_with("</script>\n"));
-    assert!(rt; tail.ends_with("</html>\n"));
+fn closes_an_element(tail: &str) -> bool {
+    tail.starts_with("</script>\n") && tail.ends_with("</html>\n")
+}
+
+fn head_opens(alloc: Global) -> Result<bool, AllocError> {
+    Ok(opens_an_element(&head().concat(alloc)?))
+}
+
+fn tail_closes(alloc: Global) -> Result<bool, AllocError> {
+    Ok(closes_an_element(&tail().concat(alloc)?))
 }
 
 #[test]
 fn data_stand_in_an_element(rt: HostRuntime) -> Result<(), Fail> {
-    opens_an_element(&rt, &head().concat(rt.alloc())?);
-    closes_an_element(&rt, &tail().concat(rt.alloc())?);
-    Ok(())
+    holds(&rt, head_opens(rt.alloc()))?;
+    holds(&rt, tail_closes(rt.alloc()))
+}
+
+/// Whether the page is the head, these data and the tail.
+pub(crate) fn is_page(alloc: Global, page: &[u8], data: &str) -> Result<bool, AllocError> {
+    Ok(page == page_of(alloc, data)?.as_bytes())
+}
+
+fn page_begins(alloc: Global) -> Result<bool, AllocError> {
+    Ok(page_of(alloc, "{}")?.starts_with("<!doctype html>"))
 }
 
 #[test]
 fn example_of_the_readme(rt: HostRuntime) -> Result<(), Fail> {
-    let page = page_of(rt.alloc(), "{}")?;
-    assert!(rt; page.starts_with("<!doctype html>"));
-    Ok(())
+    holds(&rt, page_begins(rt.alloc()))
 }

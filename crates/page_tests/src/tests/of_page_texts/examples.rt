@@ -1,13 +1,14 @@
 //! The texts of small pages, as docs/PAGE-DATA.md has them.
 
-use crate::tests::of_page_source::page_of;
-use crate::tests::texts::are_bytes;
+use crate::tests::of_page_source::is_page;
+use crate::tests::texts::{holds, is_text};
 use byte_io::{CountedWriter, PieceFault};
 use flame_layout::{ComparedBox, SpanBox};
 use page_texts::{Drawing, Moment, Page, PageBox, Source, append_page_data, send_page};
 use stack_core::Text;
 use std::alloc::{AllocError, Global};
 use std::process::Abort;
+use std::slice;
 use std::test::Fail;
 
 // Depth, name, start, weight and own weight of a box.
@@ -24,12 +25,11 @@ fn span_of(alloc: Global, row: &Row<'_>) -> Result<SpanBox, AllocError> {
     })
 }
 
-fn boxes_of(alloc: Global, rows: &[Row<'_>]) -> Result<Vec<SpanBox>, AllocError> {
-    let mut boxes = Vec::new(alloc);
+fn add_boxes(alloc: Global, boxes: &mut Vec<SpanBox>, rows: &[Row<'_>]) -> Result<(), AllocError> {
     for row in rows {
         boxes.push(span_of(alloc, row)?)?;
     }
-    Ok(boxes)
+    Ok(())
 }
 
 // A page of one drawing, but for its boxes.
@@ -69,8 +69,8 @@ fn append_data<B: PageBox>(
     boxes: &[B],
     case: &Case<'_>,
 ) -> Result<(), AllocError> {
-    let drawings = [drawing_of(boxes, case)];
-    append_page_data(alloc, out, &page_with(&drawings, case))
+    let drawing = drawing_of(boxes, case);
+    append_page_data(alloc, out, &page_with(slice::from_ref(&drawing), case))
 }
 
 const ALL: Row<'static> = (0, "all", 0, 3, 0);
@@ -83,16 +83,16 @@ const READ: Row<'static> = (2, "read<int>", 1, 2, 2);
 const SMALL: &[Row<'static>] = &[ALL, MAIN, READ];
 
 fn append_small(alloc: Global, out: &mut Vec<u8>, case: &Case<'_>) -> Result<(), AllocError> {
-    let boxes = boxes_of(alloc, SMALL)?;
+    let mut boxes = Vec::new(alloc);
+    add_boxes(alloc, &mut boxes, SMALL)?;
     append_data(alloc, out, &boxes, case)
 }
 
 // The data of a page of the small boxes are these.
 fn data_are(rt: &(impl Abort + AllocGlobal), case: &Case<'_>, wanted: &[u8]) -> Result<(), Fail> {
     let mut out = Vec::new(rt.alloc());
-    append_small(rt.alloc(), &mut out, case)?;
-    are_bytes(rt, &out, wanted);
-    Ok(())
+    let made = append_small(rt.alloc(), &mut out, case);
+    is_text(rt, made, &out, wanted)
 }
 
 const SOURCE: Source<'static> = Source {
@@ -139,16 +139,20 @@ fn narrow_boxes_are_told(rt: HostRuntime) -> Result<(), Fail> {
     data_are(&rt, NARROW, wanted)
 }
 
-fn compared_of(alloc: Global, rows: &[(Row<'_>, u64)]) -> Result<Vec<ComparedBox>, AllocError> {
-    let mut boxes = Vec::new(alloc);
+fn pair_of(alloc: Global, row: &Row<'_>, before: u64) -> Result<ComparedBox, AllocError> {
+    let span = span_of(alloc, row)?;
+    Ok(ComparedBox { span, before })
+}
+
+fn add_compared(
+    alloc: Global,
+    boxes: &mut Vec<ComparedBox>,
+    rows: &[(Row<'_>, u64)],
+) -> Result<(), AllocError> {
     for (row, before) in rows {
-        let span = span_of(alloc, row)?;
-        boxes.push(ComparedBox {
-            span,
-            before: *before,
-        })?;
+        boxes.push(pair_of(alloc, row, *before)?)?;
     }
-    Ok(boxes)
+    Ok(())
 }
 
 // The small boxes, with the other weights of a comparison.
@@ -165,29 +169,26 @@ const COMPARED: &Case<'static> = &Case {
 };
 
 fn append_compared(alloc: Global, out: &mut Vec<u8>) -> Result<(), AllocError> {
-    let boxes = compared_of(alloc, COMPARED_BOXES)?;
+    let mut boxes = Vec::new(alloc);
+    add_compared(alloc, &mut boxes, COMPARED_BOXES)?;
     append_data(alloc, out, &boxes, COMPARED)
 }
 
 #[test]
 fn comparison_has_the_other_weights(rt: HostRuntime) -> Result<(), Fail> {
     let mut data = Vec::new(rt.alloc());
-    append_compared(rt.alloc(), &mut data)?;
-    are_bytes(
-        &rt,
-        &data,
-        b"{\"drawings\":[{\"depth\":[0,1,2],\"least\":0,\"left_out\":{\"boxes\":0,\"weight\":0},\"name\":[0,1,2],\"other\":[7,5,0],\"own\":[0,1,2],\"start\":[0,0,1],\"total\":3,\"weight\":[3,3,2]}],\"names\":[\"all\",\"main\",\"read\\u003cint\\u003e\"],\"sources\":[],\"title\":\"\",\"view\":\"compare\",\"whole\":5}",
-    );
-    Ok(())
+    let made = append_compared(rt.alloc(), &mut data);
+    let wanted =
+        b"{\"drawings\":[{\"depth\":[0,1,2],\"least\":0,\"left_out\":{\"boxes\":0,\"weight\":0},\"name\":[0,1,2],\"other\":[7,5,0],\"own\":[0,1,2],\"start\":[0,0,1],\"total\":3,\"weight\":[3,3,2]}],\"names\":[\"all\",\"main\",\"read\\u003cint\\u003e\"],\"sources\":[],\"title\":\"\",\"view\":\"compare\",\"whole\":5}";
+    is_text(&rt, made, &data, wanted)
 }
 
-// So many boxes of the same row.
-fn same_boxes(alloc: Global, count: usize) -> Result<Vec<SpanBox>, AllocError> {
-    let mut boxes = Vec::new(alloc);
+// Adds so many boxes of the same row.
+fn add_same(alloc: Global, boxes: &mut Vec<SpanBox>, count: usize) -> Result<(), AllocError> {
     for _ in 0..count {
         boxes.push(span_of(alloc, &(0, "all", 0, 1, 1))?)?;
     }
-    Ok(boxes)
+    Ok(())
 }
 
 const LONG: &Case<'static> = &Case {
@@ -202,25 +203,20 @@ const LONG: &Case<'static> = &Case {
 
 // Appends the data of a page of more numbers than a part has.
 fn append_long(alloc: Global, out: &mut Vec<u8>) -> Result<(), AllocError> {
-    let boxes = same_boxes(alloc, 2500)?;
+    let mut boxes = Vec::new(alloc);
+    add_same(alloc, &mut boxes, 2500)?;
     append_data(alloc, out, &boxes, LONG)
+}
+
+// Five columns of 2500 digits with 2499 commas, and what stands round them.
+fn are_whole(alloc: Global, data: &mut Vec<u8>) -> Result<bool, AllocError> {
+    append_long(alloc, data)?;
+    Ok(data.len() == 5 * (2500 + 2499) + 191)
 }
 
 #[test]
 fn long_columns_are_whole(rt: HostRuntime) -> Result<(), Fail> {
-    let mut data = Vec::new(rt.alloc());
-    append_long(rt.alloc(), &mut data)?;
-    // Five columns of 2500 digits with 2499 commas, and what stands round them.
-    assert!(rt; data.len() == 5 * (2500 + 2499) + 191);
-    Ok(())
-}
-
-// The data have no markup, and the page is the head, the data and the tail.
-fn is_of_the_readme(rt: &impl Abort, alloc: Global, data: &[u8], sent: &[u8]) -> Result<(), Fail> {
-    assert!(rt; !data.contains(&b'<'));
-    let document = page_of(alloc, str::from_utf8(data)?)?;
-    assert!(rt; sent == document.as_bytes());
-    Ok(())
+    holds(&rt, are_whole(rt.alloc(), &mut Vec::new(rt.alloc())))
 }
 
 const README: &Case<'static> = &Case {
@@ -239,8 +235,8 @@ fn send_readme(
     boxes: &[SpanBox],
     out: &mut CountedWriter<Vec<u8>>,
 ) -> Result<(), PieceFault> {
-    let drawings = [drawing_of(boxes, README)];
-    send_page(alloc, &page_with(&drawings, README), out)
+    let drawing = drawing_of(boxes, README);
+    send_page(alloc, &page_with(slice::from_ref(&drawing), README), out)
 }
 
 fn sent_readme(alloc: Global, boxes: &[SpanBox]) -> Result<Vec<u8>, PieceFault> {
@@ -249,15 +245,30 @@ fn sent_readme(alloc: Global, boxes: &[SpanBox]) -> Result<Vec<u8>, PieceFault> 
     Ok(out.into_inner())
 }
 
-fn sends_its_data(rt: &impl Abort, alloc: Global, boxes: &[SpanBox]) -> Result<(), Fail> {
-    let mut data = Vec::new(alloc);
-    append_data(alloc, &mut data, boxes, README)?;
-    let sent = sent_readme(alloc, boxes)?;
-    is_of_the_readme(rt, alloc, &data, &sent)
+// The data have no markup, and the page is the head, the data and the tail.
+fn is_of_the_readme(alloc: Global, data: &[u8], sent: &[u8]) -> Result<bool, AllocError> {
+    match str::from_utf8(data) {
+        Ok(text) => Ok(!data.contains(&b'<') && is_page(alloc, sent, text)?),
+        Err(_) => Ok(false),
+    }
+}
+
+fn is_sent(rt: &(impl Abort + AllocGlobal), boxes: &[SpanBox], data: &[u8]) -> Result<(), Fail> {
+    let sent = sent_readme(rt.alloc(), boxes)?;
+    holds(rt, is_of_the_readme(rt.alloc(), data, &sent))
+}
+
+fn sends_its_data(
+    rt: &(impl Abort + AllocGlobal),
+    boxes: &mut Vec<SpanBox>,
+    data: &mut Vec<u8>,
+) -> Result<(), Fail> {
+    add_boxes(rt.alloc(), boxes, &SMALL[..1])?;
+    append_data(rt.alloc(), data, boxes, README)?;
+    is_sent(rt, boxes, data)
 }
 
 #[test]
 fn example_of_the_readme(rt: HostRuntime) -> Result<(), Fail> {
-    let boxes = boxes_of(rt.alloc(), &SMALL[..1])?;
-    sends_its_data(&rt, rt.alloc(), &boxes)
+    sends_its_data(&rt, &mut Vec::new(rt.alloc()), &mut Vec::new(rt.alloc()))
 }

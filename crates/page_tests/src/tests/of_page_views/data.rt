@@ -32,30 +32,33 @@ const EXAMPLE_DATA: &str = "{
     }]
 }";
 
-fn sources_of(alloc: Global, texts: &[&[u8]]) -> Result<Vec<Source>, AllocError> {
-    let mut sources = Vec::new(alloc);
+fn add_sources(
+    alloc: Global,
+    sources: &mut Vec<Source>,
+    texts: &[&[u8]],
+) -> Result<(), AllocError> {
     for text in texts {
         sources.push(folded(alloc, text)?)?;
     }
-    Ok(sources)
+    Ok(())
 }
 
 // What is seen of sources.
-fn seen<T: Threads + Wait + Abort + Copy + Send + 'static>(
+fn seen<T: Threads + Wait + Copy + Send + 'static>(
     rt: &T,
     alloc: Global,
-    sources: Vec<Source>,
+    mut sources: Vec<Source>,
     options: &Options,
 ) -> Result<Views, Fail>
     requires { IfSome options.now.every (λ every. 1 ≤ every) }
 {
+    sources.truncate(64);
     let gate = Arc::new(alloc, OpenGate)?;
-    assert!(rt; sources.len() <= 64);
     Ok(views(rt, alloc, sources, options, gate)?)
 }
 
 // What is seen of folded texts.
-fn seen_of<T: Threads + Wait + Abort + Copy + Send + 'static>(
+fn seen_of<T: Threads + Wait + Copy + Send + 'static>(
     rt: &T,
     alloc: Global,
     texts: &[&[u8]],
@@ -63,7 +66,8 @@ fn seen_of<T: Threads + Wait + Abort + Copy + Send + 'static>(
 ) -> Result<Views, Fail>
     requires { IfSome every (λ every. 1 ≤ every) }
 {
-    let sources = sources_of(alloc, texts)?;
+    let mut sources = Vec::new(alloc);
+    add_sources(alloc, &mut sources, texts)?;
     seen(rt, alloc, sources, &options_of(alloc, every))
 }
 
@@ -91,16 +95,18 @@ fn can_show(views: &Views, view: PageView) -> bool
     }
 }
 
-// Appends the data of a page of what was seen.
+// Appends the data of a page of what was seen, if there is what the view asks for.
 fn append_data(
-    rt: &(impl Abort + AllocGlobal),
+    alloc: Global,
     out: &mut Vec<u8>,
     views: &Views,
     view: PageView,
     heading: &Heading<'_>,
-) -> Result<(), AllocError> {
-    assert!(rt; can_show(views, view));
-    render_page_data(rt.alloc(), views, view, heading, out)
+) -> Result<(), Fail> {
+    if can_show(views, view) {
+        render_page_data(alloc, views, view, heading, out)?;
+    }
+    Ok(())
 }
 
 fn value_of(alloc: Global, text: &str) -> Option<Value> {
@@ -115,40 +121,47 @@ fn is_value(alloc: Global, text: &str, wanted: &str) -> bool {
     }
 }
 
-fn is_example(rt: &impl Abort, alloc: Global, data: &[u8]) -> Result<(), Fail> {
-    assert!(rt; !data.contains(&b'<'));
-    assert!(rt; is_value(alloc, str::from_utf8(data)?, EXAMPLE_DATA));
-    Ok(())
+fn is_example(alloc: Global, data: &[u8]) -> bool {
+    match str::from_utf8(data) {
+        Ok(text) => !data.contains(&b'<') && is_value(alloc, text, EXAMPLE_DATA),
+        Err(_) => false,
+    }
 }
 
-fn reads_as_example(rt: &(impl Abort + AllocGlobal), views: &Views) -> Result<(), Fail> {
-    let mut data = Vec::new(rt.alloc());
-    append_data(rt, &mut data, views, PageView::Graph, &OF_SCRIPTS)?;
-    is_example(rt, rt.alloc(), &data)
+// Appends the data of what is seen of folded texts.
+fn append_seen<T: Threads + Wait + AllocGlobal + Copy + Send + 'static>(
+    rt: &T,
+    out: &mut Vec<u8>,
+    texts: &[&[u8]],
+    every: Option<u64>,
+    view: PageView,
+    heading: &Heading<'_>,
+) -> Result<(), Fail>
+    requires { IfSome every (λ every. 1 ≤ every) }
+{
+    let views = seen_of(rt, rt.alloc(), texts, every)?;
+    append_data(rt.alloc(), out, &views, view, heading)
 }
 
 #[test]
 fn data_reads_as_its_boxes(rt: HostRuntime) -> Result<(), Fail> {
-    let views = seen_of(&rt, rt.alloc(), &[EXAMPLE], None)?;
-    reads_as_example(&rt, &views)
-}
-
-// The data of a page without sources stand behind what stood there.
-fn has_data(
-    rt: &(impl Abort + AllocGlobal),
-    views: &Views,
-    view: PageView,
-    wanted: &[u8],
-) -> Result<(), Fail> {
-    let mut data = b"before ".to_vec(rt.alloc())?;
-    append_data(rt, &mut data, views, view, &SMALL)?;
-    are_bytes(rt, &data, wanted);
+    let mut data = Vec::new(rt.alloc());
+    append_seen(
+        &rt,
+        &mut data,
+        &[EXAMPLE],
+        None,
+        PageView::Graph,
+        &OF_SCRIPTS,
+    )?;
+    assert!(rt; is_example(rt.alloc(), &data));
     Ok(())
 }
 
-// What is seen of folded texts has these data.
+// The data of what is seen of folded texts stand behind what stood there.
 fn show_data<T: Threads + Wait + AllocGlobal + Abort + Copy + Send + 'static>(
     rt: &T,
+    data: &mut Vec<u8>,
     texts: &[&[u8]],
     every: Option<u64>,
     view: PageView,
@@ -156,8 +169,10 @@ fn show_data<T: Threads + Wait + AllocGlobal + Abort + Copy + Send + 'static>(
 ) -> Result<(), Fail>
     requires { IfSome every (λ every. 1 ≤ every) }
 {
-    let views = seen_of(rt, rt.alloc(), texts, every)?;
-    has_data(rt, &views, view, wanted)
+    data.extend_from_slice(b"before ")?;
+    append_seen(rt, data, texts, every, view, &SMALL)?;
+    are_bytes(rt, data, wanted);
+    Ok(())
 }
 
 #[test]
@@ -165,7 +180,14 @@ fn data_of_snapshots(rt: HostRuntime) -> Result<(), Fail> {
     let texts: &[&[u8]] = &[b"main;read<int> 2\nmain 1\n"];
     let wanted =
         b"before {\"drawings\":[{\"at\":1,\"counts\":[1],\"depth\":[0,1,2],\"least\":0,\"left_out\":{\"boxes\":0,\"weight\":0},\"name\":[0,1,2],\"own\":[0,0,2],\"start\":[0,0,0],\"total\":2,\"weight\":[2,2,2]},{\"at\":2,\"counts\":[2],\"depth\":[0,1,2],\"least\":0,\"left_out\":{\"boxes\":0,\"weight\":0},\"name\":[0,1,2],\"own\":[0,1,2],\"start\":[0,0,1],\"total\":3,\"weight\":[3,3,2]},{\"depth\":[0,1,2],\"least\":0,\"left_out\":{\"boxes\":0,\"weight\":0},\"name\":[0,1,2],\"own\":[0,1,2],\"start\":[0,0,1],\"total\":3,\"weight\":[3,3,2]}],\"names\":[\"all\",\"main\",\"read\\u003cint\\u003e\"],\"sources\":[],\"title\":\"small\",\"view\":\"graph\",\"whole\":3}";
-    show_data(&rt, texts, Some(1), PageView::Graph, wanted)
+    show_data(
+        &rt,
+        &mut Vec::new(rt.alloc()),
+        texts,
+        Some(1),
+        PageView::Graph,
+        wanted,
+    )
 }
 
 #[test]
@@ -173,7 +195,14 @@ fn data_of_a_chart(rt: HostRuntime) -> Result<(), Fail> {
     let texts: &[&[u8]] = &[b"main;read 2\n", b"main 1\n"];
     let wanted =
         b"before {\"drawings\":[{\"depth\":[0,1,2],\"least\":0,\"left_out\":{\"boxes\":0,\"weight\":0},\"name\":[0,1,2],\"own\":[0,1,2],\"start\":[0,0,0],\"total\":3,\"weight\":[3,3,2]}],\"names\":[\"all\",\"main\",\"read\"],\"sources\":[],\"title\":\"small\",\"view\":\"chart\",\"whole\":3}";
-    show_data(&rt, texts, None, PageView::Chart, wanted)
+    show_data(
+        &rt,
+        &mut Vec::new(rt.alloc()),
+        texts,
+        None,
+        PageView::Chart,
+        wanted,
+    )
 }
 
 #[test]
@@ -181,5 +210,12 @@ fn data_of_a_comparison(rt: HostRuntime) -> Result<(), Fail> {
     let texts: &[&[u8]] = &[b"a;b 3\n", b"a 1\n"];
     let wanted =
         b"before {\"drawings\":[{\"depth\":[0,1,2],\"least\":0,\"left_out\":{\"boxes\":0,\"weight\":0},\"name\":[0,1,2],\"other\":[1,1,0],\"own\":[0,0,3],\"start\":[0,0,0],\"total\":3,\"weight\":[3,3,3]},{\"depth\":[0,1],\"least\":0,\"left_out\":{\"boxes\":0,\"weight\":0},\"name\":[0,1],\"other\":[3,3],\"own\":[0,1],\"start\":[0,0],\"total\":1,\"weight\":[1,1]}],\"names\":[\"all\",\"a\",\"b\"],\"sources\":[],\"title\":\"small\",\"view\":\"compare\",\"whole\":3}";
-    show_data(&rt, texts, None, PageView::Compare, wanted)
+    show_data(
+        &rt,
+        &mut Vec::new(rt.alloc()),
+        texts,
+        None,
+        PageView::Compare,
+        wanted,
+    )
 }
