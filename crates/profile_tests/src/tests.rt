@@ -18,50 +18,57 @@ use files::{
     LEAST_INDEX, MINUS_ONE, NEGATIVE, NO_FRAMES, SAMPLE_FAULTS, SEPARATORS, SMALLEST, TABLE_FAULTS,
     TWO_LINES, UNPACKED,
 };
-use lending::{Question, Saying, say_so};
+use lending::{FRAMES_OF_1, FRAMES_OF_2};
+use messages::Part;
 use profile_tables::PprofReader;
-use reading::{BY_N, BY_X, LINES, PLAIN, Reading, read_so, reads_plainly};
+use reading::{
+    BY_N, BY_X, LINES, PLAIN, ROWS, Reading, SAMPLES, Telling, VALUE, are_told, read_so,
+};
 use stack_core::SampleReader;
-use std::alloc::AllocError;
-use std::process::Abort;
 use std::test::Fail;
 
-const SMALLEST_SAYS: &[Saying<'static>] = &[
-    (&[SMALLEST], PLAIN, Question::Value, "0 of 1"),
-    (&[SMALLEST], PLAIN, Question::Frames(1), "main"),
-    (&[SMALLEST], PLAIN, Question::Frames(2), "no location"),
+const EMPTY: &[Telling<'static>] = &[
+    (&[], PLAIN, SAMPLES, "clean"),
+    (&[], PLAIN, ROWS, "clean"),
+    (&[], PLAIN, VALUE, "none of 0"),
 ];
-
-const EMPTY_SAYS: &[Saying<'static>] = &[(&[b""], PLAIN, Question::Value, "none of 0")];
 
 #[test]
 fn empty_sources(rt: HostRuntime) -> Result<(), Fail> {
-    reads_plainly(&rt, &[b""], "clean")?;
-    say_so(&rt, EMPTY_SAYS)
+    are_told(&rt, EMPTY)
 }
+
+const OF_SMALLEST: &[Telling<'static>] = &[
+    (&[SMALLEST], PLAIN, SAMPLES, "main 7\nclean"),
+    (&[SMALLEST], PLAIN, ROWS, "main 7\nclean"),
+    (&[SMALLEST], PLAIN, VALUE, "0 of 1"),
+    (&[SMALLEST], PLAIN, FRAMES_OF_1, "main"),
+    (&[SMALLEST], PLAIN, FRAMES_OF_2, "no location"),
+];
 
 #[test]
 fn smallest_profile(rt: HostRuntime) -> Result<(), Fail> {
-    reads_plainly(&rt, &[SMALLEST], "main 7\nclean")?;
-    say_so(&rt, SMALLEST_SAYS)
+    are_told(&rt, OF_SMALLEST)
 }
+
+const UNKNOWN: &[Reading<'static>] = &[(&[UNPACKED], PLAIN, "main 7\nclean")];
 
 #[test]
 fn unpacked_and_unknown(rt: HostRuntime) -> Result<(), Fail> {
-    reads_plainly(&rt, &[UNPACKED], "main 7\nclean")?;
-    Ok(())
+    read_so(&rt, UNKNOWN)
 }
+
+const INLINED_TWO: &[Reading<'static>] = &[(&[INLINED], PLAIN, "printf;memcpy 7\nclean")];
 
 #[test]
 fn inlined_frames(rt: HostRuntime) -> Result<(), Fail> {
-    reads_plainly(&rt, &[INLINED], "printf;memcpy 7\nclean")?;
-    Ok(())
+    read_so(&rt, INLINED_TWO)
 }
 
 const PICKED: &[Reading<'static>] = &[
     (&[BASE], PLAIN, "f 9\nclean"),
-    (&[BASE, b"\x70\x01"], PLAIN, "f 5\nclean"),
-    (&[BASE, b"\x70\x03"], PLAIN, "f 9\nclean"),
+    (&[BASE, Part::Bytes(b"\x70\x01")], PLAIN, "f 5\nclean"),
+    (&[BASE, Part::Bytes(b"\x70\x03")], PLAIN, "f 9\nclean"),
     (&[BASE], BY_N, "f 5\nclean"),
     (&[BASE], BY_X, "UnknownSampleType at 48"),
 ];
@@ -81,26 +88,15 @@ fn negative_weight(rt: HostRuntime) -> Result<(), Fail> {
     read_so(&rt, ONE_NEGATIVE)
 }
 
-/// What stands behind `BASE` reads so.
-fn each_is_read(
-    rt: &(impl Abort + AllocGlobal),
-    faults: &[(&[u8], &str)],
-) -> Result<(), AllocError> {
-    for (more, wanted) in faults {
-        reads_plainly(rt, &[BASE, *more], wanted)?;
-    }
-    Ok(())
-}
-
 const FAULTS_ALONE: &[Reading<'static>] = &[
-    (&[b"\x32\x01\x61"], PLAIN, "BadStringZero at 0"),
-    (&[b"\x12\x00"], PLAIN, "NoSampleType at 2"),
+    (&[Part::Bytes(b"\x32\x01\x61")], PLAIN, "BadStringZero at 0"),
+    (&[Part::Bytes(b"\x12\x00")], PLAIN, "NoSampleType at 2"),
 ];
 
 #[test]
 fn each_profile_fault(rt: HostRuntime) -> Result<(), Fail> {
-    each_is_read(&rt, SAMPLE_FAULTS)?;
-    each_is_read(&rt, TABLE_FAULTS)?;
+    read_so(&rt, SAMPLE_FAULTS)?;
+    read_so(&rt, TABLE_FAULTS)?;
     read_so(&rt, FAULTS_ALONE)
 }
 
@@ -117,10 +113,11 @@ fn address_frames_and_lossy_names(rt: HostRuntime) -> Result<(), Fail> {
     read_so(&rt, ODD_NAMES)
 }
 
+const GREATEST_LOCATION: &[Reading<'static>] = &[(&[GREATEST_ID], PLAIN, "main 7\nclean")];
+
 #[test]
 fn greatest_location_id(rt: HostRuntime) -> Result<(), Fail> {
-    reads_plainly(&rt, &[GREATEST_ID], "main 7\nclean")?;
-    Ok(())
+    read_so(&rt, GREATEST_LOCATION)
 }
 
 const GREATEST: &[Reading<'static>] = &[

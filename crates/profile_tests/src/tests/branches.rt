@@ -1,10 +1,11 @@
 //! Worked examples of what few profiles hold.
 
 use super::files::{
-    BASE, MIXED_IDS, NAMELESS, NEGATIVE_LINE, NO_ADDRESS, NO_FUNCTION, SAME_TYPES, SMALLEST,
+    BASE, MIXED_IDS, NAMELESS, NEGATIVE_LINE, NO_ADDRESS, NO_FUNCTION, SAME_TYPES, SMALLEST_BYTES,
     SYSTEM_NAME,
 };
-use super::reading::{BY_N, LINES, PLAIN, Reading, is_text, read_so, reader_over, reads_plainly};
+use super::messages::Part;
+use super::reading::{BY_N, LINES, PLAIN, Reading, is_text, read_so, reader_over};
 use profile_tables::{Naming, Pick, PprofReader, TableFault};
 use stack_core::{ReadFault, ReadKind, Sample, SampleReader, SourceEnd, Step};
 use std::alloc::{AllocError, Global};
@@ -28,8 +29,16 @@ fn names_and_addresses(rt: HostRuntime) -> Result<(), Fail> {
 
 /// The second is good, and the second is bad.
 const TWO_DEFAULTS: &[Reading<'static>] = &[
-    (&[BASE, b"\x70\x04\x70\x01"], PLAIN, "f 5\nclean"),
-    (&[BASE, b"\x70\x01\x70\x04"], PLAIN, "BadString at 50"),
+    (
+        &[BASE, Part::Bytes(b"\x70\x04\x70\x01")],
+        PLAIN,
+        "f 5\nclean",
+    ),
+    (
+        &[BASE, Part::Bytes(b"\x70\x01\x70\x04")],
+        PLAIN,
+        "BadString at 50",
+    ),
 ];
 
 #[test]
@@ -39,7 +48,7 @@ fn default_twice(rt: HostRuntime) -> Result<(), Fail> {
 
 const ONE_NAME: &[Reading<'static>] = &[
     (&[SAME_TYPES], BY_N, "f 5\nclean"),
-    (&[SAME_TYPES, b"\x70\x01"], PLAIN, "f 5\nclean"),
+    (&[SAME_TYPES, Part::Bytes(b"\x70\x01")], PLAIN, "f 5\nclean"),
     (&[SAME_TYPES], PLAIN, "f 9\nclean"),
 ];
 
@@ -48,16 +57,18 @@ fn types_of_one_name(rt: HostRuntime) -> Result<(), Fail> {
     read_so(&rt, ONE_NAME)
 }
 
+const MIXED: &[Reading<'static>] = &[(&[MIXED_IDS], PLAIN, "b;a;b;a 7\nclean")];
+
 #[test]
 fn mixed_ids(rt: HostRuntime) -> Result<(), Fail> {
-    reads_plainly(&rt, &[MIXED_IDS], "b;a;b;a 7\nclean")?;
-    Ok(())
+    read_so(&rt, MIXED)
 }
+
+const GZIP: &[Reading<'static>] = &[(&[Part::Bytes(b"\x1f\x8b")], PLAIN, "Compressed at 0")];
 
 #[test]
 fn gzip_alone(rt: HostRuntime) -> Result<(), Fail> {
-    reads_plainly(&rt, &[b"\x1f\x8b"], "Compressed at 0")?;
-    Ok(())
+    read_so(&rt, GZIP)
 }
 
 fn has_one_frame(rt: &impl Abort, sample: &Sample) {
@@ -80,7 +91,7 @@ fn ends_clean(rt: &impl Abort, step: &Step) {
 
 #[test]
 fn example_of_the_page(rt: HostRuntime) -> Result<(), Fail> {
-    let bytes = SMALLEST.to_vec(rt.alloc())?;
+    let bytes = SMALLEST_BYTES.to_vec(rt.alloc())?;
     let mut reader = reader_over(bytes, Pick::Preferred, Naming::Plain);
     reads_one_sample(&rt, rt.alloc(), &mut reader)
 }

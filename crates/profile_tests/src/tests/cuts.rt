@@ -2,13 +2,20 @@
 
 use super::files::{
     ADDRESS, BASE, CUT_CHARACTER, FRONT, GREATEST_ID, GREATEST_LENGTH, INLINED, INLINED_LINES,
-    LEAST_INDEX, MINUS_ONE, NEGATIVE, NO_FRAMES, SAMPLE_FAULTS, SEPARATORS, SMALLEST, TABLE_FAULTS,
-    TWO_LINES, UNPACKED,
+    LEAST_INDEX, MINUS_ONE, NEGATIVE, NO_FRAMES, SAMPLE_FAULTS, SEPARATORS, SMALLEST,
+    SMALLEST_BYTES, TABLE_FAULTS, TWO_LINES, UNPACKED,
 };
-use super::reading::{Asked, ENDLESS, LINES, append_given, joined, reads_plainly};
+use super::messages::{Part, joined};
+use super::reading::{Asked, LINES, OfReader, PLAIN, ROWS, Reading, SAMPLES, is_told, read_so};
 use std::alloc::AllocError;
 use std::process::Abort;
 use std::test::Fail;
+
+const COMPRESSED: &[Reading<'static>] = &[(
+    &[Part::Bytes(b"\x1f\x8b\x08")],
+    PLAIN,
+    "Compressed at 0",
+)];
 
 /// How the smallest profile ends where fewer than so many of its first bytes are there, and no fewer than the row before says.
 const ENDINGS: &[(usize, &str)] = &[
@@ -30,64 +37,65 @@ const ENDINGS: &[(usize, &str)] = &[
     (45, "Truncated at 39"),
 ];
 
-/// How it ends where only its first `len` bytes are there.
-fn ending_of_cut(len: usize) -> &'static str {
-    for (limit, ending) in ENDINGS {
-        if len < *limit {
-            return ending;
-        }
+/// The smallest profile, of which so many of its first bytes are there, ends so.
+fn fronts_read(
+    rt: &(impl Abort + AllocGlobal),
+    first: usize,
+    limit: usize,
+    ending: &str,
+) -> Result<(), AllocError> {
+    for len in first..limit {
+        let front = [Part::Bytes(SMALLEST_BYTES.get(..len).expect(rt, "a front"))];
+        is_told(rt, &front, PLAIN, SAMPLES, ending)?;
+        is_told(rt, &front, PLAIN, ROWS, ending)?;
     }
-    "no cut"
+    Ok(())
 }
 
-fn is_cut(rt: &(impl Abort + AllocGlobal), len: usize) -> Result<(), AllocError> {
-    let cut = SMALLEST.get(..len).expect(rt, "a cut");
-    reads_plainly(rt, &[cut], ending_of_cut(len))
+fn all_fronts_read(rt: &(impl Abort + AllocGlobal)) -> Result<(), AllocError> {
+    let mut first = 0;
+    for (limit, ending) in ENDINGS {
+        fronts_read(rt, first, *limit, ending)?;
+        first = *limit;
+    }
+    Ok(())
 }
 
 #[test]
 fn compressed_and_cut(rt: HostRuntime) -> Result<(), Fail> {
-    reads_plainly(&rt, &[b"\x1f\x8b\x08"], "Compressed at 0")?;
-    for len in 0..45 {
-        is_cut(&rt, len)?;
-    }
-    Ok(())
+    all_fronts_read(&rt)?;
+    read_so(&rt, COMPRESSED)
 }
 
-/// A file that is read with lines ends, and its ending comes again.
-fn ends(rt: &(impl Abort + AllocGlobal), file: &[u8]) -> Result<(), AllocError> {
-    let mut text = String::new(rt.alloc());
-    append_given(rt.alloc(), &[file], LINES, Asked::Samples, &mut text)?;
-    assert!(rt; !text.as_str().ends_with(ENDLESS));
-    Ok(())
-}
-
-/// Each front of a file does.
+/// Each front of a file, read with lines, ends, and its ending comes again.
 fn each_front_ends(rt: &(impl Abort + AllocGlobal), file: &[u8]) -> Result<(), AllocError> {
     for len in 0..=file.len() {
-        ends(rt, file.get(..len).expect(rt, "a front"))?;
+        let front = file.get(..len).expect(rt, "a front");
+        is_told(rt, &[Part::Bytes(front)], LINES, ENDS, "ends")?;
     }
     Ok(())
 }
+
+const ENDS: Asked = Asked::Reader(OfReader::Ends);
 
 /// The same of a file that is given in parts.
 fn each_front_of_parts_ends(
     rt: &(impl Abort + AllocGlobal),
-    parts: &[&[u8]],
+    parts: &[Part<'_>],
 ) -> Result<(), AllocError> {
     let file = joined(rt.alloc(), parts)?;
     each_front_ends(rt, &file)
 }
 
 /// The same of many.
-fn cuts_end(rt: &(impl Abort + AllocGlobal), files: &[&[&[u8]]]) -> Result<(), Fail> {
+fn cuts_end(rt: &(impl Abort + AllocGlobal), files: &[&[Part<'_>]]) -> Result<(), Fail> {
     for parts in files {
         each_front_of_parts_ends(rt, parts)?;
     }
     Ok(())
 }
 
-const FILES: &[&[&[u8]]] = &[
+const FILES: &[&[Part<'static>]] = &[
     &[SMALLEST],
     &[UNPACKED],
     &[INLINED],
@@ -107,23 +115,23 @@ fn cut_profiles_end(rt: HostRuntime) -> Result<(), Fail> {
     cuts_end(&rt, FILES)
 }
 
-const MORE_FILES: &[&[&[u8]]] = &[
-    &[BASE, b"\x70\x01"],
-    &[BASE, b"\x70\x03"],
+const MORE_FILES: &[&[Part<'static>]] = &[
+    &[BASE, Part::Bytes(b"\x70\x01")],
+    &[BASE, Part::Bytes(b"\x70\x03")],
     &[BASE, NEGATIVE],
     &[BASE, MINUS_ONE],
     &[BASE, LEAST_INDEX],
-    &[b"\x32\x01\x61"],
-    &[b"\x12\x00"],
+    &[Part::Bytes(b"\x32\x01\x61")],
+    &[Part::Bytes(b"\x12\x00")],
 ];
 
-/// What gives a fault behind `BASE`, cut short, ends too.
+/// What gives a fault, cut short, ends too.
 fn cut_faults_end(
     rt: &(impl Abort + AllocGlobal),
-    faults: &[(&[u8], &str)],
+    faults: &[Reading<'_>],
 ) -> Result<(), AllocError> {
-    for (more, _) in faults {
-        each_front_of_parts_ends(rt, &[BASE, *more])?;
+    for (parts, _, _) in faults {
+        each_front_of_parts_ends(rt, parts)?;
     }
     Ok(())
 }

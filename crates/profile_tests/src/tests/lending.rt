@@ -3,18 +3,19 @@
 use super::files::{
     ADDRESS, BASE, GREATEST_ID, INLINED, INLINED_LINES, SAMPLE_FAULTS, TABLE_FAULTS,
 };
+use super::messages::Part;
 use super::reading::{
-    BY_N, BY_X, Choice, LINES, PLAIN, append_between, append_names, is_text, joined, pick_of,
+    Asked, BY_N, BY_X, LINES, PLAIN, Telling, VALUE, append_names, are_told, is_told,
 };
 use super::types::append_type;
-use profile_tables::{TableFault, Tables};
+use profile_tables::{Naming, Pick, TableFault, Tables};
 use std::alloc::{AllocError, Global};
 use std::process::Abort;
 use std::test::Fail;
 
 /// What tables are asked for.
 #[derive(Clone, Copy)]
-pub(super) enum Question {
+pub(super) enum OfTables {
     /// The place of the chosen value, and how many values there are.
     Value,
     /// The sample type of the chosen value.
@@ -23,11 +24,20 @@ pub(super) enum Question {
     Frames(u64),
 }
 
-fn append_value(text: &mut String, tables: &Tables) -> Result<(), AllocError> {
-    let count = tables.sample_types();
-    match tables.chosen() {
+/// `Tables::read` without its clauses.
+pub(super) fn tables_over(
+    alloc: Global,
+    bytes: &[u8],
+    pick: &Pick,
+    naming: Naming,
+) -> Result<Tables, TableFault> {
+    Tables::read(alloc, bytes, pick, naming)
+}
+
+fn append_value(text: &mut String, place: Option<usize>, count: usize) -> Result<(), AllocError> {
+    match place {
         Some(place) => write!(text, "{place} of {count}"),
-        None => append_between(text, "none of ", &count, ""),
+        None => write!(text, "none of {count}"),
     }
 }
 
@@ -38,141 +48,104 @@ fn append_frames(text: &mut String, frames: Option<&[String]>) -> Result<(), All
     }
 }
 
-fn append_answer(text: &mut String, tables: &Tables, question: Question) -> Result<(), AllocError> {
-    match question {
-        Question::Value => append_value(text, tables),
-        Question::Type => append_type(text, tables.chosen_type()),
-        Question::Frames(id) => append_frames(text, tables.location(id)),
+fn append_answer(tables: &Tables, asked: OfTables, text: &mut String) -> Result<(), AllocError> {
+    match asked {
+        OfTables::Value => append_value(text, tables.chosen(), tables.sample_types()),
+        OfTables::Type => append_type(text, tables.chosen_type()),
+        OfTables::Frames(id) => append_frames(text, tables.location(id)),
     }
 }
 
-fn tables_of(alloc: Global, parts: &[&[u8]], choice: Choice<'_>) -> Result<Tables, TableFault> {
-    let pick = pick_of(alloc, choice.pick)?;
-    let bytes = joined(alloc, parts)?;
-    Tables::read(alloc, &bytes, &pick, choice.naming)
-}
-
-/// Appends what the tables of a file say, or the fault for which they are refused.
-fn append_said(
-    alloc: Global,
-    parts: &[&[u8]],
-    choice: Choice<'_>,
-    question: Question,
+/// Appends what tables say, or the fault for which they are refused.
+pub(super) fn append_of_tables(
+    found: &Result<Tables, TableFault>,
+    asked: OfTables,
     text: &mut String,
 ) -> Result<(), AllocError> {
-    match tables_of(alloc, parts, choice) {
-        Ok(tables) => append_answer(text, &tables, question),
-        Err(fault) => append_between(text, "", &fault, ""),
+    match found {
+        Ok(tables) => append_answer(tables, asked, text),
+        Err(fault) => write!(text, "{fault}"),
     }
 }
 
-/// The tables of a file say this, or are refused for this fault.
-pub(super) fn tables_say(
-    rt: &(impl Abort + AllocGlobal),
-    parts: &[&[u8]],
-    choice: Choice<'_>,
-    question: Question,
-    wanted: &str,
-) -> Result<(), AllocError> {
-    let mut text = String::new(rt.alloc());
-    append_said(rt.alloc(), parts, choice, question, &mut text)?;
-    is_text(rt, text.as_str(), wanted);
-    Ok(())
-}
+pub(super) const FRAMES_OF_1: Asked = Asked::Tables(OfTables::Frames(1));
 
-/// A file in parts, how it is read, what its tables are asked, and what they say.
-pub(super) type Saying<'a> = (&'a [&'a [u8]], Choice<'a>, Question, &'a str);
+pub(super) const FRAMES_OF_2: Asked = Asked::Tables(OfTables::Frames(2));
 
-/// The tables of each of these files say so.
-pub(super) fn say_so(rt: &(impl Abort + AllocGlobal), sayings: &[Saying<'_>]) -> Result<(), Fail> {
-    for (parts, choice, question, wanted) in sayings {
-        tables_say(rt, parts, *choice, *question, wanted)?;
-    }
-    Ok(())
-}
-
-const FRAMES: &[Saying<'static>] = &[
-    (&[INLINED], PLAIN, Question::Frames(1), "printf;memcpy"),
-    (&[INLINED], LINES, Question::Frames(1), "printf;memcpy"),
+const FRAMES: &[Telling<'static>] = &[
+    (&[INLINED], PLAIN, FRAMES_OF_1, "printf;memcpy"),
+    (&[INLINED], LINES, FRAMES_OF_1, "printf;memcpy"),
+    (&[INLINED_LINES], PLAIN, FRAMES_OF_1, "printf;memcpy"),
+    (&[INLINED_LINES], LINES, FRAMES_OF_1, "printf:40;memcpy:12"),
+    (&[ADDRESS], PLAIN, FRAMES_OF_1, "0x1f0"),
+    (&[ADDRESS], LINES, FRAMES_OF_1, "0x1f0"),
     (
-        &[INLINED_LINES],
+        &[GREATEST_ID],
         PLAIN,
-        Question::Frames(1),
-        "printf;memcpy",
+        Asked::Tables(OfTables::Frames(u64::MAX)),
+        "main",
     ),
-    (
-        &[INLINED_LINES],
-        LINES,
-        Question::Frames(1),
-        "printf:40;memcpy:12",
-    ),
-    (&[ADDRESS], PLAIN, Question::Frames(1), "0x1f0"),
-    (&[ADDRESS], LINES, Question::Frames(1), "0x1f0"),
-    (&[GREATEST_ID], PLAIN, Question::Frames(u64::MAX), "main"),
 ];
 
 #[test]
 fn frames_of_locations(rt: HostRuntime) -> Result<(), Fail> {
-    say_so(&rt, FRAMES)
+    are_told(&rt, FRAMES)
 }
 
 /// The place of the value that is picked from the two of `BASE`, also with more behind it.
-const CHOSEN: &[Saying<'static>] = &[
-    (&[BASE], PLAIN, Question::Value, "1 of 2"),
-    (&[BASE, b"\x70\x01"], PLAIN, Question::Value, "0 of 2"),
-    (&[BASE, b"\x70\x03"], PLAIN, Question::Value, "1 of 2"),
-    (&[BASE], BY_N, Question::Value, "0 of 2"),
+const CHOSEN: &[Telling<'static>] = &[
+    (&[BASE], PLAIN, VALUE, "1 of 2"),
+    (&[BASE, Part::Bytes(b"\x70\x01")], PLAIN, VALUE, "0 of 2"),
+    (&[BASE, Part::Bytes(b"\x70\x03")], PLAIN, VALUE, "1 of 2"),
+    (&[BASE], BY_N, VALUE, "0 of 2"),
 ];
 
 #[test]
 fn chosen_of_tables(rt: HostRuntime) -> Result<(), Fail> {
-    say_so(&rt, CHOSEN)
+    are_told(&rt, CHOSEN)
 }
 
-const REFUSED: &[Saying<'static>] = &[
+const REFUSED: &[Telling<'static>] = &[
     (
-        &[b"\x32\x01\x61"],
+        &[Part::Bytes(b"\x32\x01\x61")],
         PLAIN,
-        Question::Value,
+        VALUE,
         "BadStringZero at 0",
     ),
-    (&[b"\x12\x00"], PLAIN, Question::Value, "NoSampleType at 2"),
     (
-        &[b"\x1f\x8b\x08"],
+        &[Part::Bytes(b"\x12\x00")],
         PLAIN,
-        Question::Value,
+        VALUE,
+        "NoSampleType at 2",
+    ),
+    (
+        &[Part::Bytes(b"\x1f\x8b\x08")],
+        PLAIN,
+        VALUE,
         "Compressed at 0",
     ),
-    (&[BASE], BY_X, Question::Value, "UnknownSampleType at 48"),
+    (&[BASE], BY_X, VALUE, "UnknownSampleType at 48"),
 ];
 
-/// The place of the value that is picked from the two of `BASE` with more behind it, or the fault for which the tables are refused.
-fn picks_of_base(
-    rt: &(impl Abort + AllocGlobal),
-    more: &[u8],
-    wanted: &str,
-) -> Result<(), AllocError> {
-    tables_say(rt, &[BASE, more], PLAIN, Question::Value, wanted)
-}
-
-fn refused_behind_base(rt: &(impl Abort + AllocGlobal)) -> Result<(), AllocError> {
-    for (more, fault) in TABLE_FAULTS {
-        picks_of_base(rt, more, fault)?;
+/// The tables are refused for the same faults.
+fn faults_are_told(rt: &(impl Abort + AllocGlobal)) -> Result<(), AllocError> {
+    for (parts, choice, fault) in TABLE_FAULTS {
+        is_told(rt, parts, *choice, VALUE, fault)?;
     }
     Ok(())
 }
 
 #[test]
 fn faults_of_tables(rt: HostRuntime) -> Result<(), Fail> {
-    refused_behind_base(&rt)?;
-    say_so(&rt, REFUSED)
+    faults_are_told(&rt)?;
+    are_told(&rt, REFUSED)
 }
 
 /// A fault of a sample is none of the tables.
 #[test]
 fn samples_are_not_looked_at(rt: HostRuntime) -> Result<(), Fail> {
-    for (more, _) in SAMPLE_FAULTS {
-        picks_of_base(&rt, more, "1 of 2")?;
+    for (parts, choice, _) in SAMPLE_FAULTS {
+        is_told(&rt, parts, *choice, VALUE, "1 of 2")?;
     }
     Ok(())
 }

@@ -1,19 +1,15 @@
-//! Messages of profiles, of any size.
+//! Files of profiles in parts, of any size.
 
-use std::alloc::AllocError;
+use std::alloc::{AllocError, Global};
 
-/// A field with a number below 2^21, or the front of one with so many bytes.
-pub(super) fn append_number(file: &mut Vec<u8>, tag: u8, number: usize) -> Result<(), AllocError> {
-    let low = 0x80 | (number & 0x7f) as u8;
-    let middle = 0x80 | (number >> 7 & 0x7f) as u8;
-    let high = (number >> 14 & 0x7f) as u8;
-    file.extend_from_slice(&[tag, low, middle, high])
-}
-
-/// A field with these bytes.
-pub(super) fn append_field(file: &mut Vec<u8>, tag: u8, bytes: &[u8]) -> Result<(), AllocError> {
-    append_number(file, tag, bytes.len())?;
-    file.extend_from_slice(bytes)
+/// A part of a file.
+#[derive(Clone, Copy)]
+pub(super) enum Part<'a> {
+    Bytes(&'a [u8]),
+    /// These bytes so many times.
+    Times(usize, &'a [u8]),
+    /// These pieces for each number from 1 to this one, with the number behind each piece.
+    Numbered(usize, &'a [&'a [u8]]),
 }
 
 fn append_times(file: &mut Vec<u8>, count: usize, bytes: &[u8]) -> Result<(), AllocError> {
@@ -23,48 +19,43 @@ fn append_times(file: &mut Vec<u8>, count: usize, bytes: &[u8]) -> Result<(), Al
     Ok(())
 }
 
-/// A sample of weight 7 at `ids` times location 1.
-pub(super) fn append_deep_sample(file: &mut Vec<u8>, ids: usize) -> Result<(), AllocError> {
-    append_number(file, 0x12, ids.saturating_mul(2).saturating_add(2))?;
-    file.extend_from_slice(b"\x10\x07")?;
-    append_times(file, ids, b"\x08\x01")
+/// A number below 2^21, spelled in three bytes.
+fn spelled(number: usize) -> [u8; 3] {
+    let low = 0x80 | (number & 0x7f) as u8;
+    let middle = 0x80 | (number >> 7 & 0x7f) as u8;
+    let high = (number >> 14 & 0x7f) as u8;
+    [low, middle, high]
 }
 
-/// Location 1, which has `lines` lines of function 1.
-pub(super) fn append_lines(file: &mut Vec<u8>, lines: usize) -> Result<(), AllocError> {
-    append_number(file, 0x22, lines.saturating_mul(4).saturating_add(2))?;
-    file.extend_from_slice(b"\x08\x01")?;
-    append_times(file, lines, b"\x22\x02\x08\x01")
+/// Appends each of these pieces, with the spelled number behind it.
+fn append_pieces(file: &mut Vec<u8>, pieces: &[&[u8]], number: &[u8]) -> Result<(), AllocError> {
+    for piece in pieces {
+        file.extend_from_slice(piece)?;
+        file.extend_from_slice(number)?;
+    }
+    Ok(())
 }
 
-/// A sample of weight 7 at a location of this id.
-pub(super) fn append_sample(file: &mut Vec<u8>, location: usize) -> Result<(), AllocError> {
-    file.extend_from_slice(b"\x12\x06\x10\x07")?;
-    append_number(file, 0x08, location)
+fn append_numbered(file: &mut Vec<u8>, count: usize, pieces: &[&[u8]]) -> Result<(), AllocError> {
+    for number in 1..=count {
+        append_pieces(file, pieces, &spelled(number))?;
+    }
+    Ok(())
 }
 
-/// A location of this id and address.
-pub(super) fn append_location_at(file: &mut Vec<u8>, id: usize) -> Result<(), AllocError> {
-    file.extend_from_slice(b"\x22\x08")?;
-    append_number(file, 0x08, id)?;
-    append_number(file, 0x18, id)
+fn append_part(file: &mut Vec<u8>, part: Part<'_>) -> Result<(), AllocError> {
+    match part {
+        Part::Bytes(bytes) => file.extend_from_slice(bytes),
+        Part::Times(count, bytes) => append_times(file, count, bytes),
+        Part::Numbered(count, pieces) => append_numbered(file, count, pieces),
+    }
 }
 
-/// A location of this id with a line of the function of this id.
-pub(super) fn append_location(file: &mut Vec<u8>, id: usize) -> Result<(), AllocError> {
-    file.extend_from_slice(b"\x22\x0a")?;
-    append_number(file, 0x08, id)?;
-    file.extend_from_slice(b"\x22\x04")?;
-    append_number(file, 0x08, id)
-}
-
-/// A function of this id and name.
-pub(super) fn append_function(
-    file: &mut Vec<u8>,
-    id: usize,
-    name: usize,
-) -> Result<(), AllocError> {
-    file.extend_from_slice(b"\x2a\x08")?;
-    append_number(file, 0x08, id)?;
-    append_number(file, 0x10, name)
+/// The bytes of a file that is given in parts.
+pub(super) fn joined(alloc: Global, parts: &[Part<'_>]) -> Result<Vec<u8>, AllocError> {
+    let mut file = Vec::new(alloc);
+    for part in parts {
+        append_part(&mut file, *part)?;
+    }
+    Ok(file)
 }

@@ -1,13 +1,13 @@
-//! What a reader of a profile gives, as a text.
+//! What is told of a file, as a text.
 
 use super::depth::append_depth;
-use super::rows::{append_new_names, append_numbers, append_sample_and_row};
-use super::told::append_rows;
+use super::lending::{OfTables, append_of_tables, tables_over};
+use super::messages::{Part, joined};
+use super::told::{OfRows, append_rows, append_sample_and_rows};
 use super::types::append_types;
 use profile_tables::{Naming, Pick, PprofReader};
-use stack_core::{SampleReader, SourceEnd, Step, Text};
+use stack_core::{Sample, SampleReader, SourceEnd, Step, Text};
 use std::alloc::{AllocError, Global};
-use std::fmt::Display;
 use std::process::Abort;
 use std::test::Fail;
 
@@ -41,125 +41,117 @@ pub(super) const BY_X: Choice<'static> = Choice {
     naming: Naming::Plain,
 };
 
-/// A file in parts, how it is read, and what of it.
-pub(super) type Reading<'a> = (&'a [&'a [u8]], Choice<'a>, &'a str);
+/// What is asked of a file.
+#[derive(Clone, Copy)]
+pub(super) enum Asked {
+    Reader(OfReader),
+    Tables(OfTables),
+}
 
 /// What a reader is asked for.
 #[derive(Clone, Copy)]
-pub(super) enum Asked {
+pub(super) enum OfReader {
     /// The samples and the ending.
     Samples,
-    /// The same by rows.
-    Rows,
-    /// The number of each sample's row.
-    Numbers,
-    /// How many names its rows tell.
-    NewNames,
-    /// A sample, and then a row.
-    SampleAndRow,
+    /// Whether there is an ending.
+    Ends,
+    /// What its rows tell.
+    Rows(OfRows),
+    /// A sample, and then the others and the ending by rows.
+    SampleAndRows,
     /// The frames of the first sample.
     Depth,
     /// The sample type, before the first sample and behind it.
     Types,
 }
 
-/// What stands in the place of an ending that doesn't come, or not again.
-pub(super) const ENDLESS: &str = "no ending";
+pub(super) const SAMPLES: Asked = Asked::Reader(OfReader::Samples);
 
-/// Appends a value between two texts.
-pub(super) fn append_between<D: Display>(
-    text: &mut String,
-    front: &str,
-    value: &D,
-    back: &str,
-) -> Result<(), AllocError> {
-    write!(text, "{front}{value}{back}")
+/// The samples and the ending by rows.
+pub(super) const ROWS: Asked = Asked::Reader(OfReader::Rows(OfRows::Lines));
+
+/// The number of each sample's row.
+pub(super) const NUMBERS: Asked = Asked::Reader(OfReader::Rows(OfRows::Numbers));
+
+/// How many names the rows tell.
+pub(super) const NEW_NAMES: Asked = Asked::Reader(OfReader::Rows(OfRows::NewNames));
+
+/// The place of the value that tables have chosen.
+pub(super) const VALUE: Asked = Asked::Tables(OfTables::Value);
+
+/// What stands in the place of an ending that doesn't come, or not again.
+const ENDLESS: &str = "no ending";
+
+/// The ending that a reader gave, and whether it was asked again.
+#[derive(Clone, Copy)]
+pub(super) struct Ended {
+    first: Option<SourceEnd>,
+    pub(super) again: bool,
 }
 
-/// Appends an ending.
+/// That of a reader that gave none.
+pub(super) const NOT_YET: Ended = Ended {
+    first: None,
+    again: false,
+};
+
 pub(super) fn append_ending(text: &mut String, ending: SourceEnd) -> Result<(), AllocError> {
     match ending {
         SourceEnd::Clean { ignored: 0 } => text.push_str("clean"),
-        SourceEnd::Clean { ignored } => append_between(text, "", &ignored, " ignored"),
-        SourceEnd::Fault(fault) => append_between(text, "", &fault, ""),
-        SourceEnd::Stopped { after } => append_between(text, "stopped after ", &after, ""),
+        SourceEnd::Fault(fault) => write!(text, "{fault}"),
+        _ => write!(text, "{ending:?}"),
     }
+}
+
+/// Appends an ending that comes first, and that it doesn't come again, where another one comes.
+pub(super) fn append_ended(
+    text: &mut String,
+    ended: &mut Ended,
+    ending: SourceEnd,
+) -> Result<(), AllocError> {
+    let Some(first) = ended.first else {
+        ended.first = Some(ending);
+        return append_ending(text, ending);
+    };
+    ended.again = true;
+    if first == ending {
+        return Ok(());
+    }
+    text.push_str(ENDLESS)
 }
 
 /// Appends names, joined by `;`.
 pub(super) fn append_names(text: &mut String, names: &[String]) -> Result<(), AllocError> {
-    for (place, name) in names.iter().enumerate() {
-        if place > 0 {
-            text.push_str(";")?;
-        }
-        text.push_str(name.as_str())?;
+    let mut separator = "";
+    for name in names {
+        write!(text, "{separator}{name}")?;
+        separator = ";";
     }
     Ok(())
 }
 
-/// Appends the line of a sample, with its names and its weight, or answers the ending.
-fn append_told(text: &mut String, step: &Step) -> Result<Option<SourceEnd>, AllocError> {
+/// Appends the line of a sample, with its names and its weight.
+fn append_line(text: &mut String, sample: &Sample) -> Result<(), AllocError> {
+    append_names(text, sample.stack.get())?;
+    write!(text, " {}\n", sample.weight)
+}
+
+fn append_step(text: &mut String, ended: &mut Ended, step: &Step) -> Result<(), AllocError> {
     match step {
-        Step::Sample(sample) => {
-            append_names(text, sample.stack.get())?;
-            append_between(text, " ", &sample.weight, "\n")?;
-            Ok(None)
-        }
-        Step::End(ending) => Ok(Some(*ending)),
+        Step::Sample(sample) => append_line(text, sample),
+        Step::End(ending) => append_ended(text, ended, *ending),
     }
 }
 
-/// The same of the next step of a reader.
-fn append_next<R: SampleReader>(
+/// Appends the next step of a reader: the line of a sample, or the ending.
+pub(super) fn append_next<R: SampleReader>(
     alloc: Global,
     reader: &mut R,
     text: &mut String,
-) -> Result<Option<SourceEnd>, AllocError> {
-    let step = reader.next(alloc)?;
-    append_told(text, &step)
-}
-
-fn is_ending(step: &Step, ending: SourceEnd) -> bool {
-    match step {
-        Step::Sample(_) => false,
-        Step::End(found) => *found == ending,
-    }
-}
-
-fn ends_again<R: SampleReader>(
-    alloc: Global,
-    reader: &mut R,
-    ending: SourceEnd,
-) -> Result<bool, AllocError> {
-    let step = reader.next(alloc)?;
-    Ok(is_ending(&step, ending))
-}
-
-/// Appends an ending, where it came again.
-pub(super) fn append_ending_again(
-    text: &mut String,
-    ending: SourceEnd,
-    came_again: bool,
+    ended: &mut Ended,
 ) -> Result<(), AllocError> {
-    if came_again {
-        append_ending(text, ending)
-    } else {
-        text.push_str(ENDLESS)
-    }
-}
-
-/// Appends the next step of a reader: the line of a sample, or the ending, where it comes again. Whether there is more to come.
-pub(super) fn append_step<R: SampleReader>(
-    alloc: Global,
-    reader: &mut R,
-    text: &mut String,
-) -> Result<bool, AllocError> {
-    let Some(ending) = append_next(alloc, reader, text)? else {
-        return Ok(true);
-    };
-    let came_again = ends_again(alloc, reader, ending)?;
-    append_ending_again(text, ending, came_again)?;
-    Ok(false)
+    let step = reader.next(alloc)?;
+    append_step(text, ended, &step)
 }
 
 fn append_samples<R: SampleReader>(
@@ -167,41 +159,49 @@ fn append_samples<R: SampleReader>(
     reader: &mut R,
     text: &mut String,
 ) -> Result<(), AllocError> {
+    let mut ended = NOT_YET;
     for _ in 0..100 {
-        if !append_step(alloc, reader, text)? {
+        if ended.again {
             return Ok(());
         }
+        append_next(alloc, reader, text, &mut ended)?;
     }
-    text.push_str(ENDLESS)
+    Ok(())
 }
 
-fn append_asked(
+/// Whether the text of samples has an ending behind them, which came again. A line of a sample ends in a line feed.
+fn has_ending(text: &str) -> bool {
+    !text.is_empty() && !text.ends_with("\n") && !text.ends_with(ENDLESS)
+}
+
+fn append_whether_it_ends<R: SampleReader>(
+    alloc: Global,
+    reader: &mut R,
+    text: &mut String,
+) -> Result<(), AllocError> {
+    append_samples(alloc, reader, text)?;
+    let ends = has_ending(text.as_str());
+    text.clear();
+    text.push_str(if ends { "ends" } else { ENDLESS })
+}
+
+fn append_of_reader(
     alloc: Global,
     reader: &mut PprofReader,
-    asked: Asked,
+    asked: OfReader,
     text: &mut String,
 ) -> Result<(), AllocError> {
     match asked {
-        Asked::Samples => append_samples(alloc, reader, text),
-        Asked::Rows => append_rows(alloc, reader, text),
-        Asked::Numbers => append_numbers(alloc, reader, text),
-        Asked::NewNames => append_new_names(alloc, reader, text),
-        Asked::SampleAndRow => append_sample_and_row(alloc, reader, text),
-        Asked::Depth => append_depth(alloc, reader, text),
-        Asked::Types => append_types(alloc, reader, text),
+        OfReader::Samples => append_samples(alloc, reader, text),
+        OfReader::Ends => append_whether_it_ends(alloc, reader, text),
+        OfReader::Rows(asked) => append_rows(alloc, reader, asked, text),
+        OfReader::SampleAndRows => append_sample_and_rows(alloc, reader, text),
+        OfReader::Depth => append_depth(alloc, reader, text),
+        OfReader::Types => append_types(alloc, reader, text),
     }
 }
 
-/// The bytes of a file that is given in parts.
-pub(super) fn joined(alloc: Global, parts: &[&[u8]]) -> Result<Vec<u8>, AllocError> {
-    let mut bytes = Vec::new(alloc);
-    for part in parts {
-        bytes.extend_from_slice(part)?;
-    }
-    Ok(bytes)
-}
-
-pub(super) fn pick_of(alloc: Global, name: Option<&str>) -> Result<Pick, AllocError> {
+fn pick_of(alloc: Global, name: Option<&str>) -> Result<Pick, AllocError> {
     match name {
         Some(name) => Ok(Pick::Named(Text::from_str(alloc, name)?)),
         None => Ok(Pick::Preferred),
@@ -213,74 +213,87 @@ pub(super) fn reader_over(bytes: Vec<u8>, pick: Pick, naming: Naming) -> PprofRe
     PprofReader::over(bytes, pick, naming)
 }
 
-fn reader_of(
+fn append_of_bytes(
     alloc: Global,
-    parts: &[&[u8]],
-    choice: Choice<'_>,
-) -> Result<PprofReader, AllocError> {
-    let pick = pick_of(alloc, choice.pick)?;
-    let bytes = joined(alloc, parts)?;
-    Ok(reader_over(bytes, pick, choice.naming))
+    bytes: Vec<u8>,
+    pick: Pick,
+    naming: Naming,
+    asked: Asked,
+    text: &mut String,
+) -> Result<(), AllocError> {
+    match asked {
+        Asked::Reader(asked) => {
+            append_of_reader(alloc, &mut reader_over(bytes, pick, naming), asked, text)
+        }
+        Asked::Tables(asked) => {
+            append_of_tables(&tables_over(alloc, &bytes, &pick, naming), asked, text)
+        }
+    }
 }
 
-/// Appends what a reader of a file gives. It alone owns a reader, and has one `?`: at each of them the proof writes out the drop of
-/// a reader, field by field.
-pub(super) fn append_given(
+/// Appends what is told of a file. It and the function above own what reads it, and have one `?`: at each of them the proof writes out
+/// the drop of a reader, field by field.
+fn append_told(
     alloc: Global,
-    parts: &[&[u8]],
+    parts: &[Part<'_>],
     choice: Choice<'_>,
     asked: Asked,
     text: &mut String,
 ) -> Result<(), AllocError> {
-    let mut reader = reader_of(alloc, parts, choice)?;
-    append_asked(alloc, &mut reader, asked, text)
+    let bytes = joined(alloc, parts)?;
+    append_of_bytes(
+        alloc,
+        bytes,
+        pick_of(alloc, choice.pick)?,
+        choice.naming,
+        asked,
+        text,
+    )
 }
 
 pub(super) fn is_text(rt: &impl Abort, found: &str, wanted: &str) {
     assert_eq!(rt; found, wanted);
 }
 
-/// A reader of a file gives this.
-pub(super) fn gives(
+/// This is told of a file.
+pub(super) fn is_told(
     rt: &(impl Abort + AllocGlobal),
-    parts: &[&[u8]],
+    parts: &[Part<'_>],
     choice: Choice<'_>,
     asked: Asked,
     wanted: &str,
 ) -> Result<(), AllocError> {
     let mut text = String::new(rt.alloc());
-    append_given(rt.alloc(), parts, choice, asked, &mut text)?;
+    append_told(rt.alloc(), parts, choice, asked, &mut text)?;
     is_text(rt, text.as_str(), wanted);
     Ok(())
 }
 
-/// A file reads so sample by sample, and by rows: a line for each sample, and the ending.
-pub(super) fn reads_as(
+/// A file in parts, how it is read, what is asked of it, and what is told.
+pub(super) type Telling<'a> = (&'a [Part<'a>], Choice<'a>, Asked, &'a str);
+
+/// Each of these is told so.
+pub(super) fn are_told(
     rt: &(impl Abort + AllocGlobal),
-    parts: &[&[u8]],
-    choice: Choice<'_>,
-    wanted: &str,
-) -> Result<(), AllocError> {
-    gives(rt, parts, choice, Asked::Samples, wanted)?;
-    gives(rt, parts, choice, Asked::Rows, wanted)
+    tellings: &[Telling<'_>],
+) -> Result<(), Fail> {
+    for (parts, choice, asked, wanted) in tellings {
+        is_told(rt, parts, *choice, *asked, wanted)?;
+    }
+    Ok(())
 }
 
-/// The same with the preferred value and plain names.
-pub(super) fn reads_plainly(
-    rt: &(impl Abort + AllocGlobal),
-    parts: &[&[u8]],
-    wanted: &str,
-) -> Result<(), AllocError> {
-    reads_as(rt, parts, PLAIN, wanted)
-}
+/// A file in parts, how it is read, and what is read: a line for each sample, and the ending.
+pub(super) type Reading<'a> = (&'a [Part<'a>], Choice<'a>, &'a str);
 
-/// Each of these files reads so.
+/// Each of these files reads so, sample by sample and by rows.
 pub(super) fn read_so(
     rt: &(impl Abort + AllocGlobal),
     readings: &[Reading<'_>],
 ) -> Result<(), Fail> {
     for (parts, choice, wanted) in readings {
-        reads_as(rt, parts, *choice, wanted)?;
+        is_told(rt, parts, *choice, SAMPLES, wanted)?;
+        is_told(rt, parts, *choice, ROWS, wanted)?;
     }
     Ok(())
 }

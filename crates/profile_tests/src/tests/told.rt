@@ -1,150 +1,164 @@
 //! Rows as a caller keeps them.
 
-use super::reading::{ENDLESS, append_between, append_ending_again};
-use stack_core::{Listed, RowReader, RowStep, SourceEnd, Text};
+use super::reading::{Ended, NOT_YET, append_ended, append_next};
+use profile_tables::PprofReader;
+use stack_core::{Listed, RowReader, RowStep, Text};
 use std::alloc::{AllocError, Global};
 
-/// What a reader told, kept as its caller would.
+/// What is asked of rows.
+#[derive(Clone, Copy)]
+pub(super) enum OfRows {
+    /// A line for each sample, and the ending.
+    Lines,
+    /// The number of each sample's row, and whether that was told now.
+    Numbers,
+    /// How many names they told.
+    NewNames,
+}
+
+/// What a reader told, kept as its caller would, and what was read of it.
 #[derive(Drop)]
 struct Told {
     names: Vec<Text>,
     stacks: Vec<Listed<usize>>,
+    lines: String,
+    numbers: String,
+}
+
+fn name_of(names: &[Text], number: usize) -> &str {
+    match names.get(number) {
+        Some(name) => name.get(),
+        None => "(no name)",
+    }
+}
+
+/// Appends the names of these numbers, joined by `;`.
+fn append_frames(lines: &mut String, names: &[Text], frames: &[usize]) -> Result<(), AllocError> {
+    let mut separator = "";
+    for number in frames {
+        let name = name_of(names, *number);
+        write!(lines, "{separator}{name}")?;
+        separator = ";";
+    }
+    Ok(())
+}
+
+/// Whether each name was told once.
+fn are_distinct(names: &[Text]) -> bool {
+    for at in 0..names.len() {
+        if names[..at].contains(&names[at]) {
+            return false;
+        }
+    }
+    true
 }
 
 impl Told {
-    fn append_names(&self, text: &mut String, numbers: &[usize]) -> Result<(), AllocError> {
-        for (place, number) in numbers.iter().enumerate() {
-            if place > 0 {
-                text.push_str(";")?;
-            }
-            match self.names.get(*number) {
-                Some(name) => text.push_str(name.get())?,
-                None => text.push_str("(no name)")?,
-            }
-        }
-        Ok(())
-    }
-
-    /// Appends the line of a sample.
-    fn append_line(&self, text: &mut String, row: usize, weight: u64) -> Result<(), AllocError> {
+    fn append_stack(&mut self, row: usize) -> Result<(), AllocError> {
         match self.stacks.get(row) {
-            Some(stack) => self.append_names(text, stack.get())?,
-            None => text.push_str("(no row)")?,
+            Some(stack) => append_frames(&mut self.lines, &self.names, stack.get()),
+            None => self.lines.push_str("(no row)"),
         }
-        append_between(text, " ", &weight, "\n")
     }
 
-    /// Takes a name that is told, which none is twice.
-    fn take_name(&mut self, text: &mut String, name: Text) -> Result<(), AllocError> {
-        if self.names.contains(&name) {
-            text.push_str("(told again)")?;
-        }
-        self.names.push(name)?;
-        Ok(())
+    /// Appends the line of a sample, and the number of its row.
+    fn append_row(&mut self, row: usize, weight: u64, told_now: &str) -> Result<(), AllocError> {
+        self.append_stack(row)?;
+        write!(self.lines, " {weight}\n")?;
+        write!(self.numbers, "{row}{told_now}\n")
     }
 
-    fn take_names(&mut self, text: &mut String, names: Listed<Text>) -> Result<(), AllocError> {
-        for name in names.into_plain() {
-            self.take_name(text, name)?;
-        }
-        Ok(())
-    }
-
-    /// Takes a stack that is told, and appends the line of its sample.
-    fn take(
+    /// Takes a stack that is told, and appends its row.
+    fn take_new(
         &mut self,
-        text: &mut String,
         names: Listed<Text>,
         frames: Listed<usize>,
         weight: u64,
     ) -> Result<(), AllocError> {
         let row = self.stacks.len();
         self.stacks.push(frames)?;
-        self.take_names(text, names)?;
-        self.append_line(text, row, weight)
+        self.names.append(&mut names.into_plain())?;
+        self.append_row(row, weight, " new")
     }
 
-    /// Appends the line of a sample, or answers the ending.
-    fn append_step(
-        &mut self,
-        text: &mut String,
-        step: RowStep,
-    ) -> Result<Option<SourceEnd>, AllocError> {
+    fn take(&mut self, ended: &mut Ended, step: RowStep) -> Result<(), AllocError> {
         match step {
             RowStep::New {
                 names,
                 frames,
                 weight,
-            } => self.take(text, names, frames, weight)?,
-            RowStep::Again { row, weight } => self.append_line(text, row, weight)?,
-            RowStep::End(ending) => return Ok(Some(ending)),
+            } => self.take_new(names, frames, weight),
+            RowStep::Again { row, weight } => self.append_row(row, weight, ""),
+            RowStep::End(ending) => append_ended(&mut self.lines, ended, ending),
         }
-        Ok(None)
     }
 
-    /// The same of the next step of a reader.
-    fn append_next<R: RowReader>(
+    fn take_next<R: RowReader>(
         &mut self,
         alloc: Global,
         reader: &mut R,
-        text: &mut String,
-    ) -> Result<Option<SourceEnd>, AllocError> {
-        let step = reader.next_row(alloc)?;
-        self.append_step(text, step)
+        ended: &mut Ended,
+    ) -> Result<(), AllocError> {
+        self.take(ended, reader.next_row(alloc)?)
     }
 
-    /// Appends the samples that a reader gives by rows, and the ending.
+    /// Takes the rows that a reader tells, and the ending.
+    fn take_all<R: RowReader>(&mut self, alloc: Global, reader: &mut R) -> Result<(), AllocError> {
+        let mut ended = NOT_YET;
+        for _ in 0..200_000 {
+            if ended.again {
+                return Ok(());
+            }
+            self.take_next(alloc, reader, &mut ended)?;
+        }
+        Ok(())
+    }
+
+    fn append_asked(&self, asked: OfRows, text: &mut String) -> Result<(), AllocError> {
+        if !are_distinct(&self.names) {
+            text.push_str("(a name told again)")?;
+        }
+        match asked {
+            OfRows::Lines => text.push_str(&self.lines),
+            OfRows::Numbers => text.push_str(&self.numbers),
+            OfRows::NewNames => write!(text, "{}", self.names.len()),
+        }
+    }
+
     fn append_all<R: RowReader>(
         &mut self,
         alloc: Global,
         reader: &mut R,
+        asked: OfRows,
         text: &mut String,
     ) -> Result<(), AllocError> {
-        for _ in 0..100 {
-            if let Some(ending) = self.append_next(alloc, reader, text)? {
-                return append_end(alloc, reader, text, ending);
-            }
-        }
-        text.push_str(ENDLESS)
+        self.take_all(alloc, reader)?;
+        self.append_asked(asked, text)
     }
 }
 
-fn is_ending(step: &RowStep, ending: SourceEnd) -> bool {
-    match step {
-        RowStep::End(found) => *found == ending,
-        _ => false,
-    }
-}
-
-fn ends_again<R: RowReader>(
-    alloc: Global,
-    reader: &mut R,
-    ending: SourceEnd,
-) -> Result<bool, AllocError> {
-    let step = reader.next_row(alloc)?;
-    Ok(is_ending(&step, ending))
-}
-
-/// Appends an ending, where it comes again.
-fn append_end<R: RowReader>(
-    alloc: Global,
-    reader: &mut R,
-    text: &mut String,
-    ending: SourceEnd,
-) -> Result<(), AllocError> {
-    let came_again = ends_again(alloc, reader, ending)?;
-    append_ending_again(text, ending, came_again)
-}
-
-/// Appends the samples that a reader gives by rows, written of what it told, and the ending.
+/// Appends what is asked of the rows that a reader tells.
 pub(super) fn append_rows<R: RowReader>(
     alloc: Global,
     reader: &mut R,
+    asked: OfRows,
     text: &mut String,
 ) -> Result<(), AllocError> {
     let mut told = Told {
         names: Vec::new(alloc),
         stacks: Vec::new(alloc),
+        lines: String::new(alloc),
+        numbers: String::new(alloc),
     };
-    told.append_all(alloc, reader, text)
+    told.append_all(alloc, reader, asked, text)
+}
+
+/// Appends a sample, and then the others by rows.
+pub(super) fn append_sample_and_rows(
+    alloc: Global,
+    reader: &mut PprofReader,
+    text: &mut String,
+) -> Result<(), AllocError> {
+    append_next(alloc, reader, text, &mut { NOT_YET })?;
+    append_rows(alloc, reader, OfRows::Lines, text)
 }

@@ -1,19 +1,15 @@
 //! The sample type of the values that are read.
 
 use super::files::SMALLEST;
-use super::lending::{Question, tables_say};
-use super::reading::{Asked, PLAIN, append_step, gives};
+use super::lending::OfTables;
+use super::reading::{Asked, NOT_YET, OfReader, PLAIN, Telling, append_next, are_told};
 use profile_tables::{PprofReader, SampleType};
 use std::alloc::{AllocError, Global};
 use std::test::Fail;
 
-fn append_type_of(text: &mut String, name: &str, unit: &str) -> Result<(), AllocError> {
-    write!(text, "{name} in {unit}\n")
-}
-
 pub(super) fn append_type(text: &mut String, found: Option<&SampleType>) -> Result<(), AllocError> {
     match found {
-        Some(found) => append_type_of(text, found.name.get(), found.unit.get()),
+        Some(found) => write!(text, "{} in {}\n", found.name.get(), found.unit.get()),
         None => text.push_str("no type\n"),
     }
 }
@@ -25,20 +21,31 @@ pub(super) fn append_types(
     text: &mut String,
 ) -> Result<(), AllocError> {
     append_type(text, reader.chosen_type())?;
-    append_step(alloc, reader, text)?;
+    append_next(alloc, reader, text, &mut { NOT_YET })?;
     append_type(text, reader.chosen_type())
 }
 
+const OF_TABLES: &[Telling<'static>] = &[(
+    &[SMALLEST],
+    PLAIN,
+    Asked::Tables(OfTables::Type),
+    "cpu in ns\n",
+)];
+
 #[test]
 fn chosen_type_of_tables(rt: HostRuntime) -> Result<(), Fail> {
-    tables_say(&rt, &[SMALLEST], PLAIN, Question::Type, "cpu in ns\n")?;
-    Ok(())
+    are_told(&rt, OF_TABLES)
 }
+
+const OF_A_READER: &[Telling<'static>] = &[(
+    &[SMALLEST],
+    PLAIN,
+    Asked::Reader(OfReader::Types),
+    "no type\nmain 7\ncpu in ns\n",
+)];
 
 /// It is told once the tables were read.
 #[test]
 fn chosen_type_of_a_reader(rt: HostRuntime) -> Result<(), Fail> {
-    let wanted = "no type\nmain 7\ncpu in ns\n";
-    gives(&rt, &[SMALLEST], PLAIN, Asked::Types, wanted)?;
-    Ok(())
+    are_told(&rt, OF_A_READER)
 }

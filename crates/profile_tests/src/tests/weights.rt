@@ -1,17 +1,20 @@
 //! The limit of a source's total weight.
 
 use super::files::SMALLEST;
+use super::messages::Part;
 use super::reading::{PLAIN, Reading, read_so};
 use std::test::Fail;
 
 /// A sample that takes the total of the smallest profile to 2^56-1.
-const THE_REST: &[u8] = b"\x12\x0d\x0a\x01\x01\x12\x08\xf8\xff\xff\xff\xff\xff\xff\x7f";
+const THE_REST: Part<'static> = Part::Bytes(
+    b"\x12\x0d\x0a\x01\x01\x12\x08\xf8\xff\xff\xff\xff\xff\xff\x7f",
+);
 
 /// A sample that weighs nothing.
-const NOTHING: &[u8] = b"\x12\x06\x0a\x01\x01\x12\x01\x00";
+const NOTHING: Part<'static> = Part::Bytes(b"\x12\x06\x0a\x01\x01\x12\x01\x00");
 
 /// A sample of weight 1.
-const ONE: &[u8] = b"\x12\x06\x0a\x01\x01\x12\x01\x01";
+const ONE: Part<'static> = Part::Bytes(b"\x12\x06\x0a\x01\x01\x12\x01\x01");
 
 const WEIGHTS: &[Reading<'static>] = &[
     (
