@@ -15,25 +15,32 @@ use std::alloc::AllocError;
 use std::process::Abort;
 use std::test::Fail;
 
-/// Appends depth and name of a box.
-fn append_name(text: &mut String, depth: u32, name: &str) -> Result<(), AllocError> {
-    write!(text, "{depth} {name}")
-}
-
-/// Appends start, weight and own weight of a box.
-fn append_weights(text: &mut String, start: u64, weight: u64, own: u64) -> Result<(), AllocError> {
-    write!(text, " {start} {weight} {own}")
-}
-
 /// Appends depth, name, start, weight and own weight of a box.
-fn append_fields<B: FlameBox>(text: &mut String, one: &B) -> Result<(), AllocError> {
-    append_name(text, one.depth(), one.name())?;
-    append_weights(text, one.start(), one.weight(), one.own())
+fn append_fields(
+    text: &mut String,
+    depth: u32,
+    name: &str,
+    start: u64,
+    weight: u64,
+    own: u64,
+) -> Result<(), AllocError> {
+    write!(text, "({depth} {name} {start} {weight} {own}")
+}
+
+/// The same of a box that is not placed.
+fn append_span<B: FlameBox>(text: &mut String, one: &B) -> Result<(), AllocError> {
+    append_fields(
+        text,
+        one.depth(),
+        one.name(),
+        one.start(),
+        one.weight(),
+        one.own(),
+    )
 }
 
 fn append_box<B: FlameBox>(text: &mut String, one: &B) -> Result<(), AllocError> {
-    text.push_str("(")?;
-    append_fields(text, one)?;
+    append_span(text, one)?;
     text.push_str(")")
 }
 
@@ -51,9 +58,14 @@ fn append_edges(text: &mut String, left: u32, right: u32) -> Result<(), AllocErr
 
 /// Appends depth, name, start, weight, own weight and the edges of a box.
 fn append_placed(text: &mut String, span: &PlacedBox) -> Result<(), AllocError> {
-    text.push_str("(")?;
-    append_name(text, span.depth, span.name.get())?;
-    append_weights(text, span.start, span.weight, span.own)?;
+    append_fields(
+        text,
+        span.depth,
+        span.name.get(),
+        span.start,
+        span.weight,
+        span.own,
+    )?;
     append_edges(text, span.left, span.right)
 }
 
@@ -64,7 +76,7 @@ fn append_placed_boxes(text: &mut String, boxes: &[PlacedBox]) -> Result<(), All
     Ok(())
 }
 
-fn pixels(rt: &impl Abort, count: u32) -> Width {
+pub(super) fn pixels(rt: &impl Abort, count: u32) -> Width {
     Width::of(count).expect(rt, "the width of an image")
 }
 

@@ -11,13 +11,13 @@ use merged_stacks::{MergedStacks, StackRows, total_weight};
 use std::alloc::AllocError;
 use std::test::Fail;
 
-/// Appends the names of a stack, each with a semicolon.
+/// Appends what a stack begins with, its names, each with a semicolon.
 fn append_names<S: StackRows>(text: &mut String, rows: &S, at: usize) -> Result<(), AllocError>
     requires { at < length (S.samples rows.now) }
 {
+    text.push_str("(")?;
     for frame in 0..rows.depth(at) {
-        text.push_str(rows.name(at, frame))?;
-        text.push_str(";")?;
+        write!(text, "{};", rows.name(at, frame))?;
     }
     Ok(())
 }
@@ -26,7 +26,6 @@ fn append_names<S: StackRows>(text: &mut String, rows: &S, at: usize) -> Result<
 fn append_stack<S: StackRows>(text: &mut String, rows: &S, at: usize) -> Result<(), AllocError>
     requires { at < length (S.samples rows.now) }
 {
-    text.push_str("(")?;
     append_names(text, rows, at)?;
     write!(text, " {})", rows.weight(at))
 }

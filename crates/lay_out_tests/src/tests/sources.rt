@@ -1,5 +1,5 @@
 //! Sources of a few lines, and how much they weigh.
-ghost use Rattle.std.specs.Prelude.{◌<◌, ◌^◌};
+ghost use Rattle.std.specs.Prelude.{◌≡◌, ◌<◌, ◌^◌, None, length};
 ghost use Rattle.stack_core.specs.Ledgers.{IsRead};
 ghost use Rattle.merged_stacks.specs.Merged.{all_samples};
 ghost use Rattle.merged_stacks.specs.Timeline.{samples_of, timeline, total_weight};
@@ -11,6 +11,20 @@ use std::process::Abort;
 /// Lines of a source: names, root first, and a weight.
 pub type Lines<'a> = &'a [(&'a [&'a str], u64)];
 
+fn assert_open(rt: &impl Abort, ledger: &Ledger)
+    ensures { ledger.now.close ≡ None }
+{
+    assert!(rt; !ledger.is_closed());
+}
+
+fn assert_small(rt: &impl Abort, names: &[&str], weight: u64)
+    ensures names { length names.now < 10 }
+    ensures weight { weight < 100 }
+{
+    assert!(rt; names.len() < 10);
+    assert!(rt; weight < 100);
+}
+
 fn take_line(
     rt: &impl Abort,
     alloc: Global,
@@ -18,7 +32,8 @@ fn take_line(
     names: &[&str],
     weight: u64,
 ) -> Result<(), AllocError> {
-    assert!(rt; !ledger.is_closed() && names.len() < 10 && weight < 100);
+    assert_open(rt, ledger);
+    assert_small(rt, names, weight);
     let stack = Names::from_strs(alloc, names)?;
     ledger.take(Sample { stack, weight })
 }
@@ -38,7 +53,7 @@ fn take_lines(
 fn close_read(rt: &impl Abort, ledger: &mut Ledger)
     ensures { IsRead ledger.new.close }
 {
-    assert!(rt; !ledger.is_closed());
+    assert_open(rt, ledger);
     ledger.close(Close::Read(SourceEnd::Clean { ignored: 0 }));
 }
 
@@ -105,6 +120,13 @@ pub fn falling_lists(rt: &impl Abort, alloc: Global) -> Result<Vec<SourceList>, 
         lists.push(falling_list(rt, alloc)?)?;
     }
     Ok(lists)
+}
+
+/// That a list weighs little.
+pub fn assert_light_list(rt: &impl Abort, list: &SourceList)
+    ensures { total_weight list.now.samples < 2 ^ 64 }
+{
+    assert!(rt; list.total() < 1_000);
 }
 
 /// That lists weigh less than this together.

@@ -5,11 +5,11 @@ use super::of_flame_layout::comparisons::{append_compared_boxes, append_row_boxe
 use super::of_flame_layout::drawn::{append_drawn_chart, append_drawn_edges, append_drawn_graph};
 use super::of_flame_layout::merged::append_graph;
 use super::of_flame_layout::trees::append_placed_graph;
-use super::of_flame_layout::{append_chart, append_placed_chart};
+use super::of_flame_layout::{append_chart, append_placed_chart, pixels};
 use super::of_function_sums::append_functions;
-use super::of_merged_stacks::pairs::{append_pairs, append_shared_frames, append_side};
+use super::of_merged_stacks::pairs::{append_of_paired, append_pairs};
 use super::of_merged_stacks::{append_stacks, append_total};
-use super::sources::{Lines, assert_light, lists_of};
+use super::sources::{Lines, assert_light, assert_light_list, lists_of};
 use function_sums::Order;
 use merged_stacks::{MergedStacks, Side};
 use stack_core::SourceList;
@@ -47,14 +47,19 @@ pub enum OfMerged {
     Functions(Order),
 }
 
+/// What is told of the stacks of two sources, side by side.
+pub enum OfPaired {
+    /// How many frames the first two of them have in common.
+    SharedFrames,
+    /// These stacks with the weights of one source.
+    Side(Side),
+}
+
 /// What is told of two sources.
 pub enum OfTwo {
     /// Their stacks side by side.
     Pairs,
-    /// How many frames the first two of these have in common.
-    SharedFrames,
-    /// These stacks with the weights of one source.
-    Side(Side),
+    Paired(OfPaired),
     /// The rows of their comparison.
     Rows,
     /// The boxes of these rows in a picture of this total and this width.
@@ -74,7 +79,9 @@ fn append_merged(
         OfMerged::Total => append_total(text, merged),
         OfMerged::Graph => append_graph(rt.alloc(), text, merged),
         OfMerged::DrawnGraph => append_drawn_graph(rt.alloc(), text, merged),
-        OfMerged::DrawnEdges(total, width) => append_drawn_edges(rt, text, merged, *total, *width),
+        OfMerged::DrawnEdges(total, width) => {
+            append_drawn_edges(rt.alloc(), text, merged, *total, pixels(rt, *width))
+        }
         OfMerged::Functions(order) => append_functions(rt.alloc(), text, merged, *order),
     }
 }
@@ -94,20 +101,22 @@ fn append_of_two(
     rt: &(impl Abort + AllocGlobal + Threads),
     text: &mut String,
     told: &OfTwo,
-    before: &SourceList,
-    after: &SourceList,
+    lists: &[SourceList],
 ) -> Result<(), AllocError> {
-    assert!(rt; before.total() < 1_000 && after.total() < 1_000);
+    let [before, after] = lists else {
+        return text.push_str("not two sources");
+    };
+    assert_light_list(rt, before);
+    assert_light_list(rt, after);
     match told {
         OfTwo::Pairs => append_pairs(rt.alloc(), text, before, after),
-        OfTwo::SharedFrames => append_shared_frames(rt, text, before, after),
-        OfTwo::Side(side) => append_side(rt, text, before, after, *side),
+        OfTwo::Paired(told) => append_of_paired(rt, text, before, after, told),
         OfTwo::Rows => append_rows(rt.alloc(), text, before, after),
         OfTwo::RowBoxes(total, width) => {
-            append_row_boxes(rt, text, before, after, *total, *width)
+            append_row_boxes(rt.alloc(), text, before, after, *total, pixels(rt, *width))
         }
         OfTwo::Boxes(total, width) => {
-            append_compared_boxes(rt, text, before, after, *total, *width)
+            append_compared_boxes(rt.alloc(), text, before, after, *total, pixels(rt, *width))
         }
     }
 }
@@ -124,15 +133,9 @@ fn append_told(
         Told::PlacedChart(width) => append_placed_chart(rt, text, lists, *width),
         Told::DrawnChart => append_drawn_chart(rt, text, lists),
         Told::CompactChart => append_compact_chart(rt, text, lists),
-        Told::PlacedGraph(width) => {
-            assert!(rt; lists.len() == 1);
-            append_placed_graph(rt, text, &lists[0], *width)
-        }
+        Told::PlacedGraph(width) => append_placed_graph(rt, text, lists, *width),
         Told::Merged(told) => append_of_merged(rt, text, told, lists),
-        Told::Two(told) => {
-            assert!(rt; lists.len() == 2);
-            append_of_two(rt, text, told, &lists[0], &lists[1])
-        }
+        Told::Two(told) => append_of_two(rt, text, told, lists),
     }
 }
 

@@ -2,37 +2,37 @@
 ghost use Rattle.std.specs.Prelude.{◌<◌, ◌^◌};
 ghost use Rattle.sample_tables.specs.Samples.{total_weight};
 
-use super::drawn::edges_in;
-use super::{append_edges, append_fields, pixels};
+use super::append_span;
+use super::drawn::append_edges_in;
 use crate::tests::sources::Lines;
 use crate::tests::told::{OfTwo, Telling, Told, are_told};
 use flame_layout::{ComparedBox, PairRow, Width, compare, compared_boxes, draw_comparison};
 use stack_core::SourceList;
 use std::alloc::{AllocError, Global};
-use std::process::Abort;
 use std::test::Fail;
 
 /// Appends the names of a path, each with a semicolon.
 fn append_names(text: &mut String, names: &[String]) -> Result<(), AllocError> {
     for name in names {
-        text.push_str(name.as_str())?;
-        text.push_str(";")?;
+        write!(text, "{name};")?;
     }
     Ok(())
 }
 
-/// Appends a weight of the first profile and one of the second.
-fn append_both(text: &mut String, before: u64, after: u64) -> Result<(), AllocError> {
-    write!(text, " {before} {after}")
+/// Appends a row's totals and own weights, each of the first profile and of the second.
+fn append_weights(text: &mut String, row: &PairRow) -> Result<(), AllocError> {
+    write!(
+        text,
+        " {} {} {} {})",
+        row.total_before, row.total_after, row.own_before, row.own_after
+    )
 }
 
 /// Appends the names, the totals and the own weights of a row.
 fn append_row(text: &mut String, row: &PairRow) -> Result<(), AllocError> {
     text.push_str("(")?;
     append_names(text, row.path.get())?;
-    append_both(text, row.total_before, row.total_after)?;
-    append_both(text, row.own_before, row.own_after)?;
-    text.push_str(")")
+    append_weights(text, row)
 }
 
 fn append_all_rows(text: &mut String, rows: &[PairRow]) -> Result<(), AllocError> {
@@ -58,62 +58,59 @@ pub(in crate::tests) fn append_rows(
 
 /// Appends the first profile's total, depth, name, start, weight and own weight of a box, and its edges.
 fn append_compared(
-    rt: &impl Abort,
     text: &mut String,
     compared: &ComparedBox,
     total: u64,
     width: Width,
 ) -> Result<(), AllocError> {
-    let (left, right) = edges_in(rt, &compared.span, total, width);
-    write!(text, "({} ", compared.before)?;
-    append_fields(text, &compared.span)?;
-    append_edges(text, left, right)
+    write!(text, "{}", compared.before)?;
+    append_span(text, &compared.span)?;
+    append_edges_in(text, &compared.span, total, width)
 }
 
 fn append_all_compared(
-    rt: &impl Abort,
     text: &mut String,
     boxes: &[ComparedBox],
     total: u64,
     width: Width,
 ) -> Result<(), AllocError> {
     for compared in boxes {
-        append_compared(rt, text, compared, total, width)?;
+        append_compared(text, compared, total, width)?;
     }
     Ok(())
 }
 
 /// The boxes of the rows of a comparison.
 pub(in crate::tests) fn append_row_boxes(
-    rt: &(impl Abort + AllocGlobal),
+    alloc: Global,
     text: &mut String,
     before: &SourceList,
     after: &SourceList,
     total: u64,
-    width: u32,
+    width: Width,
 ) -> Result<(), AllocError>
     requires before { total_weight before.now.samples < 2 ^ 64 }
     requires after { total_weight after.now.samples < 2 ^ 64 }
 {
-    let rows = compare(rt.alloc(), before, after)?;
-    let boxes = compared_boxes(rt.alloc(), &rows)?;
-    append_all_compared(rt, text, &boxes, total, pixels(rt, width))
+    let rows = compare(alloc, before, after)?;
+    let boxes = compared_boxes(alloc, &rows)?;
+    append_all_compared(text, &boxes, total, width)
 }
 
 /// The boxes of a comparison without rows.
 pub(in crate::tests) fn append_compared_boxes(
-    rt: &(impl Abort + AllocGlobal),
+    alloc: Global,
     text: &mut String,
     before: &SourceList,
     after: &SourceList,
     total: u64,
-    width: u32,
+    width: Width,
 ) -> Result<(), AllocError>
     requires before { total_weight before.now.samples < 2 ^ 64 }
     requires after { total_weight after.now.samples < 2 ^ 64 }
 {
-    let boxes = draw_comparison(rt.alloc(), before, after)?;
-    append_all_compared(rt, text, &boxes, total, pixels(rt, width))
+    let boxes = draw_comparison(alloc, before, after)?;
+    append_all_compared(text, &boxes, total, width)
 }
 
 const OLD: Lines<'static> = &[(&["a"], 3), (&["b"], 1)];
@@ -131,7 +128,7 @@ fn comparison(rt: HostRuntime) -> Result<(), Fail> {
     are_told(&rt, ROWS)
 }
 
-const BOXES: &str = "(4 0 all 0 3 0 0 10)(3 1 a 0 1 1 0 3)(0 1 c 1 2 2 3 10)";
+const BOXES: &str = "4(0 all 0 3 0 0 10)3(1 a 0 1 1 0 3)0(1 c 1 2 2 3 10)";
 
 const OF_ROWS: &[Telling<'static>] = &[(Told::Two(OfTwo::RowBoxes(3, 10)), &[OLD, NEW], BOXES)];
 

@@ -1,6 +1,6 @@
 //! Boxes of worked examples that borrow their names.
 
-use super::{RUNS, THREE, append_boxes, append_edges, pixels};
+use super::{RUNS, THREE, append_boxes, append_edges};
 use crate::tests::sources::assert_light;
 use crate::tests::told::{OfMerged, Telling, Told, are_told};
 use flame_layout::{FlameBox, MergedStacks, Width, draw_chart, draw_merged, edges};
@@ -30,55 +30,53 @@ pub(in crate::tests) fn append_drawn_graph(
     append_boxes(text, &boxes)
 }
 
-/// Where a box begins and ends in a picture of this total.
-pub(super) fn edges_in<B: FlameBox>(
-    rt: &impl Abort,
-    one: &B,
-    total: u64,
-    width: Width,
-) -> (u32, u32) {
-    assert!(rt; total > 0);
-    assert!(rt; one.start() <= total && one.weight() <= total - one.start());
-    edges(one, total, width)
-}
-
-/// Appends the name and the edges of a box.
-fn append_name_and_edges<B: FlameBox>(
-    rt: &impl Abort,
+/// Appends where a box begins and ends in a picture of this total, where it lies in that.
+pub(super) fn append_edges_in<B: FlameBox>(
     text: &mut String,
     one: &B,
     total: u64,
     width: Width,
 ) -> Result<(), AllocError> {
-    let (left, right) = edges_in(rt, one, total, width);
-    text.push_str("(")?;
-    text.push_str(one.name())?;
+    if total == 0 || one.start() > total || one.weight() > total - one.start() {
+        return text.push_str(" outside)");
+    }
+    let (left, right) = edges(one, total, width);
     append_edges(text, left, right)
 }
 
+/// Appends the name and the edges of a box.
+fn append_name_and_edges<B: FlameBox>(
+    text: &mut String,
+    one: &B,
+    total: u64,
+    width: Width,
+) -> Result<(), AllocError> {
+    write!(text, "({}", one.name())?;
+    append_edges_in(text, one, total, width)
+}
+
 fn append_all_edges<B: FlameBox>(
-    rt: &impl Abort,
     text: &mut String,
     boxes: &[B],
     total: u64,
     width: Width,
 ) -> Result<(), AllocError> {
     for one in boxes {
-        append_name_and_edges(rt, text, one, total, width)?;
+        append_name_and_edges(text, one, total, width)?;
     }
     Ok(())
 }
 
 /// The edges of the boxes of a graph.
 pub(in crate::tests) fn append_drawn_edges(
-    rt: &(impl Abort + AllocGlobal),
+    alloc: Global,
     text: &mut String,
     merged: &MergedStacks,
     total: u64,
-    width: u32,
+    width: Width,
 ) -> Result<(), AllocError> {
-    let boxes = draw_merged(rt.alloc(), merged)?;
-    append_all_edges(rt, text, &boxes, total, pixels(rt, width))
+    let boxes = draw_merged(alloc, merged)?;
+    append_all_edges(text, &boxes, total, width)
 }
 
 const CHART: &[Telling<'static>] = &[(

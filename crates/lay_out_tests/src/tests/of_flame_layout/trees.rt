@@ -9,6 +9,7 @@ ghost use Rattle.merged_stacks.specs.checked.Ranks.{Grows};
 ghost use Rattle.flame_layout.specs.checked.Held.{Holds};
 
 use super::{RUNS, THREE, append_placed_boxes, pixels};
+use crate::tests::sources::assert_light_list;
 use crate::tests::told::{Telling, Told, are_told};
 use call_tree::{CallTree, FrameTable};
 use flame_layout::{PlacedBox, Width, graph_boxes, place};
@@ -58,32 +59,65 @@ fn frame_numbers(
     Ok(numbers)
 }
 
-/// The graph of one source, in an image.
+/// The graph of a tree that holds the samples of a source, in an image.
+fn placed_tree(
+    alloc: Global,
+    table: &FrameTable,
+    tree: &CallTree,
+    source: &SourceList,
+    width: Width,
+) -> Result<Vec<PlacedBox>, AllocError>
+    requires held { Holds table.now tree.now source.now.samples }
+    requires light { total_weight source.now.samples < 2 ^ 64 }
+{
+    // The samples are within the limits: the count tells it.
+    let _count = source.len();
+    let total = source.total();
+    let boxes = graph_boxes(alloc, tree, table)?;
+    place(alloc, boxes, total as u64, width)
+}
+
+/// The graph of one source, in an image, by way of an empty tree.
+fn placed_in(
+    alloc: Global,
+    table: &mut FrameTable,
+    tree: &mut CallTree,
+    source: &SourceList,
+    width: Width,
+) -> Result<Vec<PlacedBox>, AllocError>
+    requires empty { Holds table.old tree.old [] }
+    requires light { total_weight source.now.samples < 2 ^ 64 }
+    requires distinct { HasDistinctNames table.old }
+{
+    add_list(alloc, table, tree, source)?;
+    placed_tree(alloc, table, tree, source, width)
+}
+
 fn placed_graph(
     rt: &impl Abort,
     alloc: Global,
     source: &SourceList,
     width: Width,
 ) -> Result<Vec<PlacedBox>, AllocError> {
-    // The samples are within the limits: the count tells it.
-    let _count = source.len();
-    let total = source.total();
-    assert!(rt; total < 1_000);
-    let mut table = FrameTable::new(alloc);
+    assert_light_list(rt, source);
     let mut tree = CallTree::new(alloc)?;
-    add_list(alloc, &mut table, &mut tree, source)?;
-    let boxes = graph_boxes(alloc, &tree, &table)?;
-    place(alloc, boxes, total as u64, width)
+    let mut table = FrameTable::new(alloc);
+    placed_in(alloc, &mut table, &mut tree, source, width)
 }
 
 pub(in crate::tests) fn append_placed_graph(
     rt: &(impl Abort + AllocGlobal),
     text: &mut String,
-    source: &SourceList,
+    lists: &[SourceList],
     width: u32,
 ) -> Result<(), AllocError> {
-    let boxes = placed_graph(rt, rt.alloc(), source, pixels(rt, width))?;
-    append_placed_boxes(text, &boxes)
+    let [source] = lists else {
+        return text.push_str("not one source");
+    };
+    match placed_graph(rt, rt.alloc(), source, pixels(rt, width)) {
+        Ok(boxes) => append_placed_boxes(text, &boxes),
+        Err(refused) => Err(refused),
+    }
 }
 
 const OF_THE_RUNS: &[Telling<'static>] = &[(

@@ -8,7 +8,7 @@ use crate::tests::sources::{assert_light, lists_of};
 use crate::tests::told::is_text;
 use merged_stacks::GrowingStacks;
 use stack_core::SourceList;
-use std::alloc::AllocError;
+use std::alloc::{AllocError, Global};
 use std::process::Abort;
 use std::test::Fail;
 
@@ -49,11 +49,11 @@ fn take_all(
 }
 
 fn append_moment(
-    rt: &(impl Abort + AllocGlobal),
+    alloc: Global,
     text: &mut String,
     growing: &GrowingStacks<'_>,
 ) -> Result<(), AllocError> {
-    let moment = growing.merged(rt.alloc())?;
+    let moment = growing.merged(alloc)?;
     append_stacks(text, &moment.by_rank())
 }
 
@@ -63,9 +63,29 @@ fn shows_moment(
     wanted: &str,
 ) -> Result<(), AllocError> {
     let mut text = String::new(rt.alloc());
-    append_moment(rt, &mut text, growing)?;
+    append_moment(rt.alloc(), &mut text, growing)?;
     is_text(rt, &text, wanted);
     Ok(())
+}
+
+fn has_counts(rt: &impl Abort, growing: &GrowingStacks<'_>, counts: &[u64]) {
+    assert!(rt; growing.counts() == counts);
+}
+
+/// The samples of a moment come, and then it shows.
+fn come_to_moment(
+    rt: &(impl Abort + AllocGlobal),
+    lists: &[SourceList],
+    growing: &mut GrowingStacks<'_>,
+    moment: &Moment<'_>,
+) -> Result<(), AllocError>
+    requires { growing.old.lists ≡ samples_of lists.now }
+    ensures { growing.new.lists ≡ samples_of lists.now }
+{
+    let (sources, counts, wanted) = moment;
+    take_all(rt, lists, growing, sources);
+    has_counts(rt, growing, counts);
+    shows_moment(rt, growing, wanted)
 }
 
 fn show_moments(
@@ -75,10 +95,8 @@ fn show_moments(
 ) -> Result<(), AllocError>
     requires { growing.old.lists ≡ samples_of lists.now }
 {
-    for (sources, counts, wanted) in MOMENTS {
-        take_all(rt, lists, growing, sources);
-        assert!(rt; growing.counts() == *counts);
-        shows_moment(rt, growing, wanted)?;
+    for moment in MOMENTS {
+        come_to_moment(rt, lists, growing, moment)?;
     }
     Ok(())
 }

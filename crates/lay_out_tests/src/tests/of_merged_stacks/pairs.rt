@@ -4,21 +4,23 @@ ghost use Rattle.sample_tables.specs.Samples.{total_weight};
 
 use super::{append_names, append_stacks};
 use crate::tests::sources::Lines;
-use crate::tests::told::{OfTwo, Telling, Told, are_told};
+use crate::tests::told::{OfPaired, OfTwo, Telling, Told, are_told};
 use merged_stacks::{PairedSide, PairedStacks, Side, StackRows};
 use stack_core::SourceList;
 use std::alloc::{AllocError, Global};
-use std::process::Abort;
 use std::test::Fail;
 use std::thread::Threads;
+
+fn append_both(text: &mut String, before: u64, after: u64) -> Result<(), AllocError> {
+    write!(text, " {before} {after})")
+}
 
 /// Appends the names and both weights of a stack.
 fn append_pair(text: &mut String, paired: &PairedStacks, at: usize) -> Result<(), AllocError>
     requires { at < length paired.now }
 {
-    text.push_str("(")?;
     append_names(text, paired, at)?;
-    write!(text, " {} {})", paired.before(at), paired.after(at))
+    append_both(text, paired.before(at), paired.after(at))
 }
 
 fn append_all(text: &mut String, paired: &PairedStacks) -> Result<(), AllocError> {
@@ -57,8 +59,10 @@ fn stacks_of_two_sources_side_by_side(rt: HostRuntime) -> Result<(), Fail> {
 }
 
 /// How many frames the first two stacks have in common.
-fn shared_frames(rt: &impl Abort, stacks: &PairedStacks) -> usize {
-    assert!(rt; stacks.len() > 1);
+fn shared_frames(stacks: &PairedStacks) -> usize {
+    if stacks.len() < 2 {
+        return 0;
+    }
     let least = stacks.depth(0).min(stacks.depth(1));
     for frame in 0..least {
         if !stacks.is_same_name(0, 1, frame) {
@@ -68,32 +72,35 @@ fn shared_frames(rt: &impl Abort, stacks: &PairedStacks) -> usize {
     least
 }
 
-pub(in crate::tests) fn append_shared_frames(
-    rt: &(impl Abort + AllocGlobal + Threads),
+fn append_paired(
     text: &mut String,
-    before: &SourceList,
-    after: &SourceList,
-) -> Result<(), AllocError>
-    requires before { total_weight before.now.samples < 2 ^ 64 }
-    requires after { total_weight after.now.samples < 2 ^ 64 }
-{
-    let stacks = PairedStacks::of_in_threads(rt, rt.alloc(), before, after)?;
-    write!(text, "{}", shared_frames(rt, &stacks))
+    stacks: &PairedStacks,
+    told: &OfPaired,
+) -> Result<(), AllocError> {
+    match told {
+        OfPaired::SharedFrames => write!(text, "{}", shared_frames(stacks)),
+        OfPaired::Side(side) => append_stacks(
+            text,
+            &PairedSide {
+                stacks,
+                side: *side,
+            },
+        ),
+    }
 }
 
-pub(in crate::tests) fn append_side(
+pub(in crate::tests) fn append_of_paired(
     rt: &(impl AllocGlobal + Threads),
     text: &mut String,
     before: &SourceList,
     after: &SourceList,
-    side: Side,
+    told: &OfPaired,
 ) -> Result<(), AllocError>
     requires before { total_weight before.now.samples < 2 ^ 64 }
     requires after { total_weight after.now.samples < 2 ^ 64 }
 {
     let stacks = PairedStacks::of_in_threads(rt, rt.alloc(), before, after)?;
-    let stacks = &stacks;
-    append_stacks(text, &PairedSide { stacks, side })
+    append_paired(text, &stacks, told)
 }
 
 const OLD: Lines<'static> = &[(&["a", "b"], 3), (&["c"], 1)];
@@ -101,14 +108,18 @@ const OLD: Lines<'static> = &[(&["a", "b"], 3), (&["c"], 1)];
 const NEW: Lines<'static> = &[(&["a", "d"], 2), (&["c"], 4)];
 
 const SIDES: &[Telling<'static>] = &[
-    (Told::Two(OfTwo::SharedFrames), &[OLD, NEW], "1"),
     (
-        Told::Two(OfTwo::Side(Side::Before)),
+        Told::Two(OfTwo::Paired(OfPaired::SharedFrames)),
+        &[OLD, NEW],
+        "1",
+    ),
+    (
+        Told::Two(OfTwo::Paired(OfPaired::Side(Side::Before))),
         &[OLD, NEW],
         "(a;b; 3)(a;d; 0)(c; 1)",
     ),
     (
-        Told::Two(OfTwo::Side(Side::After)),
+        Told::Two(OfTwo::Paired(OfPaired::Side(Side::After))),
         &[OLD, NEW],
         "(a;b; 0)(a;d; 2)(c; 4)",
     ),

@@ -20,6 +20,10 @@ fn append_alone(
     append_stacks(text, &merged)
 }
 
+fn has_all(rt: &impl Abort, merged: &MergedStacks) {
+    assert!(rt; merged.len() == 3_000);
+}
+
 fn append_in_threads(
     rt: &(impl Abort + AllocGlobal + Threads),
     text: &mut String,
@@ -27,7 +31,7 @@ fn append_in_threads(
 ) -> Result<(), AllocError> {
     assert_light(rt, lists, 10_000);
     let merged = MergedStacks::of_in_threads(rt, rt.alloc(), lists)?;
-    assert!(rt; merged.len() == 3_000);
+    has_all(rt, &merged);
     append_stacks(text, &merged)
 }
 
