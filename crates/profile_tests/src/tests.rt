@@ -22,9 +22,11 @@ use lending::{FRAMES_OF_1, FRAMES_OF_2};
 use messages::Part;
 use profile_tables::PprofReader;
 use reading::{
-    BY_N, BY_X, LINES, PLAIN, ROWS, Reading, SAMPLES, Telling, VALUE, are_told, read_so,
+    BY_N, BY_X, LINES, PLAIN, ROWS, Reading, SAMPLES, Telling, VALUE, are_told, read_so, reads_as,
 };
 use stack_core::SampleReader;
+use std::alloc::AllocError;
+use std::process::Abort;
 use std::test::Fail;
 
 const EMPTY: &[Telling<'static>] = &[
@@ -88,6 +90,17 @@ fn negative_weight(rt: HostRuntime) -> Result<(), Fail> {
     read_so(&rt, ONE_NEGATIVE)
 }
 
+/// What stands behind `BASE` reads so.
+fn each_is_read(
+    rt: &(impl Abort + AllocGlobal),
+    faults: &[(&[u8], &str)],
+) -> Result<(), AllocError> {
+    for (more, wanted) in faults {
+        reads_as(rt, &[BASE, Part::Bytes(more)], &PLAIN, wanted)?;
+    }
+    Ok(())
+}
+
 const FAULTS_ALONE: &[Reading<'static>] = &[
     (&[Part::Bytes(b"\x32\x01\x61")], PLAIN, "BadStringZero at 0"),
     (&[Part::Bytes(b"\x12\x00")], PLAIN, "NoSampleType at 2"),
@@ -95,8 +108,8 @@ const FAULTS_ALONE: &[Reading<'static>] = &[
 
 #[test]
 fn each_profile_fault(rt: HostRuntime) -> Result<(), Fail> {
-    read_so(&rt, SAMPLE_FAULTS)?;
-    read_so(&rt, TABLE_FAULTS)?;
+    each_is_read(&rt, SAMPLE_FAULTS)?;
+    each_is_read(&rt, TABLE_FAULTS)?;
     read_so(&rt, FAULTS_ALONE)
 }
 

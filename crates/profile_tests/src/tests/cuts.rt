@@ -6,7 +6,7 @@ use super::files::{
     SMALLEST_BYTES, TABLE_FAULTS, TWO_LINES, UNPACKED,
 };
 use super::messages::{Part, joined};
-use super::reading::{Asked, LINES, OfReader, PLAIN, ROWS, Reading, SAMPLES, is_told, read_so};
+use super::reading::{Asked, LINES, OfReader, PLAIN, Reading, is_told, read_so, reads_as};
 use std::alloc::AllocError;
 use std::process::Abort;
 use std::test::Fail;
@@ -45,9 +45,8 @@ fn fronts_read(
     ending: &str,
 ) -> Result<(), AllocError> {
     for len in first..limit {
-        let front = [Part::Bytes(SMALLEST_BYTES.get(..len).expect(rt, "a front"))];
-        is_told(rt, &front, PLAIN, SAMPLES, ending)?;
-        is_told(rt, &front, PLAIN, ROWS, ending)?;
+        let front = SMALLEST_BYTES.get(..len).expect(rt, "a front");
+        reads_as(rt, &[Part::Bytes(front)], &PLAIN, ending)?;
     }
     Ok(())
 }
@@ -71,7 +70,7 @@ fn compressed_and_cut(rt: HostRuntime) -> Result<(), Fail> {
 fn each_front_ends(rt: &(impl Abort + AllocGlobal), file: &[u8]) -> Result<(), AllocError> {
     for len in 0..=file.len() {
         let front = file.get(..len).expect(rt, "a front");
-        is_told(rt, &[Part::Bytes(front)], LINES, ENDS, "ends")?;
+        is_told(rt, &[Part::Bytes(front)], &LINES, &ENDS, "ends")?;
     }
     Ok(())
 }
@@ -125,13 +124,13 @@ const MORE_FILES: &[&[Part<'static>]] = &[
     &[Part::Bytes(b"\x12\x00")],
 ];
 
-/// What gives a fault, cut short, ends too.
+/// What gives a fault behind `BASE`, cut short, ends too.
 fn cut_faults_end(
     rt: &(impl Abort + AllocGlobal),
-    faults: &[Reading<'_>],
+    faults: &[(&[u8], &str)],
 ) -> Result<(), AllocError> {
-    for (parts, _, _) in faults {
-        each_front_of_parts_ends(rt, parts)?;
+    for (more, _) in faults {
+        each_front_of_parts_ends(rt, &[BASE, Part::Bytes(more)])?;
     }
     Ok(())
 }

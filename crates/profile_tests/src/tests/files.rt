@@ -1,7 +1,6 @@
 //! The bytes of profiles.
 
 use super::messages::Part;
-use super::reading::{PLAIN, Reading};
 
 /// One sample of `main`, weight 7, which stands before its tables, packed.
 pub(super) const SMALLEST: Part<'static> = Part::Bytes(SMALLEST_BYTES);
@@ -74,46 +73,25 @@ pub(super) const TWO_LINES: Part<'static> = Part::Bytes(&[
     0x6e, 0x32, 0x01, 0x66,
 ]);
 /// What gives a fault behind `BASE` before its samples are read, and the fault.
-pub(super) const TABLE_FAULTS: &[Reading<'static>] = &[
+pub(super) const TABLE_FAULTS: &[(&[u8], &str)] = &[
     (
-        &[
-            BASE,
-            Part::Bytes(b"\x80\x80\x80\x80\x80\x80\x80\x80\x80\x02"),
-        ],
-        PLAIN,
+        b"\x80\x80\x80\x80\x80\x80\x80\x80\x80\x02",
         "BadVarint at 48",
     ),
-    (&[BASE, Part::Bytes(b"\x00")], PLAIN, "BadFieldNumber at 48"),
-    (&[BASE, Part::Bytes(b"\x0b")], PLAIN, "BadWireType at 48"),
-    (&[BASE, Part::Bytes(b"\x72\x00")], PLAIN, "WrongKind at 48"),
-    (&[BASE, Part::Bytes(b"\x22\x00")], PLAIN, "ZeroId at 48"),
-    (
-        &[BASE, Part::Bytes(b"\x2a\x04\x08\x01\x10\x03")],
-        PLAIN,
-        "DuplicateId at 48",
-    ),
-    (
-        &[BASE, Part::Bytes(b"\x22\x06\x08\x02\x22\x02\x08\x07")],
-        PLAIN,
-        "UnknownFunction at 48",
-    ),
-    (&[BASE, Part::Bytes(b"\x70\x04")], PLAIN, "BadString at 48"),
+    (b"\x00", "BadFieldNumber at 48"),
+    (b"\x0b", "BadWireType at 48"),
+    (b"\x72\x00", "WrongKind at 48"),
+    (b"\x22\x00", "ZeroId at 48"),
+    (b"\x2a\x04\x08\x01\x10\x03", "DuplicateId at 48"),
+    (b"\x22\x06\x08\x02\x22\x02\x08\x07", "UnknownFunction at 48"),
+    (b"\x70\x04", "BadString at 48"),
 ];
 /// What gives a fault behind `BASE` and its sample, and what is read.
-pub(super) const SAMPLE_FAULTS: &[Reading<'static>] = &[
+pub(super) const SAMPLE_FAULTS: &[(&[u8], &str)] = &[
+    (b"\x12\x02\x0a\x05", "f 9\nTruncated at 48"),
+    (b"\x12\x06\x0a\x01\x01\x12\x01\x07", "f 9\nValueCount at 48"),
     (
-        &[BASE, Part::Bytes(b"\x12\x02\x0a\x05")],
-        PLAIN,
-        "f 9\nTruncated at 48",
-    ),
-    (
-        &[BASE, Part::Bytes(b"\x12\x06\x0a\x01\x01\x12\x01\x07")],
-        PLAIN,
-        "f 9\nValueCount at 48",
-    ),
-    (
-        &[BASE, Part::Bytes(b"\x12\x07\x0a\x01\x02\x12\x02\x05\x09")],
-        PLAIN,
+        b"\x12\x07\x0a\x01\x02\x12\x02\x05\x09",
         "f 9\nUnknownLocation at 48",
     ),
 ];

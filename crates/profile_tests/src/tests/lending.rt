@@ -14,7 +14,6 @@ use std::process::Abort;
 use std::test::Fail;
 
 /// What tables are asked for.
-#[derive(Clone, Copy)]
 pub(super) enum OfTables {
     /// The place of the chosen value, and how many values there are.
     Value,
@@ -25,7 +24,7 @@ pub(super) enum OfTables {
 }
 
 /// `Tables::read` without its clauses.
-pub(super) fn tables_over(
+fn tables_over(
     alloc: Global,
     bytes: &[u8],
     pick: &Pick,
@@ -48,24 +47,35 @@ fn append_frames(text: &mut String, frames: Option<&[String]>) -> Result<(), All
     }
 }
 
-fn append_answer(tables: &Tables, asked: OfTables, text: &mut String) -> Result<(), AllocError> {
+fn append_answer(tables: &Tables, asked: &OfTables, text: &mut String) -> Result<(), AllocError> {
     match asked {
         OfTables::Value => append_value(text, tables.chosen(), tables.sample_types()),
         OfTables::Type => append_type(text, tables.chosen_type()),
-        OfTables::Frames(id) => append_frames(text, tables.location(id)),
+        OfTables::Frames(id) => append_frames(text, tables.location(*id)),
     }
 }
 
 /// Appends what tables say, or the fault for which they are refused.
-pub(super) fn append_of_tables(
+fn append_of_tables(
     found: &Result<Tables, TableFault>,
-    asked: OfTables,
+    asked: &OfTables,
     text: &mut String,
 ) -> Result<(), AllocError> {
     match found {
         Ok(tables) => append_answer(tables, asked, text),
         Err(fault) => write!(text, "{fault}"),
     }
+}
+
+pub(super) fn append_by_tables(
+    alloc: Global,
+    bytes: Vec<u8>,
+    pick: Pick,
+    naming: Naming,
+    asked: &OfTables,
+    text: &mut String,
+) -> Result<(), AllocError> {
+    append_of_tables(&tables_over(alloc, &bytes, &pick, naming), asked, text)
 }
 
 pub(super) const FRAMES_OF_1: Asked = Asked::Tables(OfTables::Frames(1));
@@ -129,8 +139,8 @@ const REFUSED: &[Telling<'static>] = &[
 
 /// The tables are refused for the same faults.
 fn faults_are_told(rt: &(impl Abort + AllocGlobal)) -> Result<(), AllocError> {
-    for (parts, choice, fault) in TABLE_FAULTS {
-        is_told(rt, parts, *choice, VALUE, fault)?;
+    for (more, fault) in TABLE_FAULTS {
+        is_told(rt, &[BASE, Part::Bytes(more)], &PLAIN, &VALUE, fault)?;
     }
     Ok(())
 }
@@ -144,8 +154,8 @@ fn faults_of_tables(rt: HostRuntime) -> Result<(), Fail> {
 /// A fault of a sample is none of the tables.
 #[test]
 fn samples_are_not_looked_at(rt: HostRuntime) -> Result<(), Fail> {
-    for (parts, choice, _) in SAMPLE_FAULTS {
-        is_told(&rt, parts, *choice, VALUE, "1 of 2")?;
+    for (more, _) in SAMPLE_FAULTS {
+        is_told(&rt, &[BASE, Part::Bytes(more)], &PLAIN, &VALUE, "1 of 2")?;
     }
     Ok(())
 }

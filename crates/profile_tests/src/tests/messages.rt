@@ -43,11 +43,11 @@ fn append_numbered(file: &mut Vec<u8>, count: usize, pieces: &[&[u8]]) -> Result
     Ok(())
 }
 
-fn append_part(file: &mut Vec<u8>, part: Part<'_>) -> Result<(), AllocError> {
+fn append_part(file: &mut Vec<u8>, part: &Part<'_>) -> Result<(), AllocError> {
     match part {
         Part::Bytes(bytes) => file.extend_from_slice(bytes),
-        Part::Times(count, bytes) => append_times(file, count, bytes),
-        Part::Numbered(count, pieces) => append_numbered(file, count, pieces),
+        Part::Times(count, bytes) => append_times(file, *count, bytes),
+        Part::Numbered(count, pieces) => append_numbered(file, *count, pieces),
     }
 }
 
@@ -55,7 +55,7 @@ fn append_part(file: &mut Vec<u8>, part: Part<'_>) -> Result<(), AllocError> {
 pub(super) fn joined(alloc: Global, parts: &[Part<'_>]) -> Result<Vec<u8>, AllocError> {
     let mut file = Vec::new(alloc);
     for part in parts {
-        append_part(&mut file, *part)?;
+        append_part(&mut file, part)?;
     }
     Ok(file)
 }

@@ -1,7 +1,7 @@
 //! What is told of a file, as a text.
 
 use super::depth::append_depth;
-use super::lending::{OfTables, append_of_tables, tables_over};
+use super::lending::{OfTables, append_by_tables};
 use super::messages::{Part, joined};
 use super::told::{OfRows, append_rows, append_sample_and_rows};
 use super::types::append_types;
@@ -12,7 +12,6 @@ use std::process::Abort;
 use std::test::Fail;
 
 /// The sample type whose value is the weight, and how frames are named.
-#[derive(Clone, Copy)]
 pub(super) struct Choice<'a> {
     /// None where the preferred one is read.
     pub(super) pick: Option<&'a str>,
@@ -42,14 +41,12 @@ pub(super) const BY_X: Choice<'static> = Choice {
 };
 
 /// What is asked of a file.
-#[derive(Clone, Copy)]
 pub(super) enum Asked {
     Reader(OfReader),
     Tables(OfTables),
 }
 
 /// What a reader is asked for.
-#[derive(Clone, Copy)]
 pub(super) enum OfReader {
     /// The samples and the ending.
     Samples,
@@ -82,18 +79,13 @@ pub(super) const VALUE: Asked = Asked::Tables(OfTables::Value);
 /// What stands in the place of an ending that doesn't come, or not again.
 const ENDLESS: &str = "no ending";
 
-/// The ending that a reader gave, and whether it was asked again.
-#[derive(Clone, Copy)]
-pub(super) struct Ended {
-    first: Option<SourceEnd>,
-    pub(super) again: bool,
-}
+/// The ending that a reader gave, if it did, and whether it was asked again.
+pub(super) type Ended = Option<(SourceEnd, bool)>;
 
-/// That of a reader that gave none.
-pub(super) const NOT_YET: Ended = Ended {
-    first: None,
-    again: false,
-};
+/// Whether a reader was asked again behind its ending.
+pub(super) fn is_over(ended: &Ended) -> bool {
+    matches!(ended, Some((_, true)))
+}
 
 pub(super) fn append_ending(text: &mut String, ending: SourceEnd) -> Result<(), AllocError> {
     match ending {
@@ -109,15 +101,16 @@ pub(super) fn append_ended(
     ended: &mut Ended,
     ending: SourceEnd,
 ) -> Result<(), AllocError> {
-    let Some(first) = ended.first else {
-        ended.first = Some(ending);
-        return append_ending(text, ending);
-    };
-    ended.again = true;
-    if first == ending {
-        return Ok(());
+    match ended {
+        None => {
+            *ended = Some((ending, false));
+            append_ending(text, ending)
+        }
+        Some((first, again)) => {
+            *again = true;
+            text.push_str(if *first == ending { "" } else { ENDLESS })
+        }
     }
-    text.push_str(ENDLESS)
 }
 
 /// Appends names, joined by `;`.
@@ -159,9 +152,9 @@ fn append_samples<R: SampleReader>(
     reader: &mut R,
     text: &mut String,
 ) -> Result<(), AllocError> {
-    let mut ended = NOT_YET;
+    let mut ended = None;
     for _ in 0..100 {
-        if ended.again {
+        if is_over(&ended) {
             return Ok(());
         }
         append_next(alloc, reader, text, &mut ended)?;
@@ -188,7 +181,7 @@ fn append_whether_it_ends<R: SampleReader>(
 fn append_of_reader(
     alloc: Global,
     reader: &mut PprofReader,
-    asked: OfReader,
+    asked: &OfReader,
     text: &mut String,
 ) -> Result<(), AllocError> {
     match asked {
@@ -213,31 +206,38 @@ pub(super) fn reader_over(bytes: Vec<u8>, pick: Pick, naming: Naming) -> PprofRe
     PprofReader::over(bytes, pick, naming)
 }
 
+/// It alone owns a reader, and has no `?`: at each of them the proof writes out the drop of a reader, field by field.
+fn append_by_reader(
+    alloc: Global,
+    bytes: Vec<u8>,
+    pick: Pick,
+    naming: Naming,
+    asked: &OfReader,
+    text: &mut String,
+) -> Result<(), AllocError> {
+    append_of_reader(alloc, &mut reader_over(bytes, pick, naming), asked, text)
+}
+
 fn append_of_bytes(
     alloc: Global,
     bytes: Vec<u8>,
     pick: Pick,
     naming: Naming,
-    asked: Asked,
+    asked: &Asked,
     text: &mut String,
 ) -> Result<(), AllocError> {
     match asked {
-        Asked::Reader(asked) => {
-            append_of_reader(alloc, &mut reader_over(bytes, pick, naming), asked, text)
-        }
-        Asked::Tables(asked) => {
-            append_of_tables(&tables_over(alloc, &bytes, &pick, naming), asked, text)
-        }
+        Asked::Reader(asked) => append_by_reader(alloc, bytes, pick, naming, asked, text),
+        Asked::Tables(asked) => append_by_tables(alloc, bytes, pick, naming, asked, text),
     }
 }
 
-/// Appends what is told of a file. It and the function above own what reads it, and have one `?`: at each of them the proof writes out
-/// the drop of a reader, field by field.
+/// Appends what is told of a file.
 fn append_told(
     alloc: Global,
     parts: &[Part<'_>],
-    choice: Choice<'_>,
-    asked: Asked,
+    choice: &Choice<'_>,
+    asked: &Asked,
     text: &mut String,
 ) -> Result<(), AllocError> {
     let bytes = joined(alloc, parts)?;
@@ -259,8 +259,8 @@ pub(super) fn is_text(rt: &impl Abort, found: &str, wanted: &str) {
 pub(super) fn is_told(
     rt: &(impl Abort + AllocGlobal),
     parts: &[Part<'_>],
-    choice: Choice<'_>,
-    asked: Asked,
+    choice: &Choice<'_>,
+    asked: &Asked,
     wanted: &str,
 ) -> Result<(), AllocError> {
     let mut text = String::new(rt.alloc());
@@ -278,7 +278,7 @@ pub(super) fn are_told(
     tellings: &[Telling<'_>],
 ) -> Result<(), Fail> {
     for (parts, choice, asked, wanted) in tellings {
-        is_told(rt, parts, *choice, *asked, wanted)?;
+        is_told(rt, parts, choice, asked, wanted)?;
     }
     Ok(())
 }
@@ -286,14 +286,24 @@ pub(super) fn are_told(
 /// A file in parts, how it is read, and what is read: a line for each sample, and the ending.
 pub(super) type Reading<'a> = (&'a [Part<'a>], Choice<'a>, &'a str);
 
-/// Each of these files reads so, sample by sample and by rows.
+/// A file reads so, sample by sample and by rows.
+pub(super) fn reads_as(
+    rt: &(impl Abort + AllocGlobal),
+    parts: &[Part<'_>],
+    choice: &Choice<'_>,
+    wanted: &str,
+) -> Result<(), AllocError> {
+    is_told(rt, parts, choice, &SAMPLES, wanted)?;
+    is_told(rt, parts, choice, &ROWS, wanted)
+}
+
+/// Each of these files does.
 pub(super) fn read_so(
     rt: &(impl Abort + AllocGlobal),
     readings: &[Reading<'_>],
 ) -> Result<(), Fail> {
     for (parts, choice, wanted) in readings {
-        is_told(rt, parts, *choice, SAMPLES, wanted)?;
-        is_told(rt, parts, *choice, ROWS, wanted)?;
+        reads_as(rt, parts, choice, wanted)?;
     }
     Ok(())
 }

@@ -90,8 +90,8 @@ fn many_are_one_row(rt: &(impl Abort + AllocGlobal)) -> Result<(), AllocError> {
     is_told(
         rt,
         MANY,
-        PLAIN,
-        NUMBERS,
+        &PLAIN,
+        &NUMBERS,
         str::from_utf8(&rows).expect(rt, "a text"),
     )
 }

@@ -1,12 +1,11 @@
 //! Rows as a caller keeps them.
 
-use super::reading::{Ended, NOT_YET, append_ended, append_next};
+use super::reading::{Ended, append_ended, append_next, is_over};
 use profile_tables::PprofReader;
 use stack_core::{Listed, RowReader, RowStep, Text};
 use std::alloc::{AllocError, Global};
 
 /// What is asked of rows.
-#[derive(Clone, Copy)]
 pub(super) enum OfRows {
     /// A line for each sample, and the ending.
     Lines,
@@ -104,9 +103,9 @@ impl Told {
 
     /// Takes the rows that a reader tells, and the ending.
     fn take_all<R: RowReader>(&mut self, alloc: Global, reader: &mut R) -> Result<(), AllocError> {
-        let mut ended = NOT_YET;
+        let mut ended = None;
         for _ in 0..200_000 {
-            if ended.again {
+            if is_over(&ended) {
                 return Ok(());
             }
             self.take_next(alloc, reader, &mut ended)?;
@@ -114,7 +113,7 @@ impl Told {
         Ok(())
     }
 
-    fn append_asked(&self, asked: OfRows, text: &mut String) -> Result<(), AllocError> {
+    fn append_asked(&self, asked: &OfRows, text: &mut String) -> Result<(), AllocError> {
         if !are_distinct(&self.names) {
             text.push_str("(a name told again)")?;
         }
@@ -129,7 +128,7 @@ impl Told {
         &mut self,
         alloc: Global,
         reader: &mut R,
-        asked: OfRows,
+        asked: &OfRows,
         text: &mut String,
     ) -> Result<(), AllocError> {
         self.take_all(alloc, reader)?;
@@ -141,7 +140,7 @@ impl Told {
 pub(super) fn append_rows<R: RowReader>(
     alloc: Global,
     reader: &mut R,
-    asked: OfRows,
+    asked: &OfRows,
     text: &mut String,
 ) -> Result<(), AllocError> {
     let mut told = Told {
@@ -159,6 +158,6 @@ pub(super) fn append_sample_and_rows(
     reader: &mut PprofReader,
     text: &mut String,
 ) -> Result<(), AllocError> {
-    append_next(alloc, reader, text, &mut { NOT_YET })?;
-    append_rows(alloc, reader, OfRows::Lines, text)
+    append_next(alloc, reader, text, &mut None)?;
+    append_rows(alloc, reader, &OfRows::Lines, text)
 }

@@ -2,7 +2,7 @@
 
 use super::files::SMALLEST;
 use super::lending::OfTables;
-use super::reading::{Asked, NOT_YET, OfReader, PLAIN, Telling, append_next, are_told};
+use super::reading::{Asked, OfReader, PLAIN, Telling, append_next, are_told};
 use profile_tables::{PprofReader, SampleType};
 use std::alloc::{AllocError, Global};
 use std::test::Fail;
@@ -21,7 +21,7 @@ pub(super) fn append_types(
     text: &mut String,
 ) -> Result<(), AllocError> {
     append_type(text, reader.chosen_type())?;
-    append_next(alloc, reader, text, &mut { NOT_YET })?;
+    append_next(alloc, reader, text, &mut None)?;
     append_type(text, reader.chosen_type())
 }
 
