@@ -4,129 +4,114 @@ mod reading;
 mod rows;
 mod told;
 
+use super::texts::holds;
 use folded_lines::{FoldedReader, append_line, append_pair_line};
-use rows::{Telling, tells_all};
 use stack_core::{Names, ReadFault, ReadKind, SampleReader, SourceEnd, Step};
 use std::alloc::{AllocError, Global};
 use std::process::Abort;
 use std::test::Fail;
-use told::read_rows;
+use told::append_rows;
 
-/// What a reader gives.
-#[derive(Clone, Copy)]
-enum Given<'a> {
-    /// These lines of its samples, and then this ending.
-    Samples(&'a [u8], SourceEnd),
-    /// The same by rows.
-    Rows(&'a [u8], SourceEnd),
-    /// Rows of which this is told.
-    Tellings(&'a [Telling<'a>]),
-    /// No sample, and its ending again and again.
-    Ending,
-    /// Two samples, which are these lines, and then its ending.
-    Two(&'a [u8]),
+/// `FoldedReader::over` without its clauses, so that what calls it is proved without them.
+fn reader_over(text: Vec<u8>) -> FoldedReader {
+    FoldedReader::over(text)
 }
 
-fn reader_of(alloc: Global, text: &[u8]) -> Result<FoldedReader, AllocError> {
-    Ok(FoldedReader::over(text.to_vec(alloc)?))
-}
-
-fn reader_gives(
-    rt: &(impl Abort + AllocGlobal),
-    reader: &mut FoldedReader,
-    given: &Given<'_>,
-) -> Result<(), AllocError> {
-    match given {
-        Given::Samples(lines, ending) => samples_are(rt, reader, lines, *ending),
-        Given::Rows(lines, ending) => rows_are(rt, reader, lines, *ending),
-        Given::Tellings(tellings) => tells_all(rt, reader, tellings),
-        Given::Ending => ends_thrice(rt, reader),
-        Given::Two(lines) => two_are(rt, reader, lines),
-    }
-}
-
-/// A reader of a text gives this. It alone owns a reader, and has one `?`: at each of them the proof writes out the drop of a reader,
-/// field by field.
-fn gives(
-    rt: &(impl Abort + AllocGlobal),
-    text: &[u8],
-    given: &Given<'_>,
-) -> Result<(), AllocError> {
-    let mut reader = reader_of(rt.alloc(), text)?;
-    reader_gives(rt, &mut reader, given)
-}
-
-/// Appends the line of a sample, as `append_line` writes it, or answers the ending.
+/// Appends the line of a sample, as `append_line` writes it, or keeps the ending.
 fn append_step(
     alloc: Global,
     lines: &mut Vec<u8>,
     step: &Step,
-) -> Result<Option<SourceEnd>, AllocError> {
+    end: &mut Option<SourceEnd>,
+) -> Result<(), AllocError> {
     match step {
-        Step::Sample(sample) => {
-            append_line(alloc, lines, sample.stack.get(), sample.weight)?;
-            Ok(None)
+        Step::Sample(sample) => append_line(alloc, lines, sample.stack.get(), sample.weight),
+        Step::End(ending) => {
+            *end = Some(*ending);
+            Ok(())
         }
-        Step::End(ending) => Ok(Some(*ending)),
     }
 }
 
-/// Appends the next sample, or answers the ending.
+/// Appends the next sample, or keeps the ending.
 fn append_next(
     alloc: Global,
     reader: &mut FoldedReader,
     lines: &mut Vec<u8>,
-) -> Result<Option<SourceEnd>, AllocError> {
+    end: &mut Option<SourceEnd>,
+) -> Result<(), AllocError> {
     let step = reader.next(alloc)?;
-    append_step(alloc, lines, &step)
+    append_step(alloc, lines, &step, end)
 }
 
-/// Appends the samples that are left, one a line, and answers the ending.
-fn read_on(
+/// Appends the samples that are left, one a line, and keeps the ending.
+fn append_samples(
     alloc: Global,
     reader: &mut FoldedReader,
     lines: &mut Vec<u8>,
-) -> Result<Option<SourceEnd>, AllocError> {
+    end: &mut Option<SourceEnd>,
+) -> Result<(), AllocError> {
     for _ in 0..100 {
-        let ending = append_next(alloc, reader, lines)?;
-        if ending.is_some() {
-            return Ok(ending);
+        if end.is_some() {
+            return Ok(());
         }
+        append_next(alloc, reader, lines, end)?;
     }
-    Ok(None)
+    Ok(())
+}
+
+/// How a text is read.
+enum By {
+    Samples,
+    Rows,
+}
+
+fn append_by(
+    alloc: Global,
+    by: &By,
+    reader: &mut FoldedReader,
+    lines: &mut Vec<u8>,
+    end: &mut Option<SourceEnd>,
+) -> Result<(), AllocError> {
+    match by {
+        By::Samples => append_samples(alloc, reader, lines, end),
+        By::Rows => append_rows(alloc, reader, lines, end),
+    }
+}
+
+/// Appends what is read of a text. Where it makes a reader no `?` follows: at each of them the proof writes out the drop of a reader,
+/// field by field.
+fn append_read(
+    alloc: Global,
+    by: &By,
+    text: &[u8],
+    lines: &mut Vec<u8>,
+    end: &mut Option<SourceEnd>,
+) -> Result<(), AllocError> {
+    append_by(alloc, by, &mut reader_over(text.to_vec(alloc)?), lines, end)
 }
 
 fn are_lines(rt: &impl Abort, found: &[u8], lines: &[u8]) {
     assert_eq!(rt; found, lines);
 }
 
-/// What was read is these lines, and then this ending.
-fn is_read(rt: &impl Abort, read: &[u8], end: Option<SourceEnd>, lines: &[u8], ending: SourceEnd) {
-    are_lines(rt, read, lines);
-    assert!(rt; end == Some(ending));
+fn is_end(rt: &impl Abort, found: Option<SourceEnd>, ending: SourceEnd) {
+    assert!(rt; found == Some(ending));
 }
 
-fn samples_are(
+/// What is read of a text is these lines, and then this ending.
+fn reads_by(
     rt: &(impl Abort + AllocGlobal),
-    reader: &mut FoldedReader,
+    by: &By,
+    text: &[u8],
     lines: &[u8],
     ending: SourceEnd,
 ) -> Result<(), AllocError> {
     let mut read = Vec::new(rt.alloc());
-    let end = read_on(rt.alloc(), reader, &mut read)?;
-    is_read(rt, &read, end, lines, ending);
-    Ok(())
-}
-
-fn rows_are(
-    rt: &(impl Abort + AllocGlobal),
-    reader: &mut FoldedReader,
-    lines: &[u8],
-    ending: SourceEnd,
-) -> Result<(), AllocError> {
-    let mut read = Vec::new(rt.alloc());
-    let end = read_rows(rt.alloc(), reader, &mut read)?;
-    is_read(rt, &read, end, lines, ending);
+    let mut end = None;
+    append_read(rt.alloc(), by, text, &mut read, &mut end)?;
+    are_lines(rt, &read, lines);
+    is_end(rt, end, ending);
     Ok(())
 }
 
@@ -136,8 +121,8 @@ fn reads_as(
     lines: &[u8],
     ending: SourceEnd,
 ) -> Result<(), AllocError> {
-    gives(rt, text, &Given::Samples(lines, ending))?;
-    gives(rt, text, &Given::Rows(lines, ending))
+    reads_by(rt, &By::Samples, text, lines, ending)?;
+    reads_by(rt, &By::Rows, text, lines, ending)
 }
 
 fn clean(ignored: u64) -> SourceEnd {
@@ -147,13 +132,18 @@ fn clean(ignored: u64) -> SourceEnd {
 /// A text, the lines of its samples, and the fault that it ends with.
 type Fault<'a> = (&'a [u8], &'a [u8], ReadKind, u64);
 
-fn end_in_faults(rt: &(impl Abort + AllocGlobal), faults: &[Fault<'_>]) -> Result<(), AllocError> {
-    for (text, lines, kind, at) in faults {
-        let fault = ReadFault {
-            kind: *kind,
-            at: *at,
-        };
-        reads_as(rt, text, lines, SourceEnd::Fault(fault))?;
+fn ends_in_fault(rt: &(impl Abort + AllocGlobal), fault: &Fault<'_>) -> Result<(), AllocError> {
+    let (text, lines, kind, at) = fault;
+    let fault = ReadFault {
+        kind: *kind,
+        at: *at,
+    };
+    reads_as(rt, text, lines, SourceEnd::Fault(fault))
+}
+
+fn end_in_faults(rt: &(impl Abort + AllocGlobal), faults: &[Fault<'_>]) -> Result<(), Fail> {
+    for fault in faults {
+        ends_in_fault(rt, fault)?;
     }
     Ok(())
 }
@@ -166,7 +156,7 @@ fn append_odd_line(alloc: Global, out: &mut Vec<u8>) -> Result<(), AllocError> {
 fn odd_line_is_fault(rt: &(impl Abort + AllocGlobal), out: &mut Vec<u8>) -> Result<(), AllocError> {
     append_odd_line(rt.alloc(), out)?;
     are_lines(rt, out, b"a 1 2\n");
-    end_in_faults(rt, &[(out, b"", ReadKind::TwoColumns, 1)])
+    ends_in_fault(rt, &(out, b"", ReadKind::TwoColumns, 1))
 }
 
 #[test]
@@ -192,11 +182,19 @@ fn append_pairs(alloc: Global, out: &mut Vec<u8>) -> Result<(), AllocError> {
     append_pair(alloc, out, "c", 0, 2)
 }
 
+fn pairs_are(
+    rt: &(impl Abort + AllocGlobal),
+    out: &mut Vec<u8>,
+    lines: &[u8],
+) -> Result<(), AllocError> {
+    append_pairs(rt.alloc(), out)?;
+    are_lines(rt, out, lines);
+    Ok(())
+}
+
 #[test]
 fn comparison(rt: HostRuntime) -> Result<(), Fail> {
-    let mut out = Vec::new(rt.alloc());
-    append_pairs(rt.alloc(), &mut out)?;
-    are_lines(&rt, &out, b"a 3 1\nb 1 0\nc 0 2\n");
+    pairs_are(&rt, &mut Vec::new(rt.alloc()), b"a 3 1\nb 1 0\nc 0 2\n")?;
     Ok(())
 }
 
@@ -207,26 +205,28 @@ fn is_ending(step: &Step, ending: SourceEnd) -> bool {
     }
 }
 
-/// Ends, with one ignored line.
-fn ends(rt: &(impl Abort + AllocGlobal), reader: &mut FoldedReader) -> Result<(), AllocError> {
-    let step = reader.next(rt.alloc())?;
-    assert!(rt; is_ending(&step, clean(1)));
-    Ok(())
+/// Whether a reader ends, with one ignored line.
+fn ends(alloc: Global, reader: &mut FoldedReader) -> Result<bool, AllocError> {
+    let step = reader.next(alloc)?;
+    Ok(is_ending(&step, clean(1)))
 }
 
-fn ends_thrice(
-    rt: &(impl Abort + AllocGlobal),
-    reader: &mut FoldedReader,
-) -> Result<(), AllocError> {
-    ends(rt, reader)?;
-    ends(rt, reader)?;
-    ends(rt, reader)
+fn ends_thrice(alloc: Global, reader: &mut FoldedReader) -> Result<bool, AllocError> {
+    for _ in 0..3 {
+        if !ends(alloc, reader)? {
+            return Ok(false);
+        }
+    }
+    Ok(true)
+}
+
+fn text_ends_thrice(alloc: Global, text: &[u8]) -> Result<bool, AllocError> {
+    ends_thrice(alloc, &mut reader_over(text.to_vec(alloc)?))
 }
 
 #[test]
 fn ending_again(rt: HostRuntime) -> Result<(), Fail> {
-    gives(&rt, b"x\n", &Given::Ending)?;
-    Ok(())
+    holds(&rt, text_ends_thrice(rt.alloc(), b"x\n"))
 }
 
 fn append_two(
@@ -234,26 +234,32 @@ fn append_two(
     reader: &mut FoldedReader,
     lines: &mut Vec<u8>,
 ) -> Result<(), AllocError> {
-    append_next(alloc, reader, lines)?;
-    append_next(alloc, reader, lines)?;
-    Ok(())
+    append_next(alloc, reader, lines, &mut None)?;
+    append_next(alloc, reader, lines, &mut None)
 }
 
+/// Whether a reader gives two samples, which are these lines, and then its ending.
 fn two_are(
-    rt: &(impl Abort + AllocGlobal),
+    alloc: Global,
     reader: &mut FoldedReader,
+    found: &mut Vec<u8>,
     lines: &[u8],
-) -> Result<(), AllocError> {
-    let mut again = Vec::new(rt.alloc());
-    append_two(rt.alloc(), reader, &mut again)?;
-    are_lines(rt, &again, lines);
-    ends(rt, reader)
+) -> Result<bool, AllocError> {
+    append_two(alloc, reader, found)?;
+    Ok(found.as_slice() == lines && ends(alloc, reader)?)
+}
+
+fn two_are_read(alloc: Global, text: &[u8], lines: &[u8]) -> Result<bool, AllocError> {
+    let mut reader = reader_over(text.to_vec(alloc)?);
+    two_are(alloc, &mut reader, &mut Vec::new(alloc), lines)
 }
 
 /// The lines of README.md.
 #[test]
 fn example_of_the_page(rt: HostRuntime) -> Result<(), Fail> {
-    let two = Given::Two(b"main;parse 5\nmain 2\n");
-    gives(&rt, b"main;parse 5\nno count\nmain 2\n", &two)?;
-    Ok(())
+    let text = b"main;parse 5\nno count\nmain 2\n";
+    holds(
+        &rt,
+        two_are_read(rt.alloc(), text, b"main;parse 5\nmain 2\n"),
+    )
 }

@@ -1,6 +1,5 @@
 //! Small profiles, decoded.
 
-use super::texts::is_text;
 use profile_messages::{
     CheckedProfile, Index, Numbers, Profile, SampleType, SampleTypes, TableFault, chosen_type,
     content_at, numbers_of, sample_types, string_at,
@@ -15,15 +14,14 @@ use std::test::Fail;
 const SMALLEST: &[u8] = b"\x0a\x04\x08\x01\x10\x02\x12\x06\x0a\x01\x01\x12\x01\x07\
 \x22\x06\x08\x01\x22\x02\x08\x01\x2a\x04\x08\x01\x10\x03\x32\x00\x32\x03cpu\x32\x02ns\x32\x04main";
 
-fn is_type(rt: &impl Abort, found: &SampleType, name: &str, unit: &str) {
-    is_text(rt, found.name.get(), name);
-    is_text(rt, found.unit.get(), unit);
+fn is_type(found: &SampleType, name: &str, unit: &str) -> bool {
+    found.name.get() == name && found.unit.get() == unit
 }
 
-fn are_of_the_page(rt: &impl Abort, found: &SampleTypes) {
-    assert!(rt; found.default == Some(0));
-    for found in found.types.get() {
-        is_type(rt, found, "cpu", "ns");
+fn are_of_the_page(found: &SampleTypes) -> bool {
+    match found.types.get() {
+        [found_type] => found.default == Some(0) && is_type(found_type, "cpu", "ns"),
+        _ => false,
     }
 }
 
@@ -31,24 +29,27 @@ fn are_of_the_page(rt: &impl Abort, found: &SampleTypes) {
 #[test]
 fn example_of_the_page(rt: HostRuntime) {
     let found = sample_types(rt.alloc(), SMALLEST).expect(&rt, "the types");
-    are_of_the_page(&rt, &found);
+    assert!(rt; are_of_the_page(&found));
 }
 
 /// The types `n`, whose unit is `ms`, and one of a name that is no text, whose unit is empty. There is one sample.
 const TWO_TYPES: &[u8] = b"\x0a\x04\x08\x01\x10\x02\x0a\x02\x08\x03\x12\x02\x10\x05\
 \x32\x00\x32\x01n\x32\x02ms\x32\x02;\xff";
 
-fn are_two(rt: &impl Abort, found: &SampleTypes, default: usize) {
-    assert!(rt; found.default == Some(default));
-    let types = found.types.get();
-    assert!(rt; types.len() == 2);
-    is_type(rt, &types[0], "n", "ms");
-    is_type(rt, &types[1], ";\u{fffd}", "");
+fn are_two(found: &SampleTypes, default: usize) -> bool {
+    match found.types.get() {
+        [first, second] => {
+            found.default == Some(default)
+                && is_type(first, "n", "ms")
+                && is_type(second, ";\u{fffd}", "")
+        }
+        _ => false,
+    }
 }
 
 fn types_of_two(rt: &(impl Abort + AllocGlobal), file: &[u8], default: usize) {
     let found = sample_types(rt.alloc(), file).expect(rt, "the types");
-    are_two(rt, &found, default);
+    assert!(rt; are_two(&found, default));
 }
 
 /// A file with the first type as the default.
@@ -103,10 +104,17 @@ fn named(alloc: Global, name: &str) -> Result<Pick, AllocError> {
     Ok(Pick::Named(Text::from_str(alloc, name)?))
 }
 
+/// Whether this is the type of the value that is chosen.
+fn is_chosen_type(chosen: &Result<Option<SampleType>, TableFault>, name: &str, unit: &str) -> bool {
+    match chosen {
+        Ok(Some(found)) => is_type(found, name, unit),
+        _ => false,
+    }
+}
+
 /// The type of the value that is chosen of the two.
 fn is_chosen(rt: &(impl Abort + AllocGlobal), pick: &Pick, name: &str, unit: &str) {
-    let found = chosen_type(rt.alloc(), TWO_TYPES, pick).expect(rt, "a profile");
-    is_type(rt, &found.expect(rt, "the type"), name, unit);
+    assert!(rt; is_chosen_type(&chosen_type(rt.alloc(), TWO_TYPES, pick), name, unit));
 }
 
 fn is_chosen_by_name(
@@ -150,15 +158,19 @@ fn faults_before_a_chosen_type(rt: HostRuntime) -> Result<(), Fail> {
     Ok(())
 }
 
-fn are_numbers(rt: &impl Abort, numbers: &Numbers) {
-    assert!(rt; numbers.ids.as_slice() == [1].as_slice());
-    assert!(rt; numbers.values.as_slice() == [7].as_slice());
+fn are_numbers(numbers: &Result<Numbers, ReadKind>) -> bool {
+    match numbers {
+        Ok(numbers) => {
+            numbers.ids.as_slice() == [1].as_slice() && numbers.values.as_slice() == [7].as_slice()
+        }
+        Err(_) => false,
+    }
 }
 
 #[test]
 fn numbers_of_a_sample(rt: HostRuntime) -> Result<(), Fail> {
     let numbers = numbers_of(rt.alloc(), content_at(SMALLEST, 6))?;
-    are_numbers(&rt, &numbers.expect(&rt, "a sample"));
+    assert!(rt; are_numbers(&numbers));
     Ok(())
 }
 
@@ -175,21 +187,21 @@ fn lines_of_a_location(rt: HostRuntime) {
     has_a_line(&rt, &checked.expect(&rt, "a profile").profile);
 }
 
-fn places_are(rt: &impl Abort, index: &Index) {
-    assert!(rt; index.get(1) == Some(0));
-    assert!(rt; index.get(2).is_none());
-    assert!(rt; index.get(u64::MAX).is_none());
+fn has_1_alone(index: &Index) -> bool {
+    index.get(1) == Some(0) && index.get(2).is_none() && index.get(u64::MAX).is_none()
 }
 
-fn all_places_are(rt: &impl Abort, checked: &CheckedProfile<'_>) {
-    places_are(rt, &checked.functions);
-    places_are(rt, &checked.locations);
+fn have_1_alone(checked: &Result<CheckedProfile<'_>, TableFault>) -> bool {
+    match checked {
+        Ok(checked) => has_1_alone(&checked.functions) && has_1_alone(&checked.locations),
+        Err(_) => false,
+    }
 }
 
 #[test]
 fn places_of_ids(rt: HostRuntime) {
     let checked = CheckedProfile::of(rt.alloc(), SMALLEST, &Pick::Preferred);
-    all_places_are(&rt, &checked.expect(&rt, "a profile"));
+    assert!(rt; have_1_alone(&checked));
 }
 
 /// The fault that a file ends with before its samples are read.

@@ -1,79 +1,51 @@
 use super::texts::is_written;
 use std::process::Abort;
-use std::test::*;
+use std::test::Fail;
 use wire_fields::{Field, FieldValue, Fields, Packed, WireFault, WireKind, laws};
-
-fn varint_field(number: u32, at: usize, value: u64) -> Field<'static> {
-    Field {
-        number,
-        at,
-        value: FieldValue::Varint(value),
-    }
-}
 
 fn fault(kind: WireKind, at: usize) -> WireFault {
     WireFault { kind, at }
 }
 
-fn gives(rt: &impl Abort, fields: &mut Fields<'_>, field: Field<'_>) {
-    assert!(rt; fields.next() == Ok(Some(field)));
+/// What a call of a reader of fields answers.
+type Answer<'a> = Result<Option<Field<'a>>, WireFault>;
+
+/// Whether the next calls of a reader answer so.
+fn answers(fields: &mut Fields<'_>, wanted: &[Answer<'_>]) -> bool {
+    for answer in wanted {
+        if fields.next() != *answer {
+            return false;
+        }
+    }
+    true
 }
 
-fn ends(rt: &impl Abort, fields: &mut Fields<'_>) {
-    assert!(rt; fields.next() == Ok(None));
-}
+/// A message, and what the first calls of its reader answer.
+type Message<'a> = (&'a [u8], &'a [Answer<'a>]);
 
-fn faults(rt: &impl Abort, fields: &mut Fields<'_>, kind: WireKind, at: usize) {
-    assert!(rt; fields.next() == Err(fault(kind, at)));
-}
-
-/// The first of the fields of a message.
-fn begins_with(rt: &impl Abort, message: &[u8], field: Field<'_>) {
-    gives(rt, &mut Fields::over(message), field);
-}
-
-/// A message that begins with a fault.
-fn is_fault(rt: &impl Abort, message: &[u8], kind: WireKind) {
-    faults(rt, &mut Fields::over(message), kind, 0);
-}
-
-fn gives_numbers(rt: &impl Abort, packed: &mut Packed<'_>, numbers: &[u64]) {
-    for number in numbers {
-        assert!(rt; packed.next() == Ok(Some(*number)));
+fn are_read(rt: &impl Abort, messages: &[Message<'_>]) {
+    for (message, wanted) in messages {
+        assert!(rt; answers(&mut Fields::over(message), wanted));
     }
 }
 
-fn ends_numbers(rt: &impl Abort, packed: &mut Packed<'_>) {
-    assert!(rt; packed.next() == Ok(None));
+/// Whether the next calls of a reader of packed numbers answer so.
+fn answers_numbers(packed: &mut Packed<'_>, wanted: &[Result<Option<u64>, WireFault>]) -> bool {
+    for answer in wanted {
+        if packed.next() != *answer {
+            return false;
+        }
+    }
+    true
 }
 
-fn is_cut(rt: &impl Abort, packed: &mut Packed<'_>) {
-    assert!(rt; packed.next() == Err(fault(WireKind::Truncated, 0)));
-}
+/// A run, and what the first calls of its reader answer.
+type Run<'a> = (&'a [u8], &'a [Result<Option<u64>, WireFault>]);
 
-fn ends_twice(rt: &impl Abort, fields: &mut Fields<'_>) {
-    ends(rt, fields);
-    ends(rt, fields);
-}
-
-/// A message of one field.
-fn is_field(rt: &impl Abort, message: &[u8], field: Field<'_>) {
-    let mut fields = Fields::over(message);
-    gives(rt, &mut fields, field);
-    ends_twice(rt, &mut fields);
-}
-
-/// A run of these numbers.
-fn are_numbers(rt: &impl Abort, run: &[u8], numbers: &[u64]) {
-    let mut packed = Packed::over(run);
-    gives_numbers(rt, &mut packed, numbers);
-    ends_numbers(rt, &mut packed);
-}
-
-fn is_cut_twice(rt: &impl Abort, run: &[u8]) {
-    let mut packed = Packed::over(run);
-    is_cut(rt, &mut packed);
-    is_cut(rt, &mut packed);
+fn are_runs(rt: &impl Abort, runs: &[Run<'_>]) {
+    for (run, wanted) in runs {
+        assert!(rt; answers_numbers(&mut Packed::over(run), wanted));
+    }
 }
 
 const LAST_NUMBER: &[u8] = &[0xf8, 0xff, 0xff, 0xff, 0x0f, 0x00];
@@ -88,19 +60,59 @@ const PAST_LARGEST: &[u8] = &[
     0x08, 0xff, 0xff, 0xff, 0xff, 0xff, 0xff, 0xff, 0xff, 0xff, 0x02,
 ];
 
-fn limits_of_fields(rt: &impl Abort) {
-    begins_with(rt, LAST_NUMBER, varint_field(536_870_911, 0, 0));
-    is_fault(rt, PAST_LAST_NUMBER, WireKind::BadFieldNumber);
-    begins_with(rt, LARGEST, varint_field(1, 0, u64::MAX));
-    is_fault(rt, PAST_LARGEST, WireKind::BadVarint);
-}
+const OF_PAST_LAST_NUMBER: WireFault = WireFault {
+    kind: WireKind::BadFieldNumber,
+    at: 0,
+};
+
+const OF_PAST_LARGEST: WireFault = WireFault {
+    kind: WireKind::BadVarint,
+    at: 0,
+};
+
+const CUT: WireFault = WireFault {
+    kind: WireKind::Truncated,
+    at: 0,
+};
+
+const OF_150: Field<'static> = Field {
+    number: 1,
+    at: 0,
+    value: FieldValue::Varint(150),
+};
+
+const OF_LAST_NUMBER: Field<'static> = Field {
+    number: 536_870_911,
+    at: 0,
+    value: FieldValue::Varint(0),
+};
+
+const OF_LARGEST: Field<'static> = Field {
+    number: 1,
+    at: 0,
+    value: FieldValue::Varint(u64::MAX),
+};
+
+const MESSAGES: &[Message<'static>] = &[
+    (b"\x08\x96\x01", &[Ok(Some(OF_150)), Ok(None), Ok(None)]),
+    (LAST_NUMBER, &[Ok(Some(OF_LAST_NUMBER))]),
+    (PAST_LAST_NUMBER, &[Err(OF_PAST_LAST_NUMBER)]),
+    (LARGEST, &[Ok(Some(OF_LARGEST))]),
+    (PAST_LARGEST, &[Err(OF_PAST_LARGEST)]),
+];
+
+const RUNS: &[Run<'static>] = &[
+    (
+        b"\x01\x80\x00\xac\x02",
+        &[Ok(Some(1)), Ok(Some(0)), Ok(Some(300)), Ok(None)],
+    ),
+    (b"\x80", &[Err(CUT), Err(CUT)]),
+];
 
 #[test]
 fn fields_and_packed(rt: HostRuntime) {
-    is_field(&rt, b"\x08\x96\x01", varint_field(1, 0, 150));
-    limits_of_fields(&rt);
-    are_numbers(&rt, b"\x01\x80\x00\xac\x02", &[1, 0, 300]);
-    is_cut_twice(&rt, b"\x80");
+    are_read(&rt, MESSAGES);
+    are_runs(&rt, RUNS);
 }
 
 // A length of 2^64-1.
@@ -108,9 +120,11 @@ const LONGEST: &[u8] = &[
     0x0a, 0xff, 0xff, 0xff, 0xff, 0xff, 0xff, 0xff, 0xff, 0xff, 0x01,
 ];
 
+const OF_LONGEST: &[Message<'static>] = &[(LONGEST, &[Err(CUT)])];
+
 #[test]
 fn greatest_length_and_least_index(rt: HostRuntime) {
-    is_fault(&rt, LONGEST, WireKind::Truncated);
+    are_read(&rt, OF_LONGEST);
 }
 
 // The encoding guide's string "testing" in field 2, the other wire types behind it, and then a group, whose
@@ -138,41 +152,50 @@ const FOUR: Field<'static> = Field {
     value: FieldValue::Four([9, 10, 11, 12]),
 };
 
-fn faults_twice(rt: &impl Abort, fields: &mut Fields<'_>, kind: WireKind, at: usize) {
-    faults(rt, fields, kind, at);
-    faults(rt, fields, kind, at);
-}
+const GROUP: WireFault = WireFault {
+    kind: WireKind::BadWireType,
+    at: 23,
+};
 
-fn are_wire_types(rt: &impl Abort, fields: &mut Fields<'_>) {
-    gives(rt, fields, STRING);
-    gives(rt, fields, EIGHT);
-    gives(rt, fields, FOUR);
-    faults_twice(rt, fields, WireKind::BadWireType, 23);
-}
+const OF_WIRE_TYPES: &[Message<'static>] = &[(
+    WIRE_TYPES,
+    &[
+        Ok(Some(STRING)),
+        Ok(Some(EIGHT)),
+        Ok(Some(FOUR)),
+        Err(GROUP),
+        Err(GROUP),
+    ],
+)];
 
 #[test]
 fn each_wire_type(rt: HostRuntime) {
-    are_wire_types(&rt, &mut Fields::over(WIRE_TYPES));
+    are_read(&rt, OF_WIRE_TYPES);
 }
 
-fn begins_at(rt: &impl Abort, fields: &Fields<'_>, at: Option<usize>) {
-    assert!(rt; fields.next_at() == at);
+/// Whether each of these fields, which stand in a message, begins where it says, and the rest of the message at `rest`.
+fn begin_at(fields: &mut Fields<'_>, wanted: &[Field<'_>], rest: Option<usize>) -> bool {
+    for field in wanted {
+        if fields.next_at() != Some(field.at) || fields.next() != Ok(Some(*field)) {
+            return false;
+        }
+    }
+    fields.next_at() == rest
 }
 
-fn begin_where_they_stand(rt: &impl Abort, fields: &mut Fields<'_>) {
-    begins_at(rt, fields, Some(0));
-    gives(rt, fields, STRING);
-    begins_at(rt, fields, Some(9));
-    gives(rt, fields, EIGHT);
-    begins_at(rt, fields, Some(18));
-    gives(rt, fields, FOUR);
-    begins_at(rt, fields, Some(23));
-}
+/// A message, its fields, and where its rest begins.
+type Beginnings<'a> = (&'a [u8], &'a [Field<'a>], Option<usize>);
+
+const BEGINNINGS: &[Beginnings<'static>] = &[
+    (WIRE_TYPES, &[STRING, EIGHT, FOUR], Some(23)),
+    (b"", &[], None),
+];
 
 #[test]
 fn where_fields_begin(rt: HostRuntime) {
-    begin_where_they_stand(&rt, &mut Fields::over(WIRE_TYPES));
-    begins_at(&rt, &Fields::over(b""), None);
+    for (message, wanted, rest) in BEGINNINGS {
+        assert!(rt; begin_at(&mut Fields::over(message), wanted, *rest));
+    }
 }
 
 #[test]
@@ -190,29 +213,35 @@ fn faults_are_written(rt: HostRuntime) -> Result<(), Fail> {
     Ok(())
 }
 
+fn is_first_of_the_page(field: Field<'_>) -> bool {
+    field.number == 1 && field.value == FieldValue::Varint(150)
+}
+
+const NUMBERS_OF_THE_PAGE: &[Result<Option<u64>, WireFault>] = &[
+    Ok(Some(5)),
+    Ok(Some(9)),
+    Ok(None),
+];
+
+fn is_second_of_the_page(field: Field<'_>) -> bool {
+    match field.value {
+        FieldValue::Bytes(run) => {
+            field.at == 3 && answers_numbers(&mut Packed::over(run), NUMBERS_OF_THE_PAGE)
+        }
+        _ => false,
+    }
+}
+
 /// The next field, which there is.
 fn next<'a>(rt: &impl Abort, fields: &mut Fields<'a>) -> Field<'a> {
     let field = fields.next().expect(rt, "no fault");
     field.expect(rt, "a field")
 }
 
-fn is_first_of_the_page(rt: &impl Abort, field: Field<'_>) {
-    assert!(rt; field.number == 1);
-    assert!(rt; field.value == FieldValue::Varint(150));
-}
-
-fn is_second_of_the_page(rt: &impl Abort, field: Field<'_>) {
-    assert!(rt; field.at == 3);
-    match field.value {
-        FieldValue::Bytes(run) => are_numbers(rt, run, &[5, 9]),
-        _ => assert!(rt; false, "a run of bytes"),
-    }
-}
-
 fn are_of_the_page(rt: &impl Abort, fields: &mut Fields<'_>) {
-    is_first_of_the_page(rt, next(rt, fields));
-    is_second_of_the_page(rt, next(rt, fields));
-    ends(rt, fields);
+    assert!(rt; is_first_of_the_page(next(rt, fields)));
+    assert!(rt; is_second_of_the_page(next(rt, fields)));
+    assert!(rt; fields.next() == Ok(None));
 }
 
 /// The lines of README.md.

@@ -3,6 +3,7 @@
 use std::alloc::AllocError;
 use std::fmt::Display;
 use std::process::Abort;
+use std::test::Fail;
 
 /// The text that was found is this.
 pub(super) fn is_text(rt: &impl Abort, found: &str, text: &str) {
@@ -17,5 +18,11 @@ pub(super) fn is_written<D: Display>(
 ) -> Result<(), AllocError> {
     let found = value.to_string(rt.alloc())?;
     is_text(rt, found.as_str(), text);
+    Ok(())
+}
+
+/// What was found holds.
+pub(super) fn holds(rt: &impl Abort, found: Result<bool, AllocError>) -> Result<(), Fail> {
+    assert!(rt; found?);
     Ok(())
 }

@@ -1,25 +1,26 @@
 //! Texts, and the samples and the ending that they have.
 
-use super::{Fault, clean, end_in_faults, reads_as};
+use super::{Fault, clean, end_in_faults, ends_in_fault, reads_as};
 use stack_core::ReadKind;
-use std::alloc::{AllocError, Global};
+use std::alloc::AllocError;
 use std::process::Abort;
 use std::test::Fail;
 
 /// Texts that end without a fault, the lines of their samples, and how many lines are ignored.
 type Clean<'a> = (&'a [u8], &'a [u8], u64);
 
-fn end_clean(rt: &(impl Abort + AllocGlobal), texts: &[Clean<'_>]) -> Result<(), AllocError> {
+fn end_clean(rt: &(impl Abort + AllocGlobal), texts: &[Clean<'_>]) -> Result<(), Fail> {
     for (text, lines, ignored) in texts {
         reads_as(rt, text, lines, clean(*ignored))?;
     }
     Ok(())
 }
 
+const EMPTY: &[Clean<'static>] = &[(b"", b"", 0)];
+
 #[test]
 fn empty_sources(rt: HostRuntime) -> Result<(), Fail> {
-    reads_as(&rt, b"", b"", clean(0))?;
-    Ok(())
+    end_clean(&rt, EMPTY)
 }
 
 const ODD: &[Clean<'static>] = &[
@@ -29,8 +30,7 @@ const ODD: &[Clean<'static>] = &[
 
 #[test]
 fn odd_lines(rt: HostRuntime) -> Result<(), Fail> {
-    end_clean(&rt, ODD)?;
-    Ok(())
+    end_clean(&rt, ODD)
 }
 
 const REFUSED_COUNTS: &[Fault<'static>] = &[
@@ -40,8 +40,7 @@ const REFUSED_COUNTS: &[Fault<'static>] = &[
 
 #[test]
 fn refused_counts(rt: HostRuntime) -> Result<(), Fail> {
-    end_in_faults(&rt, REFUSED_COUNTS)?;
-    Ok(())
+    end_in_faults(&rt, REFUSED_COUNTS)
 }
 
 const REFUSED_STARTS: &[Fault<'static>] = &[
@@ -49,32 +48,31 @@ const REFUSED_STARTS: &[Fault<'static>] = &[
     (b"\x1f\x8b", b"", ReadKind::Compressed, 1),
 ];
 
+const TWO_RETURNS: &[Clean<'static>] = &[(b"a 1\r\r\n", b"", 1)];
+
 #[test]
 fn returns_and_tabs(rt: HostRuntime) -> Result<(), Fail> {
-    reads_as(&rt, b"a 1\r\r\n", b"", clean(1))?;
-    end_in_faults(&rt, REFUSED_STARTS)?;
-    Ok(())
+    end_clean(&rt, TWO_RETURNS)?;
+    end_in_faults(&rt, REFUSED_STARTS)
 }
 
-/// A line of so many names `a` and the weight 1.
-fn deep_line(alloc: Global, names: usize) -> Result<Vec<u8>, AllocError> {
-    let mut line = Vec::new(alloc);
-    for _ in 0..names {
-        line.extend_from_slice(b"a;")?;
+/// Appends a line of so many names `a` and the weight 1.
+fn append_deep_line(line: &mut Vec<u8>, names: usize) -> Result<(), AllocError> {
+    line.push(b'a')?;
+    for _ in 1..names {
+        line.extend_from_slice(b";a")?;
     }
-    let _ = line.pop();
-    line.extend_from_slice(b" 1\n")?;
-    Ok(line)
+    line.extend_from_slice(b" 1\n")
 }
 
-fn deepest_is_read(rt: &(impl Abort + AllocGlobal)) -> Result<(), AllocError> {
-    let line = deep_line(rt.alloc(), 4_096)?;
-    reads_as(rt, line.as_slice(), line.as_slice(), clean(0))
+fn deepest_is_read(rt: &(impl Abort + AllocGlobal), line: &mut Vec<u8>) -> Result<(), AllocError> {
+    append_deep_line(line, 4_096)?;
+    reads_as(rt, line, line, clean(0))
 }
 
-fn deeper_is_fault(rt: &(impl Abort + AllocGlobal)) -> Result<(), AllocError> {
-    let line = deep_line(rt.alloc(), 4_097)?;
-    end_in_faults(rt, &[(&line, b"", ReadKind::TooDeep, 1)])
+fn deeper_is_fault(rt: &(impl Abort + AllocGlobal), line: &mut Vec<u8>) -> Result<(), AllocError> {
+    append_deep_line(line, 4_097)?;
+    ends_in_fault(rt, &(line, b"", ReadKind::TooDeep, 1))
 }
 
 /// The greatest weight, and one of nothing.
@@ -99,15 +97,16 @@ const TOO_HEAVY: &[Fault<'static>] = &[
 fn limits_of_weights_and_depth(rt: HostRuntime) -> Result<(), Fail> {
     reads_as(&rt, MOST, MOST, clean(0))?;
     end_in_faults(&rt, TOO_HEAVY)?;
-    deepest_is_read(&rt)?;
-    deeper_is_fault(&rt)?;
+    deepest_is_read(&rt, &mut Vec::new(rt.alloc()))?;
+    deeper_is_fault(&rt, &mut Vec::new(rt.alloc()))?;
     Ok(())
 }
 
+const COMPRESSED: &[Fault<'static>] = &[(b"\x1f\x8b\x08", b"", ReadKind::Compressed, 1)];
+
 #[test]
 fn compressed_and_cut(rt: HostRuntime) -> Result<(), Fail> {
-    end_in_faults(&rt, &[(b"\x1f\x8b\x08", b"", ReadKind::Compressed, 1)])?;
-    Ok(())
+    end_in_faults(&rt, COMPRESSED)
 }
 
 /// The text of a cut, its lines, and how many lines it has that are ignored.
@@ -133,20 +132,18 @@ const CUTS: &[Clean<'static>] = &[
 
 #[test]
 fn cut_folded_text(rt: HostRuntime) -> Result<(), Fail> {
-    end_clean(&rt, CUTS)?;
-    Ok(())
+    end_clean(&rt, CUTS)
 }
+
+const LOSSY: &[Clean<'static>] = &[(
+    b"a\xff;\xe2\x82A\xc0 1\n",
+    b"a\xef\xbf\xbd;\xef\xbf\xbdA\xef\xbf\xbd 1\n",
+    0,
+)];
 
 #[test]
 fn lossy_names(rt: HostRuntime) -> Result<(), Fail> {
-    let text = [0x61, 0xff, 0x3b, 0xe2, 0x82, 0x41, 0xc0, 0x20, 0x31, 0x0a];
-    reads_as(
-        &rt,
-        &text,
-        "a\u{fffd};\u{fffd}A\u{fffd} 1\n".as_bytes(),
-        clean(0),
-    )?;
-    Ok(())
+    end_clean(&rt, LOSSY)
 }
 
 const OF_KNOWN_HEADS: &[Fault<'static>] = &[
@@ -160,10 +157,11 @@ const OF_KNOWN_HEADS: &[Fault<'static>] = &[
     (b"a 1\na 1 2\n", b"a 1\n", ReadKind::TwoColumns, 2),
 ];
 
+const KNOWN_HEADS: &[Clean<'static>] = &[(b"a 1\na\na x\na 2\n", b"a 1\na 2\n", 2)];
+
 /// A line whose head is known has the faults that its count has.
 #[test]
 fn known_heads_have_faults(rt: HostRuntime) -> Result<(), Fail> {
     end_in_faults(&rt, OF_KNOWN_HEADS)?;
-    reads_as(&rt, b"a 1\na\na x\na 2\n", b"a 1\na 2\n", clean(2))?;
-    Ok(())
+    end_clean(&rt, KNOWN_HEADS)
 }

@@ -1,14 +1,14 @@
 //! What is told of a row that is new, and of one that was met before.
 
-use super::{Given, gives};
+use super::reader_over;
+use crate::tests::texts::holds;
 use folded_lines::FoldedReader;
 use stack_core::{RowReader, RowStep, SourceEnd, Text};
-use std::alloc::AllocError;
-use std::process::Abort;
+use std::alloc::{AllocError, Global};
 use std::test::Fail;
 
 /// What is told of a row.
-pub(super) enum Telling<'a> {
+enum Telling<'a> {
     /// New names, the numbers of all, and a weight.
     New(&'a [&'a str], &'a [usize], u64),
     /// The number of a row that was met before, and a weight.
@@ -63,24 +63,30 @@ fn tells(step: &RowStep, telling: &Telling<'_>) -> bool {
 }
 
 fn tells_next(
-    rt: &(impl Abort + AllocGlobal),
+    alloc: Global,
     reader: &mut FoldedReader,
     telling: &Telling<'_>,
-) -> Result<(), AllocError> {
-    let step = reader.next_row(rt.alloc())?;
-    assert!(rt; tells(&step, telling));
-    Ok(())
+) -> Result<bool, AllocError> {
+    let step = reader.next_row(alloc)?;
+    Ok(tells(&step, telling))
 }
 
-pub(super) fn tells_all(
-    rt: &(impl Abort + AllocGlobal),
+fn tells_all(
+    alloc: Global,
     reader: &mut FoldedReader,
     tellings: &[Telling<'_>],
-) -> Result<(), AllocError> {
+) -> Result<bool, AllocError> {
     for telling in tellings {
-        tells_next(rt, reader, telling)?;
+        if !tells_next(alloc, reader, telling)? {
+            return Ok(false);
+        }
     }
-    Ok(())
+    Ok(true)
+}
+
+/// Whether this is told of the rows of a text.
+fn are_told(alloc: Global, text: &[u8], tellings: &[Telling<'_>]) -> Result<bool, AllocError> {
+    tells_all(alloc, &mut reader_over(text.to_vec(alloc)?), tellings)
 }
 
 const TOLD: &[Telling<'static>] = &[
@@ -100,6 +106,5 @@ const TOLD: &[Telling<'static>] = &[
 #[test]
 fn rows_are_told_once(rt: HostRuntime) -> Result<(), Fail> {
     let text = b"a;b 1\na;b 2\nno count\nb;c;b 3\na;b; 4\r\nb;c;b\t5\n 6\na;b; 7\n 8\n";
-    gives(&rt, text, &Given::Tellings(TOLD))?;
-    Ok(())
+    holds(&rt, are_told(rt.alloc(), text, TOLD))
 }

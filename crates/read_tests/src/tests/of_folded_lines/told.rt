@@ -11,14 +11,32 @@ struct Told {
     rows: Vec<Listed<usize>>,
 }
 
-impl Told {
-    fn learn(&mut self, names: Vec<Text>) -> Result<(), AllocError> {
-        for name in names {
-            self.names.push(name)?;
-        }
-        Ok(())
-    }
+fn push_name(
+    alloc: Global,
+    stack: &mut Vec<String>,
+    name: Option<&Text>,
+) -> Result<(), AllocError> {
+    let name = match name {
+        Some(name) => name.get(),
+        None => "(no name)",
+    };
+    stack.push(String::from_str(alloc, name)?)?;
+    Ok(())
+}
 
+fn push_names(
+    alloc: Global,
+    stack: &mut Vec<String>,
+    names: &[Text],
+    numbers: &[usize],
+) -> Result<(), AllocError> {
+    for number in numbers {
+        push_name(alloc, stack, names.get(*number))?;
+    }
+    Ok(())
+}
+
+impl Told {
     /// The numbers of a row, and none of a row that was not told.
     fn numbers(&self, row: usize) -> &[usize] {
         match self.rows.get(row) {
@@ -27,28 +45,19 @@ impl Told {
         }
     }
 
-    /// Appends the name of a number that was told.
-    fn push_name(
+    fn append_row(
         &self,
         alloc: Global,
+        lines: &mut Vec<u8>,
         stack: &mut Vec<String>,
-        number: usize,
+        row: usize,
+        weight: u64,
     ) -> Result<(), AllocError> {
-        if let Some(name) = self.names.get(number) {
-            stack.push(String::from_str(alloc, name.get())?)?;
-        }
-        Ok(())
+        push_names(alloc, stack, &self.names, self.numbers(row))?;
+        append_line(alloc, lines, stack.as_slice(), weight)
     }
 
-    fn stack(&self, alloc: Global, row: usize) -> Result<Vec<String>, AllocError> {
-        let mut stack = Vec::new(alloc);
-        for number in self.numbers(row) {
-            self.push_name(alloc, &mut stack, *number)?;
-        }
-        Ok(stack)
-    }
-
-    /// Appends the line of a row. A row or a number that was not told leaves its names out.
+    /// Appends the line of a row. A row that was not told has no names.
     fn append(
         &self,
         alloc: Global,
@@ -56,71 +65,84 @@ impl Told {
         row: usize,
         weight: u64,
     ) -> Result<(), AllocError> {
-        let stack = self.stack(alloc, row)?;
-        append_line(alloc, lines, stack.as_slice(), weight)
+        self.append_row(alloc, lines, &mut Vec::new(alloc), row, weight)
     }
 
-    /// Learns a row that is told, and answers its number.
-    fn learn_row(
+    /// Learns a row that is told, and appends its line.
+    fn learn(
         &mut self,
+        alloc: Global,
+        lines: &mut Vec<u8>,
         names: Listed<Text>,
         frames: Listed<usize>,
-    ) -> Result<usize, AllocError> {
+        weight: u64,
+    ) -> Result<(), AllocError> {
         let row = self.rows.len();
         self.rows.push(frames)?;
-        self.learn(names.into_plain())?;
-        Ok(row)
+        self.names.append(&mut names.into_plain())?;
+        self.append(alloc, lines, row, weight)
     }
 
-    /// Learns what a step tells and appends its line, or answers the ending.
+    /// Learns what a step tells and appends its line, or keeps the ending.
     fn append_step(
         &mut self,
         alloc: Global,
         lines: &mut Vec<u8>,
         step: RowStep,
-    ) -> Result<Option<SourceEnd>, AllocError> {
+        end: &mut Option<SourceEnd>,
+    ) -> Result<(), AllocError> {
         match step {
             RowStep::New {
                 names,
                 frames,
                 weight,
-            } => {
-                let row = self.learn_row(names, frames)?;
-                self.append(alloc, lines, row, weight)?;
+            } => self.learn(alloc, lines, names, frames, weight),
+            RowStep::Again { row, weight } => self.append(alloc, lines, row, weight),
+            RowStep::End(ending) => {
+                *end = Some(ending);
+                Ok(())
             }
-            RowStep::Again { row, weight } => self.append(alloc, lines, row, weight)?,
-            RowStep::End(ending) => return Ok(Some(ending)),
         }
-        Ok(None)
     }
-}
 
-/// Appends the rows that are left, one a line, and answers the ending. Each line is written of what was told so far.
-fn read_rows_on(
-    alloc: Global,
-    reader: &mut FoldedReader,
-    told: &mut Told,
-    lines: &mut Vec<u8>,
-) -> Result<Option<SourceEnd>, AllocError> {
-    for _ in 0..100 {
-        let step = reader.next_row(alloc)?;
-        let ending = told.append_step(alloc, lines, step)?;
-        if ending.is_some() {
-            return Ok(ending);
-        }
+    fn append_next(
+        &mut self,
+        alloc: Global,
+        reader: &mut FoldedReader,
+        lines: &mut Vec<u8>,
+        end: &mut Option<SourceEnd>,
+    ) -> Result<(), AllocError> {
+        self.append_step(alloc, lines, reader.next_row(alloc)?, end)
     }
-    Ok(None)
+
+    /// Appends the rows that are left, one a line, and keeps the ending. Each line is written of what was told so far.
+    fn append_all(
+        &mut self,
+        alloc: Global,
+        reader: &mut FoldedReader,
+        lines: &mut Vec<u8>,
+        end: &mut Option<SourceEnd>,
+    ) -> Result<(), AllocError> {
+        for _ in 0..100 {
+            if end.is_some() {
+                return Ok(());
+            }
+            self.append_next(alloc, reader, lines, end)?;
+        }
+        Ok(())
+    }
 }
 
 /// The same of a reader that told no row before.
-pub(super) fn read_rows(
+pub(super) fn append_rows(
     alloc: Global,
     reader: &mut FoldedReader,
     lines: &mut Vec<u8>,
-) -> Result<Option<SourceEnd>, AllocError> {
+    end: &mut Option<SourceEnd>,
+) -> Result<(), AllocError> {
     let mut told = Told {
         names: Vec::new(alloc),
         rows: Vec::new(alloc),
     };
-    read_rows_on(alloc, reader, &mut told, lines)
+    told.append_all(alloc, reader, lines, end)
 }
