@@ -6,6 +6,7 @@ mod told;
 
 use super::texts::holds;
 use folded_lines::{FoldedReader, append_line, append_pair_line};
+use rows::{Telling, tells_all};
 use stack_core::{Names, ReadFault, ReadKind, SampleReader, SourceEnd, Step};
 use std::alloc::{AllocError, Global};
 use std::process::Abort;
@@ -220,13 +221,9 @@ fn ends_thrice(alloc: Global, reader: &mut FoldedReader) -> Result<bool, AllocEr
     Ok(true)
 }
 
-fn text_ends_thrice(alloc: Global, text: &[u8]) -> Result<bool, AllocError> {
-    ends_thrice(alloc, &mut reader_over(text.to_vec(alloc)?))
-}
-
 #[test]
 fn ending_again(rt: HostRuntime) -> Result<(), Fail> {
-    holds(&rt, text_ends_thrice(rt.alloc(), b"x\n"))
+    holds(&rt, text_answers(rt.alloc(), b"x\n", &Asked::EndsThrice))
 }
 
 fn append_two(
@@ -249,17 +246,38 @@ fn two_are(
     Ok(found.as_slice() == lines && ends(alloc, reader)?)
 }
 
-fn two_are_read(alloc: Global, text: &[u8], lines: &[u8]) -> Result<bool, AllocError> {
-    let mut reader = reader_over(text.to_vec(alloc)?);
-    two_are(alloc, &mut reader, &mut Vec::new(alloc), lines)
+/// What a reader is asked for one step after another.
+enum Asked<'a> {
+    /// Rows of which this is told.
+    Tellings(&'a [Telling<'a>]),
+    /// No sample, and its ending again and again.
+    EndsThrice,
+    /// Two samples, which are these lines, and then its ending.
+    Two(&'a [u8]),
 }
+
+fn answers(
+    alloc: Global,
+    reader: &mut FoldedReader,
+    asked: &Asked<'_>,
+) -> Result<bool, AllocError> {
+    match asked {
+        Asked::Tellings(tellings) => tells_all(alloc, reader, tellings),
+        Asked::EndsThrice => ends_thrice(alloc, reader),
+        Asked::Two(lines) => two_are(alloc, reader, &mut Vec::new(alloc), lines),
+    }
+}
+
+/// Whether a reader of a text answers so.
+fn text_answers(alloc: Global, text: &[u8], asked: &Asked<'_>) -> Result<bool, AllocError> {
+    answers(alloc, &mut reader_over(text.to_vec(alloc)?), asked)
+}
+
+const TWO: Asked<'static> = Asked::Two(b"main;parse 5\nmain 2\n");
 
 /// The lines of README.md.
 #[test]
 fn example_of_the_page(rt: HostRuntime) -> Result<(), Fail> {
     let text = b"main;parse 5\nno count\nmain 2\n";
-    holds(
-        &rt,
-        two_are_read(rt.alloc(), text, b"main;parse 5\nmain 2\n"),
-    )
+    holds(&rt, text_answers(rt.alloc(), text, &TWO))
 }

@@ -65,18 +65,21 @@ fn append_deep_line(line: &mut Vec<u8>, names: usize) -> Result<(), AllocError> 
     line.extend_from_slice(b" 1\n")
 }
 
+/// The deepest line is read, and one that is deeper is a fault.
 fn deepest_is_read(rt: &(impl Abort + AllocGlobal), line: &mut Vec<u8>) -> Result<(), AllocError> {
     append_deep_line(line, 4_096)?;
-    reads_as(rt, line, line, clean(0))
-}
-
-fn deeper_is_fault(rt: &(impl Abort + AllocGlobal), line: &mut Vec<u8>) -> Result<(), AllocError> {
+    reads_as(rt, line, line, clean(0))?;
+    line.clear();
     append_deep_line(line, 4_097)?;
     ends_in_fault(rt, &(line, b"", ReadKind::TooDeep, 1))
 }
 
 /// The greatest weight, and one of nothing.
-const MOST: &[u8] = b"a 72057594037927935\nb 0\n";
+const HEAVIEST: &[Clean<'static>] = &[(
+    b"a 72057594037927935\nb 0\n",
+    b"a 72057594037927935\nb 0\n",
+    0,
+)];
 
 const TOO_HEAVY: &[Fault<'static>] = &[
     (
@@ -95,11 +98,9 @@ const TOO_HEAVY: &[Fault<'static>] = &[
 
 #[test]
 fn limits_of_weights_and_depth(rt: HostRuntime) -> Result<(), Fail> {
-    reads_as(&rt, MOST, MOST, clean(0))?;
-    end_in_faults(&rt, TOO_HEAVY)?;
     deepest_is_read(&rt, &mut Vec::new(rt.alloc()))?;
-    deeper_is_fault(&rt, &mut Vec::new(rt.alloc()))?;
-    Ok(())
+    end_clean(&rt, HEAVIEST)?;
+    end_in_faults(&rt, TOO_HEAVY)
 }
 
 const COMPRESSED: &[Fault<'static>] = &[(b"\x1f\x8b\x08", b"", ReadKind::Compressed, 1)];

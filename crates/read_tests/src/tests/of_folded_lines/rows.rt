@@ -1,6 +1,6 @@
 //! What is told of a row that is new, and of one that was met before.
 
-use super::reader_over;
+use super::{Asked, text_answers};
 use crate::tests::texts::holds;
 use folded_lines::FoldedReader;
 use stack_core::{RowReader, RowStep, SourceEnd, Text};
@@ -8,7 +8,7 @@ use std::alloc::{AllocError, Global};
 use std::test::Fail;
 
 /// What is told of a row.
-enum Telling<'a> {
+pub(super) enum Telling<'a> {
     /// New names, the numbers of all, and a weight.
     New(&'a [&'a str], &'a [usize], u64),
     /// The number of a row that was met before, and a weight.
@@ -71,7 +71,7 @@ fn tells_next(
     Ok(tells(&step, telling))
 }
 
-fn tells_all(
+pub(super) fn tells_all(
     alloc: Global,
     reader: &mut FoldedReader,
     tellings: &[Telling<'_>],
@@ -82,11 +82,6 @@ fn tells_all(
         }
     }
     Ok(true)
-}
-
-/// Whether this is told of the rows of a text.
-fn are_told(alloc: Global, text: &[u8], tellings: &[Telling<'_>]) -> Result<bool, AllocError> {
-    tells_all(alloc, &mut reader_over(text.to_vec(alloc)?), tellings)
 }
 
 const TOLD: &[Telling<'static>] = &[
@@ -106,5 +101,5 @@ const TOLD: &[Telling<'static>] = &[
 #[test]
 fn rows_are_told_once(rt: HostRuntime) -> Result<(), Fail> {
     let text = b"a;b 1\na;b 2\nno count\nb;c;b 3\na;b; 4\r\nb;c;b\t5\n 6\na;b; 7\n 8\n";
-    holds(&rt, are_told(rt.alloc(), text, TOLD))
+    holds(&rt, text_answers(rt.alloc(), text, &Asked::Tellings(TOLD)))
 }
