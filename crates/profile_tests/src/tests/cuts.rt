@@ -6,8 +6,11 @@ use super::files::{
     SMALLEST_BYTES, TABLE_FAULTS, TWO_LINES, UNPACKED,
 };
 use super::messages::{Part, joined};
-use super::reading::{Asked, LINES, OfReader, PLAIN, Reading, is_told, read_so, reads_as};
-use std::alloc::AllocError;
+use super::reading::{
+    Asked, ENDLESS, LINES, OfReader, PLAIN, Reading, append_samples, is_told, read_so, reads_as,
+};
+use stack_core::SampleReader;
+use std::alloc::{AllocError, Global};
 use std::process::Abort;
 use std::test::Fail;
 
@@ -66,6 +69,24 @@ fn compressed_and_cut(rt: HostRuntime) -> Result<(), Fail> {
     read_so(&rt, COMPRESSED)
 }
 
+/// Whether the text of samples has an ending behind them, which came again. A line of a sample ends in a line feed.
+fn has_ending(text: &str) -> bool {
+    !text.is_empty() && !text.ends_with("\n") && !text.ends_with(ENDLESS)
+}
+
+pub(super) fn append_whether_it_ends<R: SampleReader>(
+    alloc: Global,
+    reader: &mut R,
+    text: &mut String,
+) -> Result<(), AllocError> {
+    append_samples(alloc, reader, text)?;
+    let ends = has_ending(text.as_str());
+    text.clear();
+    text.push_str(if ends { "ends" } else { ENDLESS })
+}
+
+const ENDS: Asked = Asked::Reader(OfReader::Ends);
+
 /// Each front of a file, read with lines, ends, and its ending comes again.
 fn each_front_ends(rt: &(impl Abort + AllocGlobal), file: &[u8]) -> Result<(), AllocError> {
     for len in 0..=file.len() {
@@ -74,8 +95,6 @@ fn each_front_ends(rt: &(impl Abort + AllocGlobal), file: &[u8]) -> Result<(), A
     }
     Ok(())
 }
-
-const ENDS: Asked = Asked::Reader(OfReader::Ends);
 
 /// The same of a file that is given in parts.
 fn each_front_of_parts_ends(

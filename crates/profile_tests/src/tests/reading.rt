@@ -1,5 +1,6 @@
 //! What is told of a file, as a text.
 
+use super::cuts::append_whether_it_ends;
 use super::depth::append_depth;
 use super::lending::{OfTables, append_by_tables};
 use super::messages::{Part, joined};
@@ -77,7 +78,7 @@ pub(super) const NEW_NAMES: Asked = Asked::Reader(OfReader::Rows(OfRows::NewName
 pub(super) const VALUE: Asked = Asked::Tables(OfTables::Value);
 
 /// What stands in the place of an ending that doesn't come, or not again.
-const ENDLESS: &str = "no ending";
+pub(super) const ENDLESS: &str = "no ending";
 
 /// The ending that a reader gave, if it did, and whether it was asked again.
 pub(super) type Ended = Option<(SourceEnd, bool)>;
@@ -147,7 +148,7 @@ pub(super) fn append_next<R: SampleReader>(
     append_step(text, ended, &step)
 }
 
-fn append_samples<R: SampleReader>(
+pub(super) fn append_samples<R: SampleReader>(
     alloc: Global,
     reader: &mut R,
     text: &mut String,
@@ -160,22 +161,6 @@ fn append_samples<R: SampleReader>(
         append_next(alloc, reader, text, &mut ended)?;
     }
     Ok(())
-}
-
-/// Whether the text of samples has an ending behind them, which came again. A line of a sample ends in a line feed.
-fn has_ending(text: &str) -> bool {
-    !text.is_empty() && !text.ends_with("\n") && !text.ends_with(ENDLESS)
-}
-
-fn append_whether_it_ends<R: SampleReader>(
-    alloc: Global,
-    reader: &mut R,
-    text: &mut String,
-) -> Result<(), AllocError> {
-    append_samples(alloc, reader, text)?;
-    let ends = has_ending(text.as_str());
-    text.clear();
-    text.push_str(if ends { "ends" } else { ENDLESS })
 }
 
 fn append_of_reader(
