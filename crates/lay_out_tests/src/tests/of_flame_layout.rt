@@ -1,4 +1,7 @@
 //! Worked examples.
+ghost use Rattle.std.specs.Prelude.{◌<◌, ◌^◌};
+ghost use Rattle.merged_stacks.specs.Merged.{all_samples};
+ghost use Rattle.merged_stacks.specs.Timeline.{samples_of, timeline, total_weight};
 
 pub(super) mod charts;
 pub(super) mod comparisons;
@@ -6,12 +9,12 @@ pub(super) mod drawn;
 pub(super) mod merged;
 pub(super) mod trees;
 
-use super::sources::{Lines, assert_light};
-use super::told::{Telling, Told, are_told};
+use super::sources::Lines;
+use super::told::{OfChart, Telling, Told, are_told};
 use flame_layout::{FlameBox, PlacedBox, Width, chart_boxes, place};
 use merged_stacks::total_weight;
 use stack_core::SourceList;
-use std::alloc::AllocError;
+use std::alloc::{AllocError, Global};
 use std::process::Abort;
 use std::test::Fail;
 
@@ -81,24 +84,27 @@ pub(super) fn pixels(rt: &impl Abort, count: u32) -> Width {
 }
 
 pub(super) fn append_chart(
-    rt: &(impl Abort + AllocGlobal),
+    alloc: Global,
     text: &mut String,
     lists: &[SourceList],
-) -> Result<(), AllocError> {
-    assert_light(rt, lists, 1_000);
-    let boxes = chart_boxes(rt.alloc(), lists)?;
+) -> Result<(), AllocError>
+    requires { total_weight (timeline (samples_of lists.now)) < 2 ^ 64 }
+{
+    let boxes = chart_boxes(alloc, lists)?;
     append_boxes(text, &boxes)
 }
 
 pub(super) fn append_placed_chart(
-    rt: &(impl Abort + AllocGlobal),
+    alloc: Global,
     text: &mut String,
     lists: &[SourceList],
-    width: u32,
-) -> Result<(), AllocError> {
-    assert_light(rt, lists, 1_000);
-    let boxes = chart_boxes(rt.alloc(), lists)?;
-    let placed = place(rt.alloc(), boxes, total_weight(lists), pixels(rt, width))?;
+    width: Width,
+) -> Result<(), AllocError>
+    requires merged { total_weight (all_samples (samples_of lists.now)) < 2 ^ 64 }
+    requires drawn { total_weight (timeline (samples_of lists.now)) < 2 ^ 64 }
+{
+    let boxes = chart_boxes(alloc, lists)?;
+    let placed = place(alloc, boxes, total_weight(lists), width)?;
     append_placed_boxes(text, &placed)
 }
 
@@ -109,7 +115,7 @@ const RUNS: Lines<'static> = &[(&["a", "b"], 1), (&["a", "c"], 1), (&["a", "b"],
 const THREE: Lines<'static> = &[(&["a"], 1), (&["c"], 0), (&["b"], 2)];
 
 const CHART_OF_RUNS: &[Telling<'static>] = &[(
-    Told::Chart,
+    Told::Chart(OfChart::Boxes),
     &[RUNS],
     "(0 all 0 3 0)(1 a 0 3 0)(2 b 0 1 1)(2 c 1 1 1)(2 b 2 1 1)",
 )];
@@ -120,7 +126,7 @@ fn runs_of_a_chart(rt: HostRuntime) -> Result<(), Fail> {
 }
 
 const OTHER_PARENTS: &[Telling<'static>] = &[(
-    Told::Chart,
+    Told::Chart(OfChart::Boxes),
     &[&[(&["a", "x"], 1), (&["b", "x"], 1)]],
     "(0 all 0 2 0)(1 a 0 1 0)(2 x 0 1 1)(1 b 1 1 0)(2 x 1 1 1)",
 )];
@@ -131,7 +137,7 @@ fn runs_under_other_parents(rt: HostRuntime) -> Result<(), Fail> {
 }
 
 const EDGES: &[Telling<'static>] = &[(
-    Told::PlacedChart(10),
+    Told::Chart(OfChart::Placed(10)),
     &[THREE],
     "(0 all 0 3 0 0 10)(1 a 0 1 1 0 3)(1 b 1 2 2 3 10)",
 )];
@@ -141,7 +147,7 @@ fn edges_of_three_lines(rt: HostRuntime) -> Result<(), Fail> {
     are_told(&rt, EDGES)
 }
 
-const WEIGHTLESS: &[Telling<'static>] = &[(Told::Chart, &[&[(&["a"], 0)]], "")];
+const WEIGHTLESS: &[Telling<'static>] = &[(Told::Chart(OfChart::Boxes), &[&[(&["a"], 0)]], "")];
 
 #[test]
 fn empty_timeline(rt: HostRuntime) -> Result<(), Fail> {

@@ -20,18 +20,22 @@ use std::thread::Threads;
 
 /// What is told of sources.
 pub enum Told {
-    /// The boxes of their chart.
-    Chart,
-    /// The same, in an image of this width.
-    PlacedChart(u32),
-    /// The boxes of their chart, with names that the lists lend.
-    DrawnChart,
-    /// The same boxes, kept in little memory.
-    CompactChart,
+    Chart(OfChart),
     /// The boxes of the tree of one source, in an image of this width.
     PlacedGraph(u32),
     Merged(OfMerged),
     Two(OfTwo),
+}
+
+/// What is told of the chart of sources.
+pub enum OfChart {
+    Boxes,
+    /// The same, in an image of this width.
+    Placed(u32),
+    /// The boxes, with names that the lists lend.
+    Drawn,
+    /// The same boxes, kept in little memory.
+    Compact,
 }
 
 /// What is told of the merged stacks of sources.
@@ -66,6 +70,23 @@ pub enum OfTwo {
     RowBoxes(u64, u32),
     /// The same boxes, drawn without the rows.
     Boxes(u64, u32),
+}
+
+fn append_of_chart(
+    rt: &(impl Abort + AllocGlobal),
+    text: &mut String,
+    told: &OfChart,
+    lists: &[SourceList],
+) -> Result<(), AllocError> {
+    assert_light(rt, lists, 1_000);
+    match told {
+        OfChart::Boxes => append_chart(rt.alloc(), text, lists),
+        OfChart::Placed(width) => {
+            append_placed_chart(rt.alloc(), text, lists, pixels(rt, *width))
+        }
+        OfChart::Drawn => append_drawn_chart(rt.alloc(), text, lists),
+        OfChart::Compact => append_compact_chart(rt.alloc(), text, lists),
+    }
 }
 
 fn append_merged(
@@ -129,10 +150,7 @@ fn append_told(
     lists: &[SourceList],
 ) -> Result<(), AllocError> {
     match told {
-        Told::Chart => append_chart(rt, text, lists),
-        Told::PlacedChart(width) => append_placed_chart(rt, text, lists, *width),
-        Told::DrawnChart => append_drawn_chart(rt, text, lists),
-        Told::CompactChart => append_compact_chart(rt, text, lists),
+        Told::Chart(told) => append_of_chart(rt, text, told, lists),
         Told::PlacedGraph(width) => append_placed_graph(rt, text, lists, *width),
         Told::Merged(told) => append_of_merged(rt, text, told, lists),
         Told::Two(told) => append_of_two(rt, text, told, lists),

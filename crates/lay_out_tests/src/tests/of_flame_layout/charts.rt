@@ -1,12 +1,12 @@
 //! Worked examples of charts in little memory.
+ghost use Rattle.std.specs.Prelude.{◌<◌, ◌^◌};
+ghost use Rattle.merged_stacks.specs.Timeline.{samples_of, timeline, total_weight};
 
 use super::{RUNS, append_box};
-use crate::tests::sources::assert_light;
-use crate::tests::told::{Telling, Told, are_told};
+use crate::tests::told::{OfChart, Telling, Told, are_told};
 use flame_layout::Chart;
 use stack_core::SourceList;
-use std::alloc::AllocError;
-use std::process::Abort;
+use std::alloc::{AllocError, Global};
 use std::test::Fail;
 
 /// The boxes of a chart, one asked for after another.
@@ -26,12 +26,13 @@ fn append_compact(text: &mut String, chart: &Chart<'_>) -> Result<(), AllocError
 }
 
 pub(in crate::tests) fn append_compact_chart(
-    rt: &(impl Abort + AllocGlobal),
+    alloc: Global,
     text: &mut String,
     lists: &[SourceList],
-) -> Result<(), AllocError> {
-    assert_light(rt, lists, 1_000);
-    match Chart::of(rt.alloc(), lists) {
+) -> Result<(), AllocError>
+    requires { total_weight (timeline (samples_of lists.now)) < 2 ^ 64 }
+{
+    match Chart::of(alloc, lists) {
         Ok(chart) => append_compact(text, &chart),
         Err(refused) => Err(refused),
     }
@@ -39,17 +40,21 @@ pub(in crate::tests) fn append_compact_chart(
 
 const OF_ONE: &[Telling<'static>] = &[
     (
-        Told::CompactChart,
+        Told::Chart(OfChart::Compact),
         &[RUNS],
         "(0 all 0 3 0)(1 a 0 3 0)(2 b 0 1 1)(2 c 1 1 1)(2 b 2 1 1)",
     ),
     (
-        Told::CompactChart,
+        Told::Chart(OfChart::Compact),
         &[&[(&["a", "x"], 1), (&["b", "x"], 1)]],
         "(0 all 0 2 0)(1 a 0 1 0)(2 x 0 1 1)(1 b 1 1 0)(2 x 1 1 1)",
     ),
-    (Told::CompactChart, &[&[(&[], 2)]], "(0 all 0 2 2)"),
-    (Told::CompactChart, &[&[(&["a"], 0)]], "no boxes"),
+    (
+        Told::Chart(OfChart::Compact),
+        &[&[(&[], 2)]],
+        "(0 all 0 2 2)",
+    ),
+    (Told::Chart(OfChart::Compact), &[&[(&["a"], 0)]], "no boxes"),
 ];
 
 #[test]
@@ -59,17 +64,17 @@ fn compact_chart(rt: HostRuntime) -> Result<(), Fail> {
 
 const OF_TWO: &[Telling<'static>] = &[
     (
-        Told::CompactChart,
+        Told::Chart(OfChart::Compact),
         &[&[(&["a", "b"], 2)], &[(&["a", "b"], 1), (&["a"], 1)]],
         "(0 all 0 4 0)(1 a 0 4 1)(2 b 0 3 3)",
     ),
     (
-        Told::CompactChart,
+        Told::Chart(OfChart::Compact),
         &[&[(&["a", "b"], 1)], &[(&["c", "b"], 1)]],
         "(0 all 0 2 0)(1 a 0 1 0)(2 b 0 1 1)(1 c 1 1 0)(2 b 1 1 1)",
     ),
     (
-        Told::CompactChart,
+        Told::Chart(OfChart::Compact),
         &[&[(&["a"], 1), (&["x"], 0)], &[], &[(&["a"], 1)]],
         "(0 all 0 2 0)(1 a 0 2 2)",
     ),

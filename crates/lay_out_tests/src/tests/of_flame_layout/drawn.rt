@@ -1,22 +1,23 @@
 //! Boxes of worked examples that borrow their names.
+ghost use Rattle.std.specs.Prelude.{◌<◌, ◌^◌};
+ghost use Rattle.merged_stacks.specs.Timeline.{samples_of, timeline, total_weight};
 
 use super::{RUNS, THREE, append_boxes, append_edges};
-use crate::tests::sources::assert_light;
-use crate::tests::told::{OfMerged, Telling, Told, are_told};
+use crate::tests::told::{OfChart, OfMerged, Telling, Told, are_told};
 use flame_layout::{FlameBox, MergedStacks, Width, draw_chart, draw_merged, edges};
 use stack_core::SourceList;
 use std::alloc::{AllocError, Global};
-use std::process::Abort;
 use std::test::Fail;
 
 /// The boxes of a chart.
 pub(in crate::tests) fn append_drawn_chart(
-    rt: &(impl Abort + AllocGlobal),
+    alloc: Global,
     text: &mut String,
     lists: &[SourceList],
-) -> Result<(), AllocError> {
-    assert_light(rt, lists, 1_000);
-    let boxes = draw_chart(rt.alloc(), lists)?;
+) -> Result<(), AllocError>
+    requires { total_weight (timeline (samples_of lists.now)) < 2 ^ 64 }
+{
+    let boxes = draw_chart(alloc, lists)?;
     append_boxes(text, &boxes)
 }
 
@@ -80,7 +81,7 @@ pub(in crate::tests) fn append_drawn_edges(
 }
 
 const CHART: &[Telling<'static>] = &[(
-    Told::DrawnChart,
+    Told::Chart(OfChart::Drawn),
     &[RUNS],
     "(0 all 0 3 0)(1 a 0 3 0)(2 b 0 1 1)(2 c 1 1 1)(2 b 2 1 1)",
 )];
