@@ -8,9 +8,10 @@ mod names;
 mod page;
 mod spellings;
 
+use super::holds;
 use call_tree::{CallTree, FrameTable};
-use growths::{new_table_goes_on, tree_goes_on};
-use std::alloc::AllocError;
+use growths::go_on;
+use std::alloc::{AllocError, Global};
 use std::process::Abort;
 use std::test::Fail;
 
@@ -25,34 +26,25 @@ fn add(rt: &impl Abort, tree: &mut CallTree, ids: &[usize], weight: u64) -> Resu
 }
 
 /// The total and the weight of its own at a path.
-fn weights_are(rt: &impl Abort, tree: &CallTree, path: &[usize], total: u128, own: u128) {
-    assert!(rt; tree.total(path) == total && tree.own(path) == own);
+fn weights_are(tree: &CallTree, path: &[usize], total: u128, own: u128) -> bool {
+    tree.total(path) == total && tree.own(path) == own
 }
 
-/// Interns names, which get these numbers.
+/// An empty table gives names these numbers.
 fn numbers_are(
-    rt: &impl Abort,
     table: &mut FrameTable,
     names: &[(&str, usize)],
     len: usize,
-) -> Result<(), Fail> {
-    for (name, number) in names {
-        let found = table.intern(name)?;
-        assert!(rt; found == *number);
+) -> Result<bool, AllocError> {
+    if !table.is_empty() {
+        return Ok(false);
     }
-    assert!(rt; table.len() == len);
-    Ok(())
-}
-
-/// A new table gives names these numbers.
-fn numbers_names(
-    rt: &(impl Abort + AllocGlobal),
-    names: &[(&str, usize)],
-    len: usize,
-) -> Result<(), Fail> {
-    let mut table = FrameTable::new(rt.alloc());
-    assert!(rt; table.is_empty());
-    numbers_are(rt, &mut table, names, len)
+    for (name, number) in names {
+        if table.intern(name)? != *number {
+            return Ok(false);
+        }
+    }
+    Ok(table.len() == len)
 }
 
 const NUMBERED: &[(&str, usize)] = &[
@@ -67,7 +59,8 @@ const NUMBERED: &[(&str, usize)] = &[
 
 #[test]
 fn table(rt: HostRuntime) -> Result<(), Fail> {
-    numbers_names(&rt, NUMBERED, 5)
+    let table = &mut FrameTable::new(rt.alloc());
+    holds(&rt, numbers_are(table, NUMBERED, 5))
 }
 
 fn has_name(table: &FrameTable, number: usize, name: &str) -> bool {
@@ -75,24 +68,18 @@ fn has_name(table: &FrameTable, number: usize, name: &str) -> bool {
 }
 
 /// Interns names, which get their places as numbers, and no others are known.
-fn intern_all(rt: &impl Abort, table: &mut FrameTable, names: &[&str]) -> Result<(), AllocError> {
+fn intern_all(table: &mut FrameTable, names: &[&str]) -> Result<bool, AllocError> {
     for (number, name) in names.iter().enumerate() {
-        let found = table.intern(name)?;
-        assert!(rt; found == number && has_name(table, number, name));
+        if table.intern(name)? != number || !has_name(table, number, name) {
+            return Ok(false);
+        }
     }
-    assert!(rt; table.len() == names.len());
-    Ok(())
+    Ok(table.len() == names.len())
 }
 
-fn children_are(
-    rt: &impl Abort,
-    tree: &CallTree,
-    path: &[usize],
-    numbers: &[usize],
-) -> Result<(), AllocError> {
+fn children_are(tree: &CallTree, path: &[usize], numbers: &[usize]) -> Result<bool, AllocError> {
     let children = tree.children(path)?;
-    assert!(rt; children.as_slice() == numbers);
-    Ok(())
+    Ok(children.as_slice() == numbers)
 }
 
 /// What a tree says of a path: the total, the weight of its own, and the numbers of its children.
@@ -105,22 +92,23 @@ struct Growth<'a> {
     places: &'a [Place<'a>],
 }
 
-fn has_places(rt: &impl Abort, tree: &CallTree, places: &[Place<'_>]) -> Result<(), AllocError> {
-    for (path, total, own, children) in places {
-        weights_are(rt, tree, path, *total, *own);
-        children_are(rt, tree, path, children)?;
+fn is_place(tree: &CallTree, place: &Place<'_>) -> Result<bool, AllocError> {
+    let (path, total, own, children) = place;
+    Ok(children_are(tree, path, children)? && weights_are(tree, path, *total, *own))
+}
+
+fn is_grown(tree: &CallTree, growth: &Growth<'_>) -> Result<bool, AllocError> {
+    for place in growth.places {
+        if !is_place(tree, place)? {
+            return Ok(false);
+        }
     }
-    Ok(())
+    Ok(tree.len() == growth.len)
 }
 
-fn is_grown(rt: &impl Abort, tree: &CallTree, growth: &Growth<'_>) -> Result<(), AllocError> {
-    assert!(rt; tree.len() == growth.len);
-    has_places(rt, tree, growth.places)
-}
-
-fn copy_is_grown(rt: &impl Abort, tree: &CallTree, growth: &Growth<'_>) -> Result<(), AllocError> {
+fn copy_is_grown(tree: &CallTree, growth: &Growth<'_>) -> Result<bool, AllocError> {
     let copy = tree.copy()?;
-    is_grown(rt, &copy, growth)
+    is_grown(&copy, growth)
 }
 
 fn add_all(
@@ -135,16 +123,14 @@ fn add_all(
 }
 
 /// A tree and its copy grow so.
-fn grow(rt: &impl Abort, tree: &mut CallTree, growth: &Growth<'_>) -> Result<(), Fail> {
+fn grows(rt: &impl Abort, tree: &mut CallTree, growth: &Growth<'_>) -> Result<bool, AllocError> {
     add_all(rt, tree, growth.weights)?;
-    is_grown(rt, tree, growth)?;
-    copy_is_grown(rt, tree, growth)?;
-    Ok(())
+    Ok(is_grown(tree, growth)? && copy_is_grown(tree, growth)?)
 }
 
-fn new_tree_grows(rt: &(impl Abort + AllocGlobal), growth: &Growth<'_>) -> Result<(), Fail> {
-    let mut tree = CallTree::new(rt.alloc())?;
-    grow(rt, &mut tree, growth)
+fn new_tree_grows(rt: &impl Abort, alloc: Global, growth: &Growth<'_>) -> Result<bool, AllocError> {
+    let mut tree = CallTree::new(alloc)?;
+    grows(rt, &mut tree, growth)
 }
 
 /// The tree of the worked example.
@@ -165,8 +151,9 @@ const WORKED_NUMBERS: &[(&str, usize)] = &[("a", 0), ("b", 1), ("a", 0)];
 
 #[test]
 fn table_and_tree(rt: HostRuntime) -> Result<(), Fail> {
-    numbers_names(&rt, WORKED_NUMBERS, 2)?;
-    new_tree_grows(&rt, &WORKED)
+    let table = &mut FrameTable::new(rt.alloc());
+    holds(&rt, numbers_are(table, WORKED_NUMBERS, 2))?;
+    holds(&rt, new_tree_grows(&rt, rt.alloc(), &WORKED))
 }
 
 const WEIGHTLESS: Growth<'static> = Growth {
@@ -178,7 +165,7 @@ const WEIGHTLESS: Growth<'static> = Growth {
 /// A path that is added with weight 0 weighs nothing and has no node.
 #[test]
 fn weightless_path(rt: HostRuntime) -> Result<(), Fail> {
-    new_tree_grows(&rt, &WEIGHTLESS)
+    holds(&rt, new_tree_grows(&rt, rt.alloc(), &WEIGHTLESS))
 }
 
 const WITH_CHILDREN: Growth<'static> = Growth {
@@ -189,7 +176,7 @@ const WITH_CHILDREN: Growth<'static> = Growth {
 
 #[test]
 fn children(rt: HostRuntime) -> Result<(), Fail> {
-    new_tree_grows(&rt, &WITH_CHILDREN)
+    holds(&rt, new_tree_grows(&rt, rt.alloc(), &WITH_CHILDREN))
 }
 
 const WITH_RECURSION: Growth<'static> = Growth {
@@ -206,14 +193,11 @@ const WITH_RECURSION: Growth<'static> = Growth {
 /// A number that stands more than once in a path counts once.
 #[test]
 fn recursion_counts_once(rt: HostRuntime) -> Result<(), Fail> {
-    new_tree_grows(&rt, &WITH_RECURSION)
+    holds(&rt, new_tree_grows(&rt, rt.alloc(), &WITH_RECURSION))
 }
 
 /// With any one growth refused, a table and a tree keep what they held and go on; the test then ends in that refusal.
 #[test]
 fn each_growth_refused(rt: HostRuntime) -> Result<(), Fail> {
-    let mut refused = false;
-    new_table_goes_on(&rt, rt.alloc(), &mut refused)?;
-    let mut tree = CallTree::new(rt.alloc())?;
-    tree_goes_on(&rt, &mut tree, &mut refused)
+    holds(&rt, go_on(&rt, rt.alloc(), &mut false))
 }

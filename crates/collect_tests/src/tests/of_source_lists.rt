@@ -3,13 +3,12 @@
 mod parts;
 mod pieces;
 
-use super::texts::is_text;
+use super::holds;
 use profile_messages::SampleType;
 use run_options::{Filter, Format, Naming, Options, Pick, RingSize};
 use source_lists::{Source, chosen_types};
 use stack_core::Text;
 use std::alloc::{AllocError, Global};
-use std::process::Abort;
 use std::test::Fail;
 
 /// The types `n`, whose unit is `ms`, and `t`, whose unit is `s`. There is one sample.
@@ -39,12 +38,11 @@ const WORKED: &[(Format, &[u8])] = &[
     (Format::Pprof, WITH_FAULT),
 ];
 
-fn worked_sources(alloc: Global) -> Result<Vec<Source>, AllocError> {
-    let mut sources = Vec::new(alloc);
+fn add_worked_sources(alloc: Global, sources: &mut Vec<Source>) -> Result<(), AllocError> {
     for (format, bytes) in WORKED {
         sources.push(source_of(alloc, *format, bytes)?)?;
     }
-    Ok(sources)
+    Ok(())
 }
 
 fn options_with(alloc: Global, pick: Pick) -> Options {
@@ -57,73 +55,83 @@ fn options_with(alloc: Global, pick: Pick) -> Options {
     }
 }
 
-fn is_type(rt: &impl Abort, found: &SampleType, name: &str, unit: &str) {
-    is_text(rt, found.name.get(), name);
-    is_text(rt, found.unit.get(), unit);
+fn is_type(found: &SampleType, name: &str, unit: &str) -> bool {
+    found.name.get() == name && found.unit.get() == unit
 }
 
 /// The types have these names and units.
-fn are_types(rt: &impl Abort, types: &[SampleType], expected: &[(&str, &str)]) {
-    assert!(rt; types.len() == expected.len());
+fn are_types(types: &[SampleType], expected: &[(&str, &str)]) -> bool {
+    if types.len() != expected.len() {
+        return false;
+    }
     for k in 0..types.len() {
         let (name, unit) = expected[k];
-        is_type(rt, &types[k], name, unit);
+        if !is_type(&types[k], name, unit) {
+            return false;
+        }
     }
+    true
 }
 
-fn choose_types(
-    rt: &(impl Abort + AllocGlobal),
+fn types_are_chosen(
+    alloc: Global,
     options: &Options,
     sources: &[Source],
     expected: &[(&str, &str)],
-) -> Result<(), AllocError> {
-    let types = chosen_types(rt.alloc(), sources, options)?;
-    are_types(rt, &types, expected);
-    Ok(())
+) -> Result<bool, AllocError> {
+    let types = chosen_types(alloc, sources, options)?;
+    Ok(are_types(&types, expected))
 }
 
-fn choose_types_of_worked(
-    rt: &(impl Abort + AllocGlobal),
+fn types_of_worked_are_chosen(
+    alloc: Global,
     options: &Options,
+    sources: &mut Vec<Source>,
     expected: &[(&str, &str)],
-) -> Result<(), Fail> {
-    let sources = worked_sources(rt.alloc())?;
-    choose_types(rt, options, &sources, expected)?;
-    Ok(())
+) -> Result<bool, AllocError> {
+    add_worked_sources(alloc, sources)?;
+    types_are_chosen(alloc, options, sources, expected)
 }
 
-fn options_named(alloc: Global, name: &str) -> Result<Options, AllocError> {
-    let name = Text::from_str(alloc, name)?;
-    Ok(options_with(alloc, Pick::Named(name)))
+/// By this pick, the types of the worked sources have these names and units.
+fn types_are_picked(
+    alloc: Global,
+    pick: Pick,
+    expected: &[(&str, &str)],
+) -> Result<bool, AllocError> {
+    let options = options_with(alloc, pick);
+    types_of_worked_are_chosen(alloc, &options, &mut Vec::new(alloc), expected)
 }
 
-fn choose_types_named(
-    rt: &(impl Abort + AllocGlobal),
+fn types_are_picked_by_name(
+    alloc: Global,
     name: &str,
     expected: &[(&str, &str)],
-) -> Result<(), Fail> {
-    let options = options_named(rt.alloc(), name)?;
-    choose_types_of_worked(rt, &options, expected)
+) -> Result<bool, AllocError> {
+    let name = Text::from_str(alloc, name)?;
+    types_are_picked(alloc, Pick::Named(name), expected)
 }
 
 const PREFERRED: &[(&str, &str)] = &[("", ""), ("t", "s"), ("n", "ms"), ("", ""), ("", "")];
 
 #[test]
 fn types_of_worked_sources(rt: HostRuntime) -> Result<(), Fail> {
-    let options = options_with(rt.alloc(), Pick::Preferred);
-    choose_types_of_worked(&rt, &options, PREFERRED)
+    holds(
+        &rt,
+        types_are_picked(rt.alloc(), Pick::Preferred, PREFERRED),
+    )
 }
 
 const NAMED_N: &[(&str, &str)] = &[("", ""), ("n", "ms"), ("n", "ms"), ("", ""), ("", "")];
 
 #[test]
 fn types_picked_by_name(rt: HostRuntime) -> Result<(), Fail> {
-    choose_types_named(&rt, "n", NAMED_N)
+    holds(&rt, types_are_picked_by_name(rt.alloc(), "n", NAMED_N))
 }
 
 const NONE: &[(&str, &str)] = &[("", ""); 5];
 
 #[test]
 fn no_type_of_an_unknown_name(rt: HostRuntime) -> Result<(), Fail> {
-    choose_types_named(&rt, "other", NONE)
+    holds(&rt, types_are_picked_by_name(rt.alloc(), "other", NONE))
 }

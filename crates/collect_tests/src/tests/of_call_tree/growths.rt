@@ -4,32 +4,42 @@ use super::add;
 use call_tree::{CallTree, FrameTable};
 use std::alloc::{AllocError, Global};
 use std::process::Abort;
-use std::test::Fail;
 
 const NAMES: &[&str] = &["main", "read", "parse", "emit", "close"];
 
-/// Interns a name. Where that is refused, the table has the names that it had, and is asked again.
-fn intern_again(
-    rt: &impl Abort,
-    table: &mut FrameTable,
-    name: &str,
-    refused: &mut bool,
-) -> Result<usize, AllocError> {
-    let len = table.len();
-    if let Ok(number) = table.intern(name) {
-        return Ok(number);
+/// The names of a table are the first of those that it is given, so many.
+fn has_first_names(table: &FrameTable, len: usize) -> bool {
+    for number in 0..table.len() {
+        if number >= NAMES.len() || table.name(number) != NAMES[number] {
+            return false;
+        }
     }
-    *refused = true;
-    assert!(rt; table.len() == len);
-    has_first_names(rt, table);
-    table.intern(name)
+    table.len() == len
 }
 
-/// The names of a table are the first of those that it is given.
-fn has_first_names(rt: &impl Abort, table: &FrameTable) {
-    for number in 0..table.len() {
-        assert!(rt; number < NAMES.len() && table.name(number) == NAMES[number]);
+/// Interns a name, which gets this number. Where that is refused, the table has the names that it had, and is asked again.
+fn interns_again(
+    table: &mut FrameTable,
+    name: &str,
+    number: usize,
+    refused: &mut bool,
+) -> Result<bool, AllocError> {
+    let len = table.len();
+    if let Ok(found) = table.intern(name) {
+        return Ok(found == number);
     }
+    *refused = true;
+    Ok(has_first_names(table, len) && table.intern(name)? == number)
+}
+
+/// A table keeps the names that it held, and goes on.
+fn table_goes_on(table: &mut FrameTable, refused: &mut bool) -> Result<bool, AllocError> {
+    for (number, name) in NAMES.iter().enumerate() {
+        if !interns_again(table, name, number, refused)? {
+            return Ok(false);
+        }
+    }
+    Ok(true)
 }
 
 /// How many nodes a tree has, the totals of a path and of those that it goes on from, and then the weights of their own.
@@ -51,85 +61,77 @@ fn weights_at(tree: &CallTree, ids: &[usize; 3]) -> Weights {
     ]
 }
 
-fn weighs(rt: &impl Abort, tree: &CallTree, ids: &[usize; 3], weights: Weights) {
-    assert!(rt; weights_at(tree, ids) == weights);
-}
-
 /// Adds 5 at a path. Where that is refused, the tree has the weights that it had, and is asked again.
-fn add_again(
+fn adds_again(
     rt: &impl Abort,
     tree: &mut CallTree,
     ids: &[usize; 3],
     refused: &mut bool,
-) -> Result<(), AllocError> {
+) -> Result<bool, AllocError> {
     let before = weights_at(tree, ids);
     if add(rt, tree, ids, 5).is_ok() {
-        return Ok(());
+        return Ok(true);
     }
     *refused = true;
-    weighs(rt, tree, ids, before);
-    add(rt, tree, ids, 5)
+    let same = weights_at(tree, ids) == before;
+    add(rt, tree, ids, 5)?;
+    Ok(same)
 }
 
-/// Copies a tree. Where that is refused, the tree has the weights that it had, and is asked again.
-fn copy_again(
+/// A tree keeps the weights that it held, and goes on over eight paths.
+fn paths_go_on(
     rt: &impl Abort,
-    tree: &CallTree,
-    ids: &[usize; 3],
+    tree: &mut CallTree,
     refused: &mut bool,
-) -> Result<CallTree, AllocError> {
-    let before = weights_at(tree, ids);
+) -> Result<bool, AllocError> {
+    for frame in 0..8 {
+        if !adds_again(rt, tree, &[frame % 3, frame, frame], refused)? {
+            return Ok(false);
+        }
+    }
+    Ok(true)
+}
+
+/// A tree has the weights of the eight paths.
+fn has_eight_paths(tree: &CallTree) -> bool {
+    weights_at(tree, &[0, 3, 3]) == [20, 40, 15, 5, 5, 0, 0, 0, 5]
+}
+
+/// A copy has the weights of the eight paths. Where it is refused, the tree has them still, and is asked again.
+fn copies_again(tree: &CallTree, refused: &mut bool) -> Result<bool, AllocError> {
     if let Ok(copy) = tree.copy() {
-        return Ok(copy);
+        return Ok(has_eight_paths(&copy));
     }
     *refused = true;
-    weighs(rt, tree, ids, before);
-    tree.copy()
-}
-
-/// A table keeps the names that it held, and goes on.
-fn table_goes_on(
-    rt: &impl Abort,
-    table: &mut FrameTable,
-    refused: &mut bool,
-) -> Result<(), AllocError> {
-    for (number, name) in NAMES.iter().enumerate() {
-        let found = intern_again(rt, table, name, refused)?;
-        assert!(rt; found == number);
-    }
-    Ok(())
-}
-
-pub(super) fn new_table_goes_on(
-    rt: &impl Abort,
-    alloc: Global,
-    refused: &mut bool,
-) -> Result<(), AllocError> {
-    table_goes_on(rt, &mut FrameTable::new(alloc), refused)
+    Ok(has_eight_paths(tree) && has_eight_paths(&tree.copy()?))
 }
 
 /// A tree and its copy have the weights of the eight paths.
-fn copy_goes_on(rt: &impl Abort, tree: &CallTree, refused: &mut bool) -> Result<(), AllocError> {
-    let ids = [0, 3, 3];
-    let weights = [20, 40, 15, 5, 5, 0, 0, 0, 5];
-    let copy = copy_again(rt, tree, &ids, refused)?;
-    weighs(rt, tree, &ids, weights);
-    weighs(rt, &copy, &ids, weights);
-    Ok(())
-}
-
-/// A tree keeps the weights that it held, and goes on.
-pub(super) fn tree_goes_on(
+fn tree_goes_on(
     rt: &impl Abort,
     tree: &mut CallTree,
     refused: &mut bool,
-) -> Result<(), Fail> {
-    for frame in 0..8 {
-        add_again(rt, tree, &[frame % 3, frame, frame], refused)?;
+) -> Result<bool, AllocError> {
+    let kept = paths_go_on(rt, tree, refused)?;
+    Ok(kept && has_eight_paths(tree) && copies_again(tree, refused)?)
+}
+
+fn both_go_on(rt: &impl Abort, alloc: Global, refused: &mut bool) -> Result<bool, AllocError> {
+    if !table_goes_on(&mut FrameTable::new(alloc), refused)? {
+        return Ok(false);
     }
-    copy_goes_on(rt, tree, refused)?;
-    if *refused {
-        return Err(AllocError.into());
+    tree_goes_on(rt, &mut CallTree::new(alloc)?, refused)
+}
+
+/// A table and a tree keep what they held and go on. Where a growth was refused, the answer is that refusal.
+pub(super) fn go_on(
+    rt: &impl Abort,
+    alloc: Global,
+    refused: &mut bool,
+) -> Result<bool, AllocError> {
+    let kept = both_go_on(rt, alloc, refused)?;
+    if kept && *refused {
+        return Err(AllocError);
     }
-    Ok(())
+    Ok(kept)
 }

@@ -2,6 +2,7 @@
 ghost use Rattle.call_tree.specs.Listing.{AreIn, HasNumbersOf};
 
 use super::{add, intern_all};
+use crate::tests::holds;
 use call_tree::{CallTree, FrameTable, Visit};
 use std::alloc::{AllocError, Global};
 use std::process::Abort;
@@ -14,13 +15,6 @@ fn are_known(rt: &impl Abort, table: &FrameTable, ids: &[usize])
     for id in ids {
         assert!(rt; *id < table.len());
     }
-}
-
-/// A table of names, numbered in their order.
-fn table_of(rt: &impl Abort, alloc: Global, names: &[&str]) -> Result<FrameTable, AllocError> {
-    let mut table = FrameTable::new(alloc);
-    intern_all(rt, &mut table, names)?;
-    Ok(table)
 }
 
 /// Adds a weight at each path.
@@ -60,34 +54,40 @@ fn is_row(visit: &Visit, row: &Row) -> bool {
     visit.depth == *depth && visit.frame == *frame && visit.total == *total && visit.own == *own
 }
 
-fn visits_are(rt: &impl Abort, visits: &[Visit], rows: &[Row]) {
-    assert!(rt; visits.len() == rows.len());
-    for at in 0..visits.len() {
-        assert!(rt; is_row(&visits[at], &rows[at]));
+fn visits_are(visits: &[Visit], rows: &[Row]) -> bool {
+    if visits.len() != rows.len() {
+        return false;
     }
+    for at in 0..visits.len() {
+        if !is_row(&visits[at], &rows[at]) {
+            return false;
+        }
+    }
+    true
 }
 
+/// A tree of these weights is listed so.
 fn table_lists(
     rt: &impl Abort,
     alloc: Global,
     table: &FrameTable,
     weights: &[(&[usize], u64)],
     rows: &[Row],
-) -> Result<(), Fail> {
+) -> Result<bool, AllocError> {
     let visits = listed(rt, alloc, table, weights)?;
-    visits_are(rt, &visits, rows);
-    Ok(())
+    Ok(visits_are(&visits, rows))
 }
 
 /// A tree of these weights, whose frames have these names, is listed so.
-fn lists(
-    rt: &(impl Abort + AllocGlobal),
+fn names_list(
+    rt: &impl Abort,
+    alloc: Global,
     names: &[&str],
     weights: &[(&[usize], u64)],
     rows: &[Row],
-) -> Result<(), Fail> {
-    let table = table_of(rt, rt.alloc(), names)?;
-    table_lists(rt, rt.alloc(), &table, weights, rows)
+) -> Result<bool, AllocError> {
+    let mut table = FrameTable::new(alloc);
+    Ok(intern_all(&mut table, names)? && table_lists(rt, alloc, &table, weights, rows)?)
 }
 
 const TWO_PATHS: &[(&[usize], u64)] = &[(&[0], 2), (&[1, 0], 1)];
@@ -97,7 +97,10 @@ const BY_NAME: &[Row] = &[(0, 0, 3, 0), (1, 1, 1, 0), (2, 0, 1, 1), (1, 0, 2, 2)
 /// The numbers rise as the names fall, and a listing goes by the names.
 #[test]
 fn listing_by_name(rt: HostRuntime) -> Result<(), Fail> {
-    lists(&rt, &["b", "a"], TWO_PATHS, BY_NAME)
+    holds(
+        &rt,
+        names_list(&rt, rt.alloc(), &["b", "a"], TWO_PATHS, BY_NAME),
+    )
 }
 
 const SIX_PATHS: &[(&[usize], u64)] = &[
@@ -124,15 +127,20 @@ const LEVELS: &[Row] = &[
 /// Nodes on three levels, made in another order than that of their names.
 #[test]
 fn listing_of_levels(rt: HostRuntime) -> Result<(), Fail> {
-    lists(&rt, &["c", "a", "b"], SIX_PATHS, LEVELS)
+    holds(
+        &rt,
+        names_list(&rt, rt.alloc(), &["c", "a", "b"], SIX_PATHS, LEVELS),
+    )
 }
 
 /// One visit at each depth, of weight 1.
-fn is_one_path(rt: &impl Abort, visits: &[Visit]) {
-    assert!(rt; visits.len() == 4097);
-    for depth in 0..4097 {
-        assert!(rt; visits[depth].depth == depth && visits[depth].total == 1);
+fn is_one_path(visits: &[Visit]) -> bool {
+    for depth in 0..visits.len() {
+        if visits[depth].depth != depth || visits[depth].total != 1 {
+            return false;
+        }
     }
+    visits.len() == 4097
 }
 
 fn lists_one_path(
@@ -140,20 +148,18 @@ fn lists_one_path(
     alloc: Global,
     table: &FrameTable,
     path: &[usize],
-) -> Result<(), Fail> {
+) -> Result<bool, AllocError> {
     let visits = listed(rt, alloc, table, &[(path, 1)])?;
-    is_one_path(rt, &visits);
-    Ok(())
+    Ok(is_one_path(&visits))
 }
 
-fn lists_deep_path(rt: &impl Abort, alloc: Global, table: &FrameTable) -> Result<(), Fail> {
-    let path = vec![in alloc; 0; 4096]?;
-    lists_one_path(rt, alloc, table, path.as_slice())
+fn name_lists_deep_path(rt: &impl Abort, alloc: Global) -> Result<bool, AllocError> {
+    let mut table = FrameTable::new(alloc);
+    Ok(intern_all(&mut table, &["f"])? && lists_one_path(rt, alloc, &table, &[0; 4096])?)
 }
 
 /// The deepest path that a stack can have.
 #[test]
 fn listing_of_a_deep_path(rt: HostRuntime) -> Result<(), Fail> {
-    let table = table_of(&rt, rt.alloc(), &["f"])?;
-    lists_deep_path(&rt, rt.alloc(), &table)
+    holds(&rt, name_lists_deep_path(&rt, rt.alloc()))
 }

@@ -1,9 +1,9 @@
 //! What a cache of spellings finds again, which no contract promises.
 ghost use Rattle.std.specs.Prelude.{◌≤◌, ◌+◌, ◌*◌, length};
 
+use crate::tests::holds;
 use call_tree::SpellingCache;
-use std::alloc::{AllocError, Global};
-use std::process::Abort;
+use std::alloc::AllocError;
 use std::test::Fail;
 
 /// What the hash of a cache multiplies by.
@@ -20,11 +20,10 @@ fn mixed(hash: u64, word: u64) -> u64 {
     (hash ^ word).wrapping_mul(MULTIPLIER).rotate_left(29)
 }
 
-/// A text of spellings of 16 bytes: a number, and what takes part in its hash or undoes it.
-fn text_of(alloc: Global, count: u64, colliding: bool) -> Result<Vec<u8>, AllocError> {
+/// Appends spellings of 16 bytes: a number, and what takes part in its hash or undoes it.
+fn append_spellings(text: &mut Vec<u8>, count: usize, colliding: bool) -> Result<(), AllocError> {
     let start = mixed(mixed(16, 1), mixed(2, 3));
-    let mut text = Vec::new(alloc);
-    for number in 0..count {
+    for number in 0..count as u64 {
         text.extend_from_slice(number.to_le_bytes().as_slice())?;
         let second = if colliding {
             mixed(start, number)
@@ -33,7 +32,7 @@ fn text_of(alloc: Global, count: u64, colliding: bool) -> Result<Vec<u8>, AllocE
         };
         text.extend_from_slice(second.to_le_bytes().as_slice())?;
     }
-    Ok(text)
+    Ok(())
 }
 
 fn found(cache: &SpellingCache, text: &[u8], number: usize) -> Option<usize>
@@ -49,92 +48,119 @@ fn is_found(cache: &SpellingCache, text: &[u8], spelling: usize, number: usize) 
     found(cache, text, spelling) == Some(number)
 }
 
+/// Whether the spellings of the numbers below this one are found.
+fn are_found(cache: &SpellingCache, text: &[u8], count: usize) -> bool
+    requires { count * 16 ≤ length text.now }
+{
+    for known in 0..count {
+        if !is_found(cache, text, known, known) {
+            return false;
+        }
+    }
+    true
+}
+
 /// Remembers the spelling of a number under it. Where that is refused, what was known is found, and the call is made again.
-fn remember_again(
-    rt: &impl Abort,
+fn remembers_again(
     cache: &mut SpellingCache,
     text: &[u8],
     number: usize,
     refused: &mut bool,
-) -> Result<(), AllocError>
+) -> Result<bool, AllocError>
     requires { number * 16 + 16 ≤ length text.now }
 {
     let (start, end) = (number * 16, number * 16 + 16);
     if cache.remember(text, start, end, number).is_ok() {
-        return Ok(());
+        return Ok(true);
     }
     *refused = true;
-    for known in 0..number {
-        assert!(rt; is_found(cache, text, known, known));
-    }
-    cache.remember(text, start, end, number)
+    let kept = are_found(cache, text, number);
+    cache.remember(text, start, end, number)?;
+    Ok(kept)
 }
 
 /// Remembers the spelling of each number, which was not known before.
-fn remember_all(
-    rt: &impl Abort,
+fn remembers_all(
     cache: &mut SpellingCache,
     text: &[u8],
     refused: &mut bool,
-) -> Result<(), AllocError> {
-    assert!(rt; text.len() == COUNT * 16);
-    for number in 0..COUNT {
-        assert!(rt; found(cache, text, number).is_none());
-        remember_again(rt, cache, text, number, refused)?;
+) -> Result<bool, AllocError> {
+    if text.len() != COUNT * 16 {
+        return Ok(false);
     }
-    Ok(())
+    for number in 0..COUNT {
+        let known = found(cache, text, number).is_some();
+        if known || !remembers_again(cache, text, number, refused)? {
+            return Ok(false);
+        }
+    }
+    Ok(true)
 }
 
 /// Finds the spelling of each number in a text that has each twice.
-fn all_found_twice(rt: &impl Abort, cache: &SpellingCache, text: &[u8]) {
-    assert!(rt; text.len() == COUNT * 32);
-    for number in 0..COUNT {
-        assert!(rt; is_found(cache, text, number, number));
-        assert!(rt; is_found(cache, text, COUNT + number, number));
+fn all_are_found_twice(cache: &SpellingCache, text: &[u8]) -> bool {
+    if text.len() != COUNT * 32 {
+        return false;
     }
+    for number in 0..COUNT {
+        if !is_found(cache, text, COUNT + number, number) {
+            return false;
+        }
+    }
+    are_found(cache, text, COUNT)
 }
 
-fn cache_goes_on(
-    rt: &impl Abort,
+fn cache_keeps_all(
     cache: &mut SpellingCache,
     text: &mut Vec<u8>,
-    alloc: Global,
-) -> Result<(), Fail> {
-    let mut refused = false;
-    remember_all(rt, cache, text.as_slice(), &mut refused)?;
-    let once_more = text_of(alloc, COUNT as u64, false)?;
-    text.extend_from_slice(once_more.as_slice())?;
-    all_found_twice(rt, cache, text.as_slice());
-    if refused {
-        return Err(AllocError.into());
+    refused: &mut bool,
+) -> Result<bool, AllocError> {
+    append_spellings(text, COUNT, false)?;
+    let remembered = remembers_all(cache, text, refused)?;
+    append_spellings(text, COUNT, false)?;
+    Ok(remembered && all_are_found_twice(cache, text))
+}
+
+/// A cache keeps what it knew and goes on. Where a growth was refused, the answer is that refusal.
+fn cache_goes_on(
+    cache: &mut SpellingCache,
+    text: &mut Vec<u8>,
+    refused: &mut bool,
+) -> Result<bool, AllocError> {
+    let kept = cache_keeps_all(cache, text, refused)?;
+    if kept && *refused {
+        return Err(AllocError);
     }
-    Ok(())
+    Ok(kept)
 }
 
 /// With any one growth refused, spellings are found at the bytes that were remembered and at equal ones, and others are not; the
 /// test then ends in that refusal.
 #[test]
 fn spellings_are_found_again(rt: HostRuntime) -> Result<(), Fail> {
-    let mut text = text_of(rt.alloc(), COUNT as u64, false)?;
-    let mut cache = SpellingCache::new(rt.alloc());
-    cache_goes_on(&rt, &mut cache, &mut text, rt.alloc())
+    let cache = &mut SpellingCache::new(rt.alloc());
+    holds(
+        &rt,
+        cache_goes_on(cache, &mut Vec::new(rt.alloc()), &mut false),
+    )
 }
 
-fn lengths_are_found(rt: &impl Abort, cache: &mut SpellingCache) -> Result<(), Fail> {
+fn lengths_are_found(cache: &mut SpellingCache) -> Result<bool, AllocError> {
     let text = [b'a'; 100];
     for len in 0..100 {
-        assert!(rt; cache.find(&text, 0, len).is_none());
+        let known = cache.find(&text, 0, len).is_some();
         cache.remember(&text, 0, len, len)?;
-        assert!(rt; cache.find(&text, 100 - len, 100) == Some(len));
+        if known || cache.find(&text, 100 - len, 100) != Some(len) {
+            return Ok(false);
+        }
     }
-    Ok(())
+    Ok(true)
 }
 
 /// The rows of spellings of every length up to three blocks of the hash are told apart.
 #[test]
 fn lengths_are_told_apart(rt: HostRuntime) -> Result<(), Fail> {
-    let mut cache = SpellingCache::new(rt.alloc());
-    lengths_are_found(&rt, &mut cache)
+    holds(&rt, lengths_are_found(&mut SpellingCache::new(rt.alloc())))
 }
 
 /// Two spellings, and the first twice more.
@@ -149,15 +175,17 @@ const SOUGHT: &[(usize, usize, Option<usize>)] = &[
     (0, 2, None),
 ];
 
-fn is_next(
-    rt: &impl Abort,
-    cache: &mut SpellingCache,
-    start: usize,
-    end: usize,
-    number: Option<usize>,
-) {
-    assert!(rt; start <= end && end <= FOUR.len());
-    assert!(rt; cache.find_next(FOUR, start, end) == number);
+fn is_next(cache: &mut SpellingCache, start: usize, end: usize, number: Option<usize>) -> bool {
+    start <= end && end <= FOUR.len() && cache.find_next(FOUR, start, end) == number
+}
+
+fn sought_are_found(cache: &mut SpellingCache) -> bool {
+    for (start, end, number) in SOUGHT {
+        if !is_next(cache, *start, *end, *number) {
+            return false;
+        }
+    }
+    true
 }
 
 fn remember_two(cache: &mut SpellingCache) -> Result<(), AllocError> {
@@ -165,20 +193,16 @@ fn remember_two(cache: &mut SpellingCache) -> Result<(), AllocError> {
     cache.remember(FOUR, 3, 6, 8)
 }
 
-fn next_are_found(rt: &impl Abort, cache: &mut SpellingCache) -> Result<(), Fail> {
-    is_next(rt, cache, 0, 3, None);
+fn next_are_found(cache: &mut SpellingCache) -> Result<bool, AllocError> {
+    let unknown = is_next(cache, 0, 3, None);
     remember_two(cache)?;
-    for (start, end, number) in SOUGHT {
-        is_next(rt, cache, *start, *end, *number);
-    }
-    Ok(())
+    Ok(unknown && sought_are_found(cache))
 }
 
 /// One spelling after another is told apart from the one that was found last.
 #[test]
 fn next_spellings_are_told_apart(rt: HostRuntime) -> Result<(), Fail> {
-    let mut cache = SpellingCache::new(rt.alloc());
-    next_are_found(&rt, &mut cache)
+    holds(&rt, next_are_found(&mut SpellingCache::new(rt.alloc())))
 }
 
 /// What is looked ahead for: what is sought, in its order and in that of the text, what is not known, and what the text does not have.
@@ -190,62 +214,65 @@ const AHEAD: &[&[(usize, usize)]] = &[
     &[],
 ];
 
-fn hinted_are_found(rt: &impl Abort, cache: &mut SpellingCache) -> Result<(), Fail> {
+fn hinted_are_found(cache: &mut SpellingCache) -> Result<bool, AllocError> {
     remember_two(cache)?;
     for spellings in AHEAD {
         cache.look_ahead(FOUR, spellings);
-        for (start, end, number) in SOUGHT {
-            is_next(rt, cache, *start, *end, *number);
+        if !sought_are_found(cache) {
+            return Ok(false);
         }
     }
-    Ok(())
+    Ok(true)
+}
+
+/// A cache with hints finds what it is to.
+fn wanted_hints_are_found(cache: &mut SpellingCache) -> Result<bool, AllocError> {
+    Ok(cache.wants_hints() && hinted_are_found(cache)?)
 }
 
 /// Whatever is looked ahead for, each spelling is told apart.
 #[test]
 fn hinted_spellings_are_told_apart(rt: HostRuntime) -> Result<(), Fail> {
-    let mut cache = SpellingCache::new(rt.alloc());
-    assert!(rt; cache.wants_hints());
-    hinted_are_found(&rt, &mut cache)
+    holds(
+        &rt,
+        wanted_hints_are_found(&mut SpellingCache::new(rt.alloc())),
+    )
 }
 
 /// Remembers spellings with one hash, each of which is found right after.
-fn remember_colliding(
-    rt: &impl Abort,
-    cache: &mut SpellingCache,
-    text: &[u8],
-) -> Result<(), AllocError> {
-    assert!(rt; text.len() == COLLIDING * 16);
+fn remembers_colliding(cache: &mut SpellingCache, text: &[u8]) -> Result<bool, AllocError> {
+    if text.len() != COLLIDING * 16 {
+        return Ok(false);
+    }
     for number in 0..COLLIDING {
         let at = number * 16;
         cache.remember(text, at, at + 16, number)?;
-        assert!(rt; is_found(cache, text, number, number));
+        if !is_found(cache, text, number, number) {
+            return Ok(false);
+        }
     }
-    Ok(())
+    Ok(true)
 }
 
-/// How many of the spellings are known.
-fn known_of(rt: &impl Abort, cache: &SpellingCache, text: &[u8]) -> usize {
-    assert!(rt; text.len() == COLLIDING * 16);
+/// Of a text of spellings, so many are known.
+fn known_are(cache: &SpellingCache, text: &[u8], count: usize) -> bool {
     let mut known = 0usize;
-    for number in 0..COLLIDING {
+    for number in 0..text.len() / 16 {
         if found(cache, text, number).is_some() {
             known = known.saturating_add(1);
         }
     }
-    known
+    known == count
 }
 
-fn sixteen_are_kept(rt: &impl Abort, cache: &mut SpellingCache, text: &[u8]) -> Result<(), Fail> {
-    remember_colliding(rt, cache, text)?;
-    assert!(rt; known_of(rt, cache, text) == 16);
-    Ok(())
+fn sixteen_are_kept(cache: &mut SpellingCache, text: &mut Vec<u8>) -> Result<bool, AllocError> {
+    append_spellings(text, COLLIDING, true)?;
+    Ok(remembers_colliding(cache, text)? && known_are(cache, text, 16))
 }
 
 /// Of spellings with one hash, those that have a slot are found. The others cost no more than these.
 #[test]
 fn colliding_spellings_are_forgotten(rt: HostRuntime) -> Result<(), Fail> {
-    let text = text_of(rt.alloc(), COLLIDING as u64, true)?;
-    let mut cache = SpellingCache::new(rt.alloc());
-    sixteen_are_kept(&rt, &mut cache, text.as_slice())
+    let cache = &mut SpellingCache::new(rt.alloc());
+    holds(&rt, sixteen_are_kept(cache, &mut Vec::new(rt.alloc())))
 }

@@ -1,26 +1,34 @@
 //! What is written of a fault.
 
-use crate::tests::texts::is_text;
+use crate::tests::holds;
 use ring_collect::CollectFault;
-use std::alloc::AllocError;
-use std::process::Abort;
+use std::alloc::{AllocError, Global};
 use std::test::Fail;
 
-fn says(
-    rt: &(impl Abort + AllocGlobal),
-    fault: CollectFault,
-    text: &str,
-) -> Result<(), AllocError> {
-    let found = format!(in rt.alloc(); "{fault}")?;
-    is_text(rt, found.as_str(), text);
-    Ok(())
+const WRITTEN: &[(CollectFault, &str)] = &[
+    (CollectFault::OutOfMemory, "out of memory"),
+    (CollectFault::NoThread, "no thread"),
+    (
+        CollectFault::Unfinished { source: 7 },
+        "source 7 unfinished",
+    ),
+];
+
+fn says(alloc: Global, fault: CollectFault, text: &str) -> Result<bool, AllocError> {
+    let found = format!(in alloc; "{fault}")?;
+    Ok(found.as_str() == text)
+}
+
+fn each_says(alloc: Global, written: &[(CollectFault, &str)]) -> Result<bool, AllocError> {
+    for (fault, text) in written {
+        if !says(alloc, *fault, text)? {
+            return Ok(false);
+        }
+    }
+    Ok(true)
 }
 
 #[test]
 fn faults_say_what_is_wrong(rt: HostRuntime) -> Result<(), Fail> {
-    says(&rt, CollectFault::OutOfMemory, "out of memory")?;
-    says(&rt, CollectFault::NoThread, "no thread")?;
-    let unfinished = CollectFault::Unfinished { source: 7 };
-    says(&rt, unfinished, "source 7 unfinished")?;
-    Ok(())
+    holds(&rt, each_says(rt.alloc(), WRITTEN))
 }

@@ -1,5 +1,7 @@
 //! Runs with readers, gates and sinks of which it is known what they do.
 
+ghost use Rattle.std.specs.Prelude.{◌≤◌, length, IfOk};
+
 mod fakes;
 mod gates;
 mod lists;
@@ -7,7 +9,8 @@ mod refusals;
 mod rows;
 
 use self::fakes::{CLEAN, Counts, Recorder, Tape};
-use self::lists::is_run;
+use self::lists::{Wanted, is_run};
+use crate::tests::holds;
 use ring_collect::{CollectFault, Collected, RingSize, collect};
 use stack_core::{Gate, OpenGate, ReadFault, ReadKind, SourceEnd};
 use std::alloc::{AllocError, Global};
@@ -20,53 +23,87 @@ use std::thread::Threads;
 /// The frame of each sample of a source.
 const NAMES: [&str; 8] = ["a", "b", "c", "d", "e", "f", "g", "h"];
 
-pub fn name_of(source: usize) -> &'static str {
+fn name_of(source: usize) -> &'static str {
     NAMES[source % 8]
 }
 
-/// A reader for each list of weights.
-pub fn tapes(
-    alloc: Global,
-    counts: &Arc<Counts>,
-    all: &[&'static [u8]],
-) -> Result<Vec<Tape>, AllocError> {
-    let mut tapes = Vec::new(alloc);
-    for (source, weights) in all.iter().enumerate() {
+/// What a reader gives: samples of these weights, an ending, and how many calls come before the one that is refused, if one is.
+type Given = (&'static [u8], SourceEnd, Option<u32>);
+
+fn add_tapes(tapes: &mut Vec<Tape>, counts: &Arc<Counts>, all: &[Given]) -> Result<(), AllocError> {
+    for (source, given) in all.iter().enumerate() {
+        let (weights, ending, refuses_after) = *given;
         tapes.push(Tape {
             name: name_of(source),
-            weights: *weights,
-            ending: CLEAN,
-            refuses_after: None,
+            weights,
+            ending,
+            refuses_after,
             counts: Arc::try_clone(counts)?,
         })?;
+    }
+    Ok(())
+}
+
+/// A reader for each source, of which a run has no more than 64.
+fn tapes(alloc: Global, counts: &Arc<Counts>, all: &[Given]) -> Result<Vec<Tape>, CollectFault>
+    ensures { IfOk result (λ tapes. length tapes.items ≤ 64) }
+{
+    let mut tapes = Vec::new(alloc);
+    add_tapes(&mut tapes, counts, all)?;
+    if tapes.len() > 64 {
+        return Err(CollectFault::NoThread);
     }
     Ok(tapes)
 }
 
-/// How many readers were dropped.
-fn drops(sink: &Recorder) -> u64 {
-    sink.counts.drops.load(Ordering::SeqCst)
+/// Whether so many readers were dropped.
+fn dropped(sink: &Recorder, count: usize) -> bool {
+    sink.counts.drops.load(Ordering::SeqCst) == count as u64
 }
 
-/// Collects, and looks whether every reader was dropped.
-pub fn collected<
-    T: Threads + Wait + Abort + Copy + Send + 'static,
-    G: Gate + Send + Sync + Drop + 'static,
->(
+fn shared<G: Drop>(alloc: Global, gate: G) -> Result<Arc<G>, AllocError> {
+    Ok(Arc::new(alloc, gate)?)
+}
+
+/// What a run over sources answers whose readers give this.
+fn answer_of<T: Threads + Wait + Copy + Send + 'static, G: Gate + Send + Sync + Drop + 'static>(
     rt: &T,
     alloc: Global,
-    readers: Vec<Tape>,
-    ring: u32,
-    gate: G,
     sink: &mut Recorder,
-) -> Result<Result<Collected, CollectFault>, Fail> {
-    let size = RingSize::of(ring).expect(rt, "the size of a ring");
-    let count = readers.len();
-    assert!(rt; count <= 64);
-    let before = drops(sink);
-    let answer = collect(rt, alloc, readers, size, Arc::new(alloc, gate)?, sink);
-    assert!(rt; drops(sink).wrapping_sub(before) == count as u64);
-    Ok(answer)
+    sources: &[Given],
+    ring: RingSize,
+    gate: G,
+) -> Result<Result<Collected, CollectFault>, CollectFault> {
+    let gate = shared(alloc, gate)?;
+    let readers = tapes(alloc, &sink.counts, sources)?;
+    Ok(collect(rt, alloc, readers, ring, gate, sink))
+}
+
+/// Runs over such sources, whose lists and order are as they are to be. Every reader was dropped.
+fn runs_to<T: Threads + Wait + Copy + Send + 'static, G: Gate + Send + Sync + Drop + 'static>(
+    rt: &T,
+    alloc: Global,
+    sink: &mut Recorder,
+    sources: &[Given],
+    ring: RingSize,
+    gate: G,
+    lists: &[Wanted],
+) -> Result<bool, CollectFault> {
+    let run = answer_of(rt, alloc, sink, sources, ring, gate)??;
+    Ok(is_run(&run, sink, lists) && dropped(sink, sources.len()))
+}
+
+/// Runs as `runs_to` says, with a sink of its own.
+fn runs_alone_to<T: Threads + Wait + Copy + Send + 'static, G: Gate + Send + Sync + Drop + 'static>(
+    rt: &T,
+    alloc: Global,
+    sources: &[Given],
+    ring: RingSize,
+    gate: G,
+    lists: &[Wanted],
+) -> Result<bool, CollectFault> {
+    let mut sink = Recorder::new(alloc)?;
+    runs_to(rt, alloc, &mut sink, sources, ring, gate, lists)
 }
 
 const THREE: &[u8] = &[1, 2, 3];
@@ -77,92 +114,77 @@ const TWENTY: &[u8] = &[1; 20];
 
 const HUNDRED: &[u8] = &[1; 100];
 
-fn is_run_of_the_page(rt: &impl Abort, run: &Collected) {
-    assert!(rt; run.order.len() == 3);
-    assert!(rt; run.lists.len() == 2);
-    let first = &run.lists[0];
-    assert!(rt; first.len() == 2);
-    assert!(rt; first.weight(1) == 2);
+/// The lines of README.md up to the run.
+fn run_of_the_page<T: Threads + Wait + Copy + Send + 'static>(
+    rt: &T,
+    alloc: Global,
+    sink: &mut Recorder,
+) -> Result<Collected, CollectFault> {
+    let sources: &[Given] = &[(&[1, 2], CLEAN, None), (&[3], CLEAN, None)];
+    let readers = tapes(alloc, &sink.counts, sources)?;
+    let ring = RingSize::of(2).unwrap();
+    let gate = shared(alloc, OpenGate)?;
+    collect(rt, alloc, readers, ring, gate, sink)
 }
 
-/// The lines of README.md up to the run.
-fn run_of_the_page<T: Threads + Wait + Abort + AllocGlobal + Copy + Send + 'static>(
+fn is_run_of_the_page(run: &Collected) -> bool {
+    run.order.len() == 3
+        && run.lists.len() == 2
+        && run.lists[0].len() == 2
+        && run.lists[0].weight(1) == 2
+}
+
+fn runs_as_on_the_page<T: Threads + Wait + Copy + Send + 'static>(
     rt: &T,
+    alloc: Global,
     sink: &mut Recorder,
-) -> Result<Collected, Fail> {
-    let alloc = rt.alloc();
-    let ring = RingSize::of(2).ok_or("the size of a ring")?;
-    let gate = Arc::new(alloc, OpenGate)?;
-    let readers = tapes(alloc, &sink.counts, &[&[1, 2], &[3]])?;
-    assert!(rt; readers.len() <= 64);
-    let run = collect(rt, alloc, readers, ring, gate, sink)?;
-    Ok(run)
+) -> Result<bool, CollectFault> {
+    let run = run_of_the_page(rt, alloc, sink)?;
+    Ok(is_run_of_the_page(&run) && sink.pairs.len() == 3)
 }
 
 /// The example of README.md.
 #[test]
 fn example_of_the_page(rt: HostRuntime) -> Result<(), Fail> {
-    let mut sink = Recorder::of_own(rt.alloc())?;
-    let run = run_of_the_page(&rt, &mut sink)?;
-    is_run_of_the_page(&rt, &run);
-    assert!(rt; sink.pairs.len() == 3);
-    Ok(())
+    let mut sink = Recorder::new(rt.alloc())?;
+    holds(&rt, runs_as_on_the_page(&rt, rt.alloc(), &mut sink))
 }
 
-/// Runs over sources of these weights, whose lists and order are as they are to be.
-fn runs_to<
-    T: Threads + Wait + Abort + AllocGlobal + Copy + Send + 'static,
-    G: Gate + Send + Sync + Drop + 'static,
->(
+/// Whether the sink saw readers give more samples than that before it took one, which is to be so or not.
+fn sees_more<T: Threads + Wait + Copy + Send + 'static>(
     rt: &T,
-    sink: &mut Recorder,
-    sources: &[&'static [u8]],
-    ring: u32,
-    gate: G,
-    lists: &[(&'static [u8], SourceEnd)],
-) -> Result<(), Fail> {
-    let readers = tapes(rt.alloc(), &sink.counts, sources)?;
-    let run = collected(rt, rt.alloc(), readers, ring, gate, sink)??;
-    is_run(rt, &run, sink, lists);
-    Ok(())
-}
-
-/// Whether the sink saw readers give more samples than that before it took one.
-fn sees_more<T: Threads + Wait + Abort + AllocGlobal + Copy + Send + 'static>(
-    rt: &T,
+    alloc: Global,
     above: u64,
     weights: &'static [u8],
-    ring: u32,
-) -> Result<bool, Fail> {
-    let mut sink = Recorder::of_own(rt.alloc())?;
+    ring: RingSize,
+    more: bool,
+) -> Result<bool, CollectFault> {
+    let mut sink = Recorder::new(alloc)?;
     sink.looks_above = Some(above);
-    runs_to(
+    let sources: &[Given] = &[(weights, CLEAN, None)];
+    let runs = runs_to(
         rt,
+        alloc,
         &mut sink,
-        &[weights],
+        sources,
         ring,
         OpenGate,
         &[(weights, CLEAN)],
     )?;
-    Ok(sink.saw_more)
+    Ok(runs && sink.saw_more == more)
 }
 
 #[test]
 fn ring_holds_back(rt: HostRuntime) -> Result<(), Fail> {
-    assert!(rt; !sees_more(&rt, 4, HUNDRED, 2)?);
-    Ok(())
+    let ring = RingSize::of(2).unwrap();
+    holds(&rt, sees_more(&rt, rt.alloc(), 4, HUNDRED, ring, false))
 }
 
 // While the first sample is taken, the next eight are in the ring, and the reader waits with the tenth.
 #[test]
 fn ring_is_not_smaller(rt: HostRuntime) -> Result<(), Fail> {
-    assert!(rt; sees_more(&rt, 9, TWENTY, 8)?);
-    Ok(())
-}
-
-fn end_second(rt: &impl Abort, readers: &mut Vec<Tape>, ending: SourceEnd) {
-    assert!(rt; readers.len() == 3);
-    readers[1].ending = ending;
+    let ring = RingSize::of(8).unwrap();
+    holds(&rt, sees_more(&rt, rt.alloc(), 9, TWENTY, ring, true))
 }
 
 const TOO_DEEP: SourceEnd = SourceEnd::Fault(ReadFault {
@@ -170,40 +192,42 @@ const TOO_DEEP: SourceEnd = SourceEnd::Fault(ReadFault {
     at: 9,
 });
 
-/// The lists of three sources, the second of which ends in a fault.
-const WITH_FAULT: &[(&[u8], SourceEnd)] = &[(HUNDRED, CLEAN), (EIGHT, TOO_DEEP), (HUNDRED, CLEAN)];
+/// Three sources, the second of which ends in a fault.
+const WITH_FAULT: &[Given] = &[
+    (HUNDRED, CLEAN, None),
+    (EIGHT, TOO_DEEP, None),
+    (HUNDRED, CLEAN, None),
+];
 
-/// Runs over these sources.
-fn three_into<T: Threads + Wait + Abort + AllocGlobal + Copy + Send + 'static>(
-    rt: &T,
-    sink: &mut Recorder,
-    ring: u32,
-) -> Result<(), Fail> {
-    let mut readers = tapes(rt.alloc(), &sink.counts, &[HUNDRED, EIGHT, HUNDRED])?;
-    end_second(rt, &mut readers, TOO_DEEP);
-    let run = collected(rt, rt.alloc(), readers, ring, OpenGate, sink)??;
-    is_run(rt, &run, sink, WITH_FAULT);
-    Ok(())
-}
+const LISTS_WITH_FAULT: &[Wanted] = &[(HUNDRED, CLEAN), (EIGHT, TOO_DEEP), (HUNDRED, CLEAN)];
 
-fn three_in_rings_of<T: Threads + Wait + Abort + AllocGlobal + Copy + Send + 'static>(
+fn three_run_in_rings_of<T: Threads + Wait + Copy + Send + 'static>(
     rt: &T,
-    ring: u32,
-) -> Result<(), Fail> {
-    let mut sink = Recorder::of_own(rt.alloc())?;
-    three_into(rt, &mut sink, ring)
+    alloc: Global,
+    ring: RingSize,
+) -> Result<bool, CollectFault> {
+    runs_alone_to(rt, alloc, WITH_FAULT, ring, OpenGate, LISTS_WITH_FAULT)
 }
 
 #[test]
 fn three_readers(rt: HostRuntime) -> Result<(), Fail> {
-    three_in_rings_of(&rt, 1)?;
-    three_in_rings_of(&rt, 65_536)
+    holds(
+        &rt,
+        three_run_in_rings_of(&rt, rt.alloc(), RingSize::of(1).unwrap()),
+    )?;
+    holds(
+        &rt,
+        three_run_in_rings_of(&rt, rt.alloc(), RingSize::of(65_536).unwrap()),
+    )
 }
 
 #[test]
 fn no_readers(rt: HostRuntime) -> Result<(), Fail> {
-    let mut sink = Recorder::of_own(rt.alloc())?;
-    runs_to(&rt, &mut sink, &[], 1, OpenGate, &[])
+    let ring = RingSize::of(1).unwrap();
+    holds(
+        &rt,
+        runs_alone_to(&rt, rt.alloc(), &[], ring, OpenGate, &[]),
+    )
 }
 
 const SIZES: &[(u32, Option<u32>)] = &[

@@ -2,27 +2,21 @@
 
 ghost use Rattle.std.specs.Prelude.{◌≡◌, IfOk, length};
 
-use super::options_with;
+use super::{options_with, source_of};
+use crate::tests::holds;
+use ring_collect::CollectFault;
 use run_options::{Format, Options, Pick};
 use source_lists::{Source, WholeRun, read_in_parts, read_whole_sources};
 use stack_core::{NoSink, ReadFault, ReadKind, SourceEnd, SourceList};
 use std::alloc::{AllocError, Global};
-use std::process::Abort;
 use std::sync::Wait;
 use std::test::Fail;
 use std::thread::Threads;
 
-/// What both ways of reading take and give.
-type Read<'a> = (Format, &'a [u8], SourceEnd);
-
 fn one_source(alloc: Global, format: Format, bytes: &[u8]) -> Result<Vec<Source>, AllocError>
     ensures { IfOk result (λ sources. length sources.items ≡ 1) }
 {
-    let source = Source {
-        format,
-        bytes: bytes.to_vec(alloc)?,
-    };
-    Ok(vec![in alloc; source]?)
+    Ok(vec![in alloc; source_of(alloc, format, bytes)?]?)
 }
 
 fn read_as_parts<T: Threads + Wait + Copy + Send + 'static>(
@@ -31,23 +25,23 @@ fn read_as_parts<T: Threads + Wait + Copy + Send + 'static>(
     format: Format,
     bytes: &[u8],
     options: &Options,
-) -> Result<WholeRun, Fail> {
+) -> Result<WholeRun, CollectFault> {
     let sources = one_source(alloc, format, bytes)?;
-    Ok(read_in_parts(rt, alloc, sources, options, &mut NoSink::new())?)
+    read_in_parts(rt, alloc, sources, options, &mut NoSink::new())
 }
 
-pub(super) fn read_as_one<T: Threads + Wait + Copy + Send + 'static>(
+fn read_as_one<T: Threads + Wait + Copy + Send + 'static>(
     rt: &T,
     alloc: Global,
     format: Format,
     bytes: &[u8],
     options: &Options,
-) -> Result<WholeRun, Fail> {
+) -> Result<WholeRun, CollectFault> {
     let sources = one_source(alloc, format, bytes)?;
-    Ok(read_whole_sources(rt, alloc, sources, options, &mut NoSink::new())?)
+    read_whole_sources(rt, alloc, sources, options, &mut NoSink::new())
 }
 
-fn is_same_sample(one: &SourceList, other: &SourceList, at: usize) -> bool {
+fn has_same_sample(one: &SourceList, other: &SourceList, at: usize) -> bool {
     if at >= one.len() || at >= other.len() || one.depth(at) != other.depth(at) {
         return false;
     }
@@ -59,162 +53,282 @@ fn is_same_sample(one: &SourceList, other: &SourceList, at: usize) -> bool {
     one.weight(at) == other.weight(at)
 }
 
-fn are_same_samples(one: &SourceList, other: &SourceList) -> bool {
+fn have_same_samples(one: &SourceList, other: &SourceList) -> bool {
     for at in 0..one.len() {
-        if !is_same_sample(one, other, at) {
+        if !has_same_sample(one, other, at) {
             return false;
         }
     }
     one.len() == other.len()
 }
 
-pub(super) fn expect_the_same(
-    rt: &impl Abort,
-    parts: &WholeRun,
-    one: &WholeRun,
-    ending: SourceEnd,
-) {
-    let (parts, one) = (parts.kept.lists(), one.kept.lists());
-    assert!(rt; parts.len() == 1 && one.len() == 1);
-    assert!(rt; are_same_samples(&parts[0], &one[0]));
-    assert!(rt; *parts[0].ending() == ending && *one[0].ending() == ending);
+fn end_so(one: &SourceList, other: &SourceList, ending: SourceEnd) -> bool {
+    *one.ending() == ending && *other.ending() == ending
 }
 
-fn read_both_ways<T: Threads + Wait + Abort + Copy + Send + 'static>(
+/// Each run has one list, of the same samples and with this ending.
+fn are_alike(one: &WholeRun, other: &WholeRun, ending: SourceEnd) -> bool {
+    let (one, other) = (one.kept.lists(), other.kept.lists());
+    one.len() == 1
+        && other.len() == 1
+        && have_same_samples(&one[0], &other[0])
+        && end_so(&one[0], &other[0], ending)
+}
+
+/// The run is that of one reader over these bytes.
+pub(super) fn is_as_read_by_one<T: Threads + Wait + Copy + Send + 'static>(
     rt: &T,
     alloc: Global,
-    read: Read<'_>,
-) -> Result<(), Fail> {
-    let (format, bytes, ending) = read;
-    let options = options_with(alloc, Pick::Preferred);
-    let parts = read_as_parts(rt, alloc, format, bytes, &options)?;
-    let one = read_as_one(rt, alloc, format, bytes, &options)?;
-    expect_the_same(rt, &parts, &one, ending);
-    Ok(())
+    format: Format,
+    bytes: &[u8],
+    options: &Options,
+    run: &WholeRun,
+    ending: SourceEnd,
+) -> Result<bool, CollectFault> {
+    let one = read_as_one(rt, alloc, format, bytes, options)?;
+    Ok(are_alike(run, &one, ending))
+}
+
+fn are_read_alike<T: Threads + Wait + Copy + Send + 'static>(
+    rt: &T,
+    alloc: Global,
+    format: Format,
+    bytes: &[u8],
+    options: &Options,
+    ending: SourceEnd,
+) -> Result<bool, CollectFault> {
+    let parts = read_as_parts(rt, alloc, format, bytes, options)?;
+    is_as_read_by_one(rt, alloc, format, bytes, options, &parts, ending)
 }
 
 /// Bytes so often.
-fn append_often(out: &mut Vec<u8>, bytes: &[u8], times: usize) -> Result<(), AllocError> {
+pub(super) fn append_often(
+    out: &mut Vec<u8>,
+    bytes: &[u8],
+    times: usize,
+) -> Result<(), AllocError> {
     for _ in 0..times {
         out.extend_from_slice(bytes)?;
     }
     Ok(())
 }
 
+/// Bytes, and how often they come.
+type Repeated = (&'static [u8], usize);
+
+fn append_all(out: &mut Vec<u8>, all: &[Repeated]) -> Result<(), AllocError> {
+    for (bytes, times) in all {
+        append_often(out, bytes, *times)?;
+    }
+    Ok(())
+}
+
+/// What stands one after another in a long source: bytes, and how often they come together.
+type Section = (&'static [Repeated], usize);
+
+fn append_sections(out: &mut Vec<u8>, sections: &[Section]) -> Result<(), AllocError> {
+    for (bytes, times) in sections {
+        for _ in 0..*times {
+            append_all(out, bytes)?;
+        }
+    }
+    Ok(())
+}
+
+/// A long source, and how it ends.
+type Long = (&'static [Section], SourceEnd);
+
+fn is_read_alike<T: Threads + Wait + Copy + Send + 'static>(
+    rt: &T,
+    alloc: Global,
+    format: Format,
+    bytes: &mut Vec<u8>,
+    source: &Long,
+) -> Result<bool, CollectFault> {
+    let (sections, ending) = source;
+    append_sections(bytes, sections)?;
+    let options = options_with(alloc, Pick::Preferred);
+    are_read_alike(rt, alloc, format, bytes, &options, *ending)
+}
+
+/// Each source, read in parts, is as read by one reader.
+fn each_is_read_alike<T: Threads + Wait + Copy + Send + 'static>(
+    rt: &T,
+    alloc: Global,
+    format: Format,
+    sources: &[Long],
+) -> Result<bool, CollectFault> {
+    for source in sources {
+        if !is_read_alike(rt, alloc, format, &mut Vec::new(alloc), source)? {
+            return Ok(false);
+        }
+    }
+    Ok(true)
+}
+
 /// Four lines, of which the third is ignored, and so long that a text of 2,000 times these lines has four readers.
-fn four_lines(alloc: Global) -> Result<Vec<u8>, AllocError> {
-    let mut lines = b"main;parse;read_a_line_of_text 1\nmain;merge 2\n#".to_vec(alloc)?;
-    append_often(&mut lines, b" a long comment", 450)?;
-    lines.extend_from_slice(b"\nmain;parse;cut 3\n")?;
-    Ok(lines)
-}
+const FOUR_LINES: &[Repeated] = &[
+    (b"main;parse;read_a_line_of_text 1\nmain;merge 2\n#", 1),
+    (b" a long comment", 450),
+    (b"\nmain;parse;cut 3\n", 1),
+];
 
-/// A long text, with a line after three quarters of it.
-fn long_text(alloc: Global, line: &[u8]) -> Result<Vec<u8>, AllocError> {
-    let lines = four_lines(alloc)?;
-    let mut text = Vec::new(alloc);
-    append_often(&mut text, &lines, 1_500)?;
-    text.extend_from_slice(line)?;
-    append_often(&mut text, &lines, 500)?;
-    Ok(text)
-}
+/// The four lines so often that 6,000 lines come before others.
+const BEFORE: Section = (FOUR_LINES, 1_500);
 
-fn fault(kind: ReadKind, at: u64) -> SourceEnd {
-    SourceEnd::Fault(ReadFault { kind, at })
-}
+const AFTER: Section = (FOUR_LINES, 500);
 
-/// A line after 6,000 others, and how the text ends.
-const TEXTS: &[(&[u8], SourceEnd)] = &[
-    (b"other;name 7\n", SourceEnd::Clean { ignored: 2_000 }),
-    (b"\x1f\x8b 7\n", SourceEnd::Clean { ignored: 2_000 }),
-    (b"\n", SourceEnd::Clean { ignored: 2_001 }),
+/// A line of another name after three quarters of a text.
+const WITH_OTHER_NAME: &[Section] = &[BEFORE, (&[(b"other;name 7\n", 1)], 1), AFTER];
+
+/// A line after 6,000 others.
+const TEXTS: &[Long] = &[
+    (WITH_OTHER_NAME, SourceEnd::Clean { ignored: 2_000 }),
+    (
+        &[BEFORE, (&[(b"\x1f\x8b 7\n", 1)], 1), AFTER],
+        SourceEnd::Clean { ignored: 2_000 },
+    ),
+    (
+        &[BEFORE, (&[(b"\n", 1)], 1), AFTER],
+        SourceEnd::Clean { ignored: 2_001 },
+    ),
 ];
 
 #[test]
 fn long_texts_in_parts(rt: HostRuntime) -> Result<(), Fail> {
-    for (line, ending) in TEXTS {
-        let text = long_text(rt.alloc(), line)?;
-        read_both_ways(&rt, rt.alloc(), (Format::Folded, text.as_slice(), *ending))?;
-    }
-    Ok(())
+    holds(
+        &rt,
+        each_is_read_alike(&rt, rt.alloc(), Format::Folded, TEXTS),
+    )
 }
 
 /// A line with a fault after 6,000 others.
-const FAULTS: &[(&[u8], ReadKind)] = &[
-    (b"main 1.5\n", ReadKind::DecimalWeight),
-    (b"main 1 2\n", ReadKind::TwoColumns),
-    (b"main 72057594037927935\n", ReadKind::TotalTooLarge),
+const WITH_FAULT: &[Long] = &[
+    (
+        &[BEFORE, (&[(b"main 1.5\n", 1)], 1), AFTER],
+        SourceEnd::Fault(ReadFault {
+            kind: ReadKind::DecimalWeight,
+            at: 6_001,
+        }),
+    ),
+    (
+        &[BEFORE, (&[(b"main 1 2\n", 1)], 1), AFTER],
+        SourceEnd::Fault(ReadFault {
+            kind: ReadKind::TwoColumns,
+            at: 6_001,
+        }),
+    ),
+    (
+        &[BEFORE, (&[(b"main 72057594037927935\n", 1)], 1), AFTER],
+        SourceEnd::Fault(ReadFault {
+            kind: ReadKind::TotalTooLarge,
+            at: 6_001,
+        }),
+    ),
 ];
 
 #[test]
 fn fault_of_a_long_text(rt: HostRuntime) -> Result<(), Fail> {
-    for (line, kind) in FAULTS {
-        let text = long_text(rt.alloc(), line)?;
-        let ending = fault(*kind, 6_001);
-        read_both_ways(&rt, rt.alloc(), (Format::Folded, text.as_slice(), ending))?;
-    }
-    Ok(())
+    holds(
+        &rt,
+        each_is_read_alike(&rt, rt.alloc(), Format::Folded, WITH_FAULT),
+    )
 }
 
+const HALF_OF_ALL: Section = (&[(b"main 36028797018963968\n", 1)], 1);
+
 /// No part weighs too much, and all do.
+const TOO_HEAVY: &[Long] = &[(
+    &[HALF_OF_ALL, (FOUR_LINES, 2_000), HALF_OF_ALL],
+    SourceEnd::Fault(ReadFault {
+        kind: ReadKind::TotalTooLarge,
+        at: 8_002,
+    }),
+)];
+
 #[test]
 fn long_text_that_weighs_too_much(rt: HostRuntime) -> Result<(), Fail> {
-    let mut text = b"main 36028797018963968\n".to_vec(rt.alloc())?;
-    append_often(&mut text, &four_lines(rt.alloc())?, 2_000)?;
-    text.extend_from_slice(b"main 36028797018963968\n")?;
-    let ending = fault(ReadKind::TotalTooLarge, 8_002);
-    read_both_ways(&rt, rt.alloc(), (Format::Folded, text.as_slice(), ending))
+    holds(
+        &rt,
+        each_is_read_alike(&rt, rt.alloc(), Format::Folded, TOO_HEAVY),
+    )
 }
+
+const COMPRESSED: &[Long] = &[(
+    &[(&[(b"\x1f\x8b", 1)], 1), (FOUR_LINES, 2_000)],
+    SourceEnd::Fault(ReadFault {
+        kind: ReadKind::Compressed,
+        at: 1,
+    }),
+)];
 
 #[test]
 fn long_compressed_text(rt: HostRuntime) -> Result<(), Fail> {
-    let mut text = b"\x1f\x8b".to_vec(rt.alloc())?;
-    append_often(&mut text, &four_lines(rt.alloc())?, 2_000)?;
-    let ending = fault(ReadKind::Compressed, 1);
-    read_both_ways(&rt, rt.alloc(), (Format::Folded, text.as_slice(), ending))
+    holds(
+        &rt,
+        each_is_read_alike(&rt, rt.alloc(), Format::Folded, COMPRESSED),
+    )
 }
 
-/// A sample type, two samples of a location each, and the locations, functions and strings.
-const TYPE: &[u8] = b"\x0a\x04\x08\x01\x10\x02";
+const ONE_SAMPLE: Repeated = (b"\x12\x06\x0a\x01\x01\x12\x01\x07", 1);
 
-const ONE_SAMPLE: &[u8] = b"\x12\x06\x0a\x01\x01\x12\x01\x07";
+const OTHER_SAMPLE: Repeated = (b"\x12\x07\x0a\x02\x02\x01\x12\x01\x03", 1);
 
-const OTHER_SAMPLE: &[u8] = b"\x12\x07\x0a\x02\x02\x01\x12\x01\x03";
+/// A sample type, which two samples 5,000 times and others follow.
+const TYPE: Section = (&[(b"\x0a\x04\x08\x01\x10\x02", 1)], 1);
 
-const TABLES: &[u8] = b"\x22\x06\x08\x01\x22\x02\x08\x01\x22\x06\x08\x02\x22\x02\x08\x02\
-\x2a\x04\x08\x01\x10\x03\x2a\x04\x08\x02\x10\x04\x32\x00\x32\x03cpu\x32\x02ns\x32\x04main\x32\x04work";
+const SAMPLES: Section = (&[ONE_SAMPLE, OTHER_SAMPLE], 5_000);
 
-/// A long profile, with a sample after three quarters of it.
-fn long_profile(alloc: Global, sample: &[u8]) -> Result<Vec<u8>, AllocError> {
-    let mut profile = TYPE.to_vec(alloc)?;
-    for _ in 0..5_000 {
-        profile.extend_from_slice(ONE_SAMPLE)?;
-        profile.extend_from_slice(OTHER_SAMPLE)?;
-    }
-    profile.extend_from_slice(sample)?;
-    append_often(&mut profile, OTHER_SAMPLE, 3_500)?;
-    profile.extend_from_slice(TABLES)?;
-    // A string that nothing names makes it so long that it has four readers.
-    profile.extend_from_slice(b"\x32\x80\x80\x80\x03")?;
-    append_often(&mut profile, &[b' '; 1024], 6 << 10)?;
-    Ok(profile)
-}
+const LAST_SAMPLES: Section = (&[OTHER_SAMPLE], 3_500);
 
-/// A sample that stands at 85,006, and how the profile ends.
-const PROFILES: &[(&[u8], SourceEnd)] = &[
+/// The locations, functions and strings. A string that nothing names makes a profile so long that it has four readers.
+const TABLES: Section = (
+    &[
+        (
+            b"\x22\x06\x08\x01\x22\x02\x08\x01\x22\x06\x08\x02\x22\x02\x08\x02",
+            1,
+        ),
+        (b"\x2a\x04\x08\x01\x10\x03\x2a\x04\x08\x02\x10\x04", 1),
+        (b"\x32\x00\x32\x03cpu\x32\x02ns\x32\x04main\x32\x04work", 1),
+        (b"\x32\x80\x80\x80\x03", 1),
+        (&[b' '; 64], 6 << 14),
+    ],
+    1,
+);
+
+/// A sample of a stack of its own, which stands at 85,006 after three quarters of a profile.
+const WITH_OTHER_SAMPLE: &[Section] = &[
+    TYPE,
+    SAMPLES,
+    (&[(b"\x12\x06\x0a\x01\x02\x12\x01\x09", 1)], 1),
+    LAST_SAMPLES,
+    TABLES,
+];
+
+/// A sample that stands at 85,006.
+const PROFILES: &[Long] = &[
+    (WITH_OTHER_SAMPLE, SourceEnd::Clean { ignored: 0 }),
     (
-        b"\x12\x06\x0a\x01\x02\x12\x01\x09",
-        SourceEnd::Clean { ignored: 0 },
-    ),
-    (
-        b"\x12\x06\x0a\x01\x03\x12\x01\x09",
+        &[
+            TYPE,
+            SAMPLES,
+            (&[(b"\x12\x06\x0a\x01\x03\x12\x01\x09", 1)], 1),
+            LAST_SAMPLES,
+            TABLES,
+        ],
         SourceEnd::Fault(ReadFault {
             kind: ReadKind::UnknownLocation,
             at: 85_006,
         }),
     ),
     (
-        b"\x12\x03\x0a\x01\x02",
+        &[
+            TYPE,
+            SAMPLES,
+            (&[(b"\x12\x03\x0a\x01\x02", 1)], 1),
+            LAST_SAMPLES,
+            TABLES,
+        ],
         SourceEnd::Fault(ReadFault {
             kind: ReadKind::ValueCount,
             at: 85_006,
@@ -224,50 +338,81 @@ const PROFILES: &[(&[u8], SourceEnd)] = &[
 
 #[test]
 fn long_profiles_in_parts(rt: HostRuntime) -> Result<(), Fail> {
-    for (sample, ending) in PROFILES {
-        let profile = long_profile(rt.alloc(), sample)?;
-        read_both_ways(
-            &rt,
-            rt.alloc(),
-            (Format::Pprof, profile.as_slice(), *ending),
-        )?;
-    }
-    Ok(())
+    holds(
+        &rt,
+        each_is_read_alike(&rt, rt.alloc(), Format::Pprof, PROFILES),
+    )
 }
 
-/// The tables have a fault, which is told before any sample.
+/// The tables have a fault, which is told before any sample. It stands after 6,408,018 bytes.
+const WITH_BAD_TABLES: &[Long] = &[(
+    &[
+        TYPE,
+        SAMPLES,
+        LAST_SAMPLES,
+        TABLES,
+        (&[(b"\x22\x02\x08\x00", 1)], 1),
+    ],
+    SourceEnd::Fault(ReadFault {
+        kind: ReadKind::ZeroId,
+        at: 6_408_018,
+    }),
+)];
+
 #[test]
 fn long_profile_of_bad_tables(rt: HostRuntime) -> Result<(), Fail> {
-    let mut profile = long_profile(rt.alloc(), b"")?;
-    profile.extend_from_slice(b"\x22\x02\x08\x00")?;
-    let at = profile.len() as u64 - 4;
-    let ending = fault(ReadKind::ZeroId, at);
-    read_both_ways(&rt, rt.alloc(), (Format::Pprof, profile.as_slice(), ending))
+    holds(
+        &rt,
+        each_is_read_alike(&rt, rt.alloc(), Format::Pprof, WITH_BAD_TABLES),
+    )
 }
 
 /// How many names and stacks the one list of a run has.
-fn expect_counts(rt: &impl Abort, run: &WholeRun, names: usize, stacks: usize) {
+fn has_counts(run: &WholeRun, names: usize, stacks: usize) -> bool {
     let lists = run.kept.lists();
-    assert!(rt; lists.len() == 1);
-    assert!(rt; lists[0].told() == names && lists[0].stack_count() == stacks);
+    lists.len() == 1 && lists[0].told() == names && lists[0].stack_count() == stacks
+}
+
+/// The source has so many names and stacks where it is read in parts.
+fn parts_have_counts<T: Threads + Wait + Copy + Send + 'static>(
+    rt: &T,
+    alloc: Global,
+    format: Format,
+    bytes: &mut Vec<u8>,
+    sections: &[Section],
+    names: usize,
+    stacks: usize,
+) -> Result<bool, CollectFault> {
+    append_sections(bytes, sections)?;
+    let options = options_with(alloc, Pick::Preferred);
+    let run = read_as_parts(rt, alloc, format, bytes, &options)?;
+    Ok(has_counts(&run, names, stacks))
 }
 
 /// Each part has the same names and stacks, but for those of one line.
 #[test]
 fn names_and_stacks_of_parts_of_a_text(rt: HostRuntime) -> Result<(), Fail> {
-    let text = long_text(rt.alloc(), b"other;name 7\n")?;
-    let options = options_with(rt.alloc(), Pick::Preferred);
-    let run = read_as_parts(&rt, rt.alloc(), Format::Folded, text.as_slice(), &options)?;
-    expect_counts(&rt, &run, 7, 4);
-    Ok(())
+    let text = &mut Vec::new(rt.alloc());
+    holds(
+        &rt,
+        parts_have_counts(&rt, rt.alloc(), Format::Folded, text, WITH_OTHER_NAME, 7, 4),
+    )
 }
 
 /// A sample of its own stands in the last part, whose stack is a function that other stacks have too.
 #[test]
 fn names_and_stacks_of_parts_of_a_profile(rt: HostRuntime) -> Result<(), Fail> {
-    let profile = long_profile(rt.alloc(), b"\x12\x06\x0a\x01\x02\x12\x01\x09")?;
-    let options = options_with(rt.alloc(), Pick::Preferred);
-    let run = read_as_parts(&rt, rt.alloc(), Format::Pprof, profile.as_slice(), &options)?;
-    expect_counts(&rt, &run, 2, 3);
-    Ok(())
+    let profile = &mut Vec::new(rt.alloc());
+    holds(
+        &rt,
+        parts_have_counts(
+            &rt,
+            rt.alloc(),
+            Format::Pprof,
+            profile,
+            WITH_OTHER_SAMPLE,
+            2,
+            3,
+        ),
+    )
 }

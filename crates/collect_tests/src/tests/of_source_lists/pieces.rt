@@ -1,38 +1,53 @@
 //! A text that comes in pieces, beside the same text read by one reader.
 
 use super::options_with;
-use super::parts::{expect_the_same, read_as_one};
-use run_options::{Format, Pick};
-use source_lists::read_text;
+use super::parts::{append_often, is_as_read_by_one};
+use crate::tests::holds;
+use ring_collect::CollectFault;
+use run_options::{Format, Options, Pick};
+use source_lists::{WholeRun, read_text};
 use stack_core::{NoSink, ReadFault, ReadKind, SourceEnd};
 use std::alloc::{AllocError, Global};
-use std::process::Abort;
 use std::sync::Wait;
 use std::test::Fail;
 use std::thread::Threads;
 
 /// The pieces of a text that have so many bytes, and a last one of what is left.
-fn pieces_of(alloc: Global, text: &[u8], len: usize) -> Result<Vec<Vec<u8>>, AllocError> {
-    let mut pieces = Vec::new(alloc);
+fn add_pieces(
+    alloc: Global,
+    pieces: &mut Vec<Vec<u8>>,
+    text: &[u8],
+    len: usize,
+) -> Result<(), AllocError> {
     for piece in text.chunks(len.max(1)) {
         pieces.push(piece.to_vec(alloc)?)?;
     }
-    Ok(pieces)
+    Ok(())
 }
 
-fn read_both_ways<T: Threads + Wait + Abort + Copy + Send + 'static>(
+fn read_in_pieces<T: Threads + Wait + Copy + Send + 'static>(
     rt: &T,
     alloc: Global,
     text: &[u8],
     len: usize,
+    options: &Options,
+) -> Result<WholeRun, CollectFault> {
+    let mut pieces = Vec::new(alloc);
+    add_pieces(alloc, &mut pieces, text, len)?;
+    read_text(rt, alloc, pieces, options, &mut NoSink::new())
+}
+
+/// The text, read in pieces of so many bytes, is as read by one reader.
+fn is_read_alike<T: Threads + Wait + Copy + Send + 'static>(
+    rt: &T,
+    alloc: Global,
+    text: &[u8],
+    len: usize,
+    options: &Options,
     ending: SourceEnd,
-) -> Result<(), Fail> {
-    let options = options_with(alloc, Pick::Preferred);
-    let pieces = pieces_of(alloc, text, len)?;
-    let read = read_text(rt, alloc, pieces, &options, &mut NoSink::new())?;
-    let one = read_as_one(rt, alloc, Format::Folded, text, &options)?;
-    expect_the_same(rt, &read, &one, ending);
-    Ok(())
+) -> Result<bool, CollectFault> {
+    let run = read_in_pieces(rt, alloc, text, len, options)?;
+    is_as_read_by_one(rt, alloc, Format::Folded, text, options, &run, ending)
 }
 
 /// Texts, and how they end.
@@ -79,23 +94,57 @@ const TEXTS: &[(&[u8], SourceEnd)] = &[
 /// How many bytes a piece has.
 const LENGTHS: &[usize] = &[1, 2, 3, 4, 7, 13, 100];
 
-#[test]
-fn texts_in_pieces(rt: HostRuntime) -> Result<(), Fail> {
-    for (text, ending) in TEXTS {
-        for len in LENGTHS {
-            read_both_ways(&rt, rt.alloc(), text, *len, *ending)?;
+fn is_read_alike_at_each_length<T: Threads + Wait + Copy + Send + 'static>(
+    rt: &T,
+    alloc: Global,
+    text: &[u8],
+    options: &Options,
+    ending: SourceEnd,
+) -> Result<bool, CollectFault> {
+    for len in LENGTHS {
+        if !is_read_alike(rt, alloc, text, *len, options, ending)? {
+            return Ok(false);
         }
     }
-    Ok(())
+    Ok(true)
+}
+
+fn texts_are_read_alike<T: Threads + Wait + Copy + Send + 'static>(
+    rt: &T,
+    alloc: Global,
+    options: &Options,
+) -> Result<bool, CollectFault> {
+    for (text, ending) in TEXTS {
+        if !is_read_alike_at_each_length(rt, alloc, text, options, *ending)? {
+            return Ok(false);
+        }
+    }
+    Ok(true)
+}
+
+#[test]
+fn texts_in_pieces(rt: HostRuntime) -> Result<(), Fail> {
+    let options = options_with(rt.alloc(), Pick::Preferred);
+    holds(&rt, texts_are_read_alike(&rt, rt.alloc(), &options))
+}
+
+fn seventy_lines_are_read_alike<T: Threads + Wait + Copy + Send + 'static>(
+    rt: &T,
+    alloc: Global,
+    text: &mut Vec<u8>,
+    options: &Options,
+) -> Result<bool, CollectFault> {
+    append_often(text, b"a;b 1\n", 70)?;
+    is_read_alike(rt, alloc, text, 6, options, SourceEnd::Clean { ignored: 0 })
 }
 
 /// Each of 70 pieces is a line, and a run has at most 64 readers.
 #[test]
 fn more_pieces_than_readers(rt: HostRuntime) -> Result<(), Fail> {
-    let mut text = Vec::new(rt.alloc());
-    for _ in 0..70 {
-        text.extend_from_slice(b"a;b 1\n")?;
-    }
-    let ending = SourceEnd::Clean { ignored: 0 };
-    read_both_ways(&rt, rt.alloc(), text.as_slice(), 6, ending)
+    let options = options_with(rt.alloc(), Pick::Preferred);
+    let text = &mut Vec::new(rt.alloc());
+    holds(
+        &rt,
+        seventy_lines_are_read_alike(&rt, rt.alloc(), text, &options),
+    )
 }

@@ -166,32 +166,6 @@ impl Gate for StopsAtTwo {
     }
 }
 
-/// Lets two sources go once both asked.
-#[derive(Drop)]
-pub struct BothAsked {
-    pub first: AtomicU64,
-    pub second: AtomicU64,
-}
-
-impl Gate for BothAsked {
-    ghost may_stop = { λ _ _ _. Unit {0} };
-
-    ghost may_go = { λ _ _ _. Unit {0} };
-
-    fn before(&self, source: u32, index: u64) -> Turn {
-        if index > 0 {
-            return Turn::Go;
-        }
-        let (own, other) = if source == 0 {
-            (&self.first, &self.second)
-        } else {
-            (&self.second, &self.first)
-        };
-        own.store(1, Ordering::SeqCst);
-        waited(other, 1)
-    }
-}
-
 /// Lets so many sources go once all asked.
 #[derive(Drop)]
 pub struct AllAsked {
@@ -248,19 +222,14 @@ pub struct Recorder {
 
 impl Recorder {
     /// A recorder with counts of its own.
-    pub fn of_own(alloc: Global) -> Result<Recorder, AllocError> {
-        let counts = Counts::new(alloc)?;
-        Recorder::new(alloc, &counts)
-    }
-
-    pub fn new(alloc: Global, counts: &Arc<Counts>) -> Result<Recorder, AllocError> {
+    pub fn new(alloc: Global) -> Result<Recorder, AllocError> {
         Ok(Recorder {
             pairs: Vec::new(alloc),
             calls: 0,
             refuses_after: None,
             looks_above: None,
             saw_more: false,
-            counts: Arc::try_clone(counts)?,
+            counts: Counts::new(alloc)?,
         })
     }
 

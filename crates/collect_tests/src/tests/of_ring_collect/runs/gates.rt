@@ -1,9 +1,12 @@
 //! Gates that wait for one another, or for the sink, and gates that stop sources.
 
-use super::fakes::{AfterATake, AllAsked, BothAsked, CLEAN, Recorder, StopsAt, StopsAtTwo};
-use super::{EIGHT, THREE, runs_to};
-use stack_core::{Gate, SourceEnd};
-use std::process::Abort;
+use super::fakes::{AfterATake, AllAsked, CLEAN, Recorder, StopsAt, StopsAtTwo};
+use super::lists::Wanted;
+use super::{EIGHT, Given, THREE, runs_alone_to, runs_to};
+use crate::tests::holds;
+use ring_collect::{CollectFault, RingSize};
+use stack_core::SourceEnd;
+use std::alloc::Global;
 use std::sync::atomic::AtomicU64;
 use std::sync::{Arc, Wait};
 use std::test::Fail;
@@ -11,60 +14,62 @@ use std::thread::Threads;
 
 const ONE: &[u8] = &[1];
 
-/// Runs as `runs_to` says, with a sink of its own.
-fn runs_alone_to<
-    T: Threads + Wait + Abort + AllocGlobal + Copy + Send + 'static,
-    G: Gate + Send + Sync + Drop + 'static,
->(
-    rt: &T,
-    sources: &[&'static [u8]],
-    ring: u32,
-    gate: G,
-    lists: &[(&'static [u8], SourceEnd)],
-) -> Result<(), Fail> {
-    let mut sink = Recorder::of_own(rt.alloc())?;
-    runs_to(rt, &mut sink, sources, ring, gate, lists)
-}
+const EIGHT_OF_ONE: &[Given] = &[(ONE, CLEAN, None); 8];
 
-fn two_of_two<T: Threads + Wait + Abort + AllocGlobal + Copy + Send + 'static>(
-    rt: &T,
-) -> Result<(), Fail> {
-    let gate = BothAsked {
-        first: AtomicU64::new(0),
-        second: AtomicU64::new(0),
-    };
-    runs_alone_to(rt, &[ONE; 2], 1, gate, &[(ONE, CLEAN); 2])
-}
+const LISTS_OF_ONE: &[Wanted] = &[(ONE, CLEAN); 8];
 
-fn eight_of_eight<T: Threads + Wait + Abort + AllocGlobal + Copy + Send + 'static>(
+/// Readers of these sources go on once all have asked.
+fn all_meet<T: Threads + Wait + Copy + Send + 'static>(
     rt: &T,
-) -> Result<(), Fail> {
+    alloc: Global,
+    sources: &[Given],
+    lists: &[Wanted],
+) -> Result<bool, CollectFault> {
     let gate = AllAsked {
         asked: AtomicU64::new(0),
-        wanted: 8,
+        wanted: sources.len() as u64,
     };
-    runs_alone_to(rt, &[ONE; 8], 1, gate, &[(ONE, CLEAN); 8])
+    runs_alone_to(rt, alloc, sources, RingSize::of(1).unwrap(), gate, lists)
 }
 
 #[test]
 fn two_readers_meet(rt: HostRuntime) -> Result<(), Fail> {
-    two_of_two(&rt)?;
-    eight_of_eight(&rt)
+    holds(
+        &rt,
+        all_meet(&rt, rt.alloc(), &EIGHT_OF_ONE[..2], &LISTS_OF_ONE[..2]),
+    )?;
+    holds(&rt, all_meet(&rt, rt.alloc(), EIGHT_OF_ONE, LISTS_OF_ONE))
+}
+
+fn sink_takes_before_the_end<T: Threads + Wait + Copy + Send + 'static>(
+    rt: &T,
+    alloc: Global,
+    sink: &mut Recorder,
+) -> Result<bool, CollectFault> {
+    let gate = AfterATake {
+        counts: Arc::try_clone(&sink.counts)?,
+    };
+    let ring = RingSize::of(2).unwrap();
+    runs_to(
+        rt,
+        alloc,
+        sink,
+        &[(EIGHT, CLEAN, None)],
+        ring,
+        gate,
+        &[(EIGHT, CLEAN)],
+    )
 }
 
 #[test]
 fn sink_before_end(rt: HostRuntime) -> Result<(), Fail> {
-    let mut sink = Recorder::of_own(rt.alloc())?;
-    let gate = AfterATake {
-        counts: Arc::try_clone(&sink.counts)?,
-    };
-    runs_to(&rt, &mut sink, &[EIGHT], 2, gate, &[(EIGHT, CLEAN)])
+    let mut sink = Recorder::new(rt.alloc())?;
+    holds(&rt, sink_takes_before_the_end(&rt, rt.alloc(), &mut sink))
 }
 
-const ONE_STOPPED: &[(&[u8], SourceEnd)] = &[
-    (THREE, CLEAN),
-    (&[1, 2], SourceEnd::Stopped { after: 2 }),
-];
+const THREE_OF_THREE: &[Given] = &[(THREE, CLEAN, None); 3];
+
+const ONE_STOPPED: &[Wanted] = &[(THREE, CLEAN), (&[1, 2], SourceEnd::Stopped { after: 2 })];
 
 #[test]
 fn gate_stops_one_source(rt: HostRuntime) -> Result<(), Fail> {
@@ -72,10 +77,21 @@ fn gate_stops_one_source(rt: HostRuntime) -> Result<(), Fail> {
         source: 1,
         index: 2,
     };
-    runs_alone_to(&rt, &[THREE, THREE], 2, gate, ONE_STOPPED)
+    let ring = RingSize::of(2).unwrap();
+    holds(
+        &rt,
+        runs_alone_to(
+            &rt,
+            rt.alloc(),
+            &THREE_OF_THREE[..2],
+            ring,
+            gate,
+            ONE_STOPPED,
+        ),
+    )
 }
 
-const TWO_STOPPED: &[(&[u8], SourceEnd)] = &[
+const TWO_STOPPED: &[Wanted] = &[
     (THREE, CLEAN),
     (&[1, 2], SourceEnd::Stopped { after: 2 }),
     (&[], SourceEnd::Stopped { after: 0 }),
@@ -96,5 +112,10 @@ fn stops_two_sources() -> StopsAtTwo {
 
 #[test]
 fn gate_stops_two_sources(rt: HostRuntime) -> Result<(), Fail> {
-    runs_alone_to(&rt, &[THREE; 3], 1, stops_two_sources(), TWO_STOPPED)
+    let ring = RingSize::of(1).unwrap();
+    let gate = stops_two_sources();
+    holds(
+        &rt,
+        runs_alone_to(&rt, rt.alloc(), THREE_OF_THREE, ring, gate, TWO_STOPPED),
+    )
 }

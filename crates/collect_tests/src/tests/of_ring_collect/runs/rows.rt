@@ -4,13 +4,13 @@ ghost use Rattle.std.specs.Prelude.{◌≡◌, ◌≤◌, [], length, All, IfOk}
 
 use super::fakes::CLEAN;
 use super::lists::is_list;
-use super::{EIGHT, THREE, name_of};
+use super::{EIGHT, THREE, name_of, shared};
+use crate::tests::holds;
 use folded_lines::{FoldedReader, append_line};
-use ring_collect::{Collected, RingSize, collect_rows};
+use ring_collect::{CollectFault, Collected, RingSize, collect_rows};
 use stack_core::{Names, NoSink, OpenGate};
 use std::alloc::{AllocError, Global};
-use std::process::Abort;
-use std::sync::{Arc, Wait};
+use std::sync::Wait;
 use std::test::Fail;
 use std::thread::Threads;
 
@@ -26,12 +26,25 @@ fn count_of(order: &[u32], wanted: u32) -> usize {
 }
 
 /// The lists are whole, and each sample has an entry in the order.
-fn are_whole(rt: &impl Abort, run: &Collected) {
-    assert!(rt; run.lists.len() == 2);
-    is_list(rt, 0, &run.lists[0], EIGHT, CLEAN);
-    is_list(rt, 1, &run.lists[1], THREE, CLEAN);
-    assert!(rt; count_of(run.order.as_slice(), 0) == 8);
-    assert!(rt; run.order.len() == 11);
+fn are_whole(run: &Collected) -> bool {
+    run.lists.len() == 2
+        && is_list(0, &run.lists[0], (EIGHT, CLEAN))
+        && is_list(1, &run.lists[1], (THREE, CLEAN))
+        && count_of(&run.order, 0) == 8
+        && run.order.len() == 11
+}
+
+fn append_lines(
+    alloc: Global,
+    text: &mut Vec<u8>,
+    name: &str,
+    weights: &[u8],
+) -> Result<(), AllocError> {
+    let stack = Names::from_strs(alloc, &[name])?;
+    for weight in weights {
+        append_line(alloc, text, stack.get(), u64::from(*weight))?;
+    }
+    Ok(())
 }
 
 /// A reader of folded lines of one frame and these weights.
@@ -39,10 +52,7 @@ fn lines(alloc: Global, name: &str, weights: &[u8]) -> Result<FoldedReader, Allo
     ensures { IfOk result (λ reader. reader.told ≡ record { names = []; stacks = [] }) }
 {
     let mut text = Vec::new(alloc);
-    let stack = Names::from_strs(alloc, &[name])?;
-    for weight in weights {
-        append_line(alloc, &mut text, stack.get(), u64::from(*weight))?;
-    }
+    append_lines(alloc, &mut text, name, weights)?;
     Ok(FoldedReader::over(text))
 }
 
@@ -58,29 +68,34 @@ fn two_readers(alloc: Global) -> Result<Vec<FoldedReader>, AllocError>
     Ok(readers)
 }
 
-fn alone_in_rings_of<T: Threads + Wait + Abort + AllocGlobal + Copy + Send + 'static>(
+fn alone_in_rings_of<T: Threads + Wait + Copy + Send + 'static>(
     rt: &T,
+    alloc: Global,
     ring: RingSize,
-) -> Result<Collected, Fail> {
-    let gate = Arc::new(rt.alloc(), OpenGate)?;
-    let readers = two_readers(rt.alloc())?;
-    let run = collect_rows(rt, rt.alloc(), readers, ring, gate, &mut NoSink::new())?;
-    Ok(run)
+) -> Result<Collected, CollectFault> {
+    let gate = shared(alloc, OpenGate)?;
+    let readers = two_readers(alloc)?;
+    collect_rows(rt, alloc, readers, ring, gate, &mut NoSink::new())
 }
 
-fn are_whole_in_rings_of<T: Threads + Wait + Abort + AllocGlobal + Copy + Send + 'static>(
+fn are_whole_in_rings_of<T: Threads + Wait + Copy + Send + 'static>(
     rt: &T,
-    size: u32,
-) -> Result<(), Fail> {
-    let ring = RingSize::of(size).expect(rt, "the size of a ring");
-    let run = alone_in_rings_of(rt, ring)?;
-    are_whole(rt, &run);
-    Ok(())
+    alloc: Global,
+    ring: RingSize,
+) -> Result<bool, CollectFault> {
+    let run = alone_in_rings_of(rt, alloc, ring)?;
+    Ok(are_whole(&run))
 }
 
 /// A run for the lists alone.
 #[test]
 fn lists_alone(rt: HostRuntime) -> Result<(), Fail> {
-    are_whole_in_rings_of(&rt, 1)?;
-    are_whole_in_rings_of(&rt, 64)
+    holds(
+        &rt,
+        are_whole_in_rings_of(&rt, rt.alloc(), RingSize::of(1).unwrap()),
+    )?;
+    holds(
+        &rt,
+        are_whole_in_rings_of(&rt, rt.alloc(), RingSize::of(64).unwrap()),
+    )
 }
