@@ -12,22 +12,25 @@ use super::holds;
 use call_tree::{CallTree, FrameTable};
 use growths::go_on;
 use std::alloc::{AllocError, Global};
-use std::process::Abort;
 use std::test::Fail;
 
-/// Adds to a tree whose grand total is small.
-fn add(rt: &impl Abort, tree: &mut CallTree, ids: &[usize], weight: u64) -> Result<(), AllocError>
+/// Adds to a tree. One whose grand total is not small, to which no test comes, is refused.
+fn add(tree: &mut CallTree, ids: &[usize], weight: u64) -> Result<(), AllocError>
     ensures ok { OnOk result (tree.new ≡ with_weight tree.old ids.now weight) }
     ensures err { OnErr result (tree.new ≡ tree.old) }
 {
-    let total = tree.total(&[]);
-    assert!(rt; total < 1_000_000);
+    if tree.total(&[]) >= 1_000_000 {
+        return Err(AllocError);
+    }
     tree.add(ids, weight)
 }
 
-/// The total and the weight of its own at a path.
-fn weights_are(tree: &CallTree, path: &[usize], total: u128, own: u128) -> bool {
-    tree.total(path) == total && tree.own(path) == own
+/// Where a request was refused and all the same nothing is wrong, the answer is that refusal.
+fn unless_refused(kept: bool, refused: bool) -> Result<bool, AllocError> {
+    if kept && refused {
+        return Err(AllocError);
+    }
+    Ok(kept)
 }
 
 /// An empty table gives names these numbers.
@@ -36,15 +39,18 @@ fn numbers_are(
     names: &[(&str, usize)],
     len: usize,
 ) -> Result<bool, AllocError> {
-    if !table.is_empty() {
-        return Ok(false);
-    }
+    let empty = table.is_empty();
     for (name, number) in names {
         if table.intern(name)? != *number {
             return Ok(false);
         }
     }
-    Ok(table.len() == len)
+    Ok(empty && table.len() == len)
+}
+
+/// A new table gives names these numbers.
+fn numbers_names(alloc: Global, names: &[(&str, usize)], len: usize) -> Result<bool, AllocError> {
+    numbers_are(&mut FrameTable::new(alloc), names, len)
 }
 
 const NUMBERED: &[(&str, usize)] = &[
@@ -59,8 +65,7 @@ const NUMBERED: &[(&str, usize)] = &[
 
 #[test]
 fn table(rt: HostRuntime) -> Result<(), Fail> {
-    let table = &mut FrameTable::new(rt.alloc());
-    holds(&rt, numbers_are(table, NUMBERED, 5))
+    holds(&rt, numbers_names(rt.alloc(), NUMBERED, 5))
 }
 
 fn has_name(table: &FrameTable, number: usize, name: &str) -> bool {
@@ -77,11 +82,6 @@ fn intern_all(table: &mut FrameTable, names: &[&str]) -> Result<bool, AllocError
     Ok(table.len() == names.len())
 }
 
-fn children_are(tree: &CallTree, path: &[usize], numbers: &[usize]) -> Result<bool, AllocError> {
-    let children = tree.children(path)?;
-    Ok(children.as_slice() == numbers)
-}
-
 /// What a tree says of a path: the total, the weight of its own, and the numbers of its children.
 type Place<'a> = (&'a [usize], u128, u128, &'a [usize]);
 
@@ -93,8 +93,9 @@ struct Growth<'a> {
 }
 
 fn is_place(tree: &CallTree, place: &Place<'_>) -> Result<bool, AllocError> {
-    let (path, total, own, children) = place;
-    Ok(children_are(tree, path, children)? && weights_are(tree, path, *total, *own))
+    let (path, total, own, numbers) = place;
+    let same_children = tree.children(path)?.as_slice() == *numbers;
+    Ok(same_children && tree.total(path) == *total && tree.own(path) == *own)
 }
 
 fn is_grown(tree: &CallTree, growth: &Growth<'_>) -> Result<bool, AllocError> {
@@ -111,30 +112,40 @@ fn copy_is_grown(tree: &CallTree, growth: &Growth<'_>) -> Result<bool, AllocErro
     is_grown(&copy, growth)
 }
 
-fn add_all(
-    rt: &impl Abort,
-    tree: &mut CallTree,
-    weights: &[(&[usize], u64)],
-) -> Result<(), AllocError> {
+fn add_all(tree: &mut CallTree, weights: &[(&[usize], u64)]) -> Result<(), AllocError> {
     for (ids, weight) in weights {
-        add(rt, tree, ids, *weight)?;
+        add(tree, ids, *weight)?;
     }
     Ok(())
 }
 
-/// A tree and its copy grow so.
-fn grows(rt: &impl Abort, tree: &mut CallTree, growth: &Growth<'_>) -> Result<bool, AllocError> {
-    add_all(rt, tree, growth.weights)?;
-    Ok(is_grown(tree, growth)? && copy_is_grown(tree, growth)?)
+/// A tree and its copy grow so, one growth after another.
+fn grows(tree: &mut CallTree, growths: &[Growth<'_>]) -> Result<bool, AllocError> {
+    for growth in growths {
+        add_all(tree, growth.weights)?;
+        if !is_grown(tree, growth)? || !copy_is_grown(tree, growth)? {
+            return Ok(false);
+        }
+    }
+    Ok(true)
 }
 
-fn new_tree_grows(rt: &impl Abort, alloc: Global, growth: &Growth<'_>) -> Result<bool, AllocError> {
+fn new_tree_grows(alloc: Global, growths: &[Growth<'_>]) -> Result<bool, AllocError> {
     let mut tree = CallTree::new(alloc)?;
-    grows(rt, &mut tree, growth)
+    grows(&mut tree, growths)
+}
+
+/// A new table gives names these numbers, and a tree over them grows so.
+fn names_and_tree_grow(
+    alloc: Global,
+    names: &[(&str, usize)],
+    growths: &[Growth<'_>],
+) -> Result<bool, AllocError> {
+    Ok(numbers_names(alloc, names, 2)? && new_tree_grows(alloc, growths)?)
 }
 
 /// The tree of the worked example.
-const WORKED: Growth<'static> = Growth {
+const WORKED: &[Growth<'static>] = &[Growth {
     weights: &[(&[0, 1], 2), (&[0], 1), (&[0, 1], 3), (&[0, 0], 4)],
     len: 4,
     places: &[
@@ -144,42 +155,40 @@ const WORKED: Growth<'static> = Growth {
         (&[0, 0], 4, 4, &[]),
         (&[1], 0, 0, &[]),
     ],
-};
+}];
 
-/// The numbers of its names.
+/// The numbers of its two names.
 const WORKED_NUMBERS: &[(&str, usize)] = &[("a", 0), ("b", 1), ("a", 0)];
 
 #[test]
 fn table_and_tree(rt: HostRuntime) -> Result<(), Fail> {
-    let table = &mut FrameTable::new(rt.alloc());
-    holds(&rt, numbers_are(table, WORKED_NUMBERS, 2))?;
-    holds(&rt, new_tree_grows(&rt, rt.alloc(), &WORKED))
+    holds(&rt, names_and_tree_grow(rt.alloc(), WORKED_NUMBERS, WORKED))
 }
 
-const WEIGHTLESS: Growth<'static> = Growth {
+const WEIGHTLESS: &[Growth<'static>] = &[Growth {
     weights: &[(&[1, 0], 0)],
     len: 1,
     places: &[(&[], 0, 0, &[]), (&[1], 0, 0, &[])],
-};
+}];
 
 /// A path that is added with weight 0 weighs nothing and has no node.
 #[test]
 fn weightless_path(rt: HostRuntime) -> Result<(), Fail> {
-    holds(&rt, new_tree_grows(&rt, rt.alloc(), &WEIGHTLESS))
+    holds(&rt, new_tree_grows(rt.alloc(), WEIGHTLESS))
 }
 
-const WITH_CHILDREN: Growth<'static> = Growth {
+const WITH_CHILDREN: &[Growth<'static>] = &[Growth {
     weights: &[(&[0, 1], 1), (&[0, 0], 1), (&[0, 1], 1)],
     len: 4,
     places: &[(&[0], 3, 0, &[0, 1]), (&[1], 0, 0, &[])],
-};
+}];
 
 #[test]
 fn children(rt: HostRuntime) -> Result<(), Fail> {
-    holds(&rt, new_tree_grows(&rt, rt.alloc(), &WITH_CHILDREN))
+    holds(&rt, new_tree_grows(rt.alloc(), WITH_CHILDREN))
 }
 
-const WITH_RECURSION: Growth<'static> = Growth {
+const WITH_RECURSION: &[Growth<'static>] = &[Growth {
     weights: &[(&[7, 7, 7], 3)],
     len: 4,
     places: &[
@@ -188,16 +197,16 @@ const WITH_RECURSION: Growth<'static> = Growth {
         (&[7, 7], 3, 0, &[7]),
         (&[7, 7, 7], 3, 3, &[]),
     ],
-};
+}];
 
 /// A number that stands more than once in a path counts once.
 #[test]
 fn recursion_counts_once(rt: HostRuntime) -> Result<(), Fail> {
-    holds(&rt, new_tree_grows(&rt, rt.alloc(), &WITH_RECURSION))
+    holds(&rt, new_tree_grows(rt.alloc(), WITH_RECURSION))
 }
 
 /// With any one growth refused, a table and a tree keep what they held and go on; the test then ends in that refusal.
 #[test]
 fn each_growth_refused(rt: HostRuntime) -> Result<(), Fail> {
-    holds(&rt, go_on(&rt, rt.alloc(), &mut false))
+    holds(&rt, go_on(rt.alloc(), &mut false))
 }

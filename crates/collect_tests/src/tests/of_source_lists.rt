@@ -73,24 +73,16 @@ fn are_types(types: &[SampleType], expected: &[(&str, &str)]) -> bool {
     true
 }
 
+/// The options choose types of these names and units of the worked sources.
 fn types_are_chosen(
-    alloc: Global,
-    options: &Options,
-    sources: &[Source],
-    expected: &[(&str, &str)],
-) -> Result<bool, AllocError> {
-    let types = chosen_types(alloc, sources, options)?;
-    Ok(are_types(&types, expected))
-}
-
-fn types_of_worked_are_chosen(
     alloc: Global,
     options: &Options,
     sources: &mut Vec<Source>,
     expected: &[(&str, &str)],
 ) -> Result<bool, AllocError> {
     add_worked_sources(alloc, sources)?;
-    types_are_chosen(alloc, options, sources, expected)
+    let types = chosen_types(alloc, sources, options)?;
+    Ok(are_types(&types, expected))
 }
 
 /// By this pick, the types of the worked sources have these names and units.
@@ -100,7 +92,7 @@ fn types_are_picked(
     expected: &[(&str, &str)],
 ) -> Result<bool, AllocError> {
     let options = options_with(alloc, pick);
-    types_of_worked_are_chosen(alloc, &options, &mut Vec::new(alloc), expected)
+    types_are_chosen(alloc, &options, &mut Vec::new(alloc), expected)
 }
 
 fn types_are_picked_by_name(

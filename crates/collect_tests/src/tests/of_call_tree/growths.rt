@@ -1,9 +1,8 @@
 //! Calls that are asked again where a growth was refused, after a look that nothing changed.
 
-use super::add;
+use super::{add, unless_refused};
 use call_tree::{CallTree, FrameTable};
 use std::alloc::{AllocError, Global};
-use std::process::Abort;
 
 const NAMES: &[&str] = &["main", "read", "parse", "emit", "close"];
 
@@ -63,29 +62,24 @@ fn weights_at(tree: &CallTree, ids: &[usize; 3]) -> Weights {
 
 /// Adds 5 at a path. Where that is refused, the tree has the weights that it had, and is asked again.
 fn adds_again(
-    rt: &impl Abort,
     tree: &mut CallTree,
     ids: &[usize; 3],
     refused: &mut bool,
 ) -> Result<bool, AllocError> {
     let before = weights_at(tree, ids);
-    if add(rt, tree, ids, 5).is_ok() {
+    if add(tree, ids, 5).is_ok() {
         return Ok(true);
     }
     *refused = true;
     let same = weights_at(tree, ids) == before;
-    add(rt, tree, ids, 5)?;
+    add(tree, ids, 5)?;
     Ok(same)
 }
 
 /// A tree keeps the weights that it held, and goes on over eight paths.
-fn paths_go_on(
-    rt: &impl Abort,
-    tree: &mut CallTree,
-    refused: &mut bool,
-) -> Result<bool, AllocError> {
+fn paths_go_on(tree: &mut CallTree, refused: &mut bool) -> Result<bool, AllocError> {
     for frame in 0..8 {
-        if !adds_again(rt, tree, &[frame % 3, frame, frame], refused)? {
+        if !adds_again(tree, &[frame % 3, frame, frame], refused)? {
             return Ok(false);
         }
     }
@@ -107,31 +101,16 @@ fn copies_again(tree: &CallTree, refused: &mut bool) -> Result<bool, AllocError>
 }
 
 /// A tree and its copy have the weights of the eight paths.
-fn tree_goes_on(
-    rt: &impl Abort,
-    tree: &mut CallTree,
-    refused: &mut bool,
-) -> Result<bool, AllocError> {
-    let kept = paths_go_on(rt, tree, refused)?;
-    Ok(kept && has_eight_paths(tree) && copies_again(tree, refused)?)
-}
-
-fn both_go_on(rt: &impl Abort, alloc: Global, refused: &mut bool) -> Result<bool, AllocError> {
-    if !table_goes_on(&mut FrameTable::new(alloc), refused)? {
-        return Ok(false);
-    }
-    tree_goes_on(rt, &mut CallTree::new(alloc)?, refused)
+fn tree_goes_on(tree: &mut CallTree, refused: &mut bool) -> Result<bool, AllocError> {
+    let kept = paths_go_on(tree, refused)?;
+    let copied = copies_again(tree, refused)?;
+    unless_refused(kept && copied && has_eight_paths(tree), *refused)
 }
 
 /// A table and a tree keep what they held and go on. Where a growth was refused, the answer is that refusal.
-pub(super) fn go_on(
-    rt: &impl Abort,
-    alloc: Global,
-    refused: &mut bool,
-) -> Result<bool, AllocError> {
-    let kept = both_go_on(rt, alloc, refused)?;
-    if kept && *refused {
-        return Err(AllocError);
+pub(super) fn go_on(alloc: Global, refused: &mut bool) -> Result<bool, AllocError> {
+    if !table_goes_on(&mut FrameTable::new(alloc), refused)? {
+        return Ok(false);
     }
-    Ok(kept)
+    tree_goes_on(&mut CallTree::new(alloc)?, refused)
 }

@@ -29,7 +29,7 @@ fn add_known(
 {
     for (ids, weight) in weights {
         are_known(rt, table, ids);
-        add(rt, tree, ids, *weight)?;
+        add(tree, ids, *weight)?;
     }
     Ok(())
 }
@@ -66,16 +66,18 @@ fn visits_are(visits: &[Visit], rows: &[Row]) -> bool {
     true
 }
 
-/// A tree of these weights is listed so.
-fn table_lists(
+/// The listing of a tree of these weights, whose frames have these names. It is empty where they get no such numbers.
+fn visits_of(
     rt: &impl Abort,
     alloc: Global,
-    table: &FrameTable,
+    names: &[&str],
     weights: &[(&[usize], u64)],
-    rows: &[Row],
-) -> Result<bool, AllocError> {
-    let visits = listed(rt, alloc, table, weights)?;
-    Ok(visits_are(&visits, rows))
+) -> Result<Vec<Visit>, AllocError> {
+    let mut table = FrameTable::new(alloc);
+    if !intern_all(&mut table, names)? {
+        return Ok(Vec::new(alloc));
+    }
+    listed(rt, alloc, &table, weights)
 }
 
 /// A tree of these weights, whose frames have these names, is listed so.
@@ -86,8 +88,8 @@ fn names_list(
     weights: &[(&[usize], u64)],
     rows: &[Row],
 ) -> Result<bool, AllocError> {
-    let mut table = FrameTable::new(alloc);
-    Ok(intern_all(&mut table, names)? && table_lists(rt, alloc, &table, weights, rows)?)
+    let visits = visits_of(rt, alloc, names, weights)?;
+    Ok(visits_are(&visits, rows))
 }
 
 const TWO_PATHS: &[(&[usize], u64)] = &[(&[0], 2), (&[1, 0], 1)];
@@ -143,23 +145,13 @@ fn is_one_path(visits: &[Visit]) -> bool {
     visits.len() == 4097
 }
 
-fn lists_one_path(
-    rt: &impl Abort,
-    alloc: Global,
-    table: &FrameTable,
-    path: &[usize],
-) -> Result<bool, AllocError> {
-    let visits = listed(rt, alloc, table, &[(path, 1)])?;
+fn deep_path_is_listed(rt: &impl Abort, alloc: Global) -> Result<bool, AllocError> {
+    let visits = visits_of(rt, alloc, &["f"], &[(&[0; 4096], 1)])?;
     Ok(is_one_path(&visits))
-}
-
-fn name_lists_deep_path(rt: &impl Abort, alloc: Global) -> Result<bool, AllocError> {
-    let mut table = FrameTable::new(alloc);
-    Ok(intern_all(&mut table, &["f"])? && lists_one_path(rt, alloc, &table, &[0; 4096])?)
 }
 
 /// The deepest path that a stack can have.
 #[test]
 fn listing_of_a_deep_path(rt: HostRuntime) -> Result<(), Fail> {
-    holds(&rt, name_lists_deep_path(&rt, rt.alloc()))
+    holds(&rt, deep_path_is_listed(&rt, rt.alloc()))
 }

@@ -1,6 +1,7 @@
 //! What a cache of spellings finds again, which no contract promises.
 ghost use Rattle.std.specs.Prelude.{◌≤◌, ◌+◌, ◌*◌, length};
 
+use super::unless_refused;
 use crate::tests::holds;
 use call_tree::SpellingCache;
 use std::alloc::AllocError;
@@ -110,7 +111,8 @@ fn all_are_found_twice(cache: &SpellingCache, text: &[u8]) -> bool {
     are_found(cache, text, COUNT)
 }
 
-fn cache_keeps_all(
+/// A cache keeps what it knew and goes on. Where a growth was refused, the answer is that refusal.
+fn cache_goes_on(
     cache: &mut SpellingCache,
     text: &mut Vec<u8>,
     refused: &mut bool,
@@ -118,20 +120,7 @@ fn cache_keeps_all(
     append_spellings(text, COUNT, false)?;
     let remembered = remembers_all(cache, text, refused)?;
     append_spellings(text, COUNT, false)?;
-    Ok(remembered && all_are_found_twice(cache, text))
-}
-
-/// A cache keeps what it knew and goes on. Where a growth was refused, the answer is that refusal.
-fn cache_goes_on(
-    cache: &mut SpellingCache,
-    text: &mut Vec<u8>,
-    refused: &mut bool,
-) -> Result<bool, AllocError> {
-    let kept = cache_keeps_all(cache, text, refused)?;
-    if kept && *refused {
-        return Err(AllocError);
-    }
-    Ok(kept)
+    unless_refused(remembered && all_are_found_twice(cache, text), *refused)
 }
 
 /// With any one growth refused, spellings are found at the bytes that were remembered and at equal ones, and others are not; the
@@ -215,6 +204,7 @@ const AHEAD: &[&[(usize, usize)]] = &[
 ];
 
 fn hinted_are_found(cache: &mut SpellingCache) -> Result<bool, AllocError> {
+    let wanted = cache.wants_hints();
     remember_two(cache)?;
     for spellings in AHEAD {
         cache.look_ahead(FOUR, spellings);
@@ -222,21 +212,13 @@ fn hinted_are_found(cache: &mut SpellingCache) -> Result<bool, AllocError> {
             return Ok(false);
         }
     }
-    Ok(true)
-}
-
-/// A cache with hints finds what it is to.
-fn wanted_hints_are_found(cache: &mut SpellingCache) -> Result<bool, AllocError> {
-    Ok(cache.wants_hints() && hinted_are_found(cache)?)
+    Ok(wanted)
 }
 
 /// Whatever is looked ahead for, each spelling is told apart.
 #[test]
 fn hinted_spellings_are_told_apart(rt: HostRuntime) -> Result<(), Fail> {
-    holds(
-        &rt,
-        wanted_hints_are_found(&mut SpellingCache::new(rt.alloc())),
-    )
+    holds(&rt, hinted_are_found(&mut SpellingCache::new(rt.alloc())))
 }
 
 /// Remembers spellings with one hash, each of which is found right after.

@@ -9,7 +9,7 @@ mod refusals;
 mod rows;
 
 use self::fakes::{CLEAN, Counts, Recorder, Tape};
-use self::lists::{Wanted, is_run};
+use self::lists::is_run;
 use crate::tests::holds;
 use ring_collect::{CollectFault, Collected, RingSize, collect};
 use stack_core::{Gate, OpenGate, ReadFault, ReadKind, SourceEnd};
@@ -30,53 +30,59 @@ fn name_of(source: usize) -> &'static str {
 /// What a reader gives: samples of these weights, an ending, and how many calls come before the one that is refused, if one is.
 type Given = (&'static [u8], SourceEnd, Option<u32>);
 
-fn add_tapes(tapes: &mut Vec<Tape>, counts: &Arc<Counts>, all: &[Given]) -> Result<(), AllocError> {
-    for (source, given) in all.iter().enumerate() {
+/// What the list of a source has: samples of these weights, and an ending.
+type Wanted = (&'static [u8], SourceEnd);
+
+type Source = (Given, Wanted);
+
+fn add_tapes(
+    tapes: &mut Vec<Tape>,
+    counts: &Arc<Counts>,
+    sources: &[Source],
+) -> Result<(), AllocError> {
+    for (source, (given, _)) in sources.iter().enumerate() {
         let (weights, ending, refuses_after) = *given;
+        let counts = Arc::try_clone(counts)?;
+        counts.made.fetch_add(1, Ordering::SeqCst);
         tapes.push(Tape {
             name: name_of(source),
             weights,
             ending,
             refuses_after,
-            counts: Arc::try_clone(counts)?,
+            counts,
         })?;
     }
     Ok(())
 }
 
 /// A reader for each source, of which a run has no more than 64.
-fn tapes(alloc: Global, counts: &Arc<Counts>, all: &[Given]) -> Result<Vec<Tape>, CollectFault>
+fn tapes(alloc: Global, counts: &Arc<Counts>, sources: &[Source]) -> Result<Vec<Tape>, CollectFault>
     ensures { IfOk result (λ tapes. length tapes.items ≤ 64) }
 {
     let mut tapes = Vec::new(alloc);
-    add_tapes(&mut tapes, counts, all)?;
+    add_tapes(&mut tapes, counts, sources)?;
     if tapes.len() > 64 {
         return Err(CollectFault::NoThread);
     }
     Ok(tapes)
 }
 
-/// Whether so many readers were dropped.
-fn dropped(sink: &Recorder, count: usize) -> bool {
-    sink.counts.drops.load(Ordering::SeqCst) == count as u64
-}
-
 fn shared<G: Drop>(alloc: Global, gate: G) -> Result<Arc<G>, AllocError> {
     Ok(Arc::new(alloc, gate)?)
 }
 
-/// What a run over sources answers whose readers give this.
-fn answer_of<T: Threads + Wait + Copy + Send + 'static, G: Gate + Send + Sync + Drop + 'static>(
+/// What a run over sources answers.
+fn collected<T: Threads + Wait + Copy + Send + 'static, G: Gate + Send + Sync + Drop + 'static>(
     rt: &T,
     alloc: Global,
     sink: &mut Recorder,
-    sources: &[Given],
+    sources: &[Source],
     ring: RingSize,
     gate: G,
-) -> Result<Result<Collected, CollectFault>, CollectFault> {
+) -> Result<Collected, CollectFault> {
     let gate = shared(alloc, gate)?;
     let readers = tapes(alloc, &sink.counts, sources)?;
-    Ok(collect(rt, alloc, readers, ring, gate, sink))
+    collect(rt, alloc, readers, ring, gate, sink)
 }
 
 /// Runs over such sources, whose lists and order are as they are to be. Every reader was dropped.
@@ -84,26 +90,24 @@ fn runs_to<T: Threads + Wait + Copy + Send + 'static, G: Gate + Send + Sync + Dr
     rt: &T,
     alloc: Global,
     sink: &mut Recorder,
-    sources: &[Given],
+    sources: &[Source],
     ring: RingSize,
     gate: G,
-    lists: &[Wanted],
 ) -> Result<bool, CollectFault> {
-    let run = answer_of(rt, alloc, sink, sources, ring, gate)??;
-    Ok(is_run(&run, sink, lists) && dropped(sink, sources.len()))
+    let run = collected(rt, alloc, sink, sources, ring, gate)?;
+    Ok(is_run(&run, sink, sources))
 }
 
 /// Runs as `runs_to` says, with a sink of its own.
 fn runs_alone_to<T: Threads + Wait + Copy + Send + 'static, G: Gate + Send + Sync + Drop + 'static>(
     rt: &T,
     alloc: Global,
-    sources: &[Given],
+    sources: &[Source],
     ring: RingSize,
     gate: G,
-    lists: &[Wanted],
 ) -> Result<bool, CollectFault> {
     let mut sink = Recorder::new(alloc)?;
-    runs_to(rt, alloc, &mut sink, sources, ring, gate, lists)
+    runs_to(rt, alloc, &mut sink, sources, ring, gate)
 }
 
 const THREE: &[u8] = &[1, 2, 3];
@@ -114,33 +118,28 @@ const TWENTY: &[u8] = &[1; 20];
 
 const HUNDRED: &[u8] = &[1; 100];
 
-/// The lines of README.md up to the run.
-fn run_of_the_page<T: Threads + Wait + Copy + Send + 'static>(
-    rt: &T,
-    alloc: Global,
-    sink: &mut Recorder,
-) -> Result<Collected, CollectFault> {
-    let sources: &[Given] = &[(&[1, 2], CLEAN, None), (&[3], CLEAN, None)];
-    let readers = tapes(alloc, &sink.counts, sources)?;
-    let ring = RingSize::of(2).unwrap();
-    let gate = shared(alloc, OpenGate)?;
-    collect(rt, alloc, readers, ring, gate, sink)
-}
+const OF_THE_PAGE: &[Source] = &[
+    ((&[1, 2], CLEAN, None), (&[1, 2], CLEAN)),
+    ((&[3], CLEAN, None), (&[3], CLEAN)),
+];
 
-fn is_run_of_the_page(run: &Collected) -> bool {
+fn is_run_of_the_page(run: &Collected, sink: &Recorder) -> bool {
     run.order.len() == 3
+        && sink.pairs.len() == 3
         && run.lists.len() == 2
         && run.lists[0].len() == 2
         && run.lists[0].weight(1) == 2
 }
 
+/// Makes the calls of README.md.
 fn runs_as_on_the_page<T: Threads + Wait + Copy + Send + 'static>(
     rt: &T,
     alloc: Global,
     sink: &mut Recorder,
 ) -> Result<bool, CollectFault> {
-    let run = run_of_the_page(rt, alloc, sink)?;
-    Ok(is_run_of_the_page(&run) && sink.pairs.len() == 3)
+    let ring = RingSize::of(2).unwrap();
+    let run = collected(rt, alloc, sink, OF_THE_PAGE, ring, OpenGate)?;
+    Ok(is_run_of_the_page(&run, sink))
 }
 
 /// The example of README.md.
@@ -150,41 +149,42 @@ fn example_of_the_page(rt: HostRuntime) -> Result<(), Fail> {
     holds(&rt, runs_as_on_the_page(&rt, rt.alloc(), &mut sink))
 }
 
-/// Whether the sink saw readers give more samples than that before it took one, which is to be so or not.
+/// The sink sees readers give more samples than that before it takes one, or does not, as is wanted.
 fn sees_more<T: Threads + Wait + Copy + Send + 'static>(
     rt: &T,
     alloc: Global,
     above: u64,
-    weights: &'static [u8],
+    sources: &[Source],
     ring: RingSize,
     more: bool,
 ) -> Result<bool, CollectFault> {
     let mut sink = Recorder::new(alloc)?;
     sink.looks_above = Some(above);
-    let sources: &[Given] = &[(weights, CLEAN, None)];
-    let runs = runs_to(
-        rt,
-        alloc,
-        &mut sink,
-        sources,
-        ring,
-        OpenGate,
-        &[(weights, CLEAN)],
-    )?;
-    Ok(runs && sink.saw_more == more)
+    let runs = runs_to(rt, alloc, &mut sink, sources, ring, OpenGate)?;
+    Ok(runs & (sink.saw_more == more))
 }
+
+const ONE_OF_HUNDRED: &[Source] = &[((HUNDRED, CLEAN, None), (HUNDRED, CLEAN))];
 
 #[test]
 fn ring_holds_back(rt: HostRuntime) -> Result<(), Fail> {
     let ring = RingSize::of(2).unwrap();
-    holds(&rt, sees_more(&rt, rt.alloc(), 4, HUNDRED, ring, false))
+    holds(
+        &rt,
+        sees_more(&rt, rt.alloc(), 4, ONE_OF_HUNDRED, ring, false),
+    )
 }
+
+const ONE_OF_TWENTY: &[Source] = &[((TWENTY, CLEAN, None), (TWENTY, CLEAN))];
 
 // While the first sample is taken, the next eight are in the ring, and the reader waits with the tenth.
 #[test]
 fn ring_is_not_smaller(rt: HostRuntime) -> Result<(), Fail> {
     let ring = RingSize::of(8).unwrap();
-    holds(&rt, sees_more(&rt, rt.alloc(), 9, TWENTY, ring, true))
+    holds(
+        &rt,
+        sees_more(&rt, rt.alloc(), 9, ONE_OF_TWENTY, ring, true),
+    )
 }
 
 const TOO_DEEP: SourceEnd = SourceEnd::Fault(ReadFault {
@@ -193,41 +193,31 @@ const TOO_DEEP: SourceEnd = SourceEnd::Fault(ReadFault {
 });
 
 /// Three sources, the second of which ends in a fault.
-const WITH_FAULT: &[Given] = &[
-    (HUNDRED, CLEAN, None),
-    (EIGHT, TOO_DEEP, None),
-    (HUNDRED, CLEAN, None),
+const WITH_FAULT: &[Source] = &[
+    ((HUNDRED, CLEAN, None), (HUNDRED, CLEAN)),
+    ((EIGHT, TOO_DEEP, None), (EIGHT, TOO_DEEP)),
+    ((HUNDRED, CLEAN, None), (HUNDRED, CLEAN)),
 ];
-
-const LISTS_WITH_FAULT: &[Wanted] = &[(HUNDRED, CLEAN), (EIGHT, TOO_DEEP), (HUNDRED, CLEAN)];
 
 fn three_run_in_rings_of<T: Threads + Wait + Copy + Send + 'static>(
     rt: &T,
     alloc: Global,
     ring: RingSize,
 ) -> Result<bool, CollectFault> {
-    runs_alone_to(rt, alloc, WITH_FAULT, ring, OpenGate, LISTS_WITH_FAULT)
+    runs_alone_to(rt, alloc, WITH_FAULT, ring, OpenGate)
 }
 
 #[test]
 fn three_readers(rt: HostRuntime) -> Result<(), Fail> {
-    holds(
-        &rt,
-        three_run_in_rings_of(&rt, rt.alloc(), RingSize::of(1).unwrap()),
-    )?;
-    holds(
-        &rt,
-        three_run_in_rings_of(&rt, rt.alloc(), RingSize::of(65_536).unwrap()),
-    )
+    let [small, large] = [RingSize::of(1).unwrap(), RingSize::of(65_536).unwrap()];
+    holds(&rt, three_run_in_rings_of(&rt, rt.alloc(), small))?;
+    holds(&rt, three_run_in_rings_of(&rt, rt.alloc(), large))
 }
 
 #[test]
 fn no_readers(rt: HostRuntime) -> Result<(), Fail> {
     let ring = RingSize::of(1).unwrap();
-    holds(
-        &rt,
-        runs_alone_to(&rt, rt.alloc(), &[], ring, OpenGate, &[]),
-    )
+    holds(&rt, runs_alone_to(&rt, rt.alloc(), &[], ring, OpenGate))
 }
 
 const SIZES: &[(u32, Option<u32>)] = &[

@@ -1,10 +1,10 @@
 //! A text that comes in pieces, beside the same text read by one reader.
 
 use super::options_with;
-use super::parts::{append_often, is_as_read_by_one};
+use super::parts::is_as_read_by_one;
 use crate::tests::holds;
 use ring_collect::CollectFault;
-use run_options::{Format, Options, Pick};
+use run_options::{Format, Pick};
 use source_lists::{WholeRun, read_text};
 use stack_core::{NoSink, ReadFault, ReadKind, SourceEnd};
 use std::alloc::{AllocError, Global};
@@ -30,11 +30,11 @@ fn read_in_pieces<T: Threads + Wait + Copy + Send + 'static>(
     alloc: Global,
     text: &[u8],
     len: usize,
-    options: &Options,
 ) -> Result<WholeRun, CollectFault> {
     let mut pieces = Vec::new(alloc);
     add_pieces(alloc, &mut pieces, text, len)?;
-    read_text(rt, alloc, pieces, options, &mut NoSink::new())
+    let options = options_with(alloc, Pick::Preferred);
+    read_text(rt, alloc, pieces, &options, &mut NoSink::new())
 }
 
 /// The text, read in pieces of so many bytes, is as read by one reader.
@@ -42,12 +42,11 @@ fn is_read_alike<T: Threads + Wait + Copy + Send + 'static>(
     rt: &T,
     alloc: Global,
     text: &[u8],
-    len: usize,
-    options: &Options,
     ending: SourceEnd,
+    len: usize,
 ) -> Result<bool, CollectFault> {
-    let run = read_in_pieces(rt, alloc, text, len, options)?;
-    is_as_read_by_one(rt, alloc, Format::Folded, text, options, &run, ending)
+    let run = read_in_pieces(rt, alloc, text, len)?;
+    is_as_read_by_one(rt, alloc, Format::Folded, text, &run, ending)
 }
 
 /// Texts, and how they end.
@@ -94,29 +93,18 @@ const TEXTS: &[(&[u8], SourceEnd)] = &[
 /// How many bytes a piece has.
 const LENGTHS: &[usize] = &[1, 2, 3, 4, 7, 13, 100];
 
-fn is_read_alike_at_each_length<T: Threads + Wait + Copy + Send + 'static>(
+/// Each text is read alike in pieces of each of these lengths.
+fn are_read_alike<T: Threads + Wait + Copy + Send + 'static>(
     rt: &T,
     alloc: Global,
-    text: &[u8],
-    options: &Options,
-    ending: SourceEnd,
+    texts: &[(&[u8], SourceEnd)],
+    lengths: &[usize],
 ) -> Result<bool, CollectFault> {
-    for len in LENGTHS {
-        if !is_read_alike(rt, alloc, text, *len, options, ending)? {
-            return Ok(false);
-        }
-    }
-    Ok(true)
-}
-
-fn texts_are_read_alike<T: Threads + Wait + Copy + Send + 'static>(
-    rt: &T,
-    alloc: Global,
-    options: &Options,
-) -> Result<bool, CollectFault> {
-    for (text, ending) in TEXTS {
-        if !is_read_alike_at_each_length(rt, alloc, text, options, *ending)? {
-            return Ok(false);
+    for (text, ending) in texts {
+        for len in lengths {
+            if !is_read_alike(rt, alloc, text, *ending, *len)? {
+                return Ok(false);
+            }
         }
     }
     Ok(true)
@@ -124,27 +112,22 @@ fn texts_are_read_alike<T: Threads + Wait + Copy + Send + 'static>(
 
 #[test]
 fn texts_in_pieces(rt: HostRuntime) -> Result<(), Fail> {
-    let options = options_with(rt.alloc(), Pick::Preferred);
-    holds(&rt, texts_are_read_alike(&rt, rt.alloc(), &options))
-}
-
-fn seventy_lines_are_read_alike<T: Threads + Wait + Copy + Send + 'static>(
-    rt: &T,
-    alloc: Global,
-    text: &mut Vec<u8>,
-    options: &Options,
-) -> Result<bool, CollectFault> {
-    append_often(text, b"a;b 1\n", 70)?;
-    is_read_alike(rt, alloc, text, 6, options, SourceEnd::Clean { ignored: 0 })
+    holds(&rt, are_read_alike(&rt, rt.alloc(), TEXTS, LENGTHS))
 }
 
 /// Each of 70 pieces is a line, and a run has at most 64 readers.
+const SEVENTY: &[(&[u8], SourceEnd)] = &[(
+    b"a;b 1\na;b 1\na;b 1\na;b 1\na;b 1\na;b 1\na;b 1\na;b 1\na;b 1\na;b 1\n\
+a;b 1\na;b 1\na;b 1\na;b 1\na;b 1\na;b 1\na;b 1\na;b 1\na;b 1\na;b 1\n\
+a;b 1\na;b 1\na;b 1\na;b 1\na;b 1\na;b 1\na;b 1\na;b 1\na;b 1\na;b 1\n\
+a;b 1\na;b 1\na;b 1\na;b 1\na;b 1\na;b 1\na;b 1\na;b 1\na;b 1\na;b 1\n\
+a;b 1\na;b 1\na;b 1\na;b 1\na;b 1\na;b 1\na;b 1\na;b 1\na;b 1\na;b 1\n\
+a;b 1\na;b 1\na;b 1\na;b 1\na;b 1\na;b 1\na;b 1\na;b 1\na;b 1\na;b 1\n\
+a;b 1\na;b 1\na;b 1\na;b 1\na;b 1\na;b 1\na;b 1\na;b 1\na;b 1\na;b 1\n",
+    SourceEnd::Clean { ignored: 0 },
+)];
+
 #[test]
 fn more_pieces_than_readers(rt: HostRuntime) -> Result<(), Fail> {
-    let options = options_with(rt.alloc(), Pick::Preferred);
-    let text = &mut Vec::new(rt.alloc());
-    holds(
-        &rt,
-        seventy_lines_are_read_alike(&rt, rt.alloc(), text, &options),
-    )
+    holds(&rt, are_read_alike(&rt, rt.alloc(), SEVENTY, &[6]))
 }

@@ -16,6 +16,8 @@ pub const CLEAN: SourceEnd = SourceEnd::Clean { ignored: 0 };
 /// What the threads of a run count.
 #[derive(Drop)]
 pub struct Counts {
+    /// The readers that were made.
+    pub made: AtomicU64,
     /// The readers that were dropped.
     pub drops: AtomicU64,
     /// The samples that readers gave.
@@ -27,6 +29,7 @@ pub struct Counts {
 impl Counts {
     pub fn new(alloc: Global) -> Result<Arc<Counts>, AllocError> {
         let counts = Counts {
+            made: AtomicU64::new(0),
             drops: AtomicU64::new(0),
             given: AtomicU64::new(0),
             takes: AtomicU64::new(0),

@@ -1,8 +1,7 @@
 //! Gates that wait for one another, or for the sink, and gates that stop sources.
 
 use super::fakes::{AfterATake, AllAsked, CLEAN, Recorder, StopsAt, StopsAtTwo};
-use super::lists::Wanted;
-use super::{EIGHT, Given, THREE, runs_alone_to, runs_to};
+use super::{EIGHT, Source, THREE, runs_alone_to, runs_to};
 use crate::tests::holds;
 use ring_collect::{CollectFault, RingSize};
 use stack_core::SourceEnd;
@@ -14,32 +13,30 @@ use std::thread::Threads;
 
 const ONE: &[u8] = &[1];
 
-const EIGHT_OF_ONE: &[Given] = &[(ONE, CLEAN, None); 8];
+const TWO_OF_ONE: &[Source] = &[((ONE, CLEAN, None), (ONE, CLEAN)); 2];
 
-const LISTS_OF_ONE: &[Wanted] = &[(ONE, CLEAN); 8];
+const EIGHT_OF_ONE: &[Source] = &[((ONE, CLEAN, None), (ONE, CLEAN)); 8];
 
 /// Readers of these sources go on once all have asked.
 fn all_meet<T: Threads + Wait + Copy + Send + 'static>(
     rt: &T,
     alloc: Global,
-    sources: &[Given],
-    lists: &[Wanted],
+    sources: &[Source],
 ) -> Result<bool, CollectFault> {
     let gate = AllAsked {
         asked: AtomicU64::new(0),
         wanted: sources.len() as u64,
     };
-    runs_alone_to(rt, alloc, sources, RingSize::of(1).unwrap(), gate, lists)
+    runs_alone_to(rt, alloc, sources, RingSize::of(1).unwrap(), gate)
 }
 
 #[test]
 fn two_readers_meet(rt: HostRuntime) -> Result<(), Fail> {
-    holds(
-        &rt,
-        all_meet(&rt, rt.alloc(), &EIGHT_OF_ONE[..2], &LISTS_OF_ONE[..2]),
-    )?;
-    holds(&rt, all_meet(&rt, rt.alloc(), EIGHT_OF_ONE, LISTS_OF_ONE))
+    holds(&rt, all_meet(&rt, rt.alloc(), TWO_OF_ONE))?;
+    holds(&rt, all_meet(&rt, rt.alloc(), EIGHT_OF_ONE))
 }
+
+const ONE_OF_EIGHT: &[Source] = &[((EIGHT, CLEAN, None), (EIGHT, CLEAN))];
 
 fn sink_takes_before_the_end<T: Threads + Wait + Copy + Send + 'static>(
     rt: &T,
@@ -50,15 +47,7 @@ fn sink_takes_before_the_end<T: Threads + Wait + Copy + Send + 'static>(
         counts: Arc::try_clone(&sink.counts)?,
     };
     let ring = RingSize::of(2).unwrap();
-    runs_to(
-        rt,
-        alloc,
-        sink,
-        &[(EIGHT, CLEAN, None)],
-        ring,
-        gate,
-        &[(EIGHT, CLEAN)],
-    )
+    runs_to(rt, alloc, sink, ONE_OF_EIGHT, ring, gate)
 }
 
 #[test]
@@ -67,9 +56,13 @@ fn sink_before_end(rt: HostRuntime) -> Result<(), Fail> {
     holds(&rt, sink_takes_before_the_end(&rt, rt.alloc(), &mut sink))
 }
 
-const THREE_OF_THREE: &[Given] = &[(THREE, CLEAN, None); 3];
-
-const ONE_STOPPED: &[Wanted] = &[(THREE, CLEAN), (&[1, 2], SourceEnd::Stopped { after: 2 })];
+const ONE_STOPPED: &[Source] = &[
+    ((THREE, CLEAN, None), (THREE, CLEAN)),
+    (
+        (THREE, CLEAN, None),
+        (&[1, 2], SourceEnd::Stopped { after: 2 }),
+    ),
+];
 
 #[test]
 fn gate_stops_one_source(rt: HostRuntime) -> Result<(), Fail> {
@@ -78,23 +71,16 @@ fn gate_stops_one_source(rt: HostRuntime) -> Result<(), Fail> {
         index: 2,
     };
     let ring = RingSize::of(2).unwrap();
-    holds(
-        &rt,
-        runs_alone_to(
-            &rt,
-            rt.alloc(),
-            &THREE_OF_THREE[..2],
-            ring,
-            gate,
-            ONE_STOPPED,
-        ),
-    )
+    holds(&rt, runs_alone_to(&rt, rt.alloc(), ONE_STOPPED, ring, gate))
 }
 
-const TWO_STOPPED: &[Wanted] = &[
-    (THREE, CLEAN),
-    (&[1, 2], SourceEnd::Stopped { after: 2 }),
-    (&[], SourceEnd::Stopped { after: 0 }),
+const TWO_STOPPED: &[Source] = &[
+    ((THREE, CLEAN, None), (THREE, CLEAN)),
+    (
+        (THREE, CLEAN, None),
+        (&[1, 2], SourceEnd::Stopped { after: 2 }),
+    ),
+    ((THREE, CLEAN, None), (&[], SourceEnd::Stopped { after: 0 })),
 ];
 
 fn stops_two_sources() -> StopsAtTwo {
@@ -114,8 +100,5 @@ fn stops_two_sources() -> StopsAtTwo {
 fn gate_stops_two_sources(rt: HostRuntime) -> Result<(), Fail> {
     let ring = RingSize::of(1).unwrap();
     let gate = stops_two_sources();
-    holds(
-        &rt,
-        runs_alone_to(&rt, rt.alloc(), THREE_OF_THREE, ring, gate, TWO_STOPPED),
-    )
+    holds(&rt, runs_alone_to(&rt, rt.alloc(), TWO_STOPPED, ring, gate))
 }

@@ -1,15 +1,13 @@
 //! What the lists and the sink of a run have.
 
 use super::fakes::Recorder;
-use super::name_of;
+use super::{Source, Wanted, name_of};
 use ring_collect::Collected;
-use stack_core::{Sample, SourceEnd, SourceList};
-
-/// The weights of each source, and how it ends.
-pub(super) type Wanted = (&'static [u8], SourceEnd);
+use stack_core::{Sample, SourceList};
+use std::sync::atomic::Ordering;
 
 /// How many samples of each source a sink had.
-pub(super) type Counts = [usize; 64];
+type Counts = [usize; 64];
 
 /// The sample of this number has this weight, and one frame of this name.
 fn has_sample(list: &SourceList, i: usize, weight: u8, name: &str) -> bool {
@@ -30,12 +28,13 @@ pub(super) fn is_list(source: usize, list: &SourceList, wanted: Wanted) -> bool 
     list.len() == weights.len() && list.told() == weights.len().min(1) && *list.ending() == ending
 }
 
-fn are_lists(lists: &[SourceList], wanted: &[Wanted]) -> bool {
-    if lists.len() != wanted.len() {
+fn are_lists(lists: &[SourceList], sources: &[Source]) -> bool {
+    if lists.len() != sources.len() {
         return false;
     }
     for source in 0..lists.len() {
-        if !is_list(source, &lists[source], wanted[source]) {
+        let (_, wanted) = sources[source];
+        if !is_list(source, &lists[source], wanted) {
             return false;
         }
     }
@@ -49,24 +48,35 @@ fn is_sample(sample: &Sample, weight: u8, name: &str) -> bool {
 }
 
 /// The sample is the next of its source.
-fn is_next(wanted: &[Wanted], next: &mut Counts, source: usize, sample: &Sample) -> bool {
-    if source >= next.len() || source >= wanted.len() {
+fn is_next(sources: &[Source], next: &mut Counts, source: usize, sample: &Sample) -> bool {
+    if source >= next.len() || source >= sources.len() {
         return false;
     }
-    let (weights, _) = wanted[source];
+    let (_, (weights, _)) = sources[source];
     let i = next[source];
     next[source] = i.saturating_add(1);
     i < weights.len() && is_sample(sample, weights[i], name_of(source))
 }
 
 /// What the sink has of each source are its first samples in their order, so many.
-pub(super) fn has_first(sink: &Recorder, wanted: &[Wanted], next: &mut Counts) -> bool {
+fn has_first(sink: &Recorder, sources: &[Source], next: &mut Counts) -> bool {
     for (source, sample) in &sink.pairs {
-        if !is_next(wanted, next, *source as usize, sample) {
+        if !is_next(sources, next, *source as usize, sample) {
             return false;
         }
     }
     true
+}
+
+/// Whether every reader that was made was dropped.
+fn were_dropped(sink: &Recorder) -> bool {
+    let made = sink.counts.made.load(Ordering::SeqCst);
+    sink.counts.drops.load(Ordering::SeqCst) == made
+}
+
+/// Every reader of a run that has no answer was dropped, and what the sink has of each source are its first samples.
+pub(super) fn is_cut_short(sink: &Recorder, sources: &[Source]) -> bool {
+    were_dropped(sink) && has_first(sink, sources, &mut [0; 64])
 }
 
 /// The samples came from these sources in this order.
@@ -84,9 +94,9 @@ fn are_in_order(order: &[u32], pairs: &[(u32, Sample)]) -> bool {
 }
 
 /// None is left of the samples of the lists.
-fn are_all(wanted: &[Wanted], next: &Counts) -> bool {
-    for source in 0..wanted.len() {
-        let (weights, _) = wanted[source];
+fn are_all(sources: &[Source], next: &Counts) -> bool {
+    for source in 0..sources.len() {
+        let (_, (weights, _)) = sources[source];
         if source >= next.len() || next[source] != weights.len() {
             return false;
         }
@@ -94,11 +104,12 @@ fn are_all(wanted: &[Wanted], next: &Counts) -> bool {
     true
 }
 
-/// The lists are these, and the sink has their samples in the order of arrival.
-pub(super) fn is_run(run: &Collected, sink: &Recorder, wanted: &[Wanted]) -> bool {
+/// The lists are these, the sink has their samples in the order of arrival, and every reader was dropped.
+pub(super) fn is_run(run: &Collected, sink: &Recorder, sources: &[Source]) -> bool {
     let mut next = [0; 64];
-    are_lists(&run.lists, wanted)
+    were_dropped(sink)
+        && are_lists(&run.lists, sources)
         && are_in_order(&run.order, &sink.pairs)
-        && has_first(sink, wanted, &mut next)
-        && are_all(wanted, &next)
+        && has_first(sink, sources, &mut next)
+        && are_all(sources, &next)
 }

@@ -1,8 +1,8 @@
 //! Runs in which a reader or the sink meets want of memory.
 
 use super::fakes::{CLEAN, Recorder, StopsAt};
-use super::lists::{Wanted, has_first, is_run};
-use super::{Given, HUNDRED, THREE, answer_of, dropped};
+use super::lists::{is_cut_short, is_run};
+use super::{HUNDRED, Source, THREE, collected};
 use crate::tests::holds;
 use ring_collect::{CollectFault, Collected, RingSize};
 use stack_core::{Gate, OpenGate};
@@ -11,40 +11,34 @@ use std::sync::Wait;
 use std::test::Fail;
 use std::thread::Threads;
 
-const THREE_OF_THREE: &[Given] = &[(THREE, CLEAN, None); 3];
+const THREE_OF_THREE: &[Source] = &[((THREE, CLEAN, None), (THREE, CLEAN)); 3];
 
-const LISTS_OF_THREE: &[Wanted] = &[(THREE, CLEAN); 3];
-
-/// The run ends for want of memory. Every reader was dropped, and what the sink has of each source are its first samples.
-fn runs_short<T: Threads + Wait + Copy + Send + 'static, G: Gate + Send + Sync + Drop + 'static>(
-    rt: &T,
-    alloc: Global,
-    sink: &mut Recorder,
-    sources: &[Given],
-    gate: G,
-    lists: &[Wanted],
-) -> Result<bool, CollectFault> {
-    let answer = answer_of(rt, alloc, sink, sources, RingSize::of(2).unwrap(), gate)?;
-    let short = matches!(answer, Err(CollectFault::OutOfMemory));
-    Ok(short && dropped(sink, sources.len()) && has_first(sink, lists, &mut [0; 64]))
+fn is_refused(answer: Result<Collected, CollectFault>) -> bool {
+    matches!(answer, Err(CollectFault::OutOfMemory))
 }
 
-/// Whether the sink has so many samples, after which it refused one.
-fn took(sink: &Recorder, taken: u64) -> bool {
+/// Whether the sink has so many samples, after which it refused one, if it is to.
+fn took(sink: &Recorder, taken: Option<u64>) -> bool {
+    let Some(taken) = taken else {
+        return true;
+    };
     sink.pairs.len() as u64 == taken && sink.calls.checked_sub(1) == Some(taken)
 }
 
-/// Runs with a sink that refuses after so many samples.
-fn refuses_after<T: Threads + Wait + Copy + Send + 'static, G: Gate + Send + Sync + Drop + 'static>(
+/// The run ends for want of memory. Every reader was dropped, what the sink has of each source are its first samples, and where it is to
+/// refuse one, it has as many as are to come before.
+fn runs_short<T: Threads + Wait + Copy + Send + 'static, G: Gate + Send + Sync + Drop + 'static>(
     rt: &T,
     alloc: Global,
-    taken: u64,
+    sources: &[Source],
+    taken: Option<u64>,
     gate: G,
 ) -> Result<bool, CollectFault> {
     let mut sink = Recorder::new(alloc)?;
-    sink.refuses_after = Some(taken);
-    let short = runs_short(rt, alloc, &mut sink, THREE_OF_THREE, gate, LISTS_OF_THREE)?;
-    Ok(short && took(&sink, taken))
+    sink.refuses_after = taken;
+    let ring = RingSize::of(2).unwrap();
+    let refused = is_refused(collected(rt, alloc, &mut sink, sources, ring, gate));
+    Ok(refused & took(&sink, taken) & is_cut_short(&sink, sources))
 }
 
 /// Whatever the sample, the sink refuses it.
@@ -53,7 +47,7 @@ fn refuses_each<T: Threads + Wait + Copy + Send + 'static>(
     alloc: Global,
 ) -> Result<bool, CollectFault> {
     for taken in 0..9u64 {
-        if !refuses_after(rt, alloc, taken, OpenGate)? {
+        if !runs_short(rt, alloc, THREE_OF_THREE, Some(taken), OpenGate)? {
             return Ok(false);
         }
     }
@@ -65,44 +59,32 @@ fn sink_refuses(rt: HostRuntime) -> Result<(), Fail> {
     holds(&rt, refuses_each(&rt, rt.alloc()))
 }
 
-/// The second reader refuses its third sample.
-const WITH_REFUSAL: &[Given] = &[
-    (THREE, CLEAN, None),
-    (THREE, CLEAN, Some(2)),
-    (THREE, CLEAN, None),
+/// The second reader refuses its third sample, and the sink has at most two of it.
+const WITH_REFUSAL: &[Source] = &[
+    ((THREE, CLEAN, None), (THREE, CLEAN)),
+    ((THREE, CLEAN, Some(2)), (&[1, 2], CLEAN)),
+    ((THREE, CLEAN, None), (THREE, CLEAN)),
 ];
-
-/// The sink has at most two samples of the second source, and at most three of each other.
-const FIRST_OF_EACH: &[Wanted] = &[(THREE, CLEAN), (&[1, 2], CLEAN), (THREE, CLEAN)];
 
 #[test]
 fn reader_refuses(rt: HostRuntime) -> Result<(), Fail> {
-    let mut sink = Recorder::new(rt.alloc())?;
-    let short = runs_short(
+    holds(
         &rt,
-        rt.alloc(),
-        &mut sink,
-        WITH_REFUSAL,
-        OpenGate,
-        FIRST_OF_EACH,
-    );
-    holds(&rt, short)
+        runs_short(&rt, rt.alloc(), WITH_REFUSAL, None, OpenGate),
+    )
 }
 
-const THREE_OF_HUNDRED: &[Given] = &[(HUNDRED, CLEAN, None); 3];
-
-const LISTS_OF_HUNDRED: &[Wanted] = &[(HUNDRED, CLEAN); 3];
+const THREE_OF_HUNDRED: &[Source] = &[((HUNDRED, CLEAN, None), (HUNDRED, CLEAN)); 3];
 
 /// The run is whole, or ends in a fault with first samples of each source. Either way every reader was dropped.
 fn is_whole_or_refused(
     sink: &Recorder,
     answer: Result<Collected, CollectFault>,
 ) -> Result<bool, CollectFault> {
-    let dropped = dropped(sink, 3);
     match answer {
-        Ok(run) => Ok(dropped && is_run(&run, sink, LISTS_OF_HUNDRED)),
+        Ok(run) => Ok(is_run(&run, sink, THREE_OF_HUNDRED)),
         Err(fault) => {
-            if dropped && has_first(sink, LISTS_OF_HUNDRED, &mut [0; 64]) {
+            if is_cut_short(sink, THREE_OF_HUNDRED) {
                 return Err(fault);
             }
             Ok(false)
@@ -113,19 +95,18 @@ fn is_whole_or_refused(
 fn readers_are_joined<T: Threads + Wait + Copy + Send + 'static>(
     rt: &T,
     alloc: Global,
-    sink: &mut Recorder,
 ) -> Result<bool, CollectFault> {
+    let mut sink = Recorder::new(alloc)?;
     let ring = RingSize::of(1).unwrap();
-    let answer = answer_of(rt, alloc, sink, THREE_OF_HUNDRED, ring, OpenGate)?;
-    is_whole_or_refused(sink, answer)
+    let answer = collected(rt, alloc, &mut sink, THREE_OF_HUNDRED, ring, OpenGate);
+    is_whole_or_refused(&sink, answer)
 }
 
 /// Whatever request is refused (checks/growths), also in starting, every reader is dropped before the answer, though each has more to
 /// send than its ring holds.
 #[test]
 fn every_reader_is_joined(rt: HostRuntime) -> Result<(), Fail> {
-    let mut sink = Recorder::new(rt.alloc())?;
-    holds(&rt, readers_are_joined(&rt, rt.alloc(), &mut sink))
+    holds(&rt, readers_are_joined(&rt, rt.alloc()))
 }
 
 #[test]
@@ -134,5 +115,8 @@ fn sink_refuses_beside_a_stop(rt: HostRuntime) -> Result<(), Fail> {
         source: 1,
         index: 0,
     };
-    holds(&rt, refuses_after(&rt, rt.alloc(), 0, gate))
+    holds(
+        &rt,
+        runs_short(&rt, rt.alloc(), THREE_OF_THREE, Some(0), gate),
+    )
 }

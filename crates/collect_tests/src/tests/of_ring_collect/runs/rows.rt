@@ -90,12 +90,7 @@ fn are_whole_in_rings_of<T: Threads + Wait + Copy + Send + 'static>(
 /// A run for the lists alone.
 #[test]
 fn lists_alone(rt: HostRuntime) -> Result<(), Fail> {
-    holds(
-        &rt,
-        are_whole_in_rings_of(&rt, rt.alloc(), RingSize::of(1).unwrap()),
-    )?;
-    holds(
-        &rt,
-        are_whole_in_rings_of(&rt, rt.alloc(), RingSize::of(64).unwrap()),
-    )
+    let [small, large] = [RingSize::of(1).unwrap(), RingSize::of(64).unwrap()];
+    holds(&rt, are_whole_in_rings_of(&rt, rt.alloc(), small))?;
+    holds(&rt, are_whole_in_rings_of(&rt, rt.alloc(), large))
 }
