@@ -68,6 +68,11 @@ fn has_first(sink: &Recorder, sources: &[Source], next: &mut Counts) -> bool {
     true
 }
 
+/// Whether so many readers were made.
+pub(super) fn had(sink: &Recorder, readers: usize) -> bool {
+    sink.counts.made.load(Ordering::SeqCst) == readers as u64
+}
+
 /// Whether every reader that was made was dropped.
 fn were_dropped(sink: &Recorder) -> bool {
     let made = sink.counts.made.load(Ordering::SeqCst);

@@ -1,7 +1,7 @@
 //! Runs in which a reader or the sink meets want of memory.
 
 use super::fakes::{CLEAN, Recorder, StopsAt};
-use super::lists::{is_cut_short, is_run};
+use super::lists::{had, is_cut_short, is_run};
 use super::{HUNDRED, Source, THREE, collected};
 use crate::tests::holds;
 use ring_collect::{CollectFault, Collected, RingSize};
@@ -17,12 +17,14 @@ fn is_refused(answer: Result<Collected, CollectFault>) -> bool {
     matches!(answer, Err(CollectFault::OutOfMemory))
 }
 
-/// Whether the sink has so many samples, after which it refused one, if it is to.
-fn took(sink: &Recorder, taken: Option<u64>) -> bool {
+/// Whether the run had so many readers, and its sink has so many samples, after which it refused one, if it is to.
+fn took(sink: &Recorder, readers: usize, taken: Option<u64>) -> bool {
     let Some(taken) = taken else {
-        return true;
+        return had(sink, readers);
     };
-    sink.pairs.len() as u64 == taken && sink.calls.checked_sub(1) == Some(taken)
+    had(sink, readers)
+        && sink.pairs.len() as u64 == taken
+        && sink.calls.checked_sub(1) == Some(taken)
 }
 
 /// The run ends for want of memory. Every reader was dropped, what the sink has of each source are its first samples, and where it is to
@@ -38,7 +40,7 @@ fn runs_short<T: Threads + Wait + Copy + Send + 'static, G: Gate + Send + Sync +
     sink.refuses_after = taken;
     let ring = RingSize::of(2).unwrap();
     let refused = is_refused(collected(rt, alloc, &mut sink, sources, ring, gate));
-    Ok(refused & took(&sink, taken) & is_cut_short(&sink, sources))
+    Ok(refused & took(&sink, sources.len(), taken) & is_cut_short(&sink, sources))
 }
 
 /// Whatever the sample, the sink refuses it.
