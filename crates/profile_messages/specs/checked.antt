@@ -1,4 +1,5 @@
 -- Definitions that no public contract cites: not to be believed, but checked with the code that cites them.
+pub mod Checks
 pub mod Choosing
 pub mod Decoding
 pub mod Fields
