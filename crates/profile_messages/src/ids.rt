@@ -1,6 +1,6 @@
 //! The entries of a table by their ids.
 
-ghost use Rattle.std.specs.Prelude.{◌≡◌, ◌==◌, ℕ, Some, None, [], map, IfOk, IfErr, if◌then◌else◌};
+ghost use Rattle.std.specs.Prelude.{◌≡◌, ◌==◌, ℕ, Some, None, [], map, IfOk, OnOk, IfErr, if◌then◌else◌};
 ghost use Rattle.profile_messages.specs.declared.messages.PlacedNumber.{PlacedNumber};
 ghost use Rattle.profile_messages.specs.Message.{first};
 ghost use Rattle.profile_messages.specs.Tables.{id_faults};
@@ -79,16 +79,13 @@ impl Index {
     }
 }
 
-/// The locations or the functions of a profile by their ids, where no id is 0 and none stands twice.
-pub(crate) fn index_of<E: Entry>(alloc: Global, table: &[E]) -> Result<Index, TableFault>
-    ensures ids { IfOk result (λ _. first (id_faults [] (map E.id_of table.now)) ≡ None) }
-    ensures places { IfOk result (IsIndexOf E.id_of table.now) }
+/// Gives each entry of a table its place, where no id is 0 and none stands twice.
+fn insert_all<E: Entry>(index: &mut Index, table: &[E]) -> Result<(), TableFault>
+    requires { IsIndexOf E.id_of [] index.old }
+    ensures ids { OnOk result (first (id_faults [] (map E.id_of table.now)) ≡ None) }
+    ensures places { OnOk result (IsIndexOf E.id_of table.now index.new) }
     ensures fault { IfErr result (IsFirstOf (id_faults [] (map E.id_of table.now))) }
 {
-    let mut index = Index {
-        near: vec![in alloc; None; table.len().saturating_add(1)]?,
-        far: BTreeMap::new(alloc),
-    };
     for (place, entry) in table.iter().enumerate() {
         let PlacedNumber { at, number: id } = entry.id();
         let at = at as u64;
@@ -102,5 +99,19 @@ pub(crate) fn index_of<E: Entry>(alloc: Global, table: &[E]) -> Result<Index, Ta
         }
         index.insert(id, place)?;
     }
+    Ok(())
+}
+
+/// The locations or the functions of a profile by their ids, where no id is 0 and none stands twice.
+pub(crate) fn index_of<E: Entry>(alloc: Global, table: &[E]) -> Result<Index, TableFault>
+    ensures ids { IfOk result (λ _. first (id_faults [] (map E.id_of table.now)) ≡ None) }
+    ensures places { IfOk result (IsIndexOf E.id_of table.now) }
+    ensures fault { IfErr result (IsFirstOf (id_faults [] (map E.id_of table.now))) }
+{
+    let mut index = Index {
+        near: vec![in alloc; None; table.len().saturating_add(1)]?,
+        far: BTreeMap::new(alloc),
+    };
+    insert_all(&mut index, table)?;
     Ok(index)
 }

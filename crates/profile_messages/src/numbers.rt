@@ -1,11 +1,11 @@
 //! The repeated numbers of a sample's message.
 
-ghost use Rattle.std.specs.Prelude.{◌≡◌, ◌++◌, IfOk, OnOk};
+ghost use Rattle.std.specs.Prelude.{◌≡◌, ◌++◌, None, IfOk, OnOk};
 ghost use Rattle.wire_fields.specs.Field.{seen_field, seen_value};
 ghost use Rattle.profile_messages.specs.checked.Gathered.{IsGathered, IsRunGathered};
-ghost use Rattle.profile_messages.specs.Message.{first, repeated_from};
+ghost use Rattle.profile_messages.specs.Message.{first, repeated_from, repeated_numbers};
 ghost use Rattle.profile_messages.specs.SeenNumbers.{AreNumbersOf};
-ghost use Rattle.profile_messages.specs.Shapes.{faults_of_field, sample_shape};
+ghost use Rattle.profile_messages.specs.Shapes.{faults_of_field, faults_in, sample_shape};
 
 use crate::messages::read_kind;
 use stack_core::ReadKind;
@@ -76,22 +76,40 @@ fn append_field(
     }
 }
 
+/// Appends the numbers of a sample's message up to its fault, which is answered.
+fn append_message(
+    ids: &mut Vec<u64>,
+    values: &mut Vec<u64>,
+    sample: &[u8],
+) -> Result<Option<ReadKind>, AllocError>
+    ensures fault { IfOk result (λ fault. fault ≡ first (faults_in sample_shape sample.now)) }
+    ensures ids { IfOk result (λ fault. fault ≡ None
+        → ids.new.items ≡ ids.old.items ++ repeated_numbers 1 sample.now) }
+    ensures values { IfOk result (λ fault. fault ≡ None
+        → values.new.items ≡ values.old.items ++ repeated_numbers 2 sample.now) }
+{
+    let mut fields = Fields::over(sample);
+    loop {
+        match fields.next() {
+            Ok(Some(field)) => {
+                if let Some(kind) = append_field(ids, values, field)? {
+                    return Ok(Some(kind));
+                }
+            }
+            Ok(None) => return Ok(None),
+            Err(fault) => return Ok(Some(read_kind(fault.kind))),
+        }
+    }
+}
+
 /// The numbers of a sample's message, or what is wrong with it.
 pub fn numbers_of(alloc: Global, sample: &[u8]) -> Result<Result<Numbers, ReadKind>, AllocError>
     ensures { IfOk result (AreNumbersOf sample.now) }
 {
     let mut ids = Vec::with_capacity(alloc, USUAL_DEPTH)?;
     let mut values = Vec::new(alloc);
-    let mut fields = Fields::over(sample);
-    loop {
-        match fields.next() {
-            Ok(Some(field)) => {
-                if let Some(kind) = append_field(&mut ids, &mut values, field)? {
-                    return Ok(Err(kind));
-                }
-            }
-            Ok(None) => return Ok(Ok(Numbers { ids, values })),
-            Err(fault) => return Ok(Err(read_kind(fault.kind))),
-        }
+    match append_message(&mut ids, &mut values, sample)? {
+        Some(kind) => Ok(Err(kind)),
+        None => Ok(Ok(Numbers { ids, values })),
     }
 }

@@ -1,15 +1,16 @@
 //! The sample types of a profile.
 
-ghost use Rattle.std.specs.Prelude.{◌≡◌, None, IfOk, IfErr, map, option_map};
+ghost use Rattle.std.specs.Prelude.{◌≡◌, ℕ, List, None, IfOk, IfErr, map, option_map};
 ghost use Rattle.std.specs.List.{slice_get};
 ghost use Rattle.std.specs.Option.{option_and_then};
 ghost use Rattle.run_options.specs.declared.choices.Pick.TheVariants.{Preferred};
+ghost use Rattle.profile_messages.specs.declared.faults.TableFault.TheVariants.{OutOfMemory};
 ghost use Rattle.profile_messages.specs.Message.{first};
 ghost use Rattle.profile_messages.specs.FileFaults.{file_faults};
 ghost use Rattle.profile_messages.specs.Faults.{IsFirstOf};
 ghost use Rattle.profile_messages.specs.Tables.{string_at as string_of};
 ghost use Rattle.profile_messages.specs.SampleTypes.{lossy_text, type_of, all_types, chosen_type as type_chosen};
-ghost use Rattle.profile_messages.specs.SeenProfile.{texts_of};
+ghost use Rattle.profile_messages.specs.SeenProfile.{texts_of, IsProfileOf};
 
 use crate::checked_profile::CheckedProfile;
 use crate::faults::TableFault;
@@ -101,6 +102,20 @@ pub fn type_at(
     }
 }
 
+/// The sample types of a profile.
+fn types_in(alloc: Global, profile: &Profile<'_>) -> Result<SampleTypes, TableFault>
+    ensures types { IfOk result (λ types. (file : List ℕ) → IsProfileOf file profile.now
+        → types ≡ all_types file) }
+    ensures refused { IfErr result (λ fault. fault ≡ OutOfMemory) }
+{
+    let default = picked_type(alloc, profile, &Pick::Preferred)?;
+    let types = types_of(alloc, &profile.strings, &profile.sample_types)?;
+    Ok(SampleTypes {
+        types: Listed::of(types),
+        default,
+    })
+}
+
 /// The sample types of a profile that is not compressed. A file is refused for what its tables are refused for where the default is
 /// asked for. Each type has texts of its own: where many types name one long string, they take the file's size squared.
 pub fn sample_types(alloc: Global, bytes: &[u8]) -> Result<SampleTypes, TableFault>
@@ -109,13 +124,7 @@ pub fn sample_types(alloc: Global, bytes: &[u8]) -> Result<SampleTypes, TableFau
     ensures fault { IfErr result (IsFirstOf (file_faults bytes.now Preferred)) }
 {
     let checked = CheckedProfile::of(alloc, bytes, &Pick::Preferred)?;
-    let profile = &checked.profile;
-    let types = types_of(alloc, &profile.strings, &profile.sample_types)?;
-    let default = picked_type(alloc, profile, &Pick::Preferred)?;
-    Ok(SampleTypes {
-        types: Listed::of(types),
-        default,
-    })
+    types_in(alloc, &checked.profile)
 }
 
 /// The sample type of the chosen value, of a profile that is not compressed. None where the file has no sample. A file is refused for

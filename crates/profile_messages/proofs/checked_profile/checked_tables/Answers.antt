@@ -1,6 +1,5 @@
-use Rattle.std.proofs.Common.{◌≡◌, [], List, None, ap, map, subst, ◌∙◌, sym}
+use Rattle.std.proofs.Common.{[], List, ap, map, subst, ◌∙◌, sym}
 use Rattle.std.proofs.lemmas.Result.{err_from_is_err_and}
-use Rattle.stack_core.specs.declared.endings.ReadFault.{ReadFault}
 use Rattle.profile_messages.specs.declared.messages.Location.{Location}
 use Rattle.profile_messages.specs.Message.{first}
 use Rattle.profile_messages.specs.Tables.{id_faults}

@@ -5,7 +5,7 @@ use Rattle.profile_messages.specs.Message.{first}
 use Rattle.profile_messages.specs.SeenIndex.{IsIndexOf}
 use Rattle.profile_messages.specs.Tables.{id_faults}
 use Rattle.profile_messages.proofs.IndexLemmas.{duplicate_here, ids_of, new_here, IsIndexOf-more}
-use Rattle.profile_messages.proofs.ids.index_of.Goals as goal
+use Rattle.profile_messages.proofs.ids.insert_all.Goals as goal
 
 pub returns-then-is_some-clause-fault : goal.returns-then-is_some-clause-fault
 returns-then-is_some-clause-fault g c =

@@ -3,7 +3,7 @@ use Rattle.profile_messages.specs.Message.{first}
 use Rattle.profile_messages.specs.Tables.{id_faults}
 use Rattle.profile_messages.specs.SeenIndex.{IsIndexOf}
 use Rattle.profile_messages.proofs.IndexLemmas.{ids_of}
-use Rattle.profile_messages.proofs.ids.index_of.Given as goal
+use Rattle.profile_messages.proofs.ids.insert_all.Given as goal
 
 abbrev pub invariant-loop-place : goal.invariant-loop-place
 invariant-loop-place g l = record {

@@ -5,13 +5,13 @@ use Rattle.profile_messages.specs.SeenProfile.{texts_of}
 use Rattle.run_options.specs.declared.choices.Pick.TheVariants.{Preferred}
 use Rattle.profile_messages.proofs.PickLemmas.{picked-is}
 use Rattle.profile_messages.proofs.TypeLemmas.{all-types}
-use Rattle.profile_messages.proofs.types.sample_types.Goals as goal
+use Rattle.profile_messages.proofs.types.types_in.Goals as goal
 
 pub returns-clause-types : goal.returns-clause-types
-returns-clause-types c =
-    let profile = c.in_ok-checked.checked.profile in
-    all-types c.args.bytes.now profile c.of-2.result c.in_ok-default.default c.in_ok-checked.ensures.profile
-    (c.of-2.ensures ∙ c.in_ok-types.ensures
+returns-clause-types c = λ file are.
+    let profile = c.args.profile.now in
+    all-types file profile c.of.result c.in_ok-default.default are
+    (c.of.ensures ∙ c.in_ok-types.ensures
     ∙ ap (λ (strings : List Content). map (type_of (texts_of strings)) c.deref-2.result.now) c.deref.ensures.value
     ∙ ap (map (type_of (texts_of profile.strings.items))) c.deref-2.ensures.value)
-    (c.in_ok-default.ensures ∙ picked-is c.args.bytes.now profile Preferred c.in_ok-checked.ensures.profile)
+    (c.in_ok-default.ensures ∙ picked-is file profile Preferred are)
