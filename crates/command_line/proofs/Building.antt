@@ -105,15 +105,21 @@ command_is_plain subcommand.Compare = refl
 command_is_plain subcommand.Top = refl
 command_is_plain subcommand.Types = refl
 
--- `Command::subcommand`, of the next of the commands
-pub with_next_command : (old new sub : Command) (app : App) (commands : List Subcommand) (at : ℕ) (d : Subcommand)
-    → at < length commands → AddsSubcommand old sub new → app_of sub ≡ as_app (shape_at (get_or commands at d))
+-- `Command::subcommand`, of one of the commands
+pub with_command : (old new sub : Command) (s : Subcommand) → app_of sub ≡ as_app (shape_at s) → AddsSubcommand old sub new
+    → app_of new ≡ with_subcommand (app_of old) (shape_at s)
+with_command old new sub s made added =
+    let same : shape_of sub ≡ shape_at s = ap (λ (a : App). a.top) made in
+    added.shape (plain_is_local sub (ap (λ (x : Shape). x.is_plain) same ∙ command_is_plain s)) ∙ ap (with_subcommand (app_of old)) same
+
+-- with the next of the commands
+pub with_next_command : (old new : Command) (app : App) (commands : List Subcommand) (at : ℕ) (d : Subcommand)
+    → at < length commands → app_of new ≡ with_subcommand (app_of old) (shape_at (get_or commands at d))
     → app_of old ≡ fold with_subcommand app (map shape_at (take at commands))
     → app_of new ≡ fold with_subcommand app (map shape_at (take (at + 1) commands))
-with_next_command old new sub app commands at d below added made start =
+with_next_command old new app commands at d below added start =
     let s = get_or commands at d in
     let shapes = ap (map shape_at) (take_more commands at d below) ∙ map-append shape_at (take at commands) (s ∷ []) in
-    let same : shape_of sub ≡ shape_at s = ap (λ (a : App). a.top) made in
-    added.shape (plain_is_local sub (ap (λ (x : Shape). x.is_plain) same ∙ command_is_plain s))
-    ∙ ap₂ with_subcommand start same
+    added
+    ∙ ap (λ (a : App). with_subcommand a (shape_at s)) start
     ∙ sym (ap (fold with_subcommand app) shapes ∙ fold-append with_subcommand app (map shape_at (take at commands)) (shape_at s ∷ []))

@@ -1,6 +1,6 @@
 //! The command line, as `clap` reads it and as its help shows it.
 ghost use Rattle.std.specs.Prelude.{◌≡◌, IfOk, map};
-ghost use Rattle.clap.specs.Words.{app_of, new_app};
+ghost use Rattle.clap.specs.Words.{app_of, new_app, with_subcommand};
 ghost use Rattle.command_line.specs.CommandLine.{command_line};
 ghost use Rattle.command_line.specs.checked.Apps.{as_app, program};
 ghost use Rattle.command_line.specs.checked.Commands.{rule_at, shape_at};
@@ -132,9 +132,24 @@ pub(crate) fn command_line<'a>(alloc: Global) -> Result<Command<'a>, AllocError>
 {
     let mut line = program(alloc)?;
     for command in COMMANDS {
-        line = line.subcommand(command.built(alloc)?)?;
+        line = with_command(alloc, line, command)?;
     }
     Ok(line)
+}
+
+// The line with a further command.
+fn with_command<'a>(
+    alloc: Global,
+    line: Command<'a>,
+    command: &Subcommand,
+) -> Result<Command<'a>, AllocError>
+    ensures { IfOk result (λ more.
+        app_of more ≡ with_subcommand (app_of line.entry) (shape_at command.now)) }
+{
+    match command.built(alloc) {
+        Ok(built) => line.subcommand(built),
+        Err(refused) => Err(refused),
+    }
 }
 
 // The line without its commands.

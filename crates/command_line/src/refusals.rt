@@ -108,6 +108,8 @@ fn refused(alloc: Global, kind: ErrorKind, message: &str) -> PlanFault
 fn refusing(alloc: Global, kind: ErrorKind, message: &str) -> Result<Error, AllocError>
     ensures { IfOk result (λ error. kind_of error ≡ kind) }
 {
-    let mut line = command_line(alloc)?;
-    line.error(kind, message)
+    match command_line(alloc) {
+        Ok(mut line) => line.error(kind, message),
+        Err(refused) => Err(refused),
+    }
 }

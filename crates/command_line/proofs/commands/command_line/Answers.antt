@@ -9,8 +9,8 @@ use Rattle.command_line.proofs.commands.command_line.Goals as goal
 
 pub loop-command-preserved : goal.loop-command-preserved
 loop-command-preserved c =
-    with_next_command c.loop-command.line c.in_ok-line-2.line c.in_ok-built.field-0 program _ c.loop-command.command-index _
-    (omega arith) c.in_ok-line-2.ensures c.in_ok-built.ensures c.loop-command.invariant
+    with_next_command c.loop-command.line c.in_ok-line-2.line program _ c.loop-command.command-index _
+    (omega arith) c.in_ok-line-2.ensures c.loop-command.invariant
 
 pub returns : goal.returns
 returns c =
