@@ -1,5 +1,6 @@
 -- The first item of lists one after another.
-use Rattle.std.proofs.Common.{◌≡◌, List, [], ◌∷◌, ◌++◌, Some, None, refl}
+use Rattle.std.proofs.Common.{◌≡◌, List, [], ◌∷◌, ◌++◌, Option, Some, None, refl, sym, ◌∙◌, ap, append_assoc}
+use Rattle.std.specs.Prelude.{flat_map}
 use Rattle.profile_messages.specs.Message.{first}
 
 pub first-append_none : {A : Type 0} (xs ys : List A) → first xs ≡ None → first (xs ++ ys) ≡ first ys
@@ -14,3 +15,12 @@ first-append_some (y ∷ xs) ys x some = some
 pub first-none-parts : {A : Type 0} (xs ys : List A) → first (xs ++ ys) ≡ None → (first xs ≡ None) × (first ys ≡ None)
 first-none-parts [] ys none = (refl, none)
 first-none-parts (x ∷ xs) ys none = cc
+
+-- the first of what each item has, where the first one has none
+pub first-behind_item : {A B : Type 0} (f : A → List B) (x : A) (xs : List A) (behind : List B) (all : Option B) → first (f x) ≡ None → first (flat_map f (x ∷ xs) ++ behind) ≡ all → first (flat_map f xs ++ behind) ≡ all
+first-behind_item f x xs behind all none is =
+    sym (first-append_none (f x) (flat_map f xs ++ behind) none) ∙ ap first (sym (append_assoc (f x) (flat_map f xs) behind)) ∙ is
+
+-- what the items have, of which that of the first is there
+pub gathered-item : {A B : Type 0} (f : A → List B) (x : A) (xs : List A) (old new all : List B) → new ≡ old ++ f x → old ++ flat_map f (x ∷ xs) ≡ all → new ++ flat_map f xs ≡ all
+gathered-item f x xs old new all more is = ap (λ list. list ++ flat_map f xs) more ∙ append_assoc old (f x) (flat_map f xs) ∙ is

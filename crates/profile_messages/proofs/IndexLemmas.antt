@@ -1,7 +1,8 @@
 -- The entries of a table by their ids, one more at a time.
-use Rattle.std.proofs.Common.{◌≡◌, ◌∷◌, [], ◌++◌, ℕ, List, ◌+◌, ◌<◌, length, Option, Some, None, Bool, true, false, cond, refl, sym, ◌∙◌, ap, subst, take, drop, get_or, map, arith, add-one, drop-cons}
+use Rattle.std.proofs.Common.{◌≡◌, ◌∷◌, [], ◌++◌, ℕ, List, ◌+◌, ◌<◌, length, Option, Some, None, Bool, true, false, cond, refl, sym, ◌∙◌, ap, subst, take, drop, get_or, map, replicate, arith, add-one, drop-cons}
 use Rattle.std.specs.Prelude.{is_some, ◌==◌, ◌||◌}
 use Rattle.std.specs.List.{list_any}
+use Rattle.std.specs.BTreeMap.{IsEmpty}
 use Rattle.std.specs.Option.{option_or}
 use Rattle.std.proofs.lemmas.List.{take_more, length-take-le}
 use Rattle.std.proofs.lemmas.List.Folds.{find-append}
@@ -114,3 +115,8 @@ IsIndexOf-more {A} id_of table k d id index index' lt indexed is unknown places 
     (IsIndexOf-push id_of (take k table) (get_or table k d) index index' indexed
     (subst (λ (n : PlacedNumber). is_some (place_in index n.number) ≡ false) is unknown)
     (λ other. places other ∙ ap (λ (n : PlacedNumber). cond (n.number == other) (Some k) (place_in index other)) is ∙ ap (λ n. cond ((id_of (get_or table k d)).number == other) (Some n) (place_in index other)) (sym len)))
+
+-- ---- no entry yet
+
+pub empty_index : {A : Type 0} (id_of : A → PlacedNumber) (index : Index) (count : ℕ) → index.near.items ≡ replicate count None → IsEmpty index.far → IsIndexOf id_of [] index
+empty_index id_of index count near far = grind (arith, common_steps)
