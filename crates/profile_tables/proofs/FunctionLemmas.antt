@@ -3,7 +3,7 @@ use Rattle.std.proofs.Common.{◌≡◌, [], ◌∷◌, ◌++◌, ℕ, List, ◌
 use Rattle.std.specs.Prelude.{◌==◌, string_bytes}
 use Rattle.std.specs.List.{slice_get}
 use Rattle.std.specs.Ordering.{nat_cmp, is_eq}
-use Rattle.std.specs.BTreeMap.{get, Updates}
+use Rattle.std.specs.BTreeMap.{IsEmpty, get, Updates}
 use Rattle.std.proofs.lemmas.List.{take_more, length-map}
 use Rattle.std.proofs.lemmas.Grind.{common_steps}
 use Rattle.profile_messages.specs.declared.messages.Function.{Function}
@@ -26,6 +26,10 @@ made-at true strings names index other place old got before same =
     ∙ slice_get-push names (name_or_unknown (string_at strings index))
     ∙ ap (λ i. Some (name_or_unknown (string_at strings i))) (same refl)
 made-at false strings names index other place old got before same = slice_get-append names _ place _ (before got)
+
+-- no name yet
+pub AreMade-none : (strings : List (List ℕ)) (made : MadeNames) → IsEmpty made.places → AreMade strings made
+AreMade-none strings made empty = grind (arith, common_steps)
 
 -- one more name, behind the others
 pub AreMade-more : (strings : List (List ℕ)) (old new : MadeNames) (index place : ℕ) (name : List ℕ) → AreMade strings old → map string_bytes new.names.items ≡ map string_bytes old.names.items ++ name ∷ [] → name ≡ name_or_unknown (string_at strings index) → place ≡ length old.names.items → Updates nat_cmp old.places new.places index (Some place) → AreMade strings new

@@ -1,5 +1,14 @@
-use Rattle.profile_tables.proofs.FunctionLemmas.{names-more, no_function}
+use Rattle.std.proofs.Common.{ap, map}
+use Rattle.std.specs.Prelude.{string_bytes}
+use Rattle.std.specs.List.{slice_get}
+use Rattle.profile_tables.proofs.FunctionLemmas.{AreMade-none, names-more, no_function}
 use Rattle.profile_tables.proofs.functions.function_names.Goals as goal
+
+pub loop-function-init : goal.loop-function-init
+loop-function-init c = record {
+  made = AreMade-none _ _ c.new-2.ensures.empty;
+  places = ap (map (slice_get (map string_bytes c.new.result.items))) c.in_ok-places.ensures.items;
+}
 
 pub loop-function-preserved : goal.loop-function-preserved
 loop-function-preserved c = record {
