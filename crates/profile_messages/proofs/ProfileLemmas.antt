@@ -20,7 +20,7 @@ use Rattle.profile_messages.specs.Tables.{sample_types_of, samples_of, locations
 use Rattle.profile_messages.specs.SeenProfile.{seen_table, items_in, with_lines, seen_location, IsProfileOf}
 use Rattle.profile_messages.specs.checked.Decoding.{IsLocationOf}
 use Rattle.profile_messages.specs.Offsets.{offset_of}
-use Rattle.profile_messages.specs.checked.Fields.{whole_location, IsNothing, GainsField, IsFieldAdded}
+use Rattle.profile_messages.specs.checked.Fields.{whole_location, GainsField, IsFieldAdded}
 use Rattle.profile_messages.proofs.FirstLemmas.{first-append_none}
 use Rattle.profile_messages.proofs.ItemLemmas.{map-push, referred-kept}
 use Rattle.profile_messages.proofs.SpanLemmas.{items_in-kept, items_in-last}
@@ -149,18 +149,18 @@ location_added at message old new location is more types samples functions strin
 -- ---- the loop over the fields
 
 -- before all fields
-pub before-none : (file : List ℕ) (profile : Profile) (fields : List WireField) → fields ≡ (fields_of file).items → IsNothing profile → IsProfileBefore file fields profile
-before-none file profile fields are is = record {
-  sample_types = ap (λ (list : List ValueType). list ++ map value_type_of (filter_map (content_of 1) fields)) is.sample_types ∙ ap (λ (list : List WireField). map value_type_of (filter_map (content_of 1) list)) are;
-  samples = ap (λ (list : List ℕ). list ++ map offset_of (filter_map (content_of 2) fields)) is.samples ∙ ap (λ (list : List WireField). map offset_of (filter_map (content_of 2) list)) are;
+pub before-none : (file : List ℕ) (profile : Profile) (fields : List WireField) → fields ≡ (fields_of file).items → profile.sample_types.items ≡ [] → profile.samples.items ≡ [] → profile.locations.items ≡ [] → profile.functions.items ≡ [] → profile.strings.items ≡ [] → profile.default ≡ (let zero : PlacedNumber = record { at = 0; number = 0 } in zero) → IsProfileBefore file fields profile
+before-none file profile fields are types samples locations functions strings default = record {
+  sample_types = ap (λ (list : List ValueType). list ++ map value_type_of (filter_map (content_of 1) fields)) types ∙ ap (λ (list : List WireField). map value_type_of (filter_map (content_of 1) list)) are;
+  samples = ap (λ (list : List ℕ). list ++ map offset_of (filter_map (content_of 2) fields)) samples ∙ ap (λ (list : List WireField). map offset_of (filter_map (content_of 2) list)) are;
   locations = record {
     before = [];
-    whole = ap (map (whole_location profile.lines.items)) is.locations;
+    whole = ap (map (whole_location profile.lines.items)) locations;
     all = ap (λ (list : List WireField). map location_of (filter_map (content_of 4) list)) are;
   };
-  functions = ap (λ (list : List Function). list ++ map function_of (filter_map (content_of 5) fields)) is.functions ∙ ap (λ (list : List WireField). map function_of (filter_map (content_of 5) list)) are;
-  strings = ap (λ (list : List CodeContent). seen_table list ++ filter_map (content_of 6) fields) is.strings ∙ ap (filter_map (content_of 6)) are;
-  default = λ i. last_or (let default : PlacedNumber = record { at = is.default_at i; number = is.default_number i } in default) (filter_map default_from (are i));
+  functions = ap (λ (list : List Function). list ++ map function_of (filter_map (content_of 5) fields)) functions ∙ ap (λ (list : List WireField). map function_of (filter_map (content_of 5) list)) are;
+  strings = ap (λ (list : List CodeContent). seen_table list ++ filter_map (content_of 6) fields) strings ∙ ap (filter_map (content_of 6)) are;
+  default = ap (λ (d : PlacedNumber). last_or d (filter_map default_from fields)) default ∙ ap (λ (list : List WireField). last_or (let zero : PlacedNumber = record { at = 0; number = 0 } in zero) (filter_map default_from list)) are;
 }
 
 none-mapped : (at : ℕ) (kinds : List ReadKind) → first kinds ≡ None → first (map (fault_at at) kinds) ≡ None

@@ -1,12 +1,12 @@
 //! The messages of a profile as they stand in its file.
 
-ghost use Rattle.std.specs.Prelude.{◌≡◌, None, IfOk, OnOk, IfErr};
+ghost use Rattle.std.specs.Prelude.{◌≡◌, None, IfOk, IfErr};
 ghost use Rattle.wire_fields.specs.Field.{seen_field};
 ghost use Rattle.profile_messages.specs.Message.{first};
 ghost use Rattle.profile_messages.specs.Shapes.{field_faults};
 ghost use Rattle.profile_messages.specs.Faults.{IsFirstOf};
 ghost use Rattle.profile_messages.specs.SeenProfile.{lines_at, IsProfileOf};
-ghost use Rattle.profile_messages.specs.checked.Fields.{IsNothing, IsFieldAdded};
+ghost use Rattle.profile_messages.specs.checked.Fields.{IsFieldAdded};
 
 use crate::faults::TableFault;
 use crate::message::Content;
@@ -76,33 +76,7 @@ fn add_field<'a>(
     Ok(None)
 }
 
-/// Decodes the fields of a file, each message but the samples' once.
-fn add_fields<'a>(profile: &mut Profile<'a>, file: &'a [u8]) -> Result<(), TableFault>
-    requires { IsNothing profile.old }
-    ensures profile { OnOk result (IsProfileOf file.now profile.new) }
-    ensures faultless { OnOk result (first (field_faults file.now) ≡ None) }
-    ensures fault { IfErr result (IsFirstOf (field_faults file.now)) }
-{
-    let mut fields = Fields::over(file);
-    loop {
-        match fields.next() {
-            Ok(Some(field)) => {
-                let at = field.at as u64;
-                if let Some(kind) = add_field(profile, field)? {
-                    return Err(TableFault::Read(ReadFault { kind, at }));
-                }
-            }
-            Ok(None) => return Ok(()),
-            Err(fault) => {
-                let at = fault.at as u64;
-                let kind = read_kind(fault.kind);
-                return Err(TableFault::Read(ReadFault { kind, at }));
-            }
-        }
-    }
-}
-
-/// Decodes a file.
+/// Decodes a file, each message but the samples' once.
 pub(crate) fn profile_of<'a>(alloc: Global, file: &'a [u8]) -> Result<Profile<'a>, TableFault>
     ensures profile { IfOk result (IsProfileOf file.now) }
     ensures faultless { IfOk result (λ _. first (field_faults file.now) ≡ None) }
@@ -117,6 +91,21 @@ pub(crate) fn profile_of<'a>(alloc: Global, file: &'a [u8]) -> Result<Profile<'a
         strings: Vec::new(alloc),
         default: PlacedNumber { at: 0, number: 0 },
     };
-    add_fields(&mut profile, file)?;
-    Ok(profile)
+    let mut fields = Fields::over(file);
+    loop {
+        match fields.next() {
+            Ok(Some(field)) => {
+                let at = field.at as u64;
+                if let Some(kind) = add_field(&mut profile, field)? {
+                    return Err(TableFault::Read(ReadFault { kind, at }));
+                }
+            }
+            Ok(None) => return Ok(profile),
+            Err(fault) => {
+                let at = fault.at as u64;
+                let kind = read_kind(fault.kind);
+                return Err(TableFault::Read(ReadFault { kind, at }));
+            }
+        }
+    }
 }

@@ -1,5 +1,5 @@
 -- What one more field of a file adds to its messages.
-use Rattle.std.specs.Prelude.{◌≡◌, List, [], ◌++◌, Option, Some, None, map, option_map, unwrap_or, option_to_list}
+use Rattle.std.specs.Prelude.{◌≡◌, List, ◌++◌, Option, Some, None, map, option_map, unwrap_or, option_to_list}
 use Rattle.stack_core.specs.declared.endings.ReadKind.{ReadKind}
 use Rattle.wire_fields.specs.Field.{WireField}
 use Rattle.profile_messages.specs.declared.profile.Profile.{Profile}
@@ -36,13 +36,3 @@ pub record GainsField (field : WireField) (old new : Profile) : Type 0 where
 abbrev pub IsFieldAdded : WireField → Profile → Profile → Option ReadKind → Type 0
 IsFieldAdded field old new None = (first (faults_of_field profile_shape field) ≡ None) × GainsField field old new
 IsFieldAdded field old new (Some kind) = first (faults_of_field profile_shape field) ≡ Some kind
-
--- the profile has no field yet
-pub record IsNothing (profile : Profile) : Type 0 where
-  pub sample_types : profile.sample_types.items ≡ []
-  pub samples : profile.samples.items ≡ []
-  pub locations : profile.locations.items ≡ []
-  pub functions : profile.functions.items ≡ []
-  pub strings : profile.strings.items ≡ []
-  pub default_at : profile.default.at ≡ 0
-  pub default_number : profile.default.number ≡ 0

@@ -1,4 +1,4 @@
-use Rattle.std.proofs.Common.{◌≡◌, ◌++◌, Option, Some, None, Ok, ap, subst}
+use Rattle.std.proofs.Common.{◌≡◌, ◌++◌, Option, Some, None, Ok, refl, ap, subst}
 use Rattle.std.specs.Prelude.{flat_map}
 use Rattle.stack_core.specs.declared.endings.ReadKind.{ReadKind}
 use Rattle.wire_fields.specs.Field.{WireField, seen_field}
@@ -8,12 +8,12 @@ use Rattle.profile_messages.specs.Message.{first}
 use Rattle.profile_messages.specs.Shapes.{faults_of_top_field, faults_behind, field_faults}
 use Rattle.profile_messages.specs.checked.Fields.{IsFieldAdded}
 use Rattle.profile_messages.proofs.ProfileLemmas.{IsProfileBefore, before-none, before-step, faults-step, profile-whole}
-use Rattle.profile_messages.proofs.profile.add_fields.Goals as goal
+use Rattle.profile_messages.proofs.profile.profile_of.Goals as goal
 
 pub loop-field-init : goal.loop-field-init
 loop-field-init c = record {
   faults = ap (λ (left : Left WireField). first (flat_map faults_of_top_field left.items ++ faults_behind left.fault)) c.over-fields.ensures.exact;
-  before = before-none c.args.file.now _ c.over-fields.result.items (ap (λ (left : Left WireField). left.items) c.over-fields.ensures.exact) c.requires;
+  before = before-none c.args.file.now _ c.over-fields.result.items (ap (λ (left : Left WireField). left.items) c.over-fields.ensures.exact) c.new.ensures.items c.new-2.ensures.items c.new-3.ensures.items c.new-5.ensures.items c.new-6.ensures.items refl;
 }
 
 pub loop-field-preserved : goal.loop-field-preserved

@@ -3,7 +3,7 @@ use Rattle.std.specs.Prelude.{flat_map}
 use Rattle.profile_messages.specs.Message.{first}
 use Rattle.profile_messages.specs.Shapes.{faults_of_top_field, faults_behind, field_faults}
 use Rattle.profile_messages.proofs.ProfileLemmas.{IsProfileBefore}
-use Rattle.profile_messages.proofs.profile.add_fields.Given as goal
+use Rattle.profile_messages.proofs.profile.profile_of.Given as goal
 
 abbrev pub invariant-loop-field : goal.invariant-loop-field
 invariant-loop-field l = record {
