@@ -4,7 +4,7 @@ use Rattle.std.proofs.Math.Seq.{take-append_seam, drop-append_seam, take-add}
 use Rattle.std.proofs.KnownBytes.{Appends-trans}
 use Rattle.std.proofs.lemmas.List.{take_more, take_all, take-take, take-append-le, drop_more, drop-append-le, drop-drop, get_or-drop, length-append, length-drop}
 use Rattle.std.proofs.lemmas.List.Folds.{concat-append}
-use Rattle.std.specs.Prelude.{Option, Result, Ok, Err, OnErr}
+use Rattle.std.specs.Prelude.{Option, Result, Ok, Err, OnErr, IfOk}
 use Rattle.std.specs.List.{concat, slice_range}
 use Rattle.std.specs.Io.{StartsWith}
 use Rattle.std.specs.Io.KnownBytes.{Appends}
@@ -97,6 +97,19 @@ range_none pieces from =
 pub range_first : (first then : List (List ℕ)) (at next : ℕ) → at ≤ next → next ≤ length first → slice_range (first ++ then) at next ≡ slice_range first at next
 range_first first then at next le within =
     ap (take (next - at)) (drop-append-le at first then (omega arith)) ∙ take-append-le (next - at) (drop at first) then (omega (arith, length-drop at first))
+
+-- what was appended of the first of two texts was so of both
+pub chain_first : {E : Type 0} (first then : List (List ℕ)) (at : ℕ) (old new : List ℕ) (result : Result ℕ E)
+    → IfOk result (λ next. new ≡ old ++ concat (slice_range first at next)) → IfOk result (λ next. at < next) → IfOk result (λ next. next ≤ length first)
+    → IfOk result (λ next. new ≡ old ++ concat (slice_range (first ++ then) at next))
+chain_first first then at old new (Ok next) ok further within =
+    ok ∙ ap (λ pieces. old ++ concat pieces) (sym (range_first first then at next (omega arith) within))
+chain_first first then at old new (Err error) ok further within = tt
+
+-- and it ends within both
+pub chain_within : {E : Type 0} (first then : List (List ℕ)) (result : Result ℕ E) → IfOk result (λ next. next ≤ length first) → IfOk result (λ next. next ≤ length (first ++ then))
+chain_within first then (Ok next) within = omega (arith, length-append first then)
+chain_within first then (Err error) within = tt
 
 -- pieces of the second
 pub range_then : (first then : List (List ℕ)) (at place next end : ℕ) → at ≡ length first + place → next ≡ length first + end → slice_range (first ++ then) at next ≡ slice_range then place end

@@ -95,8 +95,7 @@ impl<A: Pieces, B: Pieces> Pieces for Chain<A, B> {
     ) -> Result<usize, AllocError> {
         let turn = self.first.count();
         if at < turn {
-            let next = self.first.append_some(alloc, at, out)?;
-            return Ok(next);
+            return self.first.append_some(alloc, at, out);
         }
         let next = self.then.append_some(alloc, at - turn, out)?;
         Ok(turn + next)
