@@ -1,12 +1,13 @@
 -- Rows of parts, and the pieces that they have.
 use Rattle.std.proofs.Common.{◌≡◌, ℕ, ◌+◌, ◌<◌, ◌≤◌, List, [], ◌∷◌, ◌++◌, length, map, take, get_or, refl, sym, ap, subst, ◌∙◌, append-nil, arith}
-use Rattle.std.proofs.lemmas.List.{take_more, map_more}
-use Rattle.std.proofs.lemmas.List.Elements.{All-head, All-tail}
+use Rattle.std.proofs.lemmas.List.{length-take, take_more, map_more}
+use Rattle.std.proofs.lemmas.List.Elements.{All-head, All-tail, All-take}
 use Rattle.std.proofs.lemmas.List.Folds.{concat-append}
 use Rattle.std.specs.List.{concat, slice_range, All}
 use Rattle.byte_io.proofs.PieceTexts.{range_none, range_on}
-use Rattle.byte_io.specs.checked.Parts.{IsPart, Follow, bytes_of}
+use Rattle.byte_io.specs.checked.Parts.{IsPart, IsRow, Follow, bytes_of}
 use Rattle.byte_io.specs.declared.piece_threads.Part.{Part}
+use Rattle.byte_io.specs.declared.piece_threads.Row.{Row}
 
 -- what a part more adds
 pub bytes_more : (parts : List Part) (i : ℕ) (part : Part) → i < length parts → part ≡ get_or parts i part → bytes_of (take (i + 1) parts) ≡ bytes_of (take i parts) ++ part.bytes.items
@@ -50,3 +51,18 @@ row_further pieces (part ∷ parts) from next all follow some there =
     let rest = row_pieces pieces parts part.next next (All-tail (IsPart pieces) part parts all) follow.1 (this.within (omega arith)) in
     let step : part.from < part.next = this.some (omega arith) in
     omega (arith, rest.1)
+
+-- parts in front that follow one another are a row
+pub row_is : (pieces : List (List ℕ)) (from : ℕ) (parts : List Part) (row : Row) → length parts ≡ 3 → All (IsPart pieces) parts → row.parts ≤ length parts → Follow from (take row.parts parts) row.next → 0 < row.parts
+    → from ≤ length pieces → IsRow pieces from parts row
+row_is pieces from parts row long all within follow some there =
+    let front = take row.parts parts in
+    let made = All-take (IsPart pieces) row.parts parts all in
+    let have = row_pieces pieces front from row.next made follow there in
+    let one : 0 < length front = omega (arith, length-take row.parts parts) in
+    record {
+      few = omega arith;
+      bytes = have.0;
+      within = have.2;
+      further = λ left. row_further pieces front from row.next made follow one left;
+    }

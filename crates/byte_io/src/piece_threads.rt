@@ -1,10 +1,10 @@
 //! Texts that several threads make while one writes.
-ghost use Rattle.std.specs.Prelude.{◌≡◌, ◌≢◌, ◌<◌, ◌≤◌, ◌^◌, ℕ, All, length, take, is_ok, if◌then◌else◌, OnOk, OnErr, IsErrOf, Err};
+ghost use Rattle.std.specs.Prelude.{◌≡◌, ◌≢◌, ◌<◌, ◌≤◌, ◌^◌, ℕ, All, length, take, is_ok, if◌then◌else◌, IfOk, OnOk, OnErr, IsErrOf, Err};
 ghost use Rattle.std.specs.Io.KnownBytes.{Appends};
 ghost use Rattle.std.specs.List.{concat};
 ghost use Rattle.byte_io.specs.Calls.{one_more};
 ghost use Rattle.byte_io.specs.Pieces.{AppendsFront};
-ghost use Rattle.byte_io.specs.checked.Parts.{IsPart, BeginsAt, Follow, Wrote, bytes_of};
+ghost use Rattle.byte_io.specs.checked.Parts.{IsPart, IsRow, BeginsAt, Follow, Wrote, bytes_of};
 ghost use Rattle.byte_io.specs.declared.piece_output.PieceFault.TheVariants.{Output};
 
 use crate::outlet::Outlet;
@@ -101,21 +101,76 @@ pub fn send_pieces_in_threads<R: Threads, P: Pieces + Sync, W: Outlet>(
         → W.failures out.new ≡ one_more (W.failures out.old) }
     ensures unfailed { result ≢ Err PieceFault.Output → W.failures out.new ≡ W.failures out.old }
 {
+    let ready = &mut empty_parts(alloc);
+    let parts = &mut empty_parts(alloc);
+    send_in_rounds(rt, alloc, text, out, ready, parts)
+}
+
+// Parts of which the first begins at the first piece.
+fn empty_parts(alloc: Global) -> [Part; 3]
+    ensures { BeginsAt 0 result }
+{
+    [Part::new(alloc), Part::new(alloc), Part::new(alloc)]
+}
+
+// As `send_pieces_in_threads`, with room for the parts that are written and for those that are made meanwhile.
+fn send_in_rounds<R: Threads, P: Pieces + Sync, W: Outlet>(
+    rt: &R,
+    alloc: Global,
+    text: &P,
+    out: &mut W,
+    ready: &mut [Part; 3],
+    parts: &mut [Part; 3],
+) -> Result<(), PieceFault>
+    requires few { length (P.pieces text.now) < 2 ^ 64 }
+    requires begin { BeginsAt 0 ready.old }
+    ensures wrote { Wrote result (concat (P.pieces text.now))
+        (W.contents out.old) (W.contents out.new) (W.failures out.old) (W.failures out.new) }
+    ensures flushed { OnOk result (W.is_flushed out.new) }
+{
     let count = text.count();
-    let mut ready = [Part::new(alloc), Part::new(alloc), Part::new(alloc)];
-    let mut parts = [Part::new(alloc), Part::new(alloc), Part::new(alloc)];
-    ready[0].make(alloc, text)?;
-    let mut row = row_from(&ready[..1], 0);
+    let mut row = first_row(alloc, text, ready)?;
     let mut sent: usize = 0;
     'rounds: while row.next < count {
         sent = sent.saturating_add(row.bytes);
-        place(&row, sent, &mut parts);
-        make_and_write(rt, alloc, text, &ready[..row.parts], out, &mut parts)?;
-        mem::swap(&mut parts, &mut ready);
-        row = row_from(&ready, row.next);
+        place(&row, sent, parts);
+        row = send_row(rt, alloc, text, out, &row, ready, parts)?;
     }
     send_parts(&ready[..row.parts], out)?;
     Ok(())
+}
+
+// Makes the first part, in this thread.
+fn first_row<P: Pieces>(alloc: Global, text: &P, parts: &mut [Part; 3]) -> Result<Row, AllocError>
+    requires few { length (P.pieces text.now) < 2 ^ 64 }
+    requires begin { BeginsAt 0 parts.old }
+    ensures { IfOk result (λ row. IsRow (P.pieces text.now) 0 parts.new row) }
+{
+    parts[0].make(alloc, text)?;
+    Ok(row_from(&parts[..1], 0))
+}
+
+// Writes a row while the parts behind it are made, which then stand where it stood, and answers their row.
+fn send_row<R: Threads, P: Pieces + Sync, W: Outlet>(
+    rt: &R,
+    alloc: Global,
+    text: &P,
+    out: &mut W,
+    row: &Row,
+    ready: &mut [Part; 3],
+    parts: &mut [Part; 3],
+) -> Result<Row, PieceFault>
+    requires few { length (P.pieces text.now) < 2 ^ 64 }
+    requires row { row.now.parts ≤ 3 }
+    requires there { row.now.next < length (P.pieces text.now) }
+    requires begin { BeginsAt row.now.next parts.old }
+    ensures made { IfOk result (λ next. IsRow (P.pieces text.now) row.now.next ready.new next) }
+    ensures wrote { Wrote result (bytes_of (take row.now.parts ready.old))
+        (W.contents out.old) (W.contents out.new) (W.failures out.old) (W.failures out.new) }
+{
+    make_and_write(rt, alloc, text, &ready[..row.parts], out, parts)?;
+    mem::swap(parts, ready);
+    Ok(row_from(ready, row.next))
 }
 
 // The parts in front that follow one another from a piece on. One whose beginning was guessed wrong ends them.

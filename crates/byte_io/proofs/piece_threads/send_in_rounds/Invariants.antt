@@ -3,12 +3,10 @@ use Rattle.std.proofs.Common.{◌≡◌, ◌≤◌, ◌-◌, ◌++◌, ℕ, List
 use Rattle.std.specs.Io.KnownBytes.{Appends}
 use Rattle.std.specs.List.{concat}
 use Rattle.byte_io.specs.checked.Parts.{bytes_of}
-use Rattle.byte_io.proofs.piece_threads.send_pieces_in_threads.Given as goal
+use Rattle.byte_io.proofs.piece_threads.send_in_rounds.Given as goal
 
 abbrev pub invariant-rounds : goal.invariant-rounds
 invariant-rounds g l = record {
-  ready : length l.ready ≡ 3;
-  parts : length l.parts ≡ 3;
   row : l.row.parts ≤ 3;
   within : l.row.next ≤ length (g.P.Pieces.pieces l.text);
   sent : (sent : List ℕ) × (concat (take l.row.next (g.P.Pieces.pieces l.text)) ≡ sent ++ bytes_of (take l.row.parts l.ready))
