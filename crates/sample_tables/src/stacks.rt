@@ -1,6 +1,6 @@
 //! Names, and stacks of their numbers, kept in a few flat vectors.
 
-ghost use Rattle.std.specs.Prelude.{◌≡◌, ◌<◌, ◌≤◌, ◌++◌, ◌-◌, ◌∷◌, [], ℕ, List, All, length, OnOk, OnErr};
+ghost use Rattle.std.specs.Prelude.{◌≡◌, ◌<◌, ◌≤◌, ◌+◌, ◌^◌, ◌++◌, ◌-◌, ◌∷◌, [], ℕ, List, All, length, map, string_bytes, OnOk, OnErr};
 ghost use Rattle.std.specs.List.{range_with_len};
 ghost use Rattle.sample_tables.specs.declared.samples.TheConstants.{FRAME_LIMIT};
 ghost use Rattle.sample_tables.specs.Rows.{name_at, stack_at};
@@ -112,19 +112,24 @@ impl Stacks {
         ensures ok { OnOk result (self.new ≡ with_fresh_stack self.old stack) }
         ensures refused { OnErr result (self.new ≡ self.old) }
     {
-        let mut names = stack.into_plain();
+        self.take_fresh(&mut stack.into_plain())
+    }
+
+    // As `add_fresh`, of the names of a vector.
+    fn take_fresh(&mut self, names: &mut Vec<String>) -> Result<(), AllocError>
+        requires { length names.old.items ≤ FRAME_LIMIT }
+        ensures ok { OnOk result
+            (self.new ≡ with_fresh_stack self.old (map string_bytes names.old.items)) }
+        ensures refused { OnErr result (self.new ≡ self.old) }
+    {
         let depth = names.len();
         self.names.reserve(depth)?;
         self.frames.reserve(depth)?;
         self.spans.reserve(1)?;
         let first = self.names.len();
-        let past = first + depth;
-        if past > u32::MAX as usize {
-            return Err(AllocError);
-        }
         let start = self.frames.len();
-        number(&mut self.frames, first as u32, past as u32)?;
-        self.names.append(&mut names)?;
+        number_next(&mut self.frames, first, depth)?;
+        self.names.append(names)?;
         self.spans.push(Span {
             start,
             end: self.frames.len(),
@@ -152,4 +157,19 @@ fn number(frames: &mut Vec<u32>, from: u32, to: u32) -> Result<(), AllocError>
     ensures begins { (more : List ℕ) × (frames.new.items ≡ frames.old.items ++ more) }
 {
     frames.extend(from..to)
+}
+
+/// Appends so many numbers, from `first` on. One past the 2^32nd is refused as memory is, and some of them may be
+/// left behind then.
+fn number_next(frames: &mut Vec<u32>, first: usize, count: usize) -> Result<(), AllocError>
+    requires { first + count < 2 ^ 64 }
+    ensures ok { OnOk result (frames.new.items
+        ≡ frames.old.items ++ range_with_len first count) }
+    ensures begins { (more : List ℕ) × (frames.new.items ≡ frames.old.items ++ more) }
+{
+    let past = first + count;
+    if past > u32::MAX as usize {
+        return Err(AllocError);
+    }
+    number(frames, first as u32, past as u32)
 }
