@@ -10,3 +10,13 @@ mod sources;
 mod types;
 mod views;
 mod worked;
+
+use std::fmt::Debug;
+use std::process::Abort;
+use std::test::Fail;
+
+/// What a test looks for was found.
+fn holds<E: Debug + Drop>(rt: &impl Abort, found: Result<bool, E>) -> Result<(), Fail> {
+    assert!(rt; found?);
+    Ok(())
+}

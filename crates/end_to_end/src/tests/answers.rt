@@ -1,7 +1,9 @@
 //! Runs over files in memory.
 
+use crate::tests::holds;
 use flame_tool::{CountedWriter, Files, MemoryFiles, NamedFile, Outlet, SOURCE_LIMIT};
 use std::alloc::{AllocError, Global};
+use std::io::Write;
 use std::process::Abort;
 use std::sync::Wait;
 use std::test::Fail;
@@ -28,15 +30,23 @@ pub(super) const SILENT: Case<'static> = Case {
     err: "",
 };
 
-/// What a run answers and writes.
+/// What went out of a run.
 #[derive(Drop)]
-pub(super) struct Outcome {
-    pub(super) status: u8,
+pub(super) struct Written {
     pub(super) out: Vec<u8>,
     pub(super) err: Vec<u8>,
 }
 
-pub(super) fn texts(alloc: Global, words: &[&str]) -> Result<Vec<String>, AllocError> {
+impl Written {
+    pub(super) fn nothing(alloc: Global) -> Written {
+        Written {
+            out: Vec::new(alloc),
+            err: Vec::new(alloc),
+        }
+    }
+}
+
+fn texts(alloc: Global, words: &[&str]) -> Result<Vec<String>, AllocError> {
     let mut texts = Vec::new(alloc);
     for word in words {
         texts.push(String::from_str(alloc, word)?)?;
@@ -51,7 +61,7 @@ fn named(alloc: Global, path: &str, bytes: &[u8]) -> Result<NamedFile, AllocErro
     })
 }
 
-fn add_files(
+pub(super) fn add_files(
     alloc: Global,
     files: &mut MemoryFiles,
     given: &[(&str, &[u8])],
@@ -60,13 +70,6 @@ fn add_files(
         files.add(named(alloc, path, bytes)?)?;
     }
     Ok(())
-}
-
-/// The files and the input of a case.
-fn files_of(alloc: Global, case: &Case<'_>) -> Result<MemoryFiles, AllocError> {
-    let mut files = MemoryFiles::new(alloc, case.input.to_vec(alloc)?, SOURCE_LIMIT);
-    add_files(alloc, &mut files, case.files)?;
-    Ok(files)
 }
 
 /// `flame_tool::run` without its clauses, so that what calls it is proved without them.
@@ -81,83 +84,75 @@ pub(super) fn run<T: Threads + Wait + Copy + Send + 'static, F: Files, W: Outlet
     flame_tool::run(rt, alloc, words, files, out, err)
 }
 
-/// Runs the program over what a case gives it, and answers its status.
-pub(super) fn status_of<
-    T: Threads + Wait + AllocGlobal + Copy + Send + 'static,
-    W: Outlet,
-    E: Outlet,
->(rt: &T, case: &Case<'_>, out: &mut W, err: &mut E) -> Result<u8, AllocError> {
-    let alloc = rt.alloc();
-    let words = texts(alloc, case.words)?;
-    let mut files = files_of(alloc, case)?;
-    Ok(run(rt, alloc, words, &mut files, out, err))
+/// Runs the program with these words, and answers its status.
+pub(super) fn status_of<T: Threads + Wait + Copy + Send + 'static, F: Files, W: Write, E: Write>(
+    rt: &T,
+    alloc: Global,
+    words: &[&str],
+    files: &mut F,
+    out: &mut W,
+    err: &mut E,
+) -> Result<u8, AllocError> {
+    let words = texts(alloc, words)?;
+    let mut out = CountedWriter::new(out);
+    let mut err = CountedWriter::new(err);
+    Ok(run(rt, alloc, words, files, &mut out, &mut err))
 }
 
-/// Runs the program over the files of a case.
-fn answer_over<T: Threads + Wait + AllocGlobal + Copy + Send + 'static>(
+/// Runs over these files, beside which it has those of the case, and ends as it is to.
+fn ends_over<T: Threads + Wait + Copy + Send + 'static>(
     rt: &T,
+    alloc: Global,
     case: &Case<'_>,
-    mut files: MemoryFiles,
-) -> Result<Outcome, AllocError> {
-    let mut out = CountedWriter::new(Vec::new(rt.alloc()));
-    let mut err = CountedWriter::new(Vec::new(rt.alloc()));
-    let words = texts(rt.alloc(), case.words)?;
-    let status = run(rt, rt.alloc(), words, &mut files, &mut out, &mut err);
-    Ok(Outcome {
-        status,
-        out: out.into_inner(),
-        err: err.into_inner(),
-    })
+    files: &mut MemoryFiles,
+    written: &mut Written,
+) -> Result<bool, AllocError> {
+    add_files(alloc, files, case.files)?;
+    let (out, err) = (&mut written.out, &mut written.err);
+    let status = status_of(rt, alloc, case.words, files, out, err)?;
+    Ok(
+        status == case.status
+            && written.out.as_slice() == case.out.as_bytes()
+            && written.err.as_slice() == case.err.as_bytes(),
+    )
 }
 
-/// Runs the program over what a case gives it.
-pub(super) fn answer<T: Threads + Wait + AllocGlobal + Copy + Send + 'static>(
+/// No file, and this input.
+pub(super) fn only_input(alloc: Global, input: &[u8]) -> Result<MemoryFiles, AllocError> {
+    Ok(MemoryFiles::new(alloc, input.to_vec(alloc)?, SOURCE_LIMIT))
+}
+
+/// A run ends as it is to.
+fn ends_so<T: Threads + Wait + Copy + Send + 'static>(
     rt: &T,
+    alloc: Global,
     case: &Case<'_>,
-) -> Result<Outcome, AllocError> {
-    answer_over(rt, case, files_of(rt.alloc(), case)?)
+) -> Result<bool, AllocError> {
+    let mut files = only_input(alloc, case.input)?;
+    ends_over(rt, alloc, case, &mut files, &mut Written::nothing(alloc))
 }
 
-/// The same where a file that is longer than some bytes can be had in pieces of so many.
-fn answer_in_pieces<T: Threads + Wait + AllocGlobal + Copy + Send + 'static>(
+/// The same where a file of more than five bytes can be had in pieces of so many.
+fn ends_so_in_pieces<T: Threads + Wait + Copy + Send + 'static>(
     rt: &T,
+    alloc: Global,
     case: &Case<'_>,
-) -> Result<Outcome, AllocError> {
-    answer_over(rt, case, files_of(rt.alloc(), case)?.in_pieces_of(5))
+) -> Result<bool, AllocError> {
+    let mut files = only_input(alloc, case.input)?.in_pieces_of(5);
+    ends_over(rt, alloc, case, &mut files, &mut Written::nothing(alloc))
 }
 
-/// The bytes that were found are these.
-pub(super) fn are_bytes(rt: &impl Abort, found: &[u8], wanted: &[u8]) {
-    assert_eq!(rt; found, wanted);
-}
-
-fn is_as_wanted(rt: &impl Abort, outcome: &Outcome, case: &Case<'_>) {
-    are_bytes(rt, outcome.out.as_slice(), case.out.as_bytes());
-    are_bytes(rt, outcome.err.as_slice(), case.err.as_bytes());
-    assert!(rt; outcome.status == case.status);
-}
-
-fn ends_so<T: Threads + Wait + AllocGlobal + Abort + Copy + Send + 'static>(
+fn each_ends_so<T: Threads + Wait + Copy + Send + 'static>(
     rt: &T,
-    case: &Case<'_>,
-) -> Result<(), AllocError> {
-    let outcome = answer(rt, case)?;
-    is_as_wanted(rt, &outcome, case);
-    let outcome = answer_in_pieces(rt, case)?;
-    is_as_wanted(rt, &outcome, case);
-    Ok(())
-}
-
-/// Each of these runs ends as it is to, over these files.
-pub(super) fn end_over<'a, T: Threads + Wait + AllocGlobal + Abort + Copy + Send + 'static>(
-    rt: &T,
-    files: &'a [(&'a str, &'a [u8])],
-    cases: &[Case<'a>],
-) -> Result<(), Fail> {
+    alloc: Global,
+    cases: &[Case<'_>],
+) -> Result<bool, AllocError> {
     for case in cases {
-        ends_so(rt, &Case { files, ..*case })?;
+        if !ends_so(rt, alloc, case)? || !ends_so_in_pieces(rt, alloc, case)? {
+            return Ok(false);
+        }
     }
-    Ok(())
+    Ok(true)
 }
 
 /// Each of these runs ends as it is to.
@@ -165,8 +160,5 @@ pub(super) fn end_so<T: Threads + Wait + AllocGlobal + Abort + Copy + Send + 'st
     rt: &T,
     cases: &[Case<'_>],
 ) -> Result<(), Fail> {
-    for case in cases {
-        ends_so(rt, case)?;
-    }
-    Ok(())
+    holds(rt, each_ends_so(rt, rt.alloc(), cases))
 }

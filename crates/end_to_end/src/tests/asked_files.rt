@@ -1,10 +1,10 @@
 //! What a run asks its files for.
 ghost use Rattle.std.specs.Prelude.{None};
 
-use crate::tests::answers::{Outcome, are_bytes, run, texts};
-use flame_tool::{CountedWriter, Files, LoadFault};
+use crate::tests::answers::{Written, status_of};
+use crate::tests::holds;
+use flame_tool::{Files, LoadFault};
 use std::alloc::{AllocError, Global};
-use std::process::Abort;
 use std::sync::Wait;
 use std::test::Fail;
 use std::thread::Threads;
@@ -95,41 +95,37 @@ const ASKING: &[Asking] = &[
     },
 ];
 
-/// What a run over such files says on standard error, and what it asked them for in the place of its output.
-fn outcome<T: Threads + Wait + AllocGlobal + Copy + Send + 'static>(
+/// A run over such files asks for them as it is to, and says on standard error what it is to.
+fn asks_so<T: Threads + Wait + Copy + Send + 'static>(
     rt: &T,
-    words: &[&str],
-) -> Result<Outcome, AllocError> {
-    let alloc = rt.alloc();
-    let words = texts(alloc, words)?;
-    let mut files = NotingFiles {
-        calls: String::new(alloc),
-    };
-    let mut out = CountedWriter::new(Vec::new(alloc));
-    let mut err = CountedWriter::new(Vec::new(alloc));
-    let status = run(rt, alloc, words, &mut files, &mut out, &mut err);
-    Ok(Outcome {
-        status,
-        out: files.calls.into_bytes(),
-        err: err.into_inner(),
-    })
+    alloc: Global,
+    asking: &Asking,
+    files: &mut NotingFiles,
+    written: &mut Written,
+) -> Result<bool, AllocError> {
+    let (out, err) = (&mut written.out, &mut written.err);
+    let _status = status_of(rt, alloc, asking.words, files, out, err)?;
+    let calls = files.calls.as_str().as_bytes();
+    Ok(calls == asking.calls.as_bytes() && written.err.as_slice() == asking.err.as_bytes())
 }
 
-fn asks_so<T: Threads + Wait + AllocGlobal + Abort + Copy + Send + 'static>(
+fn each_asks_so<T: Threads + Wait + Copy + Send + 'static>(
     rt: &T,
-    asking: &Asking,
-) -> Result<(), AllocError> {
-    let found = outcome(rt, asking.words)?;
-    are_bytes(rt, found.out.as_slice(), asking.calls.as_bytes());
-    are_bytes(rt, found.err.as_slice(), asking.err.as_bytes());
-    Ok(())
+    alloc: Global,
+) -> Result<bool, AllocError> {
+    for asking in ASKING {
+        let mut files = NotingFiles {
+            calls: String::new(alloc),
+        };
+        if !asks_so(rt, alloc, asking, &mut files, &mut Written::nothing(alloc))? {
+            return Ok(false);
+        }
+    }
+    Ok(true)
 }
 
 // All paths are told first, and then each file is asked for in its turn.
 #[test]
 fn files_are_asked_for_in_order(rt: HostRuntime) -> Result<(), Fail> {
-    for asking in ASKING {
-        asks_so(&rt, asking)?;
-    }
-    Ok(())
+    holds(&rt, each_asks_so(&rt, rt.alloc()))
 }

@@ -1,11 +1,11 @@
 //! Runs whose output or messages can't be written.
 
-use crate::tests::answers::{Case, Outcome, SILENT, are_bytes, status_of};
-use flame_tool::CountedWriter;
+use crate::tests::answers::{only_input, status_of};
+use crate::tests::holds;
+use flame_tool::MemoryFiles;
 use std::alloc::{AllocError, Global};
 use std::io;
 use std::io::{ErrorKind, Write};
-use std::process::Abort;
 use std::sync::Wait;
 use std::test::Fail;
 use std::thread::Threads;
@@ -15,6 +15,15 @@ use std::thread::Threads;
 struct Stingy {
     taken: Vec<u8>,
     room: usize,
+}
+
+impl Stingy {
+    fn with_room(alloc: Global, room: usize) -> Stingy {
+        Stingy {
+            taken: Vec::new(alloc),
+            room,
+        }
+    }
 }
 
 impl Write for Stingy {
@@ -33,103 +42,97 @@ impl Write for Stingy {
     }
 }
 
-/// A writer with room for so many bytes.
-fn writer_with_room(alloc: Global, room: usize) -> CountedWriter<Stingy> {
-    CountedWriter::new(Stingy {
-        taken: Vec::new(alloc),
-        room,
-    })
-}
-
-/// Runs over ten bytes of output, of which only so many go out.
-fn answer_in_room<T: Threads + Wait + AllocGlobal + Copy + Send + 'static>(
+/// Of the ten bytes of the output so many go out, up to the failing call, and no more.
+fn fails_after<T: Threads + Wait + Copy + Send + 'static>(
     rt: &T,
+    alloc: Global,
     words: &[&str],
-    room: usize,
-) -> Result<Outcome, AllocError> {
-    let case = Case {
-        words,
-        input: b"a;b 2\na 1\na;b 3\n",
-        ..SILENT
-    };
-    let mut out = writer_with_room(rt.alloc(), room);
-    let mut err = CountedWriter::new(Vec::new(rt.alloc()));
-    let status = status_of(rt, &case, &mut out, &mut err)?;
-    Ok(Outcome {
-        status,
-        out: out.into_inner().taken,
-        err: err.into_inner(),
-    })
+    files: &mut MemoryFiles,
+    out: &mut Stingy,
+    err: &mut Vec<u8>,
+    count: usize,
+) -> Result<bool, AllocError> {
+    let status = status_of(rt, alloc, words, files, out, err)?;
+    Ok(
+        status == 3
+            && err.as_slice() == b"flamecollect: output failed\n".as_slice()
+            && out.taken.len() == count
+            && b"a 1\na;b 5\n".starts_with(out.taken.as_slice()),
+    )
 }
 
-/// The ten bytes of the output go out up to the failing call, and no further.
-fn is_cut_after(rt: &impl Abort, outcome: &Outcome, room: usize) {
-    are_bytes(rt, outcome.err.as_slice(), b"flamecollect: output failed\n");
-    assert!(rt; b"a 1\na;b 5\n".starts_with(outcome.out.as_slice()));
-    assert!(rt; outcome.status == 3 && outcome.out.len() == room);
-}
-
-fn fails_after<T: Threads + Wait + AllocGlobal + Abort + Copy + Send + 'static>(
+/// Wherever the output fails, it is cut there.
+fn fails_wherever<T: Threads + Wait + Copy + Send + 'static>(
     rt: &T,
+    alloc: Global,
     words: &[&str],
-    room: usize,
-) -> Result<(), AllocError> {
-    let outcome = answer_in_room(rt, words, room)?;
-    is_cut_after(rt, &outcome, room);
-    Ok(())
+    files: &mut MemoryFiles,
+) -> Result<bool, AllocError> {
+    for room in 0..11 {
+        let mut out = Stingy::with_room(alloc, room);
+        if !fails_after(
+            rt,
+            alloc,
+            words,
+            files,
+            &mut out,
+            &mut Vec::new(alloc),
+            room,
+        )? {
+            return Ok(false);
+        }
+    }
+    Ok(true)
+}
+
+fn fails_with_and_without_words<T: Threads + Wait + Copy + Send + 'static>(
+    rt: &T,
+    alloc: Global,
+    files: &mut MemoryFiles,
+) -> Result<bool, AllocError> {
+    Ok(fails_wherever(rt, alloc, &[], files)? && fails_wherever(rt, alloc, &["fold"], files)?)
 }
 
 // At 10 all bytes go out, and the flush fails.
 #[test]
 fn each_write_fails_in_turn(rt: HostRuntime) -> Result<(), Fail> {
-    for room in 0..11 {
-        fails_after(&rt, &[], room)?;
-        fails_after(&rt, &["fold"], room)?;
+    let mut files = only_input(rt.alloc(), b"a;b 2\na 1\na;b 3\n")?;
+    holds(
+        &rt,
+        fails_with_and_without_words(&rt, rt.alloc(), &mut files),
+    )
+}
+
+/// Where standard error takes only so many bytes, the output and the status are as they would be.
+fn is_unchanged<T: Threads + Wait + Copy + Send + 'static>(
+    rt: &T,
+    alloc: Global,
+    files: &mut MemoryFiles,
+    out: &mut Vec<u8>,
+    err: &mut Stingy,
+    count: usize,
+) -> Result<bool, AllocError> {
+    let status = status_of(rt, alloc, &[], files, out, err)?;
+    Ok(status == 0 && out.as_slice() == b" 5\na 1\na;;b 1\n".as_slice() && err.taken.len() == count)
+}
+
+fn is_unchanged_wherever<T: Threads + Wait + Copy + Send + 'static>(
+    rt: &T,
+    alloc: Global,
+    files: &mut MemoryFiles,
+) -> Result<bool, AllocError> {
+    for room in 0..5 {
+        let mut err = Stingy::with_room(alloc, room);
+        if !is_unchanged(rt, alloc, files, &mut Vec::new(alloc), &mut err, room)? {
+            return Ok(false);
+        }
     }
-    Ok(())
-}
-
-const ODD_LINES: Case<'static> = Case {
-    input: b" 5\na; 1\na;;b 1\n\na x\na 5 \n",
-    out: " 5\na 1\na;;b 1\n",
-    ..SILENT
-};
-
-/// Runs over lines of which some are ignored, where standard error takes so many bytes. What was taken there is the
-/// error of the outcome.
-fn answer_with_room<T: Threads + Wait + AllocGlobal + Copy + Send + 'static>(
-    rt: &T,
-    room: usize,
-) -> Result<Outcome, AllocError> {
-    let mut out = CountedWriter::new(Vec::new(rt.alloc()));
-    let mut err = writer_with_room(rt.alloc(), room);
-    let status = status_of(rt, &ODD_LINES, &mut out, &mut err)?;
-    Ok(Outcome {
-        status,
-        out: out.into_inner(),
-        err: err.into_inner().taken,
-    })
-}
-
-fn is_unchanged(rt: &impl Abort, outcome: &Outcome, room: usize) {
-    are_bytes(rt, outcome.out.as_slice(), ODD_LINES.out.as_bytes());
-    assert!(rt; outcome.status == 0 && outcome.err.len() == room);
-}
-
-fn changes_nothing<T: Threads + Wait + AllocGlobal + Abort + Copy + Send + 'static>(
-    rt: &T,
-    room: usize,
-) -> Result<(), AllocError> {
-    let outcome = answer_with_room(rt, room)?;
-    is_unchanged(rt, &outcome, room);
-    Ok(())
+    Ok(true)
 }
 
 // Whatever is said on standard error, the output and the status are as they would be.
 #[test]
 fn messages_that_fail_change_nothing(rt: HostRuntime) -> Result<(), Fail> {
-    for room in 0..5 {
-        changes_nothing(&rt, room)?;
-    }
-    Ok(())
+    let mut files = only_input(rt.alloc(), b" 5\na; 1\na;;b 1\n\na x\na 5 \n")?;
+    holds(&rt, is_unchanged_wherever(&rt, rt.alloc(), &mut files))
 }

@@ -1,12 +1,13 @@
 //! Graphs, charts, comparisons and snapshots.
 
-use crate::tests::answers::{Case, Outcome, SILENT, answer, end_over};
+use crate::tests::answers::{Case, SILENT, Written, add_files, end_so, only_input, status_of};
+use crate::tests::holds;
 use crate::tests::worked::{
     AFTER, BEFORE, CALLS, CHART_OF_THREE_LINES, COMPARISON_BOXES, COMPARISON_LINES, FIVE_LINES,
     FUNCTIONS, GRAPH_OF_THREE_LINES, GREATEST_TOTALS, SNAPSHOT_LINES, THREE_LINES,
 };
-use std::alloc::AllocError;
-use std::process::Abort;
+use flame_tool::MemoryFiles;
+use std::alloc::{AllocError, Global};
 use std::sync::Wait;
 use std::test::Fail;
 use std::thread::Threads;
@@ -15,11 +16,13 @@ use std::thread::Threads;
 const OF_THREE_LINES: &[Case<'static>] = &[
     Case {
         words: &["graph", "--width", "10", "x"],
+        files: &[("x", THREE_LINES)],
         out: GRAPH_OF_THREE_LINES,
         ..SILENT
     },
     Case {
         words: &["chart", "x", "--width", "10"],
+        files: &[("x", THREE_LINES)],
         out: CHART_OF_THREE_LINES,
         ..SILENT
     },
@@ -27,18 +30,20 @@ const OF_THREE_LINES: &[Case<'static>] = &[
 
 #[test]
 fn graph_of_three_lines(rt: HostRuntime) -> Result<(), Fail> {
-    end_over(&rt, &[("x", THREE_LINES.as_bytes())], OF_THREE_LINES)
+    end_so(&rt, OF_THREE_LINES)
 }
 
 /// Lines, and boxes.
 const COMPARISONS: &[Case<'static>] = &[
     Case {
         words: &["compare", "x", "y"],
+        files: &[("x", BEFORE), ("y", AFTER)],
         out: COMPARISON_LINES,
         ..SILENT
     },
     Case {
         words: &["compare", "x", "--boxes", "y", "--width", "10"],
+        files: &[("x", BEFORE), ("y", AFTER)],
         out: COMPARISON_BOXES,
         ..SILENT
     },
@@ -46,30 +51,32 @@ const COMPARISONS: &[Case<'static>] = &[
 
 #[test]
 fn comparison(rt: HostRuntime) -> Result<(), Fail> {
-    let files = [("x", BEFORE.as_bytes()), ("y", AFTER.as_bytes())];
-    end_over(&rt, &files, COMPARISONS)
+    end_so(&rt, COMPARISONS)
 }
 
 const SNAPSHOTS: &[Case<'static>] = &[Case {
     words: &["graph", "--width", "10", "--every", "2", "x"],
+    files: &[("x", FIVE_LINES)],
     out: SNAPSHOT_LINES,
     ..SILENT
 }];
 
 #[test]
 fn snapshots_of_one_source(rt: HostRuntime) -> Result<(), Fail> {
-    end_over(&rt, &[("x", FIVE_LINES.as_bytes())], SNAPSHOTS)
+    end_so(&rt, SNAPSHOTS)
 }
 
 /// The table, and the greatest totals.
 const TOPS: &[Case<'static>] = &[
     Case {
         words: &["top", "x"],
+        files: &[("x", CALLS)],
         out: FUNCTIONS,
         ..SILENT
     },
     Case {
         words: &["top", "--json", "--by", "total", "x", "-n", "2"],
+        files: &[("x", CALLS)],
         out: GREATEST_TOTALS,
         ..SILENT
     },
@@ -77,61 +84,59 @@ const TOPS: &[Case<'static>] = &[
 
 #[test]
 fn functions_by_weight(rt: HostRuntime) -> Result<(), Fail> {
-    end_over(&rt, &[("x", CALLS.as_bytes())], TOPS)
+    end_so(&rt, TOPS)
+}
+
+/// Words, and the status that they are to give.
+const WITHOUT_VIEWS: &[(&[&str], u8)] = &[
+    (&["graph", "--width", "0"], 2),
+    (&["fold", "--every", "2"], 2),
+    (&["compare", "x", "--boxes"], 2),
+    (&["top", "-n", "0"], 2),
+    (&["fold", "--help"], 0),
+];
+
+/// With status 2 a run writes to standard error alone, and else to its output alone.
+fn writes_to_one<T: Threads + Wait + Copy + Send + 'static>(
+    rt: &T,
+    alloc: Global,
+    words: &[&str],
+    status: u8,
+    files: &mut MemoryFiles,
+    written: &mut Written,
+) -> Result<bool, AllocError> {
+    let (out, err) = (&mut written.out, &mut written.err);
+    let found = status_of(rt, alloc, words, files, out, err)?;
+    Ok(
+        found == status
+            && written.out.is_empty() == (status == 2)
+            && written.err.is_empty() != (status == 2),
+    )
+}
+
+fn each_writes_to_one<T: Threads + Wait + Copy + Send + 'static>(
+    rt: &T,
+    alloc: Global,
+    files: &mut MemoryFiles,
+) -> Result<bool, AllocError> {
+    for (words, status) in WITHOUT_VIEWS {
+        let mut written = Written::nothing(alloc);
+        if !writes_to_one(rt, alloc, words, *status, files, &mut written)? {
+            return Ok(false);
+        }
+    }
+    Ok(true)
 }
 
 /// A file and an input of one line each.
-const ONE_LINE: Case<'static> = Case {
-    files: &[("x", b"a 1\n")],
-    input: b"a 1\n",
-    ..SILENT
-};
-
-fn is_refusal(rt: &impl Abort, outcome: &Outcome) {
-    assert!(rt; outcome.status == 2);
-    assert!(rt; outcome.out.is_empty() && !outcome.err.is_empty());
+fn one_line(alloc: Global) -> Result<MemoryFiles, AllocError> {
+    let mut files = only_input(alloc, b"a 1\n")?;
+    add_files(alloc, &mut files, &[("x", b"a 1\n")])?;
+    Ok(files)
 }
-
-fn is_help(rt: &impl Abort, outcome: &Outcome) {
-    assert!(rt; outcome.status == 0);
-    assert!(rt; !outcome.out.is_empty() && outcome.err.is_empty());
-}
-
-/// A run with these words, over a file and an input of one line each, is refused.
-fn refuses<T: Threads + Wait + AllocGlobal + Abort + Copy + Send + 'static>(
-    rt: &T,
-    words: &[&str],
-) -> Result<(), AllocError> {
-    let outcome = answer(rt, &Case { words, ..ONE_LINE })?;
-    is_refusal(rt, &outcome);
-    Ok(())
-}
-
-const HELP: Case<'static> = Case {
-    words: &["fold", "--help"],
-    input: b"a 1\n",
-    ..SILENT
-};
-
-fn helps<T: Threads + Wait + AllocGlobal + Abort + Copy + Send + 'static>(
-    rt: &T,
-) -> Result<(), Fail> {
-    let outcome = answer(rt, &HELP)?;
-    is_help(rt, &outcome);
-    Ok(())
-}
-
-const REFUSED_WORDS: &[[&str; 3]] = &[
-    ["graph", "--width", "0"],
-    ["fold", "--every", "2"],
-    ["compare", "x", "--boxes"],
-    ["top", "-n", "0"],
-];
 
 #[test]
 fn refused_words(rt: HostRuntime) -> Result<(), Fail> {
-    for words in REFUSED_WORDS {
-        refuses(&rt, words)?;
-    }
-    helps(&rt)
+    let mut files = one_line(rt.alloc())?;
+    holds(&rt, each_writes_to_one(&rt, rt.alloc(), &mut files))
 }

@@ -1,11 +1,12 @@
 //! The example of the page of `merging`, and a run with a filter.
-ghost use Rattle.std.specs.Prelude.{◌≡◌, IfOk, length};
+ghost use Rattle.std.specs.Prelude.{◌≡◌, IfOk, None, length};
 
+use crate::tests::holds;
 use merging::{Gathered, Source, WholeRun, gather, read_whole_sources};
+use ring_collect::CollectFault;
 use run_options::{Filter, Format, Naming, Options, Pick, RingSize};
 use stack_core::{Names, NoSink, OpenGate, SourceList};
 use std::alloc::{AllocError, Global};
-use std::process::Abort;
 use std::sync::{Arc, Wait};
 use std::test::Fail;
 use std::thread::Threads;
@@ -22,41 +23,46 @@ fn one_source(alloc: Global, text: &[u8]) -> Result<Vec<Source>, AllocError>
 }
 
 /// The settings of a run, in which nothing else is chosen.
-fn options_of(ring: RingSize, filter: Filter, every: Option<u64>) -> Options
-    ensures { result.every ≡ every }
+fn options_of(ring: RingSize, filter: Filter) -> Options
+    ensures { result.every ≡ None }
 {
     Options {
         ring,
         pick: Pick::Preferred,
         naming: Naming::Plain,
         filter,
-        every,
+        every: None,
     }
 }
 
-/// What is gathered of the source of the page.
-fn gathered_of_the_page<T: Threads + Wait + Copy + Send + 'static>(
-    rt: &T,
-    alloc: Global,
-) -> Result<Gathered, Fail> {
-    let sources = one_source(alloc, b"a;b 2\na 1\n")?;
-    let gate = Arc::new(alloc, OpenGate)?;
-    let ring = RingSize::of(8).unwrap();
-    let options = options_of(ring, Filter::everything(alloc), None);
-    Ok(gather(rt, alloc, sources, &options, gate)?)
+fn open_gate(alloc: Global) -> Result<Arc<OpenGate>, AllocError> {
+    Ok(Arc::new(alloc, OpenGate)?)
 }
 
-fn expect_the_page(rt: &impl Abort, gathered: &Gathered) {
+fn is_as_on_the_page(gathered: &Gathered) -> bool {
     let lists = gathered.lists();
-    assert!(rt; lists.len() == 1);
-    assert!(rt; lists[0].len() == 2 && gathered.tree().total(&[]) == 3);
+    lists.len() == 1 && lists[0].len() == 2 && gathered.tree().total(&[]) == 3
+}
+
+/// What is gathered of the source of the page.
+fn gathers_as_on_the_page<T: Threads + Wait + Copy + Send + 'static>(
+    rt: &T,
+    alloc: Global,
+    options: &Options,
+) -> Result<bool, CollectFault>
+    requires { options.now.every ≡ None }
+{
+    let sources = one_source(alloc, b"a;b 2\na 1\n")?;
+    let gate = open_gate(alloc)?;
+    let gathered = gather(rt, alloc, sources, options, gate)?;
+    Ok(is_as_on_the_page(&gathered))
 }
 
 #[test]
 fn example_of_the_page(rt: HostRuntime) -> Result<(), Fail> {
-    let gathered = gathered_of_the_page(&rt, rt.alloc())?;
-    expect_the_page(&rt, &gathered);
-    Ok(())
+    let filter = Filter::everything(rt.alloc());
+    let options = options_of(RingSize::of(8).unwrap(), filter);
+    holds(&rt, gathers_as_on_the_page(&rt, rt.alloc(), &options))
 }
 
 /// Keeps `a`, but not below `d`.
@@ -67,32 +73,32 @@ fn keeping_a(alloc: Global) -> Result<Filter, AllocError> {
     })
 }
 
-fn expect_the_list(rt: &impl Abort, list: &SourceList) {
-    assert!(rt; list.len() == 2);
-    assert!(rt; list.weight(0) == 2 && list.weight(1) == 1);
+fn has_two_of_a(list: &SourceList) -> bool {
+    list.len() == 2 && list.weight(0) == 2 && list.weight(1) == 1
 }
 
-fn expect_the_kept(rt: &impl Abort, run: &WholeRun) {
-    assert!(rt; run.whole_weight == 20 && run.kept.total() == 3);
-    assert!(rt; run.kept.order().len() == 2);
+fn is_kept_of_a(run: &WholeRun) -> bool {
     let lists = run.kept.lists();
-    assert!(rt; lists.len() == 1);
-    expect_the_list(rt, &lists[0]);
+    run.whole_weight == 20
+        && run.kept.total() == 3
+        && run.kept.order().len() == 2
+        && lists.len() == 1
+        && has_two_of_a(&lists[0])
 }
 
 /// What a run keeps of five samples, two of which pass the filter.
-fn kept_by_a_filter<T: Threads + Wait + Copy + Send + 'static>(
+fn keeps_two_of_five<T: Threads + Wait + Copy + Send + 'static>(
     rt: &T,
     alloc: Global,
-) -> Result<WholeRun, Fail> {
+    options: &Options,
+) -> Result<bool, CollectFault> {
     let sources = one_source(alloc, b"a;b 2\nc 5\na;b 1\nd;a 4\nc;e 8\n")?;
-    let options = options_of(RingSize::of(1).unwrap(), keeping_a(alloc)?, None);
-    Ok(read_whole_sources(rt, alloc, sources, &options, &mut NoSink::new())?)
+    let run = read_whole_sources(rt, alloc, sources, options, &mut NoSink::new())?;
+    Ok(is_kept_of_a(&run))
 }
 
 #[test]
 fn reads_what_a_filter_keeps(rt: HostRuntime) -> Result<(), Fail> {
-    let run = kept_by_a_filter(&rt, rt.alloc())?;
-    expect_the_kept(&rt, &run);
-    Ok(())
+    let options = options_of(RingSize::of(1).unwrap(), keeping_a(rt.alloc())?);
+    holds(&rt, keeps_two_of_five(&rt, rt.alloc(), &options))
 }

@@ -24,7 +24,7 @@ pub(super) const BASE: &[u8] = &[
 ];
 
 /// Three samples, one of which draws nothing.
-pub(super) const THREE_LINES: &str = "a 1\nc 0\nb 2\n";
+pub(super) const THREE_LINES: &[u8] = b"a 1\nc 0\nb 2\n";
 
 /// Their flame graph, 10 pixels wide.
 pub(super) const GRAPH_OF_THREE_LINES: &str = "{\"boxes\":[\
@@ -41,9 +41,9 @@ pub(super) const CHART_OF_THREE_LINES: &str = "{\"boxes\":[\
     \"total\":3,\"view\":\"chart\",\"width\":10}\n";
 
 /// The two profiles of a comparison.
-pub(super) const BEFORE: &str = "a 3\nb 1\n";
+pub(super) const BEFORE: &[u8] = b"a 3\nb 1\n";
 
-pub(super) const AFTER: &str = "a 1\nc 2\n";
+pub(super) const AFTER: &[u8] = b"a 1\nc 2\n";
 
 /// Their stacks side by side.
 pub(super) const COMPARISON_LINES: &str = "a 3 1\nb 1 0\nc 0 2\n";
@@ -58,7 +58,7 @@ pub(super) const COMPARISON_BOXES: &str = "{\"before\":4,\"boxes\":[\
     \"weight\":2}],\"total\":3,\"view\":\"compare\",\"width\":10}\n";
 
 /// A name that calls itself, one that stands twice, a stack without frames, and one without weight.
-pub(super) const CALLS: &str = "main;f;g 3\nmain;f;f 2\nmain 1\nmain;h 2\nz 0\n 4\nf;g;f;g 1\n";
+pub(super) const CALLS: &[u8] = b"main;f;g 3\nmain;f;f 2\nmain 1\nmain;h 2\nz 0\n 4\nf;g;f;g 1\n";
 
 /// Its functions, by their own weight.
 pub(super) const FUNCTIONS: &str = "own    own%  total  total%  name
@@ -74,7 +74,7 @@ pub(super) const GREATEST_TOTALS: &str = "{\"functions\":[\
     {\"name\":\"f\",\"own\":2,\"total\":6}],\"total\":13,\"view\":\"top\"}\n";
 
 /// Five samples of one source.
-pub(super) const FIVE_LINES: &str = "a 1\na;b 1\nc 2\na 1\nd 1\n";
+pub(super) const FIVE_LINES: &[u8] = b"a 1\na;b 1\nc 2\na 1\nd 1\n";
 
 /// Their flame graph, 10 pixels wide, after the snapshots at 2 and at 4.
 pub(super) const SNAPSHOT_LINES: &str = "{\"at\":2,\"boxes\":[\

@@ -45,33 +45,7 @@ impl Gate for StopsAt {
     }
 }
 
-/// Lets two sources go once both asked.
-#[derive(Drop)]
-pub struct BothAsked {
-    pub first: AtomicU64,
-    pub second: AtomicU64,
-}
-
-impl Gate for BothAsked {
-    ghost may_stop = { λ _ _ _. Unit {0} };
-
-    ghost may_go = { λ _ _ _. Unit {0} };
-
-    fn before(&self, source: u32, index: u64) -> Turn {
-        if index > 0 {
-            return Turn::Go;
-        }
-        let (own, other) = if source == 0 {
-            (&self.first, &self.second)
-        } else {
-            (&self.second, &self.first)
-        };
-        own.store(1, Ordering::SeqCst);
-        waited(other, 1)
-    }
-}
-
-/// Lets so many sources go once all asked.
+/// Lets sources go once each of them asked. A source has the bit of its number in `asked`, and all have theirs in `wanted`.
 #[derive(Drop)]
 pub struct AllAsked {
     pub asked: AtomicU64,
@@ -83,11 +57,11 @@ impl Gate for AllAsked {
 
     ghost may_go = { λ _ _ _. Unit {0} };
 
-    fn before(&self, _source: u32, index: u64) -> Turn {
+    fn before(&self, source: u32, index: u64) -> Turn {
         if index > 0 {
             return Turn::Go;
         }
-        self.asked.fetch_add(1, Ordering::SeqCst);
+        self.asked.fetch_or(1u64 << (source % 64), Ordering::SeqCst);
         waited(&self.asked, self.wanted)
     }
 }

@@ -1,115 +1,170 @@
 //! Runs whose sources are read in different ways.
-use super::shown::{CLEAN, folded_sources, is_list, plain, run_plain, run_ungated};
+ghost use Rattle.std.specs.Prelude.{◌≡◌, IfOk, None};
+
+use super::shown::{CLEAN, Given, Listed, is_read, see};
+use crate::tests::holds;
 use crate::tests::worked::{BASE, INLINED_LINES};
-use flame_tool::{Filter, Format, Options, Source, Views};
+use flame_tool::{Filter, Format, Options, Views};
 use profile_tables::{Naming, Pick};
-use ring_collect::RingSize;
-use stack_core::{Names, ReadFault, ReadKind, SourceEnd, Text};
+use ring_collect::{CollectFault, RingSize};
+use stack_core::{Names, OpenGate, ReadFault, ReadKind, SourceEnd, Text};
 use std::alloc::{AllocError, Global};
 use std::process::Abort;
 use std::sync::Wait;
 use std::test::Fail;
 use std::thread::Threads;
 
-fn push_profile(alloc: Global, sources: &mut Vec<Source>, bytes: &[u8]) -> Result<(), AllocError> {
-    sources.push(Source {
-        format: Format::Pprof,
-        bytes: bytes.to_vec(alloc)?,
-    })?;
-    Ok(())
-}
-
-/// An empty folded source, and a profile.
-fn with_profile(alloc: Global, bytes: &[u8]) -> Result<Vec<Source>, AllocError> {
-    let mut sources = folded_sources(alloc, &[""])?;
-    push_profile(alloc, &mut sources, bytes)?;
-    Ok(sources)
-}
-
-/// The first list has no samples, the second these.
-fn are_read(rt: &impl Abort, alloc: Global, views: &Views, text: &str) -> Result<(), Fail> {
-    assert!(rt; views.lists().len() == 2);
-    is_list(rt, alloc, &views.lists()[0], "", CLEAN)?;
-    is_list(rt, alloc, &views.lists()[1], text, CLEAN)?;
-    Ok(())
-}
-
-/// The views of an empty folded source and this profile.
-fn run_profile<T: Threads + Wait + Abort + Copy + Send + 'static>(
-    rt: &T,
-    alloc: Global,
-    bytes: &[u8],
-    pick: Pick,
+/// What a run reads and how, its lists, and what all samples weigh.
+struct Reading {
+    given: &'static [Given],
+    ring: u32,
+    /// The sample type of a profile, where it is not the preferred one.
+    picked: Option<&'static str>,
     naming: Naming,
-) -> Result<Views, Fail> {
-    let sources = with_profile(alloc, bytes)?;
-    let options = Options {
-        ring: RingSize::of(4).expect(rt, "the size of a ring"),
-        pick,
-        naming,
-        filter: Filter::everything(alloc),
+    focus: &'static [&'static str],
+    hide: &'static [&'static str],
+    lists: &'static [Listed],
+    total: u128,
+}
+
+fn pick_of(alloc: Global, reading: &Reading) -> Result<Pick, AllocError> {
+    match reading.picked {
+        Some(name) => Ok(Pick::Named(Text::from_str(alloc, name)?)),
+        None => Ok(Pick::Preferred),
+    }
+}
+
+fn filter_of(alloc: Global, reading: &Reading) -> Result<Filter, AllocError> {
+    Ok(Filter {
+        focus: Names::from_strs(alloc, reading.focus)?,
+        hide: Names::from_strs(alloc, reading.hide)?,
+    })
+}
+
+fn options_of(alloc: Global, reading: &Reading, ring: RingSize) -> Result<Options, AllocError>
+    ensures { IfOk result (λ options. options.every ≡ None) }
+{
+    Ok(Options {
+        ring,
+        pick: pick_of(alloc, reading)?,
+        naming: reading.naming,
+        filter: filter_of(alloc, reading)?,
         every: None,
-    };
-    run_ungated(rt, alloc, sources, &options)
+    })
 }
 
-/// The profile is read as this text.
-fn reads<T: Threads + Wait + Abort + Copy + Send + 'static>(
+fn reads<T: Threads + Wait + Copy + Send + 'static>(
     rt: &T,
     alloc: Global,
-    bytes: &[u8],
-    pick: Pick,
-    naming: Naming,
-    text: &str,
-) -> Result<(), Fail> {
-    let views = run_profile(rt, alloc, bytes, pick, naming)?;
-    are_read(rt, alloc, &views, text)
+    reading: &Reading,
+) -> Result<bool, CollectFault> {
+    let Some(ring) = RingSize::of(reading.ring) else {
+        return Ok(false);
+    };
+    let options = options_of(alloc, reading, ring)?;
+    let Reading {
+        given,
+        lists,
+        total,
+        ..
+    } = *reading;
+    is_read(rt, alloc, given, &options, OpenGate, lists, total)
 }
+
+fn reads_each<T: Threads + Wait + Copy + Send + 'static>(
+    rt: &T,
+    alloc: Global,
+    readings: &[Reading],
+) -> Result<bool, CollectFault> {
+    for reading in readings {
+        if !reads(rt, alloc, reading)? {
+            return Ok(false);
+        }
+    }
+    Ok(true)
+}
+
+/// Each of these is read as it is to be.
+fn read_so<T: Threads + Wait + Abort + AllocGlobal + Copy + Send + 'static>(
+    rt: &T,
+    readings: &[Reading],
+) -> Result<(), Fail> {
+    holds(rt, reads_each(rt, rt.alloc(), readings))
+}
+
+/// An empty folded source, and a profile of two sample types.
+const PICKED: Reading = Reading {
+    given: &[(Format::Folded, &[]), (Format::Pprof, &[(BASE, 1)])],
+    ring: 4,
+    picked: None,
+    naming: Naming::Plain,
+    focus: &[],
+    hide: &[],
+    lists: &[(&[], 1, CLEAN), (&[(&["f"], 9)], 1, CLEAN)],
+    total: 9,
+};
+
+/// The preferred sample type, and one by its name.
+const PICKINGS: &[Reading] = &[
+    PICKED,
+    Reading {
+        picked: Some("n"),
+        lists: &[(&[], 1, CLEAN), (&[(&["f"], 5)], 1, CLEAN)],
+        total: 5,
+        ..PICKED
+    },
+];
 
 #[test]
 fn picking_a_value(rt: HostRuntime) -> Result<(), Fail> {
-    let alloc = rt.alloc();
-    reads(&rt, alloc, BASE, Pick::Preferred, Naming::Plain, "f 9\n")?;
-    let named = Pick::Named(Text::from_str(alloc, "n")?);
-    reads(&rt, alloc, BASE, named, Naming::Plain, "f 5\n")
+    read_so(&rt, PICKINGS)
 }
+
+/// An empty folded source, and a profile with an inlined function.
+const INLINED: Reading = Reading {
+    given: &[
+        (Format::Folded, &[]),
+        (Format::Pprof, &[(INLINED_LINES, 1)]),
+    ],
+    lists: &[(&[], 1, CLEAN), (&[(&["printf", "memcpy"], 7)], 1, CLEAN)],
+    total: 7,
+    ..PICKED
+};
+
+/// Without lines, and with them.
+const NAMINGS: &[Reading] = &[
+    INLINED,
+    Reading {
+        naming: Naming::Lines,
+        lists: &[
+            (&[], 1, CLEAN),
+            (&[(&["printf:40", "memcpy:12"], 7)], 1, CLEAN),
+        ],
+        ..INLINED
+    },
+];
 
 #[test]
 fn lines_of_inlined_frames(rt: HostRuntime) -> Result<(), Fail> {
-    let alloc = rt.alloc();
-    let plain = "printf;memcpy 7\n";
-    reads(
-        &rt,
-        alloc,
-        INLINED_LINES,
-        Pick::Preferred,
-        Naming::Plain,
-        plain,
-    )?;
-    let lines = "printf:40;memcpy:12 7\n";
-    reads(
-        &rt,
-        alloc,
-        INLINED_LINES,
-        Pick::Preferred,
-        Naming::Lines,
-        lines,
-    )
+    read_so(&rt, NAMINGS)
 }
 
 /// There is nothing to see.
-fn are_empty(rt: &impl Abort, views: &Views) {
-    assert!(rt; views.lists().is_empty() && views.order().is_empty());
-    assert!(rt; views.table().len() == 0 && views.tree().total(&[]) == 0);
-    assert!(rt; views.graph().is_empty() && views.chart().is_empty());
-    assert!(rt; views.snapshots().is_empty());
+fn are_empty(views: &Views) -> Result<bool, AllocError> {
+    Ok(
+        views.lists().is_empty()
+            && views.order().is_empty()
+            && views.table().len() == 0
+            && views.tree().total(&[]) == 0
+            && views.graph().is_empty()
+            && views.chart().is_empty()
+            && views.snapshots().is_empty(),
+    )
 }
 
 #[test]
 fn no_sources(rt: HostRuntime) -> Result<(), Fail> {
-    let views = run_plain(&rt, rt.alloc(), &[], 1, Some(1))?;
-    are_empty(&rt, &views);
-    Ok(())
+    see(&rt, &[], 1, Some(1), &are_empty)
 }
 
 const DECIMAL: SourceEnd = SourceEnd::Fault(ReadFault {
@@ -120,70 +175,60 @@ const DECIMAL: SourceEnd = SourceEnd::Fault(ReadFault {
 const ONE_IGNORED: SourceEnd = SourceEnd::Clean { ignored: 1 };
 
 /// What stands before the fault is seen, and what other sources have.
-fn are_cut(rt: &impl Abort, alloc: Global, views: &Views) -> Result<(), Fail> {
-    let lists = views.lists();
-    assert!(rt; lists.len() == 2);
-    is_list(rt, alloc, &lists[0], "b 2\n", DECIMAL)?;
-    is_list(rt, alloc, &lists[1], "c 3\n", ONE_IGNORED)?;
-    assert!(rt; views.tree().total(&[]) == 5);
-    Ok(())
-}
+const REFUSED: &[Reading] = &[Reading {
+    given: &[
+        (Format::Folded, &[(b"b 2\na 1.5\n", 1)]),
+        (Format::Folded, &[(b"c 3\n\n", 1)]),
+    ],
+    ring: 1,
+    lists: &[
+        (&[(&["b"], 2)], 1, DECIMAL),
+        (&[(&["c"], 3)], 1, ONE_IGNORED),
+    ],
+    total: 5,
+    ..PICKED
+}];
 
 #[test]
 fn refused_counts(rt: HostRuntime) -> Result<(), Fail> {
-    let texts = ["b 2\na 1.5\n", "c 3\n\n"];
-    let views = run_plain(&rt, rt.alloc(), &texts, 1, None)?;
-    are_cut(&rt, rt.alloc(), &views)
+    read_so(&rt, REFUSED)
 }
 
-/// What stands in a parser, but reads nothing.
-fn parsing(alloc: Global) -> Result<Filter, AllocError> {
-    Ok(Filter {
-        focus: Names::from_strs(alloc, &["pars"])?,
-        hide: Names::from_strs(alloc, &["read"])?,
-    })
-}
-
-/// The views of three samples, of which one stands in a parser and reads nothing.
-fn run_parsing<T: Threads + Wait + Abort + Copy + Send + 'static>(
-    rt: &T,
-    alloc: Global,
-) -> Result<Views, Fail> {
-    let sources = folded_sources(alloc, &["main;parse;read 5\nmain;parse 3\nmain;layout 2\n"])?;
-    let mut options = plain(rt, alloc, 2, None);
-    options.filter = parsing(alloc)?;
-    run_ungated(rt, alloc, sources, &options)
-}
-
-/// The tree and the list have what the filter keeps.
-fn are_filtered(rt: &impl Abort, alloc: Global, views: &Views) -> Result<(), Fail> {
-    let lists = views.lists();
-    assert!(rt; lists.len() == 1);
-    is_list(rt, alloc, &lists[0], "main;parse 3\n", CLEAN)?;
-    assert!(rt; views.tree().total(&[]) == 3);
-    Ok(())
-}
+/// Of three samples one stands in a parser and reads nothing. The tree and the list have what the filter keeps.
+const FILTERED: &[Reading] = &[Reading {
+    given: &[(
+        Format::Folded,
+        &[(b"main;parse;read 5\nmain;parse 3\nmain;layout 2\n", 1)],
+    )],
+    ring: 2,
+    focus: &["pars"],
+    hide: &["read"],
+    lists: &[(&[(&["main", "parse"], 3)], 1, CLEAN)],
+    total: 3,
+    ..PICKED
+}];
 
 #[test]
 fn filtered_samples(rt: HostRuntime) -> Result<(), Fail> {
-    let views = run_parsing(&rt, rt.alloc())?;
-    are_filtered(&rt, rt.alloc(), &views)
+    read_so(&rt, FILTERED)
 }
 
+/// A source as heavy as it may be.
+const HEAVIEST: Given = (Format::Folded, &[(b"a 72057594037927935\n", 1)]);
+
 /// The weights of the graph are those of 64 sources, each as heavy as it may be.
-fn are_heaviest(rt: &impl Abort, views: &Views) {
-    assert!(rt; views.tree().total(&[0]) == 4_611_686_018_427_387_840);
+fn are_heaviest(views: &Views) -> Result<bool, AllocError> {
     let graph = views.graph();
-    assert!(rt; views.chart().len() == 2);
-    assert!(rt; graph.len() == 2);
-    assert!(rt; graph[1].own == 4_611_686_018_427_387_840);
+    Ok(
+        views.tree().total(&[0]) == 4_611_686_018_427_387_840
+            && views.chart().len() == 2
+            && graph.len() == 2
+            && graph[1].own == 4_611_686_018_427_387_840,
+    )
 }
 
 /// As many sources as there may be, each as heavy as it may be.
 #[test]
 fn limits_of_weights_and_depth_by_weights(rt: HostRuntime) -> Result<(), Fail> {
-    let texts = ["a 72057594037927935\n"; 64];
-    let views = run_plain(&rt, rt.alloc(), &texts, 1, None)?;
-    are_heaviest(&rt, &views);
-    Ok(())
+    see(&rt, &[HEAVIEST; 64], 1, None, &are_heaviest)
 }

@@ -1,11 +1,11 @@
-//! What the runs of the tests read, and what is shown of them.
-ghost use Rattle.std.specs.Prelude.{◌≡◌, ◌≤◌, ◌<◌, IfSome, length};
+//! What the runs of the tests read, and what is seen of them.
+ghost use Rattle.std.specs.Prelude.{◌≡◌, ◌≤◌, ◌<◌, IfOk, IfSome, IsTrue, length};
 ghost use Rattle.flame_tool.specs.Plans.{IsComparison};
 
-use crate::tests::answers::are_bytes;
+use crate::tests::holds;
 use call_tree::FrameTable;
 use flame_layout::SpanBox;
-use flame_tool::{Filter, Format, Options, Source, View, Views, render, views};
+use flame_tool::{Filter, Format, Options, Snapshot, Source, View, Views, render, views};
 use profile_tables::{Naming, Pick};
 use ring_collect::{CollectFault, RingSize};
 use stack_core::{Gate, OpenGate, SourceEnd, SourceList};
@@ -15,22 +15,76 @@ use std::sync::{Arc, Wait};
 use std::test::Fail;
 use std::thread::Threads;
 
-pub const CLEAN: SourceEnd = SourceEnd::Clean { ignored: 0 };
+/// Bytes, and how often they stand.
+pub type Part = (&'static [u8], u32);
 
-/// Folded text as a source.
-pub fn folded(alloc: Global, text: &str) -> Result<Source, AllocError> {
-    Ok(Source {
-        format: Format::Folded,
-        bytes: text.as_bytes().to_vec(alloc)?,
-    })
+/// A source: how its bytes are read, and the parts of which they are.
+pub type Given = (Format, &'static [Part]);
+
+fn add_parts(bytes: &mut Vec<u8>, parts: &[Part]) -> Result<(), AllocError> {
+    for (part, times) in parts {
+        for _ in 0..*times {
+            bytes.extend_from_slice(part)?;
+        }
+    }
+    Ok(())
+}
+
+fn bytes_of(alloc: Global, parts: &[Part]) -> Result<Vec<u8>, AllocError> {
+    let mut bytes = Vec::new(alloc);
+    add_parts(&mut bytes, parts)?;
+    Ok(bytes)
+}
+
+fn add_sources(alloc: Global, sources: &mut Vec<Source>, all: &[Given]) -> Result<(), AllocError> {
+    for (format, parts) in all {
+        let bytes = bytes_of(alloc, parts)?;
+        sources.push(Source {
+            format: *format,
+            bytes,
+        })?;
+    }
+    Ok(())
+}
+
+/// The sources, of which a run has no more than 64.
+fn sources_of(alloc: Global, all: &[Given]) -> Result<Vec<Source>, CollectFault>
+    ensures { IfOk result (λ sources. length sources.items ≤ 64) }
+{
+    let mut sources = Vec::new(alloc);
+    add_sources(alloc, &mut sources, all)?;
+    if sources.len() > 64 {
+        return Err(CollectFault::NoThread);
+    }
+    Ok(sources)
+}
+
+fn shared<G: Drop>(alloc: Global, gate: G) -> Result<Arc<G>, AllocError> {
+    Ok(Arc::new(alloc, gate)?)
+}
+
+/// The views of sources under a gate.
+fn gated<T: Threads + Wait + Copy + Send + 'static, G: Gate + Send + Sync + Drop + 'static>(
+    rt: &T,
+    alloc: Global,
+    given: &[Given],
+    options: &Options,
+    gate: G,
+) -> Result<Views, CollectFault>
+    requires { IfSome options.now.every (λ every. 1 ≤ every) }
+{
+    let gate = shared(alloc, gate)?;
+    let sources = sources_of(alloc, given)?;
+    views(rt, alloc, sources, options, gate)
 }
 
 /// Rings of this many items, and nothing else chosen.
-pub fn plain(rt: &impl Abort, alloc: Global, ring: u32, every: Option<u64>) -> Options
+pub fn plain(alloc: Global, ring: u32, every: Option<u64>) -> Options
+    requires { (1 ≤ ring) × (ring ≤ 65536) }
     ensures { result.every ≡ every }
 {
     Options {
-        ring: RingSize::of(ring).expect(rt, "the size of a ring"),
+        ring: RingSize::of(ring).unwrap(),
         pick: Pick::Preferred,
         naming: Naming::Plain,
         filter: Filter::everything(alloc),
@@ -38,182 +92,223 @@ pub fn plain(rt: &impl Abort, alloc: Global, ring: u32, every: Option<u64>) -> O
     }
 }
 
-/// The views of these sources.
-pub fn run<
-    T: Threads + Wait + Abort + Copy + Send + 'static,
+/// Runs over sources under a gate, and looks at the views.
+pub fn is_seen<
+    T: Threads + Wait + Copy + Send + 'static,
     G: Gate + Send + Sync + Drop + 'static,
+    F: Fn(&Views) -> Result<bool, AllocError>,
 >(
     rt: &T,
     alloc: Global,
-    sources: Vec<Source>,
+    given: &[Given],
     options: &Options,
-    gate: Arc<G>,
-) -> Result<Views, CollectFault>
-    requires { IfSome options.now.every (λ every. 1 ≤ every) }
+    gate: G,
+    look: &F,
+) -> Result<bool, CollectFault>
+    requires every { IfSome options.now.every (λ every. 1 ≤ every) }
+    requires look { F.IsAlwaysCallable look.now }
 {
-    assert!(rt; sources.len() <= 64);
-    views(rt, alloc, sources, options, gate)
+    let views = gated(rt, alloc, given, options, gate)?;
+    Ok(look(&views)?)
 }
 
-/// The views of these sources, where no gate stops one.
-pub fn run_ungated<T: Threads + Wait + Abort + Copy + Send + 'static>(
-    rt: &T,
-    alloc: Global,
-    sources: Vec<Source>,
-    options: &Options,
-) -> Result<Views, Fail>
-    requires { IfSome options.now.every (λ every. 1 ≤ every) }
+/// A look at the views of sources finds what it is to find, with rings of this many items, where no gate stops a source.
+pub fn see<
+    T: Threads + Wait + Abort + AllocGlobal + Copy + Send + 'static,
+    F: Fn(&Views) -> Result<bool, AllocError>,
+>(rt: &T, given: &[Given], ring: u32, every: Option<u64>, look: &F) -> Result<(), Fail>
+    requires ring { (1 ≤ ring) × (ring ≤ 65536) }
+    requires every { IfSome every (λ every. 1 ≤ every) }
+    requires look { F.IsAlwaysCallable look.now }
 {
-    let gate = Arc::new(alloc, OpenGate)?;
-    Ok(run(rt, alloc, sources, options, gate)?)
+    let options = plain(rt.alloc(), ring, every);
+    holds(rt, is_seen(rt, rt.alloc(), given, &options, OpenGate, look))
 }
 
-fn push_folded(alloc: Global, sources: &mut Vec<Source>, text: &str) -> Result<(), AllocError> {
-    let source = folded(alloc, text)?;
-    sources.push(source)?;
-    Ok(())
-}
+/// The names of a sample's frames, and its weight.
+pub type Stated = (&'static [&'static str], u64);
 
-/// Folded texts as sources.
-pub fn folded_sources(alloc: Global, texts: &[&str]) -> Result<Vec<Source>, AllocError> {
-    let mut sources = Vec::new(alloc);
-    for text in texts {
-        push_folded(alloc, &mut sources, text)?;
-    }
-    Ok(sources)
-}
+/// The samples of a list, how often all of them stand, and how the source ended.
+pub type Listed = (&'static [Stated], usize, SourceEnd);
 
-/// The views of folded texts.
-pub fn run_folded<
-    T: Threads + Wait + Abort + Copy + Send + 'static,
-    G: Gate + Send + Sync + Drop + 'static,
->(rt: &T, alloc: Global, texts: &[&str], options: &Options, gate: G) -> Result<Views, Fail>
-    requires { IfSome options.now.every (λ every. 1 ≤ every) }
-{
-    let gate = Arc::new(alloc, gate)?;
-    let sources = folded_sources(alloc, texts)?;
-    Ok(run(rt, alloc, sources, options, gate)?)
-}
+pub const CLEAN: SourceEnd = SourceEnd::Clean { ignored: 0 };
 
-/// The views of folded texts, with rings of this many items.
-pub fn run_plain<T: Threads + Wait + Abort + Copy + Send + 'static>(
-    rt: &T,
-    alloc: Global,
-    texts: &[&str],
-    ring: u32,
-    every: Option<u64>,
-) -> Result<Views, Fail>
-    requires { IfSome every (λ every. 1 ≤ every) }
-{
-    let sources = folded_sources(alloc, texts)?;
-    let options = plain(rt, alloc, ring, every);
-    run_ungated(rt, alloc, sources, &options)
-}
-
-/// The list has the samples of this folded text, and ends so.
-pub fn is_list(
-    rt: &impl Abort,
-    alloc: Global,
-    list: &SourceList,
-    text: &str,
-    ending: SourceEnd,
-) -> Result<(), AllocError> {
-    assert!(rt; *list.ending() == ending);
-    let shown = list_text(alloc, list)?;
-    are_bytes(rt, shown.as_str().as_bytes(), text.as_bytes());
-    Ok(())
-}
-
-/// The samples of a list as folded text.
-fn list_text(alloc: Global, list: &SourceList) -> Result<String, AllocError> {
-    let mut text = String::new(alloc);
-    for i in 0..list.len() {
-        push_sample(alloc, &mut text, list, i)?;
-    }
-    Ok(text)
-}
-
-fn push_sample(
-    alloc: Global,
-    text: &mut String,
-    list: &SourceList,
-    i: usize,
-) -> Result<(), AllocError>
+fn is_sample(list: &SourceList, i: usize, sample: &Stated) -> bool
     requires { i < length list.now.samples }
 {
-    for d in 0..list.depth(i) {
-        if d > 0 {
-            text.push_str(";")?;
+    let (names, weight) = *sample;
+    if list.depth(i) != names.len() || list.weight(i) != weight {
+        return false;
+    }
+    for d in 0..names.len() {
+        if list.name(i, d) != names[d] {
+            return false;
         }
-        text.push_str(list.name(i, d))?;
     }
-    let weight = list.weight(i);
-    let end = format!(in alloc; " {weight}\n")?;
-    text.push_str(&end)
+    true
 }
 
-/// The boxes have these depths, names, starts, weights and own weights.
-pub fn are_boxes(
-    rt: &impl Abort,
+/// The list has these samples again and again.
+fn repeats(list: &SourceList, samples: &[Stated]) -> bool {
+    for i in 0..list.len() {
+        if samples.is_empty() || !is_sample(list, i, &samples[i % samples.len()]) {
+            return false;
+        }
+    }
+    true
+}
+
+fn is_list(list: &SourceList, wanted: &Listed) -> bool {
+    let (samples, times, ending) = *wanted;
+    list.len() == samples.len().saturating_mul(times)
+        && *list.ending() == ending
+        && repeats(list, samples)
+}
+
+/// The lists are these.
+pub fn has_lists(views: &Views, wanted: &[Listed]) -> bool {
+    let lists = views.lists();
+    if lists.len() != wanted.len() {
+        return false;
+    }
+    for source in 0..lists.len() {
+        if !is_list(&lists[source], &wanted[source]) {
+            return false;
+        }
+    }
+    true
+}
+
+/// Runs over sources under a gate, whose lists are these and whose samples weigh so much. The order has each sample once.
+pub fn is_read<T: Threads + Wait + Copy + Send + 'static, G: Gate + Send + Sync + Drop + 'static>(
+    rt: &T,
     alloc: Global,
-    boxes: &[SpanBox],
-    text: &str,
-) -> Result<(), AllocError> {
-    let shown = box_text(alloc, boxes)?;
-    are_bytes(rt, shown.as_str().as_bytes(), text.as_bytes());
-    Ok(())
+    given: &[Given],
+    options: &Options,
+    gate: G,
+    lists: &[Listed],
+    total: u128,
+) -> Result<bool, CollectFault>
+    requires { IfSome options.now.every (λ every. 1 ≤ every) }
+{
+    let views = gated(rt, alloc, given, options, gate)?;
+    Ok(has_lists_of(&views, lists, total))
 }
 
-fn box_text(alloc: Global, boxes: &[SpanBox]) -> Result<String, AllocError> {
-    let mut text = String::new(alloc);
-    for span in boxes {
-        push_box(alloc, &mut text, span)?;
+fn has_lists_of(views: &Views, lists: &[Listed], total: u128) -> bool {
+    has_lists(views, lists)
+        && views.order().len() == sample_count(views.lists())
+        && views.tree().total(&[]) == total
+}
+
+fn sample_count(lists: &[SourceList]) -> usize {
+    let mut count = 0usize;
+    for list in lists {
+        count = count.saturating_add(list.len());
     }
-    Ok(text)
+    count
 }
 
-fn push_box(alloc: Global, text: &mut String, span: &SpanBox) -> Result<(), AllocError> {
-    let depth = span.depth;
-    let name = span.name.get();
-    let start = span.start;
-    let weight = span.weight;
-    let own = span.own;
-    let line = format!(in alloc; "({depth} {name} {start} {weight} {own})")?;
-    text.push_str(&line)
+/// When a snapshot was made, how many samples of each source were there, and what they weigh.
+pub type Moment = (u64, &'static [u64], u128);
+
+fn is_made_at(snapshot: &Snapshot, moment: &Moment) -> bool {
+    let (at, counts, total) = *moment;
+    snapshot.at == at && snapshot.counts.get() == counts && snapshot.tree.total(&[]) == total
 }
 
-const IN_FRONT: &str = "in front\n";
+/// The snapshots were made at these moments.
+pub fn are_made_at(snapshots: &[Snapshot], moments: &[Moment]) -> bool {
+    if snapshots.len() != moments.len() {
+        return false;
+    }
+    for i in 0..snapshots.len() {
+        if !is_made_at(&snapshots[i], &moments[i]) {
+            return false;
+        }
+    }
+    true
+}
+
+/// The depth, the name, the start, the weight and the own weight of a box.
+pub type Boxed = (u32, &'static str, u64, u64, u64);
+
+fn is_box(span: &SpanBox, wanted: &Boxed) -> bool {
+    let (depth, name, start, weight, own) = *wanted;
+    span.depth == depth
+        && span.name.get() == name
+        && span.start == start
+        && span.weight == weight
+        && span.own == own
+}
+
+/// The boxes are these.
+pub fn are_boxes(boxes: &[SpanBox], wanted: &[Boxed]) -> bool {
+    if boxes.len() != wanted.len() {
+        return false;
+    }
+    for i in 0..boxes.len() {
+        if !is_box(&boxes[i], &wanted[i]) {
+            return false;
+        }
+    }
+    true
+}
+
+const IN_FRONT: &[u8] = b"in front\n";
+
+/// A comparison needs two lists.
+fn can_show(views: &Views, view: View) -> bool
+    ensures { IsTrue result → IsComparison view → length views.now.lists ≡ 2 }
+{
+    match view {
+        View::Pairs | View::PairBoxes(_) => views.lists().len() == 2,
+        View::Fold | View::Graph(_) | View::Chart(_) | View::Top(_) => true,
+    }
+}
+
+/// The text stands behind what stood there.
+fn stands_behind(out: &[u8], text: &[u8]) -> bool {
+    out.len() == IN_FRONT.len() + text.len() && out.starts_with(IN_FRONT) && out.ends_with(text)
+}
 
 /// The view is rendered as this text, behind what stood there.
-pub fn shows(
-    rt: &impl Abort,
+fn shows(
     alloc: Global,
     views: &Views,
     view: View,
     text: &str,
-) -> Result<(), Fail>
+    out: &mut Vec<u8>,
+) -> Result<bool, AllocError>
     requires { IsComparison view → length views.now.lists ≡ 2 }
 {
-    let out = rendered(alloc, views, view)?;
-    stand_behind(rt, &out, text);
-    Ok(())
+    out.extend_from_slice(IN_FRONT)?;
+    render(alloc, views, view, out)?;
+    Ok(stands_behind(out.as_slice(), text.as_bytes()))
 }
 
-/// The text stands behind what stood there.
-fn stand_behind(rt: &impl Abort, out: &[u8], text: &str) {
-    assert!(rt; out.len() >= IN_FRONT.len());
-    let (front, shown) = out.split_at(IN_FRONT.len());
-    are_bytes(rt, front, IN_FRONT.as_bytes());
-    are_bytes(rt, shown, text.as_bytes());
+/// Each of these views is rendered as its text.
+pub fn shows_each(alloc: Global, views: &Views, all: &[(View, &str)]) -> Result<bool, AllocError> {
+    for (view, text) in all {
+        if !can_show(views, *view) || !shows(alloc, views, *view, text, &mut Vec::new(alloc))? {
+            return Ok(false);
+        }
+    }
+    Ok(true)
 }
 
-/// The view as text, behind what stood there.
-fn rendered(alloc: Global, views: &Views, view: View) -> Result<Vec<u8>, AllocError>
-    requires { IsComparison view → length views.now.lists ≡ 2 }
+/// Runs over sources, with rings of this many items, and each of these views is rendered as its text.
+pub fn is_shown<T: Threads + Wait + Copy + Send + 'static>(
+    rt: &T,
+    alloc: Global,
+    given: &[Given],
+    options: &Options,
+    all: &[(View, &str)],
+) -> Result<bool, CollectFault>
+    requires { IfSome options.now.every (λ every. 1 ≤ every) }
 {
-    let mut out = IN_FRONT.as_bytes().to_vec(alloc)?;
-    render(alloc, views, view, &mut out)?;
-    Ok(out)
+    let views = gated(rt, alloc, given, options, OpenGate)?;
+    Ok(shows_each(alloc, &views, all)?)
 }
 
 /// The number of a name.
