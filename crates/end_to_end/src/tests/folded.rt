@@ -77,47 +77,54 @@ fn refused_counts(rt: HostRuntime) -> Result<(), Fail> {
     end_so(&rt, REFUSED)
 }
 
-/// A source as heavy as it may be.
-const HEAVIEST: Case<'static> = Case {
-    input: b"a 72057594037927935\nb 0\n",
-    out: "a 72057594037927935\n",
-    ..SILENT
-};
+/// A file, to be read as often as there may be sources.
+const MOST: &[&str] = &[
+    "fold", "x", "x", "x", "x", "x", "x", "x", "x", "x", "x", "x", "x", "x", "x", "x", "x", "x",
+    "x", "x", "x", "x", "x", "x", "x", "x", "x", "x", "x", "x", "x", "x", "x", "x", "x", "x", "x",
+    "x", "x", "x", "x", "x", "x", "x", "x", "x", "x", "x", "x", "x", "x", "x", "x", "x", "x", "x",
+    "x", "x", "x", "x", "x", "x", "x", "x", "x",
+];
 
-const TOO_HEAVY: Case<'static> = Case {
-    input: b"a 72057594037927935\nb 1\n",
-    status: 1,
-    err: "flamecollect: -: TotalTooLarge at 2\n",
-    ..SILENT
-};
+/// The same once more.
+const TOO_MANY: &[&str] = &[
+    "fold", "x", "x", "x", "x", "x", "x", "x", "x", "x", "x", "x", "x", "x", "x", "x", "x", "x",
+    "x", "x", "x", "x", "x", "x", "x", "x", "x", "x", "x", "x", "x", "x", "x", "x", "x", "x", "x",
+    "x", "x", "x", "x", "x", "x", "x", "x", "x", "x", "x", "x", "x", "x", "x", "x", "x", "x", "x",
+    "x", "x", "x", "x", "x", "x", "x", "x", "x", "x",
+];
 
-/// A file as heavy as it may be, which is to be read as often as there may be sources, and once more.
-const MOST: Case<'static> = Case {
-    files: &[("x", b"a 72057594037927935\n")],
-    out: "a 4611686018427387840\n",
-    ..SILENT
-};
-
-const TOO_MANY: Case<'static> = Case {
-    files: &[("x", b"a 72057594037927935\n")],
-    status: 2,
-    err: "flamecollect: too many files\n",
-    ..SILENT
-};
+/// One source as heavy as it may be, and one that is too heavy; then as many sources as there may be, each as heavy as it may be, and one
+/// more.
+const WEIGHTS: &[Case<'static>] = &[
+    Case {
+        input: b"a 72057594037927935\nb 0\n",
+        out: "a 72057594037927935\n",
+        ..SILENT
+    },
+    Case {
+        input: b"a 72057594037927935\nb 1\n",
+        status: 1,
+        err: "flamecollect: -: TotalTooLarge at 2\n",
+        ..SILENT
+    },
+    Case {
+        words: MOST,
+        files: &[("x", b"a 72057594037927935\n")],
+        out: "a 4611686018427387840\n",
+        ..SILENT
+    },
+    Case {
+        words: TOO_MANY,
+        files: &[("x", b"a 72057594037927935\n")],
+        status: 2,
+        err: "flamecollect: too many files\n",
+        ..SILENT
+    },
+];
 
 #[test]
 fn limits_of_weights_and_depth_by_weights(rt: HostRuntime) -> Result<(), Fail> {
-    let mut words = ["x"; 66];
-    words[0] = "fold";
-    let most = Case {
-        words: &words[..65],
-        ..MOST
-    };
-    let too_many = Case {
-        words: &words,
-        ..TOO_MANY
-    };
-    end_so(&rt, &[HEAVIEST, TOO_HEAVY, most, too_many])
+    end_so(&rt, WEIGHTS)
 }
 
 const COMPRESSED: &[Case<'static>] = &[

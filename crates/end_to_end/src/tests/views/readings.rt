@@ -150,7 +150,7 @@ fn lines_of_inlined_frames(rt: HostRuntime) -> Result<(), Fail> {
 }
 
 /// There is nothing to see.
-fn are_empty(views: &Views) -> Result<bool, AllocError> {
+fn are_empty(views: &Views) -> Result<bool, CollectFault> {
     Ok(
         views.lists().is_empty()
             && views.order().is_empty()
@@ -217,7 +217,7 @@ fn filtered_samples(rt: HostRuntime) -> Result<(), Fail> {
 const HEAVIEST: Given = (Format::Folded, &[(b"a 72057594037927935\n", 1)]);
 
 /// The weights of the graph are those of 64 sources, each as heavy as it may be.
-fn are_heaviest(views: &Views) -> Result<bool, AllocError> {
+fn are_heaviest(views: &Views) -> Result<bool, CollectFault> {
     let graph = views.graph();
     Ok(
         views.tree().total(&[0]) == 4_611_686_018_427_387_840

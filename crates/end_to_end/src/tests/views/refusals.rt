@@ -4,7 +4,7 @@ use crate::tests::holds;
 use flame_tool::{Format, Views};
 use ring_collect::CollectFault;
 use stack_core::OpenGate;
-use std::alloc::{AllocError, Global};
+use std::alloc::Global;
 use std::sync::Wait;
 use std::test::Fail;
 use std::thread::Threads;
@@ -20,7 +20,7 @@ const LISTS: &[Listed] = &[
 ];
 
 /// The views have the samples of both texts, and two snapshots.
-fn have_both(views: &Views) -> Result<bool, AllocError> {
+fn have_both(views: &Views) -> Result<bool, CollectFault> {
     Ok(
         has_lists(views, LISTS)
             && views.order().len() == 5

@@ -7,7 +7,7 @@ use crate::tests::holds;
 use call_tree::CallTree;
 use flame_tool::{Format, View, Views};
 use ring_collect::CollectFault;
-use std::alloc::{AllocError, Global};
+use std::alloc::Global;
 use std::sync::Wait;
 use std::sync::atomic::AtomicU64;
 use std::test::Fail;
@@ -144,7 +144,7 @@ fn has_named_sums(views: &Views) -> bool {
 }
 
 /// The lists and the merged sums of the three.
-fn are_three_merged(views: &Views) -> Result<bool, AllocError> {
+fn are_three_merged(views: &Views) -> Result<bool, CollectFault> {
     Ok(
         are_three(views)
             && has_named_sums(views)
@@ -161,7 +161,7 @@ const FOLD_OF_THREE_SOURCES: &str = "main 7000\n\
     s1;f5 100\ns1;f6 100\ns1;f7 100\ns1;f8 100\ns1;f9 100\n";
 
 /// The views of the three, without a snapshot, and their fold text.
-fn are_three_folded(alloc: Global, views: &Views) -> Result<bool, AllocError> {
+fn are_three_folded(alloc: Global, views: &Views) -> Result<bool, CollectFault> {
     let merged = are_three_merged(views)? && views.snapshots().is_empty();
     Ok(merged && shows_each(alloc, views, &[(View::Fold, FOLD_OF_THREE_SOURCES)])?)
 }
@@ -213,7 +213,7 @@ fn are_rising(views: &Views) -> bool {
     snapshots.len() == 3 && before == [1_000; 3]
 }
 
-fn are_rising_and_merged(views: &Views) -> Result<bool, AllocError> {
+fn are_rising_and_merged(views: &Views) -> Result<bool, CollectFault> {
     Ok(are_rising(views) && are_three_merged(views)?)
 }
 

@@ -96,7 +96,7 @@ pub fn plain(alloc: Global, ring: u32, every: Option<u64>) -> Options
 pub fn is_seen<
     T: Threads + Wait + Copy + Send + 'static,
     G: Gate + Send + Sync + Drop + 'static,
-    F: Fn(&Views) -> Result<bool, AllocError>,
+    F: Fn(&Views) -> Result<bool, CollectFault>,
 >(
     rt: &T,
     alloc: Global,
@@ -109,13 +109,13 @@ pub fn is_seen<
     requires look { F.IsAlwaysCallable look.now }
 {
     let views = gated(rt, alloc, given, options, gate)?;
-    Ok(look(&views)?)
+    look(&views)
 }
 
 /// A look at the views of sources finds what it is to find, with rings of this many items, where no gate stops a source.
 pub fn see<
     T: Threads + Wait + Abort + AllocGlobal + Copy + Send + 'static,
-    F: Fn(&Views) -> Result<bool, AllocError>,
+    F: Fn(&Views) -> Result<bool, CollectFault>,
 >(rt: &T, given: &[Given], ring: u32, every: Option<u64>, look: &F) -> Result<(), Fail>
     requires ring { (1 ≤ ring) × (ring ≤ 65536) }
     requires every { IfSome every (λ every. 1 ≤ every) }
@@ -288,7 +288,11 @@ fn shows(
 }
 
 /// Each of these views is rendered as its text.
-pub fn shows_each(alloc: Global, views: &Views, all: &[(View, &str)]) -> Result<bool, AllocError> {
+pub fn shows_each(
+    alloc: Global,
+    views: &Views,
+    all: &[(View, &str)],
+) -> Result<bool, CollectFault> {
     for (view, text) in all {
         if !can_show(views, *view) || !shows(alloc, views, *view, text, &mut Vec::new(alloc))? {
             return Ok(false);
@@ -308,7 +312,7 @@ pub fn is_shown<T: Threads + Wait + Copy + Send + 'static>(
     requires { IfSome options.now.every (λ every. 1 ≤ every) }
 {
     let views = gated(rt, alloc, given, options, OpenGate)?;
-    Ok(shows_each(alloc, &views, all)?)
+    shows_each(alloc, &views, all)
 }
 
 /// The number of a name.

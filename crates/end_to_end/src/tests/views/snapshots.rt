@@ -64,7 +64,7 @@ fn have_graphs(alloc: Global, views: &Views, graphs: &[&[Boxed]]) -> Result<bool
 }
 
 /// The views of the five samples, with a snapshot at 2 and at 4.
-fn are_of_five(alloc: Global, views: &Views) -> Result<bool, AllocError> {
+fn are_of_five(alloc: Global, views: &Views) -> Result<bool, CollectFault> {
     let seen = views.order() == [0; 5].as_slice()
         && are_made_at(views.snapshots(), SNAPSHOTS)
         && are_boxes(views.graph(), GRAPH)
@@ -91,7 +91,7 @@ const FIRST_THREE: &[Listed] = &[(
 )];
 
 /// The views of the first three samples.
-fn are_of_three(views: &Views) -> Result<bool, AllocError> {
+fn are_of_three(views: &Views) -> Result<bool, CollectFault> {
     Ok(
         has_lists(views, FIRST_THREE)
             && are_made_at(views.snapshots(), &[(2, &[2], 2)])
