@@ -8,3 +8,4 @@ mod seen;
 mod shown;
 mod sinks;
 mod snapshots;
+mod stated;

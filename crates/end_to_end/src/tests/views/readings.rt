@@ -1,7 +1,8 @@
 //! Runs whose sources are read in different ways.
 ghost use Rattle.std.specs.Prelude.{◌≡◌, IfOk, None};
 
-use super::shown::{CLEAN, Given, Listed, is_read, see};
+use super::shown::{Given, is_read, see};
+use super::stated::{CLEAN, Listed};
 use crate::tests::holds;
 use crate::tests::worked::{BASE, INLINED_LINES};
 use flame_tool::{Filter, Format, Options, Views};

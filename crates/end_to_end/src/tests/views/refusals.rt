@@ -1,5 +1,6 @@
 //! What `views` answers where a request for memory is refused.
-use super::shown::{CLEAN, Given, Listed, has_lists, is_seen, plain};
+use super::shown::{Given, is_seen, plain};
+use super::stated::{CLEAN, Listed, has_lists};
 use crate::tests::holds;
 use flame_tool::{Format, Views};
 use ring_collect::CollectFault;

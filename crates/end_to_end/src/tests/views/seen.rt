@@ -2,7 +2,8 @@
 ghost use Rattle.std.specs.Prelude.{◌≤◌, IfSome};
 
 use super::gates::AllAsked;
-use super::shown::{CLEAN, Given, Listed, has_lists, is_read, number_of, plain, see, shows_each};
+use super::shown::{Given, is_read, plain, see, shows_each};
+use super::stated::{CLEAN, Listed, has_lists, number_of};
 use crate::tests::holds;
 use call_tree::CallTree;
 use flame_tool::{Format, View, Views};

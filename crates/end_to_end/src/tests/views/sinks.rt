@@ -2,7 +2,7 @@
 ghost use Rattle.std.specs.Prelude.{◌≡◌, IfOk, length};
 
 use super::gates::{AfterSnapshots, Watched};
-use super::shown::{Moment, are_made_at, number_of};
+use super::stated::{Moment, are_made_at, number_of};
 use crate::tests::holds;
 use call_tree::CallTree;
 use flame_tool::TreeSink;

@@ -2,9 +2,8 @@
 ghost use Rattle.std.specs.Prelude.{◌<◌, length};
 
 use super::gates::StopsAt;
-use super::shown::{
-    Boxed, Given, Listed, Moment, are_boxes, are_made_at, has_lists, is_seen, plain, see,
-};
+use super::shown::{Given, is_seen, plain, see};
+use super::stated::{Boxed, Listed, Moment, are_boxes, are_made_at, has_lists};
 use crate::tests::holds;
 use crate::tests::worked::FIVE_LINES;
 use flame_layout::graph_boxes;
