@@ -53,8 +53,7 @@ fn append_drawn(
 fn append_snapshot(
     alloc: Global,
     out: &mut Vec<u8>,
-    at: u64,
-    counts: &[u64],
+    (at, counts): (u64, &[u64]),
     rows: &[Row<'_>],
     scale: &Scale,
     boxes: &mut Vec<SpanBox>,
@@ -93,7 +92,7 @@ fn append_line(
         }
         Line::Drawn(view, boxes) => append_drawn(alloc, out, view, boxes, scale),
         Line::Snapshot(at, counts, rows) => {
-            append_snapshot(alloc, out, *at, counts, rows, scale, &mut Vec::new(alloc))
+            append_snapshot(alloc, out, (*at, counts), rows, scale, &mut Vec::new(alloc))
         }
         Line::Pairs(before, rows) => {
             append_pairs(alloc, out, *before, rows, scale, &mut Vec::new(alloc))
