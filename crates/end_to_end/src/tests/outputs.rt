@@ -42,7 +42,7 @@ impl Write for Stingy {
     }
 }
 
-/// Of the ten bytes of the output so many go out, up to the failing call, and no more.
+/// Of the ten bytes of the output as many go out as it has room for, and no more.
 fn fails_after<T: Threads + Wait + Copy + Send + 'static>(
     rt: &T,
     alloc: Global,
@@ -50,13 +50,13 @@ fn fails_after<T: Threads + Wait + Copy + Send + 'static>(
     files: &mut MemoryFiles,
     out: &mut Stingy,
     err: &mut Vec<u8>,
-    count: usize,
 ) -> Result<bool, AllocError> {
+    let room = out.room;
     let status = status_of(rt, alloc, words, files, out, err)?;
     Ok(
         status == 3
             && err.as_slice() == b"flamecollect: output failed\n".as_slice()
-            && out.taken.len() == count
+            && out.taken.len() == room
             && b"a 1\na;b 5\n".starts_with(out.taken.as_slice()),
     )
 }
@@ -70,15 +70,7 @@ fn fails_wherever<T: Threads + Wait + Copy + Send + 'static>(
 ) -> Result<bool, AllocError> {
     for room in 0..11 {
         let mut out = Stingy::with_room(alloc, room);
-        if !fails_after(
-            rt,
-            alloc,
-            words,
-            files,
-            &mut out,
-            &mut Vec::new(alloc),
-            room,
-        )? {
+        if !fails_after(rt, alloc, words, files, &mut out, &mut Vec::new(alloc))? {
             return Ok(false);
         }
     }

@@ -69,7 +69,7 @@ fn reads<T: Threads + Wait + Copy + Send + 'static>(
         total,
         ..
     } = *reading;
-    is_read(rt, alloc, given, &options, OpenGate, lists, total)
+    is_read(rt, alloc, given, &options, OpenGate, (lists, total))
 }
 
 fn reads_each<T: Threads + Wait + Copy + Send + 'static>(

@@ -32,7 +32,8 @@ fn meet<T: Threads + Wait + Copy + Send + 'static>(
         wanted,
     };
     let options = plain(alloc, 1, None);
-    is_read(rt, alloc, given, &options, gate, lists, lists.len() as u128)
+    let total = lists.len() as u128;
+    is_read(rt, alloc, given, &options, gate, (lists, total))
 }
 
 fn two_and_eight_meet<T: Threads + Wait + Copy + Send + 'static>(

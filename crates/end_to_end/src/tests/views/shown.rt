@@ -131,11 +131,11 @@ pub fn is_read<T: Threads + Wait + Copy + Send + 'static, G: Gate + Send + Sync 
     given: &[Given],
     options: &Options,
     gate: G,
-    lists: &[Listed],
-    total: u128,
+    wanted: (&[Listed], u128),
 ) -> Result<bool, CollectFault>
     requires { IfSome options.now.every (λ every. 1 ≤ every) }
 {
+    let (lists, total) = wanted;
     let views = gated(rt, alloc, given, options, gate)?;
     Ok(has_lists_of(&views, lists, total))
 }
