@@ -134,7 +134,7 @@ fn send_in_rounds<R: Threads, P: Pieces + Sync, W: Outlet>(
     'rounds: while row.next < count {
         sent = sent.saturating_add(row.bytes);
         place(&row, sent, parts);
-        row = send_row(rt, alloc, text, out, &row, ready, parts)?;
+        row = row.send(rt, alloc, text, out, ready, parts)?;
     }
     send_parts(&ready[..row.parts], out)?;
     Ok(())
@@ -150,27 +150,29 @@ fn first_row<P: Pieces>(alloc: Global, text: &P, parts: &mut [Part; 3]) -> Resul
     Ok(row_from(&parts[..1], 0))
 }
 
-// Writes a row while the parts behind it are made, which then stand where it stood, and answers their row.
-fn send_row<R: Threads, P: Pieces + Sync, W: Outlet>(
-    rt: &R,
-    alloc: Global,
-    text: &P,
-    out: &mut W,
-    row: &Row,
-    ready: &mut [Part; 3],
-    parts: &mut [Part; 3],
-) -> Result<Row, PieceFault>
-    requires few { length (P.pieces text.now) < 2 ^ 64 }
-    requires row { row.now.parts ≤ 3 }
-    requires there { row.now.next < length (P.pieces text.now) }
-    requires begin { BeginsAt row.now.next parts.old }
-    ensures made { IfOk result (λ next. IsRow (P.pieces text.now) row.now.next ready.new next) }
-    ensures wrote { Wrote result (bytes_of (take row.now.parts ready.old))
-        (W.contents out.old) (W.contents out.new) (W.failures out.old) (W.failures out.new) }
-{
-    make_and_write(rt, alloc, text, &ready[..row.parts], out, parts)?;
-    mem::swap(parts, ready);
-    Ok(row_from(ready, row.next))
+impl Row {
+    // Writes the row while the parts behind it are made, which then stand where it stood, and answers their row.
+    fn send<R: Threads, P: Pieces + Sync, W: Outlet>(
+        &self,
+        rt: &R,
+        alloc: Global,
+        text: &P,
+        out: &mut W,
+        ready: &mut [Part; 3],
+        parts: &mut [Part; 3],
+    ) -> Result<Row, PieceFault>
+        requires few { length (P.pieces text.now) < 2 ^ 64 }
+        requires row { self.now.parts ≤ 3 }
+        requires there { self.now.next < length (P.pieces text.now) }
+        requires begin { BeginsAt self.now.next parts.old }
+        ensures made { IfOk result (λ next. IsRow (P.pieces text.now) self.now.next ready.new next) }
+        ensures wrote { Wrote result (bytes_of (take self.now.parts ready.old))
+            (W.contents out.old) (W.contents out.new) (W.failures out.old) (W.failures out.new) }
+    {
+        make_and_write(rt, alloc, text, &ready[..self.parts], out, parts)?;
+        mem::swap(parts, ready);
+        Ok(row_from(ready, self.next))
+    }
 }
 
 // The parts in front that follow one another from a piece on. One whose beginning was guessed wrong ends them.

@@ -86,47 +86,49 @@ fn fault_of(head: &[u8]) -> Option<ReadKind>
     is_deep(head).then_some(ReadKind::TooDeep)
 }
 
-/// The line of a head, which stands from `start` up to `end`, and a weight, after weights that add up to the total.
-fn read_head(
-    alloc: Global,
-    bytes: &[u8],
-    start: usize,
-    end: usize,
-    weight: u64,
-    total: u64,
-    telling: &mut Telling,
-) -> Result<RowLine, AllocError>
-    requires telling { IsTelling bytes.now telling.old }
-    requires order { start ≤ end }
-    requires within { end ≤ length bytes.now }
-    requires fits { total ≤ WEIGHT_LIMIT }
-    requires room { length telling.old.history < 2 ^ 63 }
-    ensures line { IfOk result (λ line. line_by (told_of telling.new) line
-        ≡ within_total total (line_of_head (slice_range bytes.now start end) weight)) }
-    ensures within { IfOk result (λ line. IsWithin total (line_by (told_of telling.new) line)) }
-    ensures tells { IfOk result (λ line. TellsLine (told_of telling.old) line (told_of telling.new)) }
-    ensures telling { IsTelling bytes.now telling.new }
-    ensures stacks { OnErr result (telling.new.history ≡ telling.old.history) }
-    ensures names { OnErr result (IsPrefixOf telling.old.names telling.new.names) }
-{
-    let known = telling.heads.find_next(bytes, start, end);
-    if known.is_none()
-        && let Some(kind) = fault_of(&bytes[start..end])
+impl Telling {
+    /// The line of a head, which stands from `start` up to `end`, and a weight, after weights that add up to the total.
+    fn read_head(
+        &mut self,
+        alloc: Global,
+        bytes: &[u8],
+        start: usize,
+        end: usize,
+        weight: u64,
+        total: u64,
+    ) -> Result<RowLine, AllocError>
+        requires telling { IsTelling bytes.now self.old }
+        requires order { start ≤ end }
+        requires within { end ≤ length bytes.now }
+        requires fits { total ≤ WEIGHT_LIMIT }
+        requires room { length self.old.history < 2 ^ 63 }
+        ensures line { IfOk result (λ line. line_by (told_of self.new) line
+            ≡ within_total total (line_of_head (slice_range bytes.now start end) weight)) }
+        ensures within { IfOk result (λ line. IsWithin total (line_by (told_of self.new) line)) }
+        ensures tells { IfOk result (λ line. TellsLine (told_of self.old) line (told_of self.new)) }
+        ensures telling { IsTelling bytes.now self.new }
+        ensures stacks { OnErr result (self.new.history ≡ self.old.history) }
+        ensures names { OnErr result (IsPrefixOf self.old.names self.new.names) }
     {
-        return Ok(RowLine::Fault(kind));
+        let known = self.heads.find_next(bytes, start, end);
+        if known.is_none()
+            && let Some(kind) = fault_of(&bytes[start..end])
+        {
+            return Ok(RowLine::Fault(kind));
+        }
+        if weight > WEIGHT_LIMIT - total {
+            return Ok(RowLine::Fault(ReadKind::TotalTooLarge));
+        }
+        if let Some(row) = known {
+            return Ok(RowLine::Again { row, weight });
+        }
+        let stack = self.tell(alloc, bytes, start, end)?;
+        Ok(RowLine::New {
+            names: stack.names,
+            frames: stack.frames,
+            weight,
+        })
     }
-    if weight > WEIGHT_LIMIT - total {
-        return Ok(RowLine::Fault(ReadKind::TotalTooLarge));
-    }
-    if let Some(row) = known {
-        return Ok(RowLine::Again { row, weight });
-    }
-    let stack = telling.tell(alloc, bytes, start, end)?;
-    Ok(RowLine::New {
-        names: stack.names,
-        frames: stack.frames,
-        weight,
-    })
 }
 
 /// Reads the line that stands from `start` up to `end`, after weights that add up to the total.
@@ -155,7 +157,7 @@ pub(crate) fn read_row_line(
         Count::Ignored => Ok(RowLine::Ignored),
         Count::Fault(kind) => Ok(RowLine::Fault(kind)),
         Count::Weight { head, weight } => {
-            read_head(alloc, bytes, start, start + head, weight, total, telling)
+            telling.read_head(alloc, bytes, start, start + head, weight, total)
         }
     }
 }

@@ -51,35 +51,37 @@ fn run_of(front: Option<Front>) -> Option<Span>
     }
 }
 
-/// Tells the stack of the sample at an offset, behind samples of this total weight, or says what is wrong with the sample.
-fn tell_sample(
-    alloc: Global,
-    file: &[u8],
-    outline: &Outline,
-    teller: &mut Teller,
-    at: usize,
-    front: Option<Front>,
-    total: u64,
-) -> Result<Result<NewRow, ReadKind>, AllocError>
-    requires total { total ≤ WEIGHT_LIMIT }
-    requires teller { IsTeller file.now outline.now.frames teller.old }
-    requires room { teller.old.count + 1 < 2 ^ 64 }
-    requires front { IfSome front (λ front.
-        IsFront file.now at (seen_outline outline.now) front.run front.weight) }
-    ensures told { IfOk result (IsToldSample (seen_outline outline.now) total
-        (content_in file.now at) (told_of teller.old) (told_of teller.new)) }
-    ensures teller { IsTeller file.now outline.now.frames teller.new }
-    ensures count { teller.new.count ≤ teller.old.count + 1 }
-    ensures refused { OnErr result (teller.new.count ≡ teller.old.count) }
-    ensures stacks { OnErr result ((told_of teller.new).stacks ≡ (told_of teller.old).stacks) }
-    ensures names { IsPrefixOf (told_of teller.old).names (told_of teller.new).names }
-{
-    match checked_sample(alloc, outline, total, content_at(file, at))? {
-        Ok(sample) => {
-            let run = run_of(front);
-            Ok(Ok(teller.tell(alloc, &outline.frames, &sample, file, run)?))
+impl Teller {
+    /// Tells the stack of the sample at an offset, behind samples of this total weight, or says what is wrong with the sample.
+    fn tell_sample(
+        &mut self,
+        alloc: Global,
+        file: &[u8],
+        outline: &Outline,
+        at: usize,
+        front: Option<Front>,
+        total: u64,
+    ) -> Result<Result<NewRow, ReadKind>, AllocError>
+        requires total { total ≤ WEIGHT_LIMIT }
+        requires teller { IsTeller file.now outline.now.frames self.old }
+        requires room { self.old.count + 1 < 2 ^ 64 }
+        requires front { IfSome front (λ front.
+            IsFront file.now at (seen_outline outline.now) front.run front.weight) }
+        ensures told { IfOk result (IsToldSample (seen_outline outline.now) total
+            (content_in file.now at) (told_of self.old) (told_of self.new)) }
+        ensures teller { IsTeller file.now outline.now.frames self.new }
+        ensures count { self.new.count ≤ self.old.count + 1 }
+        ensures refused { OnErr result (self.new.count ≡ self.old.count) }
+        ensures stacks { OnErr result ((told_of self.new).stacks ≡ (told_of self.old).stacks) }
+        ensures names { IsPrefixOf (told_of self.old).names (told_of self.new).names }
+    {
+        match checked_sample(alloc, outline, total, content_at(file, at))? {
+            Ok(sample) => {
+                let run = run_of(front);
+                Ok(Ok(self.tell(alloc, &outline.frames, &sample, file, run)?))
+            }
+            Err(kind) => Ok(Err(kind)),
         }
-        Err(kind) => Ok(Err(kind)),
     }
 }
 
@@ -112,7 +114,7 @@ fn next_row(
     if let Some(KnownRow { row, weight }) = known_row(file, teller, front, total) {
         return Ok(RowStep::Again { row, weight });
     }
-    match tell_sample(alloc, file, outline, teller, at, front, total)? {
+    match teller.tell_sample(alloc, file, outline, at, front, total)? {
         Ok(
             NewRow {
                 names,

@@ -54,7 +54,7 @@ rounds-preserved g c =
       within = made.within;
       sent = (
         sent.0 ++ waiting,
-        waits_anew pieces at next sent.0 waiting (bytes_of (take c.in_ok-row-2.row.parts c.send_row.new.ready)) (omega (arith, made.further there)) sent.1 made.bytes,
+        waits_anew pieces at next sent.0 waiting (bytes_of (take c.in_ok-row-2.row.parts c.send.new.ready)) (omega (arith, made.further there)) sent.1 made.bytes,
         Appends-trans _ _ _ sent.0 waiting sent.2 wrote.ok,
       );
       unfailed = wrote.unfailed (ok_no_err _ _ _ refl) ∙ c.rounds.invariant.unfailed;

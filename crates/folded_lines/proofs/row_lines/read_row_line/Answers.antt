@@ -10,5 +10,5 @@ pub returns-in-Weight-clause-line : goal.returns-in-Weight-clause-line
 returns-in-Weight-clause-line c =
     let counted = c.in-Weight.ensures in
     let front = head_within c.args.bytes.now c.args.start c.args.end c.in-Weight.head c.requires.order c.requires.within counted.0 in
-    subst (λ (line : Line). IfOk c.read_head.result (λ read. line_by (told_of c.read_head.new.telling) read ≡ line))
+    subst (λ (line : Line). IfOk c.read_head.result (λ read. line_by (told_of c.read_head.new.self) read ≡ line))
     (ap (λ h. within_total c.args.total (line_of_head h c.in-Weight.weight)) (sym front.1) ∙ sym (counted.1 c.args.total)) c.read_head.ensures.line

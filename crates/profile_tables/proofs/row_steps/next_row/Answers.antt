@@ -37,7 +37,7 @@ returns-in-Ok-clause-step c =
     let at = c.in-Some.at in
     let row = c.in-Ok.field-0 in
     let told = told_of c.args.teller.now in
-    let told' = told_of c.tell_sample.new.teller in
+    let told' = told_of c.tell_sample.new.self in
     let sample = content_at c.args.file.now at in
     let found : IsToldSample tables c.args.total sample (told_of c.known_row.new.teller) told' (Ok row) =
     subst (IsToldSample tables c.args.total sample (told_of c.known_row.new.teller) told') c.in-Ok.is c.in_ok-names.ensures.told in

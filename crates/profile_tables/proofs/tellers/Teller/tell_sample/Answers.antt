@@ -9,7 +9,7 @@ use Rattle.profile_tables.specs.checked.Outcome.{IsChecked}
 use Rattle.profile_tables.specs.checked.SeenOutline.{seen_outline}
 use Rattle.profile_tables.specs.checked.Tellers.{IsRunOf}
 use Rattle.profile_tables.proofs.StepLemmas.{ids-known, depth-limit, run-of-front}
-use Rattle.profile_tables.proofs.row_steps.tell_sample.Goals as goal
+use Rattle.profile_tables.proofs.tellers.Teller.tell_sample.Goals as goal
 
 run-of : (file : List ℕ) (at : ℕ) (tables : SampleTables) (front : Option Front) (total : ℕ) (ids : List ℕ) → IfSome front (λ front. IsFront file at tables front.run front.weight) → first (sample_faults tables total (content_at file at)) ≡ None → ids ≡ location_ids (content_at file at) → IfSome (option_map (λ (front : Front). front.run) front) (IsRunOf file ids)
 run-of file at tables None total ids front none is = tt
