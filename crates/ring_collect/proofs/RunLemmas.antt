@@ -16,7 +16,11 @@ use Rattle.ring_collect.specs.checked.Rounds.{HasGained}
 use Rattle.ring_collect.specs.checked.RunningSources.{ArePromised, IsFresh, AreFresh}
 use Rattle.ring_collect.specs.checked.Settlement.{IsSettledAs, IsAllTold, AreSettled}
 use Rattle.ring_collect.specs.Collection.{GainsAllowed, GainsFirst, GainsOf, Unfinishes}
-use Rattle.ring_collect.specs.checked.WholeRuns.{RunsWhole}
+use Rattle.ring_collect.specs.checked.WholeRuns.{RunsWhole, IsUnfinished}
+use Rattle.std.specs.Result.{IsErrAnd, IsErrOf}
+use Rattle.ring_collect.specs.declared.faults.CollectFault.{CollectFault}
+use Rattle.ring_collect.specs.declared.faults.CollectFault.TheVariants.{OutOfMemory, NoThread}
+use Rattle.ring_collect.proofs.Outcomes.{error_said}
 use Rattle.ring_collect.proofs.RoundLemmas.{slice_get_map}
 use Rattle.ring_collect.specs.declared.intakes.Intake.{Intake}
 use Rattle.ring_collect.specs.declared.intakes.Stage.{Stage}
@@ -254,3 +258,13 @@ gains_none_allowed may_go taken = record {
   gained = sym (append-nil taken);
   goes = λ source i below. absurd (omega arith);
 }
+
+-- the gate is asked of nothing that the sink did not gain
+pub allows_nothing : (may_go : ℕ → ℕ → Type 0) (taken : List (ℕ × Sample)) → GainsAllowed may_go taken taken
+allows_nothing may_go taken = record { pairs = []; gained = sym (append-nil taken); goes = λ source i below. absurd (omega arith) }
+
+-- a run that is unfinished was refused nothing
+pub refused_nothing : {T : Type 0} (count : ℕ) (taken taken' : List (ℕ × Sample)) (fault : CollectFault) (run : Result T CollectFault) → IsUnfinished count taken taken' fault → IsErrAnd run (λ error. error ≡ fault)
+    → IsErrOf run OutOfMemory ⊎ IsErrOf run NoThread → ⊥
+refused_nothing count taken taken' fault run ended said (inl is) = subst (IsUnfinished count taken taken') (sym (error_said _ run OutOfMemory said is)) ended
+refused_nothing count taken taken' fault run ended said (inr is) = subst (IsUnfinished count taken taken') (sym (error_said _ run NoThread said is)) ended

@@ -1,12 +1,12 @@
 -- A source at its end.
 use Rattle.std.proofs.Common.{◌≡◌, ◌≢◌, ◌<◌, ◌+◌, ◌⊎◌, inl, inr, IfSome, IfNone, IsSome, true≢false, length-append, ℕ, List, [], ◌∷◌, ◌++◌, length, map, take, drop, refl, sym, ap, subst, ◌∙◌, arith, append-nil, append_assoc, Option, Some, None}
-use Rattle.std.proofs.lemmas.List.{length-take-le, nil_from_length, take-append-drop}
+use Rattle.std.proofs.lemmas.List.{length-take-le, map_push, nil_from_length, take-append-drop}
 use Rattle.std.proofs.lemmas.List.Elements.{Contains-append_right}
 use Rattle.std.specs.Arc.{arc_value}
 use Rattle.rtrb.specs.Ring.{received, all_sent}
 use Rattle.rtrb.specs.declared.finished.Finished.{Finished}
 use Rattle.stack_core.specs.Reading.{Rest}
-use Rattle.stack_core.specs.Ledgers.{LedgerState}
+use Rattle.stack_core.specs.Ledgers.{LedgerState, ListState}
 use Rattle.stack_core.specs.Records.{stands_for, stands_for_after, names_told, stacks_told, IsWellTold}
 use Rattle.stack_core.specs.Prefixes.{IsPrefixOf}
 use Rattle.stack_core.specs.Told.{GoesBelow, IsToldUnder, Whole, StoppedAt, ShortOfMemory, told}
@@ -21,7 +21,7 @@ use Rattle.stack_core.specs.declared.records.RingRecord.{RingRecord}
 use Rattle.stack_core.specs.declared.records.RingRecord.TheVariants.{Close as CloseRecord}
 use Rattle.ring_collect.specs.checked.Intakes.{Tracked}
 use Rattle.ring_collect.specs.checked.Tellers.{TellsAll}
-use Rattle.ring_collect.specs.checked.Settlement.{IsSettledAs, IsSettled, AreSettled, IsReceived}
+use Rattle.ring_collect.specs.checked.Settlement.{AreListsOf, IsSettledAs, IsSettled, AreSettled, IsReceived}
 use Rattle.ring_collect.specs.declared.running_sources.RunningSource.{RunningSource}
 use Rattle.ring_collect.proofs.RunningSourceLemmas.{PushedAt, Earlier, Last, pushed_at}
 use Rattle.ring_collect.specs.declared.intakes.Stage.{Stage}
@@ -177,3 +177,12 @@ first_below {n} unfinished (Some first) (inr is) below at = omega arith
 pub no_items : {A : Type 0} (xs : List A) → length xs ≡ 0 → xs ≡ []
 no_items [] e = refl
 no_items (x ∷ xs) e = absurd (omega (arith, e))
+
+-- a list more, that the next ledger hands out
+pub one_more_list : {ledgers : List LedgerState} {lists : List ListState} → AreListsOf ledgers lists → (ledger : LedgerState) (list : ListState) → list.samples ≡ ledger.samples → ledger.close ≡ Some (close.Read list.ending) → list.told ≡ ledger.told
+    → AreListsOf (ledgers ++ ledger ∷ []) (lists ++ list ∷ [])
+one_more_list {ledgers = ledgers} {lists = lists} are ledger list samples closed told = record {
+  samples = let of_lists = map_push (λ list. list.samples) lists list in let of_ledgers = map_push (λ ledger. ledger.samples) ledgers ledger in let so_far = are.samples in cc;
+  closes = let of_lists = map_push (λ list. Some (close.Read list.ending)) lists list in let of_ledgers = map_push (λ ledger. ledger.close) ledgers ledger in let so_far = are.closes in cc;
+  names = let of_lists = map_push (λ list. list.told) lists list in let of_ledgers = map_push (λ ledger. ledger.told) ledgers ledger in let so_far = are.names in cc;
+}

@@ -1,10 +1,11 @@
-use Rattle.std.proofs.Common.{◌∙◌, ◌<◌, ◌++◌, ◌∷◌, [], All, Some, ap, sym, subst, map, take, length, string_bytes}
-use Rattle.std.proofs.lemmas.List.{map_more, take_all}
+use Rattle.std.proofs.Common.{◌∙◌, ◌<◌, ◌++◌, ◌∷◌, [], All, Some, ap, append-nil, sym, subst, map, take, length, string_bytes}
+use Rattle.std.proofs.lemmas.List.{length-map, map_more, take_all}
 use Rattle.stack_core.specs.NamesInOrder.{with_name}
 use Rattle.stack_core.specs.Records.{names_at}
 use Rattle.ring_collect.specs.NamesInOrder.{with_stack}
 use Rattle.ring_collect.proofs.NameOrder.{with_stack_push}
 use Rattle.ring_collect.proofs.Records.{grown_further, names_at_push, known_push}
+use Rattle.std.proofs.lemmas.Result.{IfOk-from_err}
 use Rattle.ring_collect.proofs.numbering.number_names.Goals as goal
 
 pub loop-name-preserved : goal.loop-name-preserved
@@ -27,24 +28,46 @@ loop-name-preserved c =
       known = subst (All (λ k. k < length table')) (sym pushed) (known_push table table' numbers number c.as_str.result.now numbered.grown so_far.known numbered.number);
     }
 
-pub returns-clause-told : goal.returns-clause-told
-returns-clause-told c = c.loop-name.invariant.told
+pub returns : goal.returns
+returns c =
+    let so_far = c.loop-name.invariant in
+    let taken = take_all c.loop-name.name-index c.args.stack.now c.loop-name-test.false in
+    let numbers = so_far.numbers ∙ ap (map string_bytes) taken in
+    record {
+      told = so_far.told;
+      asked = so_far.asked ∙ ap (λ names. with_stack c.args.table.now (map string_bytes names)) taken;
+      grown = (c.loop-name.new.items, so_far.told);
+      numbers = numbers;
+      known = so_far.known;
+      count = sym (length-map c.loop-name.numbers.items _) ∙ ap length numbers ∙ length-map c.args.stack.now string_bytes;
+    }
 
-pub returns-clause-asked : goal.returns-clause-asked
-returns-clause-asked c =
-    c.loop-name.invariant.asked ∙ ap (λ names. with_stack c.args.table.now (map string_bytes names)) (take_all c.loop-name.name-index c.args.stack.now c.loop-name-test.false)
+pub returns-in_err-numbers : goal.returns-in_err-numbers
+returns-in_err-numbers c = record {
+  told = IfOk-from_err _ _ c.from_residual.ensures.0;
+  asked = IfOk-from_err _ _ c.from_residual.ensures.0;
+  grown = ([], sym (append-nil _));
+  numbers = IfOk-from_err _ _ c.from_residual.ensures.0;
+  known = IfOk-from_err _ _ c.from_residual.ensures.0;
+  count = IfOk-from_err _ _ c.from_residual.ensures.0;
+}
 
-pub returns-clause-numbers : goal.returns-clause-numbers
-returns-clause-numbers c = c.loop-name.invariant.numbers ∙ ap (map string_bytes) (take_all c.loop-name.name-index c.args.stack.now c.loop-name-test.false)
+pub returns-in_err-number_name : goal.returns-in_err-number_name
+returns-in_err-number_name c = record {
+  told = IfOk-from_err _ _ c.from_residual-in_err-number_name.ensures.0;
+  asked = IfOk-from_err _ _ c.from_residual-in_err-number_name.ensures.0;
+  grown = grown_further c.args.table.now c.loop-name.new.items c.loop-name.invariant.told c.number_name.ensures.grown;
+  numbers = IfOk-from_err _ _ c.from_residual-in_err-number_name.ensures.0;
+  known = IfOk-from_err _ _ c.from_residual-in_err-number_name.ensures.0;
+  count = IfOk-from_err _ _ c.from_residual-in_err-number_name.ensures.0;
+}
 
-pub returns-clause-known : goal.returns-clause-known
-returns-clause-known c = c.loop-name.invariant.known
-
-pub returns-clause-grown : goal.returns-clause-grown
-returns-clause-grown c = (c.loop-name.new.items, c.loop-name.invariant.told)
-
-pub returns-in_err-number_name-clause-grown : goal.returns-in_err-number_name-clause-grown
-returns-in_err-number_name-clause-grown c = grown_further c.args.table.now c.loop-name.new.items c.loop-name.invariant.told c.number_name.ensures.grown
-
-pub returns-in_err-push-clause-grown : goal.returns-in_err-push-clause-grown
-returns-in_err-push-clause-grown c = grown_further c.args.table.now c.loop-name.new.items c.loop-name.invariant.told c.number_name.ensures.grown
+pub returns-in_err-push : goal.returns-in_err-push
+returns-in_err-push c = record {
+  told = IfOk-from_err _ _ c.from_residual-in_err-push.ensures.0;
+  asked = IfOk-from_err _ _ c.from_residual-in_err-push.ensures.0;
+  grown = grown_further c.args.table.now c.loop-name.new.items c.loop-name.invariant.told c.number_name.ensures.grown;
+  numbers = IfOk-from_err _ _ c.from_residual-in_err-push.ensures.0;
+  known = IfOk-from_err _ _ c.from_residual-in_err-push.ensures.0;
+  count = IfOk-from_err _ _ c.from_residual-in_err-push.ensures.0;
+}

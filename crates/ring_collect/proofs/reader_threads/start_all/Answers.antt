@@ -1,20 +1,28 @@
-use Rattle.std.proofs.Common.{◌≡◌, ◌+◌, ◌∙◌, ◌++◌, ◌∷◌, [], sym, ap, subst, rules, map, length, arith, length-append, append-nil}
+use Rattle.std.proofs.Common.{◌≡◌, ◌+◌, ◌∙◌, ◌++◌, ◌∷◌, [], Err, sym, ap, subst, rules, map, length, arith, length-append, append-nil}
 use Rattle.std.proofs.lemmas.List.{map-append, length-map}
+use Rattle.std.proofs.lemmas.Result.{IfOk-from_err}
 use Rattle.std.specs.Arc.{arc_value}
 use Rattle.std.specs.Vec.Iter.{into_iter_items}
 use Rattle.ring_collect.specs.checked.RunningSources.{ArePromised, AreFresh, IsFresh, IsPromised}
+use Rattle.ring_collect.specs.declared.faults.CollectFault.TheVariants.{Unfinished}
+use Rattle.ring_collect.proofs.Outcomes.{error_said}
 use Rattle.ring_collect.proofs.RunningSourceLemmas.{promised_of_more, promised_push, fresh_push, taken_front}
 use Rattle.ring_collect.proofs.SettlementLemmas.{no_items}
 use Rattle.ring_collect.proofs.reader_threads.start_all.Goals as goal
 
-pub returns-in_err-running-clause-promised : goal.returns-in_err-running-clause-promised
-returns-in_err-running-clause-promised g c =
+pub returns-in_err-running : goal.returns-in_err-running
+returns-in_err-running g c =
     let so_far = c.loop-reader.invariant in
     let before = taken_front c.into_iter-reader-iterator.result c.loop-reader.yielded c.loop-reader.reader-iterator c.loop-reader.yielded_by in
     let gives : into_iter_items c.into_iter-reader-iterator.result ≡ c.args.readers.items = c.into_iter-reader-iterator.ensures.into_iter_gives.0 in
     let whole = sym gives ∙ before in
-    subst (λ readers. ArePromised (arc_value c.args.gate.now) readers (map (λ s. s.handle.promise) c.loop-reader.sources.items)) (sym whole)
-    (promised_of_more so_far.promised (into_iter_items c.loop-reader.reader-iterator))
+    record {
+      promised = subst (λ readers. ArePromised (arc_value c.args.gate.now) readers (map (λ s. s.handle.promise) c.loop-reader.sources.items)) (sym whole)
+          (promised_of_more so_far.promised (into_iter_items c.loop-reader.reader-iterator));
+      all = IfOk-from_err _ _ c.from_residual.ensures.0;
+      finished = λ source fault. c.in_err-running.ensures.finished source (ap (λ error. Err error) (sym (error_said _ c.from_residual.result (Unfinished source) c.from_residual.ensures.1 fault)));
+      fresh = so_far.fresh;
+    }
 
 pub loop-reader-preserved : goal.loop-reader-preserved
 loop-reader-preserved g c =
@@ -44,14 +52,24 @@ whole g c =
     let none : into_iter_items c.loop-reader.reader-iterator ≡ [] = no_items (into_iter_items c.loop-reader.reader-iterator) (let ok = c.loop-reader.reader-iterator.rest.ok.0 in let none = c.in-None.ensures.steps.0 in omega arith) in
     sym gives ∙ before ∙ ap (λ rest. c.loop-reader.yielded ++ rest) none ∙ append-nil c.loop-reader.yielded
 
-pub returns-clause-promised : goal.returns-clause-promised
-returns-clause-promised g c = subst (λ readers. ArePromised (arc_value c.args.gate.now) readers (map (λ s. s.handle.promise) c.loop-reader.sources.items)) (sym (whole g c)) c.loop-reader.invariant.promised
+pub returns : goal.returns
+returns g c =
+    let so_far = c.loop-reader.invariant in
+    record {
+      promised = subst (λ readers. ArePromised (arc_value c.args.gate.now) readers (map (λ s. s.handle.promise) c.loop-reader.sources.items)) (sym (whole g c)) so_far.promised;
+      all = so_far.started ∙ ap length (sym (whole g c));
+      finished = λ source fault. cc;
+      fresh = so_far.fresh;
+    }
 
-pub returns-clause-all : goal.returns-clause-all
-returns-clause-all g c = c.loop-reader.invariant.started ∙ ap length (sym (whole g c))
+pub loop-reader-init : goal.loop-reader-init
+loop-reader-init g c = search rules
 
-pub returns-clause-fresh : goal.returns-clause-fresh
-returns-clause-fresh g c = c.loop-reader.invariant.fresh
+pub unreachable-unreachable : goal.unreachable-unreachable
+unreachable-unreachable g c = search rules
 
-pub returns-in_err-running-clause-fresh : goal.returns-in_err-running-clause-fresh
-returns-in_err-running-clause-fresh g c = c.loop-reader.invariant.fresh
+pub unreachable-unreachable-in_default-push : goal.unreachable-unreachable-in_default-push
+unreachable-unreachable-in_default-push g c = search rules
+
+pub overflow_add-source : goal.overflow_add-source
+overflow_add-source g c = search rules

@@ -24,20 +24,23 @@ returns-clause-whole g c = λ is.
     runs_whole (promised g c) c.in_default-settle_all.ensures.settled (gained g c) none.0
     (as_many c.start_all-started.new.sources.items c.drain.new.self.sources.items c.drain.ensures.handles ∙ where_ok c.start_all-started.result none.1 c.start_all-started.ensures.all)
 
-pub returns-in-Some-clause-unfinished : goal.returns-in-Some-clause-unfinished
-returns-in-Some-clause-unfinished g c =
-    unfinishes _ c.in-Some.source (still_promised c.start_all-started.new.sources.items c.drain.new.self.sources.items c.drain.ensures.handles c.start_all-started.ensures.promised)
-    (c.drain.ensures.gained (g.F.Feed.taken c.args.sink.now) (nothing_gained _ _ _ _ c.new-order.ensures.items c.start_all-started.ensures.fresh))
-    c.in-Some.ensures.unfinished
+pub returns-in-Some : goal.returns-in-Some
+returns-in-Some g c = record {
+  gains = tt;
+  popped = tt;
+  whole = tt;
+  refused = tt;
+  unfinished = unfinishes _ c.in-Some.source (still_promised c.start_all-started.new.sources.items c.drain.new.self.sources.items c.drain.ensures.handles c.start_all-started.ensures.promised)
+      (c.drain.ensures.gained (g.F.Feed.taken c.args.sink.now) (nothing_gained _ _ _ _ c.new-order.ensures.items c.start_all-started.ensures.fresh))
+      c.in-Some.ensures.unfinished;
+  setting = c.drain.ensures.setting;
+}
 
 pub returns-clause-refused : goal.returns-clause-refused
 returns-clause-refused g c = c.refusal.ensures.finished
 
 pub returns-clause-setting : goal.returns-clause-setting
 returns-clause-setting g c = c.drain.ensures.setting
-
-pub returns-in-Some-clause-setting : goal.returns-in-Some-clause-setting
-returns-in-Some-clause-setting g c = c.drain.ensures.setting
 
 pub settle_all-requires : goal.settle_all-requires
 settle_all-requires g c =

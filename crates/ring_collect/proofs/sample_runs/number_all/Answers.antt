@@ -4,6 +4,7 @@ use Rattle.std.proofs.lemmas.List.Elements.{All-push}
 use Rattle.stack_core.specs.Reading.{Rest}
 use Rattle.sample_tables.specs.Rows.{ToldRows}
 use Rattle.ring_collect.specs.checked.Numbering.{told_of, with_waiting}
+use Rattle.std.proofs.lemmas.Result.{IfOk-from_err}
 use Rattle.ring_collect.proofs.sample_runs.number_all.Goals as goal
 
 pub loop-reader-preserved : goal.loop-reader-preserved
@@ -24,3 +25,15 @@ loop-reader-preserved g c =
       nothing_told = subst (All (λ one. told_of one.names one.stacks ≡ record { names = []; stacks = [] })) (sym pushed)
           (All-push (λ one. told_of one.names one.stacks ≡ record { names = []; stacks = [] }) c.loop-reader.all.items numbering so_far.nothing_told named);
     }
+
+pub returns-in_err-all : goal.returns-in_err-all
+returns-in_err-all g c = record {
+  rests = IfOk-from_err _ _ c.from_residual.ensures.0;
+  nothing_told = IfOk-from_err _ _ c.from_residual.ensures.0;
+}
+
+pub returns-in_err-push : goal.returns-in_err-push
+returns-in_err-push g c = record {
+  rests = IfOk-from_err _ _ c.from_residual-in_err-push.ensures.0;
+  nothing_told = IfOk-from_err _ _ c.from_residual-in_err-push.ensures.0;
+}

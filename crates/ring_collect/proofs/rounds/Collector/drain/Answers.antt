@@ -1,17 +1,26 @@
-use Rattle.std.proofs.Common.{◌∙◌}
+use Rattle.std.proofs.Common.{◌∙◌, refl}
 use Rattle.ring_collect.proofs.rounds.Collector.drain.Goals as goal
 
-pub returns-in-Closed-clause-handles : goal.returns-in-Closed-clause-handles
-returns-in-Closed-clause-handles g c = c.look_round.ensures.handles ∙ c.loop.invariant.handles
+pub loop-init : goal.loop-init
+loop-init g c = record { ends = (tt, tt); handles = refl; gained = λ start gained. gained; refused = λ goes. goes; setting = refl }
 
-pub returns-in-Closed-clause-gained : goal.returns-in-Closed-clause-gained
-returns-in-Closed-clause-gained g c = λ start gained. c.look_round.ensures.gained start (c.loop.invariant.gained start gained)
+pub returns-in-Closed : goal.returns-in-Closed
+returns-in-Closed g c = record {
+  handles = c.look_round.ensures.handles ∙ c.loop.invariant.handles;
+  gained = λ start gained. c.look_round.ensures.gained start (c.loop.invariant.gained start gained);
+  refused = λ goes. c.loop.invariant.refused (c.look_round.ensures.refused goes);
+  closed = c.look_round.ensures.closed c.in-Closed.is;
+  setting = c.look_round.ensures.setting ∙ c.loop.invariant.setting;
+}
 
-pub returns-in-Closed-clause-refused : goal.returns-in-Closed-clause-refused
-returns-in-Closed-clause-refused g c = λ goes. c.loop.invariant.refused (c.look_round.ensures.refused goes)
-
-pub returns-in-Closed-clause-setting : goal.returns-in-Closed-clause-setting
-returns-in-Closed-clause-setting g c = c.look_round.ensures.setting ∙ c.loop.invariant.setting
+pub loop-preserved-in-Idle : goal.loop-preserved-in-Idle
+loop-preserved-in-Idle g c = record {
+  ends = (tt, tt);
+  handles = c.look_round.ensures.handles ∙ c.loop.invariant.handles;
+  gained = λ start gained. c.look_round.ensures.gained start (c.loop.invariant.gained start gained);
+  refused = λ goes. c.loop.invariant.refused (c.look_round.ensures.refused goes);
+  setting = c.look_round.ensures.setting ∙ c.loop.invariant.setting;
+}
 
 pub loop-preserved : goal.loop-preserved
 loop-preserved g c = record {

@@ -8,13 +8,18 @@ use Rattle.ring_collect.specs.checked.Rounds.{HasGained}
 use Rattle.ring_collect.specs.declared.intakes.Stage.TheVariants.{Dropping}
 use Rattle.ring_collect.proofs.rounds.Collector.look_at.Goals as goal
 
-pub returns-then-is_some-clause-closed : goal.returns-then-is_some-clause-closed
-returns-then-is_some-clause-closed g c = λ _.
+pub returns-then-is_some : goal.returns-then-is_some
+returns-then-is_some g c =
     let all = c.args.self.now.sources.items in
-    let running = c.index_mut-running.result.now in (
-      ap (slice_set all c.args.source) c.index_mut-running.ensures.value ∙ set-get_or all c.args.source running,
-      subst (λ o. IfSome o (λ s. IsSome s.intake.close)) (sym (slice_get_read all _ c.args.source running refl c.requires c.index_mut-running.ensures.value)) (sym c.if-is_some.ensures),
-    )
+    let running = c.index_mut-running.result.now in
+    let same : slice_set all c.args.source running ≡ all = ap (slice_set all c.args.source) c.index_mut-running.ensures.value ∙ set-get_or all c.args.source running in
+    record {
+      handles = ap (map (λ s. s.handle)) same;
+      gained = λ start gained. subst (λ sources. HasGained start (map (λ s. s.intake) sources) (g.F.Feed.taken c.args.sink.now) c.args.self.now.order.items c.args.self.now.refused) (sym same) gained;
+      refused = λ goes. goes;
+      closed = λ _. (same, subst (λ o. IfSome o (λ s. IsSome s.intake.close)) (sym (slice_get_read all _ c.args.source running refl c.requires c.index_mut-running.ensures.value)) (sym c.if-is_some.ensures));
+      setting = refl;
+    }
 
 pub returns-then-self-clause-handles : goal.returns-then-self-clause-handles
 returns-then-self-clause-handles g c =

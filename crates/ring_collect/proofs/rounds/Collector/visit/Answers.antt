@@ -1,4 +1,4 @@
-use Rattle.std.proofs.Common.{◌∙◌}
+use Rattle.std.proofs.Common.{rules, ◌∙◌}
 use Rattle.ring_collect.proofs.RunLemmas.{as_many}
 use Rattle.ring_collect.proofs.rounds.Collector.visit.Goals as goal
 
@@ -51,3 +51,9 @@ returns-clause-refused g c = c.loop.invariant.refused
 
 pub returns-clause-setting : goal.returns-clause-setting
 returns-clause-setting g c = c.loop.invariant.setting
+
+pub returns-then-ne-2-clause-closed : goal.returns-then-ne-2-clause-closed
+returns-then-ne-2-clause-closed g c = search rules
+
+pub returns-clause-closed : goal.returns-clause-closed
+returns-clause-closed g c = search rules
