@@ -9,7 +9,7 @@ ghost use Rattle.stack_core.specs.Interleaving.{IsInterleaving, AreOf, interleav
 
 use crate::faults::CollectFault;
 use crate::feeds::ByRows;
-use crate::runs::{Collected, collect_by};
+use crate::runs::{Collected, RingedReaders};
 use run_options::RingSize;
 use stack_core::{Gate, RowReader, RowSink};
 use std::alloc::Global;
@@ -71,5 +71,5 @@ pub fn collect_rows<
         → Unfinishes (length readers.items) source (S.taken sink.old) (S.taken sink.new) }
     ensures setting { S.setting sink.new ≡ S.setting sink.old }
 {
-    collect_by(rt, alloc, readers, ring, gate, &mut ByRows, sink)
+    RingedReaders { readers, ring }.collect_by(rt, alloc, gate, &mut ByRows, sink)
 }

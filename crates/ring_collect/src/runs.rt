@@ -76,133 +76,137 @@ fn refusal(started: Result<(), CollectFault>, refused: bool) -> Option<CollectFa
     started.err()
 }
 
-/// Starts the sources, drains their rings and joins their threads.
-fn run_sources<
-    T: Threads + Wait + Copy + Send + 'static,
-    R: RowReader + Send + Drop + 'static,
-    G: Gate + Send + Sync + Drop + 'static,
-    S,
-    F: Feed<S>,
->(
-    rt: &T,
-    alloc: Global,
-    readers: Vec<R>,
-    room: Room<R, G>,
-    gate: &Arc<G>,
-    feed: &mut F,
-    sink: &mut S,
-) -> Result<Settled, CollectFault>
-    requires few { length readers.items ≤ 64 }
-    requires nothing_told { All (λ reader. R.told reader ≡ record { names = []; stacks = [] })
-        readers.items }
-    requires rings { length room.rings.items ≡ length readers.items }
-    requires sources { (room.sources.items ≡ [])
-        × (length readers.items ≤ vec_capacity room.sources) }
-    requires ledgers { (room.ledgers.items ≡ [])
-        × (length readers.items ≤ vec_capacity room.ledgers) }
-    ensures gains { IfOk result (λ _.
-        GainsFirst (map R.rest readers.items) (F.taken sink.old) (F.taken sink.new)) }
-    ensures popped { IfOk result (λ _.
-        GainsAllowed (G.may_go (arc_value gate.now)) (F.taken sink.old) (F.taken sink.new)) }
-    ensures whole { IfOk result (λ run. run.fault ≡ None
-        → RunsWhole (G.may_stop (arc_value gate.now)) (G.may_go (arc_value gate.now))
-        (map R.rest readers.items) run.ledgers.items run.order.items (F.taken sink.old)
-        (F.taken sink.new)) }
-    ensures refused { IfOk result (λ run. (source : ℕ)
-        → run.fault ≡ Some (CollectFault.Unfinished source) → ⊥) }
-    ensures unfinished { IfErr result (λ fault.
-        IsUnfinished (length readers.items) (F.taken sink.old) (F.taken sink.new) fault) }
-    ensures setting { F.setting sink.new ≡ F.setting sink.old }
-{
-    let Room {
-        rings,
-        mut sources,
-        mut ledgers,
-    } = room;
-    let started = start_all(*rt, alloc, readers, rings, gate, &mut sources);
-    let refused = matches!(started, Err(CollectFault::OutOfMemory));
-    let order = Vec::new(alloc);
-    let mut collector = Collector {
-        sources,
-        order,
-        refused,
-    };
-    collector.drain(rt, alloc, feed, sink);
-    let Collector {
-        sources,
-        order,
-        refused,
-    } = collector;
-    if let Some(source) = settle_all(rt, sources, &mut ledgers) {
-        return Err(CollectFault::Unfinished { source });
+impl<R: RowReader + Send + Drop + 'static, G: Gate + Send + Sync + Drop + 'static> Room<R, G> {
+    /// Starts the sources, drains their rings and joins their threads.
+    fn run_sources<T: Threads + Wait + Copy + Send + 'static, S, F: Feed<S>>(
+        self,
+        rt: &T,
+        alloc: Global,
+        readers: Vec<R>,
+        gate: &Arc<G>,
+        feed: &mut F,
+        sink: &mut S,
+    ) -> Result<Settled, CollectFault>
+        requires few { length readers.items ≤ 64 }
+        requires nothing_told { All (λ reader. R.told reader ≡ record { names = []; stacks = [] })
+            readers.items }
+        requires rings { length self.rings.items ≡ length readers.items }
+        requires sources { (self.sources.items ≡ [])
+            × (length readers.items ≤ vec_capacity self.sources) }
+        requires ledgers { (self.ledgers.items ≡ [])
+            × (length readers.items ≤ vec_capacity self.ledgers) }
+        ensures gains { IfOk result (λ _.
+            GainsFirst (map R.rest readers.items) (F.taken sink.old) (F.taken sink.new)) }
+        ensures popped { IfOk result (λ _.
+            GainsAllowed (G.may_go (arc_value gate.now)) (F.taken sink.old) (F.taken sink.new)) }
+        ensures whole { IfOk result (λ run. run.fault ≡ None
+            → RunsWhole (G.may_stop (arc_value gate.now)) (G.may_go (arc_value gate.now))
+            (map R.rest readers.items) run.ledgers.items run.order.items (F.taken sink.old)
+            (F.taken sink.new)) }
+        ensures refused { IfOk result (λ run. (source : ℕ)
+            → run.fault ≡ Some (CollectFault.Unfinished source) → ⊥) }
+        ensures unfinished { IfErr result (λ fault.
+            IsUnfinished (length readers.items) (F.taken sink.old) (F.taken sink.new) fault) }
+        ensures setting { F.setting sink.new ≡ F.setting sink.old }
+    {
+        let Room {
+            rings,
+            mut sources,
+            mut ledgers,
+        } = self;
+        let started = start_all(*rt, alloc, readers, rings, gate, &mut sources);
+        let refused = matches!(started, Err(CollectFault::OutOfMemory));
+        let order = Vec::new(alloc);
+        let mut collector = Collector {
+            sources,
+            order,
+            refused,
+        };
+        collector.drain(rt, alloc, feed, sink);
+        let Collector {
+            sources,
+            order,
+            refused,
+        } = collector;
+        if let Some(source) = settle_all(rt, sources, &mut ledgers) {
+            return Err(CollectFault::Unfinished { source });
+        }
+        Ok(Settled {
+            ledgers,
+            order,
+            fault: refusal(started, refused),
+        })
     }
-    Ok(Settled {
-        ledgers,
-        order,
-        fault: refusal(started, refused),
-    })
 }
 
-/// Collects the rows of readers, and feeds a sink with them.
-pub fn collect_by<
-    T: Threads + Wait + Copy + Send + 'static,
-    R: RowReader + Send + Drop + 'static,
-    G: Gate + Send + Sync + Drop + 'static,
-    S,
-    F: Feed<S>,
->(
-    rt: &T,
-    alloc: Global,
-    readers: Vec<R>,
-    ring: RingSize,
-    gate: Arc<G>,
-    feed: &mut F,
-    sink: &mut S,
-) -> Result<Collected, CollectFault>
-    requires few { length readers.items ≤ 64 }
-    requires nothing_told { All (λ reader. R.told reader ≡ record { names = []; stacks = [] })
-        readers.items }
+/// Readers, and the size of the ring that each is given.
+#[derive(Drop)]
+pub struct RingedReaders<R: RowReader> {
+    pub readers: Vec<R>,
+    pub ring: RingSize,
+}
 
-    // One list for each reader: its whole rest, or its first samples where the gate stopped it.
-    ensures lists { IfOk result (λ run.
-        Collects (G.may_stop (arc_value gate)) (G.may_go (arc_value gate))
-        (map R.rest readers.items) run.lists.items) }
-    ensures whole { ((source index : ℕ) → G.may_stop (arc_value gate) source index → ⊥)
-        → IfOk result (λ run. AreWhole (map R.rest readers.items) run.lists.items) }
+impl<R: RowReader + Send + Drop + 'static> RingedReaders<R> {
+    /// Collects the rows of the readers, and feeds a sink with them.
+    pub fn collect_by<
+        T: Threads + Wait + Copy + Send + 'static,
+        G: Gate + Send + Sync + Drop + 'static,
+        S,
+        F: Feed<S>,
+    >(
+        self,
+        rt: &T,
+        alloc: Global,
+        gate: Arc<G>,
+        feed: &mut F,
+        sink: &mut S,
+    ) -> Result<Collected, CollectFault>
+        requires few { length self.readers.items ≤ 64 }
+        requires nothing_told { All (λ reader. R.told reader ≡ record { names = []; stacks = [] })
+            self.readers.items }
 
-    // Each list was told exactly the names of its samples, in the order in which they first appear: none twice.
-    ensures told { IfOk result (λ run.
-        All (λ list. list.told ≡ names_in_order list.samples) run.lists.items) }
-    ensures distinct { IfOk result (λ run.
-        All (λ list. HasDistinctNames list.told) run.lists.items) }
+        // One list for each reader: its whole rest, or its first samples where the gate stopped it.
+        ensures lists { IfOk result (λ run.
+            Collects (G.may_stop (arc_value gate)) (G.may_go (arc_value gate))
+            (map R.rest self.readers.items) run.lists.items) }
+        ensures whole { ((source index : ℕ) → G.may_stop (arc_value gate) source index → ⊥)
+            → IfOk result (λ run. AreWhole (map R.rest self.readers.items) run.lists.items) }
 
-    // The sink gained exactly the lists' samples, in the order of arrival.
-    ensures order { IfOk result (λ run.
-        IsInterleaving run.order.items (map (λ list. list.samples) run.lists.items)) }
-    ensures sink { IfOk result (λ run.
-        F.taken sink.new ≡ F.taken sink.old ++ interleaved run.order.items
-        (map (λ list. list.samples) run.lists.items)) }
-    ensures by_source { IfOk result (λ run.
-        AreOf (interleaved run.order.items (map (λ list. list.samples) run.lists.items))
-        (map (λ list. list.samples) run.lists.items)) }
+        // Each list was told exactly the names of its samples, in the order in which they first appear: none twice.
+        ensures told { IfOk result (λ run.
+            All (λ list. list.told ≡ names_in_order list.samples) run.lists.items) }
+        ensures distinct { IfOk result (λ run.
+            All (λ list. HasDistinctNames list.told) run.lists.items) }
 
-    // What a refusal leaves in the sink: of each source a beginning, at each sample of which the gate may go.
-    ensures refused { IsErrOf result CollectFault.OutOfMemory ⊎ IsErrOf result CollectFault.NoThread
-        → GainsFirst (map R.rest readers.items) (F.taken sink.old) (F.taken sink.new) }
-    ensures popped { IsErrOf result CollectFault.OutOfMemory ⊎ IsErrOf result CollectFault.NoThread
-        → GainsAllowed (G.may_go (arc_value gate)) (F.taken sink.old) (F.taken sink.new) }
-    ensures unfinished { (source : ℕ) → IsErrOf result (CollectFault.Unfinished source)
-        → Unfinishes (length readers.items) source (F.taken sink.old) (F.taken sink.new) }
-    ensures setting { F.setting sink.new ≡ F.setting sink.old }
-{
-    let room = Room::new(alloc, readers.len(), ring)?;
-    let run = run_sources(rt, alloc, readers, room, &gate, feed, sink)?;
-    let lists = lists_of(alloc, run.ledgers)?;
-    match run.fault {
-        Some(fault) => Err(fault),
-        None => Ok(Collected {
-            lists,
-            order: run.order,
-        }),
+        // The sink gained exactly the lists' samples, in the order of arrival.
+        ensures order { IfOk result (λ run.
+            IsInterleaving run.order.items (map (λ list. list.samples) run.lists.items)) }
+        ensures sink { IfOk result (λ run.
+            F.taken sink.new ≡ F.taken sink.old ++ interleaved run.order.items
+            (map (λ list. list.samples) run.lists.items)) }
+        ensures by_source { IfOk result (λ run.
+            AreOf (interleaved run.order.items (map (λ list. list.samples) run.lists.items))
+            (map (λ list. list.samples) run.lists.items)) }
+
+        // What a refusal leaves in the sink: of each source a beginning, at each sample of which the gate may go.
+        ensures refused { IsErrOf result CollectFault.OutOfMemory ⊎ IsErrOf result CollectFault.NoThread
+            → GainsFirst (map R.rest self.readers.items) (F.taken sink.old) (F.taken sink.new) }
+        ensures popped { IsErrOf result CollectFault.OutOfMemory ⊎ IsErrOf result CollectFault.NoThread
+            → GainsAllowed (G.may_go (arc_value gate)) (F.taken sink.old) (F.taken sink.new) }
+        ensures unfinished { (source : ℕ) → IsErrOf result (CollectFault.Unfinished source)
+            → Unfinishes (length self.readers.items) source (F.taken sink.old) (F.taken sink.new) }
+        ensures setting { F.setting sink.new ≡ F.setting sink.old }
+    {
+        let RingedReaders { readers, ring } = self;
+        let room = Room::new(alloc, readers.len(), ring)?;
+        let run = room.run_sources(rt, alloc, readers, &gate, feed, sink)?;
+        let lists = lists_of(alloc, run.ledgers)?;
+        match run.fault {
+            Some(fault) => Err(fault),
+            None => Ok(Collected {
+                lists,
+                order: run.order,
+            }),
+        }
     }
 }

@@ -11,7 +11,7 @@ ghost use Rattle.stack_core.specs.Interleaving.{IsInterleaving, AreOf, interleav
 use crate::faults::CollectFault;
 use crate::numbering::NumberingReader;
 use crate::row_samples::BySamples;
-use crate::runs::{Collected, collect_by};
+use crate::runs::{Collected, RingedReaders};
 use run_options::RingSize;
 use stack_core::{Gate, SampleReader, Sink};
 use std::alloc::{AllocError, Global};
@@ -89,13 +89,5 @@ pub fn collect<
     ensures setting { S.setting sink.new ≡ S.setting sink.old }
 {
     let readers = number_all(alloc, readers)?;
-    collect_by(
-        rt,
-        alloc,
-        readers,
-        ring,
-        gate,
-        &mut BySamples::new(alloc),
-        sink,
-    )
+    RingedReaders { readers, ring }.collect_by(rt, alloc, gate, &mut BySamples::new(alloc), sink)
 }

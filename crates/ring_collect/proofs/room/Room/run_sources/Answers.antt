@@ -4,7 +4,7 @@ use Rattle.std.specs.Arc.{arc_value}
 use Rattle.ring_collect.specs.checked.RunningSources.{ArePromised}
 use Rattle.ring_collect.specs.checked.Rounds.{HasGained}
 use Rattle.ring_collect.proofs.RunLemmas.{nothing_gained, still_promised, as_many, unfinishes, gains_allowed, gains_first, runs_whole, where_ok}
-use Rattle.ring_collect.proofs.runs.run_sources.Goals as goal
+use Rattle.ring_collect.proofs.room.Room.run_sources.Goals as goal
 
 gained : (g : _) (c : goal.After-refusal g) → HasGained (g.F.Feed.taken c.args.sink.now) (map (λ running. running.intake) c.drain.new.self.sources.items) (g.F.Feed.taken c.drain.new.sink) c.drain.new.self.order.items c.drain.new.self.refused
 gained g c = c.drain.ensures.gained (g.F.Feed.taken c.args.sink.now) (nothing_gained _ _ _ _ c.new-order.ensures.items c.start_all-started.ensures.fresh)

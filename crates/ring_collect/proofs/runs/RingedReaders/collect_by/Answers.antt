@@ -6,7 +6,7 @@ use Rattle.ring_collect.specs.declared.faults.CollectFault.TheVariants.{Unfinish
 use Rattle.ring_collect.proofs.Outcomes.{error_said}
 use Rattle.ring_collect.proofs.RunLemmas.{allows_nothing, gains_nothing, refused_nothing}
 use Rattle.ring_collect.proofs.CollectionLemmas.{collects, are_whole, told_in_order, told_distinct, in_order, gains_all, of_each_source}
-use Rattle.ring_collect.proofs.runs.collect_by.Goals as goal
+use Rattle.ring_collect.proofs.runs.RingedReaders.collect_by.Goals as goal
 
 pub returns-in_err-room : goal.returns-in_err-room
 returns-in_err-room g c = record {
@@ -17,7 +17,7 @@ returns-in_err-room g c = record {
   order = IfOk-from_err _ _ c.from_residual.ensures.0;
   sink = IfOk-from_err _ _ c.from_residual.ensures.0;
   by_source = IfOk-from_err _ _ c.from_residual.ensures.0;
-  refused = λ _. gains_nothing (map g.R.RowReader.rest c.args.readers.items) (g.F.Feed.taken c.args.sink.now);
+  refused = λ _. gains_nothing (map g.R.RowReader.rest c.args.self.readers.items) (g.F.Feed.taken c.args.sink.now);
   popped = λ _. allows_nothing (g.G.Gate.may_go (arc_value c.args.gate)) (g.F.Feed.taken c.args.sink.now);
   unfinished = λ source fault. let other = error_said _ c.from_residual.result (Unfinished source) c.from_residual.ensures.1 fault in cc;
   setting = refl;
@@ -32,9 +32,9 @@ returns-in_err-run g c = record {
   order = IfOk-from_err _ _ c.from_residual-in_err-run.ensures.0;
   sink = IfOk-from_err _ _ c.from_residual-in_err-run.ensures.0;
   by_source = IfOk-from_err _ _ c.from_residual-in_err-run.ensures.0;
-  refused = λ refused. absurd (refused_nothing (length c.args.readers.items) (g.F.Feed.taken c.args.sink.now) (g.F.Feed.taken c.run_sources.new.sink) c.in_err-run.field-0.0 c.from_residual-in_err-run.result c.in_err-run.ensures.unfinished c.from_residual-in_err-run.ensures.1 refused);
-  popped = λ refused. absurd (refused_nothing (length c.args.readers.items) (g.F.Feed.taken c.args.sink.now) (g.F.Feed.taken c.run_sources.new.sink) c.in_err-run.field-0.0 c.from_residual-in_err-run.result c.in_err-run.ensures.unfinished c.from_residual-in_err-run.ensures.1 refused);
-  unfinished = λ source fault. subst (IsUnfinished (length c.args.readers.items) (g.F.Feed.taken c.args.sink.now) (g.F.Feed.taken c.run_sources.new.sink)) (sym (error_said _ c.from_residual-in_err-run.result (Unfinished source) c.from_residual-in_err-run.ensures.1 fault)) c.in_err-run.ensures.unfinished;
+  refused = λ refused. absurd (refused_nothing (length c.args.self.readers.items) (g.F.Feed.taken c.args.sink.now) (g.F.Feed.taken c.run_sources.new.sink) c.in_err-run.field-0.0 c.from_residual-in_err-run.result c.in_err-run.ensures.unfinished c.from_residual-in_err-run.ensures.1 refused);
+  popped = λ refused. absurd (refused_nothing (length c.args.self.readers.items) (g.F.Feed.taken c.args.sink.now) (g.F.Feed.taken c.run_sources.new.sink) c.in_err-run.field-0.0 c.from_residual-in_err-run.result c.in_err-run.ensures.unfinished c.from_residual-in_err-run.ensures.1 refused);
+  unfinished = λ source fault. subst (IsUnfinished (length c.args.self.readers.items) (g.F.Feed.taken c.args.sink.now) (g.F.Feed.taken c.run_sources.new.sink)) (sym (error_said _ c.from_residual-in_err-run.result (Unfinished source) c.from_residual-in_err-run.ensures.1 fault)) c.in_err-run.ensures.unfinished;
   setting = c.run_sources.ensures.setting;
 }
 
