@@ -24,8 +24,8 @@ use Rattle.merged_stacks.specs.Timeline.{Stack, total_weight, samples_of}
 use Rattle.merged_stacks.specs.Merged.{weighed, Weighed, sum_at, merged, merged_samples, all_samples, are_in_order, weight_at, if_positive}
 use Rattle.merged_stacks.specs.checked.Ranks.{AreRanks, all_told}
 use Rattle.merged_stacks.specs.checked.Ranked.{Ranked, join_front, joined, AreAscending, named_row, named_rows, sample_of, IsRankedStack, IsNamedBy, HasSums, AreMerged}
-use Rattle.merged_stacks.proofs.JoinedRows.{joined-total}
-use Rattle.merged_stacks.proofs.RankedNames.{above}
+use Rattle.ranked_rows.proofs.JoinedRows.{joined-total}
+use Rattle.ranked_rows.proofs.RankedNames.{above}
 use Rattle.merged_stacks.proofs.MergedRows.{stack_cmp_total, sum_at-cons, sum_at-append, sum_at-one, sum_at-rows, merged-only, is_true, as_true, first, second}
 
 -- ---- joining keeps each stack's sum

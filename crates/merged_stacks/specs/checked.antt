@@ -1,7 +1,6 @@
 -- Definitions that no contract of a public function cites. The proofs use them; a reader need not believe them.
 pub mod Growing
 pub mod Kept
-pub mod Keys
 pub mod Ranked
 pub mod Ranks
 pub mod Swept

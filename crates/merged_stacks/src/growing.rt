@@ -11,9 +11,7 @@ ghost use Rattle.merged_stacks.specs.checked.Growing.{not_begun, came, lists_in}
 
 use crate::growing_list::GrowingList;
 use crate::moment_stacks::MomentStacks;
-use crate::name_ranks::NameRanks;
-use crate::ranked_rows::RankedRows;
-use crate::sorting::Alone;
+use ranked_rows::{Alone, NameRanks, RankedRows};
 use stack_core::SourceList;
 use std::alloc::{AllocError, Global};
 use std::marker::Model;

@@ -8,7 +8,7 @@ ghost use Rattle.merged_stacks.specs.checked.Growing.{not_begun, came};
 ghost use Rattle.merged_stacks.specs.checked.Ranked.{HasSums, IsNamedBy};
 
 use crate::list_sums::ListSums;
-use crate::ranked_rows::RankedRows;
+use ranked_rows::RankedRows;
 use stack_core::SourceList;
 use std::alloc::{AllocError, Global};
 use std::marker::Model;

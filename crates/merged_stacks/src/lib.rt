@@ -3,16 +3,12 @@
 
 mod growing;
 mod growing_list;
-mod keyed_rows;
 mod list_sums;
 mod merged;
 mod moment_stacks;
-mod name_ranks;
 mod paired;
 mod paired_sides;
-mod ranked_rows;
 mod ranked_stacks;
-mod sorting;
 mod stack_rows;
 mod sweeps;
 mod totals;

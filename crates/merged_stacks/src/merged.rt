@@ -12,11 +12,9 @@ ghost use Rattle.merged_stacks.specs.checked.Ranks.{all_told};
 ghost use Rattle.merged_stacks.specs.checked.Ranked.{HasSums, IsNamedBy};
 
 use crate::list_sums::ListSums;
-use crate::name_ranks::NameRanks;
-use crate::ranked_rows::RankedRows;
 use crate::ranked_stacks::RankedStacks;
-use crate::sorting::{Alone, InThreads, Sorting};
 use crate::stack_rows::StackRows;
+use ranked_rows::{Alone, InThreads, NameRanks, RankedRows, Sorting};
 use stack_core::SourceList;
 use std::alloc::{AllocError, Global};
 use std::marker::Model;

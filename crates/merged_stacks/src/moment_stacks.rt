@@ -6,8 +6,8 @@ ghost use Rattle.merged_stacks.specs.Merged.{weighed, are_in_order};
 ghost use Rattle.merged_stacks.specs.RankedStacks.{ranked_samples};
 ghost use Rattle.merged_stacks.specs.checked.Ranked.{sample_of, AreMerged};
 
-use crate::ranked_rows::RankedRows;
 use crate::ranked_stacks::RankedStacks;
+use ranked_rows::RankedRows;
 use std::marker::Model;
 
 /// The merged stacks of one moment, whose names are borrowed. Contracts see them as samples: each stack

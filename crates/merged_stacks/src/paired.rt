@@ -10,10 +10,8 @@ ghost use Rattle.merged_stacks.specs.checked.Ranked.{IsNamedBy};
 ghost use Rattle.merged_stacks.specs.checked.Swept.{HasStacks};
 
 use crate::merged::add_list;
-use crate::name_ranks::NameRanks;
-use crate::ranked_rows::RankedRows;
-use crate::sorting::{Alone, InThreads, Sorting};
 use crate::sweeps::{Place, place_ranks, sweep, weight_after, weight_before};
+use ranked_rows::{Alone, InThreads, NameRanks, RankedRows, Sorting};
 use stack_core::SourceList;
 use std::alloc::{AllocError, Global};
 use std::marker::Model;

@@ -5,8 +5,8 @@ ghost use Rattle.sample_tables.specs.Rows.{name_at, row_at, sample_at};
 ghost use Rattle.merged_stacks.specs.RankedStacks.{ranked_samples};
 ghost use Rattle.merged_stacks.specs.checked.Ranked.{ranking_of, AreMerged};
 
-use crate::ranked_rows::RankedRows;
 use crate::stack_rows::StackRows;
+use ranked_rows::RankedRows;
 use std::marker::Model;
 
 /// Merged stacks that `MergedStacks::by_rank` or `MomentStacks::by_rank` lends, by the ranks of their

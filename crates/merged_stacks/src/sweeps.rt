@@ -3,7 +3,7 @@
 ghost use Rattle.std.specs.Prelude.{◌≡◌, ◌+◌, ◌<◌, ◌≤◌, ◌^◌, ◌∷◌, All, IfOk, length, map, drop};
 ghost use Rattle.merged_stacks.specs.checked.Swept.{swept, place_row, before_next, after_next, IsPlace};
 
-use crate::ranked_rows::RankedRows;
+use ranked_rows::RankedRows;
 use std::alloc::{AllocError, Global};
 use std::cmp::Ordering;
 

@@ -1,6 +1,6 @@
 use Rattle.std.proofs.Common.{◌∙◌, ap, map}
 use Rattle.flame_layout.specs.Boxes.{span_of}
-use Rattle.merged_stacks.proofs.JoinedRows.{map-reverse}
+use Rattle.ranked_rows.proofs.JoinedRows.{map-reverse}
 use Rattle.flame_layout.proofs.Walked.{walk-ends}
 use Rattle.flame_layout.proofs.charts.end.Goals as goal
 

@@ -1,5 +1,0 @@
-use Rattle.std.proofs.Common.{◌≡◌, sum_by, take}
-use Rattle.merged_stacks.proofs.ranked_rows.RankedRows.total.Given as goal
-
-abbrev pub invariant-loop-at : goal.invariant-loop-at
-invariant-loop-at l = l.total ≡ sum_by (λ row. row.1) (take l.at l.self)

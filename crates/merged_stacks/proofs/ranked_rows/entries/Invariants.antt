@@ -1,9 +1,0 @@
-use Rattle.std.proofs.Common.{◌≡◌, All, map, take}
-use Rattle.merged_stacks.specs.checked.Ranked.{ranked_rows, ranked_entry, IsEntryOf}
-use Rattle.merged_stacks.proofs.ranked_rows.entries.Given as goal
-
-abbrev pub invariant-loop-row : goal.invariant-loop-row
-invariant-loop-row l = record {
-  ranked : map ranked_entry l.all.items ≡ ranked_rows l.frames (take l.row-index l.fn.rows.items);
-  within : All (IsEntryOf l.frames) l.all.items;
-}

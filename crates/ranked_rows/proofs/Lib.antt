@@ -1,0 +1,4 @@
+pub mod JoinedRows
+pub mod MovedRows
+pub mod RankedNames
+mod WorkedRows
