@@ -352,6 +352,23 @@ stack_named names rows all at ranks view lt is =
 pub ranked_at : (names : List (List ℕ)) (rows : List Ranked) (all : List Sample) (at : ℕ) → AllByRecursion (IsRankedStack names) rows → map (sample_of names) rows ≡ all → at < length all → IsRankedStack names (get_or rows at ([], 0))
 ranked_at names rows all at each view lt = All-from_recursion (IsRankedStack names) rows each at ([], 0) (omega (arith, ap length view, length-map rows (sample_of names)))
 
+pub seen_within : (names : List (List ℕ)) (rows : List Ranked) (all : List Sample) (at : ℕ) → map (sample_of names) rows ≡ all → at < length all → at < length rows
+seen_within names rows all at view lt = omega (arith, lt, ap length view, length-map rows (sample_of names))
+
+-- a frame lies among the ranks of its stack
+pub record IsRankedFrame (ranks : List ℕ) (frame : ℕ) : Type 0 where
+  pub inside : frame < length ranks
+  pub limit : length ranks ≤ FRAME_LIMIT
+
+pub ranked_deep : (names : List (List ℕ)) (rows : List Ranked) (all : List Sample) (at frame : ℕ) (ranks : List ℕ) → AllByRecursion (IsRankedStack names) rows → map (sample_of names) rows ≡ all → at < length all
+    → ranks ≡ (get_or rows at ([], 0)).0 → frame < length (sample_at all at).stack → IsRankedFrame ranks frame
+ranked_deep names rows all at frame ranks each view lt is deep =
+    let row = ranked_at names rows all at each view lt in
+    record {
+      inside = omega (arith, deep, ap length (stack_named names rows all at ranks view lt is), length-map ranks (name_at names));
+      limit = omega (arith, row.depth, ap length is);
+    }
+
 -- the name of a frame, by its rank
 pub record IsNamedFrame (names : List (List ℕ)) (all : List Sample) (at frame rank : ℕ) : Type 0 where
   pub name : name_at (sample_at all at).stack frame ≡ name_at names rank
@@ -361,7 +378,7 @@ pub named_frame : (names : List (List ℕ)) (rows : List Ranked) (all : List Sam
     → ranks ≡ (get_or rows at ([], 0)).0 → frame < length (sample_at all at).stack → IsNamedFrame names all at frame (get_or ranks frame 0)
 named_frame names rows all at frame ranks each view lt is deep =
     let stack : (sample_at all at).stack ≡ map (name_at names) ranks = stack_named names rows all at ranks view lt is in
-    let inside : frame < length ranks = omega (arith, deep, ap length stack, length-map ranks (name_at names)) in
+    let inside = (ranked_deep names rows all at frame ranks each view lt is deep).inside in
     record {
       name = ap (λ xs. name_at xs frame) stack ∙ get_or-map (name_at names) ranks frame 0 [] inside;
       below = subst (λ xs. All (λ rank. rank < length names) xs) (sym is) (ranked_at names rows all at each view lt).below frame 0 inside;

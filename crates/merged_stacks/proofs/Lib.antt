@@ -3,6 +3,8 @@ pub mod JoinedStacks
 pub mod KeptStacks
 pub mod LentStacks
 pub mod MergedRows
+mod SideSamples
+mod SweepSteps
 pub mod SweptRows
 pub mod Timelines
 mod WorkedStacks

@@ -255,7 +255,7 @@ pub pair_is : (names : List (List ℕ)) (lefts rights : List Ranked) (places : L
     → pair_at all at ≡ paired_of names (place_row lefts rights place)
 pair_is names lefts rights places all at place view lt is =
     let f = λ (p : Place). paired_of names (place_row lefts rights p) in
-    let within : at < length places = omega (arith, ap length view, length-map places (λ (p : Place). paired_of names (place_row lefts rights p))) in
+    let within : at < length places = omega (arith, lt, ap length view, length-map places (λ (p : Place). paired_of names (place_row lefts rights p))) in
     ap (λ xs. pair_at xs at) (sym view) ∙ get_or-map f places at place (record { stack = []; before = 0; after = 0 }) within ∙ ap f (sym is)
 
 -- ranks that lead to names, no more than a stack may have
@@ -273,6 +273,28 @@ place_fits names lefts rights a b (Before at) h = fit_at names lefts a at h
 place_fits names lefts rights a b (After at) h = fit_at names rights b at h
 place_fits names lefts rights a b (Both at other) h = fit_at names lefts a at h.0
 
+pub pairs_within : (names : List (List ℕ)) (lefts rights : List Ranked) (places : List Place) (all : List PairedStack) (at : ℕ) → map (λ p. paired_of names (place_row lefts rights p)) places ≡ all → at < length all → at < length places
+pairs_within names lefts rights places all at view lt = omega (arith, lt, ap length view, length-map places (λ (p : Place). paired_of names (place_row lefts rights p)))
+
+pub is_placed : (lefts rights : List Ranked) (places : List Place) (at : ℕ) (place : Place) → All (IsPlace lefts rights) places → at < length places → place ≡ get_or places at place → IsPlace lefts rights place
+is_placed lefts rights places at place within lt is = subst (IsPlace lefts rights) (sym is) (within at place lt)
+
+-- a frame lies among the ranks of its stack
+pub record IsDeep (ranks : List ℕ) (frame : ℕ) : Type 0 where
+  pub inside : frame < length ranks
+  pub limit : length ranks ≤ FRAME_LIMIT
+
+pub paired_deep : (names : List (List ℕ)) (lefts rights : List Ranked) (places : List Place) (all : List PairedStack) (at frame : ℕ) (place : Place) (ranks : List ℕ) → ArePaired names lefts rights places
+    → map (λ p. paired_of names (place_row lefts rights p)) places ≡ all → at < length all → place ≡ get_or places at place → ranks ≡ (place_row lefts rights place).0 → frame < length (pair_at all at).stack → IsDeep ranks frame
+paired_deep names lefts rights places all at frame place ranks are view lt is row deep =
+    let here = pair_is names lefts rights places all at place view lt is in
+    let placed = is_placed lefts rights places at place are.within (pairs_within names lefts rights places all at view lt) is in
+    let fits = place_fits names lefts rights are.before are.after place placed in
+    record {
+      inside = omega (arith, deep, ap (λ (pair : PairedStack). length pair.stack) here, length-map (place_row lefts rights place).0 (name_at names), ap length row);
+      limit = omega (arith, fits.depth, ap length row);
+    }
+
 -- the name of a frame, by its rank
 pub record IsPairedFrame (names : List (List ℕ)) (all : List PairedStack) (at frame rank : ℕ) : Type 0 where
   pub name : name_at (pair_at all at).stack frame ≡ name_at names rank
@@ -284,9 +306,8 @@ pub paired_frame : (names : List (List ℕ)) (lefts rights : List Ranked) (place
 paired_frame names lefts rights places all at frame place ranks are view lt is row deep =
     let here = pair_is names lefts rights places all at place view lt is in
     let stack : (pair_at all at).stack ≡ map (name_at names) ranks = ap (λ (pair : PairedStack). pair.stack) here ∙ ap (map (name_at names)) (sym row) in
-    let inside : frame < length ranks = omega (arith, deep, ap length stack, length-map ranks (name_at names)) in
-    let within : at < length places = omega (arith, lt, ap length view, length-map places (λ (p : Place). paired_of names (place_row lefts rights p))) in
-    let fits = place_fits names lefts rights are.before are.after place (subst (IsPlace lefts rights) (sym is) (are.within at place within)) in
+    let inside = (paired_deep names lefts rights places all at frame place ranks are view lt is row deep).inside in
+    let fits = place_fits names lefts rights are.before are.after place (is_placed lefts rights places at place are.within (pairs_within names lefts rights places all at view lt) is) in
     record {
       name = ap (λ xs. name_at xs frame) stack ∙ get_or-map (name_at names) ranks frame 0 [] inside;
       below = subst (λ xs. All (λ rank. rank < length names) xs) (sym row) fits.below frame 0 inside;

@@ -8,7 +8,7 @@ use std::alloc::{AllocError, Global};
 use std::cmp::Ordering;
 
 /// Where a stack stands: in the first list, in the second, or in both.
-#[derive(Clone, Copy, Debug)]
+#[derive(Clone, Copy)]
 pub(crate) enum Place {
     Before(usize),
     After(usize),

@@ -1,12 +1,13 @@
 -- Rows of ranks: as they are taken, sorted and joined.
 use Rattle.std.proofs.Common.{◌≡◌, ℕ, ◌+◌, ◌-◌, ◌<◌, ◌≤◌, List, [], ◌∷◌, ◌++◌, Bool, true, false, cond, nat_eq, length, get_or, map, drop, reverse, sum_by, refl, sym, ap, ◌∙◌, arith, length-append, length-drop, is_lt, suc, add-one}
+use Rattle.std.specs.Prelude.{Option, Some}
 use Rattle.std.specs.List.{slice_range}
 use Rattle.std.specs.Ordering.{nat_cmp, ordering_then}
 use Rattle.std.specs.Cmp.Lexicographic.{slice_cmp, pointwise}
 use Rattle.std.specs.declared.cmp.Ordering.{Ordering}
 use Rattle.std.specs.declared.cmp.Ordering.TheVariants.{Less, Equal, Greater}
-use Rattle.std.proofs.lemmas.List.{drop-append-le, take-append-le, map-append, reverse-append}
-use Rattle.std.proofs.lemmas.List.Elements.{All-head, All-tail}
+use Rattle.std.proofs.lemmas.List.{drop-append-le, take-append-le, map-append, reverse-append, map_push, drop_more}
+use Rattle.std.proofs.lemmas.List.Elements.{All-head, All-tail, All-pop, All-push, All-same}
 use Rattle.std.proofs.lemmas.List.Sums.{sum_by-cons, sum_by-drop_more, sum_by-take-drop}
 use Rattle.std.proofs.lemmas.List.Sorted.{IsPermutation-reverse, sum_by-IsPermutation}
 use Rattle.std.proofs.lemmas.Grind.{common_steps}
@@ -42,12 +43,51 @@ row_taken frames more now rows all start end weight h grown s e is =
     ∙ (λ i. rows-append frames more rows h i ++ (slice_range (frames ++ more) (s i) end, weight) ∷ [])
     ∙ ap (λ ranks. ranked_rows frames rows ++ (ranks, weight) ∷ []) (slice-seam frames more end far)
 
+pub within_grown : (frames more now : List ℕ) (rows : List RankedRow) → now ≡ frames ++ more → AreWithin frames rows → AreWithin now rows
+within_grown frames more now rows grown h = λ k d lt. ((h k d lt).0, omega (arith, (h k d lt).1, ap length grown, length-append frames more))
+
 -- ---- rows are joined
 
 pub map-reverse : {A B : Type 0} (f : A → B) (xs : List A) → map f (reverse xs) ≡ reverse (map f xs)
 map-reverse f [] = refl
 map-reverse f (x ∷ xs) =
     ap (map f) (reverse-append (x ∷ []) xs) ∙ map-append f (reverse xs) (x ∷ []) ∙ ap (λ ys. ys ++ f x ∷ []) (map-reverse f xs) ∙ sym (reverse-append (f x ∷ []) (map f xs))
+
+reverse-push : (frames : List ℕ) (rows : List RankedRow) (row : RankedRow) → reverse (ranked_rows frames (rows ++ row ∷ [])) ≡ ranked_row frames row ∷ reverse (ranked_rows frames rows)
+reverse-push frames rows row = ap reverse (map_push (ranked_row frames) rows row) ∙ reverse-append (ranked_rows frames rows) (ranked_row frames row ∷ [])
+
+-- a row of the same ranks as the last one, which it is added to
+pub put_in : (frames ranks : List ℕ) (weight : ℕ) (old rows new : List RankedRow) (next : RankedRow) → old ≡ rows ++ next ∷ [] → new ≡ rows ++ record { start = next.start; end = next.end; weight = next.weight + weight } ∷ []
+    → pointwise nat_eq (ranked_row frames next).0 ranks ≡ true → reverse (ranked_rows frames new) ≡ join_front (ranks, weight) (reverse (ranked_rows frames old))
+put_in frames ranks weight old rows new next was is same =
+    let first = ranked_row frames next in
+    let rest = reverse (ranked_rows frames rows) in
+    ap (λ all. reverse (ranked_rows frames all)) is ∙ reverse-push frames rows (record { start = next.start; end = next.end; weight = next.weight + weight })
+    ∙ ap (λ b. cond b ((first.0, first.1 + weight) ∷ rest) ((ranks, weight) ∷ first ∷ rest)) (sym same)
+    ∙ ap (join_front (ranks, weight)) (sym (ap (λ all. reverse (ranked_rows frames all)) was ∙ reverse-push frames rows next))
+
+pub put_in-within : (frames : List ℕ) (weight : ℕ) (old rows new : List RankedRow) (next : RankedRow) → old ≡ rows ++ next ∷ [] → new ≡ rows ++ record { start = next.start; end = next.end; weight = weight } ∷ [] → AreWithin frames old → AreWithin frames new
+put_in-within frames weight old rows new next was is h =
+    let P = λ (row : RankedRow). (row.start ≤ row.end) × (row.end ≤ length frames) in
+    let before = All-pop P old rows (Some next) was h in
+    All-same P new _ is (All-push P rows (record { start = next.start; end = next.end; weight = weight }) before.0 before.1)
+
+-- a row of other ranks
+pub put_apart : (frames ranks : List ℕ) (start end weight : ℕ) (old rows between new : List RankedRow) (next : RankedRow) → old ≡ rows ++ next ∷ [] → between ≡ rows ++ next ∷ [] → new ≡ between ++ record { start = start; end = end; weight = weight } ∷ []
+    → ranks ≡ slice_range frames start end → pointwise nat_eq (ranked_row frames next).0 ranks ≡ false → reverse (ranked_rows frames new) ≡ join_front (ranks, weight) (reverse (ranked_rows frames old))
+put_apart frames ranks start end weight old rows between new next was back is lies apart =
+    let first = ranked_row frames next in
+    let rest = reverse (ranked_rows frames rows) in
+    let behind : reverse (ranked_rows frames between) ≡ first ∷ rest = ap (λ all. reverse (ranked_rows frames all)) back ∙ reverse-push frames rows next in
+    ap (λ all. reverse (ranked_rows frames all)) is ∙ reverse-push frames between (record { start = start; end = end; weight = weight })
+    ∙ (λ i. (sym lies i, weight) ∷ behind i)
+    ∙ ap (λ b. cond b ((first.0, first.1 + weight) ∷ rest) ((ranks, weight) ∷ first ∷ rest)) (sym apart)
+    ∙ ap (join_front (ranks, weight)) (sym (ap (λ all. reverse (ranked_rows frames all)) was ∙ reverse-push frames rows next))
+
+-- one entry more
+pub joined-more : (entries : List Entry) (i j : ℕ) (d : Entry) (rows : List Ranked) → i ≡ j + 1 → j < length entries → rows ≡ joined (map ranked_entry (drop i entries)) → join_front (ranked_entry (get_or entries j d)) rows ≡ joined (map ranked_entry (drop j entries))
+joined-more entries i j d rows next lt is =
+    ap (join_front (ranked_entry (get_or entries j d))) (is ∙ ap (λ k. joined (map ranked_entry (drop k entries))) next) ∙ ap (λ all. joined (map ranked_entry all)) (sym (drop_more entries j d lt))
 
 abbrev weight_of : Ranked → ℕ
 weight_of row = row.1

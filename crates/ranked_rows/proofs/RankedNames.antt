@@ -9,12 +9,13 @@ use Rattle.std.specs.FinMap.{slice_cmp-IsAntisymmetric, nat_cmp-IsAntisymmetric}
 use Rattle.std.proofs.lemmas.Cmp.{nat_list_cmp_total}
 use Rattle.std.proofs.lemmas.List.{length-append, get_or_append_left, get_or_push, length_push}
 use Rattle.sample_tables.specs.Rows.{name_at}
-use Rattle.std.proofs.lemmas.List.{map_push, take_more, append_assoc, length-map}
+use Rattle.std.proofs.lemmas.List.{map_push, flat_map_more, take_more, append_assoc, length-map}
 use Rattle.std.proofs.lemmas.List.FromFn.{length-enumerate_from, get_or-enumerate_from}
 use Rattle.std.proofs.lemmas.List.Sorted.{IsPermutation-sym, Contains-permutation, length_permutation}
 use Rattle.std.proofs.lemmas.List.{get_or-set_same, get_or-set_other, same_lists, get_or-map, get_or_default}
 use Rattle.std.proofs.lemmas.Bool.{cases_eq}
-use Rattle.ranked_rows.specs.Ranks.{AreRising, AreRanks}
+use Rattle.stack_core.specs.Ledgers.{ListState}
+use Rattle.ranked_rows.specs.Ranks.{AreRising, AreRanks, all_told}
 use Rattle.ranked_rows.specs.checked.Names.{NameAt, placed_name, AreSorted}
 
 -- a name behind the names, by its bytes
@@ -160,3 +161,7 @@ module _ (names : List (List ℕ)) (told sorted : List NameAt) (placed : map pla
         (moved.0, moved.1, ap (λ (x : NameAt). x.1) (get_or_default sorted moved.0 d e moved.1 ∙ moved.2) ∙ ap (λ (x : ℕ × List ℕ). x.0) (told_at k d inside));
     ordered = λ i d lt. first_not_less _ _ (up i d (omega arith) lt);
   }
+
+pub all_told-push : (lists : List ListState) (i : ℕ) (list : ListState) → i < length lists → list ≡ get_or lists i list → all_told (take i lists) ++ list.told ≡ all_told (take (i + 1) lists)
+all_told-push lists i list lt is =
+    flat_map_more (λ (l : ListState). l.told) [] (take i lists) list ∙ ap (λ (l : ListState). all_told (take i lists ++ l ∷ [])) is ∙ ap all_told (sym (take_more lists i list lt))

@@ -2,7 +2,7 @@ use Rattle.std.proofs.Common.{◌≡◌, ◌∙◌, ◌++◌, arith, string_byte
 use Rattle.std.specs.Ordering.{nat_cmp}
 use Rattle.std.specs.Cmp.Lexicographic.{slice_cmp}
 use Rattle.sample_tables.specs.Rows.{name_at}
-use Rattle.std.proofs.lemmas.List.{map_push, length-map}
+use Rattle.std.proofs.lemmas.List.{map_push, length-map, get_or_push}
 use Rattle.ranked_rows.specs.Ranks.{AreRising}
 use Rattle.ranked_rows.proofs.RankedNames.{rising_push}
 use Rattle.ranked_rows.proofs.name_ranks.rank_next.Goals as goal
@@ -23,3 +23,9 @@ returns-clause-rising c =
 
 pub returns-clause-grows : goal.returns-clause-grows
 returns-clause-grows c = (c.args.name.now ∷ [], pushed c)
+
+pub returns-clause-name : goal.returns-clause-name
+returns-clause-name c =
+    let names : List (List ℕ) = map string_bytes c.args.names.now.items in
+    let last : length names ≡ c.in_ok-rank.rank = omega (arith, length-map c.args.names.now.items string_bytes, c.in_ok-rank.ensures, c.len-2.ensures, c.args.names.now.ok.0) in
+    ap (λ all. name_at all c.in_ok-rank.rank) (pushed c) ∙ get_or_push names c.args.name.now [] c.in_ok-rank.rank last
