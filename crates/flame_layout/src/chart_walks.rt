@@ -17,7 +17,7 @@ use stack_core::{FRAME_LIMIT, SourceList};
 use std::alloc::{AllocError, Global};
 
 /// Where a run ends that goes on at the front of what was walked. Its name is that of the sample at the front.
-#[derive(Clone, Copy, Debug)]
+#[derive(Clone, Copy)]
 pub(crate) struct OpenEnd {
     pub(crate) end: u64,
     /// The weights of its samples that end in this frame.

@@ -1,6 +1,7 @@
-use Rattle.std.proofs.Common.{◌≡◌, ◌<◌, ◌+◌, ◌-◌, List, ◌∙◌, sym, ap, length, drop, map, reverse, get_or, ◌++◌, ◌∷◌, [], arith, refl, subst}
+use Rattle.std.proofs.Common.{◌≡◌, ◌<◌, ◌≤◌, ◌+◌, ◌-◌, List, ◌∙◌, sym, ap, length, drop, map, reverse, get_or, ◌++◌, ◌∷◌, [], arith, refl, subst}
 use Rattle.std.proofs.lemmas.List.{take_all, drop_all, append-nil, length-map, length_push, append_assoc}
 use Rattle.stack_core.specs.Ledgers.{ListState}
+use Rattle.flame_layout.specs.declared.chart_walks.OpenEnd.{OpenEnd}
 use Rattle.flame_layout.specs.declared.walks.OpenRun.{OpenRun}
 use Rattle.flame_layout.specs.checked.Walk.{seen, box_of_run, boxes_of_runs}
 use Rattle.flame_layout.specs.checked.ChartRuns.{IsThere, RunsState, span_from, stack_at}
@@ -31,6 +32,15 @@ push-requires-clause-deep c =
     let same : length (stack_at c.each.chart.lists c.args.front.now) ≡ length (stack_at c.args.chart.now.lists c.args.front.now) = ap (λ (lists : List ListState). length (stack_at lists c.args.front.now)) c.each.invariant.lists in
     let longer : length c.each.ends.items ≡ length c.pop.new.self.items + 1 = ap length c.in-Some.ensures.items ∙ length_push c.pop.new.self.items c.in-Some.going in
     omega (arith, same, longer, c.len-depth.ensures, c.pop.new.self.ok.0, c.each.invariant.few, c.requires.deep)
+
+pub overflow_sub-going : goal.overflow_sub-going
+overflow_sub-going c =
+    let all = c.args.ends.now.items in
+    let new = c.pop.new.self.items in
+    let going = c.in-Some.going in
+    let longer : length c.each.ends.items ≡ length new + 1 = ap length c.in-Some.ensures.items ∙ length_push new going in
+    let is : get_or all (length new) no_end ≡ going = popped_run all c.each.ends.items new going no_end c.each.invariant.ends c.in-Some.ensures.items in
+    subst (λ (ending : OpenEnd). c.args.front.now.start ≤ ending.end) is (c.requires.begun (length new) no_end (omega (arith, longer, c.each.invariant.few)))
 
 pub each-preserved : goal.each-preserved
 each-preserved c =

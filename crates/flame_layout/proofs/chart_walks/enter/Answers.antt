@@ -11,6 +11,12 @@ use Rattle.flame_layout.specs.checked.ChartWalks.{named_runs}
 use Rattle.flame_layout.proofs.ChartFronts.{chart-entered, entry-length, entry-room, samples-are}
 use Rattle.flame_layout.proofs.chart_walks.enter.Goals as goal
 
+pub depth-depth-requires : goal.depth-depth-requires
+depth-depth-requires c = omega (arith, c.requires.at, ap length (samples-are c.args.walk.now.chart.lists c.lists-lists.result.now c.args.list c.index-lists-list.result (c.lists-lists.ensures ∙ c.in_ok-close_front.ensures.lists) c.requires.list c.index-lists-list.is))
+
+pub weight-weight-requires : goal.weight-weight-requires
+weight-weight-requires c = omega (arith, c.requires.at, ap length (samples-are c.args.walk.now.chart.lists c.lists-lists.result.now c.args.list c.index-lists-list-2.result (c.lists-lists.ensures ∙ c.in_ok-close_front.ensures.lists) c.requires.list c.index-lists-list-2.is))
+
 pub open_ends-requires : goal.open_ends-requires
 open_ends-requires c =
     let lists = c.args.walk.now.chart.lists in
@@ -42,6 +48,12 @@ with_weight-last-requires-clause-room c =
     let is = c.in_ok-open_ends.ensures p.stack ∙ ap (λ n. map seen (named_runs p.stack mid) ++ map (new_run p.stack c.args.start) (range_with_len (length mid) (n + 1 - length mid))) deep in
     let read : get_or c.open_ends.new.ends.items (length p.stack) last ≡ last = ap (λ n. get_or c.open_ends.new.ends.items n last) (sym deep) ∙ sym c.index_mut-last.ensures.value in
     entry-room c.args.start walk c.requires.walked.0 p mid c.open_ends.new.ends.items last c.requires.walked.1 c.in_ok-close_front.ensures.count c.in_ok-close_front.ensures.kept is read
+
+pub with_weight-last-requires-clause-before : goal.with_weight-last-requires-clause-before
+with_weight-last-requires-clause-before c = omega (arith, c.requires.room, c.weight-weight.ensures.value, ap (λ xs. (sample_at xs c.args.at).weight) (samples-are c.args.walk.now.chart.lists c.lists-lists.result.now c.args.list c.index-lists-list-2.result (c.lists-lists.ensures ∙ c.in_ok-close_front.ensures.lists) c.requires.list c.index-lists-list-2.is))
+
+pub overflow_sub-start : goal.overflow_sub-start
+overflow_sub-start c = omega (arith, c.requires.room, c.weight-weight.ensures.value, ap (λ xs. (sample_at xs c.args.at).weight) (samples-are c.args.walk.now.chart.lists c.lists-lists.result.now c.args.list c.index-lists-list-2.result (c.lists-lists.ensures ∙ c.in_ok-close_front.ensures.lists) c.requires.list c.index-lists-list-2.is))
 
 pub returns-clause-walked : goal.returns-clause-walked
 returns-clause-walked c before rest e w =

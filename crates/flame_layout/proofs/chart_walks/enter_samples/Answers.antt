@@ -1,13 +1,32 @@
-use Rattle.std.proofs.Common.{◌≡◌, ◌+◌, ◌-◌, ◌<◌, ◌≤◌, ◌++◌, ◌∷◌, ◌∙◌, sym, ap, arith, drop, length, subst, List}
+use Rattle.std.proofs.Common.{◌≡◌, ◌+◌, ◌-◌, ◌<◌, ◌≤◌, ◌++◌, ◌∷◌, ◌∙◌, sym, ap, arith, drop, length, subst, refl, [], List}
+use Rattle.std.proofs.lemmas.List.{drop_all}
 use Rattle.sample_tables.specs.declared.samples.Sample.{Sample}
 use Rattle.sample_tables.specs.Rows.{sample_at}
 use Rattle.stack_core.specs.Interleaving.{list_of}
 use Rattle.stack_core.specs.Ledgers.{ListState}
-use Rattle.merged_stacks.specs.Timeline.{drawn, samples_of}
-use Rattle.merged_stacks.proofs.Timelines.{no_sample, total_weight-drop, total_weight-drop_le, drawn-drop_yes}
+use Rattle.merged_stacks.specs.Timeline.{drawn, samples_of, total_weight}
+use Rattle.merged_stacks.proofs.Timelines.{no_sample, total_weight-drop, total_weight-drop_le, drawn-drop_yes, drawn-drop_no}
 use Rattle.flame_layout.specs.checked.ChartWalks.{IsChartWalk}
 use Rattle.flame_layout.proofs.ChartFronts.{samples-are}
 use Rattle.flame_layout.proofs.chart_walks.enter_samples.Goals as goal
+
+pub loop-at-init : goal.loop-at-init
+loop-at-init c =
+    let lists = c.args.walk.now.chart.lists in
+    let samples = list_of (samples_of lists) c.args.list in
+    let are = samples-are lists c.lists.result.now c.args.list c.index-lists-list.result c.lists.ensures c.requires.list c.index-lists-list.is in
+    let none : drop c.len-at.result samples ≡ [] = drop_all c.len-at.result samples (omega (arith, c.len-at.ensures.count, ap length are)) in
+    record {
+      lists = refl;
+      start = ap (λ xs. c.args.end + total_weight xs) none ∙ omega arith;
+      walked = λ rest w. subst (λ (xs : List Sample). IsChartWalk c.args.end c.args.walk.now (drawn xs ++ rest)) (sym none) w;
+    }
+
+pub enter-requires-clause-at : goal.enter-requires-clause-at
+enter-requires-clause-at c =
+    let lists = c.args.walk.now.chart.lists in
+    let are = samples-are lists c.lists.result.now c.args.list c.index-lists-list.result c.lists.ensures c.requires.list c.index-lists-list.is in
+    omega (arith, c.len-at.ensures.count, ap length are, ap (λ (ls : List ListState). length (list_of (samples_of ls) c.args.list)) c.loop-at.invariant.lists, c.loop-at.auto.at, c.loop-at-test.true)
 
 pub enter-requires-clause-room : goal.enter-requires-clause-room
 enter-requires-clause-room c =
@@ -49,4 +68,20 @@ loop-at-preserved-then-weight-gt0 c =
           subst (λ (xs : List Sample). IsChartWalk (c.loop-at.start - c.weight-weight.result) c.enter.new.walk (xs ++ rest)) (sym first)
           (subst (λ (p : Sample). IsChartWalk (c.loop-at.start - c.weight-weight.result) c.enter.new.walk (p ∷ (drawn (drop c.loop-at.at samples) ++ rest))) same
           (c.in_ok-enter.ensures.walked (c.loop-at.start - c.weight-weight.result) (drawn (drop c.loop-at.at samples) ++ rest) before (c.loop-at.invariant.walked rest w)));
+    }
+
+pub loop-at-preserved : goal.loop-at-preserved
+loop-at-preserved c =
+    let lists = c.args.walk.now.chart.lists in
+    let samples = list_of (samples_of lists) c.args.list in
+    let i = c.loop-at.at - 1 in
+    let are = samples-are lists c.lists.result.now c.args.list c.index-lists-list.result c.lists.ensures c.requires.list c.index-lists-list.is in
+    let within : i < length samples = omega (arith, c.len-at.ensures.count, ap length are) in
+    let next : c.loop-at.at ≡ i + 1 = omega arith in
+    let none : (sample_at samples i).weight ≡ 0 = omega (arith, c.if-weight-gt0.false, c.weight-weight.ensures.value, ap (λ (xs : List Sample). (sample_at xs i).weight) are) in
+    record {
+      lists = c.loop-at.invariant.lists;
+      start = omega (arith, total_weight-drop samples i c.loop-at.at no_sample next within, none, c.loop-at.invariant.start);
+      walked = λ rest w.
+          subst (λ (xs : List Sample). IsChartWalk c.loop-at.start c.loop-at.walk (xs ++ rest)) (sym (drawn-drop_no samples i c.loop-at.at no_sample next within none)) (c.loop-at.invariant.walked rest w);
     }

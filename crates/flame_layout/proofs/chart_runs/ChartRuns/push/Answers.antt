@@ -6,6 +6,14 @@ use Rattle.flame_layout.specs.checked.ChartRuns.{IsRun, IsThere, RunsState, span
 use Rattle.flame_layout.proofs.KeptRuns.{runs_stay, spans_stay}
 use Rattle.flame_layout.proofs.chart_runs.ChartRuns.push.Goals as goal
 
+pub invariant_of-self : goal.invariant_of-self
+invariant_of-self c = subst (λ s. All (IsRun c.self.inside.lists.now s) c.self.inside.runs.items) (sym c.number_of.ensures.more.1) (runs_stay c.self.inside.lists.now c.self.inside.starts.items c.number_of.ensures.more.0 c.self.inside.runs.items c.self.invariant)
+
+pub invariant_of-self-in_err-push : goal.invariant_of-self-in_err-push
+invariant_of-self-in_err-push c =
+    All-same (IsRun c.self.inside.lists.now c.number_of.new.starts.items) c.push.new.self.items c.self.inside.runs.items c.in_err-push.ensures.items
+    (subst (λ s. All (IsRun c.self.inside.lists.now s) c.self.inside.runs.items) (sym c.number_of.ensures.more.1) (runs_stay c.self.inside.lists.now c.self.inside.starts.items c.number_of.ensures.more.0 c.self.inside.runs.items c.self.invariant))
+
 pub invariant_of-self-2 : goal.invariant_of-self-2
 invariant_of-self-2 c =
     let lists = c.self.inside.lists.now in
