@@ -2,6 +2,7 @@
 use Rattle.std.proofs.Common.{◌≡◌, ◌∙◌, ◌<◌, ◌≤◌, ◌+◌, ◌||◌, ◌&&◌, ℕ, zero, suc, Bool, true, false, cond, not, refl, sym, ap, subst, arith, List, [], ◌∷◌, ◌++◌, length, take, map, get_or, All}
 use Rattle.std.specs.List.{filter, list_any}
 use Rattle.std.specs.Prelude.{Option, Some, None, nat_eq}
+use Rattle.std.proofs.lemmas.Bool.Decides.{nat_tests}
 use Rattle.std.proofs.lemmas.List.{map_push, get_or-map, take_all, take_more, length-map, map-append}
 use Rattle.std.proofs.lemmas.List.Elements.{All-head, All-tail, All-map, filter-append, filter_more}
 use Rattle.std.proofs.lemmas.Simd.{map-map}
@@ -47,6 +48,11 @@ pub any_marked : (texts told : List (List ℕ)) (frames : List ℕ) → All (λ 
 any_marked texts told [] h = refl
 any_marked texts told (k ∷ frames) h =
     λ i. marked texts told k (All-head (λ k. k < length told) k frames h) i || any_marked texts told frames (All-tail (λ k. k < length told) k frames h) i
+
+-- nothing is shown where there is nothing
+pub none_shown : {X : Type 0} (show : X → List ℕ) (items : List X) (texts : List (List ℕ)) → map show items ≡ texts → nat_eq (length items) 0 ≡ is_none texts
+none_shown show [] texts same = ap is_none same
+none_shown show (item ∷ items) texts same = let some : nat_eq (length (item ∷ items)) 0 ≡ false = grind (arith, nat_tests) in some ∙ ap is_none same
 
 not_not : (b : Bool) → not (not b) ≡ b
 not_not true = refl

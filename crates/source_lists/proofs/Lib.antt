@@ -1,4 +1,5 @@
 pub mod BackLemmas
+mod FaultLemmas
 mod FilteredSources
 pub mod JoinLemmas
 mod KeptLemmas

@@ -5,28 +5,21 @@ ghost use Rattle.sample_tables.specs.Rows.{sample_at};
 ghost use Rattle.ring_collect.specs.Collection.{seen_as_rest};
 ghost use Rattle.run_options.specs.Filters.{kept_rest, kept_samples};
 ghost use Rattle.run_options.specs.declared.filters.Filter.{Filter as Asked};
-ghost use Rattle.source_lists.specs.checked.KeptStacks.{all_are_kept, are_kept};
+ghost use Rattle.source_lists.specs.checked.KeptStacks.{all_are_kept, are_kept, begun};
 
 use crate::kept_stacks::is_kept;
 use stack_core::{Close, Ledger, SourceList, Text};
 use std::alloc::{AllocError, Global};
 
-/// A ledger that was told the names of the list, and nothing else.
-fn ledger_of_names(alloc: Global, list: &SourceList) -> Result<Ledger, AllocError>
-    ensures { IfOk result (λ ledger. ledger ≡ record {
-      samples = [];
-      close = None;
-      told = list.now.told;
-      rows = [];
-      stacks = [];
-      entries = [];
-    }) }
+/// Tells an empty ledger the names of the list.
+fn tell_names(alloc: Global, ledger: &mut Ledger, list: &SourceList) -> Result<(), AllocError>
+    requires { ledger.old ≡ begun [] [] }
+    ensures { OnOk result (ledger.new ≡ begun list.now.told []) }
 {
-    let mut ledger = Ledger::new(alloc);
     for number in 0..list.told() {
         ledger.tell(Text::from_str(alloc, list.told_name(number))?)?;
     }
-    Ok(ledger)
+    Ok(())
 }
 
 /// The numbers of a stack, as a ledger takes them.
@@ -40,21 +33,24 @@ fn numbers_of(alloc: Global, stack: &[u32]) -> Result<Vec<usize>, AllocError>
     Ok(numbers)
 }
 
-/// The same with the stacks of the list.
-fn ledger_of_stacks(alloc: Global, list: &SourceList) -> Result<Ledger, AllocError>
-    ensures { IfOk result (λ ledger. ledger ≡ record {
-      samples = [];
-      close = None;
-      told = list.now.told;
-      rows = [];
-      stacks = list.now.stacks;
-      entries = [];
-    }) }
+/// Keeps the stacks of the list in a ledger that was told its names alone.
+fn keep_stacks(alloc: Global, ledger: &mut Ledger, list: &SourceList) -> Result<(), AllocError>
+    requires { ledger.old ≡ begun list.now.told [] }
+    ensures { OnOk result (ledger.new ≡ begun list.now.told list.now.stacks) }
 {
-    let mut ledger = ledger_of_names(alloc, list)?;
     for number in 0..list.stack_count() {
         ledger.keep(&numbers_of(alloc, list.stack(number))?)?;
     }
+    Ok(())
+}
+
+/// A ledger with the names and the stacks of the list, and without samples.
+fn ledger_of(alloc: Global, list: &SourceList) -> Result<Ledger, AllocError>
+    ensures { IfOk result (λ ledger. ledger ≡ begun list.now.told list.now.stacks) }
+{
+    let mut ledger = Ledger::new(alloc);
+    tell_names(alloc, &mut ledger, list)?;
+    keep_stacks(alloc, &mut ledger, list)?;
     Ok(ledger)
 }
 
@@ -87,7 +83,7 @@ fn kept_list(alloc: Global, list: &SourceList, kept: &[bool]) -> Result<SourceLi
     ensures { IfOk result (λ left. (asked : Asked) → kept.now ≡ are_kept asked list.now
         → seen_as_rest left ≡ kept_rest asked (seen_as_rest list.now)) }
 {
-    let mut ledger = ledger_of_stacks(alloc, list)?;
+    let mut ledger = ledger_of(alloc, list)?;
     for at in 0..list.len() {
         take_if_kept(&mut ledger, list, kept, at)?;
     }

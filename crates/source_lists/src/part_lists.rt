@@ -92,6 +92,25 @@ fn take_list(
     take_samples(ledger, list, &stacks)
 }
 
+/// Takes all samples of lists, one list after another, into a ledger that has none.
+fn take_lists(
+    alloc: Global,
+    ledger: &mut Ledger,
+    known: &mut Known,
+    lists: Vec<SourceList>,
+) -> Result<(), AllocError>
+    requires open { ledger.old.close ≡ None }
+    requires none { ledger.old.samples ≡ [] }
+    ensures open { OnOk result (ledger.new.close ≡ None) }
+    ensures samples { OnOk result
+        (ledger.new.samples ≡ samples_of_parts (map seen_as_rest lists.items)) }
+{
+    for list in lists {
+        take_list(alloc, ledger, known, &list)?;
+    }
+    Ok(())
+}
+
 /// The lists of the parts of a source as one, where they ignored so many lines. Names and stacks of several parts are
 /// kept once, as far as they are known again.
 pub(crate) fn joined_list(
@@ -104,9 +123,7 @@ pub(crate) fn joined_list(
 {
     let mut known = Known::with_room(alloc, &parts)?;
     let mut ledger = Ledger::new(alloc);
-    for part in parts {
-        take_list(alloc, &mut ledger, &mut known, &part)?;
-    }
+    take_lists(alloc, &mut ledger, &mut known, parts)?;
     ledger.close(Close::Read(SourceEnd::Clean { ignored }));
     Ok(ledger.into_list())
 }

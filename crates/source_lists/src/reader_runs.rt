@@ -12,7 +12,7 @@ use crate::filtered_reader::FilteredReader;
 use crate::source_reader::SourceReader;
 use ring_collect::{CollectFault, Collected, collect, collect_rows};
 use run_options::RingSize;
-use stack_core::{Gate, RowSink, Sink};
+use stack_core::{Gate, NoSink, RowSink, Sink};
 use std::alloc::Global;
 use std::sync::{Arc, Wait};
 use std::thread::Threads;
@@ -49,6 +49,33 @@ pub(crate) fn run_rows<
     ensures setting { S.setting sink.new ≡ S.setting sink.old }
 {
     collect_rows(rt, alloc, readers, ring, gate, sink)
+}
+
+/// Collects what the readers tell, by rows, where nothing looks on.
+pub(crate) fn run_unseen<
+    T: Threads + Wait + Copy + Send + 'static,
+    G: Gate + Send + Sync + Drop + 'static,
+>(
+    rt: &T,
+    alloc: Global,
+    readers: Vec<SourceReader>,
+    ring: RingSize,
+    gate: Arc<G>,
+) -> Result<Collected, CollectFault>
+    requires few { length readers.items ≤ 64 }
+    requires told { All (λ reader. reader_told reader ≡ record { names = []; stacks = [] })
+        readers.items }
+    ensures lists { IfOk result (λ run.
+        Collects (G.may_stop (arc_value gate)) (G.may_go (arc_value gate))
+        (map reader_rest readers.items) run.lists.items) }
+    ensures whole { ((source index : ℕ) → G.may_stop (arc_value gate) source index → ⊥)
+        → IfOk result (λ run. AreWhole (map reader_rest readers.items) run.lists.items) }
+    ensures order { IfOk result (λ run.
+        IsInterleaving run.order.items (samples_of run.lists.items)) }
+    ensures unfinished { (source : ℕ) → IsErrOf result (CollectFault.Unfinished source)
+        → source < length readers.items }
+{
+    run_rows(rt, alloc, readers, ring, gate, &mut NoSink::new())
 }
 
 /// Collects the samples of the readers, and feeds the sink.

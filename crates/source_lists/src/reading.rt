@@ -8,14 +8,14 @@ ghost use Rattle.merged_stacks.specs.Timeline.{samples_of};
 ghost use Rattle.run_options.specs.Filters.{is_everything};
 ghost use Rattle.source_lists.specs.Sources.{rests_of};
 
-use crate::reader_runs::{run_readers, run_rows};
+use crate::reader_runs::{run_readers, run_unseen};
 use crate::source_lists::SourceLists;
 use crate::source_readers::{filtered_readers_of, readers_of};
 use crate::sources::Source;
 use crate::unkept_samples::UnkeptSamples;
 use ring_collect::CollectFault;
 use run_options::Options;
-use stack_core::{Gate, NoSink, Sink};
+use stack_core::{Gate, Sink};
 use std::alloc::Global;
 use std::sync::{Arc, Wait};
 use std::thread::Threads;
@@ -40,7 +40,7 @@ fn read_rows<T: Threads + Wait + Copy + Send + 'static, G: Gate + Send + Sync + 
         → source < length sources.items }
 {
     let readers = readers_of(alloc, sources, options)?;
-    let run = run_rows(rt, alloc, readers, options.ring, gate, &mut NoSink::new())?;
+    let run = run_unseen(rt, alloc, readers, options.ring, gate)?;
     Ok(SourceLists::of(run))
 }
 
