@@ -1,5 +1,5 @@
--- What a run that failed says of a source that is unfinished.
-use Rattle.std.proofs.Common.{◌≡◌, ◌<◌, ◌≤◌, ℕ, List, [], ◌∷◌, ap, arith, length, map, Ok, Err, IsErrAnd, IsErrOf, Result}
+-- What a run says of a source that is unfinished.
+use Rattle.std.proofs.Common.{◌≡◌, ◌<◌, ℕ, List, [], ◌∷◌, ap, arith, length, map, Ok, Err, IsErrAnd, IsErrOf, Result}
 use Rattle.std.proofs.lemmas.Result.{err_from_is_err_and}
 use Rattle.std.proofs.lemmas.List.{length-map}
 use Rattle.stack_core.specs.Reading.{Rest}
@@ -22,10 +22,6 @@ handed_on run result fault source failed handed unfinished =
     let other = err_from_is_err_and result handed in
     cc (other.1, other.2)
 
--- ---- a reader that is alone
-
-pub few_lone : {X : Type 0} (rest : X → Rest) (readers : List X) (whole : Rest) → map rest readers ≡ whole ∷ [] → length readers ≤ 64
-few_lone rest readers whole rests = omega (arith, length-map readers rest, ap length rests)
-
+-- the source of a reader that is alone
 pub first_of_lone : {X : Type 0} (rest : X → Rest) (readers : List X) (whole : Rest) → map rest readers ≡ whole ∷ [] → (source : ℕ) → source < length readers → source < 1
 first_of_lone rest readers whole rests source below = omega (arith, below, length-map readers rest, ap length rests)

@@ -1,10 +1,7 @@
 use Rattle.std.proofs.lemmas.Result.{IfOk-from_err}
 use Rattle.source_lists.specs.checked.Readers.{reader_rest}
-use Rattle.source_lists.proofs.FaultLemmas.{few_lone, first_of_lone, handed_on, refused_memory}
+use Rattle.source_lists.proofs.FaultLemmas.{first_of_lone, handed_on, refused_memory}
 use Rattle.source_lists.proofs.part_runs.read_alone.Goals as goal
-
-pub run_unseen-requires-clause-few : goal.run_unseen-requires-clause-few
-run_unseen-requires-clause-few g c = λ _ _. few_lone reader_rest _ _ c.in_ok-readers.ensures.rests
 
 pub run_unseen-requires-clause-told : goal.run_unseen-requires-clause-told
 run_unseen-requires-clause-told g c = λ _ _. c.in_ok-readers.ensures.told
