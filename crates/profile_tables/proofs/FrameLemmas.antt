@@ -1,11 +1,15 @@
 -- The frames of a location, as they are lent and named.
 use Rattle.std.proofs.Common.{◌≡◌, [], ◌∷◌, ◌++◌, ℕ, ◌-◌, ◌+◌, ◌<◌, ◌≤◌, List, length, Option, Some, None, refl, sym, ◌∙◌, ap, subst, take, drop, get_or, map, reverse}
 use Rattle.std.specs.Prelude.{◌⊎◌, option_map, unwrap_or, slice_range, String, string_bytes}
+use Rattle.std.specs.Option.{option_and_then}
+use Rattle.std.specs.List.{slice_get}
 use Rattle.std.specs.declared.alloc.Global.{Global}
 use Rattle.std.specs.Slice.{IsGetRangeResult}
 use Rattle.std.specs.Borrow.{Bor}
 use Rattle.std.proofs.lemmas.List.{append_assoc, reverse-append, take-map, drop-map, take_more, length-map}
+use Rattle.std.proofs.lemmas.Option.{slice_get_past, slice_get_read}
 use Rattle.profile_messages.specs.declared.messages.Span.{Span}
+use Rattle.profile_messages.specs.SeenIndex.{place_in}
 use Rattle.profile_messages.specs.SeenProfile.{items_in}
 use Rattle.profile_messages.proofs.ItemLemmas.{map-push}
 use Rattle.profile_messages.proofs.SpanLemmas.{part-by, no_part-by, within, outside, items-at}
@@ -42,6 +46,30 @@ lends-span frames id all span lent place all_is is = lends frames id lent
     ∙ ap (option_map reverse) (sym (items-at (all_texts frames) span place.0 place.1))
     ∙ ap (λ list. option_map reverse (items_in (map (text_in frames) list) span)) (sym all_is)
     ∙ ap (option_map reverse) (lent-texts (text_in frames) all span lent is))
+
+-- the frames at the place of a location, where it has one
+pub at-place : (frames : Frames) (id place : ℕ) (spans : List Span) (span : Span) → spans ≡ frames.spans.items → Some place ≡ place_in frames.locations id → place < length spans → span ≡ get_or spans place span → frames_at frames id ≡ option_map reverse (texts_in frames span)
+at-place frames id place spans span spans_are placed lt is =
+    ap (λ at. option_map reverse (option_and_then (texts_in frames) (option_and_then (slice_get frames.spans.items) at))) (sym placed)
+    ∙ ap (λ list. option_map reverse (option_and_then (texts_in frames) (slice_get list place))) (sym spans_are)
+    ∙ ap (λ found. option_map reverse (option_and_then (texts_in frames) found)) (slice_get_read spans (length spans) place span refl lt is)
+
+pub past-places : (frames : Frames) (id place : ℕ) (spans : List Span) → spans ≡ frames.spans.items → Some place ≡ place_in frames.locations id → length spans ≤ place → frames_at frames id ≡ None
+past-places frames id place spans spans_are placed le =
+    ap (λ at. option_map reverse (option_and_then (texts_in frames) (option_and_then (slice_get frames.spans.items) at))) (sym placed)
+    ∙ ap (λ list. option_map reverse (option_and_then (texts_in frames) (slice_get list place))) (sym spans_are)
+    ∙ ap (λ found. option_map reverse (option_and_then (texts_in frames) found)) (slice_get_past spans place le)
+
+-- a span that is part of all frames, and one that is not
+pub place-of : (frames : Frames) (id : ℕ) (all : List Frame) (span : Span) → all ≡ frames.all.items → frames_at frames id ≡ option_map reverse (texts_in frames span) → span.start ≤ span.end → span.end ≤ length all → IsPlaceOf frames id (Some span)
+place-of frames id all span all_are is le le' =
+    let inside : span.end ≤ length (all_texts frames) = subst (λ (n : ℕ). span.end ≤ n) (ap (λ (list : List Frame). length list) all_are ∙ sym (length-map frames.all.items (text_in frames))) le' in
+    (le, inside, is ∙ ap (option_map reverse) (items-at (all_texts frames) span le inside))
+
+pub no-place : (frames : Frames) (id : ℕ) (all : List Frame) (span : Span) → all ≡ frames.all.items → frames_at frames id ≡ option_map reverse (texts_in frames span) → (span.end < span.start) ⊎ (length all < span.end) → frames_at frames id ≡ None
+no-place frames id all span all_are is apart =
+    is ∙ ap (option_map reverse) (no_part-by _ _ (outside span.start span.end (length (all_texts frames))
+    (subst (λ (n : ℕ). (span.end < span.start) ⊎ (n < span.end)) (ap (λ (list : List Frame). length list) all_are ∙ sym (length-map frames.all.items (text_in frames))) apart)))
 
 -- the names of one location more
 pub stacks-more : (frames : Frames) (all : List Frame) (spans : List Span) (k : ℕ) (span : Span) (lent : Option (Bor (List Frame))) (d : Bor (List Frame)) (part : List Frame) (stacks stacks' : List (List (List ℕ))) (stack : List (List ℕ)) → all ≡ frames.all.items → k < length spans → span ≡ get_or spans k nowhere → IsGetRangeResult all span.start span.end lent → d.now ≡ [] → part ≡ (unwrap_or lent d).now → stack ≡ reverse (map (text_in frames) part) → stacks ≡ map (λ s. reverse (unwrap_or (texts_in frames s) [])) (take k spans) → stacks' ≡ stacks ++ stack ∷ [] → stacks' ≡ map (λ s. reverse (unwrap_or (texts_in frames s) [])) (take (k + 1) spans)

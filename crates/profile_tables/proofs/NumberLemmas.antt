@@ -1,6 +1,6 @@
 -- Frames by the numbers of their names: names that come later change none, and a row grows name by name.
-use Rattle.std.proofs.Common.{◌≡◌, ℕ, ◌+◌, ◌-◌, ◌<◌, ◌≤◌, List, [], ◌∷◌, ◌++◌, length, Some, get_or, slice_get, take, drop, reverse, sym, ◌∙◌, ap, subst, drop-cons, add-one, arith, suc, length-append}
-use Rattle.std.specs.Prelude.{Result, Ok, Err, OnOk, OnErr}
+use Rattle.std.proofs.Common.{◌≡◌, ℕ, ◌+◌, ◌-◌, ◌<◌, ◌≤◌, List, [], ◌∷◌, ◌++◌, length, Some, get_or, slice_get, take, drop, reverse, sym, ◌∙◌, ap, subst, drop-cons, add-one, arith, suc, length-append, append_assoc, append-nil, Option}
+use Rattle.std.specs.Prelude.{Result, Ok, Err, OnOk, OnErr, unwrap_or}
 use Rattle.std.specs.List.{slice_range}
 use Rattle.std.proofs.lemmas.List.{get_or_append_left, map-append, reverse-append}
 use Rattle.std.proofs.lemmas.List.Elements.{All-append, All-cons, All-nil}
@@ -11,7 +11,11 @@ use Rattle.stack_core.specs.NamesInOrder.{with_name}
 use Rattle.stack_core.specs.Prefixes.{IsPrefixOf}
 use Rattle.sample_tables.specs.Rows.{name_at}
 use Rattle.profile_tables.specs.declared.frames.Frames.{Frames}
-use Rattle.profile_tables.specs.checked.FrameNumbers.{all_texts, text_at, root_first, AreKept, IsNumbered}
+use Rattle.stack_core.specs.Records.{names_at}
+use Rattle.profile_messages.specs.declared.messages.Span.{Span}
+use Rattle.profile_tables.specs.Samples.{frames_of_ids, stack_of_ids}
+use Rattle.profile_tables.specs.checked.Frames.{frames_at}
+use Rattle.profile_tables.specs.checked.FrameNumbers.{all_texts, text_at, root_first, IsPlaceOf, AreKept, IsNumbered}
 
 -- ---- names behind others
 
@@ -66,3 +70,23 @@ pub root_first-step : (frames : Frames) (start past : ℕ) → start < past → 
 root_first-step frames start past lt le =
     ap reverse (range-cons (all_texts frames) start past lt le)
     ∙ reverse-append (text_at frames start ∷ []) (slice_range (all_texts frames) (start + 1) past)
+
+-- ---- the ids of a sample, from the last one on
+
+-- the frames of the last id come first
+pub last-id : (at_id : ℕ → Option (List (List ℕ))) (ids before : List ℕ) (id : ℕ) (found : Option (List (List ℕ))) → ids ≡ before ++ id ∷ [] → at_id id ≡ found → stack_of_ids at_id ids ≡ unwrap_or found [] ++ stack_of_ids at_id before
+last-id at_id ids before id found is at =
+    ap (stack_of_ids at_id) is ∙ ap (frames_of_ids at_id) (reverse-append before (id ∷ []))
+    ∙ ap (λ frames. unwrap_or frames [] ++ stack_of_ids at_id before) at
+
+pub row-more : (frames : Frames) (before old new whole : List (List ℕ)) (row row' ids left : List ℕ) (id : ℕ) (span : Span) → IsNumbered before (names_at old row ++ root_first frames span.start span.end) new row' → IsPlaceOf frames id (Some span) → ids ≡ left ++ id ∷ [] → names_at old row ++ stack_of_ids (frames_at frames) ids ≡ whole → names_at new row' ++ stack_of_ids (frames_at frames) left ≡ whole
+row-more frames before old new whole row row' ids left id span told place is so_far =
+    ap (λ names. names ++ stack_of_ids (frames_at frames) left) told.named
+    ∙ append_assoc (names_at old row) (root_first frames span.start span.end) (stack_of_ids (frames_at frames) left)
+    ∙ ap (λ names. names_at old row ++ names) (sym (last-id (frames_at frames) ids left id _ is place.2))
+    ∙ so_far
+
+-- no id is left
+pub no-more : (at_id : ℕ → Option (List (List ℕ))) (left : List ℕ) (names whole : List (List ℕ)) → length left ≡ 0 → names ++ stack_of_ids at_id left ≡ whole → names ≡ whole
+no-more at_id [] names whole none is = sym (append-nil names) ∙ is
+no-more at_id (id ∷ left) names whole none is = absurd (omega (arith, none))

@@ -1,3 +1,6 @@
+use Rattle.std.proofs.lemmas.Result.{IfOk-from_err}
+use Rattle.std.proofs.lemmas.Grind.{common_steps}
+use Rattle.std.proofs.Common.{rules, arith}
 use Rattle.std.proofs.Common.{ap, map}
 use Rattle.std.specs.Prelude.{string_bytes}
 use Rattle.std.specs.List.{slice_get}
@@ -17,3 +20,24 @@ loop-function-preserved c = record {
       c.loop-function-test.true c.loop-function.invariant.places c.in_ok-name_index.ensures.kept c.in_ok-name_index.ensures.place
       c.text_index-index.ensures c.in_ok-push.ensures.items;
 }
+
+pub offset_bounds-functions-function-index : goal.offset_bounds-functions-function-index
+offset_bounds-functions-function-index c = search rules
+
+pub bounds-functions-function-index : goal.bounds-functions-function-index
+bounds-functions-function-index c = search rules
+
+pub name_index-requires : goal.name_index-requires
+name_index-requires c = search rules
+
+pub returns : goal.returns
+returns c = grind (arith, common_steps)
+
+pub returns-in_err-places : goal.returns-in_err-places
+returns-in_err-places c = IfOk-from_err _ _ c.from_residual.ensures.0
+
+pub returns-in_err-name_index : goal.returns-in_err-name_index
+returns-in_err-name_index c = IfOk-from_err _ _ c.from_residual-in_err-name_index.ensures.0
+
+pub returns-in_err-push : goal.returns-in_err-push
+returns-in_err-push c = IfOk-from_err _ _ c.from_residual-in_err-push.ensures.0

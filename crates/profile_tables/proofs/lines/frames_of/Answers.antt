@@ -1,4 +1,5 @@
-use Rattle.std.proofs.Common.{ℕ, List, ◌++◌, get_or, sym, ap, map, ◌∙◌}
+use Rattle.std.proofs.lemmas.Result.{IfOk-from_err}
+use Rattle.std.proofs.Common.{ℕ, List, ◌++◌, get_or, sym, ap, map, ◌∙◌, rules}
 use Rattle.std.specs.Prelude.{string_bytes}
 use Rattle.std.proofs.lemmas.List.{length-map}
 use Rattle.profile_messages.specs.declared.messages.Line.{Line}
@@ -35,3 +36,27 @@ returns-clause-whole c =
     IsWhole-all (named_in c.args.functions.now c.args.named) c.args.naming c.args.profile.now.lines.items c.args.profile.now.locations.items _ c.requires
     (AreFramesOf-all (named_in c.args.functions.now c.args.named) c.args.naming c.args.profile.now.lines.items _ c.deref-location-items.result.now
     c.loop-location.location-index _ c.deref-location-items.ensures.value c.requires c.loop-location-test.false c.loop-location.invariant)
+
+pub returns-in_err-spans : goal.returns-in_err-spans
+returns-in_err-spans c = record {
+  frames = IfOk-from_err _ _ c.from_residual.ensures.0;
+  whole = IfOk-from_err _ _ c.from_residual.ensures.0;
+}
+
+pub loop-location-init : goal.loop-location-init
+loop-location-init c = search rules
+
+pub offset_bounds-location-items-location-index : goal.offset_bounds-location-items-location-index
+offset_bounds-location-items-location-index c = search rules
+
+pub returns-in_err-append_frames : goal.returns-in_err-append_frames
+returns-in_err-append_frames c = record {
+  frames = IfOk-from_err _ _ c.from_residual-in_err-append_frames.ensures.0;
+  whole = IfOk-from_err _ _ c.from_residual-in_err-append_frames.ensures.0;
+}
+
+pub returns-in_err-push : goal.returns-in_err-push
+returns-in_err-push c = record {
+  frames = IfOk-from_err _ _ c.from_residual-in_err-push.ensures.0;
+  whole = IfOk-from_err _ _ c.from_residual-in_err-push.ensures.0;
+}

@@ -1,3 +1,4 @@
+use Rattle.std.proofs.Common.{rules}
 use Rattle.std.proofs.Common.{◌≡◌, ◌<◌, length, Ok, get_or, take, ◌∙◌, ap, subst, refl, arith}
 use Rattle.stack_core.specs.Records.{names_at}
 use Rattle.sample_tables.specs.Rows.{stack_at}
@@ -55,3 +56,45 @@ returns-in-Ok-clause-step c =
       (omega (arith, deep, depth), omega (arith, heavy, weighs)),
       record { total_limit = omega (arith, heavy, weighs); is_there = c.in-Some.ensures.before },
     )
+
+pub returns-in_default : goal.returns-in_default
+returns-in_default c = search rules
+
+pub known_row-requires : goal.known_row-requires
+known_row-requires c = search rules
+
+pub returns-in-Some-known_row-clause-teller : goal.returns-in-Some-known_row-clause-teller
+returns-in-Some-known_row-clause-teller c = search rules
+
+pub returns-in-Some-known_row-clause-count : goal.returns-in-Some-known_row-clause-count
+returns-in-Some-known_row-clause-count c = search rules
+
+pub returns-in-Some-known_row-clause-refused : goal.returns-in-Some-known_row-clause-refused
+returns-in-Some-known_row-clause-refused c = search rules
+
+pub returns-in-Some-known_row-clause-stacks : goal.returns-in-Some-known_row-clause-stacks
+returns-in-Some-known_row-clause-stacks c = search rules
+
+pub returns-in-Some-known_row-clause-names : goal.returns-in-Some-known_row-clause-names
+returns-in-Some-known_row-clause-names c = search rules
+
+pub tell_sample-requires : goal.tell_sample-requires
+tell_sample-requires c = search rules
+
+pub returns-in_err-names : goal.returns-in_err-names
+returns-in_err-names c = search rules
+
+pub returns-in-Ok-clause-teller : goal.returns-in-Ok-clause-teller
+returns-in-Ok-clause-teller c = search rules
+
+pub returns-in-Ok-clause-count : goal.returns-in-Ok-clause-count
+returns-in-Ok-clause-count c = search rules
+
+pub returns-in-Ok-clause-refused : goal.returns-in-Ok-clause-refused
+returns-in-Ok-clause-refused c = search rules
+
+pub returns-in-Ok-clause-stacks : goal.returns-in-Ok-clause-stacks
+returns-in-Ok-clause-stacks c = search rules
+
+pub returns-in-Ok-clause-names : goal.returns-in-Ok-clause-names
+returns-in-Ok-clause-names c = search rules

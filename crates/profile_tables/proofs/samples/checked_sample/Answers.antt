@@ -1,3 +1,6 @@
+use Rattle.std.proofs.lemmas.Result.{IfOk-from_err}
+use Rattle.std.proofs.lemmas.Grind.{common_steps}
+use Rattle.std.proofs.Common.{rules}
 use Rattle.std.proofs.Common.{◌≡◌, ℕ, List, Ok, sym, ◌∙◌, ap, subst, arith}
 use Rattle.std.specs.Prelude.{is_none, slice_index, unwrap_or}
 use Rattle.std.specs.List.{list_any}
@@ -56,3 +59,18 @@ returns c =
       numbers.1,
       weight-passed tables c.args.sample.now _ _ _ passes,
     )
+
+pub returns-in-Err : goal.returns-in-Err
+returns-in-Err c = search rules
+
+pub returns-then-len-outline : goal.returns-then-len-outline
+returns-then-len-outline c = search rules
+
+pub returns-in_default : goal.returns-in_default
+returns-in_default c = search rules
+
+pub overflow_add-total : goal.overflow_add-total
+overflow_add-total c = search rules
+
+pub returns-in_err-numbers : goal.returns-in_err-numbers
+returns-in_err-numbers c = IfOk-from_err _ _ c.from_residual.ensures.0

@@ -1,3 +1,5 @@
+use Rattle.std.proofs.lemmas.Grind.{common_steps}
+use Rattle.std.proofs.Common.{rules}
 use Rattle.std.proofs.Common.{◌≡◌, ◌-◌, ◌+◌, ◌++◌, ◌∷◌, [], subst, sym, ap, ◌∙◌, arith, append_assoc}
 use Rattle.stack_core.specs.Prefixes.{IsPrefixOf}
 use Rattle.profile_tables.specs.checked.FrameNumbers.{text_at, root_first, IsNumbered}
@@ -30,3 +32,32 @@ loop-past-preserved c =
           (so_far.row before stack is) told.names told.number));
       grows = IsPrefixOf-trans c.args.self.now.table old c.number.new.self.table so_far.grows (subst (IsPrefixOf old) (sym told.names) (IsPrefixOf-with_name old name));
     }
+
+pub loop-past-init : goal.loop-past-init
+loop-past-init c = search rules
+
+pub overflow_sub-past : goal.overflow_sub-past
+overflow_sub-past c = search rules
+
+pub returns-in_err-number : goal.returns-in_err-number
+returns-in_err-number c = search rules
+
+pub loop-past-smaller : goal.loop-past-smaller
+loop-past-smaller c = search rules
+
+pub returns : goal.returns
+returns c = search rules
+
+pub number-requires-clause-within : goal.number-requires-clause-within
+number-requires-clause-within c = grind (arith, common_steps)
+
+pub number-requires-clause-known : goal.number-requires-clause-known
+number-requires-clause-known c = search rules
+
+pub returns-in_err-push : goal.returns-in_err-push
+returns-in_err-push c = record {
+  known = c.number.ensures.known;
+  row = search rules;
+  grows = IsPrefixOf-trans c.args.self.now.table c.loop-past.self.table c.number.new.self.table c.loop-past.invariant.grows
+      (subst (IsPrefixOf c.loop-past.self.table) (sym c.in_ok-number.ensures.names) (IsPrefixOf-with_name c.loop-past.self.table _));
+}

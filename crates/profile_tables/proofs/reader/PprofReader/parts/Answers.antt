@@ -1,7 +1,7 @@
-use Rattle.std.proofs.Common.{◌≡◌, ◌≢◌, ℕ, List, [], ◌∷◌, ◌++◌, All, map, sym, ap, subst, ◌∙◌}
+use Rattle.std.proofs.Common.{◌≡◌, ◌≢◌, ℕ, List, [], ◌∷◌, ◌++◌, All, map, sym, ap, subst, ◌∙◌, rules}
 use Rattle.std.specs.Prelude.{IfOk}
 use Rattle.std.proofs.lemmas.List.Elements.{All-nil, All-cons, All-weaker}
-use Rattle.std.proofs.lemmas.Result.{IfOk-weaker}
+use Rattle.std.proofs.lemmas.Result.{IfOk-weaker, IfOk-from_err}
 use Rattle.stack_core.specs.Parts.{ReadsInParts}
 use Rattle.stack_core.specs.Reading.{Rest, IsSourceLimited}
 use Rattle.stack_core.specs.declared.endings.SourceEnd.TheVariants.{Stopped}
@@ -99,3 +99,52 @@ returns-in_ok-push-in-Fault-clause-limits c = all-limited c.args.bytes c.args.pi
 
 pub returns-in_ok-push-in-Fault-clause-unstopped : goal.returns-in_ok-push-in-Fault-clause-unstopped
 returns-in_ok-push-in-Fault-clause-unstopped c = all-unstopped c.args.bytes c.args.pick.now c.push.new.self.items (alone c)
+
+pub returns-in_err-whole : goal.returns-in_err-whole
+returns-in_err-whole c = record {
+  parts = IfOk-from_err _ _ c.from_residual.ensures.0;
+  few = IfOk-from_err _ _ c.from_residual.ensures.0;
+  told = IfOk-from_err _ _ c.from_residual.ensures.0;
+  chosen_type = IfOk-from_err _ _ c.from_residual.ensures.0;
+  limits = IfOk-from_err _ _ c.from_residual.ensures.0;
+  unstopped = IfOk-from_err _ _ c.from_residual.ensures.0;
+}
+
+pub readers_of_parts-requires-clause-some : goal.readers_of_parts-requires-clause-some
+readers_of_parts-requires-clause-some c = search rules
+
+pub returns-in_err-pick-in-Fault : goal.returns-in_err-pick-in-Fault
+returns-in_err-pick-in-Fault c = record {
+  parts = IfOk-from_err _ _ c.from_residual-in_err-pick-in-Fault.ensures.0;
+  few = IfOk-from_err _ _ c.from_residual-in_err-pick-in-Fault.ensures.0;
+  told = IfOk-from_err _ _ c.from_residual-in_err-pick-in-Fault.ensures.0;
+  chosen_type = IfOk-from_err _ _ c.from_residual-in_err-pick-in-Fault.ensures.0;
+  limits = IfOk-from_err _ _ c.from_residual-in_err-pick-in-Fault.ensures.0;
+  unstopped = IfOk-from_err _ _ c.from_residual-in_err-pick-in-Fault.ensures.0;
+}
+
+pub returns-in_err-readers-in-Fault : goal.returns-in_err-readers-in-Fault
+returns-in_err-readers-in-Fault c = record {
+  parts = IfOk-from_err _ _ c.from_residual-in_err-readers-in-Fault.ensures.0;
+  few = IfOk-from_err _ _ c.from_residual-in_err-readers-in-Fault.ensures.0;
+  told = IfOk-from_err _ _ c.from_residual-in_err-readers-in-Fault.ensures.0;
+  chosen_type = IfOk-from_err _ _ c.from_residual-in_err-readers-in-Fault.ensures.0;
+  limits = IfOk-from_err _ _ c.from_residual-in_err-readers-in-Fault.ensures.0;
+  unstopped = IfOk-from_err _ _ c.from_residual-in_err-readers-in-Fault.ensures.0;
+}
+
+pub returns-in_err-push-in-Fault : goal.returns-in_err-push-in-Fault
+returns-in_err-push-in-Fault c = record {
+  parts = IfOk-from_err _ _ c.from_residual-in_err-push-in-Fault.ensures.0;
+  few = IfOk-from_err _ _ c.from_residual-in_err-push-in-Fault.ensures.0;
+  told = IfOk-from_err _ _ c.from_residual-in_err-push-in-Fault.ensures.0;
+  chosen_type = IfOk-from_err _ _ c.from_residual-in_err-push-in-Fault.ensures.0;
+  limits = IfOk-from_err _ _ c.from_residual-in_err-push-in-Fault.ensures.0;
+  unstopped = IfOk-from_err _ _ c.from_residual-in_err-push-in-Fault.ensures.0;
+}
+
+pub returns-in-Part-clause-few : goal.returns-in-Part-clause-few
+returns-in-Part-clause-few c = search rules
+
+pub returns-in_ok-push-in-Fault-clause-few : goal.returns-in_ok-push-in-Fault-clause-few
+returns-in_ok-push-in-Fault-clause-few c = search rules

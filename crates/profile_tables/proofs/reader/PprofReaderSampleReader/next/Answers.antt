@@ -1,12 +1,73 @@
-use Rattle.std.proofs.Common.{ap, length, arith}
+use Rattle.std.proofs.Common.{ap, length, arith, rules}
+use Rattle.std.proofs.lemmas.Result.{IfOk-from_err}
 use Rattle.profile_tables.proofs.ReaderLemmas.{few-state}
 use Rattle.profile_tables.proofs.reader.PprofReaderSampleReader.next.Goals as goal
 
-pub returns-in_err-fault-clause-few : goal.returns-in_err-fault-clause-few
-returns-in_err-fault-clause-few c = few-state c.self.inside _ c.self.view_is (omega (arith, ap length c.as_slice-file.ensures))
+pub returns-in-Some : goal.returns-in-Some
+returns-in-Some c = search rules
 
-pub returns-in_err-step-clause-few : goal.returns-in_err-step-clause-few
-returns-in_err-step-clause-few c = few-state c.self.inside _ c.self.view_is (omega (arith, ap length c.as_slice-file.ensures))
+pub invariant_of-self : goal.invariant_of-self
+invariant_of-self c = search rules
 
-pub returns-clause-few : goal.returns-clause-few
-returns-clause-few c = few-state c.self.inside _ c.self.view_is (omega (arith, ap length c.as_slice-file.ensures))
+pub returns-in_err-fault : goal.returns-in_err-fault
+returns-in_err-fault c = record {
+  step = IfOk-from_err _ _ c.from_residual.ensures.0;
+  limits = IfOk-from_err _ _ c.from_residual.ensures.0;
+  refused = search rules;
+  few = few-state c.self.inside _ c.self.view_is (omega (arith, ap length c.as_slice-file.ensures));
+  ended = IfOk-from_err _ _ c.from_residual.ensures.0;
+  repeats = search rules;
+  chosen_type = search rules;
+  tables = IfOk-from_err _ _ c.from_residual.ensures.0;
+}
+
+pub invariant_of-self-in-Some-2 : goal.invariant_of-self-in-Some-2
+invariant_of-self-in-Some-2 c = search rules
+
+pub returns-in-Some-2 : goal.returns-in-Some-2
+returns-in-Some-2 c = search rules
+
+pub unreachable-requires : goal.unreachable-requires
+unreachable-requires c = search rules
+
+pub unreachable-unreachable : goal.unreachable-unreachable
+unreachable-unreachable c = search rules
+
+pub next_step-requires : goal.next_step-requires
+next_step-requires c = search rules
+
+pub invariant_of-self-in_err-step : goal.invariant_of-self-in_err-step
+invariant_of-self-in_err-step c = search rules
+
+pub returns-in_err-step : goal.returns-in_err-step
+returns-in_err-step c = record {
+  step = IfOk-from_err _ _ c.from_residual-in_err-step.ensures.0;
+  limits = IfOk-from_err _ _ c.from_residual-in_err-step.ensures.0;
+  refused = search rules;
+  few = few-state c.self.inside _ c.self.view_is (omega (arith, ap length c.as_slice-file.ensures));
+  ended = IfOk-from_err _ _ c.from_residual-in_err-step.ensures.0;
+  repeats = search rules;
+  chosen_type = search rules;
+  tables = IfOk-from_err _ _ c.from_residual-in_err-step.ensures.0;
+}
+
+pub overflow_add-self-in-Sample : goal.overflow_add-self-in-Sample
+overflow_add-self-in-Sample c = search rules
+
+pub invariant_of-self-in-Sample : goal.invariant_of-self-in-Sample
+invariant_of-self-in-Sample c = search rules
+
+pub invariant_of-self-in-End : goal.invariant_of-self-in-End
+invariant_of-self-in-End c = search rules
+
+pub returns : goal.returns
+returns c = record {
+  step = search rules;
+  limits = search rules;
+  refused = search rules;
+  few = few-state c.self.inside _ c.self.view_is (omega (arith, ap length c.as_slice-file.ensures));
+  ended = search rules;
+  repeats = search rules;
+  chosen_type = search rules;
+  tables = search rules;
+}

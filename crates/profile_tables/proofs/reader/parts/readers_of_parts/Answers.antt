@@ -1,4 +1,5 @@
-use Rattle.std.proofs.Common.{◌≡◌, ◌≤◌, ◌+◌, ◌-◌, ◌/◌, List, [], ◌∷◌, ◌++◌, All, map, length, length-append, sym, ap, subst, ◌∙◌, arith}
+use Rattle.std.proofs.lemmas.Result.{IfOk-from_err}
+use Rattle.std.proofs.Common.{◌≡◌, ◌≤◌, ◌+◌, ◌-◌, ◌/◌, List, [], ◌∷◌, ◌++◌, All, map, length, length-append, sym, ap, subst, ◌∙◌, arith, rules}
 use Rattle.std.proofs.Math.Nat.{div-le_self, div-one}
 use Rattle.std.proofs.lemmas.List.{map-append}
 use Rattle.std.proofs.lemmas.List.Elements.{All-push}
@@ -57,3 +58,65 @@ returns-clause-parts c =
     let all = c.loop-left.invariant.all (omega (arith, c.loop-left-test.false)) in
     subst (λ past. ReadsInParts (rest_from c.args.bytes.now (arc_value c.args.whole.now.outline) past 0 0) (map (λ (reader : State). reader.rest) c.loop-left.readers.items))
     all c.loop-left.invariant.parts
+
+pub returns-in_err-readers : goal.returns-in_err-readers
+returns-in_err-readers c = record {
+  parts = IfOk-from_err _ _ c.from_residual.ensures.0;
+  count = IfOk-from_err _ _ c.from_residual.ensures.0;
+  readers = IfOk-from_err _ _ c.from_residual.ensures.0;
+}
+
+pub loop-left-init : goal.loop-left-init
+loop-left-init c = search rules
+
+pub overflow_sub-past : goal.overflow_sub-past
+overflow_sub-past c = search rules
+
+pub nonzero_div-past : goal.nonzero_div-past
+nonzero_div-past c = search rules
+
+pub overflow_add-past : goal.overflow_add-past
+overflow_add-past c = search rules
+
+pub returns-in_err-outline : goal.returns-in_err-outline
+returns-in_err-outline c = record {
+  parts = IfOk-from_err _ _ c.from_residual-in_err-outline.ensures.0;
+  count = IfOk-from_err _ _ c.from_residual-in_err-outline.ensures.0;
+  readers = IfOk-from_err _ _ c.from_residual-in_err-outline.ensures.0;
+}
+
+pub returns-in_err-bytes : goal.returns-in_err-bytes
+returns-in_err-bytes c = record {
+  parts = IfOk-from_err _ _ c.from_residual-in_err-bytes.ensures.0;
+  count = IfOk-from_err _ _ c.from_residual-in_err-bytes.ensures.0;
+  readers = IfOk-from_err _ _ c.from_residual-in_err-bytes.ensures.0;
+}
+
+pub returns-in_err-pick : goal.returns-in_err-pick
+returns-in_err-pick c = record {
+  parts = IfOk-from_err _ _ c.from_residual-in_err-pick.ensures.0;
+  count = IfOk-from_err _ _ c.from_residual-in_err-pick.ensures.0;
+  readers = IfOk-from_err _ _ c.from_residual-in_err-pick.ensures.0;
+}
+
+pub of_part-requires-clause-order : goal.of_part-requires-clause-order
+of_part-requires-clause-order c = search rules
+
+pub returns-in_err-push : goal.returns-in_err-push
+returns-in_err-push c = record {
+  parts = IfOk-from_err _ _ c.from_residual-in_err-push.ensures.0;
+  count = IfOk-from_err _ _ c.from_residual-in_err-push.ensures.0;
+  readers = IfOk-from_err _ _ c.from_residual-in_err-push.ensures.0;
+}
+
+pub overflow_sub-left : goal.overflow_sub-left
+overflow_sub-left c = search rules
+
+pub loop-left-smaller : goal.loop-left-smaller
+loop-left-smaller c = search rules
+
+pub returns-clause-count : goal.returns-clause-count
+returns-clause-count c = search rules
+
+pub returns-clause-readers : goal.returns-clause-readers
+returns-clause-readers c = search rules

@@ -1,4 +1,6 @@
-use Rattle.std.proofs.Common.{◌≡◌, ◌+◌, ◌++◌, ◌∷◌, [], ℕ, List, length, length-append, sym, ◌∙◌, ap, subst}
+use Rattle.std.proofs.lemmas.Result.{IfOk-from_err}
+use Rattle.std.proofs.lemmas.Grind.{common_steps}
+use Rattle.std.proofs.Common.{◌≡◌, ◌+◌, ◌++◌, ◌∷◌, [], ℕ, List, length, length-append, sym, ◌∙◌, ap, subst, arith, rules}
 use Rattle.profile_tables.specs.Samples.{stack_of_ids}
 use Rattle.profile_tables.specs.checked.Frames.{frames_at}
 use Rattle.profile_tables.specs.checked.FrameNumbers.{IsNumbered}
@@ -55,3 +57,75 @@ returns-clause-teller c =
           (spellings-told file frames before names stacks ids c.in_ok-row.row.items c.args.run c.args.self.now.spellings c.remember.new.spellings
           c.requires.run c.requires.known c.requires.depth c.row_of.ensures.grows numbered remembers c.requires.teller.spellings);
     }
+
+pub row_of-requires : goal.row_of-requires
+row_of-requires c = search rules
+
+pub returns-in_err-row-clause-told : goal.returns-in_err-row-clause-told
+returns-in_err-row-clause-told c = IfOk-from_err _ _ c.from_residual.ensures.0
+
+pub returns-in_err-row-clause-weight : goal.returns-in_err-row-clause-weight
+returns-in_err-row-clause-weight c = IfOk-from_err _ _ c.from_residual.ensures.0
+
+pub returns-in_err-row-clause-count : goal.returns-in_err-row-clause-count
+returns-in_err-row-clause-count c = search rules
+
+pub returns-in_err-row-clause-stacks : goal.returns-in_err-row-clause-stacks
+returns-in_err-row-clause-stacks c = search rules
+
+pub returns-in_err-row-clause-names : goal.returns-in_err-row-clause-names
+returns-in_err-row-clause-names c = search rules
+
+pub returns-in_err-names-clause-told : goal.returns-in_err-names-clause-told
+returns-in_err-names-clause-told c = IfOk-from_err _ _ c.from_residual-in_err-names.ensures.0
+
+pub returns-in_err-names-clause-weight : goal.returns-in_err-names-clause-weight
+returns-in_err-names-clause-weight c = IfOk-from_err _ _ c.from_residual-in_err-names.ensures.0
+
+pub returns-in_err-names-clause-count : goal.returns-in_err-names-clause-count
+returns-in_err-names-clause-count c = search rules
+
+pub returns-in_err-names-clause-stacks : goal.returns-in_err-names-clause-stacks
+returns-in_err-names-clause-stacks c = search rules
+
+pub returns-in_err-names-clause-names : goal.returns-in_err-names-clause-names
+returns-in_err-names-clause-names c = search rules
+
+pub remember-requires : goal.remember-requires
+remember-requires c = search rules
+
+pub returns-in_err-remember-clause-told : goal.returns-in_err-remember-clause-told
+returns-in_err-remember-clause-told c = IfOk-from_err _ _ c.from_residual-in_err-remember.ensures.0
+
+pub returns-in_err-remember-clause-weight : goal.returns-in_err-remember-clause-weight
+returns-in_err-remember-clause-weight c = IfOk-from_err _ _ c.from_residual-in_err-remember.ensures.0
+
+pub returns-in_err-remember-clause-count : goal.returns-in_err-remember-clause-count
+returns-in_err-remember-clause-count c = search rules
+
+pub returns-in_err-remember-clause-stacks : goal.returns-in_err-remember-clause-stacks
+returns-in_err-remember-clause-stacks c = search rules
+
+pub returns-in_err-remember-clause-names : goal.returns-in_err-remember-clause-names
+returns-in_err-remember-clause-names c = search rules
+
+pub overflow_add-self : goal.overflow_add-self
+overflow_add-self c = search rules
+
+pub returns-clause-weight : goal.returns-clause-weight
+returns-clause-weight c = search rules
+
+pub returns-clause-count : goal.returns-clause-count
+returns-clause-count c = search rules
+
+pub returns-clause-stacks : goal.returns-clause-stacks
+returns-clause-stacks c = search rules
+
+pub returns-clause-names : goal.returns-clause-names
+returns-clause-names c = search rules
+
+pub names_from-requires : goal.names_from-requires
+names_from-requires c = grind (arith, common_steps)
+
+pub returns-clause-told : goal.returns-clause-told
+returns-clause-told c = grind (arith, common_steps)
