@@ -1,3 +1,4 @@
+use Rattle.std.proofs.lemmas.Result.{IfOk-from_err}
 use Rattle.std.proofs.Common.{[], List, ap, map, subst, ◌∙◌, sym}
 use Rattle.std.proofs.lemmas.Result.{err_from_is_err_and}
 use Rattle.profile_messages.specs.declared.messages.Location.{Location}
@@ -29,3 +30,39 @@ returns-clause-faultless c =
     c.requires c.in_ok-functions.ensures.places c.in_ok-functions.ensures.faultless
     (ap (λ (table : List Location). first (id_faults [] (map code_location_id table))) (sym c.deref.ensures.value) ∙ c.in_ok-locations.ensures.ids)
     c.in_ok-chosen.ensures.faultless
+
+pub returns-in_err-functions-clause-faultless : goal.returns-in_err-functions-clause-faultless
+returns-in_err-functions-clause-faultless c = IfOk-from_err _ _ c.from_residual.ensures.0
+
+pub returns-in_err-functions-clause-functions : goal.returns-in_err-functions-clause-functions
+returns-in_err-functions-clause-functions c = IfOk-from_err _ _ c.from_residual.ensures.0
+
+pub returns-in_err-functions-clause-locations : goal.returns-in_err-functions-clause-locations
+returns-in_err-functions-clause-locations c = IfOk-from_err _ _ c.from_residual.ensures.0
+
+pub returns-in_err-functions-clause-chosen : goal.returns-in_err-functions-clause-chosen
+returns-in_err-functions-clause-chosen c = IfOk-from_err _ _ c.from_residual.ensures.0
+
+pub returns-in_err-locations-clause-faultless : goal.returns-in_err-locations-clause-faultless
+returns-in_err-locations-clause-faultless c = IfOk-from_err _ _ c.from_residual-in_err-locations.ensures.0
+
+pub returns-in_err-locations-clause-functions : goal.returns-in_err-locations-clause-functions
+returns-in_err-locations-clause-functions c = IfOk-from_err _ _ c.from_residual-in_err-locations.ensures.0
+
+pub returns-in_err-locations-clause-locations : goal.returns-in_err-locations-clause-locations
+returns-in_err-locations-clause-locations c = IfOk-from_err _ _ c.from_residual-in_err-locations.ensures.0
+
+pub returns-in_err-locations-clause-chosen : goal.returns-in_err-locations-clause-chosen
+returns-in_err-locations-clause-chosen c = IfOk-from_err _ _ c.from_residual-in_err-locations.ensures.0
+
+pub returns-in_err-chosen-clause-faultless : goal.returns-in_err-chosen-clause-faultless
+returns-in_err-chosen-clause-faultless c = IfOk-from_err _ _ c.from_residual-in_err-chosen.ensures.0
+
+pub returns-in_err-chosen-clause-functions : goal.returns-in_err-chosen-clause-functions
+returns-in_err-chosen-clause-functions c = IfOk-from_err _ _ c.from_residual-in_err-chosen.ensures.0
+
+pub returns-in_err-chosen-clause-locations : goal.returns-in_err-chosen-clause-locations
+returns-in_err-chosen-clause-locations c = IfOk-from_err _ _ c.from_residual-in_err-chosen.ensures.0
+
+pub returns-in_err-chosen-clause-chosen : goal.returns-in_err-chosen-clause-chosen
+returns-in_err-chosen-clause-chosen c = IfOk-from_err _ _ c.from_residual-in_err-chosen.ensures.0

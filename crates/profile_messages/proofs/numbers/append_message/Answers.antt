@@ -1,3 +1,4 @@
+use Rattle.std.proofs.lemmas.Result.{IfOk-from_err}
 use Rattle.std.proofs.Common.{◌≡◌, ◌++◌, Option, Some, Ok, sym, ◌∙◌, subst}
 use Rattle.std.specs.Prelude.{flat_map}
 use Rattle.wire_fields.specs.Field.{WireField, seen_field}
@@ -22,3 +23,10 @@ loop-field-preserved c =
       values = gathered-item (repeated_from 2) field left.items _ _ _ c.in_ok-kind-in-Ok-Some.ensures.values
           (subst (λ (fields : Left WireField). c.loop-field.values.items ++ flat_map (repeated_from 2) fields.items ≡ c.args.values.now.items ++ repeated_numbers 2 c.args.sample.now) read c.loop-field.invariant.values);
     }
+
+pub returns-in_err-kind-in-Ok-Some : goal.returns-in_err-kind-in-Ok-Some
+returns-in_err-kind-in-Ok-Some c = record {
+  fault = IfOk-from_err _ _ c.from_residual.ensures.0;
+  ids = IfOk-from_err _ _ c.from_residual.ensures.0;
+  values = IfOk-from_err _ _ c.from_residual.ensures.0;
+}

@@ -1,3 +1,4 @@
+use Rattle.std.proofs.lemmas.Result.{IfOk-from_err}
 use Rattle.std.proofs.Common.{◌≡◌, ◌++◌, Option, Some, None, Ok, refl, ap, subst}
 use Rattle.std.specs.Prelude.{flat_map}
 use Rattle.stack_core.specs.declared.endings.ReadKind.{ReadKind}
@@ -36,3 +37,9 @@ returns-in-Ok-None-clause-profile c =
     subst (λ (found : Option Field). Answers seen_field (Ok found) c.loop-field.fields c.next.new.self) c.in-Ok-None.field-0-is c.in-Ok-None.ensures in
     profile-whole c.args.file.now c.loop-field.profile
     (subst (λ (left : Left WireField). IsProfileBefore c.args.file.now left.items c.loop-field.profile) ended.0 c.loop-field.invariant.before)
+
+pub returns-in_err-kind-in-Ok-Some-clause-profile : goal.returns-in_err-kind-in-Ok-Some-clause-profile
+returns-in_err-kind-in-Ok-Some-clause-profile c = IfOk-from_err _ _ c.from_residual.ensures.0
+
+pub returns-in_err-kind-in-Ok-Some-clause-faultless : goal.returns-in_err-kind-in-Ok-Some-clause-faultless
+returns-in_err-kind-in-Ok-Some-clause-faultless c = IfOk-from_err _ _ c.from_residual.ensures.0
