@@ -1,4 +1,6 @@
-use Rattle.std.proofs.Common.{◌∷◌, [], ◌++◌, List, ℕ, sym, ap, subst, ◌∙◌, append_assoc}
+use Rattle.std.proofs.lemmas.Grind.{common_steps}
+use borrow.Author.Rules.{rules}
+use Rattle.std.proofs.Common.{◌∷◌, [], ◌++◌, List, ℕ, sym, ap, subst, ◌∙◌, append_assoc, arith}
 use Rattle.stack_core.specs.Prefixes.{IsPrefixOf}
 use Rattle.stack_core.specs.Records.{names_at}
 use Rattle.call_tree.proofs.NameNumbers.{IsPrefixOf-trans, IsPrefixOf-with_name}
@@ -27,3 +29,27 @@ loop-rest-preserved c =
           ∙ ap (λ r. stack ++ names_left r) (sym c.in-Some.is) ∙ c.loop-rest.invariant.same;
       grows = IsPrefixOf-trans c.args.table.now before after c.loop-rest.invariant.grows prefix;
     }
+
+pub loop-rest-init : goal.loop-rest-init
+loop-rest-init c = search rules
+
+pub first_name-requires-text-text : goal.first_name-requires-text-text
+first_name-requires-text-text c = search rules
+
+pub intern-requires-text-name : goal.intern-requires-text-name
+intern-requires-text-name c = search rules
+
+pub returns-in_err-number : goal.returns-in_err-number
+returns-in_err-number c = search rules
+
+pub returns-in_err-push-clause-ok : goal.returns-in_err-push-clause-ok
+returns-in_err-push-clause-ok c = search rules
+
+pub returns-in_err-push-clause-grows : goal.returns-in_err-push-clause-grows
+returns-in_err-push-clause-grows c = grind (arith, common_steps)
+
+pub loop-rest-smaller : goal.loop-rest-smaller
+loop-rest-smaller c = search rules
+
+pub returns : goal.returns
+returns c = search rules

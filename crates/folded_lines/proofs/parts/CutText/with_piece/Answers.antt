@@ -1,3 +1,5 @@
+use Rattle.std.proofs.lemmas.Grind.{common_steps}
+use borrow.Author.Rules.{rules}
 use Rattle.std.proofs.Common.{◌≡◌, ◌∙◌, ◌++◌, ◌∷◌, [], ℕ, List, All, ap, arith, drop, length, subst, sym, take}
 use Rattle.std.specs.List.{concat}
 use Rattle.std.proofs.lemmas.List.Elements.{All-push}
@@ -25,3 +27,45 @@ returns-clause-text c =
     c.in_ok-bytes_from.ensures ∙ ap (λ (t : List ℕ). drop cut.begin t) (c.in_ok-extend_from_slice-2.ensures.items ∙ ap (λ (t : List ℕ). cut.last.items ++ take end t) c.deref-2.ensures.value) in
     ap (λ (parts : List (List ℕ)). concat parts ++ drop end piece) (c.in_ok-push.ensures.items ∙ ap (λ (part : List ℕ). cut.parts.items ++ part ∷ []) is)
     ∙ seam cut.parts.items cut.last.items piece cut.begin end c.requires.begin
+
+pub returns-then-is_empty-clause-begin : goal.returns-then-is_empty-clause-begin
+returns-then-is_empty-clause-begin c = search rules
+
+pub returns-then-is_empty-clause-lines : goal.returns-then-is_empty-clause-lines
+returns-then-is_empty-clause-lines c = search rules
+
+pub returns-then-is_empty-clause-text : goal.returns-then-is_empty-clause-text
+returns-then-is_empty-clause-text c = grind (arith, common_steps)
+
+pub part_end-end-requires : goal.part_end-end-requires
+part_end-end-requires c = search rules
+
+pub returns-in_err-extend_from_slice : goal.returns-in_err-extend_from_slice
+returns-in_err-extend_from_slice c = search rules
+
+pub returns-then-end-eq0-clause-begin : goal.returns-then-end-eq0-clause-begin
+returns-then-end-eq0-clause-begin c = search rules
+
+pub returns-then-end-eq0-clause-lines : goal.returns-then-end-eq0-clause-lines
+returns-then-end-eq0-clause-lines c = search rules
+
+pub returns-then-end-eq0-clause-text : goal.returns-then-end-eq0-clause-text
+returns-then-end-eq0-clause-text c = grind (arith, common_steps)
+
+pub slice_bounds-extend_from_slice-end : goal.slice_bounds-extend_from_slice-end
+slice_bounds-extend_from_slice-end c = search rules
+
+pub returns-in_err-extend_from_slice-2 : goal.returns-in_err-extend_from_slice-2
+returns-in_err-extend_from_slice-2 c = search rules
+
+pub bytes_from-requires : goal.bytes_from-requires
+bytes_from-requires c = search rules
+
+pub returns-in_err-bytes_from : goal.returns-in_err-bytes_from
+returns-in_err-bytes_from c = search rules
+
+pub returns-in_err-push : goal.returns-in_err-push
+returns-in_err-push c = search rules
+
+pub returns-clause-begin : goal.returns-clause-begin
+returns-clause-begin c = search rules
