@@ -4,11 +4,11 @@ ghost use Rattle.clap.specs.Words.{rule_of};
 ghost use Rattle.command_line.specs.checked.Commands.{rule_at};
 
 use crate::arguments::{
-    boxes_flag, by_option, every_option, files, focus_option, format_option, hide_option,
-    json_flag, least_option, lines_flag, one_file, page_flag, quiet_flag, ring_option, rows_option,
-    title_option, type_option, width_option,
+    MOST_BETWEEN_SNAPSHOTS, files, filter_option, flag, least_option, number_option, one_file,
+    page_flag, ring_option, rows_option, text_option, title_option,
 };
 use clap::Arg;
+use run_options::MAX_WIDTH;
 use std::alloc::Global;
 
 // An argument of one command or of several.
@@ -111,36 +111,61 @@ pub(crate) const TOP: &[Argument] = &[
 pub(crate) const TYPES: &[Argument] = &[Argument::Profile];
 
 impl Argument {
+    // What the help says of it.
+    fn help<'a>(&self) -> &'a str {
+        match self {
+            Argument::Width => "Width of the image in pixels, 1 to 65536 [default: 1200]",
+            Argument::Type => "Sample type that weighs pprof profiles [default: the profile's own]",
+            Argument::Format => "Format of every source, folded or pprof [default: by the name]",
+            Argument::Focus =>
+                "Keep only samples with a frame whose name has this text [repeatable]",
+            Argument::Hide =>
+                "Leave out samples with a frame whose name has this text [repeatable]",
+            Argument::Ring => "Size of the ring of each source, 1 to 65536 [default: 1024]",
+            Argument::Every => "Write a snapshot after every N samples too, 1 to 1000000000",
+            Argument::Lines => "Name the frames of pprof profiles by function and line",
+            Argument::Boxes => "Write the differential flame graph as a line of JSON instead",
+            Argument::Rows => "Number of functions, 1 to 1000000000 [default: 10]",
+            Argument::By => "Weight that sorts the functions, own or total [default: own]",
+            Argument::Json => "Write the table as a line of JSON instead",
+            Argument::Quiet => "Show no progress on a terminal",
+            Argument::Page => "Write a page for browsers instead",
+            Argument::Title => "Title of the page",
+            Argument::Least => "Least weight of a box that the page keeps",
+            Argument::Files =>
+                "Profiles, pprof if named .pb, .pprof or .prof, else folded [default: standard input]",
+            Argument::Before => "The profile before",
+            Argument::After => "The profile after",
+            Argument::Profile => "The pprof profile, whatever its name",
+        }
+    }
+
     // The argument, as `clap` takes it.
     pub(crate) fn built<'a>(&self, alloc: Global) -> Arg<'a>
         ensures { rule_of result ≡ rule_at self.now }
     {
+        let help = self.help();
         match self {
-            Argument::Width => width_option(alloc),
-            Argument::Type => type_option(alloc),
-            Argument::Format => format_option(alloc),
-            Argument::Focus => focus_option(alloc),
-            Argument::Hide => hide_option(alloc),
-            Argument::Ring => ring_option(alloc),
-            Argument::Every => every_option(alloc),
-            Argument::Lines => lines_flag(alloc),
-            Argument::Boxes => boxes_flag(alloc),
-            Argument::Rows => rows_option(alloc),
-            Argument::By => by_option(alloc),
-            Argument::Json => json_flag(alloc),
-            Argument::Quiet => quiet_flag(alloc),
-            Argument::Page => page_flag(alloc),
-            Argument::Title => title_option(alloc),
-            Argument::Least => least_option(alloc),
-            Argument::Files => files(alloc),
-            Argument::Before => one_file(alloc, "before", "BEFORE", "The profile before"),
-            Argument::After => one_file(alloc, "after", "AFTER", "The profile after"),
-            Argument::Profile => one_file(
-                alloc,
-                "file",
-                "FILE",
-                "The pprof profile, whatever its name",
-            ),
+            Argument::Width => number_option(alloc, "width", MAX_WIDTH, help),
+            Argument::Type => text_option(alloc, "type", "TYPE", help),
+            Argument::Format => text_option(alloc, "format", "FORMAT", help),
+            Argument::Focus => filter_option(alloc, "focus", help),
+            Argument::Hide => filter_option(alloc, "hide", help),
+            Argument::Ring => ring_option(alloc, help),
+            Argument::Every => number_option(alloc, "every", MOST_BETWEEN_SNAPSHOTS, help),
+            Argument::Lines => flag(alloc, "lines", help),
+            Argument::Boxes => flag(alloc, "boxes", help),
+            Argument::Rows => rows_option(alloc, help),
+            Argument::By => text_option(alloc, "by", "WEIGHT", help),
+            Argument::Json => flag(alloc, "json", help),
+            Argument::Quiet => flag(alloc, "quiet", help),
+            Argument::Page => page_flag(alloc, help),
+            Argument::Title => title_option(alloc, help),
+            Argument::Least => least_option(alloc, help),
+            Argument::Files => files(alloc, help),
+            Argument::Before => one_file(alloc, "before", "BEFORE", help),
+            Argument::After => one_file(alloc, "after", "AFTER", help),
+            Argument::Profile => one_file(alloc, "file", "FILE", help),
         }
     }
 }

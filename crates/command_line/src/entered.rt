@@ -42,11 +42,11 @@ fn view_plan(alloc: Global, name: &str, entries: &ArgMatches<'_>) -> Result<Plan
 {
     Ok(Plan {
         view: view(name, entries),
+        format: format(entries),
+        is_quiet: entries.get_flag("quiet"),
         form: form(alloc, entries)?,
         files: files(alloc, entries)?,
         options: options(alloc, entries)?,
-        format: format(entries),
-        is_quiet: entries.get_flag("quiet"),
     })
 }
 
@@ -56,10 +56,10 @@ fn types_plan(alloc: Global, entries: &ArgMatches<'_>) -> Result<Plan, AllocErro
 {
     Ok(Plan {
         view: View::Fold,
-        options: default_options(alloc),
         format: Some(Format::Pprof),
-        files: files(alloc, entries)?,
-        form: Form::Types,
         is_quiet: false,
+        form: Form::Types,
+        files: files(alloc, entries)?,
+        options: default_options(alloc),
     })
 }

@@ -3,43 +3,43 @@ use Rattle.command_line.specs.checked.Commands.{rule_at}
 use Rattle.command_line.proofs.argument_lists.Argument.built.Goals as goal
 
 pub returns-in-Width : goal.returns-in-Width
-returns-in-Width c = c.width_option.ensures ∙ sym (ap rule_at c.in-Width.is)
+returns-in-Width c = c.number_option.ensures ∙ sym (ap rule_at c.in-Width.is)
 
 pub returns-in-Type : goal.returns-in-Type
-returns-in-Type c = c.type_option.ensures ∙ sym (ap rule_at c.in-Type.is)
+returns-in-Type c = c.text_option.ensures ∙ sym (ap rule_at c.in-Type.is)
 
 pub returns-in-Format : goal.returns-in-Format
-returns-in-Format c = c.format_option.ensures ∙ sym (ap rule_at c.in-Format.is)
+returns-in-Format c = c.text_option-in-Format.ensures ∙ sym (ap rule_at c.in-Format.is)
 
 pub returns-in-Focus : goal.returns-in-Focus
-returns-in-Focus c = c.focus_option.ensures ∙ sym (ap rule_at c.in-Focus.is)
+returns-in-Focus c = c.filter_option.ensures ∙ sym (ap rule_at c.in-Focus.is)
 
 pub returns-in-Hide : goal.returns-in-Hide
-returns-in-Hide c = c.hide_option.ensures ∙ sym (ap rule_at c.in-Hide.is)
+returns-in-Hide c = c.filter_option-in-Hide.ensures ∙ sym (ap rule_at c.in-Hide.is)
 
 pub returns-in-Ring : goal.returns-in-Ring
 returns-in-Ring c = c.ring_option.ensures ∙ sym (ap rule_at c.in-Ring.is)
 
 pub returns-in-Every : goal.returns-in-Every
-returns-in-Every c = c.every_option.ensures ∙ sym (ap rule_at c.in-Every.is)
+returns-in-Every c = c.number_option-in-Every.ensures ∙ sym (ap rule_at c.in-Every.is)
 
 pub returns-in-Lines : goal.returns-in-Lines
-returns-in-Lines c = c.lines_flag.ensures ∙ sym (ap rule_at c.in-Lines.is)
+returns-in-Lines c = c.flag.ensures ∙ sym (ap rule_at c.in-Lines.is)
 
 pub returns-in-Boxes : goal.returns-in-Boxes
-returns-in-Boxes c = c.boxes_flag.ensures ∙ sym (ap rule_at c.in-Boxes.is)
+returns-in-Boxes c = c.flag-in-Boxes.ensures ∙ sym (ap rule_at c.in-Boxes.is)
 
 pub returns-in-Rows : goal.returns-in-Rows
 returns-in-Rows c = c.rows_option.ensures ∙ sym (ap rule_at c.in-Rows.is)
 
 pub returns-in-By : goal.returns-in-By
-returns-in-By c = c.by_option.ensures ∙ sym (ap rule_at c.in-By.is)
+returns-in-By c = c.text_option-in-By.ensures ∙ sym (ap rule_at c.in-By.is)
 
 pub returns-in-Json : goal.returns-in-Json
-returns-in-Json c = c.json_flag.ensures ∙ sym (ap rule_at c.in-Json.is)
+returns-in-Json c = c.flag-in-Json.ensures ∙ sym (ap rule_at c.in-Json.is)
 
 pub returns-in-Quiet : goal.returns-in-Quiet
-returns-in-Quiet c = c.quiet_flag.ensures ∙ sym (ap rule_at c.in-Quiet.is)
+returns-in-Quiet c = c.flag-in-Quiet.ensures ∙ sym (ap rule_at c.in-Quiet.is)
 
 pub returns-in-Page : goal.returns-in-Page
 returns-in-Page c = c.page_flag.ensures ∙ sym (ap rule_at c.in-Page.is)
