@@ -1,6 +1,6 @@
 //! A text that is cut at line ends, and read by several readers that share it.
 
-ghost use Rattle.std.specs.Prelude.{◌≡◌, ◌≤◌, ◌<◌, ◌++◌, [], All, IfOk, drop, length, map, take};
+ghost use Rattle.std.specs.Prelude.{◌≡◌, ◌≤◌, ◌<◌, ◌++◌, [], All, IfOk, OnOk, drop, length, map, take};
 ghost use Rattle.std.specs.List.{concat};
 ghost use Rattle.stack_core.specs.Parts.{ReadsInParts};
 ghost use Rattle.folded_lines.specs.Reading.{read_folded};
@@ -11,6 +11,7 @@ use crate::reader::FoldedReader;
 use bytes::Bytes;
 use memchr::memchr;
 use std::alloc::{AllocError, Global};
+use std::mem;
 
 /// The end of a part that is at least this long: behind a line feed. It is 0 where none follows.
 fn part_end(bytes: &[u8], len: usize) -> usize
@@ -64,38 +65,29 @@ struct CutText {
 }
 
 impl CutText {
-    /// With one piece more. The part before it ends behind the first line that ends in it.
-    fn with_piece(self, piece: Vec<u8>) -> Result<CutText, AllocError>
-        requires begin { self.begin ≤ length self.last.items }
-        requires lines { All IsWholeLines self.parts.items }
-        ensures begin { IfOk result (λ cut. cut.begin ≤ length cut.last.items) }
-        ensures lines { IfOk result (λ cut. All IsWholeLines cut.parts.items) }
-        ensures text { IfOk result (λ cut. text_of_cut cut ≡ text_of_cut self ++ piece.items) }
+    /// Takes one piece more. The part before it ends behind the first line that ends in it.
+    fn take_piece(&mut self, piece: Vec<u8>) -> Result<(), AllocError>
+        requires begin { self.old.begin ≤ length self.old.last.items }
+        requires lines { All IsWholeLines self.old.parts.items }
+        ensures begin { OnOk result (self.new.begin ≤ length self.new.last.items) }
+        ensures lines { OnOk result (All IsWholeLines self.new.parts.items) }
+        ensures text { OnOk result (text_of_cut self.new ≡ text_of_cut self.old ++ piece.items) }
     {
-        let CutText {
-            mut parts,
-            mut last,
-            begin,
-        } = self;
-        if last.is_empty() {
-            return Ok(CutText {
-                parts,
-                last: piece,
-                begin: 0,
-            });
+        if self.last.is_empty() {
+            self.last = piece;
+            self.begin = 0;
+            return Ok(());
         }
         let end = part_end(&piece, 0);
         if end == 0 {
-            last.extend_from_slice(&piece)?;
-            return Ok(CutText { parts, last, begin });
+            self.last.extend_from_slice(&piece)?;
+            return Ok(());
         }
-        last.extend_from_slice(&piece[..end])?;
-        parts.push(bytes_from(last, begin)?)?;
-        Ok(CutText {
-            parts,
-            last: piece,
-            begin: end,
-        })
+        self.last.extend_from_slice(&piece[..end])?;
+        let part = bytes_from(mem::replace(&mut self.last, piece), self.begin)?;
+        self.begin = end;
+        self.parts.push(part)?;
+        Ok(())
     }
 }
 
@@ -111,7 +103,7 @@ pub fn cut_pieces(alloc: Global, pieces: Vec<Vec<u8>>) -> Result<Vec<Bytes>, All
         begin: 0,
     };
     for piece in pieces {
-        cut = cut.with_piece(piece)?;
+        cut.take_piece(piece)?;
     }
     let CutText {
         mut parts,

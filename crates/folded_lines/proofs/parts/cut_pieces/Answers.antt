@@ -10,7 +10,7 @@ use Rattle.folded_lines.proofs.parts.cut_pieces.Goals as goal
 pub loop-piece-preserved : goal.loop-piece-preserved
 loop-piece-preserved c =
     let bytes : Vec ℕ Global → List ℕ = λ piece. piece.items in
-    let more = c.in_ok-cut.ensures in
+    let more = c.in_ok-take_piece.ensures in
     record {
       begin = more.begin;
       lines = more.lines;
