@@ -1,3 +1,4 @@
+use Rattle.std.proofs.lemmas.Grind.{common_steps}
 use Rattle.std.proofs.Common.{ap, length, arith, rules}
 use Rattle.std.proofs.lemmas.Result.{IfOk-from_err}
 use Rattle.profile_tables.proofs.ReaderLemmas.{few-state}
@@ -71,3 +72,6 @@ returns c = record {
   chosen_type = search rules;
   tables = search rules;
 }
+
+pub overflow_add-self : goal.overflow_add-self
+overflow_add-self c = grind (arith, common_steps)
