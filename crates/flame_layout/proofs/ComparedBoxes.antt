@@ -1,7 +1,7 @@
 -- the boxes of a comparison, from its rows
 use Rattle.std.proofs.Common.{◌≡◌, ℕ, ◌+◌, ◌≤◌, ◌<◌, List, [], ◌∷◌, ◌++◌, Bool, true, false, cond, length, map, filter, drop, get_or, ltb, sym, ◌∙◌, ap, subst, refl, arith, All}
 use Rattle.std.specs.List.{zip}
-use Rattle.std.proofs.lemmas.List.{drop_more, drop_all, append-nil, get_or_at, get_or-map, length-map, length-append}
+use Rattle.std.proofs.lemmas.List.{drop_more, drop_all, append-nil, append_assoc, get_or_at, get_or-map, length-map, length-append}
 use Rattle.std.proofs.lemmas.Slice.Zip.{firsts-zip, seconds-zip, AllZip-long}
 use Rattle.std.proofs.lemmas.Bool.{lt-ltb, ltb-true}
 use Rattle.sample_tables.specs.declared.samples.Sample.{Sample}
@@ -113,6 +113,22 @@ pub row_with_weight : (rows : List PairRow) (boxes : List ComparedBox) (start i 
 row_with_weight rows boxes start i row l is w e =
     e ∙ (ap (λ rs. boxes ++ boxes_of_rows start rs) (drop_more rows i row l ∙ ap (λ r. r ∷ drop (i + 1) rows) (sym is)) ∙
     ap (λ b. boxes ++ cond b (row_box start row ∷ boxes_of_rows (start + row.own_after) (drop (i + 1) rows)) (boxes_of_rows start (drop (i + 1) rows))) (lt-ltb 0 row.total_after w))
+
+-- a row without weight has no box
+pub row_without_weight : (rows : List PairRow) (boxes : List ComparedBox) (start i : ℕ) (row : PairRow) → i < length rows → row ≡ get_or rows i row → row.total_after ≤ 0 →
+    boxes_of_rows 0 rows ≡ boxes ++ boxes_of_rows start (drop i rows) → boxes_of_rows 0 rows ≡ boxes ++ boxes_of_rows start (drop (i + 1) rows)
+row_without_weight rows boxes start i row l is w e =
+    let none : row.total_after ≡ 0 = omega arith in
+    e ∙ (ap (λ rs. boxes ++ boxes_of_rows start rs) (drop_more rows i row l ∙ ap (λ r. r ∷ drop (i + 1) rows) (sym is)) ∙
+    ap (λ n. boxes ++ cond (ltb 0 n) (row_box start row ∷ boxes_of_rows (start + row.own_after) (drop (i + 1) rows)) (boxes_of_rows start (drop (i + 1) rows))) none)
+
+-- a row's box is pushed
+pub row_pushed : (rows : List PairRow) (boxes new : List ComparedBox) (start i : ℕ) (row : PairRow) (box : ComparedBox) → i < length rows → row ≡ get_or rows i row → 0 < row.total_after → box ≡ row_box start row → new ≡ boxes ++ box ∷ [] →
+    boxes_of_rows 0 rows ≡ boxes ++ boxes_of_rows start (drop i rows) → boxes_of_rows 0 rows ≡ new ++ boxes_of_rows (start + row.own_after) (drop (i + 1) rows)
+row_pushed rows boxes new start i row box l is w made pushed e =
+    let more = boxes_of_rows (start + row.own_after) (drop (i + 1) rows) in
+    row_with_weight rows boxes start i row l is w e ∙ (sym (append_assoc boxes (row_box start row ∷ []) more) ∙
+    (ap (λ b. (boxes ++ b ∷ []) ++ more) (sym made) ∙ ap (λ bs. bs ++ more) (sym pushed)))
 
 -- the own weights up to a box stay within the total
 pub row_fits : (rows : List PairRow) (boxes more : List ComparedBox) (start : ℕ) (row : PairRow) (xs ys : List Sample) → rows ≡ comparison_of xs ys →

@@ -1,12 +1,12 @@
 -- Rows of ranks: as they are taken, sorted and joined.
-use Rattle.std.proofs.Common.{◌≡◌, ℕ, ◌+◌, ◌-◌, ◌<◌, ◌≤◌, List, [], ◌∷◌, ◌++◌, Bool, true, false, cond, nat_eq, length, get_or, map, drop, reverse, sum_by, refl, sym, ap, ◌∙◌, arith, length-append, length-drop, is_lt, suc, add-one}
+use Rattle.std.proofs.Common.{◌≡◌, ℕ, ◌+◌, ◌-◌, ◌<◌, ◌≤◌, List, [], ◌∷◌, ◌++◌, Bool, true, false, cond, nat_eq, length, get_or, map, drop, reverse, sum_by, refl, sym, ap, subst, ◌∙◌, arith, length-append, length-drop, is_lt, suc, add-one}
 use Rattle.std.specs.Prelude.{Option, Some}
 use Rattle.std.specs.List.{slice_range}
 use Rattle.std.specs.Ordering.{nat_cmp, ordering_then}
 use Rattle.std.specs.Cmp.Lexicographic.{slice_cmp, pointwise}
 use Rattle.std.specs.declared.cmp.Ordering.{Ordering}
 use Rattle.std.specs.declared.cmp.Ordering.TheVariants.{Less, Equal, Greater}
-use Rattle.std.proofs.lemmas.List.{drop-append-le, take-append-le, map-append, reverse-append, map_push, drop_more}
+use Rattle.std.proofs.lemmas.List.{drop-append-le, take-append-le, map-append, reverse-append, map_push, drop_more, get_or-map, length-map}
 use Rattle.std.proofs.lemmas.List.Elements.{All-head, All-tail, All-pop, All-push, All-same}
 use Rattle.std.proofs.lemmas.List.Sums.{sum_by-cons, sum_by-drop_more, sum_by-take-drop}
 use Rattle.std.proofs.lemmas.List.Sorted.{IsPermutation-reverse, sum_by-IsPermutation}
@@ -45,6 +45,17 @@ row_taken frames more now rows all start end weight h grown s e is =
 
 pub within_grown : (frames more now : List ℕ) (rows : List RankedRow) → now ≡ frames ++ more → AreWithin frames rows → AreWithin now rows
 within_grown frames more now rows grown h = λ k d lt. ((h k d lt).0, omega (arith, (h k d lt).1, ap length grown, length-append frames more))
+
+-- a row that is read
+pub within_at : (frames : List ℕ) (rows : List RankedRow) (at : ℕ) (row : RankedRow) → AreWithin frames rows → at < length rows → row ≡ get_or rows at row → (row.start ≤ row.end) × (row.end ≤ length frames)
+within_at frames rows at row h lt is = subst (λ (row : RankedRow). (row.start ≤ row.end) × (row.end ≤ length frames)) (sym is) (h at row lt)
+
+pub ranked_within : (frames : List ℕ) (rows : List RankedRow) (all : List Ranked) (at : ℕ) → ranked_rows frames rows ≡ all → at < length all → at < length rows
+ranked_within frames rows all at view lt = omega (arith, lt, ap length view, length-map rows (ranked_row frames))
+
+pub ranks_at : (frames : List ℕ) (rows : List RankedRow) (all : List Ranked) (at : ℕ) (row : RankedRow) → ranked_rows frames rows ≡ all → at < length all → row ≡ get_or rows at row → slice_range frames row.start row.end ≡ (get_or all at ([], 0)).0
+ranks_at frames rows all at row view lt is =
+    ap (λ (row : RankedRow). slice_range frames row.start row.end) is ∙ ap (λ (row : Ranked). row.0) (sym (get_or-map (ranked_row frames) rows at row ([], 0) (ranked_within frames rows all at view lt))) ∙ ap (λ (rows : List Ranked). (get_or rows at ([], 0)).0) view
 
 -- ---- rows are joined
 

@@ -3,6 +3,7 @@ use Rattle.std.specs.Ordering.{nat_cmp}
 use Rattle.std.specs.Cmp.Lexicographic.{slice_cmp}
 use Rattle.sample_tables.specs.Rows.{name_at}
 use Rattle.std.proofs.lemmas.List.{map_push, length-map, get_or_push}
+use Rattle.std.proofs.lemmas.Result.{IfOk-weaker}
 use Rattle.ranked_rows.specs.Ranks.{AreRising}
 use Rattle.ranked_rows.proofs.RankedNames.{rising_push}
 use Rattle.ranked_rows.proofs.name_ranks.rank_next.Goals as goal
@@ -10,6 +11,23 @@ use Rattle.ranked_rows.proofs.name_ranks.rank_next.Goals as goal
 pushed : (c : goal.In_ok-push) → map string_bytes c.push.new.self.items ≡ map string_bytes c.args.names.now.items ++ c.args.name.now ∷ []
 pushed c =
     ap (map string_bytes) c.in_ok-push.ensures.items ∙ map_push string_bytes c.args.names.now.items c.in_ok-from_str.field-0 ∙ ap (λ name. map string_bytes c.args.names.now.items ++ name ∷ []) c.in_ok-from_str.ensures.ok
+
+pub overflow_sub-len : goal.overflow_sub-len
+overflow_sub-len c =
+    let some = (c.if-is_last.ensures.yes refl).0 in
+    omega (arith, some, ap length c.deref.ensures.value, c.len.ensures, c.args.names.now.ok.0)
+
+pub returns-then-is_last-clause-last : goal.returns-then-is_last-clause-last
+returns-then-is_last-clause-last c =
+    let some = (c.if-is_last.ensures.yes refl).0 in
+    IfOk-weaker c.rank_at.result _ _ (λ rank h. omega (arith, h, some, ap length c.deref.ensures.value, c.len.ensures, c.args.names.now.ok.0)) c.rank_at.ensures
+
+pub returns-then-is_last-clause-name : goal.returns-then-is_last-clause-name
+returns-then-is_last-clause-name c =
+    let names = c.args.names.now.items in
+    let seen = c.deref.ensures.value in
+    let last : name_at (map string_bytes names) (length names - 1) ≡ c.args.name.now = (λ i. name_at (map string_bytes (sym seen i)) (length (sym seen i) - 1)) ∙ (c.if-is_last.ensures.yes refl).1 in
+    IfOk-weaker c.rank_at.result _ _ (λ rank h. ap (name_at (map string_bytes names)) (let r : rank ≡ length names - 1 = omega (arith, h, c.len.ensures, c.args.names.now.ok.0) in r) ∙ last) c.rank_at.ensures
 
 pub returns-clause-rising : goal.returns-clause-rising
 returns-clause-rising c =

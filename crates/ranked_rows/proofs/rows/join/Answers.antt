@@ -1,6 +1,7 @@
 use Rattle.std.proofs.Common.{◌∙◌, ◌-◌, ◌≤◌, [], ap, sym, map, drop, reverse, length, arith}
 use Rattle.std.proofs.lemmas.List.{drop_all}
 use Rattle.std.proofs.lemmas.List.Elements.{All-same}
+use Rattle.std.proofs.lemmas.List.Sorted.{All-permutation, IsPermutation-reverse}
 use Rattle.ranked_rows.specs.declared.rows.RankedRow.{RankedRow}
 use Rattle.ranked_rows.specs.Joined.{joined}
 use Rattle.ranked_rows.specs.checked.Entries.{Entry, ranked_row, ranked_rows, ranked_entry}
@@ -23,10 +24,21 @@ loop-index-preserved c = record {
       ∙ joined-more c.args.entries.now c.loop-index.index (c.loop-index.index - 1) no_entry (reverse (ranked_rows c.args.frames.now c.loop-index.rows.items)) (omega arith) (omega arith) c.loop-index.invariant.joined;
 }
 
+pub put_in_front-requires-clause-ranks : goal.put_in_front-requires-clause-ranks
+put_in_front-requires-clause-ranks c = (c.requires.within (c.loop-index.index - 1) no_entry (omega arith)).0
+
+pub put_in_front-requires-clause-room : goal.put_in_front-requires-clause-room
+put_in_front-requires-clause-room c = (c.requires.within (c.loop-index.index - 1) no_entry (omega arith)).1
+
 pub put_in_front-requires-clause-total : goal.put_in_front-requires-clause-total
 put_in_front-requires-clause-total c =
     let i = c.loop-index.index in
     omega (arith, c.requires.total, joined-room c.args.frames.now c.loop-index.rows.items c.args.entries.now i (i - 1) no_entry (omega arith) (omega arith) c.loop-index.invariant.joined)
+
+pub returns-clause-within : goal.returns-clause-within
+returns-clause-within c =
+    let within = λ (row : RankedRow). (row.start ≤ row.end) × (row.end ≤ length c.args.frames.now) in
+    All-same within _ _ c.reverse.ensures.items (All-permutation within _ _ (IsPermutation-reverse c.loop-index.rows.items) c.loop-index.invariant.within)
 
 pub returns-clause-joined : goal.returns-clause-joined
 returns-clause-joined c =
