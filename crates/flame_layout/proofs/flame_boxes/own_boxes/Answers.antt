@@ -1,7 +1,6 @@
 use Rattle.std.proofs.Common.{◌∙◌, ◌++◌, ◌∷◌, [], ap, sym, map, get_or}
 use Rattle.std.proofs.lemmas.List.{map_more, take_all}
 use Rattle.flame_layout.specs.Boxes.{compared_of}
-use Rattle.flame_layout.specs.declared.boxes.ComparedBox.{ComparedBox}
 use Rattle.flame_layout.specs.declared.boxes.DrawnPair.{DrawnPair}
 use Rattle.flame_layout.proofs.flame_boxes.own_boxes.Goals as goal
 

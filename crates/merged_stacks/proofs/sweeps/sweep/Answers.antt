@@ -1,6 +1,6 @@
-use Rattle.std.proofs.Common.{◌≡◌, ◌∙◌, ◌∷◌, ◌≤◌, List, ap, sym, subst, drop, map, arith, length}
+use Rattle.std.proofs.Common.{◌≡◌, ◌∙◌, ◌∷◌, sym, drop, map, arith}
 use Rattle.std.proofs.lemmas.List.Elements.{All-push, All-same}
-use Rattle.merged_stacks.specs.checked.Swept.{swept, place_row, before_next, after_next, IsPlace}
+use Rattle.merged_stacks.specs.checked.Swept.{swept, place_row, IsPlace}
 use Rattle.merged_stacks.proofs.SweepSteps.{swept_more, swept_all}
 use Rattle.merged_stacks.proofs.sweeps.sweep.Goals as goal
 

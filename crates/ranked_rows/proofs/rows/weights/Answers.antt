@@ -1,4 +1,4 @@
-use Rattle.std.proofs.Common.{[], arith}
+use Rattle.std.proofs.Common.{[]}
 use Rattle.ranked_rows.specs.checked.Entries.{Entry}
 use Rattle.ranked_rows.proofs.MappedLists.{mapped_more, mapped_all}
 use Rattle.ranked_rows.proofs.rows.weights.Goals as goal
