@@ -1,4 +1,4 @@
-//! Tests of outputs and texts.
+//! Tests of texts.
 #![tactic(auto)]
 
 #[cfg(test)]

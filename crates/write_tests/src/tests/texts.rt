@@ -10,12 +10,6 @@ fn are_bytes(rt: &impl Abort, found: &[u8], wanted: &[u8]) {
     assert_eq!(rt; found, wanted);
 }
 
-/// Nothing failed, and what was looked at holds.
-pub(super) fn holds<E: Debug + Drop>(rt: &impl Abort, found: Result<bool, E>) -> Result<(), Fail> {
-    assert!(rt; found?);
-    Ok(())
-}
-
 /// Appends a word that is in no text, in place of what can't be written.
 pub(super) fn refuse(out: &mut Vec<u8>) -> Result<(), AllocError> {
     out.extend_from_slice(b"refused")

@@ -1,6 +1,6 @@
 //! Files of the machine that are loaded before they are asked for.
 use super::asked::{file_fails, file_is, temporary_path};
-use crate::tests::texts::holds;
+use crate::tests::holds;
 use byte_io::{Files, LoadFault, MachineFiles};
 use std::alloc::Global;
 use std::fs::File;

@@ -1,6 +1,6 @@
 //! Bytes that are loaded in pieces.
 use super::asked::{NamedBytes, add_files, temporary_path};
-use crate::tests::texts::holds;
+use crate::tests::holds;
 use byte_io::{Files, MachineFiles, MemoryFiles, load_in_pieces};
 use std::alloc::{AllocError, Global};
 use std::test::Fail;

@@ -1,7 +1,7 @@
 //! Texts that go out piece by piece.
 use super::edge::{is_front, is_written};
 use super::fakes::Stingy;
-use crate::tests::texts::holds;
+use crate::tests::holds;
 use byte_io::{Chain, CountedWriter, Literal, PieceFault, append_pieces, send_pieces};
 use std::alloc::{AllocError, Global};
 use std::process::Abort;

@@ -4,7 +4,7 @@ ghost use Rattle.std.specs.Prelude.{◌≡◌, ◌+◌, ◌<◌, ◌^◌, length
 
 use super::edge::is_front;
 use super::fakes::Stingy;
-use crate::tests::texts::holds;
+use crate::tests::holds;
 use byte_io::{Chain, CountedWriter, Literal, PieceFault, Pieces, send_pieces_in_threads};
 use std::alloc::{AllocError, Global};
 use std::process::Abort;

@@ -1,7 +1,7 @@
 //! Readers and writers that fail at each of their calls.
 use super::asked::{NamedBytes, add_files, file_fails, file_is, input_is, temporary_path};
 use super::fakes::{Faulty, Stingy};
-use crate::tests::texts::holds;
+use crate::tests::holds;
 use byte_io::{
     CountedReader, CountedWriter, Files, LoadFault, MachineFiles, MemoryFiles, SendFault, load,
     send,

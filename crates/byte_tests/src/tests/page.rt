@@ -1,6 +1,6 @@
 //! The example of the crate's page.
 use super::asked::{file_is, input_is};
-use crate::tests::texts::holds;
+use crate::tests::holds;
 use byte_io::{LoadFault, MemoryFiles, NamedFile};
 use std::alloc::{AllocError, Global};
 use std::test::Fail;

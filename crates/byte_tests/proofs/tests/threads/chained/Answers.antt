@@ -1,6 +1,6 @@
 use Rattle.std.proofs.Common.{◌≡◌, ℕ, ◌+◌, ◌<◌, ◌^◌, List, [], ◌∷◌, ◌++◌, length, replicate, arith}
 use Rattle.std.proofs.lemmas.List.{length-append, length-replicate}
-use Rattle.write_tests.proofs.tests.of_byte_io.threads.chained.Goals as goal
+use Rattle.byte_tests.proofs.tests.threads.chained.Goals as goal
 
 few : (m n : ℕ) (a b c : List ℕ) → m + n < 2 ^ 63 → length (replicate m a ++ ((b ∷ []) ++ replicate n c)) < 2 ^ 64
 few m n a b c h =

@@ -1,0 +1,5 @@
+//! Tests of readers, writers and files.
+#![tactic(auto)]
+
+#[cfg(test)]
+mod tests;

@@ -1,0 +1,19 @@
+//! Readers and writers that fail, files of the machine, and the page's example.
+mod ahead;
+mod asked;
+mod edge;
+mod fakes;
+mod files_in_pieces;
+mod page;
+mod pieces;
+mod threads;
+
+use std::fmt::Debug;
+use std::process::Abort;
+use std::test::Fail;
+
+/// Nothing failed, and what was looked at holds.
+fn holds<E: Debug + Drop>(rt: &impl Abort, found: Result<bool, E>) -> Result<(), Fail> {
+    assert!(rt; found?);
+    Ok(())
+}
