@@ -1,4 +1,4 @@
-//! Tests of the call tree, and of the collecting of sources.
+//! Tests of the collecting of sources.
 #![tactic(auto)]
 
 #[cfg(test)]

@@ -1,4 +1,3 @@
-mod of_call_tree;
 mod of_ring_collect;
 mod of_source_lists;
 

@@ -1,7 +1,7 @@
 use Rattle.std.proofs.Common.{sym, subst}
 use Rattle.call_tree.specs.Listing.{HasNumbersOf}
 use Rattle.call_tree.proofs.Numbers.{HasNumbersOf-with_weight}
-use Rattle.collect_tests.proofs.tests.of_call_tree.listings.add_known.Goals as goal
+use Rattle.tree_tests.proofs.tests.listings.add_known.Goals as goal
 
 pub returns-in_err-add : goal.returns-in_err-add
 returns-in_err-add g c = subst (HasNumbersOf c.args.table.now) (sym c.in_err-add.ensures.err) c.loop-ids.invariant

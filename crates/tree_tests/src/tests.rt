@@ -8,11 +8,18 @@ mod names;
 mod page;
 mod spellings;
 
-use super::holds;
 use call_tree::{CallTree, FrameTable};
 use growths::go_on;
 use std::alloc::{AllocError, Global};
+use std::fmt::Debug;
+use std::process::Abort;
 use std::test::Fail;
+
+/// What a test looks for was found.
+fn holds<E: Debug + Drop>(rt: &impl Abort, found: Result<bool, E>) -> Result<(), Fail> {
+    assert!(rt; found?);
+    Ok(())
+}
 
 /// Adds to a tree. One whose grand total is not small, to which no test comes, is refused.
 fn add(tree: &mut CallTree, ids: &[usize], weight: u64) -> Result<(), AllocError>

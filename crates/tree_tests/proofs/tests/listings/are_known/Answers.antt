@@ -2,7 +2,7 @@ use Rattle.std.proofs.Common.{take, get_or, sym, subst, arith}
 use Rattle.std.proofs.lemmas.List.{take_more, take_all}
 use Rattle.call_tree.specs.Listing.{AreIn}
 use Rattle.call_tree.proofs.NameOrder.{AreIn_push}
-use Rattle.collect_tests.proofs.tests.of_call_tree.listings.are_known.Goals as goal
+use Rattle.tree_tests.proofs.tests.listings.are_known.Goals as goal
 
 pub loop-id-preserved : goal.loop-id-preserved
 loop-id-preserved g c =
