@@ -1,5 +1,4 @@
 mod of_ring_collect;
-mod of_source_lists;
 
 use std::fmt::Debug;
 use std::process::Abort;

@@ -20,11 +20,9 @@ use files::{
 };
 use lending::{FRAMES_OF_1, FRAMES_OF_2};
 use messages::Part;
-use profile_tables::PprofReader;
 use reading::{
     BY_N, BY_X, LINES, PLAIN, ROWS, Reading, SAMPLES, Telling, VALUE, are_told, read_so, reads_as,
 };
-use stack_core::SampleReader;
 use std::alloc::AllocError;
 use std::process::Abort;
 use std::test::Fail;
@@ -162,14 +160,4 @@ const TWO_LINES_READ: &[Reading<'static>] = &[
 #[test]
 fn one_function_two_lines(rt: HostRuntime) -> Result<(), Fail> {
     read_so(&rt, TWO_LINES_READ)
-}
-
-/// A reader of this type goes to a thread of its own.
-fn is_sent<R: SampleReader + Send + Drop + 'static>() -> bool {
-    true
-}
-
-#[test]
-fn reader_is_sent(rt: HostRuntime) {
-    assert!(rt; is_sent::<PprofReader>());
 }

@@ -1,4 +1,4 @@
-//! Tests of the readers of fields, messages and folded lines.
+//! Tests of the readers of fields and of folded lines.
 #![tactic(auto)]
 
 #[cfg(test)]

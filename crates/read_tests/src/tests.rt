@@ -1,4 +1,3 @@
 mod of_folded_lines;
-mod of_profile_messages;
 mod of_wire_fields;
 mod texts;

@@ -5,9 +5,9 @@ use super::files::{
     SYSTEM_NAME,
 };
 use super::messages::Part;
-use super::reading::{BY_N, LINES, PLAIN, Reading, is_text, read_so, reader_over};
-use profile_tables::{Naming, Pick, PprofReader, TableFault};
-use stack_core::{ReadFault, ReadKind, Sample, SampleReader, SourceEnd, Step};
+use super::reading::{BY_N, LINES, PLAIN, Reading, read_so, reader_over};
+use profile_tables::{Naming, Pick, PprofReader};
+use stack_core::{Sample, SampleReader, SourceEnd, Step};
 use std::alloc::{AllocError, Global};
 use std::process::Abort;
 use std::test::Fail;
@@ -94,25 +94,4 @@ fn example_of_the_page(rt: HostRuntime) -> Result<(), Fail> {
     let bytes = SMALLEST_BYTES.to_vec(rt.alloc())?;
     let mut reader = reader_over(bytes, Pick::Preferred, Naming::Plain);
     reads_one_sample(&rt, rt.alloc(), &mut reader)
-}
-
-fn is_written(
-    rt: &(impl Abort + AllocGlobal),
-    fault: TableFault,
-    wanted: &str,
-) -> Result<(), AllocError> {
-    let text = fault.to_string(rt.alloc())?;
-    is_text(rt, text.as_str(), wanted);
-    Ok(())
-}
-
-#[test]
-fn faults_are_written(rt: HostRuntime) -> Result<(), Fail> {
-    let fault = TableFault::Read(ReadFault {
-        kind: ReadKind::BadString,
-        at: 12,
-    });
-    is_written(&rt, fault, "BadString at 12")?;
-    is_written(&rt, TableFault::OutOfMemory, "out of memory")?;
-    Ok(())
 }

@@ -231,3 +231,28 @@ fn faults_of_tables(rt: HostRuntime) {
 fn fault_of_a_message(rt: HostRuntime) {
     has_fault(&rt, b"\x32\x00\x0a\x01\x08", ReadKind::Truncated, 2);
 }
+
+fn is_text(rt: &impl Abort, found: &str, wanted: &str) {
+    assert_eq!(rt; found, wanted);
+}
+
+fn is_written(
+    rt: &(impl Abort + AllocGlobal),
+    fault: TableFault,
+    wanted: &str,
+) -> Result<(), AllocError> {
+    let text = fault.to_string(rt.alloc())?;
+    is_text(rt, text.as_str(), wanted);
+    Ok(())
+}
+
+#[test]
+fn faults_are_written(rt: HostRuntime) -> Result<(), Fail> {
+    let fault = TableFault::Read(ReadFault {
+        kind: ReadKind::BadString,
+        at: 12,
+    });
+    is_written(&rt, fault, "BadString at 12")?;
+    is_written(&rt, TableFault::OutOfMemory, "out of memory")?;
+    Ok(())
+}
