@@ -1,4 +1,4 @@
-//! Tests of the collecting of sources.
+//! Tests of schedules, and of the collecting of sources.
 #![tactic(auto)]
 
 #[cfg(test)]

@@ -1,4 +1,6 @@
 mod of_ring_collect;
+mod of_stack_core;
+mod samples;
 
 use std::fmt::Debug;
 use std::process::Abort;

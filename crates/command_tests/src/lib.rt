@@ -1,4 +1,4 @@
-//! Tests of the command line.
+//! Tests of the command line, and of the settings that it makes.
 #![tactic(auto)]
 
 #[cfg(test)]

@@ -1,11 +1,3 @@
-//! Worked command lines.
-mod examples;
-mod faults;
-mod filters;
-mod forms;
-mod help;
-mod lines;
-mod refused;
-mod top;
-mod wanted;
-mod words;
+mod answers;
+mod of_command_line;
+mod of_run_options;

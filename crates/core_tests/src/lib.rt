@@ -1,4 +1,4 @@
-//! Tests of samples, ledgers and options.
+//! Tests of samples, their tables, and ledgers.
 #![tactic(auto)]
 
 #[cfg(test)]

@@ -1,6 +1,5 @@
 mod answers;
 mod copies;
-mod of_run_options;
 mod of_sample_tables;
 mod of_stack_core;
 mod samples;

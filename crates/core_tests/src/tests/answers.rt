@@ -19,8 +19,3 @@ pub fn all(answers: &[Result<bool, AllocError>]) -> Result<bool, AllocError> {
     }
     Ok(true)
 }
-
-/// Of the rows of a test none fails: this is the first that does.
-pub fn none_fails(rt: &impl Abort, first: Option<&str>) {
-    assert!(rt; first.is_none(), "{first:?}");
-}

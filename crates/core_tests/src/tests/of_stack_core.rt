@@ -2,4 +2,3 @@ mod endings;
 mod ledgers;
 mod readers;
 mod records;
-mod worlds;

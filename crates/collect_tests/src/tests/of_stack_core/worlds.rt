@@ -2,7 +2,7 @@
 
 ghost use Rattle.std.specs.Prelude.{◌≡◌, ◌<◌, length, IfOk};
 
-use crate::tests::answers::holds;
+use crate::tests::holds;
 use crate::tests::samples::sample;
 use stack_core::{Close, Event, Item, OpenGate, Sample, SourceEnd, World, laws};
 use std::alloc::{AllocError, Global};

@@ -1,0 +1,11 @@
+//! Worked command lines.
+mod examples;
+mod faults;
+mod filters;
+mod forms;
+mod help;
+mod lines;
+mod refused;
+mod top;
+mod wanted;
+mod words;
