@@ -1,4 +1,4 @@
-//! Tests of rows of ranks, of merged stacks, of boxes, and of the weights of functions.
+//! Tests of boxes, and of the weights of functions.
 #![tactic(auto)]
 
 #[cfg(test)]

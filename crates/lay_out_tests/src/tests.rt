@@ -2,17 +2,5 @@
 
 mod of_flame_layout;
 mod of_function_sums;
-mod of_merged_stacks;
-mod of_ranked_rows;
 mod sources;
 mod told;
-
-use std::alloc::AllocError;
-use std::process::Abort;
-use std::test::Fail;
-
-/// What a test looks for was found.
-fn holds(rt: &impl Abort, found: Result<bool, AllocError>) -> Result<(), Fail> {
-    assert!(rt; found?);
-    Ok(())
-}

@@ -78,50 +78,6 @@ pub fn lists_of(
     Ok(lists)
 }
 
-fn take_split(
-    rt: &impl Abort,
-    alloc: Global,
-    ledger: &mut Ledger,
-    stack: &str,
-) -> Result<(), AllocError> {
-    let names: Vec<&str> = stack.split(';').collect(alloc)?;
-    take_line(rt, alloc, ledger, &names, 1)
-}
-
-fn take_falling(
-    rt: &impl Abort,
-    alloc: Global,
-    ledger: &mut Ledger,
-    number: u64,
-) -> Result<(), AllocError> {
-    let stack = format!(in alloc; "f{};a;b;c;d;e;f{}", number / 100, number)?;
-    take_split(rt, alloc, ledger, &stack)
-}
-
-fn take_all_falling(rt: &impl Abort, alloc: Global, ledger: &mut Ledger) -> Result<(), AllocError> {
-    for number in (1_000u64..4_000).rev() {
-        take_falling(rt, alloc, ledger, number)?;
-    }
-    Ok(())
-}
-
-/// The list of a source with 3,000 stacks of seven frames, each below the one before it.
-fn falling_list(rt: &impl Abort, alloc: Global) -> Result<SourceList, AllocError> {
-    let mut ledger = Ledger::new(alloc);
-    take_all_falling(rt, alloc, &mut ledger)?;
-    close_read(rt, &mut ledger);
-    Ok(ledger.into_list())
-}
-
-/// The lists of two such sources.
-pub fn falling_lists(rt: &impl Abort, alloc: Global) -> Result<Vec<SourceList>, AllocError> {
-    let mut lists = Vec::new(alloc);
-    for _ in 0..2 {
-        lists.push(falling_list(rt, alloc)?)?;
-    }
-    Ok(lists)
-}
-
 /// That a list weighs little.
 pub fn assert_light_list(rt: &impl Abort, list: &SourceList)
     ensures { total_weight list.now.samples < 2 ^ 64 }

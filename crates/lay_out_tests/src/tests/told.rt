@@ -7,16 +7,13 @@ use super::of_flame_layout::merged::append_graph;
 use super::of_flame_layout::trees::append_placed_graph;
 use super::of_flame_layout::{append_chart, append_placed_chart, pixels};
 use super::of_function_sums::append_functions;
-use super::of_merged_stacks::pairs::{append_of_paired, append_pairs};
-use super::of_merged_stacks::{append_stacks, append_total};
 use super::sources::{Lines, assert_light, assert_light_list, lists_of};
 use function_sums::Order;
-use merged_stacks::{MergedStacks, Side};
+use merged_stacks::MergedStacks;
 use stack_core::SourceList;
 use std::alloc::AllocError;
 use std::process::Abort;
 use std::test::Fail;
-use std::thread::Threads;
 
 /// What is told of sources.
 pub enum Told {
@@ -40,8 +37,6 @@ pub enum OfChart {
 
 /// What is told of the merged stacks of sources.
 pub enum OfMerged {
-    Stacks,
-    Total,
     /// The boxes of their graph.
     Graph,
     /// The same, with names that the stacks lend.
@@ -51,19 +46,8 @@ pub enum OfMerged {
     Functions(Order),
 }
 
-/// What is told of the stacks of two sources, side by side.
-pub enum OfPaired {
-    /// How many frames the first two of them have in common.
-    SharedFrames,
-    /// These stacks with the weights of one source.
-    Side(Side),
-}
-
 /// What is told of two sources.
 pub enum OfTwo {
-    /// Their stacks side by side.
-    Pairs,
-    Paired(OfPaired),
     /// The rows of their comparison.
     Rows,
     /// The boxes of these rows in a picture of this total and this width.
@@ -96,8 +80,6 @@ fn append_merged(
     merged: &MergedStacks,
 ) -> Result<(), AllocError> {
     match told {
-        OfMerged::Stacks => append_stacks(text, merged),
-        OfMerged::Total => append_total(text, merged),
         OfMerged::Graph => append_graph(rt.alloc(), text, merged),
         OfMerged::DrawnGraph => append_drawn_graph(rt.alloc(), text, merged),
         OfMerged::DrawnEdges(total, width) => {
@@ -119,7 +101,7 @@ fn append_of_merged(
 }
 
 fn append_of_two(
-    rt: &(impl Abort + AllocGlobal + Threads),
+    rt: &(impl Abort + AllocGlobal),
     text: &mut String,
     told: &OfTwo,
     lists: &[SourceList],
@@ -130,8 +112,6 @@ fn append_of_two(
     assert_light_list(rt, before);
     assert_light_list(rt, after);
     match told {
-        OfTwo::Pairs => append_pairs(rt.alloc(), text, before, after),
-        OfTwo::Paired(told) => append_of_paired(rt, text, before, after, told),
         OfTwo::Rows => append_rows(rt.alloc(), text, before, after),
         OfTwo::RowBoxes(total, width) => {
             append_row_boxes(rt.alloc(), text, before, after, *total, pixels(rt, *width))
@@ -144,7 +124,7 @@ fn append_of_two(
 
 /// Appends what is told of lists.
 fn append_told(
-    rt: &(impl Abort + AllocGlobal + Threads),
+    rt: &(impl Abort + AllocGlobal),
     text: &mut String,
     told: &Told,
     lists: &[SourceList],
@@ -158,7 +138,7 @@ fn append_told(
 }
 
 fn append_of_sources(
-    rt: &(impl Abort + AllocGlobal + Threads),
+    rt: &(impl Abort + AllocGlobal),
     text: &mut String,
     told: &Told,
     sources: &[Lines<'_>],
@@ -174,10 +154,7 @@ pub fn is_text(rt: &impl Abort, found: &str, wanted: &str) {
 /// What is told, of sources of these lines, and as which text.
 pub type Telling<'a> = (Told, &'a [Lines<'a>], &'a str);
 
-fn is_told(
-    rt: &(impl Abort + AllocGlobal + Threads),
-    telling: &Telling<'_>,
-) -> Result<(), AllocError> {
+fn is_told(rt: &(impl Abort + AllocGlobal), telling: &Telling<'_>) -> Result<(), AllocError> {
     let (told, sources, wanted) = telling;
     let mut text = String::new(rt.alloc());
     append_of_sources(rt, &mut text, told, sources)?;
@@ -186,10 +163,7 @@ fn is_told(
 }
 
 /// Each of these is told so.
-pub fn are_told(
-    rt: &(impl Abort + AllocGlobal + Threads),
-    tellings: &[Telling<'_>],
-) -> Result<(), Fail> {
+pub fn are_told(rt: &(impl Abort + AllocGlobal), tellings: &[Telling<'_>]) -> Result<(), Fail> {
     for telling in tellings {
         is_told(rt, telling)?;
     }
