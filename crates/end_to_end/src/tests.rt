@@ -2,13 +2,13 @@
 mod answers;
 mod asked_files;
 mod folded;
+mod growths;
 mod outputs;
 mod page;
 mod pictures;
 mod profiles;
 mod sources;
 mod types;
-mod views;
 mod worked;
 
 use std::fmt::Debug;
