@@ -1,4 +1,5 @@
 pub mod JoinedRows
+pub mod KeptNames
 pub mod MappedLists
 pub mod MovedRows
 pub mod RankedNames

@@ -9,7 +9,7 @@ use Rattle.std.specs.FinMap.{slice_cmp-IsAntisymmetric, nat_cmp-IsAntisymmetric}
 use Rattle.std.proofs.lemmas.Cmp.{nat_list_cmp_total}
 use Rattle.std.proofs.lemmas.List.{length-append, get_or_append_left, get_or_push, length_push}
 use Rattle.sample_tables.specs.Rows.{name_at}
-use Rattle.std.proofs.lemmas.List.{map_push, flat_map_more, take_more, append_assoc, length-map}
+use Rattle.std.proofs.lemmas.List.{map_push, flat_map_more, take_more, length-map}
 use Rattle.std.proofs.lemmas.List.FromFn.{length-enumerate_from, get_or-enumerate_from}
 use Rattle.std.proofs.lemmas.List.Sorted.{IsPermutation-sym, Contains-permutation, length_permutation}
 use Rattle.std.proofs.lemmas.List.{get_or-set_same, get_or-set_other, same_lists, get_or-map, get_or_default}
@@ -55,15 +55,14 @@ rising_push names name rising up other i j lt lj =
     (last_or_before j n (omega (arith, length_push names name)))
 
 -- one told name more
-pub told_more : (told new : List NameAt) (e : NameAt) (front names : List (List ℕ)) (i : ℕ) → i < length names → new ≡ told ++ e ∷ [] → e.1 ≡ length told → e.0.now ≡ name_at names i
-    → map placed_name told ≡ enumerate_from 0 (front ++ take i names) → map placed_name new ≡ enumerate_from 0 (front ++ take (i + 1) names)
-told_more told new e front names i lt grown place name h =
-    let before : List (List ℕ) = front ++ take i names in
+pub told_more : (told new : List NameAt) (e : NameAt) (names : List (List ℕ)) (i : ℕ) → i < length names → new ≡ told ++ e ∷ [] → e.1 ≡ length told → e.0.now ≡ name_at names i
+    → map placed_name told ≡ enumerate_from 0 (take i names) → map placed_name new ≡ enumerate_from 0 (take (i + 1) names)
+told_more told new e names i lt grown place name h =
+    let before : List (List ℕ) = take i names in
     let count : length told ≡ length before = sym (length-map told placed_name) ∙ ap length h ∙ length-enumerate_from 0 before in
-    let more : front ++ take (i + 1) names ≡ before ++ name_at names i ∷ [] = ap (λ xs. front ++ xs) (take_more names i [] lt) ∙ sym (append_assoc front (take i names) (name_at names i ∷ [])) in
     let here : e.1 ≡ 0 + length before = omega (arith, place, count) in
     let one : placed_name e ≡ (0 + length before, name_at names i) = (λ k. (here k, name k)) in
-    ap (map placed_name) grown ∙ map_push placed_name told e ∙ (λ k. h k ++ one k ∷ []) ∙ sym (enumerate_push 0 before (name_at names i)) ∙ ap (enumerate_from 0) (sym more)
+    ap (map placed_name) grown ∙ map_push placed_name told e ∙ (λ k. h k ++ one k ∷ []) ∙ sym (enumerate_push 0 before (name_at names i)) ∙ ap (enumerate_from 0) (sym (take_more names i [] lt))
 
 -- the told names that were ranked have ranks of their names
 abbrev pub AreRanked : List NameAt → List (List ℕ) → List ℕ → ℕ → Type 0

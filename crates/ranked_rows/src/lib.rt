@@ -5,6 +5,7 @@ mod keyed_rows;
 mod name_ranks;
 mod rows;
 mod sorting;
+mod told_names;
 
 pub use keyed_rows::KeyedRow;
 pub use name_ranks::NameRanks;

@@ -1,13 +1,15 @@
 //! The names of some lists in order, and the rank of each told name.
 
-ghost use Rattle.std.specs.Prelude.{◌≡◌, ◌+◌, ◌-◌, ◌<◌, ◌++◌, ◌≢◌, IsTrue, false, ℕ, [], List, All, IfOk, OnOk, length, map, string_bytes};
-ghost use Rattle.std.specs.List.{enumerate_from};
+ghost use Rattle.std.specs.Prelude.{◌≡◌, ◌+◌, ◌-◌, ◌<◌, ◌++◌, ◌≢◌, IsTrue, false, ℕ, List, All, IfOk, OnOk, length, map, string_bytes, slice_index};
 ghost use Rattle.std.specs.Ordering.{nat_cmp, is_lt};
 ghost use Rattle.std.specs.Cmp.Lexicographic.{slice_cmp};
 ghost use Rattle.sample_tables.specs.Rows.{name_at};
 ghost use Rattle.ranked_rows.specs.Ranks.{AreRising, all_told, AreRanks};
-ghost use Rattle.ranked_rows.specs.checked.Names.{placed_name, AreSorted, Grows};
+ghost use Rattle.ranked_rows.specs.checked.Names.{AreKept, AreSorted, Grows};
 
+use crate::told_names::{
+    NameAt, ToldNames, names_of_list, names_of_lists, names_of_pair, narrowed,
+};
 use stack_core::SourceList;
 use std::alloc::{AllocError, Global};
 
@@ -19,18 +21,16 @@ pub struct NameRanks {
     pub ranks: Vec<u32>,
 }
 
-/// A told name, and its place among those of all lists.
-type NameAt<'a> = (&'a str, usize);
-
 impl NameRanks {
     /// Of the names that all lists were told. A name past the 2^32nd is refused as memory is.
     pub fn of(alloc: Global, lists: &[SourceList]) -> Result<NameRanks, AllocError>
         ensures { IfOk result (λ all.
             AreRanks (all_told lists.now) (map string_bytes all.names.items) all.ranks.items) }
     {
-        let mut told = all_names(alloc, lists)?;
-        told.sort_unstable();
-        rank(alloc, &told)
+        if let [list] = lists {
+            return ranks_of_list(alloc, list);
+        }
+        ranks_of_told(alloc, names_of_lists(alloc, lists)?)
     }
 
     /// The same of two lists.
@@ -42,37 +42,47 @@ impl NameRanks {
         ensures { IfOk result (λ all.
             AreRanks (before.now.told ++ after.now.told) (map string_bytes all.names.items) all.ranks.items) }
     {
-        let mut listed = Vec::new(alloc);
-        add_names(&mut listed, before)?;
-        add_names(&mut listed, after)?;
-        listed.sort_unstable();
-        rank(alloc, &listed)
+        ranks_of_told(alloc, names_of_pair(alloc, before, after)?)
     }
 }
 
-/// The told names of all lists.
-fn all_names<'a>(alloc: Global, lists: &'a [SourceList]) -> Result<Vec<NameAt<'a>>, AllocError>
-    ensures { IfOk result (λ told.
-        map placed_name told.items ≡ enumerate_from 0 (all_told lists.now)) }
+/// Of the names of one list, which are mostly different ones.
+fn ranks_of_list(alloc: Global, list: &SourceList) -> Result<NameRanks, AllocError>
+    ensures { IfOk result (λ all.
+        AreRanks list.now.told (map string_bytes all.names.items) all.ranks.items) }
 {
-    let mut told = Vec::new(alloc);
-    for list in lists {
-        add_names(&mut told, list)?;
-    }
-    Ok(told)
+    let mut told = names_of_list(alloc, list)?;
+    told.sort_unstable();
+    rank(alloc, &told)
 }
 
-/// Appends the told names of a list.
-fn add_names<'a>(told: &mut Vec<NameAt<'a>>, list: &'a SourceList) -> Result<(), AllocError>
-    ensures { OnOk result ((front : List (List ℕ))
-        → map placed_name told.old.items ≡ enumerate_from 0 front
-        → map placed_name told.new.items ≡ enumerate_from 0 (front ++ list.now.told)) }
+/// Of told names, equal ones of which were mostly kept once.
+fn ranks_of_told(alloc: Global, told: ToldNames<'_>) -> Result<NameRanks, AllocError>
+    requires { (names : List (List ℕ)) × AreKept names told.kept.items told.places.items }
+    ensures { IfOk result (λ all. (names : List (List ℕ)) → AreKept names told.entry.kept.items told.entry.places.items
+        → AreRanks names (map string_bytes all.names.items) all.ranks.items) }
 {
-    for number in 0..list.told() {
-        let place = told.len();
-        told.push((list.told_name(number), place))?;
+    let ToldNames {
+        mut kept,
+        mut places,
+    } = told;
+    kept.sort_unstable();
+    let NameRanks { names, ranks } = rank(alloc, &kept)?;
+    rank_places(&mut places, &ranks);
+    Ok(NameRanks {
+        names,
+        ranks: places,
+    })
+}
+
+/// Puts the rank of each place in its stead.
+fn rank_places(places: &mut [u32], ranks: &[u32])
+    requires { All (λ place. place < length ranks.now) places.old }
+    ensures { places.new ≡ map (slice_index ranks.now) places.old }
+{
+    for place in places.iter_mut() {
+        *place = ranks[*place as usize];
     }
-    Ok(())
 }
 
 /// Ranks told names that come in order.
@@ -101,21 +111,11 @@ fn rank_next(alloc: Global, names: &mut Vec<String>, name: &str) -> Result<u32, 
     ensures name { IfOk result (λ rank. name_at (map string_bytes names.new.items) rank ≡ name.now) }
 {
     if is_last(names, name) {
-        return rank_at(names.len() - 1);
+        return narrowed(names.len() - 1);
     }
-    let rank = rank_at(names.len())?;
+    let rank = narrowed(names.len())?;
     names.push(String::from_str(alloc, name)?)?;
     Ok(rank)
-}
-
-/// The rank of a name at a place. One past the 2^32nd is refused as memory is.
-fn rank_at(place: usize) -> Result<u32, AllocError>
-    ensures { IfOk result (λ rank. rank ≡ place) }
-{
-    if place > u32::MAX as usize {
-        return Err(AllocError);
-    }
-    Ok(place as u32)
 }
 
 /// Whether the name is the last one.

@@ -4,11 +4,13 @@
 
 mod entries;
 pub mod laws;
+mod number_cache;
 mod samples;
 mod stacks;
 mod tables;
 mod values;
 
+pub use number_cache::{NumberCache, hash_of_name};
 pub use samples::{FRAME_LIMIT, Sample, WEIGHT_LIMIT};
 pub use tables::RowTable;
 pub use values::{Listed, Names, Text};

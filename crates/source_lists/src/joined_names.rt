@@ -3,16 +3,9 @@
 ghost use Rattle.std.specs.Prelude.{◌≡◌, ◌++◌, ◌∷◌, [], None, IsTrue, IfOk, OnOk};
 ghost use Rattle.source_lists.specs.checked.Joining.{AreFound, IsFound, TellsMore};
 
-use crate::number_cache::NumberCache;
+use sample_tables::{NumberCache, hash_of_name};
 use stack_core::{Ledger, SourceList, Text};
 use std::alloc::{AllocError, Global};
-use std::hash::{FoldHasher, Hasher};
-
-fn hash_of(name: &str) -> u64 {
-    let mut hasher = FoldHasher::default();
-    hasher.write(name.as_bytes());
-    hasher.finish()
-}
 
 /// Whether a ledger was told this name under this number.
 fn has_name(ledger: &Ledger, number: usize, name: &str) -> bool
@@ -32,7 +25,7 @@ fn number_of_name(
     ensures found { IfOk result (λ number. IsFound [] ledger.new.told number name.now) }
     ensures tells { OnOk result (TellsMore ledger.old ledger.new) }
 {
-    let hash = hash_of(name);
+    let hash = hash_of_name(name);
     if let Some(number) = known.find(hash, |number| has_name(ledger, number, name)) {
         return Ok(number);
     }

@@ -5,7 +5,7 @@ ghost use Rattle.sample_tables.specs.declared.samples.TheConstants.{FRAME_LIMIT}
 ghost use Rattle.source_lists.specs.checked.Joining.{AreFound, IsFound, KeepsMore, named_stacks};
 
 use crate::joined_names::append_number;
-use crate::number_cache::NumberCache;
+use sample_tables::NumberCache;
 use stack_core::{Ledger, SourceList};
 use std::alloc::{AllocError, Global};
 

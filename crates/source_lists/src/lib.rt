@@ -8,7 +8,6 @@ mod kept_lists;
 mod kept_order;
 mod kept_stacks;
 pub mod laws;
-mod number_cache;
 mod part_lists;
 mod part_readers;
 mod part_runs;

@@ -10,7 +10,7 @@ ghost use Rattle.source_lists.specs.checked.Parts.{ignored_by};
 
 use crate::joined_names::numbers_of_names;
 use crate::joined_stacks::numbers_of_stacks;
-use crate::number_cache::NumberCache;
+use sample_tables::NumberCache;
 use stack_core::{Close, Ledger, SourceEnd, SourceList, WEIGHT_LIMIT};
 use std::alloc::{AllocError, Global};
 

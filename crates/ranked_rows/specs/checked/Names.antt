@@ -1,11 +1,12 @@
--- Told names while they are sorted and ranked.
-use Rattle.std.specs.Prelude.{◌≡◌, ℕ, ◌+◌, ◌<◌, ◌++◌, List, length, false, slice_index_or}
+-- Told names while they are kept, sorted and ranked.
+use Rattle.std.specs.Prelude.{◌≡◌, ℕ, ◌+◌, ◌<◌, ◌++◌, List, All, length, map, false, slice_index_or}
+use Rattle.std.specs.List.{enumerate_from}
 use Rattle.std.specs.Ordering.{nat_cmp, is_lt}
 use Rattle.std.specs.Cmp.Lexicographic.{slice_cmp}
 use denote.Ref.{Bor}
 use Rattle.sample_tables.specs.Rows.{name_at}
 
--- a told name, and its place among those of all lists
+-- a told name, and its place among those that are kept
 abbrev pub NameAt : Type 0
 NameAt = Bor (List ℕ) × ℕ
 
@@ -22,3 +23,31 @@ pub record AreSorted (names : List (List ℕ)) (told : List NameAt) : Type 0 whe
 -- the names have gained some at their end, or none
 abbrev pub Grows : List (List ℕ) → List (List ℕ) → Type 0
 Grows old new = (more : List (List ℕ)) × (new ≡ old ++ more)
+
+-- the names that are kept
+abbrev pub kept_name : NameAt → List ℕ
+kept_name kept = kept.0.now
+
+abbrev pub kept_names : List NameAt → List (List ℕ)
+kept_names kept = map kept_name kept
+
+-- each is kept at its place
+abbrev pub ArePlaced : List NameAt → Type 0
+ArePlaced kept = map placed_name kept ≡ enumerate_from 0 (kept_names kept)
+
+-- a name is kept at this place
+pub record IsKept (kept : List NameAt) (place : ℕ) (name : List ℕ) : Type 0 where
+  pub within : place < length kept
+  pub same : name_at (kept_names kept) place ≡ name
+
+-- the told names are kept at these places
+pub record AreKept (told : List (List ℕ)) (kept : List NameAt) (places : List ℕ) : Type 0 where
+  pub placed : ArePlaced kept
+  pub within : All (λ place. place < length kept) places
+  pub same : map (name_at (kept_names kept)) places ≡ told
+
+-- some names more are kept, or none
+pub record KeepsMore (old new : List NameAt) : Type 0 where
+  pub more : List NameAt
+  pub grown : new ≡ old ++ more
+  pub placed : ArePlaced old → ArePlaced new

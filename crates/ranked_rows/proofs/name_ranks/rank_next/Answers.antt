@@ -20,14 +20,14 @@ overflow_sub-len c =
 pub returns-then-is_last-clause-last : goal.returns-then-is_last-clause-last
 returns-then-is_last-clause-last c =
     let some = (c.if-is_last.ensures.yes refl).0 in
-    IfOk-weaker c.rank_at.result _ _ (λ rank h. omega (arith, h, some, ap length c.deref.ensures.value, c.len.ensures, c.args.names.now.ok.0)) c.rank_at.ensures
+    IfOk-weaker c.narrowed.result _ _ (λ rank h. omega (arith, h, some, ap length c.deref.ensures.value, c.len.ensures, c.args.names.now.ok.0)) c.narrowed.ensures
 
 pub returns-then-is_last-clause-name : goal.returns-then-is_last-clause-name
 returns-then-is_last-clause-name c =
     let names = c.args.names.now.items in
     let seen = c.deref.ensures.value in
     let last : name_at (map string_bytes names) (length names - 1) ≡ c.args.name.now = (λ i. name_at (map string_bytes (sym seen i)) (length (sym seen i) - 1)) ∙ (c.if-is_last.ensures.yes refl).1 in
-    IfOk-weaker c.rank_at.result _ _ (λ rank h. ap (name_at (map string_bytes names)) (let r : rank ≡ length names - 1 = omega (arith, h, c.len.ensures, c.args.names.now.ok.0) in r) ∙ last) c.rank_at.ensures
+    IfOk-weaker c.narrowed.result _ _ (λ rank h. ap (name_at (map string_bytes names)) (let r : rank ≡ length names - 1 = omega (arith, h, c.len.ensures, c.args.names.now.ok.0) in r) ∙ last) c.narrowed.ensures
 
 pub returns-clause-rising : goal.returns-clause-rising
 returns-clause-rising c =

@@ -3,6 +3,7 @@
 ghost use Rattle.std.specs.Prelude.{true, IfSome};
 
 use std::alloc::{AllocError, Global};
+use std::hash::{FoldHasher, Hasher};
 
 /// In how many slots a number is looked for, so that hashes that were made to collide take no longer than others.
 const PROBES: usize = 8;
@@ -23,13 +24,13 @@ impl Slot {
 
 /// Numbers by hashes. It may forget, and it may propose the number of something else, so who asks compares.
 #[derive(Drop)]
-pub(crate) struct NumberCache {
+pub struct NumberCache {
     slots: Vec<Slot>,
 }
 
 impl NumberCache {
     /// An empty cache with a slot for each of so many numbers, and a few more.
-    pub(crate) fn with_room(alloc: Global, count: usize) -> Result<NumberCache, AllocError> {
+    pub fn with_room(alloc: Global, count: usize) -> Result<NumberCache, AllocError> {
         let empty = Slot { hash: 0, number: 0 };
         let slots = vec![in alloc; empty; count.saturating_add(PROBES)]?;
         Ok(NumberCache { slots })
@@ -42,7 +43,7 @@ impl NumberCache {
     }
 
     /// A number that was remembered by this hash, and of which a test holds.
-    pub(crate) fn find<F: Fn(usize) -> bool>(&self, hash: u64, is_it: F) -> Option<usize>
+    pub fn find<F: Fn(usize) -> bool>(&self, hash: u64, is_it: F) -> Option<usize>
         requires { F.IsAlwaysCallable is_it }
         ensures { IfSome result (λ number. F.post is_it number true) }
     {
@@ -58,7 +59,7 @@ impl NumberCache {
     }
 
     /// Remembers a number by a hash. Another one may be forgotten for it.
-    pub(crate) fn remember(&mut self, hash: u64, number: usize) {
+    pub fn remember(&mut self, hash: u64, number: usize) {
         let Ok(number) = u32::try_from(number.saturating_add(1)) else {
             return;
         };
@@ -78,4 +79,11 @@ impl NumberCache {
 /// The half of a hash that a slot keeps.
 fn upper(hash: u64) -> u32 {
     (hash >> 32) as u32
+}
+
+/// The hash of a name.
+pub fn hash_of_name(name: &str) -> u64 {
+    let mut hasher = FoldHasher::default();
+    hasher.write(name.as_bytes());
+    hasher.finish()
 }
