@@ -1,2 +1,3 @@
+mod caches;
 mod tables;
 mod values;
