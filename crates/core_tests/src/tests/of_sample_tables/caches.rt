@@ -12,9 +12,11 @@ fn finds_two_names(alloc: Global) -> Result<bool, AllocError> {
     let mut known = NumberCache::with_room(alloc, 2)?;
     known.remember(hash_of_name("main"), 5);
     known.remember(hash_of_name("parse"), 0);
-    Ok(found(&known, "main") == Some(5)
-        && found(&known, "parse") == Some(0)
-        && found(&known, "read").is_none())
+    Ok(
+        found(&known, "main") == Some(5)
+            && found(&known, "parse") == Some(0)
+            && found(&known, "read").is_none(),
+    )
 }
 
 #[test]
