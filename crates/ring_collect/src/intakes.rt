@@ -61,8 +61,6 @@ pub enum Look {
     Idle,
     /// A record came.
     Moved,
-    /// So many records came that more may be there.
-    Busy,
 }
 
 impl Look {
@@ -72,7 +70,6 @@ impl Look {
     {
         match (self, other) {
             (Look::Closed, Look::Closed) => Look::Closed,
-            (Look::Busy, _) | (_, Look::Busy) => Look::Busy,
             (Look::Moved, _) | (_, Look::Moved) => Look::Moved,
             _ => Look::Idle,
         }

@@ -30,18 +30,13 @@ impl Pause {
     /// Waits on. It gives the processor away so many times, or sleeps where it has done that 64 times.
     pub fn wait<W: Wait>(&mut self, rt: &W, yields: usize) {
         if self.yields >= YIELDS {
-            self.nap(rt);
+            self.parker.park_timeout(rt, Duration::from_micros(NAP));
             return;
         }
         for _ in 0..yields {
             thread::yield_now();
         }
         self.yields = self.yields.saturating_add(yields);
-    }
-
-    /// Sleeps once.
-    pub fn nap<W: Wait>(&mut self, rt: &W) {
-        self.parker.park_timeout(rt, Duration::from_micros(NAP));
     }
 
     /// What it waited for is there.

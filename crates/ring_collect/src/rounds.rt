@@ -15,27 +15,6 @@ use std::sync::Wait;
 /// The most records that are taken from a ring before the next ring's turn.
 const VISIT: u32 = 64;
 
-/// A ring of so many records is not full before the collecting thread has slept once.
-const ROOMY: usize = 512;
-
-/// Whether the rings have so much room that their readers go on while the collecting thread sleeps.
-fn are_roomy<R: RowReader, G: Gate>(sources: &[RunningSource<R, G>]) -> bool {
-    sources
-        .iter()
-        .all(|running| running.intake.consumer.capacity() >= ROOMY)
-}
-
-/// Waits until the next round. After one that left the rings empty it sleeps where they are roomy, since this thread would take processor
-/// time from the readers and look at their work record by record.
-fn wait_after<W: Wait>(rt: &W, round: Look, roomy: bool, pause: &mut Pause) {
-    match round {
-        Look::Closed | Look::Busy => pause.end(),
-        Look::Idle | Look::Moved if roomy => pause.nap(rt),
-        Look::Idle => pause.wait(rt, 1),
-        Look::Moved => pause.end(),
-    }
-}
-
 /// What the collecting thread has of a run.
 #[derive(Drop)]
 pub struct Collector<R: RowReader, G: Gate> {
@@ -113,7 +92,7 @@ impl<R: RowReader, G: Gate> Collector<R, G> {
                 return first;
             }
         }
-        Look::Busy
+        first
     }
 
     /// Visits every ring that is not closed.
@@ -162,13 +141,12 @@ impl<R: RowReader, G: Gate> Collector<R, G> {
         ensures setting { F.setting sink.new ≡ F.setting sink.old }
     {
         let mut pause = Pause::new();
-        let roomy = are_roomy(&self.sources);
         for _ in rt.forever() {
-            let round = self.look_round(alloc, feed, sink);
-            if round == Look::Closed {
-                return;
+            match self.look_round(alloc, feed, sink) {
+                Look::Closed => return,
+                Look::Idle => pause.wait(rt, 1),
+                Look::Moved => pause.end(),
             }
-            wait_after(rt, round, roomy, &mut pause);
         }
         unreachable!()
     }

@@ -13,7 +13,6 @@ use crate::joined_stacks::numbers_of_stacks;
 use sample_tables::NumberCache;
 use stack_core::{Close, Ledger, SourceEnd, SourceList, WEIGHT_LIMIT};
 use std::alloc::{AllocError, Global};
-use std::thread::{Threads, join};
 
 /// How many lines the parts of a source ignored. `None` where one has a fault, or where all weigh more together than a source may.
 pub(crate) fn ignored_by_clean(parts: &[SourceList]) -> Option<u64>
@@ -127,25 +126,4 @@ pub(crate) fn joined_list(
     take_lists(alloc, &mut ledger, &mut known, parts)?;
     ledger.close(Close::Read(SourceEnd::Clean { ignored }));
     Ok(ledger.into_list())
-}
-
-/// As `joined_list`, while a thread gives back the bytes that the parts were read from.
-pub(crate) fn joined_list_without<R: Threads, B: Send + Drop>(
-    rt: &R,
-    alloc: Global,
-    bytes: B,
-    parts: Vec<SourceList>,
-    ignored: u64,
-) -> Result<SourceList, AllocError>
-    requires { ignored ≡ ignored_by (map seen_as_rest parts.items) }
-    ensures { IfOk result (λ list. seen_as_rest list ≡ joined (map seen_as_rest parts.items)) }
-{
-    let give_back = move || drop(bytes);
-    let put_together = move || -> Result<SourceList, AllocError>
-        requires { ignored ≡ ignored_by (map seen_as_rest parts.items) }
-        ensures { IfOk result (λ list.
-            seen_as_rest list ≡ joined (map seen_as_rest parts.items)) }
-    { joined_list(alloc, parts, ignored) };
-    let (_, list) = join(rt, give_back, put_together);
-    list
 }

@@ -10,7 +10,7 @@ ghost use Rattle.source_lists.specs.Sources.{read_bytes, rests_of, weight_of_sou
 ghost use Rattle.source_lists.specs.checked.Parts.{ArePartsOf};
 ghost use Rattle.source_lists.specs.checked.Readers.{reader_rest, reader_told};
 
-use crate::part_lists::{ignored_by_clean, joined_list_without};
+use crate::part_lists::{ignored_by_clean, joined_list};
 use crate::part_readers::{lone_reader, part_readers};
 use crate::reader_runs::{run_rows, run_unseen};
 use crate::source_lists::SourceLists;
@@ -134,7 +134,9 @@ fn read_source<T: Threads + Wait + Copy + Send + 'static, S: RowSink>(
     let bytes = Bytes::from_vec(bytes).map_err(|_| AllocError)?;
     match read_parts(rt, alloc, format, &bytes, options, sink)? {
         Some(CleanParts { lists, ignored }) => {
-            Ok(joined_list_without(rt, alloc, bytes, lists, ignored)?)
+            // The bytes are given back before the lists are copied.
+            drop(bytes);
+            Ok(joined_list(alloc, lists, ignored)?)
         }
         None => read_alone(rt, alloc, format, bytes, options),
     }

@@ -1,6 +1,6 @@
 //! A long text that comes in pieces.
 
-ghost use Rattle.std.specs.Prelude.{◌≡◌, ◌≤◌, ◌<◌, ℕ, [], ◌∷◌, IfOk, IsErrOf, length, map};
+ghost use Rattle.std.specs.Prelude.{◌≡◌, ◌≤◌, ◌<◌, ℕ, [], ◌∷◌, IfOk, IsErrOf, length};
 ghost use Rattle.std.specs.List.{concat};
 ghost use Rattle.sample_tables.specs.Samples.{total_weight};
 ghost use Rattle.stack_core.specs.Interleaving.{IsInterleaving};
@@ -9,11 +9,9 @@ ghost use Rattle.merged_stacks.specs.Timeline.{samples_of};
 ghost use Rattle.folded_lines.specs.Reading.{read_folded};
 ghost use Rattle.ring_collect.specs.Collection.{AreWhole, seen_as_rest};
 ghost use Rattle.run_options.specs.declared.formats.Format.TheVariants.{Folded};
-ghost use Rattle.stack_core.specs.Parts.{joined};
 ghost use Rattle.source_lists.specs.Sources.{asked_rest, joined_pieces};
-ghost use Rattle.source_lists.specs.checked.Parts.{ignored_by};
 
-use crate::part_lists::joined_list_without;
+use crate::part_lists::joined_list;
 use crate::part_readers::text_readers;
 use crate::part_runs::{CleanParts, read_alone, read_clean};
 use crate::source_lists::SourceLists;
@@ -41,21 +39,6 @@ fn whole_text(alloc: Global, parts: Vec<Bytes>) -> Result<Bytes, AllocError>
     Ok(Bytes::from_vec(text)?)
 }
 
-/// The list of a text, of those of its parts, which are given back meanwhile. That they may go to another thread is found here, where
-/// there is little else to look through.
-fn list_of_parts<R: Threads>(
-    rt: &R,
-    alloc: Global,
-    parts: Vec<Bytes>,
-    lists: Vec<SourceList>,
-    ignored: u64,
-) -> Result<SourceList, AllocError>
-    requires { ignored ≡ ignored_by (map seen_as_rest lists.items) }
-    ensures { IfOk result (λ list. seen_as_rest list ≡ joined (map seen_as_rest lists.items)) }
-{
-    joined_list_without(rt, alloc, parts, lists, ignored)
-}
-
 /// The list of a text. Where it can't be read in parts, its pieces are put together first.
 fn read_pieces<T: Threads + Wait + Copy + Send + 'static, S: RowSink>(
     rt: &T,
@@ -74,7 +57,9 @@ fn read_pieces<T: Threads + Wait + Copy + Send + 'static, S: RowSink>(
         if let Some(CleanParts { lists, ignored }) = read_clean(
             rt, alloc, readers, options, sink,
         )? {
-            return Ok(list_of_parts(rt, alloc, parts, lists, ignored)?);
+            // The text is given back before the lists are copied.
+            drop(parts);
+            return Ok(joined_list(alloc, lists, ignored)?);
         }
     }
     read_alone(

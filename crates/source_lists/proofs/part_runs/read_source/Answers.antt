@@ -21,20 +21,20 @@ returns-in_err-lists-clause-unfinished g c = λ source. refused_memory c.from_re
 pub returns-in_err-lists-clause-setting : goal.returns-in_err-lists-clause-setting
 returns-in_err-lists-clause-setting g c = c.read_parts.ensures.setting
 
-pub returns-in_err-joined_list_without-in-Some-clause-list : goal.returns-in_err-joined_list_without-in-Some-clause-list
-returns-in_err-joined_list_without-in-Some-clause-list g c = IfOk-from_err c.from_residual-in_err-joined_list_without-in-Some.result _ c.from_residual-in_err-joined_list_without-in-Some.ensures.0
+pub returns-in_err-joined_list-in-Some-clause-list : goal.returns-in_err-joined_list-in-Some-clause-list
+returns-in_err-joined_list-in-Some-clause-list g c = IfOk-from_err c.from_residual-in_err-joined_list-in-Some.result _ c.from_residual-in_err-joined_list-in-Some.ensures.0
 
-pub returns-in_err-joined_list_without-in-Some-clause-unfinished : goal.returns-in_err-joined_list_without-in-Some-clause-unfinished
-returns-in_err-joined_list_without-in-Some-clause-unfinished g c = λ source. refused_memory c.from_residual-in_err-joined_list_without-in-Some.result 1 source c.from_residual-in_err-joined_list_without-in-Some.ensures.1
+pub returns-in_err-joined_list-in-Some-clause-unfinished : goal.returns-in_err-joined_list-in-Some-clause-unfinished
+returns-in_err-joined_list-in-Some-clause-unfinished g c = λ source. refused_memory c.from_residual-in_err-joined_list-in-Some.result 1 source c.from_residual-in_err-joined_list-in-Some.ensures.1
 
-pub returns-in_err-joined_list_without-in-Some-clause-setting : goal.returns-in_err-joined_list_without-in-Some-clause-setting
-returns-in_err-joined_list_without-in-Some-clause-setting g c = c.read_parts.ensures.setting
+pub returns-in_err-joined_list-in-Some-clause-setting : goal.returns-in_err-joined_list-in-Some-clause-setting
+returns-in_err-joined_list-in-Some-clause-setting g c = c.read_parts.ensures.setting
 
-pub returns-in_ok-joined_list_without-in-Some-clause-unfinished : goal.returns-in_ok-joined_list_without-in-Some-clause-unfinished
-returns-in_ok-joined_list_without-in-Some-clause-unfinished g c = λ source. gave_all c.in_ok-joined_list_without-in-Some.field-0 1 source
+pub returns-in_ok-joined_list-in-Some-clause-unfinished : goal.returns-in_ok-joined_list-in-Some-clause-unfinished
+returns-in_ok-joined_list-in-Some-clause-unfinished g c = λ source. gave_all c.in_ok-joined_list-in-Some.field-0 1 source
 
-pub returns-in_ok-joined_list_without-in-Some-clause-setting : goal.returns-in_ok-joined_list_without-in-Some-clause-setting
-returns-in_ok-joined_list_without-in-Some-clause-setting g c = c.read_parts.ensures.setting
+pub returns-in_ok-joined_list-in-Some-clause-setting : goal.returns-in_ok-joined_list-in-Some-clause-setting
+returns-in_ok-joined_list-in-Some-clause-setting g c = c.read_parts.ensures.setting
 
 pub returns-in-None-clause-unfinished : goal.returns-in-None-clause-unfinished
 returns-in-None-clause-unfinished g c = c.read_alone.ensures.unfinished

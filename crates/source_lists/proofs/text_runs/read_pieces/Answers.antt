@@ -14,16 +14,15 @@ use Rattle.source_lists.proofs.text_runs.read_pieces.Goals as goal
 are_parts : (whole : Rest) (found : Option CleanParts) (parts : CleanParts) → found ≡ Some parts → IfSome found (λ parts. ArePartsOf whole parts.lists.items parts.ignored) → ArePartsOf whole parts.lists.items parts.ignored
 are_parts whole found parts is all = subst (λ found. IfSome found (λ parts. ArePartsOf whole parts.lists.items parts.ignored)) is all
 
-pub list_of_parts-requires : goal.list_of_parts-requires
-list_of_parts-requires g c =
+pub joined_list-requires : goal.joined_list-requires
+joined_list-requires g c =
     let whole = read_folded (concat c.deref.result.now) in
-    let parts = are_parts whole c.in_ok-lists.field-0 c.in-Some.field-0 c.in-Some.is (c.in_ok-lists.ensures.parts whole c.in_ok-readers.ensures.parts) in
-    parts.ignored_is
+    (are_parts whole c.in_ok-lists.field-0 c.in-Some.field-0 c.in-Some.is (c.in_ok-lists.ensures.parts whole c.in_ok-readers.ensures.parts)).ignored_is
 
 pub returns-in-Some-clause-list : goal.returns-in-Some-clause-list
 returns-in-Some-clause-list g c =
     let whole = read_folded (concat c.deref.result.now) in
-    c.in_ok-list_of_parts.ensures
+    c.in_ok-joined_list.ensures
     ∙ (sym (are_parts whole c.in_ok-lists.field-0 c.in-Some.field-0 c.in-Some.is (c.in_ok-lists.ensures.parts whole c.in_ok-readers.ensures.parts)).whole_is
     ∙ ap read_folded (ap concat c.deref.ensures.value ∙ c.in_ok-parts.ensures.whole))
 
@@ -63,14 +62,14 @@ returns-in_err-lists-clause-unfinished g c = λ source. refused_memory c.from_re
 pub returns-in_err-lists-clause-setting : goal.returns-in_err-lists-clause-setting
 returns-in_err-lists-clause-setting g c = c.read_clean.ensures.setting
 
-pub returns-in_err-list_of_parts-clause-list : goal.returns-in_err-list_of_parts-clause-list
-returns-in_err-list_of_parts-clause-list g c = IfOk-from_err c.from_residual-in_err-list_of_parts.result _ c.from_residual-in_err-list_of_parts.ensures.0
+pub returns-in_err-joined_list-clause-list : goal.returns-in_err-joined_list-clause-list
+returns-in_err-joined_list-clause-list g c = IfOk-from_err c.from_residual-in_err-joined_list.result _ c.from_residual-in_err-joined_list.ensures.0
 
-pub returns-in_err-list_of_parts-clause-unfinished : goal.returns-in_err-list_of_parts-clause-unfinished
-returns-in_err-list_of_parts-clause-unfinished g c = λ source. refused_memory c.from_residual-in_err-list_of_parts.result 1 source c.from_residual-in_err-list_of_parts.ensures.1
+pub returns-in_err-joined_list-clause-unfinished : goal.returns-in_err-joined_list-clause-unfinished
+returns-in_err-joined_list-clause-unfinished g c = λ source. refused_memory c.from_residual-in_err-joined_list.result 1 source c.from_residual-in_err-joined_list.ensures.1
 
-pub returns-in_err-list_of_parts-clause-setting : goal.returns-in_err-list_of_parts-clause-setting
-returns-in_err-list_of_parts-clause-setting g c = c.read_clean.ensures.setting
+pub returns-in_err-joined_list-clause-setting : goal.returns-in_err-joined_list-clause-setting
+returns-in_err-joined_list-clause-setting g c = c.read_clean.ensures.setting
 
 pub returns-in_err-whole_text-clause-list : goal.returns-in_err-whole_text-clause-list
 returns-in_err-whole_text-clause-list g c = IfOk-from_err c.from_residual-in_err-whole_text.result _ c.from_residual-in_err-whole_text.ensures.0
@@ -79,7 +78,7 @@ pub returns-in_err-whole_text-clause-unfinished : goal.returns-in_err-whole_text
 returns-in_err-whole_text-clause-unfinished g c = λ source. refused_memory c.from_residual-in_err-whole_text.result 1 source c.from_residual-in_err-whole_text.ensures.1
 
 pub returns-in-Some-clause-unfinished : goal.returns-in-Some-clause-unfinished
-returns-in-Some-clause-unfinished g c = λ source. gave_all c.in_ok-list_of_parts.field-0 1 source
+returns-in-Some-clause-unfinished g c = λ source. gave_all c.in_ok-joined_list.field-0 1 source
 
 pub returns-in-Some-clause-setting : goal.returns-in-Some-clause-setting
 returns-in-Some-clause-setting g c = c.read_clean.ensures.setting
