@@ -58,22 +58,30 @@ function wordsOfStep(fragment, made, now) {
     return words;
 }
 
-// The state that the words of a fragment stand for. What is not understood is left out.
+// The box that the words of a fragment name, the root where they name none, or -1 where there is no such box.
+function boxOfWords(page, drawing, words) {
+    if (!words.has('zoom')) return words.has('box') ? wholeNumber(words.get('box'), drawing.count) : 0;
+    const path = words.get('zoom').split('/').map(decoded);
+    const box = boxAt(page, drawing, path, Number(words.get('start') || -1));
+    return drawing.depth[box] === path.length ? box : -1;
+}
+
+// The state that the words of a fragment stand for, and whether they name a box that is not there: then all is shown. What is not understood
+// is left out.
 function stateOf(page, words) {
     const number = wholeNumber(words.get('drawing'), page.drawingCount);
     const drawing = number >= 0 ? number : page.drawingCount - 1;
     const source = page.view === 'chart' ? wholeNumber(words.get('source'), page.sources.length) : -1;
-    const boxes = page.drawing(drawing);
-    let box = Math.max(0, wholeNumber(words.get('box'), boxes.count));
-    if (words.has('zoom')) box = boxAt(page, boxes, words.get('zoom').split('/').map(decoded), Number(words.get('start') || -1));
-    return {
+    const box = boxOfWords(page, page.drawing(drawing), words);
+    const state = {
         drawing,
         source: source >= 0 && page.sources[source].weight > 0 ? source : -1,
-        box,
+        box: Math.max(0, box),
         find: decoded(words.get('find') || ''),
         by: ['name', 'regexp'].includes(words.get('by')) ? words.get('by') : 'text',
         below: words.get('root') === 'below',
     };
+    return { state, isDead: box < 0 };
 }
 
 // Writes the fragment, as a new step of the browser's history or in place of the last. `steps` counts those that this page made.

@@ -29,12 +29,12 @@ function changeFills(saturation, still, full) {
 
 const LIGHT = {
     paper: '#fbfbf9', ink: '#1f2226', line: '#80868f', root: 'hsl(220, 8%, 82%)', dim: 'hsl(220, 8%, 90%)', dimInk: '#555b64',
-    match: 'hsl(285, 48%, 45%)', matchInk: '#ffffff', plain: plainFills(48, 74, 4), changes: changeFills(74, 88, 68),
+    joined: '#9aa0a8', match: 'hsl(285, 48%, 45%)', matchInk: '#ffffff', plain: plainFills(48, 74, 4), changes: changeFills(74, 88, 68),
 };
 
 const DARK = {
     paper: '#1b1d20', ink: '#eef0f2', line: '#7c828b', root: 'hsl(220, 6%, 34%)', dim: 'hsl(220, 6%, 22%)', dimInk: '#a9afb8',
-    match: 'hsl(285, 50%, 68%)', matchInk: '#17121a', plain: plainFills(26, 25, 4), changes: changeFills(52, 30, 38),
+    joined: '#5d646e', match: 'hsl(285, 50%, 68%)', matchInk: '#17121a', plain: plainFills(26, 25, 4), changes: changeFills(52, 30, 38),
 };
 
 // From -1 where all is gone to 1 where all is new.
@@ -47,11 +47,19 @@ function changeShade(change) {
     return Math.sign(change) * Math.ceil(Math.abs(change) * CHANGES) + CHANGES;
 }
 
-// For each name the place of its colour among the plain ones. A name is hashed when it is first seen.
+// The place of a name's colour among the plain ones, the same on each page: a hash of its bytes, spread over all bits.
+function shadeOf(name) {
+    let hash = 0;
+    for (const byte of new TextEncoder().encode(name)) hash = (Math.imul(hash, 31) + byte) >>> 0;
+    const spread = Math.imul(hash, 2654435769) >>> 0;
+    return Math.floor(spread / 65536) % (HUES * SHADES);
+}
+
+// For each name the place of its colour. A name is hashed when it is first seen.
 function nameShades(names) {
     const shades = new Int16Array(names.length).fill(-1);
     return (name) => {
-        if (shades[name] < 0) shades[name] = hashOf(names[name]) % (HUES * SHADES);
+        if (shades[name] < 0) shades[name] = shadeOf(names[name]);
         return shades[name];
     };
 }

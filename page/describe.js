@@ -3,16 +3,20 @@
 // The parts of what is told: the weight, the own weight, before and after, and the place in time.
 function detailsOf(page, drawing, span, box) {
     const { unit } = page;
-    const weight = drawing.weight[box];
-    const isZoomed = span.to - span.from < drawing.total;
-    const zoomed = isZoomed ? `, ${percentText(weightInSpan(drawing, box, span), span.to - span.from)} of what is zoomed` : '';
-    const details = [`${exactText(weight, unit)}, ${sharesText(page, drawing, weight)}${zoomed}`, `own ${exactText(drawing.own[box], unit)}`];
+    const details = [weightDetail(page, drawing, span, drawing.weight[box], weightInSpan(drawing, box, span)), `own ${exactText(drawing.own[box], unit)}`];
     if (drawing.other) {
         const { before, after } = bothWeights(page, drawing, box);
         details.push(`before ${exactText(before, unit)}, after ${exactText(after, unit)}: ${changeText(before, after)}`);
     }
     if (page.view === 'chart') details.push(placeText(page, drawing, box));
     return details;
+}
+
+// A weight, how much it is of the whole, and of what is zoomed where so much of it lies in the span.
+function weightDetail(page, drawing, span, weight, weightInside) {
+    const isZoomed = span.to - span.from < drawing.total;
+    const zoomed = isZoomed ? `, ${percentText(weightInside, span.to - span.from)} of what is zoomed` : '';
+    return `${exactText(weight, page.unit)}, ${sharesText(page, drawing, weight)}${zoomed}`;
 }
 
 // How much a weight is of what is kept and, where a filter leaves samples out, of the whole. A profile of two and a snapshot have no
@@ -37,6 +41,33 @@ function placeText(page, drawing, box) {
 
 function lineFor(page, drawing, span, box) {
     return [shortened(page.names[drawing.name[box]], 300) || '(empty name)', ...detailsOf(page, drawing, span, box)].join(' · ');
+}
+
+// What is told of several boxes: how many they are, and what they weigh together.
+function joinedDetails(page, drawing, span, place) {
+    const weight = weighedTogether(drawing, place, (box) => drawing.weight[box]);
+    const inside = weighedTogether(drawing, place, (box) => weightInSpan(drawing, box, span));
+    return [`${separated(place.count)} boxes, each narrower than a pixel`, `together ${weightDetail(page, drawing, span, weight, inside)}`];
+}
+
+// The lines of the tip over a place.
+function placeDetails(page, drawing, span, place) {
+    if (isJoined(place)) return joinedDetails(page, drawing, span, place);
+    return [described(page.names[drawing.name[place.box]]), ...detailsOf(page, drawing, span, place.box)];
+}
+
+// The same in one line.
+function placeLine(page, drawing, span, place) {
+    return isJoined(place) ? joinedDetails(page, drawing, span, place).join(' · ') : lineFor(page, drawing, span, place.box);
+}
+
+// The title of a place in a saved picture: its name and its weight, and in a comparison those of both profiles.
+function placeTitle(scene, place) {
+    const { page, drawing, span } = scene;
+    const { box } = place;
+    if (isJoined(place)) return joinedDetails(page, drawing, span, place).join(' · ');
+    const [weight, , change] = detailsOf(page, drawing, span, box);
+    return [nameText(page.names[drawing.name[box]]), weight, ...(drawing.other ? [change] : [])].join(' · ');
 }
 
 // What stands at the top: how much there is, and of what.

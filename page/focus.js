@@ -11,7 +11,7 @@ function ringOf(page, picture) {
         const { left, right } = edgesOf(drawing, state.focus, span, picture.clientWidth);
         ring.style.left = `${left}px`;
         ring.style.width = `${Math.max(right - left, 4)}px`;
-        ring.style.top = `${rowTop(drawing, drawing.depth[state.focus], state.below)}px`;
+        ring.style.top = `${rowTop(drawing.rowCount, drawing.depth[state.focus], state.below)}px`;
         ring.style.height = `${ROW_HEIGHT}px`;
     }
 

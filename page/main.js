@@ -18,7 +18,9 @@ function start(page) {
     const matching = nameMatcher(page.names);
     const showFunctions = functionTable(page, searchFunction);
     let view = null;
-    let hovered = -1;
+    let hovered = null;
+    // What has to be said until something else is looked at.
+    let message = '';
     let wished = null;
     // The address with which the last step of the browser's history began.
     let made = '';
@@ -43,9 +45,33 @@ function start(page) {
         return { state, drawing, span: spanOf(page, drawing, state), ...searched(state, drawing) };
     }
 
+    // What the line below the picture says: of the place under the pointer, else what has to be said, else of the focused box.
+    function statusText() {
+        const { drawing, span, state } = view;
+        if (hovered) return placeLine(page, drawing, span, hovered);
+        return message || (drawing.count > 0 ? lineFor(page, drawing, span, state.focus) : '');
+    }
+
     function showFocus() {
         showRing(view);
-        tip.status(view, hovered >= 0 ? hovered : view.state.focus);
+        tip.say(statusText());
+    }
+
+    function hover(place) {
+        hovered = place;
+        tip.say(statusText());
+    }
+
+    function say(text) {
+        message = text;
+        tip.say(text);
+    }
+
+    // Nothing is said any more of what was looked at.
+    function forget() {
+        hovered = null;
+        message = '';
+        tip.hide();
     }
 
     function paint() {
@@ -61,8 +87,7 @@ function start(page) {
     function look(state) {
         const old = view;
         view = viewOf(state);
-        hovered = -1;
-        tip.hide();
+        forget();
         showTools(page, view);
         if (!old || old.drawing !== view.drawing) {
             showTop(page, view);
@@ -107,8 +132,7 @@ function start(page) {
 
     function focusOn(box) {
         view = { ...view, state: { ...view.state, focus: box } };
-        hovered = -1;
-        tip.hide();
+        forget();
         revealFocus();
         refresh();
         showFocus();
@@ -141,10 +165,11 @@ function start(page) {
 
     // Looks at what an address says. The focus stays where it was, if that is inside of what is zoomed.
     function arrive(words) {
-        const state = stateOf(page, words);
+        const { state, isDead } = stateOf(page, words);
         const drawing = page.drawing(state.drawing);
         const isInside = view && view.drawing === drawing && view.state.focus >= state.box && view.state.focus < drawing.end[state.box];
         look({ ...state, focus: isInside ? view.state.focus : state.box });
+        if (isDead) say('No box here has the path of this address, so all of them are shown.');
         made = address();
         writeAddress(made, false);
     }
@@ -154,13 +179,13 @@ function start(page) {
         arrive(event.state ? wordsOfStep(location.hash, made, address()) : wordsOf(location.hash));
     }
 
-    const actions = { change, goBack, zoomTo, focusOn, turnTo, toMatch, refresh, view: () => view };
+    const actions = { change, goBack, zoomTo, focusOn, turnTo, toMatch, refresh, hover, say, view: () => view };
     arrive(wordsOf(location.hash));
     if (page.view === 'compare') {
         goneList(page, (box) => change({ drawing: 0, source: -1, box, focus: box }, true));
     }
     listenToTools(page, stage, actions);
-    listenToPointer(stage, tip, actions, (box) => { hovered = box; });
+    listenToPointer(stage, tip, actions);
     listenToKeys(picture, actions);
     window.addEventListener('popstate', goTo);
     new ResizeObserver(actions.refresh).observe(picture);

@@ -37,15 +37,3 @@ function described(text) {
 function nameText(text) {
     return shortened(text, 200) || '(empty name)';
 }
-
-// A number from the name, the same on each page: FNV-1a over its UTF-16 units.
-function hashOf(text) {
-    let hash = 0x811c9dc5;
-    for (let place = 0; place < text.length; place++) {
-        hash = Math.imul(hash ^ text.charCodeAt(place), 0x01000193);
-    }
-    // The low bits of the product alone depend on few of the letters' bits.
-    hash ^= hash >>> 15;
-    hash = Math.imul(hash, 0x2c1b3c6d);
-    return (hash ^ (hash >>> 12)) >>> 0;
-}

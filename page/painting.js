@@ -15,14 +15,25 @@ function stageOf(page) {
         return { width: picture.clientWidth, height: picture.clientHeight, top: picture.scrollTop };
     }
 
-    function sceneOf(view, colours) {
+    function seen(view) {
+        return { ...area(), rowCount: view.drawing.rowCount, lanes: 0 };
+    }
+
+    // All rows of what is zoomed, with the sources above a chart.
+    function whole(view) {
+        const rowCount = rowsInSpan(view.drawing, view.span);
+        const height = Math.max(rowCount, 1) * ROW_HEIGHT;
+        return { width: picture.clientWidth, height, top: 0, rowCount, lanes: page.view === 'chart' ? LANE_HEIGHT : 0 };
+    }
+
+    function sceneOf(view, part, colours) {
         return {
             page,
             drawing: view.drawing,
             span: view.span,
             matches: view.matches,
             below: view.state.below,
-            ...area(),
+            ...part,
             colours,
             shadeOf,
             textFor,
@@ -45,14 +56,14 @@ function stageOf(page) {
     return {
         picture,
         darkness,
-        // What is seen now. On paper it is always light.
-        scene: (view, isPaper) => sceneOf(view, darkness.matches && !isPaper ? DARK : LIGHT),
+        // What is saved. On paper it is always light.
+        whole: (view, isPaper) => sceneOf(view, whole(view), darkness.matches && !isPaper ? DARK : LIGHT),
         // Room for all rows, which the picture scrolls over.
         makeRoom(view) {
             document.getElementById('room').style.height = `${view.drawing.rowCount * ROW_HEIGHT}px`;
         },
         paint(view) {
-            const scene = sceneOf(view, darkness.matches ? DARK : LIGHT);
+            const scene = sceneOf(view, seen(view), darkness.matches ? DARK : LIGHT);
             fit(scene.width, scene.height);
             const painter = canvasPainter(context);
             paintScene(painter, scene);
@@ -61,17 +72,18 @@ function stageOf(page) {
         },
         // Whether the picture was scrolled or got another size since it was painted.
         isStale: () => ['top', 'width', 'height'].some((key) => painted[key] !== area()[key]),
-        // The box under a point of the window, or -1.
-        boxUnder(view, event) {
-            const area = picture.getBoundingClientRect();
-            const across = event.clientX - area.left;
-            if (across < 0 || across >= picture.clientWidth) return -1;
-            const row = rowAt(view.drawing, event.clientY - area.top + picture.scrollTop, view.state.below);
-            return boxOver(view.drawing, row, view.span.from + (across / picture.clientWidth) * (view.span.to - view.span.from));
+        // The place that is painted under a point of the window, or null.
+        placeUnder(view, event) {
+            const { left, top } = picture.getBoundingClientRect();
+            const width = picture.clientWidth;
+            const across = event.clientX - left;
+            const row = rowAt(view.drawing.rowCount, event.clientY - top + picture.scrollTop, view.state.below);
+            if (across < 0 || across >= width || row < 0 || row >= view.drawing.rowCount) return null;
+            return placeOver(placesOf(view.drawing, row, view.span, width), across);
         },
         // Scrolls no further than is needed to see a row.
         reveal(view, row) {
-            const top = rowTop(view.drawing, row, view.state.below);
+            const top = rowTop(view.drawing.rowCount, row, view.state.below);
             if (top < picture.scrollTop) picture.scrollTop = top;
             const lowest = picture.scrollTop + picture.clientHeight - ROW_HEIGHT;
             if (top > lowest) picture.scrollTop = top - picture.clientHeight + ROW_HEIGHT;

@@ -49,6 +49,14 @@ function matchesOf(drawing, matching) {
     };
 }
 
+// How many boxes of a place match.
+function matchesIn(matches, drawing, row, place) {
+    const { first, order } = matches.rows;
+    const firstFrom = (box) => firstPlace(first[row], first[row + 1], (at) => order[at] >= box);
+    const last = drawing.rows.order[place.at + place.count - 1];
+    return firstFrom(last + 1) - firstFrom(place.box);
+}
+
 // The match after or before a box, in a circle.
 function neighbourMatch(matches, box, isForward) {
     const { boxes } = matches;

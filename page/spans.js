@@ -1,6 +1,7 @@
 // Where boxes stand on the screen. A span is the part of the drawing that is zoomed, from one weight to another; it takes the whole width.
 
 const ROW_HEIGHT = 18;
+const SHARP_FROM = 3;
 
 function spanOf(page, drawing, state) {
     if (state.source >= 0) {
@@ -36,34 +37,75 @@ function nextPlace(low, high, holds) {
     return firstPlace(low, Math.min(low + step, high), holds);
 }
 
-// Visits what is seen of a row: each box that is at least a pixel wide, and in the place of narrower ones that begin in one pixel the first
-// of them, with the width of all. So a row takes no longer than it has pixels, however many boxes it has.
-function visitRow(drawing, rows, row, span, width, visit) {
+// The places of a row, from left to right. A box that is at least a pixel wide is a place of its own. Narrower ones that begin in one pixel are
+// one place together, so a row takes no longer than it has pixels, however many boxes it has. A place has so many boxes, from this place of the
+// row's order on; it stands from `left` to `right`, and is painted from `begin` to `end`.
+function placesOf(drawing, row, span, width) {
+    const { first, order } = drawing.rows;
     const scale = width / (span.to - span.from);
-    const stop = rows.first[row + 1];
-    let place = firstPlace(rows.first[row], stop, (each) => endOf(drawing, rows.order[each]) > span.from);
-    while (place < stop) {
-        const box = rows.order[place];
-        if (drawing.start[box] >= span.to) return;
-        const left = Math.max(0, (drawing.start[box] - span.from) * scale);
-        let right = Math.min(width, (endOf(drawing, box) - span.from) * scale);
-        let next = place + 1;
-        if (right - left < 1 && next < stop) {
-            const beyond = span.from + (Math.floor(left) + 1) / scale;
-            next = nextPlace(next, stop, (each) => drawing.start[rows.order[each]] >= beyond);
-            right = Math.min(width, (endOf(drawing, rows.order[next - 1]) - span.from) * scale);
+    const leftOf = (at) => Math.max(0, (drawing.start[order[at]] - span.from) * scale);
+    const rightOf = (at) => Math.min(width, (endOf(drawing, order[at]) - span.from) * scale);
+    const isNarrow = (at) => rightOf(at) - leftOf(at) < 1;
+    const stop = firstPlace(first[row], first[row + 1], (at) => drawing.start[order[at]] >= span.to);
+    const places = [];
+    let painted = 0;
+    let at = firstPlace(first[row], stop, (each) => endOf(drawing, order[each]) > span.from);
+    while (at < stop) {
+        const left = leftOf(at);
+        let next = at + 1;
+        if (next < stop && isNarrow(at)) {
+            next = nextPlace(next, stop, (each) => leftOf(each) >= Math.floor(left) + 1);
+            // Behind a box that is a pixel wide nothing else begins in its first pixel.
+            if (!isNarrow(next - 1)) next--;
         }
-        visit(box, left, right, next - place > 1);
-        place = next;
+        const right = rightOf(next - 1);
+        const { begin, end } = paintedEdges(left, right, painted);
+        places.push({ at, count: next - at, box: order[at], left, right, begin, end });
+        painted = end;
+        at = next;
     }
+    return places;
 }
 
-// The box of a row at a weight, or -1.
-function boxOver(drawing, row, weight) {
-    if (row < 0 || row >= drawing.rowCount) return -1;
+// From where to where a place is painted that stands behind one that is painted up to `before`. What is wider than a few pixels has sharp edges,
+// and leaves a line of paper between it and the next. Nothing is painted over another, and nothing is too narrow to be seen.
+function paintedEdges(left, right, before) {
+    if (right - left < SHARP_FROM) {
+        const begin = Math.max(left, before);
+        return { begin, end: Math.max(right, begin + 0.3) };
+    }
+    const begin = Math.round(left);
+    return { begin: begin < before ? Math.floor(left) + 1 : begin, end: Math.round(right) - 1 };
+}
+
+// The place that is painted over a point, or null. The line of paper behind a place belongs to it.
+function placeOver(places, across) {
+    const pixel = Math.floor(across);
+    const at = firstPlace(0, places.length, (each) => places[each].end > across);
+    if (at < places.length && places[at].begin < pixel + 1) return places[at];
+    const before = places[at - 1];
+    return before && Math.max(before.end, Math.round(before.right)) > pixel ? before : null;
+}
+
+// Whether a place is one of several boxes.
+function isJoined(place) {
+    return place.count > 1;
+}
+
+// The sum of what the boxes of a place weigh.
+function weighedTogether(drawing, place, weightOf) {
+    let weight = 0;
+    for (let at = place.at; at < place.at + place.count; at++) weight += weightOf(drawing.rows.order[at]);
+    return weight;
+}
+
+// How many rows have something in the span.
+function rowsInSpan(drawing, span) {
     const { first, order } = drawing.rows;
-    const place = firstPlace(first[row], first[row + 1], (each) => endOf(drawing, order[each]) > weight);
-    return place < first[row + 1] && drawing.start[order[place]] <= weight ? order[place] : -1;
+    return firstPlace(0, drawing.rowCount, (row) => {
+        const at = firstPlace(first[row], first[row + 1], (each) => endOf(drawing, order[each]) > span.from);
+        return at === first[row + 1] || drawing.start[order[at]] >= span.to;
+    });
 }
 
 function isInSpan(drawing, box, span) {
@@ -84,11 +126,11 @@ function edgesOf(drawing, box, span, width) {
 }
 
 // How far a row's top is from the top of all rows.
-function rowTop(drawing, row, below) {
-    return (below ? drawing.rowCount - 1 - row : row) * ROW_HEIGHT;
+function rowTop(rowCount, row, below) {
+    return (below ? rowCount - 1 - row : row) * ROW_HEIGHT;
 }
 
-function rowAt(drawing, top, below) {
+function rowAt(rowCount, top, below) {
     const place = Math.floor(top / ROW_HEIGHT);
-    return below ? drawing.rowCount - 1 - place : place;
+    return below ? rowCount - 1 - place : place;
 }

@@ -1,5 +1,9 @@
 // The picture as SVG text. All that comes from the data is escaped.
 
+// What browsers have room for on one canvas.
+const LONGEST_SIDE = 16384;
+const LARGEST_AREA = 2 ** 28;
+
 const ESCAPES = { '&': '&amp;', '<': '&lt;', '>': '&gt;', '"': '&quot;', "'": '&apos;' };
 
 function escapedText(text) {
@@ -18,42 +22,22 @@ function svgPainter(parts) {
         upright(left, top, height, colour) {
             parts.push(`<rect x="${Math.round(left)}" y="${short(top)}" width="1" height="${short(height)}" fill="${colour}"/>`);
         },
+        entitled(titleOf, paint) {
+            parts.push(`<g><title>${escapedText(titleOf())}</title>`);
+            paint();
+            parts.push('</g>');
+        },
     };
-}
-
-// The names of the sources above a chart.
-function paintLanes(painter, scene) {
-    for (const { source, left, right } of lanesOf(scene.page, scene.span, scene.width)) {
-        painter.rectangle(left, 0, Math.max(right - left - 1, 0.3), LANE_HEIGHT - 2, scene.colours.dim);
-        const text = scene.cutText(source.name, right - left);
-        if (text) painter.text(left + PAD, LANE_HEIGHT / 2, text, scene.colours.ink);
-    }
-}
-
-// A painter that paints further down.
-function lowered(painter, by) {
-    return {
-        rectangle: (left, top, width, height, fill) => painter.rectangle(left, top + by, width, height, fill),
-        text: (left, middle, text, ink) => painter.text(left, middle + by, text, ink),
-        upright: (left, top, height, colour) => painter.upright(left, top + by, height, colour),
-    };
-}
-
-// What is seen, with the sources above it where it is a chart, and how high that is.
-function paintWhole(painter, scene) {
-    const lanes = scene.page.view === 'chart' ? LANE_HEIGHT : 0;
-    if (lanes) painter.rectangle(0, 0, scene.width, lanes, scene.colours.paper);
-    paintLanes(painter, scene);
-    paintScene(lowered(painter, lanes), scene);
-    return lanes + scene.height;
 }
 
 function svgOf(scene) {
     const parts = [];
-    const height = paintWhole(svgPainter(parts), scene);
+    paintScene(svgPainter(parts), scene);
+    const height = scene.lanes + scene.height;
+    const { page } = scene;
     return [
         `<svg xmlns="http://www.w3.org/2000/svg" width="${scene.width}" height="${height}" viewBox="0 0 ${scene.width} ${height}">`,
-        `<title>${escapedText(shortened(scene.page.title, 1500))}</title>`,
+        `<title>${escapedText(`${shortened(page.title, 1500)} · ${summaryText(page, scene.drawing)}`)}</title>`,
         `<g font-family="${escapedText(FONT.replace('12px ', ''))}" font-size="12" xml:space="preserve">`,
         ...parts,
         '</g>',
@@ -79,15 +63,27 @@ function saveSvg(scene) {
     offer(new Blob([svgOf(scene)], { type: 'image/svg+xml' }), fileName(scene.page.title, 'svg'));
 }
 
-function savePng(scene) {
-    const dots = 2;
+// How many dots a pixel has in a PNG of that size: two, one, or none where no canvas is that large.
+function dotsFor(width, height) {
+    const fits = (dots) => Math.max(width, height) * dots <= LONGEST_SIDE && width * height * dots ** 2 <= LARGEST_AREA;
+    return [2, 1].find(fits) || 0;
+}
+
+// Saves the picture, or says why it can't.
+function savePng(scene, say) {
+    const [width, height] = [scene.width, scene.lanes + scene.height];
+    const refuse = () => say(`A PNG of ${separated(width)} by ${separated(height)} pixels is too large for this browser. An SVG is not.`);
+    const dots = dotsFor(width, height);
+    if (dots === 0) {
+        refuse();
+        return;
+    }
     const canvas = document.createElement('canvas');
-    canvas.width = scene.width * dots;
-    canvas.height = (scene.height + (scene.page.view === 'chart' ? LANE_HEIGHT : 0)) * dots;
+    [canvas.width, canvas.height] = [width * dots, height * dots];
     const context = canvas.getContext('2d');
     context.scale(dots, dots);
     const painter = canvasPainter(context);
-    paintWhole(painter, scene);
+    paintScene(painter, scene);
     painter.finish();
-    canvas.toBlob((blob) => offer(blob, fileName(scene.page.title, 'png')), 'image/png');
+    canvas.toBlob((blob) => (blob ? offer(blob, fileName(scene.page.title, 'png')) : refuse()), 'image/png');
 }

@@ -1,5 +1,8 @@
 // The tools above the picture, the keys and the pointer.
 
+// How far the pointer may move while it is pressed.
+const LONGEST_CLICK = 4;
+
 // What stands above the tools: the title, how much there is, and what has to be said.
 function showTop(page, view) {
     document.title = shortened(page.title, 200);
@@ -77,7 +80,7 @@ function listenToSearch(actions) {
 // For paper the picture is drawn anew as SVG.
 function listenToPrint(stage, actions) {
     window.addEventListener('beforeprint', () => {
-        const text = svgOf(stage.scene(actions.view(), true));
+        const text = svgOf(stage.whole(actions.view(), true));
         element('paper').replaceChildren(new DOMParser().parseFromString(text, 'image/svg+xml').documentElement);
     });
     window.addEventListener('afterprint', () => element('paper').replaceChildren());
@@ -91,29 +94,30 @@ function listenToTools(page, stage, actions) {
     element('below').addEventListener('change', () => actions.change({ below: element('below').checked }, false));
     element('snapshot').addEventListener('input', () => actions.turnTo(Number(element('snapshot').value)));
     element('before').addEventListener('change', () => actions.turnTo(element('before').checked ? 0 : 1));
-    element('save-svg').addEventListener('click', () => saveSvg(stage.scene(actions.view(), false)));
-    element('save-png').addEventListener('click', () => savePng(stage.scene(actions.view(), false)));
+    element('save-svg').addEventListener('click', () => saveSvg(stage.whole(actions.view(), false)));
+    element('save-png').addEventListener('click', () => savePng(stage.whole(actions.view(), false), actions.say));
 }
 
-function listenToPointer(stage, tip, actions, onHover) {
+function listenToPointer(stage, tip, actions) {
     const { picture } = stage;
     let frame = 0;
+    let pressed = null;
     picture.addEventListener('pointermove', (event) => {
-        const view = actions.view();
-        const box = stage.boxUnder(view, event);
-        onHover(box);
-        if (box < 0) tip.hide();
-        else tip.show(view, box, event);
-        tip.status(view, box >= 0 ? box : view.state.focus);
+        const place = stage.placeUnder(actions.view(), event);
+        actions.hover(place);
+        if (place) tip.show(actions.view(), place, event);
+        else tip.hide();
     });
     picture.addEventListener('pointerleave', () => {
-        onHover(-1);
+        actions.hover(null);
         tip.hide();
-        tip.status(actions.view(), actions.view().state.focus);
     });
+    picture.addEventListener('pointerdown', (event) => { pressed = event; });
     picture.addEventListener('click', (event) => {
-        const box = stage.boxUnder(actions.view(), event);
-        if (box >= 0) actions.zoomTo(box);
+        // The end of a drag is no click.
+        if (pressed && Math.hypot(event.clientX - pressed.clientX, event.clientY - pressed.clientY) > LONGEST_CLICK) return;
+        const place = stage.placeUnder(actions.view(), event);
+        if (place && !isJoined(place)) actions.zoomTo(place.box);
     });
     picture.addEventListener('scroll', () => {
         cancelAnimationFrame(frame);

@@ -278,5 +278,74 @@ def deep(check):
     same(picture.name(4096, 0.5), 'f4095', 'the last row')
 
 
+def narrow_boxes(check):
+    """A box that is a pixel wide stands for itself; narrower ones that begin in one pixel are told of together."""
+    browser = check.browser
+    check.show('graph', check.write('two.folded', 'main;aardvark 1\nmain;work;parse 10000\nmain;work;print 5000\n'))
+    picture = Picture(browser)
+    same([picture.name(2, 0.5), picture.name(2, 0.2 / picture.width)], ['work', 'aardvark'], 'names in the row')
+    plain = picture.colour(2, 0.5)
+    check.show('graph', check.write('alone.folded', 'main;work;parse 10000\nmain;work;print 5000\n'))
+    same(picture.colour(2, 0.5), plain, 'the colour of work')
+    many = ''.join(f'main;small{number:03} 1\n' for number in range(500))
+    check.show('graph', '--least', '0', check.write('many.folded', f'main;first 1000000\n{many}main;wide 1000000\n'))
+    share, told = 500 / 2000500, 'together 500, 0.025% of the whole'
+    middle = (1000000 + 250) / 2000500
+    same(picture.told(2, middle), ['500 boxes, each narrower than a pixel', told], 'tip of what is joined')
+    same(browser.text('#status'), f'500 boxes, each narrower than a pixel · {told}', 'the line below')
+    assert share * picture.width < 1, 'they are narrower than a pixel'
+    picture.click(2, middle)
+    same([fragment(browser), picture.focused()], ['', 'all'], 'after a click on what is joined')
+    same([picture.name(2, 0.25), picture.name(2, 0.75)], ['first', 'wide'], 'the boxes beside them')
+    picture.click(2, 0.75)
+    same(fragment(browser), '#zoom=main/wide', 'after a click on a box')
+
+
+def joined_colours(check):
+    """What is joined has a colour of its own, that of matches where all match, and steps back where none does."""
+    browser = check.browser
+    many = ''.join(f'main;{name}{number:04} 1\n' for name in ('a', 'b', 'c') for number in range(4000))
+    for scheme, wanted in (('light', [(154, 160, 168), (143, 60, 170), (227, 228, 232)]), ('dark', [(93, 100, 110), (195, 133, 214), (53, 55, 60)])):
+        browser.prefer(scheme)
+        check.show('graph', '--least', '0', check.write('many.folded', many))
+        picture = Picture(browser)
+
+        def look(what, *colours):
+            for place, colour in enumerate(colours):
+                found = picture.colour(2, (place + 0.5) / 3)
+                # Between two places a pixel is of both, with some paper.
+                for part, other in zip(found, colour):
+                    near(part, other, f'{what} in {scheme}, place {place}: {found} for {colour}', 8)
+
+        joined, match, dim = wanted
+        look('what is joined', joined, joined, joined)
+        same(search(browser, 'b'), '4,000 matched, 33.3%', 'a search')
+        look('a search', dim, match, dim)
+        search(browser, '[02468]$', 'regexp')
+        look('some of each place', joined, joined, joined)
+    browser.prefer('light')
+
+
+def narrow_windows(check):
+    """The canvas is never larger than what is seen, however many rows there are."""
+    browser = check.browser
+    names = ';'.join(f'f{number}' for number in range(4000))
+    path = check.write('deep.folded', f'{names} 1\n')
+    try:
+        for width, height, dots in ((960, 700, 1), (588, 700, 2), (368, 844, 2)):
+            browser.send('Emulation.setDeviceMetricsOverride', width=width, height=height, deviceScaleFactor=dots, mobile=False)
+            check.show('graph', path)
+            picture = Picture(browser)
+            same(browser.value("(({ width, height }) => [width, height])(document.getElementById('canvas'))"),
+                 [dots * picture.width, dots * picture.height], f'the canvas in a window of {width}')
+            near(picture.height, 0.7 * height, f'height of the picture in a window of {width}')
+            same(len(picture.runs(0)), 1, f'boxes in the first row of pixels in a window of {width}')
+            browser.value("document.getElementById('picture').scrollTop = 1e9")
+            browser.settle()
+            same(picture.name(4000, 0.5), 'f3999', 'the last row')
+    finally:
+        browser.resize(*browser.size)
+
+
 TESTS = [first_paint, widths, broken, root_below, zoom, keys, snapshots, snapshots_of_sources, lanes, differences,
-         gone_from_the_depth, deep]
+         gone_from_the_depth, deep, narrow_boxes, joined_colours, narrow_windows]

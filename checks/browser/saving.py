@@ -52,7 +52,7 @@ def saving(check):
     png = saved(check, 'png')
     same(png[:8], b'\x89PNG\r\n\x1a\n', 'the beginning of the PNG')
     size = [int.from_bytes(png[16:20], 'big'), int.from_bytes(png[20:24], 'big')]
-    same(size, [2 * picture.width, 2 * picture.height], 'size of the PNG')
+    same(size, [2 * picture.width, 2 * 4 * ROW], 'size of the PNG')
     inks = browser.value(PIXELS % base64.b64encode(png).decode('ascii'))
     same(len(inks), 12, 'points of the PNG and of the canvas')
     for place, of_png, of_canvas in inks:
@@ -60,18 +60,49 @@ def saving(check):
     assert len({tuple(of_png) for _, of_png, _ in inks}) > 3, 'the PNG has the colours of several boxes'
 
 
-def saving_what_is_seen(check):
-    """What is scrolled away, or out of the zoom, is not saved."""
+def titles(svg):
+    return [title.text for group in svg.iter(f'{SVG}g') for title in group.findall(f'{SVG}title')]
+
+
+def saving_all_rows(check):
+    """What is scrolled away is saved too, and what is out of the zoom is not. Each box has its title."""
     browser = check.browser
     names = ';'.join(f'f{number}' for number in range(200))
-    check.show('graph', check.write('high.folded', f'{names} 1\n'))
-    picture = Picture(browser)
+    check.show('graph', check.write('high.folded', f'{names} 1\nother 3\n'))
     browser.value("document.getElementById('picture').scrollTop = 1e9")
     browser.settle()
-    shown = list(named_boxes(xml.etree.ElementTree.fromstring(saved(check, 'svg'))))
-    first = 201 - picture.height / ROW
-    same(shown[-1], 'f199', 'the last row')
-    near(int(shown[0][1:]), first, 'the first row that is seen', 2)
+    svg = xml.etree.ElementTree.fromstring(saved(check, 'svg'))
+    same(list(named_boxes(svg)), ['all', 'f0', 'other', *(f'f{number}' for number in range(1, 200))], 'all rows')
+    same(svg.find(f'{SVG}title').text, 'high.folded · Flame graph of 1 source: 4, 202 boxes', 'the title says the total')
+    same(titles(svg)[:3], ['all · 4, 100% of the whole', 'f0 · 1, 25% of the whole', 'other · 3, 75% of the whole'], 'titles of boxes')
+    browser.value("location.hash = '#zoom=other&root=below'")
+    browser.wait_for("document.getElementById('back').disabled === false")
+    browser.settle()
+    svg = xml.etree.ElementTree.fromstring(saved(check, 'svg'))
+    same([float(svg.get('height')), titles(svg)], [2 * ROW, ['all · 4, 100% of the whole, 100% of what is zoomed',
+                                                             'other · 3, 75% of the whole, 100% of what is zoomed']], 'what is zoomed')
+    check.show('compare', 'parse.folded', 'faster.folded')
+    contains(titles(xml.etree.ElementTree.fromstring(saved(check, 'svg'))),
+             'parse · 31, 81.6% of the whole · before 50, after 31: −38%', 'titles of a comparison')
+
+
+def saving_large_pictures(check):
+    """A PNG that no canvas has room for in two dots a pixel has one, and where there is no room at all, the page says so."""
+    browser = check.browser
+    names = ';'.join(f'f{number}' for number in range(600))
+    check.show('graph', check.write('higher.folded', f'{names} 1\n'))
+    width = Picture(browser).width
+    png = saved(check, 'png')
+    same([int.from_bytes(png[place:place + 4], 'big') for place in (16, 20)], [width, 601 * ROW], 'size of the PNG')
+    check.show('graph', check.write('highest.folded', f'{names};{names};{names} 1\n'))
+    browser.click_on('#save-png')
+    same(browser.text('#status'), f'A PNG of {width} by {1801 * ROW:,} pixels is too large for this browser. An SVG is not.', 'status')
+    svg = xml.etree.ElementTree.fromstring(saved(check, 'svg'))
+    same(float(svg.get('height')), 1801 * ROW, 'height of the SVG')
+
+
+def saving_lanes(check):
+    browser = check.browser
     check.show('chart', 'parse.folded', 'faster.folded')
     picture = Picture(browser)
     search(browser, 'measure')
@@ -140,4 +171,4 @@ def printing(check):
     same(pages['data'][:5], 'JVBER', 'the beginning of the PDF')
 
 
-TESTS = [saving, saving_what_is_seen, lettering, printing, print_button]
+TESTS = [saving, saving_all_rows, saving_large_pictures, saving_lanes, lettering, printing, print_button]

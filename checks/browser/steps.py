@@ -79,6 +79,19 @@ def back_to_a_snapshot(check):
     same(browser.text('#drawing-name'), 'the first 4 samples', 'the snapshot stays')
 
 
+def dragging(check):
+    """The end of a drag is no click."""
+    browser = check.browser
+    check.show('graph', 'parse.folded')
+    picture = Picture(browser)
+    for moved, wanted in ((60, ''), (2, '#zoom=main/parse')):
+        x, y = picture.point(2, 0.5)
+        for kind, to in (('mouseMoved', x), ('mousePressed', x), ('mouseMoved', x + moved), ('mouseReleased', x + moved)):
+            browser.send('Input.dispatchMouseEvent', type=kind, x=to, y=y, button='left', clickCount=1)
+        browser.settle()
+        same(fragment(browser), wanted, f'after {moved} pixels')
+
+
 def matches_in_turn(check):
     browser = check.browser
     check.show('graph', check.write('turns.folded', 'main;leaf 2\nmain;walk;walk;leaf 5\nmain;walk;other 3\nmain;work;leaf 10\n'))
@@ -178,4 +191,4 @@ def first_run(check):
     same(Picture(check.browser).name(3, 0.9), 'tokenize', 'a box of the example')
 
 
-TESTS = [going_back, back_from_a_link, back_to_a_snapshot, matches_in_turn, keys_alone, on_a_phone, in_wide_windows, first_run]
+TESTS = [going_back, back_from_a_link, back_to_a_snapshot, dragging, matches_in_turn, keys_alone, on_a_phone, in_wide_windows, first_run]

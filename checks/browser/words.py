@@ -183,6 +183,10 @@ def links(check):
         browser.open(check.place(document), odd)
         same(browser.happened('Runtime.exceptionThrown'), [], f'faults of {odd}')
         same(Picture(browser).name(0, 0.5), 'all', f'the root with {odd}')
+    for dead in ('#zoom=main/nothing', '#zoom=nothing&find=read', '#box=99999'):
+        browser.open(check.place(document), dead)
+        same([browser.text('#status'), fragment(browser)],
+             ['No box here has the path of this address, so all of them are shown.', '#find=read' if 'read' in dead else ''], dead)
     long = 'a' * 5000
     check.show('graph', check.write('long.folded', f'{long};b 1\nc 1\n'))
     picture = Picture(browser)

@@ -47,21 +47,26 @@ else words.delete(key);
 }
 return words;
 }
+function boxOfWords(page, drawing, words) {
+if (!words.has('zoom')) return words.has('box') ? wholeNumber(words.get('box'), drawing.count) : 0;
+const path = words.get('zoom').split('/').map(decoded);
+const box = boxAt(page, drawing, path, Number(words.get('start') || -1));
+return drawing.depth[box] === path.length ? box : -1;
+}
 function stateOf(page, words) {
 const number = wholeNumber(words.get('drawing'), page.drawingCount);
 const drawing = number >= 0 ? number : page.drawingCount - 1;
 const source = page.view === 'chart' ? wholeNumber(words.get('source'), page.sources.length) : -1;
-const boxes = page.drawing(drawing);
-let box = Math.max(0, wholeNumber(words.get('box'), boxes.count));
-if (words.has('zoom')) box = boxAt(page, boxes, words.get('zoom').split('/').map(decoded), Number(words.get('start') || -1));
-return {
+const box = boxOfWords(page, page.drawing(drawing), words);
+const state = {
 drawing,
 source: source >= 0 && page.sources[source].weight > 0 ? source : -1,
-box,
+box: Math.max(0, box),
 find: decoded(words.get('find') || ''),
 by: ['name', 'regexp'].includes(words.get('by')) ? words.get('by') : 'text',
 below: words.get('root') === 'below',
 };
+return { state, isDead: box < 0 };
 }
 function writeAddress(fragment, isStep) {
 const now = history.state?.steps || 0;

@@ -2,16 +2,18 @@
 
 pub(crate) const TEXT: &str = r##"function detailsOf(page, drawing, span, box) {
 const { unit } = page;
-const weight = drawing.weight[box];
-const isZoomed = span.to - span.from < drawing.total;
-const zoomed = isZoomed ? `, ${percentText(weightInSpan(drawing, box, span), span.to - span.from)} of what is zoomed` : '';
-const details = [`${exactText(weight, unit)}, ${sharesText(page, drawing, weight)}${zoomed}`, `own ${exactText(drawing.own[box], unit)}`];
+const details = [weightDetail(page, drawing, span, drawing.weight[box], weightInSpan(drawing, box, span)), `own ${exactText(drawing.own[box], unit)}`];
 if (drawing.other) {
 const { before, after } = bothWeights(page, drawing, box);
 details.push(`before ${exactText(before, unit)}, after ${exactText(after, unit)}: ${changeText(before, after)}`);
 }
 if (page.view === 'chart') details.push(placeText(page, drawing, box));
 return details;
+}
+function weightDetail(page, drawing, span, weight, weightInside) {
+const isZoomed = span.to - span.from < drawing.total;
+const zoomed = isZoomed ? `, ${percentText(weightInside, span.to - span.from)} of what is zoomed` : '';
+return `${exactText(weight, page.unit)}, ${sharesText(page, drawing, weight)}${zoomed}`;
 }
 function sharesText(page, drawing, weight) {
 const share = percentText(weight, drawing.total);
@@ -30,6 +32,25 @@ return `from ${weightText(from, page.unit)} to ${weightText(to, page.unit)}, in 
 }
 function lineFor(page, drawing, span, box) {
 return [shortened(page.names[drawing.name[box]], 300) || '(empty name)', ...detailsOf(page, drawing, span, box)].join(' \u00b7 ');
+}
+function joinedDetails(page, drawing, span, place) {
+const weight = weighedTogether(drawing, place, (box) => drawing.weight[box]);
+const inside = weighedTogether(drawing, place, (box) => weightInSpan(drawing, box, span));
+return [`${separated(place.count)} boxes, each narrower than a pixel`, `together ${weightDetail(page, drawing, span, weight, inside)}`];
+}
+function placeDetails(page, drawing, span, place) {
+if (isJoined(place)) return joinedDetails(page, drawing, span, place);
+return [described(page.names[drawing.name[place.box]]), ...detailsOf(page, drawing, span, place.box)];
+}
+function placeLine(page, drawing, span, place) {
+return isJoined(place) ? joinedDetails(page, drawing, span, place).join(' \u00b7 ') : lineFor(page, drawing, span, place.box);
+}
+function placeTitle(scene, place) {
+const { page, drawing, span } = scene;
+const { box } = place;
+if (isJoined(place)) return joinedDetails(page, drawing, span, place).join(' \u00b7 ');
+const [weight, , change] = detailsOf(page, drawing, span, box);
+return [nameText(page.names[drawing.name[box]]), weight, ...(drawing.other ? [change] : [])].join(' \u00b7 ');
 }
 function summaryText(page, drawing) {
 const kinds = { graph: 'Flame graph', chart: 'Flame chart' };

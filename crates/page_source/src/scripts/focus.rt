@@ -9,7 +9,7 @@ const { drawing, span, state } = view;
 const { left, right } = edgesOf(drawing, state.focus, span, picture.clientWidth);
 ring.style.left = `${left}px`;
 ring.style.width = `${Math.max(right - left, 4)}px`;
-ring.style.top = `${rowTop(drawing, drawing.depth[state.focus], state.below)}px`;
+ring.style.top = `${rowTop(drawing.rowCount, drawing.depth[state.focus], state.below)}px`;
 ring.style.height = `${ROW_HEIGHT}px`;
 }
 function label(ring, view) {

@@ -15,7 +15,8 @@ const tip = tipOf(page);
 const matching = nameMatcher(page.names);
 const showFunctions = functionTable(page, searchFunction);
 let view = null;
-let hovered = -1;
+let hovered = null;
+let message = '';
 let wished = null;
 let made = '';
 function searchFunction(find, isHere) {
@@ -33,9 +34,27 @@ function viewOf(state) {
 const drawing = page.drawing(state.drawing);
 return { state, drawing, span: spanOf(page, drawing, state), ...searched(state, drawing) };
 }
+function statusText() {
+const { drawing, span, state } = view;
+if (hovered) return placeLine(page, drawing, span, hovered);
+return message || (drawing.count > 0 ? lineFor(page, drawing, span, state.focus) : '');
+}
 function showFocus() {
 showRing(view);
-tip.status(view, hovered >= 0 ? hovered : view.state.focus);
+tip.say(statusText());
+}
+function hover(place) {
+hovered = place;
+tip.say(statusText());
+}
+function say(text) {
+message = text;
+tip.say(text);
+}
+function forget() {
+hovered = null;
+message = '';
+tip.hide();
 }
 function paint() {
 stage.paint(view);
@@ -48,8 +67,7 @@ if (stage.isStale()) paint();
 function look(state) {
 const old = view;
 view = viewOf(state);
-hovered = -1;
-tip.hide();
+forget();
 showTools(page, view);
 if (!old || old.drawing !== view.drawing) {
 showTop(page, view);
@@ -85,8 +103,7 @@ else zoomTo(0);
 }
 function focusOn(box) {
 view = { ...view, state: { ...view.state, focus: box } };
-hovered = -1;
-tip.hide();
+forget();
 revealFocus();
 refresh();
 showFocus();
@@ -113,23 +130,24 @@ if (!isInSpan(view.drawing, box, view.span)) change({ box: 0, source: -1, focus:
 focusOn(box);
 }
 function arrive(words) {
-const state = stateOf(page, words);
+const { state, isDead } = stateOf(page, words);
 const drawing = page.drawing(state.drawing);
 const isInside = view && view.drawing === drawing && view.state.focus >= state.box && view.state.focus < drawing.end[state.box];
 look({ ...state, focus: isInside ? view.state.focus : state.box });
+if (isDead) say('No box here has the path of this address, so all of them are shown.');
 made = address();
 writeAddress(made, false);
 }
 function goTo(event) {
 arrive(event.state ? wordsOfStep(location.hash, made, address()) : wordsOf(location.hash));
 }
-const actions = { change, goBack, zoomTo, focusOn, turnTo, toMatch, refresh, view: () => view };
+const actions = { change, goBack, zoomTo, focusOn, turnTo, toMatch, refresh, hover, say, view: () => view };
 arrive(wordsOf(location.hash));
 if (page.view === 'compare') {
 goneList(page, (box) => change({ drawing: 0, source: -1, box, focus: box }, true));
 }
 listenToTools(page, stage, actions);
-listenToPointer(stage, tip, actions, (box) => { hovered = box; });
+listenToPointer(stage, tip, actions);
 listenToKeys(picture, actions);
 window.addEventListener('popstate', goTo);
 new ResizeObserver(actions.refresh).observe(picture);

@@ -26,13 +26,4 @@ return `${shortened(text, most)} (${text.length.toLocaleString('en')} characters
 function nameText(text) {
 return shortened(text, 200) || '(empty name)';
 }
-function hashOf(text) {
-let hash = 0x811c9dc5;
-for (let place = 0; place < text.length; place++) {
-hash = Math.imul(hash ^ text.charCodeAt(place), 0x01000193);
-}
-hash ^= hash >>> 15;
-hash = Math.imul(hash, 0x2c1b3c6d);
-return (hash ^ (hash >>> 12)) >>> 0;
-}
 "##;

@@ -1,16 +1,22 @@
 //! What `page/join` takes of page/scene.js. `checks/page_source --write` makes this file.
 
 pub(crate) const TEXT: &str = r##"const LANE_HEIGHT = 22;
-function coloursFor(scene, box, isMatch) {
-const { drawing, colours, span, matches, shadeOf } = scene;
-if (isMatch) return { fill: colours.match, ink: colours.matchInk };
+function coloursFor(scene, box) {
+const { drawing, colours, span, matches } = scene;
+if (matches && matches.isMatch(box)) return { fill: colours.match, ink: colours.matchInk };
 if (matches || drawing.depth[box] < span.depth) return { fill: colours.dim, ink: colours.dimInk };
 if (drawing.other) {
 const { before, after } = bothWeights(scene.page, drawing, box);
 return { fill: colours.changes[changeShade(changeOf(before, after))], ink: colours.ink };
 }
 if (drawing.depth[box] === 0) return { fill: colours.root, ink: colours.ink };
-return { fill: colours.plain[shadeOf(drawing.name[box])], ink: colours.ink };
+return { fill: colours.plain[scene.shadeOf(drawing.name[box])], ink: colours.ink };
+}
+function joinedFill(scene, place, row) {
+const { colours, span, matches } = scene;
+const matching = matches ? matchesIn(matches, scene.drawing, row, place) : 0;
+if (matches && matching === place.count) return colours.match;
+return (matches && matching === 0) || row < span.depth ? colours.dim : colours.joined;
 }
 function bothWeights(page, drawing, box) {
 const isBefore = drawing === page.drawing(0);
@@ -24,42 +30,46 @@ if (!scene.drawing.other) return '';
 const { before, after } = bothWeights(scene.page, scene.drawing, box);
 return changeText(before, after);
 }
-function paintBox(painter, scene, box, left, right, top, isMatch) {
-const { fill, ink } = coloursFor(scene, box, isMatch);
-const width = right - left;
-if (width < 3) {
-painter.rectangle(left, top, Math.max(width, 0.3), ROW_HEIGHT - 1, fill);
+function paintPlace(painter, scene, row, place, top) {
+const { box, left, begin, end } = place;
+const width = place.right - left;
+if (isJoined(place)) {
+painter.rectangle(begin, top, end - begin, ROW_HEIGHT - 1, joinedFill(scene, place, row));
 return;
 }
-const [first, beyond] = [Math.round(left), Math.round(right)];
-painter.rectangle(first, top, beyond - first - 1, ROW_HEIGHT - 1, fill);
+const { fill, ink } = coloursFor(scene, box);
+painter.rectangle(begin, top, end - begin, ROW_HEIGHT - 1, fill);
 if (width < 20) return;
 const text = scene.textFor(scene.drawing.name[box], addedText(scene, box), width);
 if (text) painter.text(left + PAD, top + ROW_HEIGHT / 2, text, ink);
 }
 function paintRow(painter, scene, row) {
-const { drawing, span, width, matches } = scene;
-const top = rowTop(drawing, row, scene.below) - scene.top;
-visitRow(drawing, drawing.rows, row, span, width, (box, left, right, isMany) => {
-if (matches && !isMany && matches.isMatch(box)) return;
-paintBox(painter, scene, box, left, right, top, false);
-});
-if (!matches) return;
-visitRow(drawing, matches.rows, row, span, width, (box, left, right) => paintBox(painter, scene, box, left, right, top, true));
+const top = scene.lanes + rowTop(scene.rowCount, row, scene.below) - scene.top;
+for (const place of placesOf(scene.drawing, row, scene.span, scene.width)) {
+painter.entitled(() => placeTitle(scene, place), () => paintPlace(painter, scene, row, place, top));
+}
 }
 function paintBoundaries(painter, scene) {
 if (scene.page.view !== 'chart') return;
-const { span, width } = scene;
+const { span, width, lanes } = scene;
 for (const source of scene.page.sources.slice(1)) {
 if (source.start <= span.from || source.start >= span.to) continue;
-painter.upright(((source.start - span.from) * width) / (span.to - span.from), 0, scene.height, scene.colours.line);
+painter.upright(((source.start - span.from) * width) / (span.to - span.from), lanes, scene.height, scene.colours.line);
+}
+}
+function paintLanes(painter, scene) {
+for (const { source, left, right } of lanesOf(scene.page, scene.span, scene.width)) {
+painter.rectangle(left, 0, Math.max(right - left - 1, 0.3), LANE_HEIGHT - 2, scene.colours.dim);
+const text = scene.cutText(source.name, right - left);
+if (text) painter.text(left + PAD, LANE_HEIGHT / 2, text, scene.colours.ink);
 }
 }
 function paintScene(painter, scene) {
-painter.rectangle(0, 0, scene.width, scene.height, scene.colours.paper);
-const { drawing } = scene;
-const rows = [rowAt(drawing, scene.top, scene.below), rowAt(drawing, scene.top + scene.height, scene.below)];
-const last = Math.min(drawing.rowCount - 1, Math.max(...rows));
+const { rowCount, below, top, lanes } = scene;
+painter.rectangle(0, 0, scene.width, lanes + scene.height, scene.colours.paper);
+if (lanes > 0) paintLanes(painter, scene);
+const rows = [rowAt(rowCount, top, below), rowAt(rowCount, top + scene.height, below)];
+const last = Math.min(rowCount - 1, Math.max(...rows));
 for (let row = Math.max(0, Math.min(...rows)); row <= last; row++) paintRow(painter, scene, row);
 paintBoundaries(painter, scene);
 }
@@ -90,6 +100,7 @@ texts.push({ left, middle, text, ink });
 upright(left, top, height, colour) {
 lines.push({ left, top, height, colour });
 },
+entitled: (titleOf, paint) => paint(),
 finish() {
 for (const [fill, sides] of boxes) {
 context.fillStyle = fill;

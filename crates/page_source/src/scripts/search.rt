@@ -42,6 +42,12 @@ rows: rowsOf(drawing.depth, drawing.rowCount, boxes),
 isMatch: (box) => drawing.depth[box] > 0 && matching[drawing.name[box]] === 1,
 };
 }
+function matchesIn(matches, drawing, row, place) {
+const { first, order } = matches.rows;
+const firstFrom = (box) => firstPlace(first[row], first[row + 1], (at) => order[at] >= box);
+const last = drawing.rows.order[place.at + place.count - 1];
+return firstFrom(last + 1) - firstFrom(place.box);
+}
 function neighbourMatch(matches, box, isForward) {
 const { boxes } = matches;
 if (boxes.length === 0) return -1;

@@ -1,6 +1,7 @@
 //! What `page/join` takes of page/spans.js. `checks/page_source --write` makes this file.
 
 pub(crate) const TEXT: &str = r##"const ROW_HEIGHT = 18;
+const SHARP_FROM = 3;
 function spanOf(page, drawing, state) {
 if (state.source >= 0) {
 const source = page.sources[state.source];
@@ -29,30 +30,60 @@ step *= 2;
 }
 return firstPlace(low, Math.min(low + step, high), holds);
 }
-function visitRow(drawing, rows, row, span, width, visit) {
-const scale = width / (span.to - span.from);
-const stop = rows.first[row + 1];
-let place = firstPlace(rows.first[row], stop, (each) => endOf(drawing, rows.order[each]) > span.from);
-while (place < stop) {
-const box = rows.order[place];
-if (drawing.start[box] >= span.to) return;
-const left = Math.max(0, (drawing.start[box] - span.from) * scale);
-let right = Math.min(width, (endOf(drawing, box) - span.from) * scale);
-let next = place + 1;
-if (right - left < 1 && next < stop) {
-const beyond = span.from + (Math.floor(left) + 1) / scale;
-next = nextPlace(next, stop, (each) => drawing.start[rows.order[each]] >= beyond);
-right = Math.min(width, (endOf(drawing, rows.order[next - 1]) - span.from) * scale);
-}
-visit(box, left, right, next - place > 1);
-place = next;
-}
-}
-function boxOver(drawing, row, weight) {
-if (row < 0 || row >= drawing.rowCount) return -1;
+function placesOf(drawing, row, span, width) {
 const { first, order } = drawing.rows;
-const place = firstPlace(first[row], first[row + 1], (each) => endOf(drawing, order[each]) > weight);
-return place < first[row + 1] && drawing.start[order[place]] <= weight ? order[place] : -1;
+const scale = width / (span.to - span.from);
+const leftOf = (at) => Math.max(0, (drawing.start[order[at]] - span.from) * scale);
+const rightOf = (at) => Math.min(width, (endOf(drawing, order[at]) - span.from) * scale);
+const isNarrow = (at) => rightOf(at) - leftOf(at) < 1;
+const stop = firstPlace(first[row], first[row + 1], (at) => drawing.start[order[at]] >= span.to);
+const places = [];
+let painted = 0;
+let at = firstPlace(first[row], stop, (each) => endOf(drawing, order[each]) > span.from);
+while (at < stop) {
+const left = leftOf(at);
+let next = at + 1;
+if (next < stop && isNarrow(at)) {
+next = nextPlace(next, stop, (each) => leftOf(each) >= Math.floor(left) + 1);
+if (!isNarrow(next - 1)) next--;
+}
+const right = rightOf(next - 1);
+const { begin, end } = paintedEdges(left, right, painted);
+places.push({ at, count: next - at, box: order[at], left, right, begin, end });
+painted = end;
+at = next;
+}
+return places;
+}
+function paintedEdges(left, right, before) {
+if (right - left < SHARP_FROM) {
+const begin = Math.max(left, before);
+return { begin, end: Math.max(right, begin + 0.3) };
+}
+const begin = Math.round(left);
+return { begin: begin < before ? Math.floor(left) + 1 : begin, end: Math.round(right) - 1 };
+}
+function placeOver(places, across) {
+const pixel = Math.floor(across);
+const at = firstPlace(0, places.length, (each) => places[each].end > across);
+if (at < places.length && places[at].begin < pixel + 1) return places[at];
+const before = places[at - 1];
+return before && Math.max(before.end, Math.round(before.right)) > pixel ? before : null;
+}
+function isJoined(place) {
+return place.count > 1;
+}
+function weighedTogether(drawing, place, weightOf) {
+let weight = 0;
+for (let at = place.at; at < place.at + place.count; at++) weight += weightOf(drawing.rows.order[at]);
+return weight;
+}
+function rowsInSpan(drawing, span) {
+const { first, order } = drawing.rows;
+return firstPlace(0, drawing.rowCount, (row) => {
+const at = firstPlace(first[row], first[row + 1], (each) => endOf(drawing, order[each]) > span.from);
+return at === first[row + 1] || drawing.start[order[at]] >= span.to;
+});
 }
 function isInSpan(drawing, box, span) {
 return drawing.start[box] < span.to && endOf(drawing, box) > span.from;
@@ -66,11 +97,11 @@ const left = Math.min(width, Math.max(0, (drawing.start[box] - span.from) * scal
 const right = Math.max(0, Math.min(width, (endOf(drawing, box) - span.from) * scale));
 return { left, right };
 }
-function rowTop(drawing, row, below) {
-return (below ? drawing.rowCount - 1 - row : row) * ROW_HEIGHT;
+function rowTop(rowCount, row, below) {
+return (below ? rowCount - 1 - row : row) * ROW_HEIGHT;
 }
-function rowAt(drawing, top, below) {
+function rowAt(rowCount, top, below) {
 const place = Math.floor(top / ROW_HEIGHT);
-return below ? drawing.rowCount - 1 - place : place;
+return below ? rowCount - 1 - place : place;
 }
 "##;

@@ -1,7 +1,8 @@
 //! What `page/join` takes of page/svg.js. `checks/page_source --write` makes this file.
 
-pub(crate) const TEXT: &str =
-    r##"const ESCAPES = { '&': '&amp;', '<': '&lt;', '>': '&gt;', '"': '&quot;', "'": '&apos;' };
+pub(crate) const TEXT: &str = r##"const LONGEST_SIDE = 16384;
+const LARGEST_AREA = 2 ** 28;
+const ESCAPES = { '&': '&amp;', '<': '&lt;', '>': '&gt;', '"': '&quot;', "'": '&apos;' };
 function escapedText(text) {
 return text.replace(/[&<>"']/g, (character) => ESCAPES[character]);
 }
@@ -17,35 +18,21 @@ parts.push(`<text x="${short(left)}" y="${short(middle + 4)}" fill="${ink}">${es
 upright(left, top, height, colour) {
 parts.push(`<rect x="${Math.round(left)}" y="${short(top)}" width="1" height="${short(height)}" fill="${colour}"/>`);
 },
+entitled(titleOf, paint) {
+parts.push(`<g><title>${escapedText(titleOf())}</title>`);
+paint();
+parts.push('</g>');
+},
 };
-}
-function paintLanes(painter, scene) {
-for (const { source, left, right } of lanesOf(scene.page, scene.span, scene.width)) {
-painter.rectangle(left, 0, Math.max(right - left - 1, 0.3), LANE_HEIGHT - 2, scene.colours.dim);
-const text = scene.cutText(source.name, right - left);
-if (text) painter.text(left + PAD, LANE_HEIGHT / 2, text, scene.colours.ink);
-}
-}
-function lowered(painter, by) {
-return {
-rectangle: (left, top, width, height, fill) => painter.rectangle(left, top + by, width, height, fill),
-text: (left, middle, text, ink) => painter.text(left, middle + by, text, ink),
-upright: (left, top, height, colour) => painter.upright(left, top + by, height, colour),
-};
-}
-function paintWhole(painter, scene) {
-const lanes = scene.page.view === 'chart' ? LANE_HEIGHT : 0;
-if (lanes) painter.rectangle(0, 0, scene.width, lanes, scene.colours.paper);
-paintLanes(painter, scene);
-paintScene(lowered(painter, lanes), scene);
-return lanes + scene.height;
 }
 function svgOf(scene) {
 const parts = [];
-const height = paintWhole(svgPainter(parts), scene);
+paintScene(svgPainter(parts), scene);
+const height = scene.lanes + scene.height;
+const { page } = scene;
 return [
 `<svg xmlns="http://www.w3.org/2000/svg" width="${scene.width}" height="${height}" viewBox="0 0 ${scene.width} ${height}">`,
-`<title>${escapedText(shortened(scene.page.title, 1500))}</title>`,
+`<title>${escapedText(`${shortened(page.title, 1500)} \u00b7 ${summaryText(page, scene.drawing)}`)}</title>`,
 `<g font-family="${escapedText(FONT.replace('12px ', ''))}" font-size="12" xml:space="preserve">`,
 ...parts,
 '</g>',
@@ -66,16 +53,25 @@ return `${plain || 'flamecollect'}.${ending}`;
 function saveSvg(scene) {
 offer(new Blob([svgOf(scene)], { type: 'image/svg+xml' }), fileName(scene.page.title, 'svg'));
 }
-function savePng(scene) {
-const dots = 2;
+function dotsFor(width, height) {
+const fits = (dots) => Math.max(width, height) * dots <= LONGEST_SIDE && width * height * dots ** 2 <= LARGEST_AREA;
+return [2, 1].find(fits) || 0;
+}
+function savePng(scene, say) {
+const [width, height] = [scene.width, scene.lanes + scene.height];
+const refuse = () => say(`A PNG of ${separated(width)} by ${separated(height)} pixels is too large for this browser. An SVG is not.`);
+const dots = dotsFor(width, height);
+if (dots === 0) {
+refuse();
+return;
+}
 const canvas = document.createElement('canvas');
-canvas.width = scene.width * dots;
-canvas.height = (scene.height + (scene.page.view === 'chart' ? LANE_HEIGHT : 0)) * dots;
+[canvas.width, canvas.height] = [width * dots, height * dots];
 const context = canvas.getContext('2d');
 context.scale(dots, dots);
 const painter = canvasPainter(context);
-paintWhole(painter, scene);
+paintScene(painter, scene);
 painter.finish();
-canvas.toBlob((blob) => offer(blob, fileName(scene.page.title, 'png')), 'image/png');
+canvas.toBlob((blob) => (blob ? offer(blob, fileName(scene.page.title, 'png')) : refuse()), 'image/png');
 }
 "##;

@@ -8,7 +8,7 @@ const element = document.createElement('p');
 element.textContent = text;
 return element;
 }
-function place(event) {
+function beside(event) {
 const { width, height } = tip.getBoundingClientRect();
 const left = Math.min(event.clientX + 14, window.innerWidth - width - 4);
 const below = event.clientY + 18;
@@ -19,17 +19,17 @@ return {
 hide() {
 tip.hidden = true;
 },
-show(view, box, event) {
-if (tip.hidden || tip.dataset.box !== String(box)) {
-const name = described(page.names[view.drawing.name[box]]);
-tip.replaceChildren(paragraph(name), ...detailsOf(page, view.drawing, view.span, box).map(paragraph));
-tip.dataset.box = String(box);
+show(view, shown, event) {
+const key = `${shown.at} ${shown.count}`;
+if (tip.hidden || tip.dataset.place !== key) {
+tip.replaceChildren(...placeDetails(page, view.drawing, view.span, shown).map(paragraph));
+tip.dataset.place = key;
 tip.hidden = false;
 }
-place(event);
+beside(event);
 },
-status(view, box) {
-status.textContent = box >= 0 && box < view.drawing.count ? lineFor(page, view.drawing, view.span, box) : '';
+say(text) {
+status.textContent = text;
 },
 };
 }

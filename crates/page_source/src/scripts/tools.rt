@@ -1,6 +1,7 @@
 //! What `page/join` takes of page/tools.js. `checks/page_source --write` makes this file.
 
-pub(crate) const TEXT: &str = r##"function showTop(page, view) {
+pub(crate) const TEXT: &str = r##"const LONGEST_CLICK = 4;
+function showTop(page, view) {
 document.title = shortened(page.title, 200);
 element('title').textContent = described(page.title);
 element('summary').textContent = summaryText(page, view.drawing);
@@ -69,7 +70,7 @@ if (isPrevious) actions.toMatch(false);
 }
 function listenToPrint(stage, actions) {
 window.addEventListener('beforeprint', () => {
-const text = svgOf(stage.scene(actions.view(), true));
+const text = svgOf(stage.whole(actions.view(), true));
 element('paper').replaceChildren(new DOMParser().parseFromString(text, 'image/svg+xml').documentElement);
 });
 window.addEventListener('afterprint', () => element('paper').replaceChildren());
@@ -82,28 +83,28 @@ element('back').addEventListener('click', actions.goBack);
 element('below').addEventListener('change', () => actions.change({ below: element('below').checked }, false));
 element('snapshot').addEventListener('input', () => actions.turnTo(Number(element('snapshot').value)));
 element('before').addEventListener('change', () => actions.turnTo(element('before').checked ? 0 : 1));
-element('save-svg').addEventListener('click', () => saveSvg(stage.scene(actions.view(), false)));
-element('save-png').addEventListener('click', () => savePng(stage.scene(actions.view(), false)));
+element('save-svg').addEventListener('click', () => saveSvg(stage.whole(actions.view(), false)));
+element('save-png').addEventListener('click', () => savePng(stage.whole(actions.view(), false), actions.say));
 }
-function listenToPointer(stage, tip, actions, onHover) {
+function listenToPointer(stage, tip, actions) {
 const { picture } = stage;
 let frame = 0;
+let pressed = null;
 picture.addEventListener('pointermove', (event) => {
-const view = actions.view();
-const box = stage.boxUnder(view, event);
-onHover(box);
-if (box < 0) tip.hide();
-else tip.show(view, box, event);
-tip.status(view, box >= 0 ? box : view.state.focus);
+const place = stage.placeUnder(actions.view(), event);
+actions.hover(place);
+if (place) tip.show(actions.view(), place, event);
+else tip.hide();
 });
 picture.addEventListener('pointerleave', () => {
-onHover(-1);
+actions.hover(null);
 tip.hide();
-tip.status(actions.view(), actions.view().state.focus);
 });
+picture.addEventListener('pointerdown', (event) => { pressed = event; });
 picture.addEventListener('click', (event) => {
-const box = stage.boxUnder(actions.view(), event);
-if (box >= 0) actions.zoomTo(box);
+if (pressed && Math.hypot(event.clientX - pressed.clientX, event.clientY - pressed.clientY) > LONGEST_CLICK) return;
+const place = stage.placeUnder(actions.view(), event);
+if (place && !isJoined(place)) actions.zoomTo(place.box);
 });
 picture.addEventListener('scroll', () => {
 cancelAnimationFrame(frame);

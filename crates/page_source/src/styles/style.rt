@@ -31,7 +31,7 @@ display: flex;
 flex-direction: column;
 height: 100vh;
 margin: 0;
-padding: 0.6rem 0.8rem;
+padding: 0.6rem 11px;
 }
 h1 { font-size: 1.15rem; margin: 0; overflow-wrap: anywhere; max-height: 3em; overflow: auto; unicode-bidi: isolate; }
 h2 { font-size: 1rem; margin: 0.2rem 0; }
@@ -128,7 +128,7 @@ z-index: 4;
 body { height: auto; min-height: 100vh; }
 main { flex-direction: column; }
 #find { width: 9.5rem; }
-#picture { height: 70vh; }
+#picture { flex: none; height: 70vh; }
 #lists { border-left: 0; padding: 0; width: auto; }
 }
 "##;
