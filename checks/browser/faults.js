@@ -1,0 +1,80 @@
+// Faults of a page, put in between it and its canvas by the recorder: each must be found by the comparison. painted_faults.py says what
+// each is. The name of the one that is put in stands in the place of {fault}.
+(() => {
+    'use strict';
+    const { bend } = window.recorder;
+    const [JOINED, MATCHES] = [['#9aa0a8', '#5d646e'], ['#8e3caa', '#c285d6']];
+
+    // What came before, for each that comes.
+    function before(chosen = () => true) {
+        let last = null;
+        return (what) => {
+            if (!chosen(what)) return what;
+            const answer = last === null ? what : last;
+            last = what;
+            return answer;
+        };
+    }
+
+    const faults = {
+        edges_off() {
+            bend.rectangle = ([left, ...others]) => [[left + 2, ...others]];
+        },
+        widths_off() {
+            bend.rectangle = ([left, top, width, height]) => [[left, top, width < 3 ? width : width + 2, height]];
+        },
+        rectangles_of_no_box() {
+            bend.rectangle = (sides) => {
+                const [left, top, width, height] = sides;
+                return width < 20 ? [sides] : [sides, [left + width / 2, top, width / 2 - 8, height]];
+            };
+        },
+        labels_of_the_box_before() {
+            bend.text = before();
+        },
+        changes_turned() {
+            bend.text = (text) => text.replace(/[+\u2212]/, (sign) => (sign === '+' ? '\u2212' : '+'));
+        },
+        joined_as_the_first() {
+            let plain = '#000000';
+            bend.fill = (fill) => {
+                if (JOINED.includes(fill)) return plain;
+                plain = fill;
+                return fill;
+            };
+        },
+        colours_of_the_box_before() {
+            bend.fill = before();
+        },
+        matches_as_the_others() {
+            let dim = '#000000';
+            bend.fill = (fill) => {
+                if (MATCHES.includes(fill)) return dim;
+                dim = fill;
+                return fill;
+            };
+        },
+        a_row_left_out() {
+            bend.rectangle = (sides) => (Math.floor(sides[1] / 18) === 2 ? [] : [sides]);
+        },
+        narrow_ones_left_out() {
+            bend.rectangle = (sides) => (sides[2] < 1 ? [] : [sides]);
+        },
+        labels_left_out() {
+            let count = 0;
+            bend.text = (text) => (++count % 3 === 0 ? '' : text);
+        },
+        tips_of_the_neighbour() {
+            bend.place = ([x, y]) => [x + 30, y];
+        },
+        titles_of_the_box_before() {
+            const title = before();
+            bend.saved = (text) => text.replace(/(?<=<g><title>)[^<]*/g, title);
+        },
+        saved_as_it_is_scrolled() {
+            bend.saved = (text) => text.split('\n').filter((line) => !/<(rect|text)[^>]* y="([6-9]\d|\d{3,})/.test(line)).join('\n');
+        },
+    };
+
+    faults['{fault}']();
+})();

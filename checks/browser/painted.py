@@ -1,0 +1,101 @@
+"""Tests that what a page paints is what its data says. See painted_rows.py for what is compared, and recorder.js for how it is seen."""
+from __future__ import annotations
+
+import itertools
+import json
+import random
+from typing import Any, Iterator
+
+import documents
+from painted_data import Document, View
+from painted_faults import faults_are_found
+from painted_layout import Fault
+from painted_looks import Setting, Watched
+from painted_pages import PAGES
+
+# The windows in which the picture is 368, 588, 1182 and 1912 pixels wide.
+WINDOWS = (390, 610, 1600, 2560)
+ZOOMS, SEARCHES, TIPS = 10, 3, 25
+MOST_TOLD = 5
+
+# With `checks/page --painted all` each page is tried in each setting.
+everything = False
+
+
+def settings() -> list[Setting]:
+    """All settings, shuffled, so that those dealt to the pages in turn cover each and meet each page in different ones."""
+    mixed = [Setting(*each) for each in itertools.product(WINDOWS, (1, 2), ('light', 'dark'), (False, True))]
+    random.Random(1).shuffle(mixed)
+    return mixed
+
+
+def plan() -> Iterator[tuple[Any, Setting]]:
+    """The pages with the settings in which they are tried: two for each, together all that there are."""
+    dealt = itertools.cycle(settings())
+    for page in PAGES:
+        for setting in settings() if everything else [next(dealt), next(dealt)]:
+            yield page, setting
+
+
+def boxes_to_zoom(drawn: random.Random, document: Document, view: View) -> int:
+    """A box at random: among all, or among the heaviest."""
+    drawing = document.drawing(view)
+    if drawn.random() < 0.5:
+        return drawn.randrange(drawing.count)
+    heaviest = sorted(range(drawing.count), key=lambda box: -drawing.weight[box])
+    return drawn.choice(heaviest[:60])
+
+
+def zooms(drawn: random.Random, watched: Watched) -> Iterator[list[Fault]]:
+    """Looks at ten parts: most by their address, some by a click, and in a chart some sources."""
+    document = watched.document
+    for number in range(ZOOMS):
+        view = View(drawn.randrange(len(document.drawings)), below=watched.setting.below)
+        if document.drawing(view).count == 0:
+            continue
+        if document.kind == 'chart' and number % 3 == 0:
+            yield watched.go(view.at(source=drawn.choice([each for each, (_, begin, end) in enumerate(document.sources) if end > begin])))
+        elif number % 3 == 1:
+            yield watched.click(drawn)
+        else:
+            yield watched.go(view.at(box=boxes_to_zoom(drawn, document, view)))
+        yield watched.scroll(drawn.random())
+
+
+def searches(drawn: random.Random, watched: Watched) -> Iterator[list[Fault]]:
+    """Searches a part of a name, a whole name, and two names by a regular expression."""
+    names = [name for name in watched.document.names if name.isascii() and name.isalnum()] or ['all']
+    one, other, third = (drawn.choice(names) for _ in range(SEARCHES))
+    for find, by in ((one[:2], 'text'), (other, 'name'), (f'^({third[:3]}|{other[-2:]})', 'regexp')):
+        yield watched.go(watched.view.at(find=find, by=by))
+
+
+def walk(watched: Watched, seed: str) -> Iterator[list[Fault]]:
+    """Looks at a page from all sides."""
+    drawn = random.Random(seed)
+    yield watched.compare(watched.after('{}'))
+    yield watched.compare_tips(drawn, TIPS)
+    yield watched.compare_saved()
+    yield from zooms(drawn, watched)
+    yield watched.compare_tips(drawn, TIPS)
+    yield from searches(drawn, watched)
+    yield watched.compare_tips(drawn, TIPS)
+    yield watched.compare_saved()
+
+
+def refuse(found: list[Fault], what: str) -> None:
+    told = ''.join(f'\n  ({letter}) {text}' for letter, text in found[:MOST_TOLD])
+    assert not found, f'{what}: {len(found)} faults{told}'
+
+
+def painted(check: Any) -> None:
+    documents_of = {page: page(check) for page in PAGES}
+    for page, setting in plan():
+        data = json.loads(documents.raw_data_in(documents_of[page]))
+        path = check.place(documents_of[page])
+        watched = Watched(check.browser, Document(data), path, setting)
+        refuse(list(itertools.chain.from_iterable(walk(watched, f'{page.__name__} {setting}'))), page.__name__)
+    check.browser.resize(*check.browser.size)
+
+
+TESTS = [painted, faults_are_found]

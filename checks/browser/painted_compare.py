@@ -1,0 +1,91 @@
+"""Compares a paint with what is to be seen: each row, and what else a picture has."""
+from __future__ import annotations
+
+from typing import Iterator
+
+import painted_words as words
+from painted_colours import colour, is_same
+from painted_labels import Labels, is_plain
+from painted_layout import LANES, ROW, TOUCH, Fault, Layout, Sorted
+from painted_paint import Paint, Rectangle
+from painted_places import Sight
+from painted_rows import OFF, Row
+
+
+def faults_of(sight: Sight, paint: Paint, layout: Layout) -> list[Fault]:
+    """All that a paint has wrong."""
+    sorted_paint = Sorted(paint, layout)
+    found = [Fault('e', text) for text in paint.faults]
+    letter = max((text.width / len(text.text) for text in paint.texts if text.width and is_plain(text.text)), default=0.0)
+    seen = [row for row in range(len(sight.drawing.rows)) if -ROW < layout.top_of(row) < paint.height]
+    for number in seen:
+        strip = sorted_paint.strip(number)
+        boxes = sight.drawing.edges(number, sight.span, paint.width)
+        found += Row(sight, number, strip, paint.titles).faults(sight.places(boxes))
+        found += Labels(sight, number, strip, letter).faults(boxes)
+    found += [Fault('b', f'row {row} has {len(strip.rectangles)} rectangles, and is not to be seen')
+              for row, strip in sorted_paint.strips.items() if row >= len(sight.drawing.rows)]
+    return found + [*Margins(sight, paint, layout, sorted_paint).faults()]
+
+
+class Margins:
+    """What a picture has beside boxes: the paper under all, in a chart the line between two sources, and the lanes above what is saved."""
+
+    def __init__(self, sight: Sight, paint: Paint, layout: Layout, sorted_paint: Sorted):
+        self.sight, self.paint, self.layout, self.sorted = sight, paint, layout, sorted_paint
+
+    def faults(self) -> Iterator[Fault]:
+        others = self.sorted.others
+        if not others or not self.is_paper(others[0]):
+            yield Fault('e', 'there is no paper under the picture')
+        rest = [each for each in others if not self.is_paper(each)]
+        if self.sight.document.kind == 'chart':
+            lines = [each for each in rest if self.is_line(each)]
+            rest = [each for each in rest if not self.is_line(each)]
+            yield from self.line_faults(lines)
+        if self.layout.lanes:
+            lanes = [each for each in rest if each.top + each.height <= LANES]
+            rest = [each for each in rest if each.top + each.height > LANES]
+            yield from self.lane_faults(lanes)
+        for rectangle in rest:
+            yield Fault('b', f'{rectangle} is no box\'s')
+
+    def is_paper(self, rectangle: Rectangle) -> bool:
+        return rectangle.width >= self.paint.width and is_same(rectangle.fill, colour(self.sight.palette.paper))
+
+    def is_line(self, rectangle: Rectangle) -> bool:
+        return rectangle.width == 1 and rectangle.height > ROW and is_same(rectangle.fill, colour(self.sight.palette.line))
+
+    def across(self, weight: int) -> float:
+        """Where a weight of the drawing stands."""
+        span = self.sight.span
+        return (weight - span.begin) * self.paint.width / (span.end - span.begin)
+
+    def line_faults(self, lines: list[Rectangle]) -> Iterator[Fault]:
+        wanted = [self.across(begin) for _, begin, _ in self.sight.document.sources[1:] if self.sight.span.begin < begin < self.sight.span.end]
+        for edge in wanted:
+            if not any(abs(line.left - edge) <= OFF for line in lines):
+                yield Fault('e', f'there is no line at {edge:.2f}, where a source ends')
+        for line in lines:
+            is_high = line.top <= max(0.0, self.layout.top) + TOUCH and line.top + line.height >= self.paint.height - TOUCH
+            if not is_high or not any(abs(line.left - edge) <= OFF for edge in wanted):
+                yield Fault('b', f'the line {line} is where no source ends')
+
+    def lane_faults(self, lanes: list[Rectangle]) -> Iterator[Fault]:
+        """Each source that is seen has its lane, from edge to edge, with a front of its name."""
+        seen = []
+        for name, begin, end in self.sight.document.sources:
+            left, right = max(0.0, self.across(begin)), min(self.paint.width, self.across(end))
+            if right > left:
+                seen.append((name, left, right))
+        if len(lanes) != len(seen):
+            yield Fault('b', f'there are {len(lanes)} lanes, and {len(seen)} sources are seen')
+        for lane, (name, left, right) in zip(lanes, seen):
+            if abs(lane.left - left) > OFF or min(abs(lane.right - right), abs(lane.right + 1 - right)) > OFF:
+                yield Fault('a', f'the lane of {name!r} from {left:.2f} to {right:.2f} is painted from {lane.left:.2f} to {lane.right:.2f}')
+            if not is_same(lane.fill, colour(self.sight.palette.dim)):
+                yield Fault('d', f'the lane of {name!r} is painted in {lane.fill}')
+        for text in self.sorted.texts:
+            names = [words.visible(name) for name, left, right in seen if left <= text.left < right]
+            if not any(words.is_front(text.text, name) for name in names):
+                yield Fault('c', f'{text.text!r} at {text.left:.2f} stands on the lane of {names}')

@@ -1,0 +1,91 @@
+"""Faults of pages, each put back once, which the comparison has to find: one that finds nothing there would say nothing elsewhere."""
+from __future__ import annotations
+
+import copy
+import itertools
+import json
+import random
+from typing import Any, Callable, Iterator, NamedTuple
+
+import documents
+from painted_data import Data, Document, Drawing
+from painted_layout import Fault
+from painted_looks import Setting, Watched
+from painted_pages import comparison_made, deep, of_data, random_tree
+from painted_trees import data_of
+
+SETTING = Setting(1600, 1, 'light', False)
+PLACES = 40
+
+
+class PutBack(NamedTuple):
+    """A fault, by which letters it must be found, and a page that shows it. `bend` is its name in faults.js; other faults are put into the
+    data that the page gets, while it is compared with the right ones."""
+    what: str
+    letters: str
+    bend: str = ''
+    page: Callable[[Any], bytes] | None = None
+    data: Callable[[Data], Data] | None = None
+
+
+def narrow_before_wide(data: Data) -> Data:
+    """A wide box with a narrow one before it in the same pixel has the name of that one, and so its colour and its label."""
+    changed = copy.deepcopy(data)
+    for columns, drawing in zip(changed['drawings'], map(Drawing, data['drawings'])):
+        pixel = drawing.total / 1000
+        for row in drawing.rows:
+            for before, box in itertools.pairwise(row):
+                if drawing.weight[before] < pixel < drawing.weight[box] and drawing.end(before) == drawing.start[box]:
+                    columns['name'][box] = drawing.name[before]
+    return changed
+
+
+def small(check: Any) -> bytes:
+    """A page that has something of all that can be painted wrong."""
+    return of_data(data_of(random_tree(30, 3, 40)))
+
+
+FAULTS = [
+    PutBack('a wide box is painted as the narrow one before it', 'cd', data=narrow_before_wide),
+    PutBack('boxes stand two pixels to the right', 'a', 'edges_off'),
+    PutBack('wide boxes are two pixels wider', 'a', 'widths_off'),
+    PutBack('rectangles stand on wide boxes that are none of them', 'b', 'rectangles_of_no_box'),
+    PutBack('labels are those of the box before', 'c', 'labels_of_the_box_before'),
+    PutBack('changes have the other sign', 'c', 'changes_turned', comparison_made),
+    PutBack('what is joined has the colour of a box', 'd', 'joined_as_the_first'),
+    PutBack('colours are those of the box before', 'd', 'colours_of_the_box_before'),
+    PutBack('matches have the colour of what does not match', 'd', 'matches_as_the_others'),
+    PutBack('a row is left out', 'e', 'a_row_left_out'),
+    PutBack('what is narrower than a pixel is left out', 'e', 'narrow_ones_left_out'),
+    PutBack('each third label is left out', 'e', 'labels_left_out'),
+    PutBack('tips are those of a neighbour', 'f', 'tips_of_the_neighbour'),
+    PutBack('titles of an SVG are those of the box before', 'c', 'titles_of_the_box_before'),
+    PutBack('an SVG has only some of the rows', 'e', 'saved_as_it_is_scrolled', deep),
+]
+
+
+def looks(watched: Watched) -> Iterator[list[Fault]]:
+    """Enough looks for each fault to be seen."""
+    drawn = random.Random(1)
+    yield watched.compare(watched.after('{}'))
+    yield watched.compare_tips(drawn, PLACES)
+    yield watched.compare_svg()
+    yield watched.go(watched.view.at(find='s'))
+
+
+def found(check: Any, fault: PutBack) -> str:
+    """The letters by which a fault is found."""
+    document = (fault.page or small)(check)
+    data = json.loads(documents.raw_data_in(document))
+    path = check.place(of_data(fault.data(data)) if fault.data else document)
+    watched = Watched(check.browser, Document(data), path, SETTING, fault.bend)
+    letters = {each.letter for each in itertools.chain.from_iterable(looks(watched))}
+    if fault.bend:
+        assert check.browser.value('recorder.bend.changed') > 0, f'it was not put in that {fault.what}'
+    return ''.join(sorted(letters))
+
+
+def faults_are_found(check: Any) -> None:
+    for fault in FAULTS:
+        letters = found(check, fault)
+        assert set(fault.letters) <= set(letters), f'that {fault.what} is found by {letters or "nothing"}, and not by {fault.letters}'

@@ -1,0 +1,70 @@
+"""Compares the labels of a row with the names of the boxes under them."""
+from __future__ import annotations
+
+import bisect
+from typing import Iterator
+
+import painted_words as words
+from painted_colours import is_same
+from painted_data import Box
+from painted_layout import TOUCH, Fault, Strip
+from painted_paint import Text
+from painted_places import WIDE, Sight
+
+# A box that is so wide has a label; and one with so much more room than its text takes has the whole of it.
+LABELLED, SPARE = 40, 16
+
+
+def is_plain(text: str) -> bool:
+    """Whether each letter is as wide as any other."""
+    return text != '' and text.isascii() and text.isprintable()
+
+
+class Labels:
+    """The labels of one row. `letter` is how wide a plain letter is, 0 where that is not known."""
+
+    def __init__(self, sight: Sight, number: int, strip: Strip, letter: float):
+        self.sight, self.number, self.strip, self.letter = sight, number, strip, letter
+
+    def faults(self, boxes: list[Box]) -> Iterator[Fault]:
+        lefts = [box.left for box in boxes]
+        labels: dict[int, str] = {}
+        for text in self.strip.texts:
+            place = bisect.bisect_right(lefts, text.left) - 1
+            if place < 0 or boxes[place].width < WIDE or text.left >= boxes[place].right:
+                yield Fault('c', f'row {self.number}: {text.text!r} at {text.left:.2f} stands on no box')
+                continue
+            labels[boxes[place].number] = text.text
+            yield from self.label_faults(boxes[place], text)
+        for box in boxes:
+            if box.width >= LABELLED:
+                yield from self.missing(box, labels.get(box.number))
+
+    def whole_labels(self, box: Box) -> list[str]:
+        """The name as it is shown; in a comparison also the name with its change."""
+        drawing, document = self.sight.drawing, self.sight.document
+        name = words.visible(document.name(drawing, box.number))
+        if drawing.other is None:
+            return [name]
+        return [name, f'{name} {words.change(*document.before_and_after(drawing, box.number))}']
+
+    def label_faults(self, box: Box, text: Text) -> Iterator[Fault]:
+        whole = self.whole_labels(box)
+        called = f'row {self.number}: {text.text!r} on {whole[-1][:60]!r} (box {box.number}) from {box.left:.2f} to {box.right:.2f}'
+        if text.text not in whole and not words.is_front(text.text, whole[0]):
+            yield Fault('c', f'{called} is another name')
+        if text.width is not None and text.left + text.width > box.right + TOUCH:
+            yield Fault('c', f'{called} goes on to {text.left + text.width:.2f}')
+        if not is_same(text.ink, self.sight.ink(box.number)):
+            yield Fault('d', f'{called} is written in {text.ink}, not in {self.sight.ink(box.number)}')
+        if any(order >= text.after for order, _ in self.strip.at(text.left)):
+            yield Fault('e', f'{called} is painted over')
+
+    def missing(self, box: Box, label: str | None) -> Iterator[Fault]:
+        wanted = self.whole_labels(box)[-1]
+        called = f'row {self.number}: {wanted[:60]!r} (box {box.number}), {box.width:.2f} wide,'
+        if label is None:
+            if self.sight.document.name(self.sight.drawing, box.number) != '':
+                yield Fault('e', f'{called} has no label')
+        elif label != wanted and self.letter and is_plain(wanted) and len(wanted) * self.letter + SPARE < box.width:
+            yield Fault('e', f'{called} has only the label {label!r}')

@@ -1,0 +1,160 @@
+"""An open page that is watched: what it paints on the screen, into an SVG and a PNG, and for paper, each compared with its data."""
+from __future__ import annotations
+
+import json
+import pathlib
+import random
+import urllib.parse
+from typing import Any, Iterator, NamedTuple
+
+import chromium
+from painted_colours import DARK, LIGHT, Palette
+from painted_compare import faults_of
+from painted_data import Document, View
+from painted_layout import LANES, ROW, Fault, Layout
+from painted_paint import Paint, of_canvas, of_svg
+from painted_places import Sight
+from painted_tips import tip_faults, tip_places
+
+HERE = pathlib.Path(__file__).resolve().parent
+# No picture that is higher has to become a PNG: not every browser has so high a canvas.
+HIGHEST_PNG = 16384
+
+
+class Setting(NamedTuple):
+    """How a page is opened: the window's width, dots a pixel, dark or light, and where the root stands."""
+    width: int
+    dots: int
+    scheme: str
+    below: bool
+
+    @property
+    def palette(self) -> Palette:
+        return DARK if self.scheme == 'dark' else LIGHT
+
+    def __str__(self) -> str:
+        return f'a window of {self.width}, {self.dots} dots a pixel, {self.scheme}, root {"below" if self.below else "above"}'
+
+
+class Watched:
+    """A page with the recorder in it. With `bend` the recorder bends what the page paints, as a fault of the page would."""
+
+    def __init__(self, browser: chromium.Browser, document: Document, path: pathlib.Path, setting: Setting, bend: str = ''):
+        self.browser, self.document, self.setting = browser, document, setting
+        self.view = View(len(document.drawings) - 1, below=setting.below)
+        recorder = (HERE / 'recorder.js').read_text(encoding='utf-8')
+        if bend:
+            recorder += (HERE / 'faults.js').read_text(encoding='utf-8').replace('{fault}', bend)
+        added = browser.send('Page.addScriptToEvaluateOnNewDocument', source=recorder)
+        try:
+            self.open(path)
+        finally:
+            browser.send('Page.removeScriptToEvaluateOnNewDocument', identifier=added['identifier'])
+
+    def open(self, path: pathlib.Path) -> None:
+        width, dots, scheme, below = self.setting
+        self.browser.send('Emulation.setDeviceMetricsOverride', width=width, height=700, deviceScaleFactor=dots, mobile=False)
+        self.browser.send('Emulation.setEmulatedMedia', media='', features=[{'name': 'prefers-color-scheme', 'value': scheme}])
+        self.browser.go(path, '#root=below' if below else '')
+        self.browser.value("new Promise((done) => { if (document.readyState === 'complete') done();"
+                           " else window.addEventListener('load', done); }).then(() => recorder.after(() => {}))")
+
+    def after(self, action: str) -> dict[str, Any]:
+        """What is seen after an action."""
+        seen: dict[str, Any] = self.browser.value(f'recorder.after(() => {action})')
+        return seen
+
+    def go(self, view: View) -> list[Fault]:
+        """Looks at something by its address, and compares."""
+        self.view = view
+        return self.compare(self.after(f'recorder.go({json.dumps(self.fragment(view))})'))
+
+    def fragment(self, view: View) -> str:
+        """The address of a view: a source, a path, or where that would be long the number of a box."""
+        drawing = self.document.drawing(view)
+        path = '/'.join(urllib.parse.quote(self.document.name(drawing, box), safe='') for box in drawing.path(view.box)) if view.box else ''
+        parts = []
+        if view.source >= 0:
+            parts.append(f'source={view.source}')
+        elif view.box and (self.document.kind == 'chart' or len(path) > 2000):
+            parts.append(f'box={view.box}')
+        elif view.box:
+            parts.append(f'zoom={path}')
+        if view.find:
+            parts += [f'find={urllib.parse.quote(view.find, safe="")}', f'by={view.by}']
+        return '#' + '&'.join([*parts, f'drawing={view.drawing}', *(['root=below'] if view.below else [])])
+
+    def scroll(self, part: float) -> list[Fault]:
+        """Scrolls to a part of all rows, and compares."""
+        return self.compare(self.after(f'{{ const picture = document.getElementById("picture");'
+                                       f' picture.scrollTop = {part} * picture.scrollHeight; }}'))
+
+    def sight(self, palette: Palette | None = None) -> Sight:
+        return Sight(self.document, self.view, palette or self.setting.palette)
+
+    def screen(self, seen: dict[str, Any]) -> Layout:
+        return Layout(-seen['scrolled'], len(self.document.drawing(self.view).rows), self.view.below, lanes=False)
+
+    def compare(self, seen: dict[str, Any]) -> list[Fault]:
+        found = [*canvas_faults(seen)]
+        return found + self.named('the screen', faults_of(self.sight(), of_canvas(seen), self.screen(seen)))
+
+    def named(self, where: str, faults: list[Fault]) -> list[Fault]:
+        return [Fault(letter, f'{where} at {self.fragment(self.view)[:200]}, {self.setting}: {text}') for letter, text in faults]
+
+    def compare_tips(self, drawn: random.Random, count: int) -> list[Fault]:
+        """What tip and status say over places chosen at random."""
+        seen = self.after('{}')
+        places = tip_places(drawn, self.sight(), of_canvas(seen), self.screen(seen), count)
+        told = self.browser.value(f'recorder.tips({json.dumps([place.point for place in places])})')
+        return self.named('the tip', [fault for place, said in zip(places, told) for fault in tip_faults(self.sight(), place, said)])
+
+    def click(self, drawn: random.Random) -> list[Fault]:
+        """Clicks a box that is seen, and compares what is zoomed then."""
+        seen = self.after('{}')
+        places = tip_places(drawn, self.sight(), of_canvas(seen), self.screen(seen), 20)
+        boxes = [place for place in places if len(place.boxes) == 1]
+        if not boxes:
+            return []
+        chosen = drawn.choice(boxes)
+        self.view = self.view.at(box=chosen.boxes[0], source=-1)
+        return self.compare(self.after(f'recorder.click({json.dumps(chosen.point)})'))
+
+    def compare_saved(self) -> list[Fault]:
+        """Compares the SVG, the PNG and the picture for paper, which is light."""
+        paper = self.saved(of_svg(self.browser.value('recorder.printed()')), LIGHT, 'the paper')
+        return self.compare_svg() + paper + self.compare_png()
+
+    def compare_svg(self) -> list[Fault]:
+        return self.saved(of_svg(self.browser.value("recorder.saved('svg')")), self.setting.palette, 'the SVG')
+
+    def compare_png(self) -> list[Fault]:
+        record = self.browser.value("recorder.saved('png')")
+        if record:
+            return self.saved(of_canvas(record), self.setting.palette, 'the PNG')
+        is_told = 'too large' in self.browser.value('document.body.innerText')
+        is_high = self.rows_seen() * ROW > HIGHEST_PNG
+        return [] if is_told and is_high else [Fault('e', f'there is no PNG of {self.rows_seen()} rows')]
+
+    def saved(self, paint: Paint, palette: Palette, where: str) -> list[Fault]:
+        """A saved picture has all rows of what is zoomed, whatever is scrolled into view."""
+        lanes = LANES if self.document.kind == 'chart' else 0
+        rows = round((paint.height - lanes) / ROW)
+        layout = Layout(lanes, rows, self.view.below, lanes > 0)
+        found = faults_of(self.sight(palette), paint, layout)
+        if rows < self.rows_seen():
+            found.append(Fault('e', f'has {rows} rows, and what is zoomed has {self.rows_seen()}'))
+        return self.named(where, found)
+
+    def rows_seen(self) -> int:
+        drawing, span = self.document.drawing(self.view), self.document.span(self.view)
+        return sum(1 for row in range(len(drawing.rows)) if any(True for _ in drawing.within(row, span)))
+
+
+def canvas_faults(seen: dict[str, Any]) -> Iterator[Fault]:
+    """The canvas is as large as what is seen of the picture, with as many dots a pixel as the screen has."""
+    for side, room, shown in zip(('width', 'height'), seen['room'], seen['shown']):
+        if abs(seen[side] - room * seen['dots']) > 1 or abs(shown - room) > 1 or room > 4096:
+            yield Fault('e', f'the canvas has a {side} of {seen[side]} dots and is shown on {shown}, where {room} are seen')
+    if seen['scale'] != seen['dots']:
+        yield Fault('e', f'the canvas has {seen["scale"]} dots a pixel, and the screen {seen["dots"]}')

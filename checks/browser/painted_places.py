@@ -1,0 +1,128 @@
+"""What of a row is to be painted as one: a box that is a pixel wide or wider, a narrower one that begins alone in its pixel, or all narrower
+ones that begin in one pixel, joined.
+"""
+from __future__ import annotations
+
+import math
+from dataclasses import dataclass, field
+from typing import Callable, Iterable
+
+from painted_colours import Colour, Palette, colour, of_change, of_name
+from painted_data import Box, Document, Drawing, Span, View, matches_of
+
+# Nearer to a whole pixel than this an edge may be rounded either way.
+DOUBT = 1e-6
+WIDE = 3
+
+
+@dataclass
+class Place:
+    """What is painted as one, with the colours that it may have. Where `boxes` has one, it is that box's. `is_under` says that something
+    else may be painted over it, `is_doubtful` that a neighbour may be joined with it or not. Matches that are narrower than a pixel may also
+    be painted `within` all that begin in that pixel, in the colour of what is joined."""
+    left: float
+    right: float
+    boxes: list[int]
+    colours: list[Colour]
+    is_under: bool = False
+    is_doubtful: bool = False
+    within: Place | None = None
+
+    @property
+    def width(self) -> float:
+        return self.right - self.left
+
+    @property
+    def middle(self) -> float:
+        return (self.left + self.right) / 2
+
+
+@dataclass
+class Narrow:
+    """The boxes narrower than a pixel that begin in each pixel; and those of which a rounding decides whether and where they do."""
+    certain: dict[int, list[Box]] = field(default_factory=dict)
+    doubtful: list[Box] = field(default_factory=list)
+    loose: set[int] = field(default_factory=set)
+
+    def add(self, box: Box) -> None:
+        pixel = math.floor(box.left)
+        nearest = round(box.left)
+        if abs(box.width - 1) < DOUBT:
+            self.doubtful.append(box)
+            self.loose.add(pixel)
+        elif 0 < abs(box.left - nearest) < DOUBT or (box.left == nearest and box.left > 0):
+            self.doubtful.append(box)
+            self.loose.update((nearest - 1, nearest))
+        else:
+            self.certain.setdefault(pixel, []).append(box)
+
+
+class Sight:
+    """The places of each row of what is looked at, and the colours of its boxes."""
+
+    def __init__(self, document: Document, view: View, palette: Palette):
+        self.document, self.view, self.palette = document, view, palette
+        self.drawing: Drawing = document.drawing(view)
+        self.span: Span = document.span(view)
+        self.matching = matches_of(document, view)
+        self.of_names: dict[int, Colour] = {}
+        self.dim, self.match, self.joined = (colour(text) for text in (palette.dim, palette.match, palette.joined))
+
+    def is_match(self, box: int) -> bool:
+        return self.matching is not None and self.drawing.depth[box] > 0 and self.drawing.name[box] in self.matching
+
+    def is_dim(self, box: int) -> bool:
+        return not self.is_match(box) and (self.matching is not None or self.drawing.depth[box] < self.span.depth)
+
+    def colours(self, box: int) -> list[Colour]:
+        """The colours that the box may have."""
+        drawing = self.drawing
+        if self.is_match(box):
+            return [self.match]
+        if self.is_dim(box):
+            return [self.dim]
+        if drawing.other is not None:
+            return of_change(self.palette, *self.document.before_and_after(drawing, box))
+        if drawing.depth[box] == 0:
+            return [colour(self.palette.root)]
+        name = drawing.name[box]
+        if name not in self.of_names:
+            self.of_names[name] = of_name(self.palette, self.document.names[name])
+        return [self.of_names[name]]
+
+    def ink(self, box: int) -> Colour:
+        inks = self.palette.match_ink if self.is_match(box) else self.palette.dim_ink if self.is_dim(box) else self.palette.ink
+        return colour(inks)
+
+    def places(self, boxes: list[Box]) -> list[Place]:
+        """The places of a row, of which these boxes are seen: first those of all boxes, then those of matches, painted over them."""
+        if self.matching is None:
+            return self.layer(boxes, self.colours, self.joined)
+        lower = self.layer(boxes, lambda box: [self.dim], self.dim)
+        upper = self.layer([box for box in boxes if self.is_match(box.number)], self.colours, self.match)
+        mixed: dict[int, Place] = {}
+        for place in lower:
+            place.is_under = any(self.is_match(box) for box in place.boxes)
+            if place.is_under and len(place.boxes) > 1 and not all(self.is_match(box) for box in place.boxes):
+                place.colours = [self.joined, self.dim]
+                mixed.update((box, place) for box in place.boxes)
+        for place in upper:
+            place.within = mixed.get(place.boxes[0])
+        return lower + upper
+
+    def layer(self, boxes: Iterable[Box], colours: Callable[[int], list[Colour]], joined: Colour) -> list[Place]:
+        """The places of the boxes, with the colour of those that are joined."""
+        narrow, places = Narrow(), []
+        for box in boxes:
+            if box.width < 1 + DOUBT:
+                narrow.add(box)
+            else:
+                places.append(Place(box.left, box.right, [box.number], colours(box.number)))
+        for pixel, group in narrow.certain.items():
+            numbers = [box.number for box in group]
+            is_loose = pixel in narrow.loose
+            fills = [*([joined] if len(group) > 1 else colours(numbers[0])), *([joined, self.joined] if is_loose else [])]
+            places.append(Place(group[0].left, group[-1].right, numbers, fills, is_doubtful=is_loose))
+        for box in narrow.doubtful:
+            places.append(Place(box.left, box.right, [box.number], [*colours(box.number), joined, self.joined], is_doubtful=True))
+        return places

@@ -1,0 +1,79 @@
+"""What tip and status say over a place of the screen: that of the box which is painted there, or how many boxes are joined."""
+from __future__ import annotations
+
+import random
+from typing import Any, Iterator, NamedTuple
+
+import painted_words as words
+from painted_layout import ROW, Fault, Layout, Sorted, Strip
+from painted_paint import Paint
+from painted_places import Place, Sight
+from painted_rows import distance, has_colour, is_near
+
+# A pointer stands so far inside of what it points to.
+INSIDE = 0.02
+
+
+class Pointed(NamedTuple):
+    """A point of the picture in a row, and the boxes that are painted there; none beside all boxes."""
+    row: int
+    point: tuple[float, float]
+    boxes: list[int]
+
+
+def tip_places(drawn: random.Random, sight: Sight, paint: Paint, layout: Layout, count: int) -> list[Pointed]:
+    """So many points at random: half of them in any rectangle, the others anywhere in a row."""
+    sorted_paint = Sorted(paint, layout)
+    rows = [row for row in range(len(sight.drawing.rows)) if 0 <= layout.top_of(row) <= paint.height - ROW]
+    chosen: list[Pointed] = []
+    places: list[Place] = []
+    for row in sorted(drawn.choices(rows, k=count)) if rows else []:
+        if not chosen or chosen[-1].row != row:
+            places = [place for place in sight.places(sight.drawing.edges(row, sight.span, paint.width)) if not place.is_doubtful]
+        across = drawn.uniform(0, paint.width)
+        strip = sorted_paint.strip(row)
+        if strip.rectangles and drawn.random() < 0.5:
+            rectangle = drawn.choice(strip.rectangles)[1]
+            across = drawn.uniform(rectangle.left, rectangle.right)
+        boxes = boxes_at(places, strip, across)
+        if boxes is not None:
+            chosen.append(Pointed(row, (across, layout.top_of(row) + ROW / 2), boxes))
+    return chosen
+
+
+def boxes_at(places: list[Place], strip: Strip, across: float) -> list[int] | None:
+    """The boxes for which the rectangle over a point stands; no boxes where none is near. None where it is open what is told, as on the line
+    between two boxes."""
+    for _, rectangle in strip.at(across)[:1]:
+        found = [place for place in places if is_near(rectangle, place) and has_colour(rectangle, place)]
+        is_inside = rectangle.left + INSIDE <= across <= rectangle.right - INSIDE
+        return min(found, key=lambda place: distance(rectangle, place)).boxes if found and is_inside else None
+    is_far = all(across < place.left - 1.5 or across > place.right + 1.5 for place in places)
+    return [] if is_far else None
+
+
+def tip_faults(sight: Sight, pointed: Pointed, told: dict[str, Any]) -> Iterator[Fault]:
+    """What is wrong with the lines of the tip, and with the status."""
+    at = f'at {pointed.point[0]:.2f}, {pointed.point[1]:.2f}'
+    lines: list[str] = told['lines']
+    if not pointed.boxes:
+        if lines:
+            yield Fault('f', f'{at}, where there is no box, the tip says {lines}')
+        return
+    begin, weight, part = wanted(sight, pointed.boxes)
+    if not lines or not lines[0].startswith(begin):
+        yield Fault('f', f'{at} is painted {begin!r}, and the tip says {lines}')
+    elif weight not in lines[1] or part not in lines[1]:
+        yield Fault('f', f'{at} is painted {begin!r} of {weight}, {part}, and the tip says {lines}')
+    status: str = told['status']
+    if not (status.startswith(begin) and weight in status and part in status):
+        yield Fault('f', f'{at} is painted {begin!r} of {weight}, {part}, and the status says {status!r}')
+
+
+def wanted(sight: Sight, boxes: list[int]) -> tuple[str, str, str]:
+    """How a tip and a status begin, and the weight and the part that they tell."""
+    drawing = sight.drawing
+    weight = sum(drawing.weight[box] for box in boxes)
+    name = words.visible(sight.document.name(drawing, boxes[0])[:100]) or words.EMPTY
+    begin = name if len(boxes) == 1 else words.joined(len(boxes))
+    return begin, f'{weight:,}', words.percent(weight, drawing.total)
