@@ -1,7 +1,23 @@
 // What is looked at, in the fragment of the page's address, so that a link shows the same.
 
+import { boxAt, pathOf } from './drawing.js';
+
+/**
+ * @typedef {import('./data.js').Page} Page
+ * @typedef {import('./drawing.js').Drawing} Drawing
+ * @typedef {import('./view.js').State} State
+ */
+
+/**
+ * What a link says: a state but for its focus, and whether it names a box that is not there. Then all is shown.
+ * @typedef {{ state: Omit<State, 'focus'>, isDead: boolean }} Linked
+ */
+
+/** @typedef {Map<string, string>} Words */
+
 const LONGEST_PATH = 4000;
 
+/** @type {(text: string) => string} */
 function decoded(text) {
     try {
         return decodeURIComponent(text);
@@ -10,31 +26,42 @@ function decoded(text) {
     }
 }
 
+// Half of a surrogate pair has no code of its own.
+/** @type {(text: string) => string} */
+function encoded(text) {
+    return encodeURIComponent(new TextDecoder('utf-8', { ignoreBOM: true }).decode(new TextEncoder().encode(text)));
+}
+
 // The part of the fragment that names the zoomed box: its path, and in a chart its start too; a very long path by the box's number.
+/** @type {(page: Page, drawing: Drawing, state: State) => string[]} */
 function zoomWords(page, drawing, state) {
     if (state.source >= 0) return [`source=${state.source}`];
     if (drawing.count === 0 || drawing.depth[state.box] === 0) return [];
     const path = pathOf(page, drawing, state.box);
     const length = path.reduce((sum, name) => sum + name.length, 0);
-    const zoom = length > LONGEST_PATH ? '' : path.map(encodeURIComponent).join('/');
+    const zoom = length > LONGEST_PATH ? '' : path.map(encoded).join('/');
     if (length > LONGEST_PATH || zoom.length > 3 * LONGEST_PATH) return [`box=${state.box}`];
     return page.view === 'chart' ? [`zoom=${zoom}`, `start=${drawing.start[state.box]}`] : [`zoom=${zoom}`];
 }
 
-function fragmentOf(page, drawing, state) {
-    const words = zoomWords(page, drawing, state);
-    if (state.find !== '') words.push(`find=${encodeURIComponent(state.find.toWellFormed())}`);
+/** @type {(page: Page, state: State) => string} */
+export function fragmentOf(page, state) {
+    const words = zoomWords(page, page.drawing(state.drawing), state);
+    if (state.find !== '') words.push(`find=${encoded(state.find)}`);
     if (state.find !== '' && state.by !== 'text') words.push(`by=${state.by}`);
     if (state.drawing !== page.drawingCount - 1) words.push(`drawing=${state.drawing}`);
     if (state.below) words.push('root=below');
     return `#${words.join('&')}`;
 }
 
+// The number that a text is, where that is below the limit, else -1.
+/** @type {(text: string | undefined, limit: number) => number} */
 function wholeNumber(text, limit) {
     return /^[0-9]{1,15}$/.test(text || '') && Number(text) < limit ? Number(text) : -1;
 }
 
-function wordsOf(fragment) {
+/** @type {(fragment: string) => Words} */
+export function wordsOf(fragment) {
     const words = new Map();
     for (const word of fragment.replace(/^#/, '').split('&')) {
         const place = word.indexOf('=');
@@ -45,52 +72,63 @@ function wordsOf(fragment) {
 
 // The words of a step to which the browser's history goes. What was set without a step of its own stays as it is now: a search that was
 // typed, the drawing, and where the root is. `made` is the fragment that the step before began with.
-function wordsOfStep(fragment, made, now) {
+/** @type {(fragment: string, made: string, now: string) => Words} */
+export function wordsOfStep(fragment, made, now) {
     const words = wordsOf(fragment);
-    [made, now] = [wordsOf(made), wordsOf(now)];
+    const [wordsMade, wordsNow] = [wordsOf(made), wordsOf(now)];
     for (const key of ['find', 'by', 'drawing', 'root']) {
-        if (made.get(key) === now.get(key)) continue;
+        const kept = wordsNow.get(key);
+        if (wordsMade.get(key) === kept) continue;
         // A number of a box is one of its own drawing.
         if (key === 'drawing') words.delete('box');
-        if (now.has(key)) words.set(key, now.get(key));
-        else words.delete(key);
+        if (kept === undefined) words.delete(key);
+        else words.set(key, kept);
     }
     return words;
 }
 
 // The box that the words of a fragment name, the root where they name none, or -1 where there is no such box.
+/** @type {(page: Page, drawing: Drawing, words: Words) => number} */
 function boxOfWords(page, drawing, words) {
-    if (!words.has('zoom')) return words.has('box') ? wholeNumber(words.get('box'), drawing.count) : 0;
-    const path = words.get('zoom').split('/').map(decoded);
+    const zoom = words.get('zoom');
+    if (zoom === undefined) return words.has('box') ? wholeNumber(words.get('box'), drawing.count) : 0;
+    const path = zoom.split('/').map(decoded);
     const box = boxAt(page, drawing, path, Number(words.get('start') || -1));
     return drawing.depth[box] === path.length ? box : -1;
 }
 
-// The state that the words of a fragment stand for, and whether they name a box that is not there: then all is shown. What is not understood
-// is left out.
-function stateOf(page, words) {
+// The state that the words of a fragment stand for. What is not understood is left out.
+/** @type {(page: Page, words: Words) => Linked} */
+export function linkedOf(page, words) {
     const number = wholeNumber(words.get('drawing'), page.drawingCount);
     const drawing = number >= 0 ? number : page.drawingCount - 1;
     const source = page.view === 'chart' ? wholeNumber(words.get('source'), page.sources.length) : -1;
     const box = boxOfWords(page, page.drawing(drawing), words);
+    const by = words.get('by');
     const state = {
         drawing,
         source: source >= 0 && page.sources[source].weight > 0 ? source : -1,
         box: Math.max(0, box),
         find: decoded(words.get('find') || ''),
-        by: ['name', 'regexp'].includes(words.get('by')) ? words.get('by') : 'text',
+        by: by === 'name' || by === 'regexp' ? by : 'text',
         below: words.get('root') === 'below',
     };
     return { state, isDead: box < 0 };
 }
 
-// Writes the fragment, as a new step of the browser's history or in place of the last. `steps` counts those that this page made.
-function writeAddress(fragment, isStep) {
-    const now = history.state?.steps || 0;
+// How many steps of the browser's history this page made before the one that is looked at.
+/** @type {() => number} */
+export function stepsMade() {
+    return history.state?.steps || 0;
+}
+
+// Writes the fragment, as a new step of the browser's history or in place of the last.
+/** @type {(fragment: string, isStep: boolean) => void} */
+export function writeAddress(fragment, isStep) {
     const address = fragment === '#' && location.hash === '' ? '' : fragment;
     try {
-        if (isStep) history.pushState({ steps: now + 1 }, '', address);
-        else history.replaceState({ steps: now }, '', address);
+        if (isStep) history.pushState({ steps: stepsMade() + 1 }, '', address);
+        else history.replaceState({ steps: stepsMade() }, '', address);
     } catch {
         // A document without an address of its own has no fragment. It works without a history.
     }

@@ -1,10 +1,26 @@
 // Colours: by a hash of the name, or by the change between two profiles; light and dark.
 
+/**
+ * @typedef {object} Colours
+ * @property {string} paper
+ * @property {string} ink
+ * @property {string} line
+ * @property {string} root
+ * @property {string} dim what steps back
+ * @property {string} dimInk
+ * @property {string} joined several boxes in one place
+ * @property {string} match
+ * @property {string} matchInk
+ * @property {string[]} plain
+ * @property {string[]} changes
+ */
+
 const HUES = 36;
 const SHADES = 3;
 const CHANGES = 10;
 
 // The colours of plain boxes, one for each hue and shade.
+/** @type {(saturation: number, lightest: number, step: number) => string[]} */
 function plainFills(saturation, lightest, step) {
     const fills = [];
     for (let shade = 0; shade < SHADES; shade++) {
@@ -16,6 +32,7 @@ function plainFills(saturation, lightest, step) {
 }
 
 // From the most blue over grey to the most red.
+/** @type {(saturation: number, still: number, full: number) => string[]} */
 function changeFills(saturation, still, full) {
     const fills = [];
     for (let change = -CHANGES; change <= CHANGES; change++) {
@@ -27,39 +44,46 @@ function changeFills(saturation, still, full) {
     return fills;
 }
 
-const LIGHT = {
+/** @type {Colours} */
+export const LIGHT = {
     paper: '#fbfbf9', ink: '#1f2226', line: '#80868f', root: 'hsl(220, 8%, 82%)', dim: 'hsl(220, 8%, 90%)', dimInk: '#555b64',
     joined: '#9aa0a8', match: 'hsl(285, 48%, 45%)', matchInk: '#ffffff', plain: plainFills(48, 74, 4), changes: changeFills(74, 88, 68),
 };
 
-const DARK = {
+/** @type {Colours} */
+export const DARK = {
     paper: '#1b1d20', ink: '#eef0f2', line: '#7c828b', root: 'hsl(220, 6%, 34%)', dim: 'hsl(220, 6%, 22%)', dimInk: '#a9afb8',
     joined: '#5d646e', match: 'hsl(285, 50%, 68%)', matchInk: '#17121a', plain: plainFills(26, 25, 4), changes: changeFills(52, 30, 38),
 };
 
 // From -1 where all is gone to 1 where all is new.
+/** @type {(before: number, after: number) => number} */
 function changeOf(before, after) {
     return before === after ? 0 : (after - before) / Math.max(before, after);
 }
 
 // The place of a change among the colours of changes: only no change at all is grey.
-function changeShade(change) {
+/** @type {(before: number, after: number) => number} */
+export function changeShade(before, after) {
+    const change = changeOf(before, after);
     return Math.sign(change) * Math.ceil(Math.abs(change) * CHANGES) + CHANGES;
 }
 
 // The place of a name's colour among the plain ones, the same on each page: a hash of its bytes, spread over all bits.
-function shadeOf(name) {
+/** @type {(name: string) => number} */
+export function nameShade(name) {
     let hash = 0;
     for (const byte of new TextEncoder().encode(name)) hash = (Math.imul(hash, 31) + byte) >>> 0;
     const spread = Math.imul(hash, 2654435769) >>> 0;
     return Math.floor(spread / 65536) % (HUES * SHADES);
 }
 
-// For each name the place of its colour. A name is hashed when it is first seen.
-function nameShades(names) {
+// For the number of each name the place of its colour. A name is hashed when it is first seen.
+/** @type {(names: string[]) => (name: number) => number} */
+export function nameShades(names) {
     const shades = new Int16Array(names.length).fill(-1);
     return (name) => {
-        if (shades[name] < 0) shades[name] = shadeOf(names[name]);
+        if (shades[name] < 0) shades[name] = nameShade(names[name]);
         return shades[name];
     };
 }

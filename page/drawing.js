@@ -1,37 +1,60 @@
 // The boxes of a drawing in memory: the document's columns as typed arrays, and what follows from them.
 
-// The boxes by their depth, in their order: those of a row are order[first[row]] to order[first[row + 1] - 1].
-function rowsOf(depths, rowCount, boxes) {
-    const first = new Int32Array(rowCount + 1);
-    for (const box of boxes) first[depths[box] + 1]++;
-    for (let row = 0; row < rowCount; row++) first[row + 1] += first[row];
-    const next = first.slice();
-    const order = new Int32Array(boxes.length);
-    for (const box of boxes) order[next[depths[box]]++] = box;
-    return { first, order };
-}
+import { rowsOf } from './rows.js';
 
-function upTo(count) {
+/**
+ * @typedef {import('./data.js').Page} Page
+ * @typedef {import('./rows.js').Rows} Rows
+ */
+
+/**
+ * What can be looked at: a flame graph, a snapshot of one, a chart, or one of the two graphs of a comparison. A box is a number below `count`;
+ * the columns have its depth, the number of its name, and its weights. `end` is the first box after it that does not stand on it.
+ * @typedef {object} Drawing
+ * @property {number | undefined} at how many samples were taken, in snapshots
+ * @property {number[] | undefined} counts how many of them are of each source, in snapshots
+ * @property {number} total
+ * @property {number} least
+ * @property {{ boxes: number, weight: number }} leftOut
+ * @property {number} count
+ * @property {Int32Array} depth
+ * @property {Int32Array} name
+ * @property {Float64Array} start
+ * @property {Float64Array} weight
+ * @property {Float64Array} own
+ * @property {Float64Array | null} other the weights in the other profile, in comparisons
+ * @property {number} rowCount
+ * @property {Rows} rows
+ * @property {Int32Array} parent the caller, -1 of the root
+ * @property {Int32Array} end
+ */
+
+/** @type {(count: number) => Int32Array} */
+export function upTo(count) {
     const numbers = new Int32Array(count);
     for (let number = 0; number < count; number++) numbers[number] = number;
     return numbers;
 }
 
 // For each box its caller, and where in the order that ends which stands on it.
+/** @type {(depths: Int32Array) => { parent: Int32Array, end: Int32Array }} */
 function nestingOf(depths) {
     const parent = new Int32Array(depths.length);
-    const end = new Int32Array(depths.length);
+    const end = new Int32Array(depths.length).fill(depths.length);
+    /** @type {number[]} */
     const open = [];
+    let opened = 0;
     depths.forEach((depth, box) => {
-        while (open.length > depth) end[open.pop()] = box;
+        while (opened > depth) end[open[--opened]] = box;
         parent[box] = depth === 0 ? -1 : open[depth - 1];
-        open.push(box);
+        open[opened++] = box;
     });
-    for (const box of open) end[box] = depths.length;
     return { parent, end };
 }
 
-function drawingOf(columns) {
+// The drawing that the document has as columns.
+/** @type {(columns: any) => Drawing} */
+export function drawingOf(columns) {
     const depth = new Int32Array(columns.depth);
     const rowCount = depth.reduce((most, each) => Math.max(most, each + 1), 0);
     return {
@@ -53,19 +76,22 @@ function drawingOf(columns) {
     };
 }
 
-// The boxes from the root's first callee to this one: a path, whose names are the frames of a stack.
-function boxesTo(drawing, box) {
-    const boxes = [];
-    for (let each = box; each >= 0 && drawing.depth[each] > 0; each = drawing.parent[each]) boxes.push(each);
-    return boxes.reverse();
+/** @type {(drawing: Drawing, box: number) => number} */
+export function endOf(drawing, box) {
+    return drawing.start[box] + drawing.weight[box];
 }
 
-function pathOf(page, drawing, box) {
-    return boxesTo(drawing, box).map((each) => page.names[drawing.name[each]]);
+// The names from the root's first callee to this box: the frames of a stack.
+/** @type {(page: Page, drawing: Drawing, box: number) => string[]} */
+export function pathOf(page, drawing, box) {
+    const path = [];
+    for (let each = box; each >= 0 && drawing.depth[each] > 0; each = drawing.parent[each]) path.push(page.names[drawing.name[each]]);
+    return path.reverse();
 }
 
 // The box of the path, or the last on the way to it. Of boxes with the same path, as charts have them, the one at that start is meant.
-function boxAt(page, drawing, path, start) {
+/** @type {(page: Page, drawing: Drawing, path: string[], start: number) => number} */
+export function boxAt(page, drawing, path, start) {
     let found = 0;
     for (const name of path) {
         let fallback = -1;
@@ -73,7 +99,7 @@ function boxAt(page, drawing, path, start) {
         for (let box = found + 1; box < drawing.end[found] && exact < 0; box = drawing.end[box]) {
             if (page.names[drawing.name[box]] !== name) continue;
             if (fallback < 0) fallback = box;
-            if (start >= drawing.start[box] && start < drawing.start[box] + drawing.weight[box]) exact = box;
+            if (start >= drawing.start[box] && start < endOf(drawing, box)) exact = box;
         }
         const next = exact >= 0 ? exact : fallback;
         if (next < 0) break;
@@ -82,33 +108,10 @@ function boxAt(page, drawing, path, start) {
     return found;
 }
 
-// What the document says, with its drawings made when they are first looked at.
-function readPage() {
-    const data = JSON.parse(document.getElementById('data').textContent);
-    const made = new Array(data.drawings.length);
-    let start = 0;
-    const sources = data.sources.map((source) => {
-        const placed = { ...source, start };
-        start += source.weight;
-        return placed;
-    });
-    return {
-        view: data.view,
-        title: data.title,
-        names: data.names,
-        sources,
-        unit: commonUnit(sources),
-        whole: data.whole,
-        kept: start,
-        // Sums above 2^53 are rounded, and a rounded sum is no filter's doing.
-        isFiltered: data.whole > start + data.whole * 2 ** -50,
-        drawingCount: data.drawings.length,
-        drawing(number) {
-            if (!made[number]) {
-                made[number] = drawingOf(data.drawings[number]);
-                data.drawings[number] = null;
-            }
-            return made[number];
-        },
-    };
+// The weights of the box's path before and after, in a comparison. Its first drawing is that of the profile before.
+/** @type {(page: Page, drawing: Drawing, box: number) => { before: number, after: number }} */
+export function bothWeights(page, drawing, box) {
+    const here = drawing.weight[box];
+    const there = drawing.other ? drawing.other[box] : here;
+    return drawing === page.drawing(0) ? { before: here, after: there } : { before: there, after: here };
 }

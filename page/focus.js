@@ -1,69 +1,103 @@
-// The focused box: a ring around it, which is also what a screen reader hears of. Two elements take turns, since a reader tells
-// of a new one only.
+// The focused box: a ring around it, which is also what a screen reader hears of, and where keys lead.
 
-function ringOf(page, picture) {
-    const rings = [document.getElementById('ring-0'), document.getElementById('ring-1')];
-    let used = 0;
-    let shown = '';
+import { firstPlace } from './bisect.js';
+import { boxLine } from './describe.js';
+import { endOf } from './drawing.js';
+import { element } from './elements.js';
+import { ROW_HEIGHT, rowTop } from './rows.js';
+import { edgesOf, inRow, isInSpan } from './spans.js';
 
-    function place(ring, view) {
-        const { drawing, span, state } = view;
-        const { left, right } = edgesOf(drawing, state.focus, span, picture.clientWidth);
-        ring.style.left = `${left}px`;
-        ring.style.width = `${Math.max(right - left, 4)}px`;
-        ring.style.top = `${rowTop(drawing.rowCount, drawing.depth[state.focus], state.below)}px`;
-        ring.style.height = `${ROW_HEIGHT}px`;
+/**
+ * @typedef {import('./drawing.js').Drawing} Drawing
+ * @typedef {import('./spans.js').Span} Span
+ * @typedef {import('./view.js').View} View
+ */
+
+// A ring is as wide as this at least.
+const NARROWEST_RING = 4;
+
+// The place of a box among those of its row.
+/** @type {(drawing: Drawing, box: number) => number} */
+function placeInRow(drawing, box) {
+    const { first, order } = drawing.rows;
+    const row = drawing.depth[box];
+    return firstPlace(first[row], first[row + 1], (at) => order[at] >= box);
+}
+
+// Two elements take turns, since a reader tells of a new one only.
+export class Ring {
+    /** @param {HTMLElement} picture */
+    constructor(picture) {
+        this.picture = picture;
+        this.rings = [element('ring-0'), element('ring-1')];
+        this.used = 0;
+        this.shown = '';
     }
 
-    function label(ring, view) {
-        const { drawing, span, state } = view;
-        const row = drawing.depth[state.focus];
-        const [first, stop] = [drawing.rows.first[row], drawing.rows.first[row + 1]];
-        ring.setAttribute('aria-label', lineFor(page, drawing, span, state.focus));
-        ring.setAttribute('aria-level', String(row + 1));
-        ring.setAttribute('aria-setsize', String(stop - first));
-        ring.setAttribute('aria-posinset', String(firstPlace(first, stop, (each) => drawing.rows.order[each] >= state.focus) - first + 1));
-        ring.setAttribute('aria-selected', 'true');
-    }
-
-    return function show(view) {
-        const isSeen = view.drawing.count > 0 && isInSpan(view.drawing, view.state.focus, view.span);
-        if (!isSeen) {
-            rings.forEach((ring) => { ring.hidden = true; });
+    /** @type {(view: View) => void} */
+    show(view) {
+        const { picture, rings } = this;
+        if (view.drawing.count === 0 || !isInSpan(view.drawing, view.state.focus, view.span)) {
+            for (const ring of rings) ring.hidden = true;
             picture.removeAttribute('aria-activedescendant');
             return;
         }
-        const text = lineFor(page, view.drawing, view.span, view.state.focus);
-        if (text !== shown) {
-            rings[used].hidden = true;
-            used = 1 - used;
-            shown = text;
+        const text = boxLine(view, view.state.focus);
+        if (text !== this.shown) {
+            rings[this.used].hidden = true;
+            this.used = 1 - this.used;
+            this.shown = text;
         }
-        place(rings[used], view);
-        label(rings[used], view);
-        rings[used].hidden = false;
-        picture.setAttribute('aria-activedescendant', rings[used].id);
-    };
+        const ring = rings[this.used];
+        this.place(ring, view);
+        this.label(ring, view, text);
+        ring.hidden = false;
+        picture.setAttribute('aria-activedescendant', ring.id);
+    }
+
+    /** @type {(ring: HTMLElement, view: View) => void} */
+    place(ring, view) {
+        const { drawing, span, state } = view;
+        const { focus } = state;
+        const { left, right } = edgesOf(drawing.start[focus], endOf(drawing, focus), span, this.picture.clientWidth);
+        ring.style.left = `${left}px`;
+        ring.style.width = `${Math.max(right - left, NARROWEST_RING)}px`;
+        ring.style.top = `${rowTop(drawing.rowCount, drawing.depth[focus], state.below)}px`;
+        ring.style.height = `${ROW_HEIGHT}px`;
+    }
+
+    /** @type {(ring: HTMLElement, view: View, text: string) => void} */
+    label(ring, view, text) {
+        const { drawing, state } = view;
+        const row = drawing.depth[state.focus];
+        const [first, stop] = [drawing.rows.first[row], drawing.rows.first[row + 1]];
+        ring.setAttribute('aria-label', text);
+        ring.setAttribute('aria-level', String(row + 1));
+        ring.setAttribute('aria-setsize', String(stop - first));
+        ring.setAttribute('aria-posinset', String(placeInRow(drawing, state.focus) - first + 1));
+        ring.setAttribute('aria-selected', 'true');
+    }
 }
 
 // The box to which a key leads from the focused one, or -1.
-function boxByKey(view, key) {
+/** @type {(view: View, key: string) => number} */
+export function boxByKey(view, key) {
     const { drawing, span, state } = view;
     const box = state.focus;
-    const { first, order } = drawing.rows;
-    const row = drawing.depth[box];
-    const seen = (place) => (place >= first[row] && place < first[row + 1] && isInSpan(drawing, order[place], span) ? order[place] : -1);
-    const place = firstPlace(first[row], first[row + 1], (each) => order[each] >= box);
+    const { from, to } = inRow(drawing, drawing.depth[box], span);
+    /** @type {(at: number) => number} */
+    const seen = (at) => (at >= from && at < to ? drawing.rows.order[at] : -1);
     const deeper = state.below ? 'ArrowUp' : 'ArrowDown';
     if (key === 'ArrowUp' || key === 'ArrowDown') return key === deeper ? heaviestOn(drawing, box, span) : drawing.parent[box];
-    if (key === 'ArrowLeft') return seen(place - 1);
-    if (key === 'ArrowRight') return seen(place + 1);
-    if (key === 'Home') return seen(firstPlace(first[row], first[row + 1], (each) => endOf(drawing, order[each]) > span.from));
-    if (key === 'End') return seen(firstPlace(first[row], first[row + 1], (each) => drawing.start[order[each]] >= span.to) - 1);
+    if (key === 'ArrowLeft') return seen(placeInRow(drawing, box) - 1);
+    if (key === 'ArrowRight') return seen(placeInRow(drawing, box) + 1);
+    if (key === 'Home') return seen(from);
+    if (key === 'End') return seen(to - 1);
     return -1;
 }
 
 // The heaviest of the boxes that stand on a box and are seen, or -1.
+/** @type {(drawing: Drawing, box: number, span: Span) => number} */
 function heaviestOn(drawing, box, span) {
     let found = -1;
     for (let each = box + 1; each < drawing.end[box]; each = drawing.end[each]) {

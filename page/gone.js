@@ -1,12 +1,23 @@
 // The paths that only the profile before has.
 
+import { pathOf } from './drawing.js';
+import { button, element, nameButton, withText } from './elements.js';
+import { described, nameText } from './names.js';
+import { exactText, percentText, separated, weightText } from './units.js';
+
+/**
+ * @typedef {import('./data.js').Page} Page
+ * @typedef {import('./drawing.js').Drawing} Drawing
+ */
+
 const GONE_STEP = 100;
 
 // The boxes of the profile before whose paths are gone while their callers are there: their weights together are what vanished.
-function goneRoots(drawing) {
+/** @type {(drawing: Drawing) => number[]} */
+export function goneRoots(drawing) {
     const roots = [];
     for (let box = 0; box < drawing.count; ) {
-        if (drawing.other[box] > 0) {
+        if (!drawing.other || drawing.other[box] > 0) {
             box++;
             continue;
         }
@@ -17,52 +28,62 @@ function goneRoots(drawing) {
 }
 
 // All boxes that are gone: the heaviest first, and after each what stands on it.
-function goneBoxes(drawing, roots) {
+/** @type {(drawing: Drawing, roots: number[]) => number[]} */
+export function goneBoxes(drawing, roots) {
     const heaviest = roots.slice().sort((one, other) => drawing.weight[other] - drawing.weight[one] || one - other);
     const boxes = [];
     for (const root of heaviest) for (let box = root; box < drawing.end[root]; box++) boxes.push(box);
     return boxes;
 }
 
-function goneList(page, onChoose) {
-    const section = document.getElementById('gone');
-    const list = document.getElementById('gone-list');
-    const more = document.getElementById('gone-more');
-    const before = page.drawing(0);
-    const roots = goneRoots(before);
-    const boxes = goneBoxes(before, roots);
-    const vanished = roots.reduce((sum, box) => sum + before.weight[box], 0);
-    const much = `${exactText(vanished, page.unit)}, ${percentText(vanished, before.total)} of the profile before`;
+export class GoneList {
+    /**
+     * @param {Page} page
+     * @param {(box: number) => void} onChoose
+     */
+    constructor(page, onChoose) {
+        this.page = page;
+        this.onChoose = onChoose;
+        this.before = page.drawing(0);
+        this.list = element('gone-list');
+        this.more = button('gone-more');
+        const roots = goneRoots(this.before);
+        this.boxes = goneBoxes(this.before, roots);
+        element('gone-summary').textContent = this.summary(roots);
+        this.more.addEventListener('click', () => this.showMore());
+        element('gone').hidden = false;
+        this.showMore();
+    }
 
-    function part(text) {
-        const span = document.createElement('span');
-        span.textContent = text;
-        return span;
+    /** @type {(roots: number[]) => string} */
+    summary(roots) {
+        const { before, boxes, page } = this;
+        if (boxes.length === 0) return 'Each path of the profile before is in the profile after.';
+        const vanished = roots.reduce((sum, box) => sum + before.weight[box], 0);
+        const much = `${exactText(vanished, page.unit)}, ${percentText(vanished, before.total)} of the profile before`;
+        return `${separated(boxes.length)} ${boxes.length === 1 ? 'path' : 'paths'}, together ${much}.`;
     }
 
     // The weight, the callers, which are cut where there is no room, and the name.
-    function item(box) {
+    /** @type {(box: number) => HTMLLIElement} */
+    item(box) {
+        const { before, page } = this;
         const path = pathOf(page, before, box);
         const weight = before.weight[box];
         const callers = path.slice(0, -1).map((name) => `${nameText(name)} › `);
-        const button = nameButton('', () => onChoose(box));
-        button.append(part(`${weightText(weight, page.unit)}  `), part(callers.join('')), part(nameText(page.names[before.name[box]])));
-        button.title = `${exactText(weight, page.unit)}, own ${exactText(before.own[box], page.unit)}: ${described(path.join(' › '))}`;
+        const chosen = nameButton('', () => this.onChoose(box));
+        const texts = [`${weightText(weight, page.unit)}  `, callers.join(''), nameText(page.names[before.name[box]])];
+        chosen.append(...texts.map((text) => withText('span', text)));
+        chosen.title = `${exactText(weight, page.unit)}, own ${exactText(before.own[box], page.unit)}: ${described(path.join(' › '))}`;
         const entry = document.createElement('li');
-        entry.append(button);
+        entry.append(chosen);
         return entry;
     }
 
-    function showMore() {
+    showMore() {
+        const { boxes, list, more } = this;
         const shown = list.children.length;
-        for (const box of boxes.slice(shown, shown + GONE_STEP)) list.append(item(box));
+        for (const box of boxes.slice(shown, shown + GONE_STEP)) list.append(this.item(box));
         more.hidden = list.children.length >= boxes.length;
     }
-
-    document.getElementById('gone-summary').textContent = boxes.length === 0
-        ? 'Each path of the profile before is in the profile after.'
-        : `${separated(boxes.length)} ${boxes.length === 1 ? 'path' : 'paths'}, together ${much}.`;
-    more.addEventListener('click', showMore);
-    section.hidden = false;
-    showMore();
 }

@@ -1,6 +1,21 @@
 // Search in names: which boxes match, and with how much weight.
 
+import { firstPlace } from './bisect.js';
+import { rowsOf } from './rows.js';
+
+/**
+ * @typedef {import('./drawing.js').Drawing} Drawing
+ * @typedef {import('./places.js').Place} Place
+ * @typedef {import('./rows.js').Rows} Rows
+ */
+
+/**
+ * The boxes that match, in order, and the weight of their samples.
+ * @typedef {{ boxes: number[], weight: number, rows: Rows, isMatch: (box: number) => boolean }} Matches
+ */
+
 // A test of a name, or null where the words are no regular expression.
+/** @type {(find: string, by: string) => ((name: string) => boolean) | null} */
 function nameTest(find, by) {
     if (by === 'name') return (name) => name === find;
     // Text without capital letters matches either case.
@@ -14,23 +29,26 @@ function nameTest(find, by) {
     }
 }
 
-// For each name whether it matches, kept for the search that it was asked for last.
-function nameMatcher(names) {
+// For each name 1 where it matches, or null where the words are no regular expression. Kept for the search that it was asked for last.
+/** @type {(names: string[]) => (find: string, by: string) => Uint8Array | null} */
+export function nameMatcher(names) {
     let asked = '';
+    /** @type {Uint8Array | null} */
     let matching = null;
     return (find, by) => {
         const key = `${by} ${find}`;
         if (key !== asked) {
             const test = nameTest(find, by);
             asked = key;
-            matching = test && Uint8Array.from(names, test);
+            matching = test && Uint8Array.from(names, (name) => Number(test(name)));
         }
         return matching;
     };
 }
 
 // The boxes whose names match, the root aside, and the weight of their samples, each counted once: what stands on a match adds nothing.
-function matchesOf(drawing, matching) {
+/** @type {(drawing: Drawing, matching: Uint8Array) => Matches} */
+export function matchesOf(drawing, matching) {
     const boxes = [];
     let weight = 0;
     let covered = 0;
@@ -50,15 +68,18 @@ function matchesOf(drawing, matching) {
 }
 
 // How many boxes of a place match.
-function matchesIn(matches, drawing, row, place) {
+/** @type {(matches: Matches, drawing: Drawing, place: Place) => number} */
+export function matchesIn(matches, drawing, place) {
     const { first, order } = matches.rows;
+    const row = drawing.depth[place.box];
+    /** @type {(box: number) => number} */
     const firstFrom = (box) => firstPlace(first[row], first[row + 1], (at) => order[at] >= box);
-    const last = drawing.rows.order[place.at + place.count - 1];
-    return firstFrom(last + 1) - firstFrom(place.box);
+    return firstFrom(drawing.rows.order[place.at + place.count - 1] + 1) - firstFrom(place.box);
 }
 
 // The match after or before a box, in a circle.
-function neighbourMatch(matches, box, isForward) {
+/** @type {(matches: Matches, box: number, isForward: boolean) => number} */
+export function neighbourMatch(matches, box, isForward) {
     const { boxes } = matches;
     if (boxes.length === 0) return -1;
     if (isForward) return boxes[firstPlace(0, boxes.length, (place) => boxes[place] > box) % boxes.length];

@@ -1,89 +1,67 @@
 // The picture as SVG text. All that comes from the data is escaped.
 
-// What browsers have room for on one canvas.
-const LONGEST_SIDE = 16384;
-const LARGEST_AREA = 2 ** 28;
+import { FONT_FAMILY } from './lettering.js';
+import { shortened } from './names.js';
+import { summaryText } from './notices.js';
+import { paintScene } from './scene.js';
 
+/** @typedef {import('./scene.js').Scene} Scene */
+
+/** @type {Record<string, string>} */
 const ESCAPES = { '&': '&amp;', '<': '&lt;', '>': '&gt;', '"': '&quot;', "'": '&apos;' };
 
+/** @type {(text: string) => string} */
 function escapedText(text) {
     return text.replace(/[&<>"']/g, (character) => ESCAPES[character]);
 }
 
-function svgPainter(parts) {
-    const short = (number) => String(Math.round(number * 100) / 100);
-    return {
-        rectangle(left, top, width, height, fill) {
-            parts.push(`<rect x="${short(left)}" y="${short(top)}" width="${short(width)}" height="${short(height)}" fill="${fill}"/>`);
-        },
-        text(left, middle, text, ink) {
-            parts.push(`<text x="${short(left)}" y="${short(middle + 4)}" fill="${ink}">${escapedText(text)}</text>`);
-        },
-        upright(left, top, height, colour) {
-            parts.push(`<rect x="${Math.round(left)}" y="${short(top)}" width="1" height="${short(height)}" fill="${colour}"/>`);
-        },
-        entitled(titleOf, paint) {
-            parts.push(`<g><title>${escapedText(titleOf())}</title>`);
-            paint();
-            parts.push('</g>');
-        },
-    };
+/** @type {(number: number) => string} */
+function short(number) {
+    return String(Math.round(number * 100) / 100);
 }
 
-function svgOf(scene) {
-    const parts = [];
-    paintScene(svgPainter(parts), scene);
+class SvgPainter {
+    constructor() {
+        /** @type {string[]} */
+        this.parts = [];
+    }
+
+    /** @type {(left: number, top: number, width: number, height: number, fill: string) => void} */
+    rectangle(left, top, width, height, fill) {
+        const area = `x="${short(left)}" y="${short(top)}" width="${short(width)}" height="${short(height)}"`;
+        this.parts.push(`<rect ${area} fill="${fill}"/>`);
+    }
+
+    /** @type {(left: number, middle: number, text: string, ink: string) => void} */
+    text(left, middle, text, ink) {
+        this.parts.push(`<text x="${short(left)}" y="${short(middle + 4)}" fill="${ink}">${escapedText(text)}</text>`);
+    }
+
+    /** @type {(left: number, top: number, height: number, colour: string) => void} */
+    upright(left, top, height, colour) {
+        this.rectangle(Math.round(left), top, 1, height, colour);
+    }
+
+    /** @type {(titleOf: () => string, paint: () => void) => void} */
+    entitled(titleOf, paint) {
+        this.parts.push(`<g><title>${escapedText(titleOf())}</title>`);
+        paint();
+        this.parts.push('</g>');
+    }
+}
+
+/** @type {(scene: Scene) => string} */
+export function svgOf(scene) {
+    const { page, drawing, width } = scene;
     const height = scene.lanes + scene.height;
-    const { page } = scene;
+    const painter = new SvgPainter();
+    paintScene(painter, scene);
     return [
-        `<svg xmlns="http://www.w3.org/2000/svg" width="${scene.width}" height="${height}" viewBox="0 0 ${scene.width} ${height}">`,
-        `<title>${escapedText(`${shortened(page.title, 1500)} · ${summaryText(page, scene.drawing)}`)}</title>`,
-        `<g font-family="${escapedText(FONT.replace('12px ', ''))}" font-size="12" xml:space="preserve">`,
-        ...parts,
+        `<svg xmlns="http://www.w3.org/2000/svg" width="${width}" height="${height}" viewBox="0 0 ${width} ${height}">`,
+        `<title>${escapedText(`${shortened(page.title, 1500)} · ${summaryText(page, drawing)}`)}</title>`,
+        `<g font-family="${escapedText(FONT_FAMILY)}" font-size="12" xml:space="preserve">`,
+        ...painter.parts,
         '</g>',
         '</svg>',
     ].join('\n');
-}
-
-function offer(blob, name) {
-    const link = document.createElement('a');
-    link.href = URL.createObjectURL(blob);
-    link.download = name;
-    link.click();
-    setTimeout(() => URL.revokeObjectURL(link.href), 10000);
-}
-
-// A file's name of the title: letters, digits, dots and dashes.
-function fileName(title, ending) {
-    const plain = title.slice(0, 80).replace(/[^A-Za-z0-9.-]+/g, '-').replace(/^[.-]+|[.-]+$/g, '');
-    return `${plain || 'flamecollect'}.${ending}`;
-}
-
-function saveSvg(scene) {
-    offer(new Blob([svgOf(scene)], { type: 'image/svg+xml' }), fileName(scene.page.title, 'svg'));
-}
-
-// How many dots a pixel has in a PNG of that size: two, one, or none where no canvas is that large.
-function dotsFor(width, height) {
-    const fits = (dots) => Math.max(width, height) * dots <= LONGEST_SIDE && width * height * dots ** 2 <= LARGEST_AREA;
-    return [2, 1].find(fits) || 0;
-}
-
-// Saves the picture, or says why it can't.
-function savePng(scene, say) {
-    const [width, height] = [scene.width, scene.lanes + scene.height];
-    const refuse = () => say(`A PNG of ${separated(width)} by ${separated(height)} pixels is too large for this browser. An SVG is not.`);
-    const dots = dotsFor(width, height);
-    if (dots === 0) {
-        refuse();
-        return;
-    }
-    const canvas = document.createElement('canvas');
-    [canvas.width, canvas.height] = [width * dots, height * dots];
-    const context = canvas.getContext('2d');
-    context.scale(dots, dots);
-    const painter = canvasPainter(context);
-    paintScene(painter, scene);
-    painter.finish();
-    canvas.toBlob((blob) => (blob ? offer(blob, fileName(scene.page.title, 'png')) : refuse()), 'image/png');
 }

@@ -1,37 +1,52 @@
 // Weights in their unit, percents and changes.
 
+import { visible } from './names.js';
+
+/** @type {Record<string, number>} */
 const SECONDS = { nanoseconds: 1e-9, microseconds: 1e-6, milliseconds: 1e-3, seconds: 1 };
+/** @type {Record<string, number>} */
 const BYTES = { bytes: 1, kilobytes: 1024, megabytes: 1024 ** 2, gigabytes: 1024 ** 3 };
+/** @type {[size: number, sign: string][]} */
 const TIME_STEPS = [[1, 's'], [1e-3, 'ms'], [1e-6, 'µs'], [1e-9, 'ns']];
+/** @type {[size: number, sign: string][]} */
 const BYTE_STEPS = [[1024 ** 4, 'TiB'], [1024 ** 3, 'GiB'], [1024 ** 2, 'MiB'], [1024, 'KiB'], [1, 'B']];
 
 // Three digits, and of larger numbers all before the point.
+/** @type {(number: number) => string} */
 function threeDigits(number) {
     return number.toLocaleString('en', number < 999.5 ? { maximumSignificantDigits: 3 } : { maximumFractionDigits: 0 });
 }
 
-function separated(number) {
+/** @type {(number: number) => string} */
+export function separated(number) {
     return number.toLocaleString('en', { maximumFractionDigits: 0 });
 }
 
+/** @type {(value: number, steps: [size: number, sign: string][]) => string} */
 function inSteps(value, steps) {
     const [size, sign] = steps.find(([step]) => value >= step * 0.9995) || steps[steps.length - 1];
     return `${threeDigits(value / size)} ${sign}`;
 }
 
 // The sources that have weight: an empty one has no unit, and changes nothing.
-function weighty(sources) {
+/**
+ * @template {{ weight: number }} T
+ * @type {(sources: T[]) => T[]}
+ */
+export function weighty(sources) {
     return sources.filter((source) => source.weight > 0);
 }
 
 // The one unit of all sources, empty where a weight is a plain number, or null where they have different ones.
-function commonUnit(sources) {
+/** @type {(sources: { unit: string, weight: number }[]) => string | null} */
+export function commonUnit(sources) {
     const units = new Set(weighty(sources).map((source) => source.unit));
     return units.size > 1 ? null : [...units].join('');
 }
 
 // A weight as it is read at a glance: 1.23 ms, 4.5 MiB, 1,234.
-function weightText(weight, unit) {
+/** @type {(weight: number, unit: string | null) => string} */
+export function weightText(weight, unit) {
     if (unit && Object.hasOwn(SECONDS, unit)) return inSteps(weight * SECONDS[unit], TIME_STEPS);
     if (unit && Object.hasOwn(BYTES, unit)) return inSteps(weight * BYTES[unit], BYTE_STEPS);
     const about = weight > Number.MAX_SAFE_INTEGER ? 'about ' : '';
@@ -39,20 +54,23 @@ function weightText(weight, unit) {
 }
 
 // The same, and where that is in larger steps than the unit also the whole number.
-function exactText(weight, unit) {
+/** @type {(weight: number, unit: string | null) => string} */
+export function exactText(weight, unit) {
     const short = weightText(weight, unit);
     const whole = weightText(weight, '');
     return unit && !short.startsWith(whole) ? `${short} (${whole} ${unit})` : short;
 }
 
-function percentText(part, whole) {
+/** @type {(part: number, whole: number) => string} */
+export function percentText(part, whole) {
     if (!(whole > 0)) return '0%';
     const percent = (100 * part) / whole;
     return `${percent.toLocaleString('en', { maximumSignificantDigits: percent < 1 ? 2 : 3 })}%`;
 }
 
 // How much more there is after than before.
-function changeText(before, after) {
+/** @type {(before: number, after: number) => string} */
+export function changeText(before, after) {
     if (before === after) return '±0%';
     if (before === 0) return 'new';
     if (after === 0) return 'gone';

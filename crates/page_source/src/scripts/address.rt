@@ -8,18 +8,21 @@ return decodeURIComponent(text);
 return text;
 }
 }
+function encoded(text) {
+return encodeURIComponent(new TextDecoder('utf-8', { ignoreBOM: true }).decode(new TextEncoder().encode(text)));
+}
 function zoomWords(page, drawing, state) {
 if (state.source >= 0) return [`source=${state.source}`];
 if (drawing.count === 0 || drawing.depth[state.box] === 0) return [];
 const path = pathOf(page, drawing, state.box);
 const length = path.reduce((sum, name) => sum + name.length, 0);
-const zoom = length > LONGEST_PATH ? '' : path.map(encodeURIComponent).join('/');
+const zoom = length > LONGEST_PATH ? '' : path.map(encoded).join('/');
 if (length > LONGEST_PATH || zoom.length > 3 * LONGEST_PATH) return [`box=${state.box}`];
 return page.view === 'chart' ? [`zoom=${zoom}`, `start=${drawing.start[state.box]}`] : [`zoom=${zoom}`];
 }
-function fragmentOf(page, drawing, state) {
-const words = zoomWords(page, drawing, state);
-if (state.find !== '') words.push(`find=${encodeURIComponent(state.find.toWellFormed())}`);
+function fragmentOf(page, state) {
+const words = zoomWords(page, page.drawing(state.drawing), state);
+if (state.find !== '') words.push(`find=${encoded(state.find)}`);
 if (state.find !== '' && state.by !== 'text') words.push(`by=${state.by}`);
 if (state.drawing !== page.drawingCount - 1) words.push(`drawing=${state.drawing}`);
 if (state.below) words.push('root=below');
@@ -38,42 +41,47 @@ return words;
 }
 function wordsOfStep(fragment, made, now) {
 const words = wordsOf(fragment);
-[made, now] = [wordsOf(made), wordsOf(now)];
+const [wordsMade, wordsNow] = [wordsOf(made), wordsOf(now)];
 for (const key of ['find', 'by', 'drawing', 'root']) {
-if (made.get(key) === now.get(key)) continue;
+const kept = wordsNow.get(key);
+if (wordsMade.get(key) === kept) continue;
 if (key === 'drawing') words.delete('box');
-if (now.has(key)) words.set(key, now.get(key));
-else words.delete(key);
+if (kept === undefined) words.delete(key);
+else words.set(key, kept);
 }
 return words;
 }
 function boxOfWords(page, drawing, words) {
-if (!words.has('zoom')) return words.has('box') ? wholeNumber(words.get('box'), drawing.count) : 0;
-const path = words.get('zoom').split('/').map(decoded);
+const zoom = words.get('zoom');
+if (zoom === undefined) return words.has('box') ? wholeNumber(words.get('box'), drawing.count) : 0;
+const path = zoom.split('/').map(decoded);
 const box = boxAt(page, drawing, path, Number(words.get('start') || -1));
 return drawing.depth[box] === path.length ? box : -1;
 }
-function stateOf(page, words) {
+function linkedOf(page, words) {
 const number = wholeNumber(words.get('drawing'), page.drawingCount);
 const drawing = number >= 0 ? number : page.drawingCount - 1;
 const source = page.view === 'chart' ? wholeNumber(words.get('source'), page.sources.length) : -1;
 const box = boxOfWords(page, page.drawing(drawing), words);
+const by = words.get('by');
 const state = {
 drawing,
 source: source >= 0 && page.sources[source].weight > 0 ? source : -1,
 box: Math.max(0, box),
 find: decoded(words.get('find') || ''),
-by: ['name', 'regexp'].includes(words.get('by')) ? words.get('by') : 'text',
+by: by === 'name' || by === 'regexp' ? by : 'text',
 below: words.get('root') === 'below',
 };
 return { state, isDead: box < 0 };
 }
+function stepsMade() {
+return history.state?.steps || 0;
+}
 function writeAddress(fragment, isStep) {
-const now = history.state?.steps || 0;
 const address = fragment === '#' && location.hash === '' ? '' : fragment;
 try {
-if (isStep) history.pushState({ steps: now + 1 }, '', address);
-else history.replaceState({ steps: now }, '', address);
+if (isStep) history.pushState({ steps: stepsMade() + 1 }, '', address);
+else history.replaceState({ steps: stepsMade() }, '', address);
 } catch {
 }
 }

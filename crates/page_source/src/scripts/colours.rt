@@ -33,10 +33,11 @@ joined: '#5d646e', match: 'hsl(285, 50%, 68%)', matchInk: '#17121a', plain: plai
 function changeOf(before, after) {
 return before === after ? 0 : (after - before) / Math.max(before, after);
 }
-function changeShade(change) {
+function changeShade(before, after) {
+const change = changeOf(before, after);
 return Math.sign(change) * Math.ceil(Math.abs(change) * CHANGES) + CHANGES;
 }
-function shadeOf(name) {
+function nameShade(name) {
 let hash = 0;
 for (const byte of new TextEncoder().encode(name)) hash = (Math.imul(hash, 31) + byte) >>> 0;
 const spread = Math.imul(hash, 2654435769) >>> 0;
@@ -45,7 +46,7 @@ return Math.floor(spread / 65536) % (HUES * SHADES);
 function nameShades(names) {
 const shades = new Int16Array(names.length).fill(-1);
 return (name) => {
-if (shades[name] < 0) shades[name] = shadeOf(names[name]);
+if (shades[name] < 0) shades[name] = nameShade(names[name]);
 return shades[name];
 };
 }

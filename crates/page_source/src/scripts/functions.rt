@@ -15,89 +15,96 @@ total[name] += drawing.weight[box];
 }
 return { own, total };
 }
+function comparedOf(page) {
+if (page.view !== 'compare') return null;
+const [before, after] = [0, 1].map((number) => totalsOf(page.drawing(number), page.names.length).total);
+return { before, after, change: after.map((weight, name) => weight - before[name]) };
+}
 function functionRows(page, drawing) {
 const { own, total } = totalsOf(drawing, page.names.length);
-const isCompared = page.view === 'compare';
-const before = isCompared ? totalsOf(page.drawing(0), page.names.length).total : null;
-const after = isCompared ? totalsOf(page.drawing(1), page.names.length).total : null;
-const change = isCompared ? after.map((weight, name) => weight - before[name]) : null;
-const isThere = (name) => total[name] > 0 || (isCompared && before[name] + after[name] > 0);
-return { own, total, before, after, change, all: upTo(page.names.length).filter(isThere) };
+const compared = comparedOf(page);
+const isThere = (name) => total[name] > 0 || (compared !== null && compared.before[name] + compared.after[name] > 0);
+return { own, total, compared, all: upTo(page.names.length).filter(isThere) };
+}
+function columnOf(rows, key) {
+if (key === 'change' && rows.compared) return rows.compared.change;
+return key === 'total' ? rows.total : rows.own;
 }
 function sortedRows(page, rows, key, isRising) {
+const all = Array.from(rows.all);
 if (key === 'name') {
-const sorted = Array.from(rows.all).sort((one, other) => (page.names[one] < page.names[other] ? -1 : 1));
+const sorted = all.sort((one, other) => (page.names[one] < page.names[other] ? -1 : 1));
 return isRising ? sorted : sorted.reverse();
 }
-const column = rows[key];
-return rows.all.slice().sort((one, other) => (isRising ? column[one] - column[other] : column[other] - column[one]) || one - other);
-}
-function nameButton(text, action) {
-const button = document.createElement('button');
-button.type = 'button';
-button.textContent = text;
-button.addEventListener('click', action);
-return button;
+const column = columnOf(rows, key);
+return all.sort((one, other) => (isRising ? column[one] - column[other] : column[other] - column[one]) || one - other);
 }
 function weightCell(weight, whole, unit) {
-const cell = document.createElement('td');
-cell.textContent = weightText(weight, unit);
+const cell = withText('td', weightText(weight, unit));
 cell.title = `${exactText(weight, unit)}, ${percentText(weight, whole)}`;
 return cell;
 }
-function functionRow(page, drawing, rows, name, onChoose) {
-const row = document.createElement('tr');
-const first = document.createElement('td');
-const button = nameButton(nameText(page.names[name]), () => onChoose(page.names[name], rows.total[name] > 0));
-button.title = described(page.names[name]);
-first.append(button);
-row.append(first, weightCell(rows.own[name], drawing.total, page.unit), weightCell(rows.total[name], drawing.total, page.unit));
-if (rows.change) {
-const cell = document.createElement('td');
-cell.textContent = changeText(rows.before[name], rows.after[name]);
-cell.title = `total before ${exactText(rows.before[name], page.unit)}, after ${exactText(rows.after[name], page.unit)}`;
-row.append(cell);
+class FunctionTable {
+constructor(page, onChoose) {
+this.page = page;
+this.onChoose = onChoose;
+const section = element('functions');
+this.body = inside(section, 'tbody');
+this.more = button('functions-more');
+this.heads = [...section.querySelectorAll('th')];
+this.sort = { key: 'own', isRising: false };
+this.whole = 0;
+this.rows = { own: new Float64Array(0), total: new Float64Array(0), compared: null, all: new Int32Array(0) };
+this.sorted = [];
+for (const head of this.heads) {
+if (head.dataset.key === 'change') head.hidden = page.view !== 'compare';
+inside(head, 'button').addEventListener('click', () => this.sortBy(head.dataset.key || 'own'));
 }
-return row;
+this.more.addEventListener('click', () => this.showMore());
 }
-function functionTable(page, onChoose) {
-const section = document.getElementById('functions');
-const body = section.querySelector('tbody');
-const more = document.getElementById('functions-more');
-const heads = [...section.querySelectorAll('th')];
-const sort = { key: 'own', isRising: false };
-let drawing = null;
-let rows = null;
-let sorted = [];
-function showMore() {
-const shown = body.rows.length;
-for (const name of sorted.slice(shown, shown + TABLE_STEP)) body.append(functionRow(page, drawing, rows, name, onChoose));
-more.hidden = body.rows.length >= sorted.length;
+show(drawing) {
+this.whole = drawing.total;
+this.rows = functionRows(this.page, drawing);
+this.showSorted();
+}
+sortBy(key) {
+const isRising = this.sort.key === key ? !this.sort.isRising : key === 'name';
+this.sort = { key, isRising };
+this.showSorted();
+}
+showSorted() {
+const { key, isRising } = this.sort;
+this.sorted = sortedRows(this.page, this.rows, key, isRising);
+this.body.replaceChildren();
+for (const head of this.heads) {
+if (head.dataset.key !== key) head.removeAttribute('aria-sort');
+else head.setAttribute('aria-sort', isRising ? 'ascending' : 'descending');
+}
+this.showMore();
+}
+showMore() {
+const { body, more, sorted } = this;
+const shown = body.children.length;
+for (const name of sorted.slice(shown, shown + TABLE_STEP)) body.append(this.row(name));
+more.hidden = body.children.length >= sorted.length;
 more.textContent = `Show more of ${separated(sorted.length)}`;
 }
-function show() {
-sorted = sortedRows(page, rows, sort.key, sort.isRising);
-body.replaceChildren();
-for (const head of heads) {
-if (head.dataset.key !== sort.key) head.removeAttribute('aria-sort');
-else head.setAttribute('aria-sort', sort.isRising ? 'ascending' : 'descending');
+row(name) {
+const { page, whole, rows } = this;
+const chosen = nameButton(nameText(page.names[name]), () => this.onChoose(page.names[name], rows.total[name] > 0));
+chosen.title = described(page.names[name]);
+const first = document.createElement('td');
+first.append(chosen);
+const row = document.createElement('tr');
+row.append(first, weightCell(rows.own[name], whole, page.unit), weightCell(rows.total[name], whole, page.unit));
+if (rows.compared) row.append(this.changeCell(rows.compared.before[name], rows.compared.after[name]));
+return row;
 }
-showMore();
+changeCell(before, after) {
+const { unit } = this.page;
+const cell = withText('td', changeText(before, after));
+cell.title = `total before ${exactText(before, unit)}, after ${exactText(after, unit)}`;
+return cell;
 }
-for (const head of heads) {
-if (head.dataset.key === 'change') head.hidden = page.view !== 'compare';
-head.querySelector('button').addEventListener('click', () => {
-const { key } = head.dataset;
-sort.isRising = sort.key === key ? !sort.isRising : key === 'name';
-sort.key = key;
-show();
-});
-}
-more.addEventListener('click', showMore);
-return (newDrawing) => {
-drawing = newDrawing;
-rows = functionRows(page, drawing);
-show();
-};
 }
 "##;

@@ -4,7 +4,7 @@ pub(crate) const TEXT: &str = r##"const GONE_STEP = 100;
 function goneRoots(drawing) {
 const roots = [];
 for (let box = 0; box < drawing.count; ) {
-if (drawing.other[box] > 0) {
+if (!drawing.other || drawing.other[box] > 0) {
 box++;
 continue;
 }
@@ -19,41 +19,45 @@ const boxes = [];
 for (const root of heaviest) for (let box = root; box < drawing.end[root]; box++) boxes.push(box);
 return boxes;
 }
-function goneList(page, onChoose) {
-const section = document.getElementById('gone');
-const list = document.getElementById('gone-list');
-const more = document.getElementById('gone-more');
-const before = page.drawing(0);
-const roots = goneRoots(before);
-const boxes = goneBoxes(before, roots);
+class GoneList {
+constructor(page, onChoose) {
+this.page = page;
+this.onChoose = onChoose;
+this.before = page.drawing(0);
+this.list = element('gone-list');
+this.more = button('gone-more');
+const roots = goneRoots(this.before);
+this.boxes = goneBoxes(this.before, roots);
+element('gone-summary').textContent = this.summary(roots);
+this.more.addEventListener('click', () => this.showMore());
+element('gone').hidden = false;
+this.showMore();
+}
+summary(roots) {
+const { before, boxes, page } = this;
+if (boxes.length === 0) return 'Each path of the profile before is in the profile after.';
 const vanished = roots.reduce((sum, box) => sum + before.weight[box], 0);
 const much = `${exactText(vanished, page.unit)}, ${percentText(vanished, before.total)} of the profile before`;
-function part(text) {
-const span = document.createElement('span');
-span.textContent = text;
-return span;
+return `${separated(boxes.length)} ${boxes.length === 1 ? 'path' : 'paths'}, together ${much}.`;
 }
-function item(box) {
+item(box) {
+const { before, page } = this;
 const path = pathOf(page, before, box);
 const weight = before.weight[box];
 const callers = path.slice(0, -1).map((name) => `${nameText(name)} \u203a `);
-const button = nameButton('', () => onChoose(box));
-button.append(part(`${weightText(weight, page.unit)}  `), part(callers.join('')), part(nameText(page.names[before.name[box]])));
-button.title = `${exactText(weight, page.unit)}, own ${exactText(before.own[box], page.unit)}: ${described(path.join(' \u203a '))}`;
+const chosen = nameButton('', () => this.onChoose(box));
+const texts = [`${weightText(weight, page.unit)}  `, callers.join(''), nameText(page.names[before.name[box]])];
+chosen.append(...texts.map((text) => withText('span', text)));
+chosen.title = `${exactText(weight, page.unit)}, own ${exactText(before.own[box], page.unit)}: ${described(path.join(' \u203a '))}`;
 const entry = document.createElement('li');
-entry.append(button);
+entry.append(chosen);
 return entry;
 }
-function showMore() {
+showMore() {
+const { boxes, list, more } = this;
 const shown = list.children.length;
-for (const box of boxes.slice(shown, shown + GONE_STEP)) list.append(item(box));
+for (const box of boxes.slice(shown, shown + GONE_STEP)) list.append(this.item(box));
 more.hidden = list.children.length >= boxes.length;
 }
-document.getElementById('gone-summary').textContent = boxes.length === 0
-? 'Each path of the profile before is in the profile after.'
-: `${separated(boxes.length)} ${boxes.length === 1 ? 'path' : 'paths'}, together ${much}.`;
-more.addEventListener('click', showMore);
-section.hidden = false;
-showMore();
 }
 "##;

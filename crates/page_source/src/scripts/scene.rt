@@ -1,52 +1,45 @@
 //! What `page/join` takes of page/scene.js. `checks/page_source --write` makes this file.
 
 pub(crate) const TEXT: &str = r##"const LANE_HEIGHT = 22;
+const TEXT_FROM = 20;
 function coloursFor(scene, box) {
 const { drawing, colours, span, matches } = scene;
 if (matches && matches.isMatch(box)) return { fill: colours.match, ink: colours.matchInk };
 if (matches || drawing.depth[box] < span.depth) return { fill: colours.dim, ink: colours.dimInk };
 if (drawing.other) {
 const { before, after } = bothWeights(scene.page, drawing, box);
-return { fill: colours.changes[changeShade(changeOf(before, after))], ink: colours.ink };
+return { fill: colours.changes[changeShade(before, after)], ink: colours.ink };
 }
 if (drawing.depth[box] === 0) return { fill: colours.root, ink: colours.ink };
 return { fill: colours.plain[scene.shadeOf(drawing.name[box])], ink: colours.ink };
 }
-function joinedFill(scene, place, row) {
-const { colours, span, matches } = scene;
-const matching = matches ? matchesIn(matches, scene.drawing, row, place) : 0;
-if (matches && matching === place.count) return colours.match;
-return (matches && matching === 0) || row < span.depth ? colours.dim : colours.joined;
-}
-function bothWeights(page, drawing, box) {
-const isBefore = drawing === page.drawing(0);
-return {
-before: isBefore ? drawing.weight[box] : drawing.other[box],
-after: isBefore ? drawing.other[box] : drawing.weight[box],
-};
+function joinedFill(scene, place) {
+const { drawing, colours, span, matches } = scene;
+const matching = matches ? matchesIn(matches, drawing, place) : 0;
+if (matching === place.count) return colours.match;
+return (matches && matching === 0) || drawing.depth[place.box] < span.depth ? colours.dim : colours.joined;
 }
 function addedText(scene, box) {
 if (!scene.drawing.other) return '';
 const { before, after } = bothWeights(scene.page, scene.drawing, box);
 return changeText(before, after);
 }
-function paintPlace(painter, scene, row, place, top) {
-const { box, left, begin, end } = place;
-const width = place.right - left;
+function paintPlace(painter, scene, place, top) {
+const { box, left, right, begin, end } = place;
 if (isJoined(place)) {
-painter.rectangle(begin, top, end - begin, ROW_HEIGHT - 1, joinedFill(scene, place, row));
+painter.rectangle(begin, top, end - begin, ROW_HEIGHT - 1, joinedFill(scene, place));
 return;
 }
 const { fill, ink } = coloursFor(scene, box);
 painter.rectangle(begin, top, end - begin, ROW_HEIGHT - 1, fill);
-if (width < 20) return;
-const text = scene.textFor(scene.drawing.name[box], addedText(scene, box), width);
+if (right - left < TEXT_FROM) return;
+const text = scene.lettering.textFor(scene.drawing.name[box], addedText(scene, box), right - left);
 if (text) painter.text(left + PAD, top + ROW_HEIGHT / 2, text, ink);
 }
 function paintRow(painter, scene, row) {
 const top = scene.lanes + rowTop(scene.rowCount, row, scene.below) - scene.top;
 for (const place of placesOf(scene.drawing, row, scene.span, scene.width)) {
-painter.entitled(() => placeTitle(scene, place), () => paintPlace(painter, scene, row, place, top));
+painter.entitled(() => placeTitle(scene, place), () => paintPlace(painter, scene, place, top));
 }
 }
 function paintBoundaries(painter, scene) {
@@ -58,9 +51,9 @@ painter.upright(((source.start - span.from) * width) / (span.to - span.from), la
 }
 }
 function paintLanes(painter, scene) {
-for (const { source, left, right } of lanesOf(scene.page, scene.span, scene.width)) {
+for (const { number, left, right } of lanesOf(scene.page, scene.span, scene.width)) {
 painter.rectangle(left, 0, Math.max(right - left - 1, 0.3), LANE_HEIGHT - 2, scene.colours.dim);
-const text = scene.cutText(source.name, right - left);
+const text = scene.sourceLettering.textFor(number, '', right - left);
 if (text) painter.text(left + PAD, LANE_HEIGHT / 2, text, scene.colours.ink);
 }
 }
@@ -72,52 +65,5 @@ const rows = [rowAt(rowCount, top, below), rowAt(rowCount, top + scene.height, b
 const last = Math.min(rowCount - 1, Math.max(...rows));
 for (let row = Math.max(0, Math.min(...rows)); row <= last; row++) paintRow(painter, scene, row);
 paintBoundaries(painter, scene);
-}
-function lanesOf(page, span, width) {
-if (page.view !== 'chart') return [];
-const scale = width / (span.to - span.from);
-return page.sources
-.map((source, number) => ({
-source,
-number,
-left: Math.max(0, (source.start - span.from) * scale),
-right: Math.min(width, (source.start + source.weight - span.from) * scale),
-}))
-.filter(({ left, right }) => right > left);
-}
-function canvasPainter(context) {
-const boxes = new Map();
-const texts = [];
-const lines = [];
-return {
-rectangle(left, top, width, height, fill) {
-if (!boxes.has(fill)) boxes.set(fill, []);
-boxes.get(fill).push(left, top, width, height);
-},
-text(left, middle, text, ink) {
-texts.push({ left, middle, text, ink });
-},
-upright(left, top, height, colour) {
-lines.push({ left, top, height, colour });
-},
-entitled: (titleOf, paint) => paint(),
-finish() {
-for (const [fill, sides] of boxes) {
-context.fillStyle = fill;
-for (let at = 0; at < sides.length; at += 4) context.fillRect(sides[at], sides[at + 1], sides[at + 2], sides[at + 3]);
-}
-context.font = FONT;
-context.textBaseline = 'middle';
-context.direction = 'ltr';
-for (const { left, middle, text, ink } of texts) {
-context.fillStyle = ink;
-context.fillText(text, left, middle);
-}
-for (const { left, top, height, colour } of lines) {
-context.fillStyle = colour;
-context.fillRect(Math.round(left), top, 1, height);
-}
-},
-};
 }
 "##;

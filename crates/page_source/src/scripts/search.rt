@@ -19,7 +19,7 @@ const key = `${by} ${find}`;
 if (key !== asked) {
 const test = nameTest(find, by);
 asked = key;
-matching = test && Uint8Array.from(names, test);
+matching = test && Uint8Array.from(names, (name) => Number(test(name)));
 }
 return matching;
 };
@@ -42,11 +42,11 @@ rows: rowsOf(drawing.depth, drawing.rowCount, boxes),
 isMatch: (box) => drawing.depth[box] > 0 && matching[drawing.name[box]] === 1,
 };
 }
-function matchesIn(matches, drawing, row, place) {
+function matchesIn(matches, drawing, place) {
 const { first, order } = matches.rows;
+const row = drawing.depth[place.box];
 const firstFrom = (box) => firstPlace(first[row], first[row + 1], (at) => order[at] >= box);
-const last = drawing.rows.order[place.at + place.count - 1];
-return firstFrom(last + 1) - firstFrom(place.box);
+return firstFrom(drawing.rows.order[place.at + place.count - 1] + 1) - firstFrom(place.box);
 }
 function neighbourMatch(matches, box, isForward) {
 const { boxes } = matches;

@@ -1,0 +1,67 @@
+// What the document says.
+
+import { drawingOf } from './drawing.js';
+import { commonUnit } from './units.js';
+
+/**
+ * @typedef {import('./drawing.js').Drawing} Drawing
+ */
+
+/**
+ * A file. `start` is where it begins in a chart: the weight of those before it.
+ * @typedef {{ name: string, type: string, unit: string, weight: number, start: number }} Source
+ */
+
+/**
+ * The document. A name is meant by its number in `names`.
+ * @typedef {object} Page
+ * @property {'graph' | 'chart' | 'compare'} view
+ * @property {string} title
+ * @property {string[]} names
+ * @property {Source[]} sources
+ * @property {string | null} unit that of all sources, null where they have different ones
+ * @property {number} whole the weight of all samples
+ * @property {number} kept the weight of those that a filter keeps
+ * @property {boolean} isFiltered
+ * @property {number} drawingCount
+ * @property {(number: number) => Drawing} drawing
+ */
+
+// Gives each drawing by its number. It is made when it is first asked for, and its columns are let go.
+/** @type {(columns: any[]) => (number: number) => Drawing} */
+function drawingsOf(columns) {
+    /** @type {Drawing[]} */
+    const made = [];
+    return (number) => {
+        if (!made[number]) {
+            made[number] = drawingOf(columns[number]);
+            columns[number] = null;
+        }
+        return made[number];
+    };
+}
+
+// The page with these data, as docs/PAGE-DATA.md describes them.
+/** @type {(data: any) => Page} */
+export function pageOf(data) {
+    let start = 0;
+    /** @type {Source[]} */
+    const sources = [];
+    for (const source of data.sources) {
+        sources.push({ ...source, start });
+        start += source.weight;
+    }
+    return {
+        view: data.view,
+        title: data.title,
+        names: data.names,
+        sources,
+        unit: commonUnit(sources),
+        whole: data.whole,
+        kept: start,
+        // Sums above 2^53 are rounded, and a rounded sum is no filter's doing.
+        isFiltered: data.whole > start + data.whole * 2 ** -50,
+        drawingCount: data.drawings.length,
+        drawing: drawingsOf(data.drawings),
+    };
+}

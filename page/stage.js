@@ -1,0 +1,117 @@
+// The canvas: as large as the part of the picture that is seen, whatever the picture's height.
+
+import { paintOnCanvas } from './canvas.js';
+import { DARK, LIGHT, nameShades } from './colours.js';
+import { element, elementOf } from './elements.js';
+import { Lettering } from './lettering.js';
+import { placeOver, placesOf } from './places.js';
+import { ROW_HEIGHT, rowAt, rowTop } from './rows.js';
+import { LANE_HEIGHT } from './scene.js';
+import { rowsInSpan } from './spans.js';
+
+/**
+ * @typedef {import('./colours.js').Colours} Colours
+ * @typedef {import('./data.js').Page} Page
+ * @typedef {import('./places.js').Place} Place
+ * @typedef {import('./scene.js').Scene} Scene
+ * @typedef {import('./view.js').View} View
+ */
+
+/**
+ * The part of the picture that a scene has.
+ * @typedef {Pick<Scene, 'width' | 'height' | 'top' | 'rowCount' | 'lanes'>} Part
+ */
+
+export class Stage {
+    /** @param {Page} page */
+    constructor(page) {
+        this.page = page;
+        this.picture = element('picture');
+        this.canvas = elementOf('canvas', HTMLCanvasElement);
+        this.darkness = matchMedia('(prefers-color-scheme: dark)');
+        this.shadeOf = nameShades(page.names);
+        this.lettering = new Lettering(page.names);
+        this.sourceLettering = new Lettering(page.sources.map((source) => source.name));
+        // What is on the canvas.
+        this.painted = { width: 0, height: 0, top: 0 };
+    }
+
+    /** @type {() => { width: number, height: number, top: number }} */
+    area() {
+        return { width: this.picture.clientWidth, height: this.picture.clientHeight, top: this.picture.scrollTop };
+    }
+
+    /** @type {(view: View, part: Part, colours: Colours) => Scene} */
+    scene(view, part, colours) {
+        const { page, drawing, span, matches, state } = view;
+        const { shadeOf, lettering, sourceLettering } = this;
+        return { page, drawing, span, matches, below: state.below, ...part, colours, shadeOf, lettering, sourceLettering };
+    }
+
+    // All rows of what is zoomed, with the sources above a chart: what is saved. On paper it is always light.
+    /** @type {(view: View, isPaper: boolean) => Scene} */
+    wholeScene(view, isPaper) {
+        const rowCount = rowsInSpan(view.drawing, view.span);
+        const height = Math.max(rowCount, 1) * ROW_HEIGHT;
+        const lanes = this.page.view === 'chart' ? LANE_HEIGHT : 0;
+        const part = { width: this.picture.clientWidth, height, top: 0, rowCount, lanes };
+        return this.scene(view, part, this.darkness.matches && !isPaper ? DARK : LIGHT);
+    }
+
+    // Room for all rows, which the picture scrolls over.
+    /** @type {(view: View) => void} */
+    makeRoom(view) {
+        element('room').style.height = `${view.drawing.rowCount * ROW_HEIGHT}px`;
+    }
+
+    // Paints what is seen.
+    /** @type {(view: View) => void} */
+    paint(view) {
+        const area = this.area();
+        const dots = window.devicePixelRatio || 1;
+        this.fit(area.width, area.height, dots);
+        const part = { ...area, rowCount: view.drawing.rowCount, lanes: 0 };
+        paintOnCanvas(this.canvas, this.scene(view, part, this.darkness.matches ? DARK : LIGHT), dots);
+        this.painted = area;
+    }
+
+    /** @type {(width: number, height: number, dots: number) => void} */
+    fit(width, height, dots) {
+        const { canvas } = this;
+        const [across, down] = [Math.round(width * dots), Math.round(height * dots)];
+        if (canvas.width === across && canvas.height === down) return;
+        canvas.width = across;
+        canvas.height = down;
+        canvas.style.width = `${width}px`;
+        canvas.style.height = `${height}px`;
+    }
+
+    // Whether the picture was scrolled or got another size since it was painted.
+    /** @type {() => boolean} */
+    isStale() {
+        const { width, height, top } = this.area();
+        return this.painted.width !== width || this.painted.height !== height || this.painted.top !== top;
+    }
+
+    // The place that is painted under a point of the window, or null.
+    /** @type {(view: View, point: { clientX: number, clientY: number }) => Place | null} */
+    placeUnder(view, point) {
+        const { drawing, span, state } = view;
+        const { left, top } = this.picture.getBoundingClientRect();
+        const { width, top: scrolled } = this.area();
+        const across = point.clientX - left;
+        const row = rowAt(drawing.rowCount, point.clientY - top + scrolled, state.below);
+        if (across < 0 || across >= width || row < 0 || row >= drawing.rowCount) return null;
+        return placeOver(placesOf(drawing, row, span, width), across);
+    }
+
+    // Scrolls no further than is needed to see a row.
+    /** @type {(view: View, row: number) => void} */
+    reveal(view, row) {
+        const { picture } = this;
+        const top = rowTop(view.drawing.rowCount, row, view.state.below);
+        if (top < picture.scrollTop) picture.scrollTop = top;
+        const lowest = picture.scrollTop + picture.clientHeight - ROW_HEIGHT;
+        if (top > lowest) picture.scrollTop = top - picture.clientHeight + ROW_HEIGHT;
+    }
+}
