@@ -52,7 +52,7 @@ function listenToSearch(viewer) {
 function listenToPrint(viewer) {
     const paper = element('paper');
     window.addEventListener('beforeprint', () => {
-        const text = svgOf(viewer.stage.wholeScene(viewer.view, true));
+        const text = svgOf(viewer.stage.wholeScene(viewer.view, true), true);
         paper.replaceChildren(new DOMParser().parseFromString(text, 'image/svg+xml').documentElement);
     });
     window.addEventListener('afterprint', () => paper.replaceChildren());

@@ -17,7 +17,7 @@ import { inRow } from './spans.js';
 
 // What is so wide has sharp edges.
 const SHARP_FROM = 3;
-// Nothing is painted narrower than this.
+// What is narrower than this can hardly be seen.
 const NARROWEST = 0.3;
 
 // The places of a row, from left to right. A box that is at least a pixel wide is a place of its own. Narrower ones that begin in one pixel are
@@ -53,15 +53,17 @@ export function placesOf(drawing, row, span, width) {
 }
 
 // From where to where a place is painted that stands behind one that is painted up to `before`. What is wide enough has sharp edges, and leaves a
-// line of paper between it and the next. Nothing is painted over another, and nothing is too narrow to be seen.
+// line of paper between it and the next. What is narrower than can be seen takes more of the pixel that it begins in, where that is free. Nothing
+// is painted over another, nor further than a pixel from where it stands.
 /** @type {(left: number, right: number, before: number) => { begin: number, end: number }} */
 function paintedEdges(left, right, before) {
+    const pixelEnd = Math.floor(left) + 1;
     if (right - left < SHARP_FROM) {
-        const begin = Math.max(left, before);
-        return { begin, end: Math.max(right, begin + NARROWEST) };
+        const begin = Math.max(before, Math.min(left, Math.max(right, pixelEnd) - NARROWEST));
+        return { begin, end: Math.max(right, Math.min(begin + NARROWEST, pixelEnd)) };
     }
     const begin = Math.round(left);
-    return { begin: begin < before ? Math.floor(left) + 1 : begin, end: Math.round(right) - 1 };
+    return { begin: begin < before ? pixelEnd : begin, end: Math.round(right) - 1 };
 }
 
 // The place that is painted over a point, or null. The line of paper behind a place belongs to it.

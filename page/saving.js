@@ -28,7 +28,7 @@ function fileName(title, ending) {
 
 /** @type {(scene: Scene) => void} */
 export function saveSvg(scene) {
-    offer(new Blob([svgOf(scene)], { type: 'image/svg+xml' }), fileName(scene.page.title, 'svg'));
+    offer(new Blob([svgOf(scene, false)], { type: 'image/svg+xml' }), fileName(scene.page.title, 'svg'));
 }
 
 // How many dots a pixel has in a PNG of that size: two, one, or none where no canvas is that large.

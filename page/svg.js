@@ -20,8 +20,11 @@ function short(number) {
     return String(Math.round(number * 100) / 100);
 }
 
+// On paper nothing has a title.
 class SvgPainter {
-    constructor() {
+    /** @param {boolean} isPaper */
+    constructor(isPaper) {
+        this.isPaper = isPaper;
         /** @type {string[]} */
         this.parts = [];
     }
@@ -44,17 +47,17 @@ class SvgPainter {
 
     /** @type {(titleOf: () => string, paint: () => void) => void} */
     entitled(titleOf, paint) {
-        this.parts.push(`<g><title>${escapedText(titleOf())}</title>`);
+        if (!this.isPaper) this.parts.push(`<g><title>${escapedText(titleOf())}</title>`);
         paint();
-        this.parts.push('</g>');
+        if (!this.isPaper) this.parts.push('</g>');
     }
 }
 
-/** @type {(scene: Scene) => string} */
-export function svgOf(scene) {
+/** @type {(scene: Scene, isPaper: boolean) => string} */
+export function svgOf(scene, isPaper) {
     const { page, drawing, width } = scene;
     const height = scene.lanes + scene.height;
-    const painter = new SvgPainter();
+    const painter = new SvgPainter(isPaper);
     paintScene(painter, scene);
     return [
         `<svg xmlns="http://www.w3.org/2000/svg" width="${width}" height="${height}" viewBox="0 0 ${width} ${height}">`,

@@ -11,15 +11,20 @@ const TIME_STEPS = [[1, 's'], [1e-3, 'ms'], [1e-6, 'µs'], [1e-9, 'ns']];
 /** @type {[size: number, sign: string][]} */
 const BYTE_STEPS = [[1024 ** 4, 'TiB'], [1024 ** 3, 'GiB'], [1024 ** 2, 'MiB'], [1024, 'KiB'], [1, 'B']];
 
+// Formats take long to make, and saved pictures have many texts.
+const WHOLE = new Intl.NumberFormat('en', { maximumFractionDigits: 0 });
+const THREE_DIGITS = new Intl.NumberFormat('en', { maximumSignificantDigits: 3 });
+const TWO_DIGITS = new Intl.NumberFormat('en', { maximumSignificantDigits: 2 });
+
 // Three digits, and of larger numbers all before the point.
 /** @type {(number: number) => string} */
 function threeDigits(number) {
-    return number.toLocaleString('en', number < 999.5 ? { maximumSignificantDigits: 3 } : { maximumFractionDigits: 0 });
+    return (number < 999.5 ? THREE_DIGITS : WHOLE).format(number);
 }
 
 /** @type {(number: number) => string} */
 export function separated(number) {
-    return number.toLocaleString('en', { maximumFractionDigits: 0 });
+    return WHOLE.format(number);
 }
 
 /** @type {(value: number, steps: [size: number, sign: string][]) => string} */
@@ -65,7 +70,7 @@ export function exactText(weight, unit) {
 export function percentText(part, whole) {
     if (!(whole > 0)) return '0%';
     const percent = (100 * part) / whole;
-    return `${percent.toLocaleString('en', { maximumSignificantDigits: percent < 1 ? 2 : 3 })}%`;
+    return `${(percent < 1 ? TWO_DIGITS : THREE_DIGITS).format(percent)}%`;
 }
 
 // How much more there is after than before.

@@ -35,7 +35,7 @@ if (isPrevious) viewer.toMatch(false);
 function listenToPrint(viewer) {
 const paper = element('paper');
 window.addEventListener('beforeprint', () => {
-const text = svgOf(viewer.stage.wholeScene(viewer.view, true));
+const text = svgOf(viewer.stage.wholeScene(viewer.view, true), true);
 paper.replaceChildren(new DOMParser().parseFromString(text, 'image/svg+xml').documentElement);
 });
 window.addEventListener('afterprint', () => paper.replaceChildren());

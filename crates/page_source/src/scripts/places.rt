@@ -26,12 +26,13 @@ painted = edges.end;
 return places;
 }
 function paintedEdges(left, right, before) {
+const pixelEnd = Math.floor(left) + 1;
 if (right - left < SHARP_FROM) {
-const begin = Math.max(left, before);
-return { begin, end: Math.max(right, begin + NARROWEST) };
+const begin = Math.max(before, Math.min(left, Math.max(right, pixelEnd) - NARROWEST));
+return { begin, end: Math.max(right, Math.min(begin + NARROWEST, pixelEnd)) };
 }
 const begin = Math.round(left);
-return { begin: begin < before ? Math.floor(left) + 1 : begin, end: Math.round(right) - 1 };
+return { begin: begin < before ? pixelEnd : begin, end: Math.round(right) - 1 };
 }
 function placeOver(places, across) {
 const pixel = Math.floor(across);

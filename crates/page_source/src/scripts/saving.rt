@@ -14,7 +14,7 @@ const plain = title.slice(0, 80).replace(/[^A-Za-z0-9.-]+/g, '-').replace(/^[.-]
 return `${plain || 'flamecollect'}.${ending}`;
 }
 function saveSvg(scene) {
-offer(new Blob([svgOf(scene)], { type: 'image/svg+xml' }), fileName(scene.page.title, 'svg'));
+offer(new Blob([svgOf(scene, false)], { type: 'image/svg+xml' }), fileName(scene.page.title, 'svg'));
 }
 function dotsFor(width, height) {
 const fitting = [2, 1].find((dots) => Math.max(width, height) * dots <= LONGEST_SIDE && width * height * dots ** 2 <= LARGEST_AREA);

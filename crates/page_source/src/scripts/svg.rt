@@ -9,7 +9,8 @@ function short(number) {
 return String(Math.round(number * 100) / 100);
 }
 class SvgPainter {
-constructor() {
+constructor(isPaper) {
+this.isPaper = isPaper;
 this.parts = [];
 }
 rectangle(left, top, width, height, fill) {
@@ -23,15 +24,15 @@ upright(left, top, height, colour) {
 this.rectangle(Math.round(left), top, 1, height, colour);
 }
 entitled(titleOf, paint) {
-this.parts.push(`<g><title>${escapedText(titleOf())}</title>`);
+if (!this.isPaper) this.parts.push(`<g><title>${escapedText(titleOf())}</title>`);
 paint();
-this.parts.push('</g>');
+if (!this.isPaper) this.parts.push('</g>');
 }
 }
-function svgOf(scene) {
+function svgOf(scene, isPaper) {
 const { page, drawing, width } = scene;
 const height = scene.lanes + scene.height;
-const painter = new SvgPainter();
+const painter = new SvgPainter(isPaper);
 paintScene(painter, scene);
 return [
 `<svg xmlns="http://www.w3.org/2000/svg" width="${width}" height="${height}" viewBox="0 0 ${width} ${height}">`,

@@ -5,11 +5,14 @@ pub(crate) const TEXT: &str =
 const BYTES = { bytes: 1, kilobytes: 1024, megabytes: 1024 ** 2, gigabytes: 1024 ** 3 };
 const TIME_STEPS = [[1, 's'], [1e-3, 'ms'], [1e-6, '\u00b5s'], [1e-9, 'ns']];
 const BYTE_STEPS = [[1024 ** 4, 'TiB'], [1024 ** 3, 'GiB'], [1024 ** 2, 'MiB'], [1024, 'KiB'], [1, 'B']];
+const WHOLE = new Intl.NumberFormat('en', { maximumFractionDigits: 0 });
+const THREE_DIGITS = new Intl.NumberFormat('en', { maximumSignificantDigits: 3 });
+const TWO_DIGITS = new Intl.NumberFormat('en', { maximumSignificantDigits: 2 });
 function threeDigits(number) {
-return number.toLocaleString('en', number < 999.5 ? { maximumSignificantDigits: 3 } : { maximumFractionDigits: 0 });
+return (number < 999.5 ? THREE_DIGITS : WHOLE).format(number);
 }
 function separated(number) {
-return number.toLocaleString('en', { maximumFractionDigits: 0 });
+return WHOLE.format(number);
 }
 function inSteps(value, steps) {
 const [size, sign] = steps.find(([step]) => value >= step * 0.9995) || steps[steps.length - 1];
@@ -36,7 +39,7 @@ return unit && !short.startsWith(whole) ? `${short} (${whole} ${unit})` : short;
 function percentText(part, whole) {
 if (!(whole > 0)) return '0%';
 const percent = (100 * part) / whole;
-return `${percent.toLocaleString('en', { maximumSignificantDigits: percent < 1 ? 2 : 3 })}%`;
+return `${(percent < 1 ? TWO_DIGITS : THREE_DIGITS).format(percent)}%`;
 }
 function changeText(before, after) {
 if (before === after) return '\u00b10%';

@@ -1,0 +1,170 @@
+"""Tests of the page's pure functions: its modules are loaded in the browser, one by one, and compared with plain definitions in pure/*.js on random
+small inputs. Each of these tests is tried with a fault put into what it tests, and has to fail.
+"""
+import http.server
+import pathlib
+import shutil
+import subprocess
+import threading
+
+from looking import same
+
+TOP = pathlib.Path(__file__).resolve().parents[2]
+PURE = pathlib.Path(__file__).resolve().parent / 'pure'
+START = b'''<!doctype html><script type="module">
+import { TESTS as boxes } from './boxes.js';
+import { TESTS as texts } from './texts.js';
+window.tests = { ...boxes, ...texts };
+</script>'''
+FAULT_OF = '''(() => { try { tests[%r](); return ''; } catch (fault) { return fault.message; } })()'''
+# For each test some faults: a module, what stands in it, and what is put in its place.
+FAULTS = {
+    'bisect': [
+        ('bisect.js', 'else low = middle + 1;', 'else low = middle + 2;'),
+        ('bisect.js', 'Math.min(low + step, high)', 'Math.min(low + step - 1, high)'),
+    ],
+    'rows': [
+        ('rows.js', 'row < rowCount; row++) first', 'row < rowCount - 1; row++) first'),
+        ('rows.js', 'rowCount - 1 - place', 'rowCount - place'),
+    ],
+    'nesting': [
+        ('drawing.js', 'while (opened > depth)', 'while (opened > depth + 1)'),
+        ('drawing.js', 'start < endOf(drawing, box)', 'start <= endOf(drawing, box)'),
+        ('drawing.js', '=== page.drawing(0)', '!== page.drawing(0)'),
+    ],
+    'spans': [
+        ('spans.js', 'Math.max(drawing.start[box], span.from)', 'drawing.start[box]'),
+        ('spans.js', 'order[at]) > span.from', 'order[at]) >= span.from'),
+        ('spans.js', 'return from === to;', 'return from + 1 === to;'),
+        ('spans.js', 'right > left', 'right >= left'),
+    ],
+    'places': [
+        ('places.js', 'if (!isNarrow(next - 1)) next--;', ''),
+        ('places.js', 'Math.floor(left) + 1)', 'left + 1)'),
+        ('places.js', 'leftOf(at) < 1', 'leftOf(at) < 2'),
+        ('places.js', 'at < place.at + place.count', 'at <= place.at + place.count'),
+    ],
+    'painting': [
+        ('places.js', 'begin < before ? pixelEnd : begin', 'begin'),
+        ('places.js', 'Math.max(before, Math.min', 'Math.max(0, Math.min'),
+        ('places.js', 'Math.min(begin + NARROWEST, pixelEnd)', 'begin + NARROWEST'),
+        ('places.js', 'Math.round(right) - 1', 'Math.round(right)'),
+    ],
+    'pointer': [
+        ('places.js', 'end > across', 'begin > across'),
+        ('places.js', 'begin < pixel + 1', 'begin <= pixel + 1'),
+        ('places.js', 'Math.round(before.right)', '0'),
+    ],
+    'search': [
+        ('search.js', 'if (box < covered) continue;', ''),
+        ('search.js', 'order[place.at + place.count - 1] + 1', 'order[place.at + place.count - 1]'),
+        ('search.js', "by === 'text' && find === find.toLowerCase()", "by === 'text'"),
+        ('search.js', 'boxes[each] >= box', 'boxes[each] > box'),
+    ],
+    'functions': [
+        ('functions.js', 'if (box < covered[name]) continue;', ''),
+    ],
+    'gone': [
+        ('gone.js', 'box = drawing.end[box];', 'box++;'),
+        ('gone.js', 'drawing.weight[other] - drawing.weight[one]', 'drawing.weight[one] - drawing.weight[other]'),
+    ],
+    'names': [
+        ('names.js', 'last < 0xdc00 ? most - 1', 'last < 0xdc00 ? most'),
+        ('names.js', '\\u2028-\\u202e', '\\u2028-\\u202d'),
+    ],
+    'units': [
+        ('units.js', 'value >= step * 0.9995', 'value > step'),
+        ('units.js', 'percent < 1 ?', 'percent < 10 ?'),
+        ('units.js', '(after - before)) / before', '(after - before)) / after'),
+        ('units.js', 'microseconds: 1e-6, milliseconds: 1e-3', 'microseconds: 1e-6, milliseconds: 1e-4'),
+    ],
+    'colours': [
+        ('colours.js', 'Math.imul(hash, 31) + byte', 'Math.imul(hash, 33) + byte'),
+        ('colours.js', 'Math.ceil(Math.abs', 'Math.round(Math.abs'),
+    ],
+    'address': [
+        ('address.js', "path.map(encoded).join('/')", "path.join('/')"),
+        ('address.js', 'drawing.depth[box] === path.length', 'drawing.depth[box] <= path.length'),
+        ('address.js', 'words.delete(key)', 'words.set(key, kept)'),
+        ('drawing.js', 'const next = exact >= 0 ? exact : fallback;', 'const next = fallback;'),
+    ],
+    'lettering': [
+        ('lettering.js', 'first.slice(0, most - 1)', 'first.slice(0, most)'),
+        ('lettering.js', 'each + 1).join', 'each).join'),
+        ('lettering.js', 'width - 2 * PAD', 'width - PAD'),
+    ],
+}
+
+
+class Modules(http.server.BaseHTTPRequestHandler):
+    """Serves the modules under a number: that of the fault that they have, of those in `faults`."""
+    faults = []
+
+    def do_GET(self):
+        number, _, name = self.path[1:].partition('/')
+        kind, body = 'text/javascript', None
+        if name == '':
+            kind, body = 'text/html', START
+        elif name.startswith('page/'):
+            body = edited(name.removeprefix('page/'), self.faults[int(number)])
+        elif (PURE / name).is_file():
+            body = (PURE / name).read_bytes()
+        self.send_response(404 if body is None else 200)
+        self.send_header('Content-Type', kind)
+        self.end_headers()
+        self.wfile.write(body or b'')
+
+    def log_message(self, *_):
+        pass
+
+
+def edited(name, fault):
+    """A module of the page, with a fault that is in it."""
+    text = (TOP / 'page' / name).read_text(encoding='utf-8')
+    if fault and fault[0] == name:
+        same(text.count(fault[1]), 1, f'how often page/{name} has {fault[1]}')
+        text = text.replace(fault[1], fault[2])
+    return text.encode('utf-8')
+
+
+def served(check, faults):
+    """Opens the tests with each of the faults in turn."""
+    Modules.faults = faults
+    server = http.server.ThreadingHTTPServer(('127.0.0.1', 0), Modules)
+    threading.Thread(target=server.serve_forever, daemon=True).start()
+    try:
+        for number in range(len(faults)):
+            check.browser.send('Page.navigate', url=f'http://127.0.0.1:{server.server_address[1]}/{number}/')
+            check.browser.wait_for('window.tests !== undefined')
+            yield number
+    finally:
+        server.shutdown()
+        server.server_close()
+
+
+def pure(check):
+    for _ in served(check, [None]):
+        names = check.browser.value('Object.keys(tests)')
+        same(sorted(names), sorted(FAULTS), 'tests, and those for which there are faults')
+        for name in names:
+            same(check.browser.value(FAULT_OF % name), '', name)
+
+
+def pure_fails(check):
+    """Each test finds each fault in what it tests."""
+    faults = [(name, fault) for name, those in FAULTS.items() for fault in those]
+    for number in served(check, [fault for _, fault in faults]):
+        name, fault = faults[number]
+        assert check.browser.value(FAULT_OF % name) != '', f'{name} passes with {fault}'
+
+
+def types(check):
+    """The types that stand in comments fit, where Debian's node-typescript is installed."""
+    if shutil.which('tsc') is None:
+        print('types: there is no tsc (node-typescript); the types of the scripts were not looked at')
+        return
+    answer = subprocess.run(['tsc', '-p', TOP / 'page'], capture_output=True, text=True, check=False)
+    same(answer.stdout, '', 'what tsc finds')
+
+
+TESTS = [pure, pure_fails, types]

@@ -1,0 +1,248 @@
+// Tests of where boxes stand: each function against a plain definition that looks at all boxes.
+
+import { firstPlace, nextPlace } from './page/bisect.js';
+import { bothWeights, boxAt, pathOf } from './page/drawing.js';
+import { totalsOf } from './page/functions.js';
+import { goneBoxes, goneRoots } from './page/gone.js';
+import { placeOver, placesOf, weighedTogether } from './page/places.js';
+import { ROW_HEIGHT, rowAt, rowTop, rowsOf } from './page/rows.js';
+import { matchesIn, matchesOf, nameMatcher, neighbourMatch } from './page/search.js';
+import { edgesOf, inRow, isInSpan, lanesOf, rowsInSpan, spanOf, weightInSpan } from './page/spans.js';
+import { boxesOf, forPages, holds, onPath, randomOf, randomSpan, same } from './random.js';
+
+function bisect() {
+    const random = randomOf(1);
+    for (let round = 0; round < 300; round++) {
+        const [low, size, edge] = [random.below(5), random.below(70), random.below(80)];
+        const isHeld = (place) => place >= edge;
+        let wanted = low;
+        while (wanted < low + size && !isHeld(wanted)) wanted++;
+        same(firstPlace(low, low + size, isHeld), wanted, 'firstPlace');
+        if (size > 0) same(nextPlace(low, low + size, isHeld), wanted, 'nextPlace');
+    }
+}
+
+function rows() {
+    forPages(10, (page, random, what) => {
+        const drawing = page.drawing(0);
+        const some = boxesOf(drawing).filter(() => random.below(2) === 0);
+        for (const [boxes, made] of [[boxesOf(drawing), drawing.rows], [some, rowsOf(drawing.depth, drawing.rowCount, some)]]) {
+            for (let row = 0; row < drawing.rowCount; row++) {
+                const found = [...made.order.slice(made.first[row], made.first[row + 1])];
+                same(found, boxes.filter((box) => drawing.depth[box] === row), `${what}, row ${row}`);
+            }
+        }
+        for (const below of [false, true]) {
+            const tops = boxesOf(drawing).slice(0, drawing.rowCount).map((row) => rowTop(drawing.rowCount, row, below));
+            same(tops.slice().sort((one, other) => one - other), tops.map((_, place) => place * ROW_HEIGHT), `${what}: rows stand on each other`);
+            same(tops[0] < (tops[1] ?? Infinity) || tops.length < 2, !below || tops.length < 2, `${what}: where the root is`);
+            tops.forEach((top, row) => same(rowAt(drawing.rowCount, top + random.below(ROW_HEIGHT), below), row, `${what}: the row at a height`));
+        }
+    });
+}
+
+function nesting() {
+    forPages(10, (page, random, what) => {
+        const drawing = page.drawing(page.drawingCount - 1);
+        for (const box of boxesOf(drawing)) {
+            const path = onPath(drawing, box);
+            const after = boxesOf(drawing).find((each) => each > box && drawing.depth[each] <= drawing.depth[box]);
+            same([drawing.parent[box], drawing.end[box]], [path[1] ?? -1, after ?? drawing.count], `${what}, box ${box}`);
+            const names = path.slice(0, -1).reverse().map((each) => page.names[drawing.name[each]]);
+            same(pathOf(page, drawing, box), names, `${what}, path of ${box}`);
+            same(boxAt(page, drawing, names, drawing.start[box]), box, `${what}, box of the path of ${box}`);
+            same(boxAt(page, drawing, [...names, 'nothing', 'main'], drawing.start[box]), box, `${what}, the last on the way`);
+        }
+        const before = boxesOf(drawing).map((box) => bothWeights(page, drawing, box).before);
+        same(before, Array.from(page.view === 'compare' ? drawing.other : drawing.weight), `${what}: weights before`);
+    });
+}
+
+// How many units of weight there are from one to another for which something holds.
+function countOf(from, to, isCounted) {
+    let count = 0;
+    for (let unit = from; unit < to; unit++) count += Number(isCounted(unit));
+    return count;
+}
+
+function spans() {
+    forPages(4, (page, random, what) => {
+        const drawing = page.drawing(0);
+        const span = randomSpan(drawing, random);
+        const covers = (box, unit) => unit >= drawing.start[box] && unit < drawing.start[box] + drawing.weight[box];
+        const seen = new Set();
+        for (const box of boxesOf(drawing)) {
+            const inside = countOf(span.from, span.to, (unit) => covers(box, unit));
+            same(weightInSpan(drawing, box, span), inside, `${what}: weight of ${box} in the span`);
+            same(isInSpan(drawing, box, span), inside > 0, `${what}: whether ${box} is in the span`);
+            if (inside > 0) seen.add(box);
+            const { left, right } = edgesOf(drawing.start[box], drawing.start[box] + drawing.weight[box], span, 500);
+            const before = countOf(span.from, span.to, (unit) => unit < drawing.start[box]);
+            const wanted = [before, before + inside].map((units) => (500 * units) / (span.to - span.from));
+            holds(Math.abs(left - wanted[0]) + Math.abs(right - wanted[1]) < 1e-9, `${what}: edges of ${box}: ${left} to ${right}, wanted ${wanted}`);
+        }
+        for (let row = 0; row < drawing.rowCount; row++) {
+            const { from, to } = inRow(drawing, row, span);
+            const wanted = boxesOf(drawing).filter((box) => drawing.depth[box] === row && seen.has(box));
+            same([...drawing.rows.order.slice(from, to)], wanted, `${what}: boxes of row ${row} in the span`);
+        }
+        same(rowsInSpan(drawing, span), new Set([...seen].map((box) => drawing.depth[box])).size, `${what}: rows in the span`);
+        const numbers = page.sources.map((_, number) => number);
+        const isSeen = ({ start, weight }) => countOf(span.from, span.to, (unit) => unit >= start && unit < start + weight) > 0;
+        same(lanesOf(page, span, 500).map((lane) => lane.number), page.view === 'chart' ? numbers.filter((each) => isSeen(page.sources[each])) : [],
+             `${what}: sources in the span`);
+        const box = random.below(drawing.count);
+        const { start, weight } = page.sources[0];
+        const covered = { from: drawing.start[box], to: drawing.start[box] + drawing.weight[box], depth: drawing.depth[box] };
+        same(spanOf(page, drawing, { box, source: -1 }), covered, `${what}: span of ${box}`);
+        same(spanOf(page, drawing, { box, source: 0 }), { from: start, to: start + weight, depth: 0 }, `${what}: span of a source`);
+    });
+}
+
+// The places of a row by their meaning: neighbours are together where both are narrower than a pixel and begin in the same.
+function plainPlaces(drawing, row, span, width) {
+    const scale = width / (span.to - span.from);
+    const groups = [];
+    for (const box of boxesOf(drawing)) {
+        const [start, end] = [drawing.start[box], drawing.start[box] + drawing.weight[box]];
+        if (drawing.depth[box] !== row || start >= span.to || end <= span.from) continue;
+        const [left, right] = [Math.max(0, (start - span.from) * scale), Math.min(width, (end - span.from) * scale)];
+        const pixel = right - left < 1 ? Math.floor(left) : -1;
+        const last = groups.at(-1);
+        if (last && pixel >= 0 && last.pixel === pixel) Object.assign(last, { boxes: [...last.boxes, box], right });
+        else groups.push({ pixel, boxes: [box], left, right });
+    }
+    return groups;
+}
+
+function places() {
+    let joined = 0;
+    forPages(20, (page, random, what) => {
+        const drawing = page.drawing(0);
+        for (const width of [3, 12, 40, 368, 1182]) {
+            const span = randomSpan(drawing, random);
+            for (let row = 0; row < drawing.rowCount; row++) {
+                const wanted = plainPlaces(drawing, row, span, width);
+                const found = placesOf(drawing, row, span, width);
+                const boxes = found.map(({ at, count }) => [...drawing.rows.order.slice(at, at + count)]);
+                same(boxes, wanted.map((group) => group.boxes), `${what}, row ${row}, width ${width}: boxes`);
+                same(found.map((place) => place.box), boxes.map((group) => group[0]), `${what}, row ${row}: first boxes`);
+                same(found.map(({ left, right }) => [left, right]), wanted.map(({ left, right }) => [left, right]), `${what}, row ${row}: edges`);
+                joined += boxes.filter((group) => group.length > 1).length;
+                found.forEach((place, each) => same(weighedTogether(drawing, place, (box) => drawing.weight[box]),
+                                                    boxes[each].reduce((sum, box) => sum + drawing.weight[box], 0), `${what}: weights together`));
+            }
+        }
+    });
+    holds(joined > 500, `${joined} places have several boxes`);
+}
+
+// Does something with many rows of places.
+function forRows(action) {
+    forPages(12, (page, random, what) => {
+        const drawing = page.drawing(0);
+        for (const width of [3, 12, 40, 368, 1182]) {
+            const span = randomSpan(drawing, random);
+            for (let row = 0; row < drawing.rowCount; row++) {
+                action(placesOf(drawing, row, span, width), width, random, `${what}, row ${row}, width ${width}`);
+            }
+        }
+    });
+}
+
+function painting() {
+    forRows((row, width, random, what) => {
+        let painted = 0;
+        for (const { left, right, begin, end } of row) {
+            const isSharp = right - left >= 3;
+            const about = `${what}: ${left} to ${right} is painted from ${begin} to ${end}`;
+            holds(begin >= painted && end > begin, `${about}, behind ${painted}`);
+            holds(Math.abs(begin - left) <= 1, `${about}: the left edge`);
+            if (isSharp) holds(Number.isInteger(begin) && Number.isInteger(end) && Math.abs(end + 1 - right) <= 0.5, `${about}: sharp edges`);
+            else holds(end >= right && end <= Math.max(right, Math.floor(left) + 1), `${about}: the right edge`);
+            if (painted <= Math.floor(left)) holds(end - begin >= 0.29, `${about}: too narrow`);
+            painted = end;
+        }
+    });
+}
+
+// The place over a point by its meaning: what is painted there, else what is painted further right in the same pixel, else what ends in the pixel
+// or has its line of paper there.
+function plainOver(row, across) {
+    const pixel = Math.floor(across);
+    return row.find(({ begin, end }) => begin <= across && end > across)
+        ?? row.find(({ begin }) => begin > across && begin < pixel + 1)
+        ?? row.findLast(({ begin, end, right }) => begin <= across && Math.max(end, Math.round(right)) > pixel) ?? null;
+}
+
+function pointer() {
+    forRows((row, width, random, what) => {
+        for (const place of row) same(placeOver(row, (place.begin + place.end) / 2), place, `${what}: the middle of ${place.begin} to ${place.end}`);
+        for (let round = 0; round < 20; round++) {
+            const across = random.below(2) ? random.below(width) : random.next() * width;
+            same(placeOver(row, across), plainOver(row, across), `${what}: at ${across}`);
+        }
+    });
+}
+
+function search() {
+    forPages(12, (page, random, what) => {
+        const drawing = page.drawing(0);
+        const [find, by] = [random.choose(['a', 'r', 'Read', 'e', 'b', '%', '.']), random.choose(['text', 'name'])];
+        const isFound = (text) => text.includes(find) || (find === find.toLowerCase() && text.toLowerCase().includes(find));
+        const isNamed = (text) => (by === 'name' ? text === find : isFound(text));
+        const isMatch = (box) => drawing.depth[box] > 0 && isNamed(page.names[drawing.name[box]]);
+        const names = nameMatcher(page.names)(find, by);
+        const matches = matchesOf(drawing, names);
+        const wanted = boxesOf(drawing).filter(isMatch);
+        same([matches.boxes, boxesOf(drawing).filter(matches.isMatch)], [wanted, wanted], `${what}: what matches ${find}`);
+        const weight = boxesOf(drawing).reduce((sum, box) => sum + (onPath(drawing, box).some(isMatch) ? drawing.own[box] : 0), 0);
+        same(matches.weight, weight, `${what}: the weight of what matches`);
+        for (const box of boxesOf(drawing)) {
+            const next = wanted.find((each) => each > box) ?? wanted[0] ?? -1;
+            const last = wanted.findLast((each) => each < box) ?? wanted.at(-1) ?? -1;
+            same([neighbourMatch(matches, box, true), neighbourMatch(matches, box, false)], [next, last], `${what}: matches beside ${box}`);
+        }
+        const span = randomSpan(drawing, random);
+        for (let row = 0; row < drawing.rowCount; row++) {
+            for (const place of placesOf(drawing, row, span, 50)) {
+                const boxes = [...drawing.rows.order.slice(place.at, place.at + place.count)];
+                same(matchesIn(matches, drawing, place), boxes.filter(isMatch).length, `${what}: matches of a place`);
+            }
+        }
+    });
+    same(nameMatcher(['a'])('(', 'regexp'), null, 'no regular expression');
+    same([...nameMatcher(['aab', 'ab', 'b'])('^a+b$', 'regexp')], [1, 1, 0], 'a regular expression');
+}
+
+function functions() {
+    forPages(10, (page, random, what) => {
+        const drawing = page.drawing(0);
+        const { own, total } = totalsOf(drawing, page.names.length);
+        page.names.forEach((_, name) => {
+            const isNamed = (box) => drawing.depth[box] > 0 && drawing.name[box] === name;
+            const sum = (isCounted) => boxesOf(drawing).reduce((all, box) => all + (isCounted(box) ? drawing.own[box] : 0), 0);
+            const wanted = [sum(isNamed), sum((box) => onPath(drawing, box).some(isNamed))];
+            same([own[name], total[name]], wanted, `${what}: weights of ${page.names[name]}`);
+        });
+    });
+}
+
+function gone() {
+    forPages(10, (page, random, what) => {
+        if (page.view !== 'compare') return;
+        const drawing = page.drawing(0);
+        const isGone = (box) => drawing.other[box] === 0;
+        const roots = boxesOf(drawing).filter((box) => isGone(box) && !onPath(drawing, box).slice(1).some(isGone));
+        same(goneRoots(drawing), roots, `${what}: what is gone, and its caller is not`);
+        const found = goneBoxes(drawing, roots);
+        same(found.slice().sort((one, other) => one - other), boxesOf(drawing).filter(isGone), `${what}: what is gone`);
+        const rootOf = (box) => onPath(drawing, box).findLast(isGone);
+        found.slice(1).forEach((box, place) => {
+            const [one, other] = [rootOf(found[place]), rootOf(box)];
+            holds(one === other ? found[place] < box : drawing.weight[one] >= drawing.weight[other], `${what}: ${found[place]} is before ${box}`);
+        });
+    });
+}
+
+export const TESTS = { bisect, rows, nesting, spans, places, painting, pointer, search, functions, gone };

@@ -1,0 +1,164 @@
+// Tests of texts and colours: each function against a plain definition.
+
+import { fragmentOf, linkedOf, wordsOf, wordsOfStep } from './page/address.js';
+import { LIGHT, changeShade, nameShade } from './page/colours.js';
+import { FONT, Lettering, PAD } from './page/lettering.js';
+import { beginning, shortened, visible } from './page/names.js';
+import { changeText, commonUnit, exactText, percentText, separated, weightText } from './page/units.js';
+import { forPages, holds, randomOf, same } from './random.js';
+
+const CHARACTERS = ['a', 'b', ' ', 'é', '😀', '\u202e', '\0', '\u4f60', '\ud83d', '\n'];
+
+function randomText(random, most) {
+    return Array.from({ length: random.below(most) }, () => random.choose(CHARACTERS)).join('');
+}
+
+function names() {
+    const random = randomOf(2);
+    for (let round = 0; round < 300; round++) {
+        const [text, most] = [randomText(random, 12), 1 + random.below(12)];
+        const found = beginning(text, most);
+        // Whole characters, as many as fit.
+        let wanted = '';
+        for (const character of text) {
+            if (text.startsWith(wanted + character) && (wanted + character).length <= most) wanted += character;
+            else break;
+        }
+        // A text may be cut off behind half of a character that was alone there already.
+        if (/^[^\ud800-\udfff]*$/.test(text.replace(/😀/g, ''))) same(found, wanted, `the first ${most} of ${text}`);
+        holds(found.length <= most && text.startsWith(found), `the first ${most} of ${text}: ${found}`);
+        same(shortened(text, most), visible(found) + (found === text ? '' : '…'), `${text} shortened to ${most}`);
+        const shown = [...text].map((character) => ({ '\0': '[U+0000]', '\n': '[U+000A]', '\u202e': '[U+202E]' })[character] ?? character);
+        same(visible(text), shown.join(''), `what is seen of ${text}`);
+    }
+}
+
+// The number that a text begins with.
+function numberIn(text) {
+    return Number(text.replace(/^about /, '').replace('−', '-').replaceAll(',', '').match(/^[-+]?[0-9.]+/)[0]);
+}
+
+// Whether a text begins with the number, to so many digits, and to the whole where it has more before the point.
+function isRounded(text, number, digits) {
+    const step = Math.abs(number) >= 999.5 ? 1 : 10 ** (Math.floor(Math.log10(Math.abs(number))) - digits + 1);
+    const found = numberIn(text);
+    return Math.abs(found - number) <= 0.5000001 * step && (Math.abs(found) >= 999.5 || Number(found.toPrecision(digits)) === found);
+}
+
+const STEPS = {
+    nanoseconds: { ns: 1, 'µs': 1e3, ms: 1e6, s: 1e9 }, milliseconds: { ns: 1e-6, 'µs': 1e-3, ms: 1, s: 1e3 }, seconds: { s: 1 },
+    bytes: { B: 1, KiB: 2 ** 10, MiB: 2 ** 20, GiB: 2 ** 30, TiB: 2 ** 40 }, kilobytes: { KiB: 1, MiB: 2 ** 10, GiB: 2 ** 20, TiB: 2 ** 30 },
+};
+
+function units() {
+    const random = randomOf(3);
+    for (let round = 0; round < 2000; round++) {
+        const weight = Math.floor(10 ** (random.next() * 14));
+        const digits = String(weight).replace(/(?<=[0-9])(?=([0-9]{3})+$)/g, ',');
+        same([separated(weight), weightText(weight, ''), weightText(weight, 'count')], [digits, digits, digits], 'a plain number');
+        same(weightText(weight, 'samples'), `${digits} samples`, 'a number with a unit of its own');
+        const unit = random.choose(Object.keys(STEPS));
+        const text = weightText(weight, unit);
+        const [, sign] = text.match(/^[0-9.,]+ (.+)$/);
+        const size = STEPS[unit][sign];
+        holds(isRounded(text, weight / size, 3), `${weight} ${unit} as ${text}`);
+        holds(numberIn(text) >= 1, `${weight} ${unit} as ${text}: a step too large`);
+        const isSmall = numberIn(text) < (sign.endsWith('B') ? 1024 : 1000);
+        holds(isSmall || ['s', 'TiB'].includes(sign), `${weight} ${unit} as ${text}: a step too small`);
+        const exact = exactText(weight, unit);
+        same(exact, text.startsWith(digits) ? text : `${text} (${digits} ${unit})`, `${weight} ${unit}, exactly`);
+        const whole = weight + Math.floor(10 ** (random.next() * 14));
+        const percent = (100 * weight) / whole;
+        const texts = [percentText(weight, whole), changeText(whole, weight), changeText(weight, whole)];
+        holds(isRounded(texts[0], percent, percent < 1 ? 2 : 3), `${weight} of ${whole} as ${texts[0]}`);
+        holds(isRounded(texts[1], (100 * (weight - whole)) / whole, 3), `from ${whole} to ${weight} as ${texts[1]}`);
+        holds(isRounded(texts[2], (100 * (whole - weight)) / weight, 3), `from ${weight} to ${whole} as ${texts[2]}`);
+    }
+    same([changeText(3, 3), changeText(0, 3), changeText(3, 0), percentText(0, 0)], ['±0%', 'new', 'gone', '0%'], 'at the ends');
+    const sources = [{ unit: 'bytes', weight: 1 }, { unit: '', weight: 0 }, { unit: 'bytes', weight: 2 }, { unit: 'seconds', weight: 3 }];
+    same([commonUnit(sources.slice(0, 3)), commonUnit(sources), commonUnit([])], ['bytes', null, ''], 'the unit of all sources');
+}
+
+// The place of a name's colour, with whole numbers of any size.
+function plainShade(name) {
+    let hash = 0n;
+    for (const [, code, character] of encodeURIComponent(name).matchAll(/%(..)|([^%])/g)) {
+        hash = (hash * 31n + BigInt(code ? parseInt(code, 16) : character.charCodeAt(0))) % 2n ** 32n;
+    }
+    return Number((((hash * 2654435769n) % 2n ** 32n) / 65536n) % 108n);
+}
+
+function colours() {
+    const random = randomOf(4);
+    for (let round = 0; round < 500; round++) {
+        const name = randomText(random, 30).toWellFormed();
+        same(nameShade(name), plainShade(name), `the shade of ${name}`);
+        const [before, after] = [random.below(50), random.below(50)];
+        // Each tenth of the larger weight is a shade.
+        let tenths = 0;
+        while (tenths * Math.max(before, after) < 10 * Math.abs(after - before)) tenths++;
+        same(changeShade(before, after), 10 + (after > before ? tenths : -tenths), `the shade of ${before} to ${after}`);
+    }
+    LIGHT.plain.forEach((fill, number) => same(fill, `hsl(${(number % 36) * 10}, 48%, ${74 + 4 * Math.floor(number / 36)}%)`, `shade ${number}`));
+    same([LIGHT.plain.length, LIGHT.changes.length], [108, 21], 'how many shades there are');
+    same(new Set([...LIGHT.plain, ...LIGHT.changes, LIGHT.joined, LIGHT.root, LIGHT.dim, LIGHT.match]).size, 133, 'all shades differ');
+}
+
+function address() {
+    forPages(12, (page, random, what) => {
+        for (let round = 0; round < 20; round++) {
+            const number = random.below(page.drawingCount);
+            const drawing = page.drawing(number);
+            const source = page.view === 'chart' && random.below(4) === 0 ? random.choose([0, 2]) : -1;
+            const find = random.choose(['', 'a', 'é&=#%', ' \u2028/']);
+            const state = {
+                drawing: number, source, box: source >= 0 ? 0 : random.below(drawing.count), find,
+                by: find === '' ? 'text' : random.choose(['text', 'name', 'regexp']), below: random.below(2) === 0,
+            };
+            const fragment = fragmentOf(page, { ...state, focus: 0 });
+            holds(/^#[\x21-\x7e]*$/.test(fragment), `${what}: ${fragment}`);
+            same(linkedOf(page, wordsOf(fragment)), { state, isDead: false }, `${what}: ${fragment}`);
+            const dead = fragment.replace(/zoom=([^&]*)/, 'zoom=$1/nothing');
+            if (dead !== fragment) same(linkedOf(page, wordsOf(dead)), { state: { ...state, box: 0 }, isDead: true }, `${what}: ${dead}`);
+            const other = fragmentOf(page, { ...state, find: 'z', below: !state.below, box: 0, source: -1, focus: 0 });
+            const [made, now] = [wordsOf(fragment), wordsOf(other)];
+            const wanted = { zoom: 'main', find: 'q', drawing: '0', root: 'below' };
+            for (const key of ['find', 'by', 'drawing', 'root']) if (made.get(key) !== now.get(key)) wanted[key] = now.get(key);
+            same([...wordsOfStep('#zoom=main&find=q&drawing=0&root=below', fragment, other)],
+                 Object.entries(wanted).filter(([, value]) => value !== undefined), `${what}: a step back from ${other}, made as ${fragment}`);
+        }
+    });
+}
+
+function lettering() {
+    const random = randomOf(5);
+    const context = document.createElement('canvas').getContext('2d');
+    context.font = FONT;
+    const wide = (text) => context.measureText(text).width;
+    const all = ['', 'a', 'main', 'some::rather::long::name<of, some>', 'été', '\u4f60\u597d\u4e16\u754c', '😀'.repeat(8), 'WWWWiiii',
+        'x'.repeat(3000), 'a\u202eb'];
+    const made = new Lettering(all);
+    let cut = 0;
+    for (let round = 0; round < 1500; round++) {
+        const [name, added, width] = [random.below(all.length), random.choose(['', '+12%']), random.next() * 300];
+        const [whole, room] = [[...visible(all[name])], width - 2 * PAD];
+        const found = made.textFor(name, added, width);
+        const about = `${all[name].slice(0, 40)} and ${added} in ${width}: ${found.slice(0, 60)}`;
+        // A letter more or less than a hair of a pixel decides may be either.
+        holds(found === '' || wide(found) <= room + 0.01, `${about}: too wide`);
+        if (room < 2 * wide('0') - 0.01) same(found, '', about);
+        else if (wide(whole.join('')) <= room - 0.01) {
+            const both = `${whole.join('')} ${added}`;
+            const isAdded = added !== '' && wide(both) <= room;
+            same(found, isAdded ? both : whole.join(''), `${about}: fits`);
+        } else if (found !== whole.join('')) {
+            const count = [...found].length - 1;
+            holds(found === '' || found === `${whole.slice(0, count).join('')}…`, `${about}: a front of the name`);
+            holds(wide(`${whole.slice(0, Math.max(count, 0) + 1).join('')}…`) > room - 0.01, `${about}: one more fits`);
+            cut++;
+        }
+    }
+    holds(cut > 100, `${cut} are cut`);
+}
+
+export const TESTS = { names, units, colours, address, lettering };
