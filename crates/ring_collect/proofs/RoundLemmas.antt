@@ -116,3 +116,10 @@ pub slice_get_map : {A B : Type 0} (f : A → B) (xs : List A) (i : ℕ) (x : A)
 slice_get_map f xs i x is =
     let below = slice_get_within xs i x is in
     slice_get-get_or (map f xs) i (f x) (subst (λ n. i < n) (sym (length-map xs f)) below) ∙ ap Some (get_or-map f xs i x (f x) below ∙ ap f (get_or_from_slice_get xs i x x is))
+
+-- what was gained does not change with what else the collecting thread has
+pub gained_alike : {start taken : List (ℕ × Sample)} {intakes intakes' : List Intake} {order order' : List ℕ} {refused refused' : Bool} → intakes' ≡ intakes → order' ≡ order → refused' ≡ refused
+    → HasGained start intakes taken order refused → HasGained start intakes' taken order' refused'
+gained_alike {start} {taken} {intakes} {intakes'} {order} {order'} {refused} {refused'} same_intakes same_order same_refused gained =
+    subst (λ intakes. HasGained start intakes taken order' refused') (sym same_intakes)
+    (subst (λ order. HasGained start intakes taken order refused') (sym same_order) (subst (HasGained start intakes taken order) (sym same_refused) gained))

@@ -2,10 +2,12 @@
 //! the threads' steps fall.
 #![tactic(auto)]
 
+mod bells;
 mod faults;
 mod feeds;
 mod intakes;
 mod numbering;
+mod outlets;
 mod pauses;
 mod reader_threads;
 mod rings;

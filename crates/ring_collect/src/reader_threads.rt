@@ -7,7 +7,8 @@ ghost use Rattle.std.specs.Arc.{arc_value};
 
 use crate::faults::CollectFault;
 use crate::intakes::{Intake, Stage};
-use crate::rings::{RecordProducer, RingEnds};
+use crate::outlets::Outlet;
+use crate::rings::RingEnds;
 use crate::running_sources::{ReaderHandle, ReaderPromise, RunningSource};
 use crate::tellers::tell_all;
 use stack_core::{Gate, Ledger, RowReader};
@@ -28,23 +29,23 @@ pub fn start<
     reader: R,
     gate: Arc<G>,
     source: u32,
-    producer: RecordProducer,
+    outlet: Outlet,
 ) -> Result<ReaderHandle<R, G>, AllocError>
-    requires nothing_sent { sent producer ≡ [] }
+    requires nothing_sent { sent outlet.producer ≡ [] }
     requires nothing_told { R.told reader ≡ record { names = []; stacks = [] } }
     ensures reader { IfOk result (λ handle. handle.promise.reader.value ≡ reader) }
     ensures gate { IfOk result (λ handle. arc_value handle.promise.gate.value ≡ arc_value gate) }
-    ensures producer { IfOk result (λ handle. handle.promise.producer.value ≡ producer) }
+    ensures producer { IfOk result (λ handle. handle.promise.producer.value ≡ outlet.producer) }
     ensures source { IfOk result (λ handle. handle.promise.source ≡ source) }
 {
     let promise = ReaderPromise {
         reader: Snapshot::of(&reader),
         gate: Snapshot::of(&gate),
-        producer: Snapshot::of(&producer),
+        producer: Snapshot::of(&outlet.producer),
         source,
     };
     let handle = thread::spawn_with(&rt, promise, move || {
-        tell_all(&rt, alloc, reader, gate, source, producer)
+        tell_all(&rt, alloc, reader, gate, source, outlet)
     })?;
     Ok(handle)
 }
@@ -69,8 +70,12 @@ fn start_source<
     ensures fresh { IfOk result (λ running. IsFresh source running.intake) }
 {
     let gate = Arc::try_clone(gate)?;
-    let RingEnds { producer, consumer } = ends;
-    let Ok(handle) = start(rt, alloc, reader, gate, source, producer) else {
+    let RingEnds {
+        outlet,
+        consumer,
+        room,
+    } = ends;
+    let Ok(handle) = start(rt, alloc, reader, gate, source, outlet) else {
         return Err(CollectFault::NoThread);
     };
     let intake = Intake {
@@ -80,7 +85,11 @@ fn start_source<
         stage: Stage::Taking,
         close: None,
     };
-    Ok(RunningSource { handle, intake })
+    Ok(RunningSource {
+        handle,
+        intake,
+        room,
+    })
 }
 
 /// Starts the sources in order, up to the first that can't be started. There is a ring for each and room for all.

@@ -4,9 +4,12 @@ ghost use Rattle.std.specs.Prelude.{◌≡◌, []};
 ghost use Rattle.rtrb.specs.Ring.{sent, received, IsPair};
 ghost use Rattle.ring_collect.specs.checked.Rings.{IsLimitedRecord};
 
+use crate::bells::Bell;
+use crate::outlets::Outlet;
 use rtrb::{Consumer, Finished, Producer, Protocol};
 use stack_core::RingRecord;
 use std::alloc::Global;
+use std::sync::Arc;
 
 /// The rule of each ring, on the record alone: a row keeps to `FRAME_LIMIT` and `WEIGHT_LIMIT`.
 #[derive(Clone, Copy)]
@@ -26,9 +29,11 @@ pub type LeftOfRing = Finished<RingRecord, Global, Limits>;
 /// The ends of a new ring.
 #[derive(Drop)]
 pub struct RingEnds {
-    pub producer: RecordProducer,
+    pub outlet: Outlet,
     pub consumer: RecordConsumer,
-    ghost paired: { IsPair producer consumer },
-    ghost nothing_sent: { sent producer ≡ [] },
+    /// The bell of its reader.
+    pub room: Arc<Bell>,
+    ghost paired: { IsPair outlet.producer consumer },
+    ghost nothing_sent: { sent outlet.producer ≡ [] },
     ghost nothing_received: { received consumer ≡ [] },
 }

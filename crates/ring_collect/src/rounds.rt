@@ -13,7 +13,7 @@ use std::alloc::Global;
 use std::sync::Wait;
 
 /// The most records that are taken from a ring before the next ring's turn.
-const VISIT: u32 = 64;
+const VISIT: u64 = 64;
 
 /// What the collecting thread has of a run.
 #[derive(Drop)]
@@ -24,6 +24,8 @@ pub struct Collector<R: RowReader, G: Gate> {
     pub order: Vec<u32>,
     /// There was want of memory. From then on what comes is dropped.
     pub refused: bool,
+    /// How many records came out of the rings in this round.
+    pub taken: u64,
 }
 
 impl<R: RowReader, G: Gate> Collector<R, G> {
@@ -61,6 +63,17 @@ impl<R: RowReader, G: Gate> Collector<R, G> {
         look
     }
 
+    /// Counts records of the source with this number, and wakes its reader where that leaves the room that it waits for.
+    fn took(&mut self, source: usize, count: u64)
+        requires { source < length self.old.sources.items }
+        ensures sources { self.new.sources ≡ self.old.sources }
+        ensures order { self.new.order ≡ self.old.order }
+        ensures refused { self.new.refused ≡ self.old.refused }
+    {
+        self.taken = self.taken.wrapping_add(count);
+        self.sources[source].room.offer(count);
+    }
+
     /// Looks into the ring of the source with this number until nothing is there or it is closed, `VISIT` times at most.
     fn visit<S, F: Feed<S>>(
         &mut self,
@@ -87,11 +100,13 @@ impl<R: RowReader, G: Gate> Collector<R, G> {
         if first != Look::Moved {
             return first;
         }
-        for _ in 1..VISIT {
+        for taken in 1..VISIT {
             if self.look_at(alloc, source, feed, sink) != Look::Moved {
+                self.took(source, taken);
                 return first;
             }
         }
+        self.took(source, VISIT);
         first
     }
 
@@ -111,6 +126,7 @@ impl<R: RowReader, G: Gate> Collector<R, G> {
             (λ running. IsSome running.intake.close) }
         ensures setting { F.setting sink.new ≡ F.setting sink.old }
     {
+        self.taken = 0;
         let mut round = Look::Closed;
         for source in 0..self.sources.len() {
             let look = self.visit(alloc, source, feed, sink);
@@ -119,11 +135,12 @@ impl<R: RowReader, G: Gate> Collector<R, G> {
         round
     }
 
-    /// Looks into the rings until all are closed. It waits after a round in which nothing came.
+    /// Looks into the rings until all are closed. It waits after a round that took less than it waits for and emptied every ring.
     pub fn drain<W: Wait, S, F: Feed<S>>(
         &mut self,
         rt: &W,
         alloc: Global,
+        pause: Pause,
         feed: &mut F,
         sink: &mut S,
     )
@@ -140,12 +157,16 @@ impl<R: RowReader, G: Gate> Collector<R, G> {
             (λ running. IsSome running.intake.close) }
         ensures setting { F.setting sink.new ≡ F.setting sink.old }
     {
-        let mut pause = Pause::new();
+        let mut pause = pause;
         for _ in rt.forever() {
             match self.look_round(alloc, feed, sink) {
                 Look::Closed => return,
-                Look::Idle => pause.wait(rt, 1),
-                Look::Moved => pause.end(),
+                Look::Idle | Look::Moved => (),
+            }
+            if self.taken >= pause.wanted().min(VISIT) {
+                pause.end();
+            } else {
+                pause.go_on(rt);
             }
         }
         unreachable!()

@@ -2,6 +2,7 @@
 
 ghost use Rattle.rtrb.specs.Ends.{SameRing};
 
+use crate::bells::Bell;
 use crate::intakes::Intake;
 use crate::rings::{LeftOfRing, RecordConsumer, RecordProducer};
 use stack_core::{Gate, RowReader};
@@ -45,5 +46,7 @@ pub type ReaderHandle<R, G> = PromisedHandle<Option<LeftOfRing>, ReaderPromise<R
 pub struct RunningSource<R: RowReader, G: Gate> {
     pub handle: ReaderHandle<R, G>,
     pub intake: Intake,
+    /// The bell of its reader.
+    pub room: Arc<Bell>,
     ghost tied: { SameRing handle.promise.producer.value.end intake.consumer.end },
 }

@@ -113,6 +113,7 @@ impl<R: RowReader + Send + Drop + 'static, G: Gate + Send + Sync + Drop + 'stati
             rings,
             mut sources,
             mut ledgers,
+            pause,
         } = self;
         let started = start_all(*rt, alloc, readers, rings, gate, &mut sources);
         let refused = matches!(started, Err(CollectFault::OutOfMemory));
@@ -121,12 +122,14 @@ impl<R: RowReader + Send + Drop + 'static, G: Gate + Send + Sync + Drop + 'stati
             sources,
             order,
             refused,
+            taken: 0,
         };
-        collector.drain(rt, alloc, feed, sink);
+        collector.drain(rt, alloc, pause, feed, sink);
         let Collector {
             sources,
             order,
             refused,
+            taken: _,
         } = collector;
         if let Some(source) = settle_all(rt, sources, &mut ledgers) {
             return Err(CollectFault::Unfinished { source });

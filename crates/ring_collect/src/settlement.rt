@@ -52,7 +52,11 @@ fn settle<T: Threads, R: RowReader, G: Gate>(rt: &T, running: RunningSource<R, G
         IsSettled (λ gate. G.may_stop gate) (λ gate. G.may_go gate) (λ reader. R.rest reader)
         running ledger) }
 {
-    let RunningSource { handle, intake } = running;
+    let RunningSource {
+        handle,
+        intake,
+        room: _,
+    } = running;
     settle_by(handle.join(rt), intake)
 }
 

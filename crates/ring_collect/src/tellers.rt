@@ -7,60 +7,28 @@ ghost use Rattle.ring_collect.specs.checked.Tellers.{SentAll, ending_of, records
 ghost use Rattle.stack_core.specs.RowReading.{IsLimitedStep};
 ghost use Rattle.std.specs.Arc.{arc_value};
 
-use crate::pauses::Pause;
-use crate::rings::{LeftOfRing, RecordProducer};
-use rtrb::PushError;
+use crate::outlets::Outlet;
+use crate::rings::LeftOfRing;
 use stack_core::{Close, Gate, Listed, RingRecord, RowReader, RowStep, SourceEnd, Text, Turn};
 use std::alloc::Global;
 use std::sync::{Arc, Wait};
 
-/// Puts the record into the ring, or hands it back where the ring is full.
-fn push(producer: &mut RecordProducer, item: RingRecord) -> Option<RingRecord>
-    requires { IsLimitedRecord item }
-    ensures ring { SameProducer producer.old producer.new }
-    ensures sent { IfNone result (sent producer.new ≡ sent producer.old ++ item ∷ []) }
-    ensures full { IfSome result (λ back. (back ≡ item) × (sent producer.new ≡ sent producer.old)) }
-{
-    match producer.push(item) {
-        Ok(()) => None,
-        Err(PushError::Full(back)) => Some(back),
-    }
-}
-
-/// Waits until the record is in the ring. A wait is half as many turns as the ring holds records, so that the ring's ends seldom
-/// look at one another's work; but at most 64, so that the reader of a large ring comes back to it.
-fn push_waiting<W: Wait>(rt: &W, producer: &mut RecordProducer, item: RingRecord)
-    requires { IsLimitedRecord item }
-    ensures ring { SameProducer producer.old producer.new }
-    ensures sent { sent producer.new ≡ sent producer.old ++ item ∷ [] }
-{
-    let mut item = item;
-    let mut pause = Pause::new();
-    for _ in rt.forever() {
-        let Some(back) = push(producer, item) else {
-            return;
-        };
-        item = back;
-        pause.wait(rt, (producer.capacity() / 2).clamp(1, 64));
-    }
-    unreachable!()
-}
-
 /// Tells names, in their order.
-fn tell_names<W: Wait>(rt: &W, producer: &mut RecordProducer, names: Listed<Text>)
-    ensures ring { SameProducer producer.old producer.new }
-    ensures sent { sent producer.new ≡ sent producer.old ++ map RingRecord.Name names }
+fn tell_names<W: Wait>(rt: &W, outlet: &mut Outlet, names: Listed<Text>)
+    ensures ring { SameProducer outlet.old.producer outlet.new.producer }
+    ensures sent { sent outlet.new.producer
+        ≡ sent outlet.old.producer ++ map RingRecord.Name names }
 {
     for name in names.into_plain() {
-        push_waiting(rt, producer, RingRecord::Name(name));
+        outlet.send(rt, RingRecord::Name(name));
     }
 }
 
 /// Tells what a reader gave: the names that are new and then the row, or the row again. An ending tells nothing.
-fn tell_step<W: Wait>(rt: &W, producer: &mut RecordProducer, step: RowStep)
+fn tell_step<W: Wait>(rt: &W, outlet: &mut Outlet, step: RowStep)
     requires { IsLimitedStep step }
-    ensures ring { SameProducer producer.old producer.new }
-    ensures sent { sent producer.new ≡ sent producer.old ++ records_of step }
+    ensures ring { SameProducer outlet.old.producer outlet.new.producer }
+    ensures sent { sent outlet.new.producer ≡ sent outlet.old.producer ++ records_of step }
 {
     match step {
         RowStep::New {
@@ -68,11 +36,11 @@ fn tell_step<W: Wait>(rt: &W, producer: &mut RecordProducer, step: RowStep)
             frames,
             weight,
         } => {
-            tell_names(rt, producer, names);
-            push_waiting(rt, producer, RingRecord::Row { frames, weight });
+            tell_names(rt, outlet, names);
+            outlet.send(rt, RingRecord::Row { frames, weight });
         }
         RowStep::Again { row, weight } => {
-            push_waiting(rt, producer, RingRecord::Again { row, weight });
+            outlet.send(rt, RingRecord::Again { row, weight });
         }
         RowStep::End(_) => (),
     }
@@ -91,7 +59,7 @@ fn ending_in(step: &RowStep) -> Option<SourceEnd>
 /// What tells the samples of a source: its reader, and the end of the ring where they go.
 struct Teller<R: RowReader> {
     reader: R,
-    producer: RecordProducer,
+    outlet: Outlet,
 }
 
 /// A sample by the number of its source, and its number there.
@@ -118,17 +86,17 @@ impl<R: RowReader> Teller<R> {
         gate: &G,
         number: SampleNumber,
     ) -> Option<Close>
-        requires told { R.told self.old.reader ≡ told_by (sent self.old.producer) }
-        requires well_told { IsWellTold (sent self.old.producer) }
-        ensures ring { SameProducer self.old.producer self.new.producer }
+        requires told { R.told self.old.reader ≡ told_by (sent self.old.outlet.producer) }
+        requires well_told { IsWellTold (sent self.old.outlet.producer) }
+        ensures ring { SameProducer self.old.outlet.producer self.new.outlet.producer }
         ensures few { length (R.rest self.old.reader).samples < 2 ^ 64 }
         ensures told { IfNone result
             (TellsOne (G.may_go gate.now) number.source number.index (R.rest self.old.reader)
-            (R.rest self.new.reader) (R.told self.new.reader) (sent self.old.producer)
-            (sent self.new.producer)) }
+            (R.rest self.new.reader) (R.told self.new.reader) (sent self.old.outlet.producer)
+            (sent self.new.outlet.producer)) }
         ensures closes { IfSome result
             (Closes (G.may_stop gate.now) number.source number.index (R.rest self.old.reader)
-            (sent self.old.producer) (sent self.new.producer)) }
+            (sent self.old.outlet.producer) (sent self.new.outlet.producer)) }
     {
         let SampleNumber { source, index } = number;
         let Ok(step) = self.reader.next_row(alloc) else {
@@ -141,7 +109,7 @@ impl<R: RowReader> Teller<R> {
             Turn::Stop => return Some(Close::Read(SourceEnd::Stopped { after: index })),
             Turn::Go => (),
         }
-        tell_step(rt, &mut self.producer, step);
+        tell_step(rt, &mut self.outlet, step);
         None
     }
 
@@ -153,15 +121,15 @@ impl<R: RowReader> Teller<R> {
         gate: &G,
         source: u32,
     ) -> Close
-        requires nothing_sent { sent self.old.producer ≡ [] }
+        requires nothing_sent { sent self.old.outlet.producer ≡ [] }
         requires nothing_told { R.told self.old.reader ≡ record { names = []; stacks = [] } }
-        ensures ring { SameProducer self.old.producer self.new.producer }
+        ensures ring { SameProducer self.old.outlet.producer self.new.outlet.producer }
         ensures told { IsToldUnder (G.may_stop gate.now) (G.may_go gate.now) source
             (R.rest self.old.reader)
-            (stands_for (sent self.new.producer) ++ item.Close result ∷ []) }
-        ensures well_told { IsWellTold (sent self.new.producer) }
-        ensures in_order { AreNamesOf (stands_for (sent self.new.producer) ++ item.Close result ∷ [])
-            (names_told (sent self.new.producer)) }
+            (stands_for (sent self.new.outlet.producer) ++ item.Close result ∷ []) }
+        ensures well_told { IsWellTold (sent self.new.outlet.producer) }
+        ensures in_order { AreNamesOf (stands_for (sent self.new.outlet.producer) ++ item.Close result ∷ [])
+            (names_told (sent self.new.outlet.producer)) }
     {
         let mut index = 0u64;
         for _ in rt.forever() {
@@ -176,14 +144,14 @@ impl<R: RowReader> Teller<R> {
 
     /// Tells all that the reader gives, and then the close.
     fn tell_source<W: Wait, G: Gate>(&mut self, rt: &W, alloc: Global, gate: &G, source: u32)
-        requires nothing_sent { sent self.old.producer ≡ [] }
+        requires nothing_sent { sent self.old.outlet.producer ≡ [] }
         requires nothing_told { R.told self.old.reader ≡ record { names = []; stacks = [] } }
-        ensures ring { SameProducer self.old.producer self.new.producer }
+        ensures ring { SameProducer self.old.outlet.producer self.new.outlet.producer }
         ensures told { TellsAll (G.may_stop gate.now) (G.may_go gate.now) source
-            (R.rest self.old.reader) (sent self.new.producer) }
+            (R.rest self.old.reader) (sent self.new.outlet.producer) }
     {
         let close = self.tell_samples(rt, alloc, gate, source);
-        push_waiting(rt, &mut self.producer, RingRecord::Close(close));
+        self.outlet.close(rt, close);
     }
 }
 
@@ -195,19 +163,21 @@ pub fn tell_all<W: Wait, R: RowReader + Drop, G: Gate + Drop>(
     reader: R,
     gate: Arc<G>,
     source: u32,
-    producer: RecordProducer,
+    outlet: Outlet,
 ) -> Option<LeftOfRing>
-    requires nothing_sent { sent producer ≡ [] }
+    requires nothing_sent { sent outlet.producer ≡ [] }
     requires nothing_told { R.told reader ≡ record { names = []; stacks = [] } }
     ensures { IfSome result
         (SentAll (G.may_stop (arc_value gate)) (G.may_go (arc_value gate)) source
-        (R.rest reader) producer) }
+        (R.rest reader) outlet.producer) }
 {
-    let mut teller = Teller { reader, producer };
+    let mut teller = Teller { reader, outlet };
     teller.tell_source(rt, alloc, &*gate, source);
-    let Teller {
-        reader: _,
+    let Teller { reader: _, outlet } = teller;
+    let Outlet {
         producer,
-    } = teller;
+        pause: _,
+        records: _,
+    } = outlet;
     producer.finish()
 }

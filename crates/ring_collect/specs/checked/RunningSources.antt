@@ -21,7 +21,7 @@ module _ {R G : Type 0} where
 
 -- both ends know the size
 pub record IsOfSize (size : ℕ) (ends : RingEnds) : Type 0 where
-  pub producer : producer_capacity ends.producer ≡ size
+  pub producer : producer_capacity ends.outlet.producer ≡ size
   pub consumer : consumer_capacity ends.consumer ≡ size
 
 -- nothing came yet

@@ -6,6 +6,6 @@ use Rattle.ring_collect.proofs.tellers.tell_names.Given as goal
 -- the names so far are told
 abbrev pub invariant-loop-name : goal.invariant-loop-name
 invariant-loop-name g l = record {
-  ring : SameProducer l.fn.producer l.producer;
-  sent : sent l.producer ≡ sent l.fn.producer ++ map Name l.yielded;
+  ring : SameProducer l.fn.outlet.producer l.outlet.producer;
+  sent : sent l.outlet.producer ≡ sent l.fn.outlet.producer ++ map Name l.yielded;
 }

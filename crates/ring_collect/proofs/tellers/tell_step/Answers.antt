@@ -6,11 +6,11 @@ use Rattle.ring_collect.proofs.tellers.tell_step.Goals as goal
 
 pub returns-in-New-clause-sent : goal.returns-in-New-clause-sent
 returns-in-New-clause-sent g c =
-    let before = sent c.args.producer.now in
+    let before = sent c.args.outlet.now.producer in
     let row = Row c.in-New.frames c.in-New.weight ∷ [] in
-    c.push_waiting.ensures.sent ∙ ap (λ records. records ++ row) c.tell_names.ensures.sent ∙ append_assoc before (map Name c.in-New.names) row
+    c.send.ensures.sent ∙ ap (λ records. records ++ row) c.tell_names.ensures.sent ∙ append_assoc before (map Name c.in-New.names) row
     ∙ ap (λ step. before ++ records_of step) (sym c.in-New.is)
 
 pub returns-in-Again-clause-sent : goal.returns-in-Again-clause-sent
 returns-in-Again-clause-sent g c =
-    c.push_waiting-in-Again.ensures.sent ∙ ap (λ step. sent c.args.producer.now ++ records_of step) (sym c.in-Again.is)
+    c.send-in-Again.ensures.sent ∙ ap (λ step. sent c.args.outlet.now.producer ++ records_of step) (sym c.in-Again.is)

@@ -3,10 +3,10 @@ use Rattle.ring_collect.proofs.room.Room.new.Goals as goal
 
 pub returns-in_err-make_rings : goal.returns-in_err-make_rings
 returns-in_err-make_rings g c = record {
-  rings = IfOk-from_err _ _ c.from_residual.ensures.0;
-  size = IfOk-from_err _ _ c.from_residual.ensures.0;
-  sources = IfOk-from_err _ _ c.from_residual.ensures.0;
-  ledgers = IfOk-from_err _ _ c.from_residual.ensures.0;
+  rings = IfOk-from_err _ _ c.from_residual-in_err-make_rings.ensures.0;
+  size = IfOk-from_err _ _ c.from_residual-in_err-make_rings.ensures.0;
+  sources = IfOk-from_err _ _ c.from_residual-in_err-make_rings.ensures.0;
+  ledgers = IfOk-from_err _ _ c.from_residual-in_err-make_rings.ensures.0;
 }
 
 pub returns-in_err-with_capacity : goal.returns-in_err-with_capacity

@@ -13,15 +13,6 @@ returns-in-Closed g c = record {
   setting = c.look_round.ensures.setting ∙ c.loop.invariant.setting;
 }
 
-pub loop-preserved-in-Idle : goal.loop-preserved-in-Idle
-loop-preserved-in-Idle g c = record {
-  ends = (tt, tt);
-  handles = c.look_round.ensures.handles ∙ c.loop.invariant.handles;
-  gained = λ start gained. c.look_round.ensures.gained start (c.loop.invariant.gained start gained);
-  refused = λ goes. c.loop.invariant.refused (c.look_round.ensures.refused goes);
-  setting = c.look_round.ensures.setting ∙ c.loop.invariant.setting;
-}
-
 pub loop-preserved : goal.loop-preserved
 loop-preserved g c = record {
   ends = (tt, tt);

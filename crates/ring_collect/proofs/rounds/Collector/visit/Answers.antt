@@ -1,12 +1,13 @@
-use Rattle.std.proofs.Common.{rules, ◌∙◌}
+use Rattle.std.proofs.Common.{rules, ◌∙◌, ◌<◌, ap, subst, sym, map}
+use Rattle.ring_collect.proofs.RoundLemmas.{gained_alike}
 use Rattle.ring_collect.proofs.RunLemmas.{as_many}
 use Rattle.ring_collect.proofs.rounds.Collector.visit.Goals as goal
 
 pub returns-then-ne : goal.returns-then-ne
 returns-then-ne g c = c.look_at-first.ensures
 
-pub loop-init : goal.loop-init
-loop-init g c =
+pub loop-taken-init : goal.loop-taken-init
+loop-taken-init g c =
     let looked = c.look_at-first.ensures in
     record {
       count = as_many c.args.self.now.sources.items c.look_at-first.new.self.sources.items looked.handles;
@@ -16,24 +17,38 @@ loop-init g c =
       setting = looked.setting;
     }
 
+pub look_at-requires : goal.look_at-requires
+look_at-requires g c = subst (λ count. c.args.source < count) (sym c.loop-taken.invariant.count) c.requires
+
+pub took-requires : goal.took-requires
+took-requires g c =
+    subst (λ count. c.args.source < count)
+    (sym (as_many c.loop-taken.self.sources.items c.look_at.new.self.sources.items c.look_at.ensures.handles ∙ c.loop-taken.invariant.count)) c.requires
+
+pub took-requires-2 : goal.took-requires-2
+took-requires-2 g c = subst (λ count. c.args.source < count) (sym c.loop-taken.invariant.count) c.requires
+
 pub returns-then-ne-2-clause-handles : goal.returns-then-ne-2-clause-handles
-returns-then-ne-2-clause-handles g c = c.look_at.ensures.handles ∙ c.loop.invariant.handles
+returns-then-ne-2-clause-handles g c =
+    ap (λ sources. map (λ running. running.handle) sources.items) c.took.ensures.sources ∙ c.look_at.ensures.handles ∙ c.loop-taken.invariant.handles
 
 pub returns-then-ne-2-clause-gained : goal.returns-then-ne-2-clause-gained
-returns-then-ne-2-clause-gained g c = λ start gained. c.look_at.ensures.gained start (c.loop.invariant.gained start gained)
+returns-then-ne-2-clause-gained g c = λ start gained.
+    gained_alike (ap (λ sources. map (λ running. running.intake) sources.items) c.took.ensures.sources) (ap (λ order. order.items) c.took.ensures.order) c.took.ensures.refused
+    (c.look_at.ensures.gained start (c.loop-taken.invariant.gained start gained))
 
 pub returns-then-ne-2-clause-refused : goal.returns-then-ne-2-clause-refused
-returns-then-ne-2-clause-refused g c = λ goes. c.loop.invariant.refused (c.look_at.ensures.refused goes)
+returns-then-ne-2-clause-refused g c = λ goes. c.loop-taken.invariant.refused (c.look_at.ensures.refused (sym c.took.ensures.refused ∙ goes))
 
 pub returns-then-ne-2-clause-setting : goal.returns-then-ne-2-clause-setting
-returns-then-ne-2-clause-setting g c = c.look_at.ensures.setting ∙ c.loop.invariant.setting
+returns-then-ne-2-clause-setting g c = c.look_at.ensures.setting ∙ c.loop-taken.invariant.setting
 
-pub loop-preserved : goal.loop-preserved
-loop-preserved g c =
-    let so_far = c.loop.invariant in
+pub loop-taken-preserved : goal.loop-taken-preserved
+loop-taken-preserved g c =
+    let so_far = c.loop-taken.invariant in
     let looked = c.look_at.ensures in
     record {
-      count = as_many c.loop.self.sources.items c.look_at.new.self.sources.items looked.handles ∙ so_far.count;
+      count = as_many c.loop-taken.self.sources.items c.look_at.new.self.sources.items looked.handles ∙ so_far.count;
       handles = looked.handles ∙ so_far.handles;
       gained = λ start gained. looked.gained start (so_far.gained start gained);
       refused = λ goes. so_far.refused (looked.refused goes);
@@ -41,16 +56,18 @@ loop-preserved g c =
     }
 
 pub returns-clause-handles : goal.returns-clause-handles
-returns-clause-handles g c = c.loop.invariant.handles
+returns-clause-handles g c = ap (λ sources. map (λ running. running.handle) sources.items) c.took-2.ensures.sources ∙ c.loop-taken.invariant.handles
 
 pub returns-clause-gained : goal.returns-clause-gained
-returns-clause-gained g c = c.loop.invariant.gained
+returns-clause-gained g c = λ start gained.
+    gained_alike (ap (λ sources. map (λ running. running.intake) sources.items) c.took-2.ensures.sources) (ap (λ order. order.items) c.took-2.ensures.order) c.took-2.ensures.refused
+    (c.loop-taken.invariant.gained start gained)
 
 pub returns-clause-refused : goal.returns-clause-refused
-returns-clause-refused g c = c.loop.invariant.refused
+returns-clause-refused g c = λ goes. c.loop-taken.invariant.refused (sym c.took-2.ensures.refused ∙ goes)
 
 pub returns-clause-setting : goal.returns-clause-setting
-returns-clause-setting g c = c.loop.invariant.setting
+returns-clause-setting g c = c.loop-taken.invariant.setting
 
 pub returns-then-ne-2-clause-closed : goal.returns-then-ne-2-clause-closed
 returns-then-ne-2-clause-closed g c = search rules

@@ -3,8 +3,8 @@ use Rattle.sample_tables.specs.declared.samples.Sample.{Sample}
 use Rattle.ring_collect.specs.checked.Rounds.{HasGained}
 use Rattle.ring_collect.proofs.rounds.Collector.visit.Given as goal
 
-abbrev pub invariant-loop : goal.invariant-loop
-invariant-loop g l =
+abbrev pub invariant-loop-taken : goal.invariant-loop-taken
+invariant-loop-taken g l =
     let taken = g.F.Feed.taken in
     let was = l.fn.self in
     record {

@@ -8,8 +8,8 @@ use Rattle.ring_collect.proofs.tellers.Teller.tell_source.Goals as goal
 
 pub returns-clause-told : goal.returns-clause-told
 returns-clause-told g c =
-    let told = sent c.tell_samples-close.new.self.producer in
-    let all = c.push_waiting.ensures.sent in
+    let told = sent c.tell_samples-close.new.self.outlet.producer in
+    let all = c.close.ensures.sent in
     let close = c.tell_samples-close.result in
     let samples = c.tell_samples-close.ensures in
     record {

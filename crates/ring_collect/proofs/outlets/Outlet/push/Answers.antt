@@ -1,4 +1,4 @@
-use Rattle.ring_collect.proofs.tellers.push.Goals as goal
+use Rattle.ring_collect.proofs.outlets.Outlet.push.Goals as goal
 
 pub returns-in-Ok-clause-sent : goal.returns-in-Ok-clause-sent
 returns-in-Ok-clause-sent c = c.in-Ok.ensures.ok.0
