@@ -1,0 +1,14 @@
+-- What part of a whole a weight is.
+use Rattle.std.specs.Prelude.{ℕ, ◌+◌, ◌*◌, ◌/◌, ◌%◌, List, [], ◌∷◌, ◌++◌, decimal}
+use Rattle.weight_texts.specs.Quotients.{nearest}
+
+-- in hundredths of a percent: the nearest number, and of two the greater
+abbrev pub hundredths : ℕ → ℕ → ℕ
+hundredths whole weight = nearest (10000 * weight) whole
+
+-- so many hundredths of a percent, with two decimals
+abbrev pub percent_text : ℕ → List ℕ
+percent_text parts = decimal (parts / 100) ++ (46 ∷ (48 + parts / 10 % 10) ∷ (48 + parts % 10) ∷ 37 ∷ [])
+
+abbrev pub share_text : ℕ → ℕ → List ℕ
+share_text whole weight = percent_text (hundredths whole weight)

@@ -1,0 +1,4 @@
+//! How a weight, a part of a whole and a change are said.
+#![tactic(auto)]
+
+mod measures;
