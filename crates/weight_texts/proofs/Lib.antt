@@ -1,1 +1,5 @@
+pub mod Places
+pub mod Progress
+pub mod SignBytes
+pub mod ThreeDigits
 mod WorkedTexts

@@ -6,18 +6,18 @@ abbrev pub nearest : ℕ → ℕ → ℕ
 nearest part whole = (2 * part + whole) / (2 * whole)
 
 -- a comma, where three digits follow, or six, or nine and so on
-abbrev pub comma_before : List ℕ → List ℕ
-comma_before digits = if nat_lt 0 (length digits) && (length digits % 3 == 0) then 44 ∷ [] else []
+abbrev pub comma_before : ℕ → List ℕ
+comma_before following = if nat_lt 0 following && (following % 3 == 0) then 44 ∷ [] else []
 
 abbrev pub with_commas : List ℕ → List ℕ
 with_commas [] = []
-with_commas (digit ∷ digits) = digit ∷ (comma_before digits ++ with_commas digits)
+with_commas (digit ∷ digits) = digit ∷ (comma_before (length digits) ++ with_commas digits)
 
 abbrev pub grouped : ℕ → List ℕ
 grouped number = with_commas (decimal number)
 
 -- how many decimals three digits need: as few, of so many at most, as make a quotient a hundred of the last place
-abbrev pub decimals : ℕ → ℕ → ℕ → ℕ
+unfoldable pub decimals : ℕ → ℕ → ℕ → ℕ
 decimals zero part whole = 0
 decimals (suc more) part whole = if nat_le (100 * whole) part then 0 else suc (decimals more (10 * part) whole)
 
@@ -35,7 +35,7 @@ placed places count = grouped (count / 10 ^ places) ++ after_point places (count
 
 -- A quotient with three digits, and of a hundred and more with all before the point. The smallest change of a weight of
 -- 64 bits has 20 decimals.
-abbrev pub quotient_text : ℕ → ℕ → List ℕ
+unfoldable pub quotient_text : ℕ → ℕ → List ℕ
 quotient_text part whole =
     let places = decimals 20 part whole in
     placed places (nearest (10 ^ places * part) whole)

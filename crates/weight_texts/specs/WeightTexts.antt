@@ -1,5 +1,6 @@
 -- How a weight and a change of it are said.
-use Rattle.std.specs.Prelude.{ℕ, ◌-◌, ◌*◌, ◌^◌, ◌==◌, ◌||◌, if◌then◌else◌, nat_lt, nat_le, List, [], ◌∷◌, ◌++◌, codes, find, unwrap_or, encode_utf8_all}
+use Rattle.std.specs.Prelude.{ℕ, ◌*◌, ◌^◌, ◌==◌, ◌||◌, if◌then◌else◌, nat_lt, nat_le, List, [], ◌∷◌, ◌++◌, codes, find, unwrap_or, encode_utf8_all}
+use Rattle.std.specs.Int.{abs_diff}
 use Rattle.std.specs.Str.{bytes_eq}
 use Rattle.weight_texts.specs.Quotients.{grouped, quotient_text}
 use Rattle.weight_texts.specs.declared.measures.Measure.{Measure}
@@ -53,11 +54,13 @@ measured_text unit weight Count = grouped weight ++ unit_after unit
 unfoldable pub weight_text : List ℕ → ℕ → List ℕ
 weight_text unit weight = measured_text unit weight (measure_of unit)
 
+abbrev pub change_sign : ℕ → ℕ → List ℕ
+change_sign before after = if nat_lt before after then codes "+" else encode_utf8_all (codes "−")
+
 -- how much more or less there is, in percent of what there was before
 abbrev pub percent_change : ℕ → ℕ → List ℕ
 percent_change before after =
-    if nat_lt before after then 43 ∷ (quotient_text (100 * (after - before)) before ++ codes "%")
-    else encode_utf8_all (codes "−") ++ (quotient_text (100 * (before - after)) before ++ codes "%")
+    change_sign before after ++ (quotient_text (100 * abs_diff before after) before ++ codes "%")
 
 unfoldable pub change_text : ℕ → ℕ → List ℕ
 change_text before after =

@@ -1,4 +1,15 @@
 //! How a weight, a part of a whole and a change are said.
 #![tactic(auto)]
 
+mod changes;
+mod grouped;
+pub mod laws;
 mod measures;
+mod quotients;
+mod shares;
+mod steps;
+mod weights;
+
+pub use changes::append_change;
+pub use shares::{append_share, share_width};
+pub use weights::append_weight;

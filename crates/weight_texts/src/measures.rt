@@ -7,9 +7,9 @@ ghost use Rattle.weight_texts.specs.WeightTexts.{measure_of};
 #[derive(Clone, Copy, Debug)]
 pub(crate) enum Measure {
     // So many nanoseconds.
-    Time(u64),
+    Time(u32),
     // So many bytes.
-    Size(u64),
+    Size(u32),
     Count,
 }
 
