@@ -4,7 +4,7 @@ use Rattle.std.specs.Prelude.{encode_utf8_all}
 use lib.Utf8.{encode}
 use Rattle.std.specs.Fmt.{digits}
 use Rattle.weight_texts.specs.Quotients.{quotient_text, decimals}
-use Rattle.weight_texts.specs.Shares.{share_text}
+use Rattle.weight_texts.specs.Shares.{hundredths, share_text}
 use Rattle.weight_texts.specs.WeightTexts.{weight_text, change_text}
 
 milliseconds : weight_text (codes "nanoseconds") 756000000 ≡ codes "756 ms"
@@ -165,3 +165,10 @@ the_whole = refl
 of_nothing : share_text 0 7 ≡ codes "0.00%"
 unfolding digits
 of_nothing = refl
+
+-- half of a hundredth of a percent goes up, and less goes down
+half_up : hundredths 20000 1 ≡ 1
+half_up = refl
+
+less_down : hundredths 20001 1 ≡ 0
+less_down = refl
