@@ -4,25 +4,10 @@ use Rattle.std.specs.Fmt.{digits}
 use Rattle.json.specs.Print.{escape_byte}
 use Rattle.function_sums.specs.declared.sums.FunctionSum.{FunctionSum}
 use Rattle.sum_texts.specs.FunctionJson.{functions_line}
-use Rattle.sum_texts.specs.FunctionTable.{hundredths, percent_text, table_text}
+use Rattle.sum_texts.specs.FunctionTable.{table_text}
 
 abbrev sum : List ℕ → ℕ → ℕ → FunctionSum
 sum name own total = record { name = name; own = own; total = total }
-
-two_thirds : percent_text (hundredths 3 2) ≡ codes "66.67%"
-unfolding digits
-two_thirds = refl
-
--- half of a hundredth of a percent goes up, and less goes down
-half_up : hundredths 20000 1 ≡ 1
-half_up = refl
-
-less_down : hundredths 20001 1 ≡ 0
-less_down = refl
-
-the_whole : percent_text (hundredths 7 7) ≡ codes "100.00%"
-unfolding digits
-the_whole = refl
 
 table : table_text None 8 (sum (codes "read") 7 7 ∷ sum (codes "main") 1 8 ∷ [])
     ≡ codes "own    own%  total   total%  name\n"

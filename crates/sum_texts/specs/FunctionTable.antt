@@ -1,15 +1,8 @@
 -- The table of functions: a line of headings, and a line for each function.
-use Rattle.std.specs.Prelude.{ℕ, ◌+◌, ◌-◌, ◌*◌, ◌/◌, ◌%◌, max, List, [], ◌∷◌, ◌++◌, length, map, replicate, codes, decimal, Option, None, Some, option_map, unwrap_or}
+use Rattle.std.specs.Prelude.{ℕ, ◌-◌, max, List, [], ◌∷◌, ◌++◌, length, map, replicate, codes, decimal, Option, None, Some, option_map, unwrap_or}
 use Rattle.std.specs.List.{flat_map}
 use Rattle.function_sums.specs.declared.sums.FunctionSum.{FunctionSum}
-
--- what part of the whole a weight is, in hundredths of a percent: the nearest number, and of two the greater
-abbrev pub hundredths : ℕ → ℕ → ℕ
-hundredths whole weight = (20000 * weight + whole) / (2 * whole)
-
--- so many hundredths of a percent, with two decimals
-abbrev pub percent_text : ℕ → List ℕ
-percent_text parts = decimal (parts / 100) ++ (46 ∷ (48 + parts / 10 % 10) ∷ (48 + parts % 10) ∷ 37 ∷ [])
+use Rattle.weight_texts.specs.Shares.{hundredths, percent_text}
 
 -- what a line has before the name; the last column is left out where it isn't known what all samples weigh
 pub record Entries : Type 0 where

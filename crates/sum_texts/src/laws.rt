@@ -1,20 +1,11 @@
 //! What the definitions of the texts mean.
 
-ghost use Rattle.std.specs.Prelude.{ℕ, ◌≡◌, ◌+◌, ◌*◌, ◌<◌, ◌≤◌, ◌^◌, List, All, IfSome, Option};
+ghost use Rattle.std.specs.Prelude.{ℕ, ◌<◌, ◌^◌, List, All, IfSome, Option};
 ghost use Rattle.view_texts.specs.JsonLaws.{IsJsonLine};
 ghost use Rattle.function_sums.specs.declared.sums.FunctionSum.{FunctionSum};
 ghost use Rattle.sum_texts.specs.FunctionJson.{functions_data, functions_line};
-ghost use Rattle.sum_texts.specs.FunctionTable.{hundredths};
 
-/// A percentage is off by at most half a hundredth, the whole is 100.00 of it, and nothing is 0.00.
-pub fn percentages_are_rounded()
-    ensures below { (whole weight : ℕ) → 0 < whole
-        → 2 * whole * hundredths whole weight ≤ 20000 * weight + whole }
-    ensures above { (whole weight : ℕ) → 0 < whole
-        → 20000 * weight < 2 * whole * hundredths whole weight + whole }
-    ensures all { (whole : ℕ) → 0 < whole → hundredths whole whole ≡ 10000 }
-    ensures none { (whole : ℕ) → 0 < whole → hundredths whole 0 ≡ 0 }
-{}
+pub use weight_texts::laws::percentages_are_rounded;
 
 /// The line of JSON is the text of one value, which reads back from it, and a line feed that is its
 /// only one. The keys of each object rise. It holds where the numbers have 64 bits.

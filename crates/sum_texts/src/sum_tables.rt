@@ -7,12 +7,13 @@ ghost use Rattle.sample_tables.specs.Samples.{total_weight};
 ghost use Rattle.sample_tables.specs.declared.samples.Sample.{Sample};
 ghost use Rattle.function_sums.specs.FunctionSums.{AreFunctionSums};
 ghost use Rattle.run_options.specs.declared.orders.FunctionOrder.{FunctionOrder as Order};
+ghost use Rattle.weight_texts.specs.Shares.{hundredths, percent_text};
 ghost use Rattle.sum_texts.specs.Pieces.{table_pieces};
-ghost use Rattle.sum_texts.specs.FunctionTable.{Entries, at_right_if, headings, entries_of, hundredths, percent_text, table_line, table_text};
+ghost use Rattle.sum_texts.specs.FunctionTable.{Entries, at_right_if, headings, entries_of, table_line, table_text};
 ghost use Rattle.sum_texts.specs.TopTexts.{top_table};
 ghost use Rattle.sum_texts.specs.checked.Widths.{widths_in, widths_of};
 
-use crate::entries::{append_percent, append_text, append_weight, hundredths};
+use crate::entries::{append_percent, append_text, append_weight};
 use crate::first_sums::first_sums;
 use crate::widths::Widths;
 use byte_io::{Pieces, append_pieces};
@@ -125,7 +126,7 @@ fn append_part(
     ensures front { StartsWith out.new.items out.old.items }
 {
     match all {
-        Some(whole) => append_percent(out, width, hundredths(whole, weight)),
+        Some(whole) => append_percent(out, width, whole, weight),
         None => Ok(()),
     }
 }
@@ -144,9 +145,9 @@ fn append_row(
     ensures front { StartsWith out.new.items out.old.items }
 {
     append_weight(out, widths.own, sum.own)?;
-    append_percent(out, widths.own_percent, hundredths(whole, sum.own))?;
+    append_percent(out, widths.own_percent, whole, sum.own)?;
     append_weight(out, widths.total, sum.total)?;
-    append_percent(out, widths.total_percent, hundredths(whole, sum.total))?;
+    append_percent(out, widths.total_percent, whole, sum.total)?;
     append_part(out, widths.whole_percent, all, sum.total)?;
     out.extend_from_slice(sum.name.get().as_bytes())?;
     out.push(b'\n')?;

@@ -1,11 +1,13 @@
 //! How wide the columns of a table are.
 
 ghost use Rattle.std.specs.Prelude.{◌≡◌, [], max, length, option_map, unwrap_or};
-ghost use Rattle.sum_texts.specs.FunctionTable.{entries_of, headings, hundredths, percent_text};
+ghost use Rattle.weight_texts.specs.Shares.{hundredths, percent_text};
+ghost use Rattle.sum_texts.specs.FunctionTable.{entries_of, headings};
 ghost use Rattle.sum_texts.specs.checked.Widths.{widths_of};
 
-use crate::entries::{hundredths, percent_width, weight_width};
+use crate::entries::weight_width;
 use function_sums::FunctionSum;
+use weight_texts::share_width;
 
 // The width of each column before the name.
 #[derive(Clone, Copy, Debug)]
@@ -60,8 +62,8 @@ impl Widths {
               (length (unwrap_or (entries_of all whole sum.now).whole_percent []));
         } }
     {
-        let own_percent = percent_width(hundredths(whole, sum.own));
-        let total_percent = percent_width(hundredths(whole, sum.total));
+        let own_percent = share_width(sum.own, whole);
+        let total_percent = share_width(sum.total, whole);
         Widths {
             own: self.own.max(weight_width(sum.own)),
             own_percent: self.own_percent.max(own_percent),
@@ -78,7 +80,7 @@ fn part_width(all: Option<u64>, weight: u64) -> usize
         (option_map (λ whole. percent_text (hundredths whole weight)) all) []) }
 {
     match all {
-        Some(whole) => percent_width(hundredths(whole, weight)),
+        Some(whole) => share_width(weight, whole),
         None => 0,
     }
 }

@@ -1,6 +1,6 @@
 use Rattle.byte_io.proofs.PieceTexts.{further}
 use Rattle.std.proofs.Common.{◌≡◌, ◌++◌, ◌∙◌, ap, rules, subst}
-use Rattle.sum_texts.specs.FunctionTable.{at_right, entries_of, percent_text}
+use Rattle.sum_texts.specs.FunctionTable.{entries_of}
 use Rattle.sum_texts.specs.declared.widths.Widths.{Widths}
 use Rattle.sum_texts.proofs.TableWidths.{line_in}
 use Rattle.view_texts.proofs.Fronts.{longer_front, same_front, text_after}
@@ -72,7 +72,6 @@ pub returns-clause-ok : goal.returns-clause-ok
 returns-clause-ok c = λ lines are.
     let start = c.args.out.now.items in
     let new = c.push.new.self.items in
-    let widths = c.args.widths.now in
     let own = c.append_weight.new.out.items in
     let own_percent = c.append_percent.new.out.items in
     let total = c.append_weight-2.new.out.items in
@@ -82,8 +81,8 @@ returns-clause-ok c = λ lines are.
     let text : c.as_bytes.result.now ≡ c.args.sum.now.name = search rules in
     subst (λ (widths : Widths). new ≡ start ++ line_in widths (entries_of c.args.all c.args.whole c.args.sum.now) c.args.sum.now.name) are
     (text_after start own new _ _ c.in_ok-append_weight.ensures.ok
-    (text_after own own_percent new _ _ (c.in_ok-append_percent.ensures.ok ∙ ap (λ part. own ++ at_right widths.own_percent (percent_text part)) c.hundredths.ensures)
+    (text_after own own_percent new _ _ c.in_ok-append_percent.ensures.ok
     (text_after own_percent total new _ _ c.in_ok-append_weight-2.ensures.ok
-    (text_after total total_percent new _ _ (c.in_ok-append_percent-2.ensures.ok ∙ ap (λ part. total ++ at_right widths.total_percent (percent_text part)) c.hundredths-2.ensures)
+    (text_after total total_percent new _ _ c.in_ok-append_percent-2.ensures.ok
     (text_after total_percent part new _ _ c.in_ok-append_part.ensures.ok
     (text_after part name new _ _ (c.in_ok-extend_from_slice.ensures.items ∙ ap (λ text. part ++ text) text) c.in_ok-push.ensures.items))))))
