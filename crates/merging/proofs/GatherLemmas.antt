@@ -1,6 +1,5 @@
 -- What a run gathered, from what was collected and what its sink holds.
-use Rattle.std.proofs.Common.{◌≡◌, ◌<◌, ◌≤◌, ◌+◌, ℕ, zero, suc, Bool, true, false, ◌&&◌, cond, List, [], ◌∷◌, length, get_or, take, map, sum_by, sym, ap, ◌∙◌, subst, arith, refl, Option, All, Some, None}
-use Rattle.std.specs.Option.{option_to_list}
+use Rattle.std.proofs.Common.{◌≡◌, ◌<◌, ◌≤◌, ◌+◌, ℕ, zero, suc, Bool, true, false, ◌&&◌, cond, List, [], ◌∷◌, length, get_or, take, map, sum_by, sym, ap, ◌∙◌, subst, arith, refl, Option, All}
 use Rattle.std.specs.List.{AllByRecursion, range_with_len}
 use Rattle.std.specs.Str.{bytes_eq}
 use Rattle.std.specs.FinMap.{entries}
@@ -34,14 +33,6 @@ use Rattle.source_lists.proofs.ListLemmas.{AreSmall, depths_small, lists_small, 
 pub use Rattle.source_lists.proofs.ListLemmas.{timeline_weight}
 use Rattle.merging.specs.TreeSinkState.{TreeSinkState}
 use Rattle.merging.proofs.PairSums.{sum_by-of_lists, sum_by-first}
-
--- ---- the setting of a sink
-
-pub same_every : (one other : Option ℕ) → option_to_list one ≡ option_to_list other → one ≡ other
-same_every None None e = refl
-same_every None (Some other) e = cc
-same_every (Some one) None e = cc
-same_every (Some one) (Some other) e = ap Some (cc)
 
 -- ---- samples with the same sums
 

@@ -1,8 +1,8 @@
-//! A run whose samples are merged as they arrive.
+//! What a run collected, merged.
 
 ghost use Rattle.std.specs.Prelude.{◌≡◌, ◌≤◌, ◌<◌, ℕ, All, IfOk, IfSome, IsErrOf, length};
 ghost use Rattle.std.specs.Arc.{arc_value};
-ghost use Rattle.stack_core.specs.Interleaving.{IsInterleaving, interleaved};
+ghost use Rattle.stack_core.specs.Interleaving.{IsInterleaving};
 ghost use Rattle.call_tree.specs.FrameTable.{HasDistinctNames};
 ghost use Rattle.ring_collect.specs.Collection.{Collects, AreWhole};
 ghost use Rattle.merged_stacks.specs.Timeline.{samples_of};
@@ -12,13 +12,12 @@ ghost use Rattle.merging.specs.Sums.{all_samples, HasSumsOf, IsDrawable};
 ghost use Rattle.merging.specs.Gathered.{AreLimited, IsGathered};
 
 use crate::list_samples::feed_lists;
-use crate::observers::{ObservedSink, Observer, Unobserved};
 use crate::snapshots::Snapshot;
 use crate::tree_sink::TreeSink;
 use call_tree::{CallTree, FrameTable};
 use ring_collect::CollectFault;
 use run_options::Options;
-use source_lists::{Source, SourceLists, read_into};
+use source_lists::{Source, SourceLists, read_sources};
 use stack_core::{Gate, SourceList};
 use std::alloc::{AllocError, Global};
 use std::marker::Model;
@@ -58,26 +57,6 @@ impl Model for Gathered {
 }
 
 impl Gathered {
-    /// What a run collected, with the sink that it fed, which held nothing before.
-    fn of(sources: SourceLists, sink: TreeSink) -> Gathered
-        requires taken { sink.taken ≡ interleaved sources.order (samples_of sources.lists) }
-        ensures state { result ≡ record {
-          lists = sources.lists;
-          order = sources.order;
-          every = sink.every;
-          names = sink.names;
-          tree = sink.tree;
-          snapshots = sink.snapshots;
-        } }
-        ensures gathered { IsGathered result.lists result.order result.every
-            result.names result.tree result.snapshots }
-    {
-        let _lists = sources.lists();
-        let _order = sources.order();
-        sink.recall_merged();
-        Gathered { sources, sink }
-    }
-
     /// Merges what a run collected, in the order in which its samples came: the tree and the snapshots are those
     /// that they would have if the samples had been merged as they arrived.
     pub fn of_lists(
@@ -97,7 +76,8 @@ impl Gathered {
     {
         let mut sink = TreeSink::new(alloc, every)?;
         feed_lists(alloc, sources.lists(), sources.order(), &mut sink)?;
-        Ok(Gathered::of(sources, sink))
+        sink.recall_merged();
+        Ok(Gathered { sources, sink })
     }
 
     /// What was collected, without what was merged.
@@ -191,48 +171,6 @@ pub fn gather<T: Threads + Wait + Copy + Send + 'static, G: Gate + Send + Sync +
     ensures refused { (source : ℕ) → IsErrOf result (CollectFault.Unfinished source)
         → source < length sources.items }
 {
-    gather_observed(rt, alloc, sources, options, gate, &mut Unobserved)
-}
-
-/// As `gather`, and the observer is told of each sample when it was merged.
-pub fn gather_observed<
-    T: Threads + Wait + Copy + Send + 'static,
-    G: Gate + Send + Sync + Drop + 'static,
-    O: Observer,
->(
-    rt: &T,
-    alloc: Global,
-    sources: Vec<Source>,
-    options: &Options,
-    gate: Arc<G>,
-    observer: &mut O,
-) -> Result<Gathered, CollectFault>
-    requires sources { length sources.items ≤ 64 }
-    requires every { IfSome options.now.every (λ every. 1 ≤ every) }
-
-    // Each list is the samples that the source's bytes stand for: all of them, or the first ones
-    // where the gate stopped the source.
-    ensures collected_lists { IfOk result (λ gathered.
-        Collects (G.may_stop (arc_value gate)) (G.may_go (arc_value gate))
-        (rests_of options.now sources.items) gathered.lists) }
-    ensures whole_lists { ((source index : ℕ) → G.may_stop (arc_value gate) source index → ⊥)
-        → IfOk result (λ gathered. AreWhole (rests_of options.now sources.items) gathered.lists) }
-
-    // What was merged is their samples, and each snapshot the first of them.
-    ensures merged_totals { IfOk result (λ gathered.
-        HasSumsOf gathered.names gathered.tree (all_samples (samples_of gathered.lists))) }
-    ensures order { IfOk result (λ gathered.
-        IsInterleaving gathered.order (samples_of gathered.lists)) }
-    ensures snapshots { IfOk result (λ gathered.
-        AreSnapshots options.now.every gathered.names gathered.order
-        (λ m. snapshot_samples m gathered.order (samples_of gathered.lists)) gathered.snapshots) }
-    ensures every { IfOk result (λ gathered. gathered.every ≡ options.now.every) }
-
-    ensures refused { (source : ℕ) → IsErrOf result (CollectFault.Unfinished source)
-        → source < length sources.items }
-{
-    let sink = TreeSink::new(alloc, options.every)?;
-    let mut observed = ObservedSink { sink, observer };
-    let sources = read_into(rt, alloc, sources, options, gate, &mut observed)?;
-    Ok(Gathered::of(sources, observed.sink))
+    let sources = read_sources(rt, alloc, sources, options, gate)?;
+    Ok(Gathered::of_lists(alloc, sources, options.every)?)
 }

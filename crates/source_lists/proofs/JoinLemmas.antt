@@ -10,9 +10,6 @@ use Rattle.source_lists.proofs.KeptLemmas.{taken_again}
 
 -- ---- items under numbers
 
-none_found : {X : Type 0} (none : X) (items : List X) → AreFound none items [] []
-none_found none items = record { within = λ k d below. absurd (omega (arith, below)); same = refl }
-
 among_more : {X : Type 0} (none : X) (items more : List X) (numbers : List ℕ) → All (λ number. number < length items) numbers
     → map (λ number. get_or (items ++ more) number none) numbers ≡ map (λ number. get_or items number none) numbers
 among_more none items more [] within = refl
@@ -47,12 +44,6 @@ found_at none items wanted numbers k found within =
     ∙ ap (λ items. get_or items k none) found.same
 
 -- ---- what a ledger gains
-
-pub tells_none : (ledger : LedgerState) → TellsMore ledger ledger
-tells_none ledger = ([], ap (λ (told : List (List ℕ)). record ledger { told = told }) (sym (append-nil ledger.told)))
-
-pub keeps_none : (ledger : LedgerState) → KeepsMore ledger ledger
-keeps_none ledger = ([], ap (λ (stacks : List (List ℕ)). record ledger { stacks = stacks }) (sym (append-nil ledger.stacks)))
 
 pub tells_on : (old now new : LedgerState) → TellsMore old now → TellsMore now new → TellsMore old new
 tells_on old now new before after = (

@@ -71,14 +71,6 @@ sample_named told rows samples i h within =
     let within_rows : i < length rows = omega (arith, within, ap length h.samples_named, length-map rows (named told)) in
     ap (λ samples. sample_at samples i) h.samples_named ∙ get_or-map (named told) rows i (record { frames = []; weight = 0 }) (record { stack = []; weight = 0 }) within_rows
 
--- the mark of a sample's stack says whether it is kept
-pub kept_by_stack : (asked : Filter) (list : ListState) (i n : ℕ) → AreNamed list.told list.rows list.samples → i < length list.samples → n < length list.stacks → stack_at list.stacks n ≡ (row_at list.rows i).frames
-    → is_marked (are_kept asked list) n ≡ keeps asked (sample_at list.samples i).stack
-kept_by_stack asked list i n h within kept same =
-    get_or-map (λ frames. keeps asked (map (name_at list.told) frames)) list.stacks n [] false kept
-    ∙ (ap (λ frames. keeps asked (map (name_at list.told) frames)) same
-    ∙ ap (λ (sample : Sample). keeps asked sample.stack) (sym (sample_named list.told list.rows list.samples i h within)))
-
 -- a sample that is taken again by its stack
 pub taken_again : (list : ListState) (i n w : ℕ) → AreNamed list.told list.rows list.samples → i < length list.samples → stack_at list.stacks n ≡ (row_at list.rows i).frames → w ≡ (sample_at list.samples i).weight
     → named list.told (row_by list.stacks (record { stack = n; weight = w })) ≡ sample_at list.samples i

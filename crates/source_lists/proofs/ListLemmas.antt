@@ -30,7 +30,7 @@ limited-collected : (may_stop may_go : ℕ → ℕ → Type 0) (source : ℕ) (r
 limited-collected may_stop may_go source rest list (IsCollected.Whole go is) h = subst (λ (r : Rest). IsSourceLimited r.samples) (sym is) h
 limited-collected may_stop may_go source rest list (IsCollected.StoppedAt i within stop go is) h = subst (λ (r : Rest). IsSourceLimited r.samples) (sym is) (limited-stopped rest i h)
 
-pub collected-limited : (may_stop may_go : ℕ → ℕ → Type 0) (rests : List Rest) (lists : List ListState) → Collects may_stop may_go rests lists → All (λ rest. IsSourceLimited rest.samples) rests → All (λ list. IsSourceLimited list.samples) lists
+collected-limited : (may_stop may_go : ℕ → ℕ → Type 0) (rests : List Rest) (lists : List ListState) → Collects may_stop may_go rests lists → All (λ rest. IsSourceLimited rest.samples) rests → All (λ list. IsSourceLimited list.samples) lists
 collected-limited may_stop may_go rests lists h limits k d l =
     let many = h.count in
     let list = at_index lists k l in
@@ -38,6 +38,9 @@ collected-limited may_stop may_go rests lists h limits k d l =
     let is = get_or_from_slice_get lists k list.0 d list.1 in
     let limited = subst (λ (r : Rest). IsSourceLimited r.samples) (get_or_from_slice_get rests k rest.0 rest.0 rest.1) (limits k rest.0 (omega arith)) in
     subst (λ (s : ListState). IsSourceLimited s.samples) (sym is) (limited-collected may_stop may_go k rest.0 (seen_as_rest list.0) (h.each k rest.0 list.0 rest.1 list.1) limited)
+
+pub read_limited : (may_stop may_go : ℕ → ℕ → Type 0) (rests : List Rest) (lists : List ListState) → Collects may_stop may_go rests lists → All (λ rest. IsSourceLimited rest.samples) rests → length rests ≤ 64 → AreLimited lists
+read_limited may_stop may_go rests lists h limits few = record { few = omega (arith, h.count, few); each = collected-limited may_stop may_go rests lists h limits }
 
 -- ---- lists within the limits
 

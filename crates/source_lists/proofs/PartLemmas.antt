@@ -31,17 +31,6 @@ ignored_more parts part = sum_by_push (λ (part : Rest). ignored_of part.ending)
 
 -- ---- one list
 
--- any order is one of one list
-pub order_of_one : (list : ListState) (order : List ℕ) → order ≡ replicate (length list.samples) 0 → IsInterleaving order (samples_of (list ∷ []))
-order_of_one list order is = record { as_often = λ source. ap (count_of source) is ∙ often source }
-  where
-    often : (source : ℕ) → count_of source (replicate (length list.samples) 0) ≡ length (list_of (samples_of (list ∷ [])) source)
-    often zero = sum_by-replicate (λ entry. cond (nat_eq entry 0) 1 0) (length list.samples) 0 ∙ omega arith
-    often (suc source) =
-        let apart : nat_eq 0 (suc source) ≡ false = grind (arith, nat_tests) in
-        sum_by-replicate (λ entry. cond (nat_eq entry (suc source)) 1 0) (length list.samples) 0
-        ∙ (ap (λ b. length list.samples * cond b 1 0) apart ∙ omega arith)
-
 pub limited_bytes : (format : Format) (bytes : List ℕ) (pick : Pick) (naming : Naming) → IsSourceLimited (read_bytes format bytes pick naming).samples
 limited_bytes Folded bytes pick naming = IsSourceLimited-read_folded bytes
 limited_bytes Pprof bytes pick naming = pprof-limited bytes pick naming

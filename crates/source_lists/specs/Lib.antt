@@ -1,5 +1,6 @@
 -- The definitions that the contracts of source_lists cite.
 pub mod Lists
+pub mod Runs
 pub mod Sources
 pub mod Types
 pub mod WholeRuns

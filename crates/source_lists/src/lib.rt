@@ -23,7 +23,7 @@ mod unkept_samples;
 mod whole_runs;
 
 pub use part_runs::read_in_parts;
-pub use reading::{read_into, read_sources};
+pub use reading::read_sources;
 pub use source_lists::SourceLists;
 pub use source_types::{chosen_types, no_type};
 pub use sources::Source;

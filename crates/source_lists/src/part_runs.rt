@@ -12,7 +12,7 @@ ghost use Rattle.source_lists.specs.checked.Readers.{reader_rest, reader_told};
 
 use crate::part_lists::{ignored_by_clean, joined_list};
 use crate::part_readers::{lone_reader, part_readers};
-use crate::reader_runs::{run_rows, run_unseen};
+use crate::reader_runs::run_rows;
 use crate::source_lists::SourceLists;
 use crate::source_reader::SourceReader;
 use crate::sources::Source;
@@ -20,7 +20,7 @@ use crate::whole_runs::{WholeRun, collect_all, kept_run, open_gate};
 use bytes::Bytes;
 use ring_collect::CollectFault;
 use run_options::{Format, Options};
-use stack_core::{RowSink, SourceList};
+use stack_core::{NoSink, RowSink, SourceList};
 use std::alloc::{AllocError, Global};
 use std::sync::Wait;
 use std::thread::Threads;
@@ -110,7 +110,7 @@ pub(crate) fn read_alone<T: Threads + Wait + Copy + Send + 'static>(
 {
     let readers = lone_reader(alloc, format, bytes, options)?;
     let gate = open_gate(alloc)?;
-    let run = run_unseen(rt, alloc, readers, options.ring, gate)?;
+    let run = run_rows(rt, alloc, readers, options.ring, gate, &mut NoSink::new())?;
     let mut lists = run.lists;
     match lists.pop() {
         Some(list) => Ok(list),

@@ -3,16 +3,17 @@
 
 ghost use Rattle.std.specs.Prelude.{◌≡◌, ◌≤◌, ◌<◌, ◌++◌, ℕ, [], All, IfOk, IsErrOf, length, map};
 ghost use Rattle.std.specs.Arc.{arc_value};
-ghost use Rattle.stack_core.specs.Interleaving.{AreOf, IsInterleaving, interleaved};
-ghost use Rattle.ring_collect.specs.Collection.{Collects, AreWhole};
+ghost use Rattle.stack_core.specs.Interleaving.{AreOf, interleaved};
 ghost use Rattle.merged_stacks.specs.Timeline.{samples_of};
+ghost use Rattle.source_lists.specs.Runs.{ReadsLists};
 ghost use Rattle.source_lists.specs.checked.Readers.{filtered_rest, reader_rest, reader_told};
 
 use crate::filtered_reader::FilteredReader;
 use crate::source_reader::SourceReader;
+use crate::unkept_samples::UnkeptSamples;
 use ring_collect::{CollectFault, Collected, collect, collect_rows};
 use run_options::RingSize;
-use stack_core::{Gate, NoSink, RowSink, Sink};
+use stack_core::{Gate, RowSink};
 use std::alloc::Global;
 use std::sync::{Arc, Wait};
 use std::thread::Threads;
@@ -33,13 +34,9 @@ pub(crate) fn run_rows<
     requires few { length readers.items ≤ 64 }
     requires told { All (λ reader. reader_told reader ≡ record { names = []; stacks = [] })
         readers.items }
-    ensures lists { IfOk result (λ run.
-        Collects (G.may_stop (arc_value gate)) (G.may_go (arc_value gate))
-        (map reader_rest readers.items) run.lists.items) }
-    ensures whole { ((source index : ℕ) → G.may_stop (arc_value gate) source index → ⊥)
-        → IfOk result (λ run. AreWhole (map reader_rest readers.items) run.lists.items) }
-    ensures order { IfOk result (λ run.
-        IsInterleaving run.order.items (samples_of run.lists.items)) }
+    ensures reads { IfOk result (λ run.
+        ReadsLists (G.may_stop (arc_value gate)) (G.may_go (arc_value gate))
+        (map reader_rest readers.items) run.lists.items run.order.items) }
     ensures unfinished { (source : ℕ) → IsErrOf result (CollectFault.Unfinished source)
         → source < length readers.items }
     ensures fed { IfOk result (λ run. S.taken sink.new ≡ S.taken sink.old ++ interleaved run.order.items
@@ -51,59 +48,23 @@ pub(crate) fn run_rows<
     collect_rows(rt, alloc, readers, ring, gate, sink)
 }
 
-/// Collects what the readers tell, by rows, where nothing looks on.
-pub(crate) fn run_unseen<
+/// Collects the samples of the readers that leave some out, where nothing looks on.
+pub(crate) fn run_filtered<
     T: Threads + Wait + Copy + Send + 'static,
     G: Gate + Send + Sync + Drop + 'static,
->(
-    rt: &T,
-    alloc: Global,
-    readers: Vec<SourceReader>,
-    ring: RingSize,
-    gate: Arc<G>,
-) -> Result<Collected, CollectFault>
-    requires few { length readers.items ≤ 64 }
-    requires told { All (λ reader. reader_told reader ≡ record { names = []; stacks = [] })
-        readers.items }
-    ensures lists { IfOk result (λ run.
-        Collects (G.may_stop (arc_value gate)) (G.may_go (arc_value gate))
-        (map reader_rest readers.items) run.lists.items) }
-    ensures whole { ((source index : ℕ) → G.may_stop (arc_value gate) source index → ⊥)
-        → IfOk result (λ run. AreWhole (map reader_rest readers.items) run.lists.items) }
-    ensures order { IfOk result (λ run.
-        IsInterleaving run.order.items (samples_of run.lists.items)) }
-    ensures unfinished { (source : ℕ) → IsErrOf result (CollectFault.Unfinished source)
-        → source < length readers.items }
-{
-    run_rows(rt, alloc, readers, ring, gate, &mut NoSink::new())
-}
-
-/// Collects the samples of the readers, and feeds the sink.
-pub(crate) fn run_readers<
-    T: Threads + Wait + Copy + Send + 'static,
-    G: Gate + Send + Sync + Drop + 'static,
-    S: Sink,
 >(
     rt: &T,
     alloc: Global,
     readers: Vec<FilteredReader<SourceReader>>,
     ring: RingSize,
     gate: Arc<G>,
-    sink: &mut S,
 ) -> Result<Collected, CollectFault>
     requires { length readers.items ≤ 64 }
-    ensures lists { IfOk result (λ run.
-        Collects (G.may_stop (arc_value gate)) (G.may_go (arc_value gate))
-        (map filtered_rest readers.items) run.lists.items) }
-    ensures whole { ((source index : ℕ) → G.may_stop (arc_value gate) source index → ⊥)
-        → IfOk result (λ run. AreWhole (map filtered_rest readers.items) run.lists.items) }
-    ensures order { IfOk result (λ run.
-        IsInterleaving run.order.items (samples_of run.lists.items)) }
-    ensures fed { IfOk result (λ run. S.taken sink.new ≡ S.taken sink.old ++ interleaved run.order.items
-        (samples_of run.lists.items)) }
+    ensures reads { IfOk result (λ run.
+        ReadsLists (G.may_stop (arc_value gate)) (G.may_go (arc_value gate))
+        (map filtered_rest readers.items) run.lists.items run.order.items) }
     ensures unfinished { (source : ℕ) → IsErrOf result (CollectFault.Unfinished source)
         → source < length readers.items }
-    ensures setting { S.setting sink.new ≡ S.setting sink.old }
 {
-    collect(rt, alloc, readers, ring, gate, sink)
+    collect(rt, alloc, readers, ring, gate, &mut UnkeptSamples::new())
 }

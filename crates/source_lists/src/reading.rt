@@ -1,87 +1,49 @@
-//! Runs of which the lists are wanted.
+//! Runs under a gate.
 
-ghost use Rattle.std.specs.Prelude.{◌≡◌, ◌≤◌, ◌<◌, ◌++◌, ℕ, IfOk, IsErrOf, length, true};
+ghost use Rattle.std.specs.Prelude.{◌≡◌, ◌≤◌, ◌<◌, ℕ, IfOk, IsErrOf, length};
 ghost use Rattle.std.specs.Arc.{arc_value};
-ghost use Rattle.stack_core.specs.Interleaving.{IsInterleaving, interleaved};
-ghost use Rattle.ring_collect.specs.Collection.{Collects, AreWhole};
-ghost use Rattle.merged_stacks.specs.Timeline.{samples_of};
-ghost use Rattle.run_options.specs.Filters.{is_everything};
+ghost use Rattle.source_lists.specs.Lists.{AreLimited};
+ghost use Rattle.source_lists.specs.Runs.{ReadsLists};
 ghost use Rattle.source_lists.specs.Sources.{rests_of};
 
-use crate::reader_runs::{run_readers, run_unseen};
+use crate::reader_runs::{run_filtered, run_rows};
 use crate::source_lists::SourceLists;
 use crate::source_readers::{filtered_readers_of, readers_of};
 use crate::sources::Source;
-use crate::unkept_samples::UnkeptSamples;
-use ring_collect::CollectFault;
+use ring_collect::{CollectFault, Collected};
 use run_options::Options;
-use stack_core::{Gate, Sink};
+use stack_core::{Gate, NoSink};
 use std::alloc::Global;
 use std::sync::{Arc, Wait};
 use std::thread::Threads;
 
-/// The lists of sources of which every sample is kept.
-fn read_rows<T: Threads + Wait + Copy + Send + 'static, G: Gate + Send + Sync + Drop + 'static>(
+/// Collects what the options ask for of the sources: by rows, or, where a filter leaves samples out, by samples.
+fn collect_asked<T: Threads + Wait + Copy + Send + 'static, G: Gate + Send + Sync + Drop + 'static>(
     rt: &T,
     alloc: Global,
     sources: Vec<Source>,
     options: &Options,
     gate: Arc<G>,
-) -> Result<SourceLists, CollectFault>
-    requires few { length sources.items ≤ 64 }
-    requires whole { is_everything options.now.filter ≡ true }
-    ensures lists { IfOk result (λ run.
-        Collects (G.may_stop (arc_value gate)) (G.may_go (arc_value gate))
-        (rests_of options.now sources.items) run.lists) }
-    ensures whole { ((source index : ℕ) → G.may_stop (arc_value gate) source index → ⊥)
-        → IfOk result (λ run. AreWhole (rests_of options.now sources.items) run.lists) }
-    ensures order { IfOk result (λ run. IsInterleaving run.order (samples_of run.lists)) }
+) -> Result<Collected, CollectFault>
+    requires { length sources.items ≤ 64 }
+    ensures reads { IfOk result (λ run.
+        ReadsLists (G.may_stop (arc_value gate)) (G.may_go (arc_value gate))
+        (rests_of options.now sources.items) run.lists.items run.order.items) }
+    ensures limits { IfOk result (λ run. AreLimited run.lists.items) }
     ensures unfinished { (source : ℕ) → IsErrOf result (CollectFault.Unfinished source)
         → source < length sources.items }
 {
-    let readers = readers_of(alloc, sources, options)?;
-    let run = run_unseen(rt, alloc, readers, options.ring, gate)?;
-    Ok(SourceLists::of(run))
-}
-
-/// As `read_sources`, with a sink that takes the samples that the filter keeps, as they arrive. At most 64 sources.
-pub fn read_into<
-    T: Threads + Wait + Copy + Send + 'static,
-    G: Gate + Send + Sync + Drop + 'static,
-    S: Sink,
->(
-    rt: &T,
-    alloc: Global,
-    sources: Vec<Source>,
-    options: &Options,
-    gate: Arc<G>,
-    sink: &mut S,
-) -> Result<SourceLists, CollectFault>
-    requires { length sources.items ≤ 64 }
-
-    // Each list is the samples that the source's bytes stand for: all of them, or the first ones
-    // where the gate stopped the source.
-    ensures collected_lists { IfOk result (λ run.
-        Collects (G.may_stop (arc_value gate)) (G.may_go (arc_value gate))
-        (rests_of options.now sources.items) run.lists) }
-    ensures whole_lists { ((source index : ℕ) → G.may_stop (arc_value gate) source index → ⊥)
-        → IfOk result (λ run. AreWhole (rests_of options.now sources.items) run.lists) }
-    ensures order { IfOk result (λ run. IsInterleaving run.order (samples_of run.lists)) }
-
-    ensures fed { IfOk result (λ run.
-        S.taken sink.new ≡ S.taken sink.old ++ interleaved run.order (samples_of run.lists)) }
-    ensures setting { S.setting sink.new ≡ S.setting sink.old }
-    ensures refused { (source : ℕ) → IsErrOf result (CollectFault.Unfinished source)
-        → source < length sources.items }
-{
-    let readers = filtered_readers_of(alloc, sources, options)?;
-    let run = run_readers(rt, alloc, readers, options.ring, gate, sink)?;
-    Ok(SourceLists::of(run))
+    if options.filter.is_everything() {
+        let readers = readers_of(alloc, sources, options)?;
+        run_rows(rt, alloc, readers, options.ring, gate, &mut NoSink::new())
+    } else {
+        let readers = filtered_readers_of(alloc, sources, options)?;
+        run_filtered(rt, alloc, readers, options.ring, gate)
+    }
 }
 
 /// Reads and collects all sources at the same time, each in a thread of its own and through a ring of its own: the lists and the
-/// order of a run, without a merged tree and without snapshots. A stack that comes again costs twelve bytes, and four for the
-/// order. At most 64 sources.
+/// order of a run. A stack that comes again costs twelve bytes, and four for the order. At most 64 sources.
 ///
 /// The gate is asked before each sample of a source. Where it says Stop, the source's list has the samples before, and the ending
 /// `Stopped`.
@@ -96,22 +58,12 @@ pub fn read_sources<
     gate: Arc<G>,
 ) -> Result<SourceLists, CollectFault>
     requires { length sources.items ≤ 64 }
-
-    // Each list is the samples that the source's bytes stand for: all of them, or the first ones
-    // where the gate stopped the source.
-    ensures collected_lists { IfOk result (λ run.
-        Collects (G.may_stop (arc_value gate)) (G.may_go (arc_value gate))
-        (rests_of options.now sources.items) run.lists) }
-    ensures whole_lists { ((source index : ℕ) → G.may_stop (arc_value gate) source index → ⊥)
-        → IfOk result (λ run. AreWhole (rests_of options.now sources.items) run.lists) }
-    ensures order { IfOk result (λ run. IsInterleaving run.order (samples_of run.lists)) }
+    ensures reads { IfOk result (λ run.
+        ReadsLists (G.may_stop (arc_value gate)) (G.may_go (arc_value gate))
+        (rests_of options.now sources.items) run.lists run.order) }
     ensures refused { (source : ℕ) → IsErrOf result (CollectFault.Unfinished source)
         → source < length sources.items }
 {
-    if options.filter.is_everything() {
-        read_rows(rt, alloc, sources, options, gate)
-    } else {
-        // What is left out is told by samples.
-        read_into(rt, alloc, sources, options, gate, &mut UnkeptSamples::new())
-    }
+    let run = collect_asked(rt, alloc, sources, options, gate)?;
+    Ok(SourceLists::of(run))
 }

@@ -12,7 +12,7 @@ use Rattle.source_lists.proofs.part_runs.read_clean.Goals as goal
 pub returns-in-Some-clause-parts : goal.returns-in-Some-clause-parts
 returns-in-Some-clause-parts g c = λ whole reads.
     let lists = c.in-Ok.run'.lists.items in
-    let all = c.in-Ok.ensures.whole (λ source index stops. stops) in
+    let all = c.in-Ok.ensures.reads.whole (λ source index stops. stops) in
     let clean =
     subst (λ (lists : List ListState). All IsClean (map seen_as_rest lists) × (total_weight (samples_of_parts (map seen_as_rest lists)) ≤ WEIGHT_LIMIT) × (c.in-Some.ignored ≡ ignored_by (map seen_as_rest lists))) c.deref.ensures.value
     c.in-Some.ensures in

@@ -17,14 +17,14 @@ pub of-requires-clause-limits : goal.of-requires-clause-limits
 of-requires-clause-limits g c =
     let options = c.args.options.now in
     let sources = c.args.sources.items in
-    let whole = c.in_ok-run.ensures.whole (λ source index stops. stops) ∙ c.in_ok-readers.ensures.rests in
+    let whole = c.in_ok-run.ensures.reads.whole (λ source index stops. stops) ∙ c.in_ok-readers.ensures.rests in
     limited_lists c.in_ok-run.run'.lists.items (whole_rests_of options sources) whole c.in_ok-readers.ensures.limits (omega (arith, length-map sources (whole_rest options), c.requires))
 
 pub returns-clause-fed : goal.returns-clause-fed
 returns-clause-fed g c =
     let lists = c.in_ok-run.run'.lists.items in
     let pairs = interleaved c.in_ok-run.run'.order.items (samples_of lists) in
-    let whole = c.in_ok-run.ensures.whole (λ source index stops. stops) ∙ c.in_ok-readers.ensures.rests in
+    let whole = c.in_ok-run.ensures.reads.whole (λ source index stops. stops) ∙ c.in_ok-readers.ensures.rests in
     record {
       pairs = pairs;
       gained = c.in_ok-run.ensures.fed;
@@ -41,7 +41,7 @@ pub run_rows-requires-clause-told : goal.run_rows-requires-clause-told
 run_rows-requires-clause-told g c = λ _ _. c.in_ok-readers.ensures.told
 
 pub of-requires-clause-ordered : goal.of-requires-clause-ordered
-of-requires-clause-ordered g c = c.in_ok-run.ensures.order
+of-requires-clause-ordered g c = c.in_ok-run.ensures.reads.ordered
 
 pub returns-in_err-readers-clause-whole : goal.returns-in_err-readers-clause-whole
 returns-in_err-readers-clause-whole g c = IfOk-from_err c.from_residual.result _ c.from_residual.ensures.0
@@ -93,7 +93,7 @@ returns-in_err-run-clause-setting g c = c.run_rows.ensures.setting
 pub returns-clause-whole : goal.returns-clause-whole
 returns-clause-whole g c =
     subst (λ (run : ListsState). AreWhole (whole_rests_of c.args.options.now c.args.sources.items) run.lists) (sym c.of.ensures)
-    (c.in_ok-run.ensures.whole (λ source index stops. stops) ∙ c.in_ok-readers.ensures.rests)
+    (c.in_ok-run.ensures.reads.whole (λ source index stops. stops) ∙ c.in_ok-readers.ensures.rests)
 
 pub returns-clause-in_order : goal.returns-clause-in_order
 returns-clause-in_order g c =

@@ -1,6 +1,6 @@
 use denote.Param.Send.{sendable}
 use Rattle.source_lists.proofs.ReaderThreads.{filter_send, source_send}
-use Rattle.source_lists.proofs.reader_runs.run_readers.Goals as goal
+use Rattle.source_lists.proofs.reader_runs.run_filtered.Goals as goal
 
 -- a reader may go to another thread, since those of both formats may, and a filter
 pub collect-requires-send-R : goal.collect-requires-send-R
