@@ -97,54 +97,8 @@ compared-within boxes xs ys e =
     subst (λ bs. All (λ (compared : ComparedBox). compared.span.start + compared.span.weight ≤ total_weight ys) bs) (sym e)
     (compared-each (λ span. span.start + span.weight ≤ total_weight ys) xs ys (graph-within ys))
 
-pub compared-own : (boxes : List ComparedBox) (xs ys : List Sample) → boxes ≡ compared_boxes_of xs ys → All (λ compared. compared.span.own ≤ compared.span.weight) boxes
-compared-own boxes xs ys e =
-    subst (λ bs. All (λ (compared : ComparedBox). compared.span.own ≤ compared.span.weight) bs) (sym e)
-    (compared-each (λ span. span.own ≤ span.weight) xs ys (chart-own (sorted_by_stack (drawn ys))))
-
 pub compared-positive : (boxes : List ComparedBox) (xs ys : List Sample) → boxes ≡ compared_boxes_of xs ys → 0 < length boxes → 0 < total_weight ys
 compared-positive boxes xs ys e h =
     graph-positive ys (omega (arith, h, ap length e, length-map (compared_boxes_of xs ys) (λ (compared : ComparedBox). compared.span), ap length (compared-spans xs ys)))
 
 -- ---- one row more
-
-pub row_with_weight : (rows : List PairRow) (boxes : List ComparedBox) (start i : ℕ) (row : PairRow) → i < length rows → row ≡ get_or rows i row → 0 < row.total_after →
-    boxes_of_rows 0 rows ≡ boxes ++ boxes_of_rows start (drop i rows) → boxes_of_rows 0 rows ≡ boxes ++ (row_box start row ∷ boxes_of_rows (start + row.own_after) (drop (i + 1) rows))
-row_with_weight rows boxes start i row l is w e =
-    e ∙ (ap (λ rs. boxes ++ boxes_of_rows start rs) (drop_more rows i row l ∙ ap (λ r. r ∷ drop (i + 1) rows) (sym is)) ∙
-    ap (λ b. boxes ++ cond b (row_box start row ∷ boxes_of_rows (start + row.own_after) (drop (i + 1) rows)) (boxes_of_rows start (drop (i + 1) rows))) (lt-ltb 0 row.total_after w))
-
--- a row without weight has no box
-pub row_without_weight : (rows : List PairRow) (boxes : List ComparedBox) (start i : ℕ) (row : PairRow) → i < length rows → row ≡ get_or rows i row → row.total_after ≤ 0 →
-    boxes_of_rows 0 rows ≡ boxes ++ boxes_of_rows start (drop i rows) → boxes_of_rows 0 rows ≡ boxes ++ boxes_of_rows start (drop (i + 1) rows)
-row_without_weight rows boxes start i row l is w e =
-    let none : row.total_after ≡ 0 = omega arith in
-    e ∙ (ap (λ rs. boxes ++ boxes_of_rows start rs) (drop_more rows i row l ∙ ap (λ r. r ∷ drop (i + 1) rows) (sym is)) ∙
-    ap (λ n. boxes ++ cond (ltb 0 n) (row_box start row ∷ boxes_of_rows (start + row.own_after) (drop (i + 1) rows)) (boxes_of_rows start (drop (i + 1) rows))) none)
-
--- a row's box is pushed
-pub row_pushed : (rows : List PairRow) (boxes new : List ComparedBox) (start i : ℕ) (row : PairRow) (box : ComparedBox) → i < length rows → row ≡ get_or rows i row → 0 < row.total_after → box ≡ row_box start row → new ≡ boxes ++ box ∷ [] →
-    boxes_of_rows 0 rows ≡ boxes ++ boxes_of_rows start (drop i rows) → boxes_of_rows 0 rows ≡ new ++ boxes_of_rows (start + row.own_after) (drop (i + 1) rows)
-row_pushed rows boxes new start i row box l is w made pushed e =
-    let more = boxes_of_rows (start + row.own_after) (drop (i + 1) rows) in
-    row_with_weight rows boxes start i row l is w e ∙ (sym (append_assoc boxes (row_box start row ∷ []) more) ∙
-    (ap (λ b. (boxes ++ b ∷ []) ++ more) (sym made) ∙ ap (λ bs. bs ++ more) (sym pushed)))
-
--- the own weights up to a box stay within the total
-pub row_fits : (rows : List PairRow) (boxes more : List ComparedBox) (start : ℕ) (row : PairRow) (xs ys : List Sample) → rows ≡ comparison_of xs ys →
-    boxes_of_rows 0 rows ≡ boxes ++ (row_box start row ∷ more) → start + row.own_after ≤ total_weight ys
-row_fits rows boxes more start row xs ys e parts =
-    let all = boxes_of_rows 0 rows in
-    let box = row_box start row in
-    let is = rows_boxes rows xs ys e in
-    let long : length boxes < length (boxes_of_rows 0 rows) = omega (arith, ap length parts, length-append boxes (row_box start row ∷ more)) in
-    let read : get_or (boxes_of_rows 0 rows) (length boxes) (row_box start row) ≡ row_box start row = ap (λ bs. get_or bs (length boxes) (row_box start row)) parts ∙ get_or_at boxes box more box (length boxes) refl in
-    let within = subst (λ (b : ComparedBox). b.span.start + b.span.weight ≤ total_weight ys) read (compared-within all xs ys is (length boxes) box long) in
-    let own = subst (λ (b : ComparedBox). b.span.own ≤ b.span.weight) read (compared-own all xs ys is (length boxes) box long) in
-    omega (arith, within, own)
-
--- once all rows were taken
-pub boxes_all : (rows : List PairRow) (boxes : List ComparedBox) (start i : ℕ) (xs ys : List Sample) → length rows ≤ i → boxes_of_rows 0 rows ≡ boxes ++ boxes_of_rows start (drop i rows) → rows ≡ comparison_of xs ys → boxes ≡ compared_boxes_of xs ys
-boxes_all rows boxes start i xs ys l parts e =
-    let none : drop i rows ≡ [] = drop_all i rows l in
-    sym (append-nil boxes) ∙ (ap (λ rs. boxes ++ boxes_of_rows start rs) (sym none) ∙ (sym parts ∙ rows_boxes rows xs ys e))

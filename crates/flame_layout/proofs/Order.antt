@@ -44,12 +44,6 @@ Lt-Le a b c h g = ⊎_elim (λ e. subst (λ x. Lt a x) e h) (λ l. Lt-trans a b 
 pub Le-trans : (a b c : Stack) → Le a b → Le b c → Le a c
 Le-trans a b c h g = ⊎_elim (λ e. subst (λ x. Le x c) (sym e) g) (λ l. inr (Lt-Le a b c l g)) h
 
-pub Le-refl : (a : Stack) → Le a a
-Le-refl a = inl refl
-
-pub Le-antisym : (a b : Stack) → Le a b → Le b a → a ≡ b
-Le-antisym a b h g = ⊎_elim (λ e. e) (λ l. absurd (Lt-irrefl a (Lt-Le a b a l g))) h
-
 -- one is below, the same or above
 pub compared : (a b : Stack) → Lt a b ⊎ ((a ≡ b) ⊎ Lt b a)
 compared a b = by (stack_cmp a b) refl

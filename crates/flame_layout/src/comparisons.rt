@@ -1,18 +1,16 @@
 //! The comparison of two profiles.
 
-ghost use Rattle.std.specs.Prelude.{◌≡◌, ◌<◌, ◌≤◌, ◌+◌, ◌^◌, [], List, All, IfOk, OnOk, length, map};
-ghost use Rattle.sample_tables.specs.declared.samples.Sample.{Sample};
+ghost use Rattle.std.specs.Prelude.{◌≡◌, ◌<◌, ◌≤◌, ◌+◌, ◌^◌, [], All, IfOk, OnOk, length, map};
 ghost use Rattle.merged_stacks.specs.Timeline.{total_weight};
 ghost use Rattle.merged_stacks.specs.Paired.{paired_stacks};
 ghost use Rattle.flame_layout.specs.Boxes.{compared_of, span_of};
 ghost use Rattle.flame_layout.specs.Comparison.{comparison_of, compared_boxes_of};
-ghost use Rattle.flame_layout.specs.checked.Paired.{names_now, next_path, paired_boxes, paired_row, paired_rows, row_box};
+ghost use Rattle.flame_layout.specs.checked.Paired.{names_now, next_path, paired_boxes, paired_row, paired_rows};
 
-use crate::boxes::{ComparedBox, DrawnBox, DrawnPair, PairRow, SpanBox};
+use crate::boxes::{DrawnBox, DrawnPair, PairRow};
 use crate::charts::draw_all;
-use crate::flame_boxes::own_boxes;
 use merged_stacks::{PairedSide, PairedStacks, Side};
-use stack_core::{Names, SourceList, Text};
+use stack_core::{Names, SourceList};
 use std::alloc::{AllocError, Global};
 
 /// The comparison of two profiles: a row for each path with weight on either side, the root's
@@ -60,28 +58,8 @@ fn compare_stacks(
     pair_rows(alloc, &left, &right)
 }
 
-/// The boxes of `compared_boxes`, without a row for each path.
-pub fn draw_comparison(
-    alloc: Global,
-    before: &SourceList,
-    after: &SourceList,
-) -> Result<Vec<ComparedBox>, AllocError>
-    requires before { total_weight before.now.samples < 2 ^ 64 }
-    requires after { total_weight after.now.samples < 2 ^ 64 }
-    ensures boxes { IfOk result (λ boxes.
-        boxes.items ≡ compared_boxes_of before.now.samples after.now.samples) }
-    ensures within { IfOk result (λ boxes.
-        All (λ compared. compared.span.start + compared.span.weight ≤ total_weight after.now.samples)
-        boxes.items) }
-    ensures positive { IfOk result (λ boxes. 0 < length boxes.items
-        → 0 < total_weight after.now.samples) }
-{
-    let stacks = PairedStacks::of(alloc, before, after)?;
-    let drawn = draw_paired(alloc, &stacks, before, after)?;
-    own_boxes(alloc, &drawn)
-}
-
-/// The boxes of `draw_comparison`, drawn of the stacks of both profiles, which lend the names.
+/// The boxes of the flame graph of the second profile, each with the first profile's total of its path, listed by start, then depth. They
+/// are drawn of the stacks of both profiles, which lend the names.
 pub fn draw_paired<'a>(
     alloc: Global,
     stacks: &'a PairedStacks,
@@ -188,53 +166,4 @@ fn names(alloc: Global, path: &[&str]) -> Result<Names, AllocError>
         names.push(String::from_str(alloc, name)?)?;
     }
     Ok(Names::of(names))
-}
-
-/// The boxes of the flame graph of the second profile, each with the first profile's total of its
-/// path, from the rows of the comparison alone. They are listed by start, then depth.
-pub fn compared_boxes(alloc: Global, rows: &[PairRow]) -> Result<Vec<ComparedBox>, AllocError>
-    requires rows { (before : List Sample) × (after : List Sample)
-        × (rows.now ≡ comparison_of before after) × (total_weight after < 2 ^ 64) }
-    requires depth { All (λ row. length row.path ≤ 4096) rows.now }
-    ensures boxes { IfOk result (λ boxes. (before after : List Sample)
-        → rows.now ≡ comparison_of before after → boxes.items ≡ compared_boxes_of before after) }
-    ensures within { IfOk result (λ boxes. (before after : List Sample)
-        → rows.now ≡ comparison_of before after
-        → All (λ compared. compared.span.start + compared.span.weight ≤ total_weight after)
-        boxes.items) }
-    ensures positive { IfOk result (λ boxes. (before after : List Sample)
-        → rows.now ≡ comparison_of before after → 0 < length boxes.items
-        → 0 < total_weight after) }
-{
-    let mut boxes = Vec::new(alloc);
-    let mut start: u64 = 0;
-    for row in rows {
-        if row.total_after > 0 {
-            boxes.push(compared_box(alloc, row, start)?)?;
-            start += row.own_after;
-        }
-    }
-    Ok(boxes)
-}
-
-/// The box of a row.
-fn compared_box(alloc: Global, row: &PairRow, start: u64) -> Result<ComparedBox, AllocError>
-    requires { length row.now.path ≤ 4096 }
-    ensures { IfOk result (λ compared. compared ≡ row_box start row.now) }
-{
-    let path = row.path.get();
-    let name = match path.last() {
-        Some(name) => name.as_str(),
-        None => "all",
-    };
-    Ok(ComparedBox {
-        span: SpanBox {
-            depth: path.len() as u32,
-            name: Text::from_str(alloc, name)?,
-            start,
-            weight: row.total_after,
-            own: row.own_after,
-        },
-        before: row.total_before,
-    })
 }

@@ -2,7 +2,7 @@
 
 ghost use Rattle.std.specs.Prelude.{◌≡◌, IfOk, map};
 ghost use Rattle.flame_layout.specs.declared.boxes.SpanBox.{SpanBox as Span};
-ghost use Rattle.flame_layout.specs.Boxes.{compared_of, span_of};
+ghost use Rattle.flame_layout.specs.Boxes.{span_of};
 
 use crate::boxes::{ComparedBox, DrawnBox, DrawnPair, SpanBox};
 use stack_core::Text;
@@ -141,7 +141,7 @@ pub(crate) fn span_boxes(alloc: Global, drawn: &[DrawnBox<'_>]) -> Result<Vec<Sp
     Ok(boxes)
 }
 
-pub(crate) fn span_box(alloc: Global, drawn: &DrawnBox<'_>) -> Result<SpanBox, AllocError>
+fn span_box(alloc: Global, drawn: &DrawnBox<'_>) -> Result<SpanBox, AllocError>
     ensures { IfOk result (λ span. span ≡ span_of drawn.now) }
 {
     Ok(SpanBox {
@@ -151,21 +151,4 @@ pub(crate) fn span_box(alloc: Global, drawn: &DrawnBox<'_>) -> Result<SpanBox, A
         weight: drawn.weight,
         own: drawn.own,
     })
-}
-
-/// The boxes of a comparison with names of their own.
-pub(crate) fn own_boxes(
-    alloc: Global,
-    drawn: &[DrawnPair<'_>],
-) -> Result<Vec<ComparedBox>, AllocError>
-    ensures { IfOk result (λ boxes. boxes.items ≡ map compared_of drawn.now) }
-{
-    let mut boxes = Vec::new(alloc);
-    for one in drawn {
-        boxes.push(ComparedBox {
-            span: span_box(alloc, &one.drawn)?,
-            before: one.total_before,
-        })?;
-    }
-    Ok(boxes)
 }

@@ -17,7 +17,7 @@ mod walks;
 pub use boxes::{ComparedBox, DrawnBox, DrawnPair, PairRow, PlacedBox, SpanBox};
 pub use chart::Chart;
 pub use charts::{chart_boxes, draw_chart};
-pub use comparisons::{compare, compared_boxes, draw_comparison, draw_paired};
+pub use comparisons::{compare, draw_paired};
 pub use flame_boxes::FlameBox;
 pub use graphs::{draw_merged, draw_ordered, draw_tree, graph_boxes, merged_boxes};
 pub use image::{edges, place};

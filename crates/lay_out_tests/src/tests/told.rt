@@ -1,7 +1,7 @@
 //! What is told of sources, as a text.
 
 use super::of_flame_layout::charts::append_compact_chart;
-use super::of_flame_layout::comparisons::{append_compared_boxes, append_row_boxes, append_rows};
+use super::of_flame_layout::comparisons::{append_compared_boxes, append_rows};
 use super::of_flame_layout::drawn::{append_drawn_chart, append_drawn_edges, append_drawn_graph};
 use super::of_flame_layout::merged::append_graph;
 use super::of_flame_layout::trees::append_placed_graph;
@@ -50,9 +50,7 @@ pub enum OfMerged {
 pub enum OfTwo {
     /// The rows of their comparison.
     Rows,
-    /// The boxes of these rows in a picture of this total and this width.
-    RowBoxes(u64, u32),
-    /// The same boxes, drawn without the rows.
+    /// The boxes of their comparison in a picture of this total and this width.
     Boxes(u64, u32),
 }
 
@@ -113,9 +111,6 @@ fn append_of_two(
     assert_light_list(rt, after);
     match told {
         OfTwo::Rows => append_rows(rt.alloc(), text, before, after),
-        OfTwo::RowBoxes(total, width) => {
-            append_row_boxes(rt.alloc(), text, before, after, *total, pixels(rt, *width))
-        }
         OfTwo::Boxes(total, width) => {
             append_compared_boxes(rt.alloc(), text, before, after, *total, pixels(rt, *width))
         }

@@ -6,7 +6,8 @@ use super::append_span;
 use super::drawn::append_edges_in;
 use crate::tests::sources::Lines;
 use crate::tests::told::{OfTwo, Telling, Told, are_told};
-use flame_layout::{ComparedBox, PairRow, Width, compare, compared_boxes, draw_comparison};
+use flame_layout::{DrawnPair, PairRow, Width, compare, draw_paired};
+use merged_stacks::PairedStacks;
 use stack_core::SourceList;
 use std::alloc::{AllocError, Global};
 use std::test::Fail;
@@ -59,45 +60,28 @@ pub(in crate::tests) fn append_rows(
 /// Appends the first profile's total, depth, name, start, weight and own weight of a box, and its edges.
 fn append_compared(
     text: &mut String,
-    compared: &ComparedBox,
+    pair: &DrawnPair<'_>,
     total: u64,
     width: Width,
 ) -> Result<(), AllocError> {
-    write!(text, "{}", compared.before)?;
-    append_span(text, &compared.span)?;
-    append_edges_in(text, &compared.span, total, width)
+    write!(text, "{}", pair.total_before)?;
+    append_span(text, pair)?;
+    append_edges_in(text, pair, total, width)
 }
 
 fn append_all_compared(
     text: &mut String,
-    boxes: &[ComparedBox],
+    boxes: &[DrawnPair<'_>],
     total: u64,
     width: Width,
 ) -> Result<(), AllocError> {
-    for compared in boxes {
-        append_compared(text, compared, total, width)?;
+    for pair in boxes {
+        append_compared(text, pair, total, width)?;
     }
     Ok(())
 }
 
-/// The boxes of the rows of a comparison.
-pub(in crate::tests) fn append_row_boxes(
-    alloc: Global,
-    text: &mut String,
-    before: &SourceList,
-    after: &SourceList,
-    total: u64,
-    width: Width,
-) -> Result<(), AllocError>
-    requires before { total_weight before.now.samples < 2 ^ 64 }
-    requires after { total_weight after.now.samples < 2 ^ 64 }
-{
-    let rows = compare(alloc, before, after)?;
-    let boxes = compared_boxes(alloc, &rows)?;
-    append_all_compared(text, &boxes, total, width)
-}
-
-/// The boxes of a comparison without rows.
+/// The boxes of a comparison.
 pub(in crate::tests) fn append_compared_boxes(
     alloc: Global,
     text: &mut String,
@@ -109,7 +93,8 @@ pub(in crate::tests) fn append_compared_boxes(
     requires before { total_weight before.now.samples < 2 ^ 64 }
     requires after { total_weight after.now.samples < 2 ^ 64 }
 {
-    let boxes = draw_comparison(alloc, before, after)?;
+    let stacks = PairedStacks::of(alloc, before, after)?;
+    let boxes = draw_paired(alloc, &stacks, before, after)?;
     append_all_compared(text, &boxes, total, width)
 }
 
@@ -130,16 +115,9 @@ fn comparison(rt: HostRuntime) -> Result<(), Fail> {
 
 const BOXES: &str = "4(0 all 0 3 0 0 10)3(1 a 0 1 1 0 3)0(1 c 1 2 2 3 10)";
 
-const OF_ROWS: &[Telling<'static>] = &[(Told::Two(OfTwo::RowBoxes(3, 10)), &[OLD, NEW], BOXES)];
+const COMPARED: &[Telling<'static>] = &[(Told::Two(OfTwo::Boxes(3, 10)), &[OLD, NEW], BOXES)];
 
 #[test]
 fn comparison_boxes(rt: HostRuntime) -> Result<(), Fail> {
-    are_told(&rt, OF_ROWS)
-}
-
-const WITHOUT_ROWS: &[Telling<'static>] = &[(Told::Two(OfTwo::Boxes(3, 10)), &[OLD, NEW], BOXES)];
-
-#[test]
-fn comparison_boxes_without_rows(rt: HostRuntime) -> Result<(), Fail> {
-    are_told(&rt, WITHOUT_ROWS)
+    are_told(&rt, COMPARED)
 }
