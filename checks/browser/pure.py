@@ -7,7 +7,7 @@ import shutil
 import subprocess
 import threading
 
-from looking import same
+from looking import contains, same
 
 TOP = pathlib.Path(__file__).resolve().parents[2]
 PURE = pathlib.Path(__file__).resolve().parent / 'pure'
@@ -96,6 +96,27 @@ FAULTS = {
 }
 
 
+# What page/join refuses: a module, what is put behind its first import (or at its end), and what join says of it.
+REFUSED = [
+    ('tip.js', "import { visible as seen } from './names.js';", 'cannot be joined'),
+    ('tip.js', "import * as names from './names.js';", 'cannot be joined'),
+    ('tip.js', "import names from './names.js';", 'cannot be joined'),
+    ('tip.js', "import { visible } from './names.js';", 'visible is imported for nothing'),
+    ('tip.js', "import { hexadecimal } from './names.js';\nconst tip = hexadecimal('a');", 'names.js does not export hexadecimal'),
+    ('tip.js', "import { Viewer } from './viewer.js';\nconst tip = Viewer;", 'modules import each other: viewer.js, tip.js, viewer.js'),
+    ('tip.js', 'const tip = 1;\nconst { left } = tip;', 'cannot be joined: const { left } = tip;'),
+    ('tip.js', 'let shown = 0;', 'cannot be joined: let shown = 0;'),
+    ('tip.js', 'export default Tip;', 'cannot be joined: export default Tip;'),
+    ('tip.js', 'export { Tip };', 'cannot be joined: export { Tip };'),
+    ('tip.js', 'listen();', 'cannot be joined: listen();'),
+    ('tip.js', 'function short(text) {\n    return text;\n}', 'short is declared in svg.js and in tip.js'),
+    ('tip.js', 'const tip = 1; // a comment', 'a comment stands behind something'),
+    ('tip.js', 'const tip = /** @type {any} */ (1);', 'a comment stands behind something'),
+    ('tip.js', 'const tip = `\n`;', 'a text in backquotes has several lines'),
+    ('other.js', 'const other = 1;', 'not joined: other.js'),
+]
+
+
 class Modules(http.server.BaseHTTPRequestHandler):
     """Serves the modules under a number: that of the fault that they have, of those in `faults`."""
     faults = []
@@ -158,6 +179,20 @@ def pure_fails(check):
         assert check.browser.value(FAULT_OF % name) != '', f'{name} passes with {fault}'
 
 
+def joining(check):
+    """page/join refuses what would mean something else in one scope, and takes the modules as they are."""
+    for number, (name, added, wanted) in enumerate([('main.js', '', ''), *REFUSED]):
+        folder = check.folder / f'joined-{number}'
+        shutil.copytree(TOP / 'page', folder)
+        text = (folder / name).read_text(encoding='utf-8') if (folder / name).exists() else ''
+        last = text.rfind("\nimport ")
+        behind = text.index('\n', last + 1) + 1 if last >= 0 else len(text)
+        (folder / name).write_text(f'{text[:behind]}{added}\n{text[behind:]}', encoding='utf-8')
+        answer = subprocess.run([folder / 'join', '--split'], capture_output=True, check=False)
+        contains(answer.stderr.decode(), wanted, f'{name} with {added}')
+        same(answer.returncode, 1 if wanted else 0, f'{name} with {added}: status')
+
+
 def types(check):
     """The types that stand in comments fit, where Debian's node-typescript is installed."""
     if shutil.which('tsc') is None:
@@ -167,4 +202,4 @@ def types(check):
     same(answer.stdout, '', 'what tsc finds')
 
 
-TESTS = [pure, pure_fails, types]
+TESTS = [pure, pure_fails, joining, types]
