@@ -17,7 +17,6 @@ import { isZoomed, viewOf } from './view.js';
 /**
  * @typedef {import('./address.js').Words} Words
  * @typedef {import('./data.js').Page} Page
- * @typedef {import('./drawing.js').Drawing} Drawing
  * @typedef {import('./places.js').Place} Place
  * @typedef {import('./view.js').State} State
  * @typedef {import('./view.js').View} View

@@ -59,7 +59,7 @@ z-index: 3;
 #help dd { margin: 0 0 0.3rem; }
 button, input, select { color: inherit; font: inherit; }
 :focus-visible { outline: 2px solid var(--accent); outline-offset: 1px; }
-main { display: flex; flex: 1; gap: 0.8rem; min-height: 0; }
+main { display: flex; flex: 1; gap: 11px; min-height: 0; }
 #stage { display: flex; flex: 1; flex-direction: column; min-width: 0; }
 #lanes { height: 1.6rem; overflow: hidden; position: relative; }
 #lanes button {
@@ -83,7 +83,14 @@ white-space: nowrap;
 #picture:focus .ring { box-shadow: 0 0 0 1px var(--paper); outline: 3px solid var(--accent); outline-offset: -3px; }
 #status { color: var(--quiet); height: 1.4em; overflow: hidden; text-overflow: ellipsis; unicode-bidi: isolate; white-space: nowrap; }
 #paper { display: none; }
-#lists { border-left: 1px solid var(--line); overflow-y: auto; padding-left: 0.8rem; width: max(27rem, 24vw); }
+#lists {
+border-left: 1px solid var(--line);
+flex: none;
+overflow-y: auto;
+padding-left: 0.8rem;
+width: max(27rem, 24vw);
+width: max(27rem, round(down, 24vw, 1px));
+}
 #functions table { border-collapse: collapse; width: 100%; }
 #functions th { background: var(--paper); padding: 0 0 0 0.6rem; position: sticky; text-align: right; top: 0; white-space: nowrap; }
 #functions td { font-variant-numeric: tabular-nums; padding: 0 0 0 0.6rem; text-align: right; white-space: nowrap; }
