@@ -9,7 +9,7 @@ TOP = pathlib.Path(__file__).resolve().parents[1]
 STRINGS = re.compile(r'''r(#*)".*?"\1|"(?:\\.|[^"\\])*"|'(?:\\.|[^'\\])'|//[^\n]*''', re.S)
 HEAD = re.compile(r'^[ \t]*(?P<visible>pub(?:\([\w ]+\))? )?(?:unsafe )?(?P<kind>struct|enum|trait|impl|fn)\b', re.M)
 CLAUSE = re.compile(r'\s*(?P<kind>requires|ensures)\*?\s*(?P<name>\w*)\s*\{')
-BODY = re.compile(r'\n\s*(?:requires|ensures|ghost)\b|[{;]')
+BODY = re.compile(r'\n\s*(?:requires|ensures|ghost)\b|[{;()\[\]]')
 
 
 @functools.cache
@@ -19,8 +19,12 @@ def below() -> dict[str, list[str]]:
     return {crate[1]: crate[2].split() for line in lines if (crate := re.match(r'(\w+)[^:#]*:(.*)', line))}
 
 
+def is_of_tests(crate: str) -> bool:
+    return crate.endswith('_tests') or crate == 'end_to_end'
+
+
 def libraries() -> list[str]:
-    return [crate for crate in below() if (TOP / 'crates' / crate / 'src' / 'lib.rt').exists()]
+    return [crate for crate in below() if (TOP / 'crates' / crate / 'src' / 'lib.rt').exists() and not is_of_tests(crate)]
 
 
 def behind(text: str, start: int) -> int:
@@ -31,6 +35,16 @@ def behind(text: str, start: int) -> int:
         if depth == 0:
             return start + bracket.end()
     raise ValueError(f'no bracket closes {text[start:start + 40]}')
+
+
+def signed_up_to(text: str, start: int) -> int:
+    """Where the signature of a function ends that begins at `start`."""
+    depth = 0
+    for found in BODY.finditer(text, start):
+        depth += (found[0] in '([') - (found[0] in ')]')
+        if depth == 0 and found[0] not in ')]':
+            return found.start()
+    return len(text)
 
 
 @dataclasses.dataclass
@@ -51,6 +65,8 @@ class Function:
     is_public: bool
     signature: str
     clauses: list[Clause]
+    is_test: bool
+    body: str
 
 
 @dataclasses.dataclass
@@ -68,7 +84,9 @@ class Module:
 
     def __init__(self, crate: str, path: str, text: str) -> None:
         self.crate, self.path = crate, path
-        self.text = STRINGS.sub(lambda found: '' if found[0].startswith('//') else '""', text)
+        # without comments and the content of strings, of which spaces stand in the place
+        self.text = STRINGS.sub(lambda found: re.sub(r'[^\n]', ' ', found[0]), text)
+        self.whole = text
         self.functions: list[Function] = []
         self.types: dict[str, Type] = {}
         self.ghost_uses = re.findall(r'ghost (use [^;]+);', self.text)
@@ -115,18 +133,21 @@ class Module:
             self.read(start + 1, end, name, head['visible'] == 'pub ')
 
     def read_function(self, head: re.Match[str], owner: str, is_open: bool) -> int:
-        signed = BODY.search(self.text, head.end())
         name = re.match(r'\s*(\w+)', self.text[head.end():])
-        if not signed or not name:
-            return head.end()
-        clauses, at = [], signed.start()
+        at = start = signed_up_to(self.text, head.end())
+        if not name:
+            return at
+        clauses = []
         while clause := CLAUSE.match(self.text, at):
             at = behind(self.text, clause.end() - 1)
             clauses.append(Clause(clause['kind'], clause['name'], self.text[clause.end():at - 1]))
+        opening = re.compile(r'\s*\{').match(self.text, at)
+        end = behind(self.text, opening.end() - 1) if opening else at
         is_public = is_open or head['visible'] == 'pub '
-        self.functions.append(Function(owner, name[1], is_public, self.text[head.end():signed.start()], clauses))
-        body = re.compile(r'\s*\{').match(self.text, at)
-        return behind(self.text, body.end() - 1) if body else at
+        is_test = self.text[:head.start()].rstrip().endswith('#[test]')
+        signature = self.text[head.end():start]
+        self.functions.append(Function(owner, name[1], is_public, signature, clauses, is_test, self.whole[at:end]))
+        return end
 
 
 def spread(use: str) -> Iterator[str]:
