@@ -1,7 +1,7 @@
 -- the boxes of a comparison, from its rows
-use Rattle.std.proofs.Common.{◌≡◌, ℕ, ◌+◌, ◌≤◌, ◌<◌, List, [], ◌∷◌, ◌++◌, Bool, true, false, cond, length, map, filter, drop, get_or, ltb, sym, ◌∙◌, ap, subst, refl, arith, All}
+use Rattle.std.proofs.Common.{◌≡◌, ℕ, ◌+◌, ◌≤◌, ◌<◌, List, [], ◌∷◌, ◌++◌, Bool, true, false, cond, length, map, filter, get_or, ltb, sym, ◌∙◌, ap, subst, refl, arith, All}
 use Rattle.std.specs.List.{zip}
-use Rattle.std.proofs.lemmas.List.{drop_more, drop_all, append-nil, append_assoc, get_or_at, get_or-map, length-map, length-append}
+use Rattle.std.proofs.lemmas.List.{get_or-map, length-map}
 use Rattle.std.proofs.lemmas.Slice.Zip.{firsts-zip, seconds-zip, AllZip-long}
 use Rattle.std.proofs.lemmas.Bool.{lt-ltb, ltb-true}
 use Rattle.sample_tables.specs.declared.samples.Sample.{Sample}
@@ -19,7 +19,7 @@ use Rattle.flame_layout.proofs.Ascending.{sorted-ascending}
 use Rattle.flame_layout.proofs.Rising.{same_rising, paths_of-rise, filter-rise, among-filter, passes-filter}
 use Rattle.flame_layout.proofs.InStep.{chart-step}
 use Rattle.flame_layout.proofs.LawProofs.{weighs, stands, graph-visits, joint_total}
-use Rattle.flame_layout.proofs.GraphBoxes.{graph-within, graph-positive, chart-own}
+use Rattle.flame_layout.proofs.GraphBoxes.{graph-within, graph-positive}
 
 -- the boxes of the rows with weight in the second profile, each from the sum of the own weights of those before it
 abbrev pub boxes_of_rows : ℕ → List PairRow → List ComparedBox

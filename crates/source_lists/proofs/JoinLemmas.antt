@@ -1,6 +1,6 @@
 -- Lists that are put together: the items that stand under their numbers.
 use Rattle.std.proofs.Common.{◌≡◌, ◌∙◌, ◌<◌, ◌+◌, ℕ, refl, sym, ap, subst, append_assoc, arith, List, [], ◌∷◌, ◌++◌, length, take, map, get_or, All}
-use Rattle.std.proofs.lemmas.List.{append-nil, get_or-map, get_or_append_left, length-append, length-map, map-append, map_push, take_more}
+use Rattle.std.proofs.lemmas.List.{get_or-map, get_or_append_left, length-append, length-map, map-append, map_push, take_more}
 use Rattle.std.proofs.lemmas.List.Elements.{All-head, All-tail, All-map, All-push, All-weaker}
 use Rattle.std.specs.Prelude.{slice_index}
 use Rattle.sample_tables.specs.Rows.{AreNamed, name_at, named, row_at, row_by, sample_at, stack_at}

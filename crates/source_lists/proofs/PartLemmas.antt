@@ -1,13 +1,8 @@
 -- Lists of the parts of a source, one after another.
-use Rattle.std.proofs.Common.{◌≡◌, ◌∙◌, ◌+◌, ◌*◌, ℕ, zero, suc, ap, arith, List, [], ◌∷◌, ◌++◌, length, replicate, cond, false}
-use Rattle.std.specs.Prelude.{nat_eq}
-use Rattle.std.proofs.lemmas.Bool.Decides.{nat_tests}
+use Rattle.std.proofs.Common.{◌≡◌, ◌∙◌, ◌+◌, ℕ, ap, List, [], ◌∷◌, ◌++◌}
 use Rattle.std.proofs.lemmas.List.{append-nil}
-use Rattle.std.proofs.lemmas.List.Folds.{sum_by-replicate}
 use Rattle.std.proofs.lemmas.List.Sums.{sum_by_push}
 use Rattle.std.proofs.lemmas.Grind.{flat_map-append}
-use Rattle.stack_core.specs.Interleaving.{IsInterleaving, count_of, list_of}
-use Rattle.stack_core.specs.Ledgers.{ListState}
 use Rattle.stack_core.specs.Parts.{ignored_of, samples_of_parts}
 use Rattle.stack_core.specs.Reading.{IsSourceLimited, Rest}
 use Rattle.run_options.specs.declared.choices.Naming.{Naming}
@@ -16,7 +11,6 @@ use Rattle.run_options.specs.declared.formats.Format.{Format}
 use Rattle.run_options.specs.declared.formats.Format.TheVariants.{Folded, Pprof}
 use Rattle.folded_lines.proofs.ReadLemmas.{IsSourceLimited-read_folded}
 use Rattle.profile_tables.proofs.RestLemmas.{pprof-limited}
-use Rattle.merged_stacks.specs.Timeline.{samples_of}
 use Rattle.source_lists.specs.Sources.{read_bytes}
 use Rattle.source_lists.specs.checked.Parts.{ignored_by}
 

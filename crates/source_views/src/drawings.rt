@@ -7,7 +7,7 @@ ghost use Rattle.merged_stacks.specs.Timeline.{samples_of, timeline};
 ghost use Rattle.merging.specs.Sums.{all_samples};
 
 use flame_layout::{Chart, MergedStacks, SpanBox, chart_boxes, merged_boxes};
-use merging::SourceLists;
+use source_lists::SourceLists;
 use std::alloc::{AllocError, Global};
 use std::thread::Threads;
 

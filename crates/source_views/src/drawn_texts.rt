@@ -10,7 +10,7 @@ ghost use Rattle.source_views.specs.Texts.{chart_text, graph_line};
 
 use byte_io::Pieces;
 use flame_layout::{Chart, DrawnBox, Width};
-use merging::SourceLists;
+use source_lists::SourceLists;
 use view_texts::{JsonLine, Scale, drawn_chart_line, drawn_line};
 
 /// The line of the chart.

@@ -6,8 +6,8 @@ ghost use Rattle.merging.specs.Sums.{all_samples};
 
 use crate::drawings::merge;
 use function_sums::{FunctionSum, function_sums};
-use merging::SourceLists;
 use run_options::FunctionOrder;
+use source_lists::SourceLists;
 use std::alloc::{AllocError, Global};
 
 /// The weights of the functions of all samples, the heaviest first.

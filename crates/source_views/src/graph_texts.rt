@@ -12,12 +12,13 @@ ghost use Rattle.source_views.specs.Texts.{chart_text, graph_line, graph_text, s
 ghost use Rattle.source_views.specs.SnapshotPieces.{snapshot_pieces};
 ghost use Rattle.source_views.specs.Filling.{filled};
 
-use byte_io::{Chain, Pieces};
+use byte_io::{Chain, Pieces, append_pieces};
 use call_tree::FrameTable;
-use flame_layout::{SpanBox, Width, graph_boxes};
-use merging::{Gathered, Snapshot, SourceLists};
+use flame_layout::{SpanBox, Width, draw_tree};
+use merging::{Gathered, Snapshot};
+use source_lists::SourceLists;
 use std::alloc::{AllocError, Global};
-use view_texts::{JsonLine, Scale, append_snapshot_line, picture_line};
+use view_texts::{JsonLine, Scale, drawn_snapshot_line, picture_line};
 
 // The line of the chart.
 pub(crate) fn chart_line<'a>(
@@ -135,11 +136,11 @@ fn append_drawn(
         (filled sources snapshot.now.counts) (total_weight samples) width (graph_of samples)) }
     ensures err { OnErr result (out.new.items ≡ out.old.items) }
 {
-    let boxes = graph_boxes(alloc, &snapshot.tree, table)?;
+    let boxes = draw_tree(alloc, &snapshot.tree, table)?;
     let counts = filled_counts(alloc, snapshot.counts.get(), sources)?;
     let total = snapshot.tree.total(&[]) as u64;
-    let scale = Scale { total, width };
-    append_snapshot_line(alloc, out, snapshot.at, &counts, &boxes, &scale)
+    let line = drawn_snapshot_line(snapshot.at, &counts, &boxes, Scale { total, width });
+    append_pieces(alloc, &line, out)
 }
 
 /// A count for each source, 0 where there is none.

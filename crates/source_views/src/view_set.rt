@@ -1,6 +1,6 @@
 //! The views of a run: its lists, their merged tree, flame graph and flame chart.
 
-ghost use Rattle.std.specs.Prelude.{◌≡◌, ◌≤◌, ℕ, All, IfOk};
+ghost use Rattle.std.specs.Prelude.{◌≡◌, ◌≤◌, ℕ, All, IfOk, IfSome};
 ghost use Rattle.stack_core.specs.Interleaving.{IsInterleaving};
 ghost use Rattle.call_tree.specs.FrameTable.{HasDistinctNames};
 ghost use Rattle.merged_stacks.specs.Timeline.{samples_of, timeline};
@@ -14,6 +14,7 @@ use crate::drawings::{draw_chart, draw_graph};
 use call_tree::{CallTree, FrameTable};
 use flame_layout::SpanBox;
 use merging::{Gathered, Snapshot};
+use source_lists::SourceLists;
 use stack_core::SourceList;
 use std::alloc::{AllocError, Global};
 use std::marker::Model;
@@ -51,21 +52,29 @@ impl Model for Views {
 }
 
 impl Views {
-    /// What was gathered, with its boxes.
-    pub(crate) fn of(alloc: Global, gathered: Gathered) -> Result<Views, AllocError>
-        ensures { IfOk result (λ views. views ≡ record {
-          lists = gathered.lists;
-          order = gathered.order;
-          every = gathered.every;
-          names = gathered.names;
-          tree = gathered.tree;
-          snapshots = gathered.snapshots;
-          graph = graph_of (all_samples (samples_of gathered.lists));
-          chart = chart_of (timeline (samples_of gathered.lists));
-        }) }
+    /// What is seen of these lists.
+    pub(crate) fn of(
+        alloc: Global,
+        sources: SourceLists,
+        every: Option<u64>,
+    ) -> Result<Views, AllocError>
+        requires { IfSome every (λ every. 1 ≤ every) }
+        ensures lists { IfOk result (λ views. views.lists ≡ sources.lists) }
+        ensures order { IfOk result (λ views. views.order ≡ sources.order) }
+        ensures every { IfOk result (λ views. views.every ≡ every) }
+        ensures snapshots { IfOk result (λ views.
+            AreSnapshots every views.names sources.order
+            (λ m. snapshot_samples m sources.order (samples_of sources.lists)) views.snapshots) }
+        ensures merged_totals { IfOk result (λ views.
+            HasSumsOf views.names views.tree (all_samples (samples_of sources.lists))) }
+        ensures graph { IfOk result (λ views.
+            views.graph ≡ graph_of (all_samples (samples_of sources.lists))) }
+        ensures chart { IfOk result (λ views.
+            views.chart ≡ chart_of (timeline (samples_of sources.lists))) }
     {
-        let graph = draw_graph(alloc, gathered.sources())?;
-        let chart = draw_chart(alloc, gathered.sources())?;
+        let graph = draw_graph(alloc, &sources)?;
+        let chart = draw_chart(alloc, &sources)?;
+        let gathered = Gathered::of_lists(alloc, sources, every)?;
         Ok(Views {
             gathered,
             graph,

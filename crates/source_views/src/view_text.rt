@@ -8,17 +8,19 @@ ghost use Rattle.command_line.specs.Plans.{IsComparison};
 ghost use Rattle.source_views.specs.Texts.{view_text, pair_boxes_text, top_text};
 ghost use Rattle.stack_core.specs.Interleaving.{list_of};
 
+use crate::drawings::merge;
 use crate::functions::weigh_functions;
 use crate::graph_texts::{chart_line, graph_text};
 use crate::view_set::Views;
 use byte_io::append_pieces;
 use command_line::{TopTable, View};
-use flame_layout::{MergedStacks, Width, compare, compared_boxes};
-use merging::SourceLists;
+use flame_layout::{Width, draw_paired};
+use merged_stacks::PairedStacks;
+use source_lists::SourceLists;
 use stack_core::SourceList;
 use std::alloc::{AllocError, Global};
 use sum_texts::{append_sum_line, append_sum_table};
-use view_texts::{Scale, append_merged_text, append_pair_boxes_line, append_pairs_text};
+use view_texts::{FoldedText, PairedText, Scale, drawn_comparison_line};
 
 /// Appends the whole text of a view: folded lines, two-column lines, lines of JSON, or a table. An `Err` changes
 /// nothing. The two views of a comparison are of exactly two sources.
@@ -50,8 +52,8 @@ fn append_fold(alloc: Global, out: &mut Vec<u8>, sources: &SourceLists) -> Resul
         ++ fold_text (all_samples (samples_of sources.now.lists))) }
     ensures err { OnErr result (out.new.items ≡ out.old.items) }
 {
-    let merged = MergedStacks::of(alloc, sources.lists())?;
-    append_merged_text(out, &merged)
+    let merged = merge(alloc, sources)?;
+    append_pieces(alloc, &FoldedText::of(&merged), out)
 }
 
 // Appends the two-column text of the first two sources.
@@ -63,8 +65,8 @@ fn append_pairs(alloc: Global, out: &mut Vec<u8>, sources: &SourceLists) -> Resu
     ensures err { OnErr result (out.new.items ≡ out.old.items) }
 {
     let lists = sources.lists();
-    let rows = compare(alloc, &lists[0], &lists[1])?;
-    append_pairs_text(alloc, out, &rows)
+    let stacks = PairedStacks::of(alloc, &lists[0], &lists[1])?;
+    append_pieces(alloc, &PairedText::of(&stacks), out)
 }
 
 // Appends the flame graph of the second source, with the weights of the first.
@@ -98,11 +100,11 @@ fn append_compared(
         ++ pair_boxes_text width before.now.samples after.now.samples) }
     ensures err { OnErr result (out.new.items ≡ out.old.items) }
 {
-    let rows = compare(alloc, before, after)?;
-    let boxes = compared_boxes(alloc, &rows)?;
+    let stacks = PairedStacks::of(alloc, before, after)?;
+    let boxes = draw_paired(alloc, &stacks, before, after)?;
     let total = after.total() as u64;
-    let scale = Scale { total, width };
-    append_pair_boxes_line(alloc, out, before.total() as u64, &boxes, &scale)
+    let line = drawn_comparison_line(before.total() as u64, &boxes, Scale { total, width });
+    append_pieces(alloc, &line, out)
 }
 
 // Appends the heaviest functions, as a table or as a line of JSON.

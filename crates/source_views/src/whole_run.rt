@@ -12,9 +12,9 @@ ghost use Rattle.merging.specs.Snapshots.{snapshot_samples, AreSnapshots};
 ghost use Rattle.merging.specs.Sums.{all_samples, HasSumsOf};
 
 use crate::view_set::Views;
-use merging::{Source, gather};
 use ring_collect::CollectFault;
 use run_options::Options;
+use source_lists::{Source, read_sources};
 use stack_core::Gate;
 use std::alloc::Global;
 use std::sync::{Arc, Wait};
@@ -63,9 +63,6 @@ pub fn views<T: Threads + Wait + Copy + Send + 'static, G: Gate + Send + Sync + 
     ensures refused { (source : ℕ) → IsErrOf result (CollectFault.Unfinished source)
         → source < length sources.items }
 {
-    let gathered = gather(rt, alloc, sources, options, gate)?;
-    match Views::of(alloc, gathered) {
-        Ok(views) => Ok(views),
-        Err(_) => Err(CollectFault::OutOfMemory),
-    }
+    let sources = read_sources(rt, alloc, sources, options, gate)?;
+    Ok(Views::of(alloc, sources, options.every)?)
 }

@@ -51,19 +51,6 @@ box_written b opening left o edges o1 l e is =
     ∙ sym (append_assoc (o ++ before) (compact_text (string b.name)) behind)
     ∙ box_parts o opening b
 
--- the parts before the edges, one after another
-pub front_written : (opening depth left own d w : ℕ) (name n o o1 o2 o3 edges : List ℕ) → d ≡ depth → n ≡ name → w ≡ own
-    → o1 ≡ o ++ before_name opening d left
-    → o2 ≡ o1 ++ compact_text (string n)
-    → o3 ≡ o2 ++ (own_text w ++ edges)
-    → o3 ≡ o ++ (before_name opening depth left ++ (compact_text (string name) ++ (own_text own ++ edges)))
-front_written opening depth left own d w name n o o1 o2 o3 edges hd hn hw e1 e2 e3 =
-    e3
-    ∙ ap (λ t. t ++ (own_text w ++ edges)) (e2 ∙ ap (λ t. t ++ compact_text (string n)) e1)
-    ∙ append_assoc (o ++ before_name opening d left) (compact_text (string n)) (own_text w ++ edges)
-    ∙ append_assoc o (before_name opening d left) (compact_text (string n) ++ (own_text w ++ edges))
-    ∙ (λ i. o ++ (before_name opening (hd i) left ++ (compact_text (string (hn i)) ++ (own_text (hw i) ++ edges))))
-
 -- ---- what is put into a buffer from its end to its front
 
 -- the parts before the edges, from the last to the first

@@ -1,5 +1,4 @@
 pub mod BoxLists
-pub mod FoldRows
 pub mod Fronts
 pub mod JsonBytes
 pub mod JsonFrames
@@ -15,7 +14,6 @@ pub mod StackPairs
 pub mod SumViews
 pub mod TextPieces
 pub mod TypeLines
-pub mod VisitedLines
 mod WorkedFold
 mod WorkedLines
 mod WorkedParts

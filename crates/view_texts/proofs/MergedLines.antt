@@ -1,13 +1,11 @@
 -- The lines of merged stacks, name by name and stack by stack.
 use Rattle.std.proofs.Common.{◌≡◌, ℕ, zero, suc, ◌+◌, ◌<◌, List, [], ◌∷◌, ◌++◌, ltb, length, take, get_or, All, T, append_assoc, refl, sym, ap, ◌∙◌, arith}
 use Rattle.std.specs.List.{join_with_byte, AllByRecursion}
-use Rattle.std.proofs.lemmas.List.{take_more, length-take-le, map_more, append-nil, take-take, take_at, length-append}
-use Rattle.std.proofs.lemmas.Grind.{flat_map-append}
+use Rattle.std.proofs.lemmas.List.{take_more, length-take-le, take-take, take_at, length-append}
 use Rattle.std.proofs.lemmas.List.Elements.{recursion_from_All}
 use Rattle.std.proofs.lemmas.Bool.{lt-ltb}
 use Rattle.sample_tables.specs.declared.samples.Sample.{Sample}
 use Rattle.std.specs.Io.{StartsWith}
-use Rattle.sample_tables.specs.Rows.{sample_at}
 use Rattle.folded_lines.specs.Writing.{column_of, line_of, pair_line_of}
 use Rattle.folded_lines.proofs.JoinLemmas.{join_with_byte-push}
 use Rattle.merged_stacks.specs.Timeline.{Stack}
@@ -55,15 +53,6 @@ pair_line_written shown stack one other before after start named first second ne
 
 abbrev line : Weighed → List ℕ
 line row = line_of row.0 row.1
-
-abbrev no_sample : Sample
-no_sample = record { stack = []; weight = 0 }
-
--- one line more
-pub lines_more : (stacks : List Sample) (i : ℕ) → i < length stacks → lines_of (all_weighed (take (i + 1) stacks)) ≡ lines_of (all_weighed (take i stacks)) ++ line_of (sample_at stacks i).stack (sample_at stacks i).weight
-lines_more stacks i lt =
-    ap lines_of (map_more (λ (sample : Sample). (sample.stack, sample.weight)) stacks i no_sample lt) ∙ flat_map-append line (all_weighed (take i stacks)) (((sample_at stacks i).stack, (sample_at stacks i).weight) ∷ [])
-    ∙ ap (λ text. lines_of (all_weighed (take i stacks)) ++ text) (append-nil (line_of (sample_at stacks i).stack (sample_at stacks i).weight))
 
 -- the lines of merged stacks are the text of all samples that have their sums
 pub merged_text : (stacks samples : List Sample) → T (are_in_order (all_weighed stacks)) → All (λ sample. 0 < sample.weight) stacks → SameOwn samples stacks → lines_of (all_weighed stacks) ≡ fold_text samples

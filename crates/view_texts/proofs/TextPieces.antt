@@ -1,5 +1,5 @@
 -- The pieces of the texts one after another, and each by itself.
-use Rattle.std.proofs.Common.{◌≡◌, ℕ, zero, suc, ◌+◌, ◌-◌, ◌<◌, ◌≤◌, List, [], ◌∷◌, ◌++◌, Bool, true, false, ltb, length, get_or, take, drop, cond, map, refl, sym, ap, ◌∙◌, arith, append_assoc, append-nil}
+use Rattle.std.proofs.Common.{◌≡◌, ℕ, zero, suc, ◌+◌, ◌-◌, ◌<◌, ◌≤◌, List, [], ◌∷◌, ◌++◌, Bool, true, false, ltb, length, get_or, take, drop, map, refl, sym, ap, ◌∙◌, arith, append_assoc, append-nil}
 use Rattle.std.proofs.lemmas.List.{get_or-map, length-map, get_or_append_left, get_or-append_right, length-append, take-append-le, drop-append-le, length-drop}
 use Rattle.std.proofs.lemmas.List.Folds.{concat-append}
 use Rattle.std.proofs.lemmas.Bool.{lt-ltb}
@@ -11,10 +11,8 @@ use Rattle.serde_json.specs.Written.{comma_if, compact_text}
 use Rattle.folded_lines.specs.Writing.{line_of, pair_line_of}
 use Rattle.merged_stacks.specs.Merged.{weighed}
 use Rattle.merged_stacks.specs.Paired.{PairedStack, pair_at}
-use Rattle.flame_layout.specs.declared.boxes.PairRow.{PairRow}
 use Rattle.view_texts.specs.Fold.{lines_of}
-use Rattle.view_texts.specs.Pairs.{has_own, pairs_of, pair_lines_of}
-use Rattle.view_texts.specs.Pieces.{stack_lines, pair_lines, row_line, row_lines, value_pieces, line_pieces}
+use Rattle.view_texts.specs.Pieces.{stack_lines, pair_lines, value_pieces, line_pieces}
 use Rattle.view_texts.proofs.JsonLists.{values_text}
 
 -- ---- merged stacks
@@ -36,23 +34,6 @@ pair_line_at pair = pair_line_of pair.stack pair.before pair.after
 
 pub pair_line-at : (stacks : List PairedStack) (at : ℕ) → at < length stacks → get_or (pair_lines stacks) at [] ≡ pair_line_at (pair_at stacks at)
 pair_line-at stacks at within = get_or-map pair_line_at stacks at (record { stack = []; before = 0; after = 0 }) [] within
-
--- ---- rows of a comparison
-
-pub row_lines-text : (rows : List PairRow) → concat (row_lines rows) ≡ pair_lines_of (pairs_of rows)
-row_lines-text [] = refl
-row_lines-text (row ∷ rows) = by (has_own row) (row_lines-text rows)
-  where
-    line : List ℕ
-    line = pair_line_of row.path row.own_before row.own_after
-
-    by : (own : Bool) → concat (row_lines rows) ≡ pair_lines_of (pairs_of rows)
-        → cond own line [] ++ concat (row_lines rows) ≡ pair_lines_of (cond own (row ∷ pairs_of rows) (pairs_of rows))
-    by true rest = ap (λ text. line ++ text) rest
-    by false rest = rest
-
-pub row_line-at : (rows : List PairRow) (at : ℕ) (row : PairRow) → at < length rows → row ≡ get_or rows at row → get_or (row_lines rows) at [] ≡ row_line row
-row_line-at rows at row within is = get_or-map row_line rows at row [] within ∙ ap row_line (sym is)
 
 -- ---- a line of JSON
 

@@ -1,12 +1,10 @@
 -- The pieces of the texts, of which each text is made.
-use Rattle.std.specs.Prelude.{ℕ, Bool, true, false, List, [], ◌∷◌, ◌++◌, map, if◌then◌else◌}
+use Rattle.std.specs.Prelude.{ℕ, Bool, true, false, List, [], ◌∷◌, ◌++◌, map}
 use Rattle.serde_json.specs.Data.{Data}
 use Rattle.serde_json.specs.Written.{comma_if, compact_text}
 use Rattle.sample_tables.specs.declared.samples.Sample.{Sample}
 use Rattle.folded_lines.specs.Writing.{line_of, pair_line_of}
-use Rattle.flame_layout.specs.declared.boxes.PairRow.{PairRow}
 use Rattle.merged_stacks.specs.Paired.{PairedStack}
-use Rattle.view_texts.specs.Pairs.{has_own}
 
 -- a line for each stack
 abbrev pub stack_lines : List Sample → List (List ℕ)
@@ -15,13 +13,6 @@ stack_lines stacks = map (λ sample. line_of sample.stack sample.weight) stacks
 -- a line with both sums for each stack of two lists
 abbrev pub pair_lines : List PairedStack → List (List ℕ)
 pair_lines stacks = map (λ pair. pair_line_of pair.stack pair.before pair.after) stacks
-
--- the line of a row, or nothing where its path has no own weight in either profile
-abbrev pub row_line : PairRow → List ℕ
-row_line row = if has_own row then pair_line_of row.path row.own_before row.own_after else []
-
-abbrev pub row_lines : List PairRow → List (List ℕ)
-row_lines rows = map row_line rows
 
 -- each value of a list, after a comma where another stands before it
 abbrev pub value_pieces : Bool → List Data → List (List ℕ)

@@ -3,4 +3,3 @@ pub mod BoxParts
 pub mod BoxBuffers
 pub mod Joined
 pub mod PlainTexts
-pub mod Visited

@@ -9,8 +9,7 @@ ghost use Rattle.view_texts.specs.Json.{box_data, compared_box_data};
 
 use crate::box_writers::BoxWriter;
 use crate::json_pieces::append_number;
-use crate::scales::Scale;
-use flame_layout::{ComparedBox, DrawnBox, DrawnPair, FlameBox, SpanBox};
+use flame_layout::{DrawnBox, DrawnPair, FlameBox, SpanBox};
 use std::alloc::{AllocError, Global};
 
 /// A box of a line of JSON, which is an object there.
@@ -34,17 +33,6 @@ pub trait JsonBox {
             ≡ text.old.items ++ compact_text (object_of writer.old.total writer.old.width self.now)) }
         ensures front { StartsWith text.new.items text.old.items }
         ensures scale { writer.new ≡ writer.old };
-
-    /// Appends the object. An `Err` may leave a part of it.
-    fn append(&self, alloc: Global, text: &mut Vec<u8>, scale: &Scale) -> Result<(), AllocError>
-        requires within { end self.now ≤ scale.now.total }
-        requires positive { 0 < scale.now.total }
-        ensures ok { OnOk result (text.new.items
-            ≡ text.old.items ++ compact_text (object_of scale.now.total scale.now.width self.now)) }
-        ensures front { StartsWith text.new.items text.old.items }
-    {
-        self.append_with(alloc, text, &mut BoxWriter::of(*scale))
-    }
 }
 
 impl JsonBox for SpanBox {
@@ -74,21 +62,6 @@ impl<'a> JsonBox for DrawnBox<'a> {
         writer: &mut BoxWriter,
     ) -> Result<(), AllocError> {
         writer.append_members(alloc, text, b'{', self)
-    }
-}
-
-impl JsonBox for ComparedBox {
-    ghost object_of = { compared_box_data };
-
-    ghost end = { λ compared. compared.span.start + compared.span.weight };
-
-    fn append_with(
-        &self,
-        alloc: Global,
-        text: &mut Vec<u8>,
-        writer: &mut BoxWriter,
-    ) -> Result<(), AllocError> {
-        append_compared(alloc, text, self.before, &self.span, writer)
     }
 }
 

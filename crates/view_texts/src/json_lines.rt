@@ -1,7 +1,7 @@
 //! The JSON lines of the views. A line is written a box at a time, since one value for the whole line
 //! would take many times the memory of its text.
 
-ghost use Rattle.std.specs.Prelude.{◌≡◌, ◌+◌, ◌<◌, ◌≤◌, ◌^◌, ◌++◌, All, length, map, OnOk, OnErr};
+ghost use Rattle.std.specs.Prelude.{◌≡◌, ◌+◌, ◌<◌, ◌≤◌, ◌^◌, All, length, map};
 ghost use Rattle.std.specs.List.{concat};
 ghost use Rattle.flame_layout.specs.Boxes.{compared_of, span_of};
 ghost use Rattle.view_texts.specs.Json.{boxes_line, snapshot_line, pair_boxes_line};
@@ -9,11 +9,10 @@ ghost use Rattle.view_texts.specs.Json.{boxes_line, snapshot_line, pair_boxes_li
 use crate::json_line::JsonLine;
 use crate::line_kinds::LineKind;
 use crate::scales::Scale;
-use byte_io::{Pieces, append_pieces};
-use flame_layout::{Chart, ComparedBox, DrawnBox, DrawnPair, SpanBox};
-use std::alloc::{AllocError, Global};
+use byte_io::Pieces;
+use flame_layout::{Chart, DrawnBox, DrawnPair, SpanBox};
 
-/// The line of a picture, as `append_boxes_line` appends it.
+/// The line of a picture: the name of its view, as `graph` or `chart`, and its boxes in their order, in an image of that scale.
 pub fn picture_line<'a>(
     view: &'a str,
     boxes: &'a [SpanBox],
@@ -68,25 +67,8 @@ pub fn drawn_chart_line<'a, 'n>(
     JsonLine::of(LineKind::Picture, view, &[], chart, scale)
 }
 
-/// The line of a comparison, as `append_pair_boxes_line` appends it.
-pub fn comparison_line<'a>(
-    before: u64,
-    boxes: &'a [ComparedBox],
-    scale: Scale,
-) -> JsonLine<'a, &'a [ComparedBox]>
-    requires within { All (λ compared.
-        compared.span.start + compared.span.weight ≤ scale.total) boxes.now }
-    requires positive { 0 < length boxes.now → 0 < scale.total }
-    ensures text { concat (⟦<JsonLine<'a, &'a [ComparedBox]> as Pieces>⟧.pieces result)
-        ≡ pair_boxes_line before scale.total scale.width boxes.now }
-    ensures few { length (⟦<JsonLine<'a, &'a [ComparedBox]> as Pieces>⟧.pieces result) < 2 ^ 64 }
-{
-    let _count = boxes.len();
-    let kind = LineKind::Comparison { before };
-    JsonLine::of(kind, "compare", &[], boxes, scale)
-}
-
-/// The line of `comparison_line`, of boxes whose names are lent.
+/// The line of a comparison: the total of the profile before, and the boxes of the profile after in an image of that scale, each with the
+/// total of its path before. The names are lent.
 pub fn drawn_comparison_line<'a>(
     before: u64,
     boxes: &'a [DrawnPair<'a>],
@@ -108,7 +90,8 @@ pub fn drawn_comparison_line<'a>(
     )
 }
 
-/// The line of a snapshot, as `append_snapshot_line` appends it, of boxes whose names are lent.
+/// The line of a snapshot: after how many samples it was made, how many of them each source has, and its boxes in an image of that scale.
+/// The names are lent.
 pub fn drawn_snapshot_line<'a>(
     at: u64,
     counts: &'a [u64],
@@ -123,66 +106,4 @@ pub fn drawn_snapshot_line<'a>(
 {
     let _count = boxes.len();
     JsonLine::of(LineKind::Snapshot { at }, "snapshot", counts, boxes, scale)
-}
-
-/// Appends the line of a picture: the name of its view, as `graph` or `chart`, and its boxes in their
-/// order, in an image of that scale. An `Err` changes nothing.
-pub fn append_boxes_line(
-    alloc: Global,
-    out: &mut Vec<u8>,
-    view: &str,
-    boxes: &[SpanBox],
-    scale: &Scale,
-) -> Result<(), AllocError>
-    requires within { All (λ span. span.start + span.weight ≤ scale.now.total) boxes.now }
-    requires positive { 0 < length boxes.now → 0 < scale.now.total }
-    ensures ok { OnOk result
-        (out.new.items ≡ out.old.items
-        ++ boxes_line view.now scale.now.total scale.now.width boxes.now) }
-    ensures err { OnErr result (out.new.items ≡ out.old.items) }
-{
-    append_pieces(alloc, &picture_line(view, boxes, *scale), out)
-}
-
-/// Appends the line of a snapshot: after how many samples it was made, how many of them each source
-/// has, and its boxes in an image of that scale. An `Err` changes nothing.
-pub fn append_snapshot_line(
-    alloc: Global,
-    out: &mut Vec<u8>,
-    at: u64,
-    counts: &[u64],
-    boxes: &[SpanBox],
-    scale: &Scale,
-) -> Result<(), AllocError>
-    requires within { All (λ span. span.start + span.weight ≤ scale.now.total) boxes.now }
-    requires positive { 0 < length boxes.now → 0 < scale.now.total }
-    ensures ok { OnOk result
-        (out.new.items ≡ out.old.items
-        ++ snapshot_line at counts.now scale.now.total scale.now.width boxes.now) }
-    ensures err { OnErr result (out.new.items ≡ out.old.items) }
-{
-    let _count = boxes.len();
-    let kind = LineKind::Snapshot { at };
-    let line = JsonLine::of(kind, "snapshot", counts, boxes, *scale);
-    append_pieces(alloc, &line, out)
-}
-
-/// Appends the line of a comparison: the total of the profile before, and the boxes of the profile
-/// after in an image of that scale, each with the total of its path before. An `Err` changes nothing.
-pub fn append_pair_boxes_line(
-    alloc: Global,
-    out: &mut Vec<u8>,
-    before: u64,
-    boxes: &[ComparedBox],
-    scale: &Scale,
-) -> Result<(), AllocError>
-    requires within { All (λ compared.
-        compared.span.start + compared.span.weight ≤ scale.now.total) boxes.now }
-    requires positive { 0 < length boxes.now → 0 < scale.now.total }
-    ensures ok { OnOk result
-        (out.new.items ≡ out.old.items
-        ++ pair_boxes_line before scale.now.total scale.now.width boxes.now) }
-    ensures err { OnErr result (out.new.items ≡ out.old.items) }
-{
-    append_pieces(alloc, &comparison_line(before, boxes, *scale), out)
 }

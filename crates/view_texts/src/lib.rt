@@ -1,11 +1,10 @@
-//! The texts of the views: folded lines of a merged tree, two-column lines of a comparison, and lines of
+//! The texts of the views: folded lines of merged stacks, two-column lines of a comparison, and lines of
 //! JSON; and the sample types of a profile.
 #![tactic(auto)]
 
 mod box_buffers;
 mod box_lists;
 mod box_writers;
-mod fold_lines;
 mod json_boxes;
 mod json_line;
 mod json_lines;
@@ -13,7 +12,6 @@ mod json_pieces;
 pub mod laws;
 mod line_kinds;
 mod merged_lines;
-mod pair_lines;
 mod plain_texts;
 mod put_pieces;
 mod scales;
@@ -23,15 +21,12 @@ mod type_lines;
 pub use box_lists::JsonBoxes;
 pub use box_writers::BoxWriter;
 pub use byte_io::truncate_on_error;
-pub use fold_lines::append_fold_text;
 pub use json_boxes::JsonBox;
 pub use json_line::JsonLine;
 pub use json_lines::{
-    append_boxes_line, append_pair_boxes_line, append_snapshot_line, comparison_line,
     drawn_chart_line, drawn_comparison_line, drawn_line, drawn_snapshot_line, picture_line,
 };
-pub use merged_lines::{FoldedText, append_merged_text};
-pub use pair_lines::{PairsText, append_pairs_text};
+pub use merged_lines::FoldedText;
 pub use scales::Scale;
 pub use stack_pairs::PairedText;
-pub use type_lines::{TypesText, append_types_text};
+pub use type_lines::TypesText;

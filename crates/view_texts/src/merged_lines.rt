@@ -1,5 +1,5 @@
 //! Folded text of merged stacks.
-ghost use Rattle.std.specs.Prelude.{◌≡◌, ◌++◌, ◌<◌, ◌^◌, List, length, OnOk, OnErr};
+ghost use Rattle.std.specs.Prelude.{◌≡◌, ◌++◌, ◌<◌, ◌^◌, List, length, OnOk};
 ghost use Rattle.std.specs.Io.{StartsWith};
 ghost use Rattle.std.specs.List.{concat, join_with_byte};
 ghost use Rattle.sample_tables.specs.declared.samples.Sample.{Sample};
@@ -10,13 +10,14 @@ ghost use Rattle.view_texts.specs.Fold.{fold_text};
 ghost use Rattle.view_texts.specs.Pieces.{stack_lines};
 ghost use Rattle.view_texts.specs.checked.Joined.{joint};
 
-use byte_io::{Pieces, truncate_on_error};
+use byte_io::Pieces;
 use flame_layout::MergedStacks;
 use itoa::Buffer;
 use merged_stacks::StackRows;
 use std::alloc::{AllocError, Global};
 
-/// The folded text of merged stacks, as `append_merged_text` appends it: a line is a piece.
+/// The folded text of merged stacks: a line for each, in order, with its sum. It is that of every list of samples whose weights, summed
+/// up by stack, are the merged ones. A line is a piece.
 #[derive(Clone, Copy)]
 pub struct FoldedText<'a> {
     pub merged: &'a MergedStacks,
@@ -45,31 +46,6 @@ impl Pieces for FoldedText<'_> {
     fn append_piece(&self, _alloc: Global, at: usize, out: &mut Vec<u8>) -> Result<(), AllocError> {
         append_stack(out, self.merged, at)
     }
-}
-
-/// Appends the folded text of merged stacks: a line for each, in order, with its sum. It is that of
-/// every list of samples whose weights, summed up by stack, are the merged ones. An `Err` changes
-/// nothing.
-pub fn append_merged_text(out: &mut Vec<u8>, merged: &MergedStacks) -> Result<(), AllocError>
-    ensures ok { OnOk result ((samples : List Sample) → SameOwn samples merged.now
-        → out.new.items ≡ out.old.items ++ fold_text samples) }
-    ensures err { OnErr result (out.new.items ≡ out.old.items) }
-{
-    let before = out.len();
-    let answer = append_stacks(out, merged);
-    truncate_on_error(out, before, answer)
-}
-
-// Appends the lines of the stacks, or of those at the front.
-fn append_stacks(out: &mut Vec<u8>, merged: &MergedStacks) -> Result<(), AllocError>
-    ensures ok { OnOk result ((samples : List Sample) → SameOwn samples merged.now
-        → out.new.items ≡ out.old.items ++ fold_text samples) }
-    ensures front { StartsWith out.new.items out.old.items }
-{
-    for at in 0..merged.len() {
-        append_stack(out, merged, at)?;
-    }
-    Ok(())
 }
 
 // Appends the line of a stack, or its front.

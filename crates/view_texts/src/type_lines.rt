@@ -1,26 +1,14 @@
 //! The sample types of a profile, a line each.
-ghost use Rattle.std.specs.Prelude.{◌≡◌, [], ◌∷◌, ◌++◌, ◌<◌, ◌^◌, OnOk, OnErr, length, slice_index_or};
+ghost use Rattle.std.specs.Prelude.{◌≡◌, [], ◌∷◌, ◌++◌, ◌<◌, ◌^◌, OnOk, length, slice_index_or};
 ghost use Rattle.std.specs.Io.{StartsWith};
-ghost use Rattle.view_texts.specs.Types.{is_at, lines_from, mark, type_line, type_lines, types_text};
+ghost use Rattle.view_texts.specs.Types.{is_at, lines_from, mark, type_line, type_lines};
 
-use byte_io::{Pieces, append_pieces};
+use byte_io::Pieces;
 use profile_messages::{SampleType, SampleTypes};
 use std::alloc::{AllocError, Global};
 
-/// Appends a line for each sample type, in order: its name, its unit, and `default` where it is the
-/// default one, with tabs between them. An `Err` changes nothing.
-pub fn append_types_text(
-    alloc: Global,
-    out: &mut Vec<u8>,
-    types: &SampleTypes,
-) -> Result<(), AllocError>
-    ensures ok { OnOk result (out.new.items ≡ out.old.items ++ types_text types.now) }
-    ensures err { OnErr result (out.new.items ≡ out.old.items) }
-{
-    append_pieces(alloc, &TypesText::of(types), out)
-}
-
-/// The text of sample types, as `append_types_text` appends it: a line is a piece.
+/// The text of sample types, a line for each, in order: its name, its unit, and `default` where it is the default one, with tabs
+/// between them. A line is a piece.
 #[derive(Clone, Copy)]
 pub struct TypesText<'a> {
     pub types: &'a SampleTypes,

@@ -7,5 +7,4 @@ mod fold;
 mod joined;
 mod lines;
 mod sources;
-mod trees;
 mod types;

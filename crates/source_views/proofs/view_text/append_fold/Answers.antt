@@ -1,17 +1,14 @@
-use Rattle.std.proofs.Common.{◌∙◌, ap, subst, sym, List}
+use Rattle.std.proofs.Common.{◌++◌, ◌∙◌, ap, List}
+use Rattle.std.specs.List.{concat}
 use Rattle.std.proofs.lemmas.Result.{on_ok_weaker}
-use Rattle.stack_core.specs.Ledgers.{ListState}
 use Rattle.sample_tables.specs.declared.samples.Sample.{Sample}
-use Rattle.merged_stacks.specs.Merged.{all_samples, merged_samples}
-use Rattle.flame_layout.specs.Paths.{SameOwn}
+use Rattle.merged_stacks.specs.Merged.{all_samples}
 use Rattle.merged_stacks.specs.Timeline.{samples_of}
-use Rattle.flame_layout.proofs.MergedSums.{merged_own}
+use Rattle.view_texts.specs.Pieces.{stack_lines}
 use Rattle.source_views.proofs.view_text.append_fold.Goals as goal
 
 pub returns-clause-ok : goal.returns-clause-ok
 returns-clause-ok c =
     let samples = all_samples (samples_of c.args.sources.now.lists) in
-    let merged = c.in_ok-merged.ensures ∙ ap (λ (lists : List ListState). merged_samples (all_samples (samples_of lists))) c.lists.ensures.lists in
-    on_ok_weaker c.append_merged_text.result
-    (λ appended. appended samples (subst (λ (m : List Sample). SameOwn samples m) (sym merged) (merged_own samples)))
-    c.append_merged_text.ensures.ok
+    let text = ap (λ (stacks : List Sample). concat (stack_lines stacks)) c.of.ensures.stacks ∙ c.of.ensures.text samples c.in_ok-merged.ensures in
+    on_ok_weaker c.append_pieces.result (λ appended. appended ∙ ap (λ text. c.args.out.now.items ++ text) text) c.append_pieces.ensures.ok

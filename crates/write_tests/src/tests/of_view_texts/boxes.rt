@@ -2,7 +2,7 @@
 
 ghost use Rattle.std.specs.Prelude.{◌+◌, ◌<◌, ◌≤◌, All, IsTrue, length};
 
-use flame_layout::{ComparedBox, FlameBox, SpanBox};
+use flame_layout::{DrawnBox, DrawnPair, FlameBox, SpanBox};
 use stack_core::Text;
 use std::alloc::{AllocError, Global};
 
@@ -31,18 +31,36 @@ pub(super) fn add_boxes(
     Ok(())
 }
 
-fn pair_of(alloc: Global, row: &Row<'_>, before: u64) -> Result<ComparedBox, AllocError> {
-    let span = span_of(alloc, row)?;
-    Ok(ComparedBox { span, before })
+fn drawn_of<'a>(row: &Row<'a>) -> DrawnBox<'a> {
+    let (depth, name, start, weight, own) = row;
+    DrawnBox {
+        depth: *depth,
+        name,
+        start: *start,
+        weight: *weight,
+        own: *own,
+    }
 }
 
-pub(super) fn add_pairs(
-    alloc: Global,
-    boxes: &mut Vec<ComparedBox>,
-    rows: &[(Row<'_>, u64)],
+pub(super) fn add_drawn<'a>(
+    boxes: &mut Vec<DrawnBox<'a>>,
+    rows: &[Row<'a>],
+) -> Result<(), AllocError> {
+    for row in rows {
+        boxes.push(drawn_of(row))?;
+    }
+    Ok(())
+}
+
+pub(super) fn add_pairs<'a>(
+    boxes: &mut Vec<DrawnPair<'a>>,
+    rows: &[(Row<'a>, u64)],
 ) -> Result<(), AllocError> {
     for (row, before) in rows {
-        boxes.push(pair_of(alloc, row, *before)?)?;
+        boxes.push(DrawnPair {
+            drawn: drawn_of(row),
+            total_before: *before,
+        })?;
     }
     Ok(())
 }

@@ -9,7 +9,7 @@ const ONE: Rows<'static> = &[(&["a"], 1), (&["c"], 0)];
 
 const OTHER: Rows<'static> = &[(&["b"], 2)];
 
-const CHART: &Written<'static> = &Written::Both(Joined::Chart, &[ONE, OTHER]);
+const CHART: &Written<'static> = &(Joined::Chart, &[ONE, OTHER]);
 
 #[test]
 fn line_of_a_chart(rt: HostRuntime) -> Result<(), Fail> {
@@ -24,7 +24,7 @@ fn line_of_a_chart(rt: HostRuntime) -> Result<(), Fail> {
     makes(&rt, CHART, line)
 }
 
-const NO_CHART: &Written<'static> = &Written::Both(Joined::Chart, &[&[], &[]]);
+const NO_CHART: &Written<'static> = &(Joined::Chart, &[&[], &[]]);
 
 #[test]
 fn line_of_no_chart(rt: HostRuntime) -> Result<(), Fail> {

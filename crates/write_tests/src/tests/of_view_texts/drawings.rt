@@ -1,13 +1,11 @@
 //! Lines of pictures.
 
-use super::boxes::{Row, add_boxes, add_pairs, are_within};
+use super::boxes::{Row, add_boxes, add_drawn, add_pairs, are_within};
 use crate::tests::texts::refuse;
 use byte_io::append_pieces;
-use flame_layout::{ComparedBox, DrawnBox, SpanBox, Width};
+use flame_layout::{DrawnBox, DrawnPair, SpanBox, Width};
 use std::alloc::{AllocError, Global};
-use view_texts::{
-    Scale, append_boxes_line, append_pair_boxes_line, append_snapshot_line, drawn_line,
-};
+use view_texts::{Scale, drawn_comparison_line, drawn_line, drawn_snapshot_line, picture_line};
 
 /// What is written as a line.
 pub(super) enum Line<'a> {
@@ -34,7 +32,7 @@ fn append_boxes(
     if !are_within(boxes, scale.total) {
         return refuse(out);
     }
-    append_boxes_line(alloc, out, view, boxes, scale)
+    append_pieces(alloc, &picture_line(view, boxes, *scale), out)
 }
 
 fn append_drawn(
@@ -50,34 +48,34 @@ fn append_drawn(
     append_pieces(alloc, &drawn_line(view, boxes, *scale), out)
 }
 
-fn append_snapshot(
+fn append_snapshot<'a>(
     alloc: Global,
     out: &mut Vec<u8>,
     (at, counts): (u64, &[u64]),
-    rows: &[Row<'_>],
+    rows: &[Row<'a>],
     scale: &Scale,
-    boxes: &mut Vec<SpanBox>,
+    boxes: &mut Vec<DrawnBox<'a>>,
 ) -> Result<(), AllocError> {
-    add_boxes(alloc, boxes, rows)?;
+    add_drawn(boxes, rows)?;
     if !are_within(boxes, scale.total) {
         return refuse(out);
     }
-    append_snapshot_line(alloc, out, at, counts, boxes, scale)
+    append_pieces(alloc, &drawn_snapshot_line(at, counts, boxes, *scale), out)
 }
 
-fn append_pairs(
+fn append_pairs<'a>(
     alloc: Global,
     out: &mut Vec<u8>,
     before: u64,
-    rows: &[(Row<'_>, u64)],
+    rows: &[(Row<'a>, u64)],
     scale: &Scale,
-    boxes: &mut Vec<ComparedBox>,
+    boxes: &mut Vec<DrawnPair<'a>>,
 ) -> Result<(), AllocError> {
-    add_pairs(alloc, boxes, rows)?;
+    add_pairs(boxes, rows)?;
     if !are_within(boxes, scale.total) {
         return refuse(out);
     }
-    append_pair_boxes_line(alloc, out, before, boxes, scale)
+    append_pieces(alloc, &drawn_comparison_line(before, boxes, *scale), out)
 }
 
 fn append_line(

@@ -2,26 +2,18 @@
 
 use super::joined::{Joined, append_of};
 use super::sources::Rows;
-use super::trees::append_tree;
 use crate::tests::texts::is_text;
 use std::alloc::{AllocError, Global};
 use std::process::Abort;
 use std::test::Fail;
 
-/// What is written.
-pub(super) enum Written<'a> {
-    /// The tree of some samples.
-    Tree(Rows<'a>),
-    /// Two sources together.
-    Both(Joined, &'a [Rows<'a>]),
-}
+/// What is written of two sources, and they.
+pub(super) type Written<'a> = (Joined, &'a [Rows<'a>]);
 
 fn append(alloc: Global, out: &mut Vec<u8>, written: &Written<'_>) -> Result<(), AllocError> {
+    let (joined, sources) = written;
     out.extend_from_slice(b"# ")?;
-    match written {
-        Written::Tree(rows) => append_tree(alloc, out, rows),
-        Written::Both(joined, sources) => append_of(alloc, out, joined, sources),
-    }
+    append_of(alloc, out, joined, sources)
 }
 
 /// The text stands behind what stood there.
@@ -37,32 +29,9 @@ pub(super) fn makes(
 
 const STORED: Rows<'static> = &[(&["a", "b"], 2), (&["a"], 1), (&["a", "b"], 3)];
 
-const STORED_RUN: &Written<'static> = &Written::Tree(STORED);
-
-#[test]
-fn stored_run(rt: HostRuntime) -> Result<(), Fail> {
-    makes(&rt, STORED_RUN, "# a 1\na;b 5\n")
-}
-
 const ODD: Rows<'static> = &[(&["a", "", "b"], 1), (&[], 5)];
 
 const PLAIN: Rows<'static> = &[(&["b"], 0), (&["a"], 1)];
-
-const ODD_AND_PLAIN: Rows<'static> = &[(&["a", "", "b"], 1), (&[], 5), (&["b"], 0), (&["a"], 1)];
-
-const ODD_TREE: &Written<'static> = &Written::Tree(ODD_AND_PLAIN);
-
-#[test]
-fn odd_lines(rt: HostRuntime) -> Result<(), Fail> {
-    makes(&rt, ODD_TREE, "#  5\na 1\na;;b 1\n")
-}
-
-const EMPTY_TREE: &Written<'static> = &Written::Tree(&[]);
-
-#[test]
-fn empty_tree(rt: HostRuntime) -> Result<(), Fail> {
-    makes(&rt, EMPTY_TREE, "# ")
-}
 
 const SHARED_FRONTS: Rows<'static> = &[
     (&["b", "a"], 1),
@@ -71,30 +40,30 @@ const SHARED_FRONTS: Rows<'static> = &[
     (&["a", "c"], 4),
 ];
 
-const SHARED: &Written<'static> = &Written::Tree(SHARED_FRONTS);
+const SHARED: &Written<'static> = &(Joined::Merged, &[SHARED_FRONTS, &[]]);
 
-// The path goes up and down again, past stacks without an own weight.
+// Fronts are shared, also those that no sample has alone.
 #[test]
 fn shared_fronts(rt: HostRuntime) -> Result<(), Fail> {
     let wanted = "# a;b;b;b 3\na;c 4\na;c;d 2\nb;a 1\n";
     makes(&rt, SHARED, wanted)
 }
 
-const STORED_MERGED: &Written<'static> = &Written::Both(Joined::Merged, &[STORED, &[]]);
+const STORED_MERGED: &Written<'static> = &(Joined::Merged, &[STORED, &[]]);
 
 #[test]
 fn stored_run_merged(rt: HostRuntime) -> Result<(), Fail> {
     makes(&rt, STORED_MERGED, "# a 1\na;b 5\n")
 }
 
-const ODD_MERGED: &Written<'static> = &Written::Both(Joined::Merged, &[ODD, PLAIN]);
+const ODD_MERGED: &Written<'static> = &(Joined::Merged, &[ODD, PLAIN]);
 
 #[test]
 fn odd_lines_merged(rt: HostRuntime) -> Result<(), Fail> {
     makes(&rt, ODD_MERGED, "#  5\na 1\na;;b 1\n")
 }
 
-const NOTHING_MERGED: &Written<'static> = &Written::Both(Joined::Merged, &[&[], &[]]);
+const NOTHING_MERGED: &Written<'static> = &(Joined::Merged, &[&[], &[]]);
 
 #[test]
 fn nothing_merged(rt: HostRuntime) -> Result<(), Fail> {
@@ -105,7 +74,7 @@ const OLD: Rows<'static> = &[(&["a"], 3), (&["b"], 1)];
 
 const NEW: Rows<'static> = &[(&["a"], 1), (&["c"], 2)];
 
-const COMPARED: &Written<'static> = &Written::Both(Joined::Compared, &[OLD, NEW]);
+const COMPARED: &Written<'static> = &(Joined::Paired, &[OLD, NEW]);
 
 #[test]
 fn comparison(rt: HostRuntime) -> Result<(), Fail> {
@@ -116,14 +85,14 @@ const BEFORE: Rows<'static> = &[(&["b"], 1), (&["a", "b"], 3), (&["c"], 0)];
 
 const AFTER: Rows<'static> = &[(&["c"], 2), (&["a", "b"], 1), (&[], 1)];
 
-const PAIRED: &Written<'static> = &Written::Both(Joined::Paired, &[BEFORE, AFTER]);
+const PAIRED: &Written<'static> = &(Joined::Paired, &[BEFORE, AFTER]);
 
 #[test]
 fn comparison_of_paired_stacks(rt: HostRuntime) -> Result<(), Fail> {
     makes(&rt, PAIRED, "#  0 1\na;b 3 1\nb 1 0\nc 0 2\n")
 }
 
-const NOTHING_COMPARED: &Written<'static> = &Written::Both(Joined::Compared, &[&[], &[]]);
+const NOTHING_COMPARED: &Written<'static> = &(Joined::Paired, &[&[], &[]]);
 
 #[test]
 fn comparison_of_nothing(rt: HostRuntime) -> Result<(), Fail> {

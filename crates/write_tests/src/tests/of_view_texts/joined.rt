@@ -7,19 +7,17 @@ ghost use Rattle.merged_stacks.specs.Timeline.{samples_of, timeline, total_weigh
 use super::sources::{Rows, add_lists, are_light};
 use crate::tests::texts::refuse;
 use byte_io::append_pieces;
-use flame_layout::{Chart, MergedStacks, Width, compare, total_weight};
+use flame_layout::{Chart, MergedStacks, Width, total_weight};
 use merged_stacks::PairedStacks;
 use stack_core::SourceList;
 use std::alloc::{AllocError, Global};
-use view_texts::{PairedText, Scale, append_merged_text, append_pairs_text, drawn_chart_line};
+use view_texts::{FoldedText, PairedText, Scale, drawn_chart_line};
 
 /// What is written of two sources.
 pub(super) enum Joined {
     /// The fold text of their merged stacks.
     Merged,
-    /// The two-column text of their comparison.
-    Compared,
-    /// The same, of their paired stacks.
+    /// The two-column text of their paired stacks.
     Paired,
     /// The line of their chart.
     Chart,
@@ -29,20 +27,7 @@ fn append_merged(alloc: Global, out: &mut Vec<u8>, lists: &[SourceList]) -> Resu
     requires { total_weight (all_samples (samples_of lists.now)) < 2 ^ 64 }
 {
     let merged = MergedStacks::of(alloc, lists)?;
-    append_merged_text(out, &merged)
-}
-
-fn append_compared(
-    alloc: Global,
-    out: &mut Vec<u8>,
-    before: &SourceList,
-    after: &SourceList,
-) -> Result<(), AllocError>
-    requires before { list_weight before.now.samples < 2 ^ 64 }
-    requires after { list_weight after.now.samples < 2 ^ 64 }
-{
-    let rows = compare(alloc, before, after)?;
-    append_pairs_text(alloc, out, &rows)
+    append_pieces(alloc, &FoldedText::of(&merged), out)
 }
 
 fn append_paired(
@@ -84,7 +69,6 @@ fn append_joined(
     }
     match joined {
         Joined::Merged => append_merged(alloc, out, lists),
-        Joined::Compared => append_compared(alloc, out, before, after),
         Joined::Paired => append_paired(alloc, out, before, after),
         Joined::Chart => append_chart(alloc, out, lists),
     }

@@ -1,11 +1,12 @@
 //! The text of sample types.
 
 use crate::tests::texts::is_text;
+use byte_io::append_pieces;
 use profile_messages::{SampleType, SampleTypes};
 use stack_core::{Listed, Text};
 use std::alloc::{AllocError, Global};
 use std::test::Fail;
-use view_texts::append_types_text;
+use view_texts::TypesText;
 
 /// Names and units.
 const TYPES: &[(&str, &str)] = &[("samples", "count"), ("cpu", "nanoseconds")];
@@ -34,7 +35,8 @@ fn two_types(alloc: Global) -> Result<SampleTypes, AllocError> {
 
 fn append(alloc: Global, out: &mut Vec<u8>) -> Result<(), AllocError> {
     out.extend_from_slice(b"> ")?;
-    append_types_text(alloc, out, &two_types(alloc)?)
+    let types = two_types(alloc)?;
+    append_pieces(alloc, &TypesText::of(&types), out)
 }
 
 #[test]
