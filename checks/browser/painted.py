@@ -15,7 +15,7 @@ from painted_pages import PAGES
 
 # The windows in which the picture is 368, 588, 1182 and 1912 pixels wide.
 WINDOWS = (390, 610, 1600, 2560)
-ZOOMS, SEARCHES, TIPS = 10, 3, 25
+ZOOMS, SEARCHES, TIPS = 10, 3, 30
 MOST_TOLD = 5
 
 # With `checks/page --painted all` each page is tried in each setting.
@@ -63,10 +63,12 @@ def zooms(drawn: random.Random, watched: Watched) -> Iterator[list[Fault]]:
 
 
 def searches(drawn: random.Random, watched: Watched) -> Iterator[list[Fault]]:
-    """Searches a part of a name, a whole name, and two names by a regular expression."""
-    names = [name for name in watched.document.names if name.isascii() and name.isalnum()] or ['all']
-    one, other, third = (drawn.choice(names) for _ in range(SEARCHES))
-    for find, by in ((one[:2], 'text'), (other, 'name'), (f'^({third[:3]}|{other[-2:]})', 'regexp')):
+    """Searches a part of a name, a whole name, and either of two beginnings by a regular expression."""
+    names = [name for name in watched.document.names if name.isascii() and name.isprintable()] or ['all']
+    part, first, other = (drawn.choice(names) for _ in range(SEARCHES))
+    begin = drawn.randrange(max(1, len(part) - 2))
+    ends = [''.join(filter(str.isalnum, name))[:3] for name in (first, other)]
+    for find, by in ((part[begin:begin + 3], 'text'), (drawn.choice(watched.document.names or ['all']), 'name'), ('^' + '|'.join(ends), 'regexp')):
         yield watched.go(watched.view.at(find=find, by=by))
 
 
@@ -94,7 +96,10 @@ def painted(check: Any) -> None:
         data = json.loads(documents.raw_data_in(documents_of[page]))
         path = check.place(documents_of[page])
         watched = Watched(check.browser, Document(data), path, setting)
-        refuse(list(itertools.chain.from_iterable(walk(watched, f'{page.__name__} {setting}'))), page.__name__)
+        found = [*itertools.chain.from_iterable(walk(watched, f'{page.__name__} {setting}'))]
+        if found:
+            check.screenshot('painted')
+        refuse(found, page.__name__)
     check.browser.resize(*check.browser.size)
 
 

@@ -21,10 +21,13 @@ def faults_of(sight: Sight, paint: Paint, layout: Layout) -> list[Fault]:
     for number in seen:
         strip = sorted_paint.strip(number)
         boxes = sight.drawing.edges(number, sight.span, paint.width)
-        found += Row(sight, number, strip, paint.titles).faults(sight.places(boxes))
-        found += Labels(sight, number, strip, letter).faults(boxes)
+        found += Row(sight, number, strip, paint).faults(sight.places(boxes))
+        found += Labels(sight, number, strip, layout.top_of(number) + ROW / 2, letter).faults(boxes)
     found += [Fault('b', f'row {row} has {len(strip.rectangles)} rectangles, and is not to be seen')
               for row, strip in sorted_paint.strips.items() if row >= len(sight.drawing.rows)]
+    total = f'{sight.drawing.total:,}'
+    if paint.heading is not None and total not in paint.heading:
+        found.append(Fault('e', f'the title {paint.heading!r} does not tell the total {total}'))
     return found + [*Margins(sight, paint, layout, sorted_paint).faults()]
 
 

@@ -86,6 +86,7 @@ def found(check: Any, fault: PutBack) -> str:
 
 
 def faults_are_found(check: Any) -> None:
+    assert found(check, PutBack('nothing', '')) == '', 'a fault is found where none was put back'
     for fault in FAULTS:
         letters = found(check, fault)
         assert set(fault.letters) <= set(letters), f'that {fault.what} is found by {letters or "nothing"}, and not by {fault.letters}'

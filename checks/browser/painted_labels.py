@@ -13,6 +13,8 @@ from painted_places import WIDE, Sight
 
 # A box that is so wide has a label; and one with so much more room than its text takes has the whole of it.
 LABELLED, SPARE = 40, 16
+# How far a label stands from the left edge of its box.
+PAD = 4
 
 
 def is_plain(text: str) -> bool:
@@ -21,10 +23,10 @@ def is_plain(text: str) -> bool:
 
 
 class Labels:
-    """The labels of one row. `letter` is how wide a plain letter is, 0 where that is not known."""
+    """The labels of one row, with the middle of the row. `letter` is how wide a plain letter is, 0 where that is not known."""
 
-    def __init__(self, sight: Sight, number: int, strip: Strip, letter: float):
-        self.sight, self.number, self.strip, self.letter = sight, number, strip, letter
+    def __init__(self, sight: Sight, number: int, strip: Strip, middle: float, letter: float):
+        self.sight, self.number, self.strip, self.middle, self.letter = sight, number, strip, middle, letter
 
     def faults(self, boxes: list[Box]) -> Iterator[Fault]:
         lefts = [box.left for box in boxes]
@@ -51,6 +53,9 @@ class Labels:
     def label_faults(self, box: Box, text: Text) -> Iterator[Fault]:
         whole = self.whole_labels(box)
         called = f'row {self.number}: {text.text!r} on {whole[-1][:60]!r} (box {box.number}) from {box.left:.2f} to {box.right:.2f}'
+        off = abs(text.middle - self.middle) + abs(text.left - box.left - PAD)
+        if off > 1 + TOUCH:
+            yield Fault('c', f'{called} stands {off:.2f} pixels from its place')
         if text.text not in whole and not words.is_front(text.text, whole[0]):
             yield Fault('c', f'{called} is another name')
         if text.width is not None and text.left + text.width > box.right + TOUCH:

@@ -9,8 +9,8 @@ from painted_paint import Paint, Rectangle, Text
 
 ROW = 18
 LANES = 22
-# What differs by less stands at the same place.
-TOUCH = 0.01
+# What differs by less stands at the same place. What is narrower is not seen: an SVG has two digits behind the point.
+TOUCH, UNSEEN = 0.01, 0.005
 
 
 class Fault(NamedTuple):
@@ -77,6 +77,8 @@ class Sorted:
         self.others: list[Rectangle] = []
         self.texts: list[Text] = []
         for order, rectangle in enumerate(paint.rectangles):
+            if min(rectangle.right, paint.width) - rectangle.left < UNSEEN:
+                continue
             row = layout.row_at(rectangle.top + ROW / 2)
             is_of_row = abs(rectangle.top - layout.top_of(row)) < TOUCH and abs(rectangle.height - (ROW - 1)) < TOUCH
             if 0 <= row < layout.rows and is_of_row:

@@ -13,7 +13,7 @@ from painted_compare import faults_of
 from painted_data import Document, View
 from painted_layout import LANES, ROW, Fault, Layout
 from painted_paint import Paint, of_canvas, of_svg
-from painted_places import Sight
+from painted_places import WIDE, Sight
 from painted_tips import tip_faults, tip_places
 
 HERE = pathlib.Path(__file__).resolve().parent
@@ -110,20 +110,22 @@ class Watched:
         return self.named('the tip', [fault for place, said in zip(places, told) for fault in tip_faults(self.sight(), place, said)])
 
     def click(self, drawn: random.Random) -> list[Fault]:
-        """Clicks a box that is seen, and compares what is zoomed then."""
+        """Clicks the middle of a wide box that is seen, and compares what is zoomed then."""
         seen = self.after('{}')
-        places = tip_places(drawn, self.sight(), of_canvas(seen), self.screen(seen), 20)
-        boxes = [place for place in places if len(place.boxes) == 1]
+        layout, sight = self.screen(seen), self.sight()
+        rows = [row for row in range(layout.rows) if 0 <= layout.top_of(row) <= seen['room'][1] - ROW]
+        boxes = [(row, box) for row in rows for box in sight.drawing.edges(row, sight.span, seen['room'][0]) if box.width >= WIDE]
         if not boxes:
             return []
-        chosen = drawn.choice(boxes)
-        self.view = self.view.at(box=chosen.boxes[0], source=-1)
-        return self.compare(self.after(f'recorder.click({json.dumps(chosen.point)})'))
+        row, box = drawn.choice(boxes)
+        self.view = self.view.at(box=box.number, source=-1)
+        return self.compare(self.after(f'recorder.click({json.dumps([box.middle, layout.top_of(row) + ROW / 2])})'))
 
     def compare_saved(self) -> list[Fault]:
         """Compares the SVG, the PNG and the picture for paper, which is light."""
-        paper = self.saved(of_svg(self.browser.value('recorder.printed()')), LIGHT, 'the paper')
-        return self.compare_svg() + paper + self.compare_png()
+        # Nobody points at paper, so nothing there needs a title.
+        paper = of_svg(self.browser.value('recorder.printed()'))._replace(heading=None)
+        return self.compare_svg() + self.saved(paper, LIGHT, 'the paper') + self.compare_png()
 
     def compare_svg(self) -> list[Fault]:
         return self.saved(of_svg(self.browser.value("recorder.saved('svg')")), self.setting.palette, 'the SVG')

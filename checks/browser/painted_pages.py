@@ -111,7 +111,7 @@ def snapshots(check: Check) -> bytes:
 def filtered(check: Check) -> bytes:
     stacks = like_profile(random.Random(9), LANGUAGES['go'], 1500)
     path = check.write('filtered.folded', text_of(stacks))
-    return of_program(check, 'graph', '--focus', 'runtime', '--hide', 'sync', path)
+    return of_program(check, 'graph', '--least', '0', '--focus', 'Encode', '--hide', 'Scan', path)
 
 
 def like_go(check: Check) -> bytes:

@@ -39,12 +39,13 @@ class Text(NamedTuple):
 
 
 class Paint(NamedTuple):
+    """The rectangles and texts in order, and what else is wrong. An SVG has a heading, its title, and titles of its boxes."""
     width: float
     height: float
     rectangles: list[Rectangle]
     texts: list[Text]
     faults: list[str]
-    titles: bool
+    heading: str | None
 
 
 def of_canvas(record: dict[str, Any]) -> Paint:
@@ -62,7 +63,7 @@ def of_canvas(record: dict[str, Any]) -> Paint:
     width, height = record['width'], record['height']
     if max(width, height) > LONGEST_SIDE or width * height > LARGEST_CANVAS:
         faults.append(f'a canvas of {width} by {height} dots is larger than a browser paints')
-    return Paint(width / scale, height / scale, rectangles, texts, faults, titles=False)
+    return Paint(width / scale, height / scale, rectangles, texts, faults, None)
 
 
 def is_known(style: str) -> bool:
@@ -83,7 +84,8 @@ def of_svg(text: str) -> Paint:
         elif element.tag == f'{SVG}text':
             left, baseline = float(element.get('x', '0')), float(element.get('y', '0'))
             texts.append(Text(element.text or '', left, baseline - BASELINE, None, colour(element.get('fill', '')), len(rectangles)))
-    return Paint(float(root.get('width', '0')), float(root.get('height', '0')), rectangles, texts, svg_faults(root), titles=True)
+    return Paint(float(root.get('width', '0')), float(root.get('height', '0')), rectangles, texts, svg_faults(root),
+                 root.findtext(f'{SVG}title', ''))
 
 
 def title_of(element: xml.etree.ElementTree.Element, parents: dict[Any, Any]) -> str | None:

@@ -5,7 +5,6 @@ from __future__ import annotations
 
 import math
 from dataclasses import dataclass, field
-from typing import Callable, Iterable
 
 from painted_colours import Colour, Palette, colour, of_change, of_name
 from painted_data import Box, Document, Drawing, Span, View, matches_of
@@ -17,16 +16,12 @@ WIDE = 3
 
 @dataclass
 class Place:
-    """What is painted as one, with the colours that it may have. Where `boxes` has one, it is that box's. `is_under` says that something
-    else may be painted over it, `is_doubtful` that a neighbour may be joined with it or not. Matches that are narrower than a pixel may also
-    be painted `within` all that begin in that pixel, in the colour of what is joined."""
+    """What is painted as one, with the colours that it may have. `is_doubtful` says that a neighbour may be joined with it or not."""
     left: float
     right: float
     boxes: list[int]
     colours: list[Colour]
-    is_under: bool = False
     is_doubtful: bool = False
-    within: Place | None = None
 
     @property
     def width(self) -> float:
@@ -94,35 +89,33 @@ class Sight:
         inks = self.palette.match_ink if self.is_match(box) else self.palette.dim_ink if self.is_dim(box) else self.palette.ink
         return colour(inks)
 
-    def places(self, boxes: list[Box]) -> list[Place]:
-        """The places of a row, of which these boxes are seen: first those of all boxes, then those of matches, painted over them."""
+    def joined_colour(self, boxes: list[int]) -> Colour:
+        """The colour of boxes that are painted as one: that of matches where all match, and that of what steps back where none does."""
         if self.matching is None:
-            return self.layer(boxes, self.colours, self.joined)
-        lower = self.layer(boxes, lambda box: [self.dim], self.dim)
-        upper = self.layer([box for box in boxes if self.is_match(box.number)], self.colours, self.match)
-        mixed: dict[int, Place] = {}
-        for place in lower:
-            place.is_under = any(self.is_match(box) for box in place.boxes)
-            if place.is_under and len(place.boxes) > 1 and not all(self.is_match(box) for box in place.boxes):
-                place.colours = [self.joined, self.dim]
-                mixed.update((box, place) for box in place.boxes)
-        for place in upper:
-            place.within = mixed.get(place.boxes[0])
-        return lower + upper
+            return self.joined
+        matching = sum(map(self.is_match, boxes))
+        return self.match if matching == len(boxes) else self.joined if matching else self.dim
 
-    def layer(self, boxes: Iterable[Box], colours: Callable[[int], list[Colour]], joined: Colour) -> list[Place]:
-        """The places of the boxes, with the colour of those that are joined."""
+    def places(self, boxes: list[Box]) -> list[Place]:
+        """The places of a row, of which these boxes are seen."""
         narrow, places = Narrow(), []
         for box in boxes:
             if box.width < 1 + DOUBT:
                 narrow.add(box)
             else:
-                places.append(Place(box.left, box.right, [box.number], colours(box.number)))
+                places.append(Place(box.left, box.right, [box.number], self.colours(box.number)))
         for pixel, group in narrow.certain.items():
             numbers = [box.number for box in group]
-            is_loose = pixel in narrow.loose
-            fills = [*([joined] if len(group) > 1 else colours(numbers[0])), *([joined, self.joined] if is_loose else [])]
-            places.append(Place(group[0].left, group[-1].right, numbers, fills, is_doubtful=is_loose))
+            colours = [self.joined_colour(numbers)] if len(group) > 1 else self.colours(numbers[0])
+            places.append(Place(group[0].left, group[-1].right, numbers, colours))
+            if pixel in narrow.loose:
+                self.doubt(places[-1])
         for box in narrow.doubtful:
-            places.append(Place(box.left, box.right, [box.number], [*colours(box.number), joined, self.joined], is_doubtful=True))
+            places.append(Place(box.left, box.right, [box.number], self.colours(box.number)))
+            self.doubt(places[-1])
         return places
+
+    def doubt(self, place: Place) -> None:
+        """A neighbour may be joined with it, whatever that is."""
+        place.is_doubtful = True
+        place.colours = [*place.colours, self.joined, *([] if self.matching is None else [self.match, self.dim])]

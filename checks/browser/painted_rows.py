@@ -7,12 +7,15 @@ from typing import Iterator
 import painted_words as words
 from painted_colours import is_same
 from painted_layout import TOUCH, Fault, Ordered, Strip
-from painted_paint import Rectangle
+from painted_paint import Paint, Rectangle
 from painted_places import DOUBT, WIDE, Place, Sight
 
 # How far an edge may be off: of boxes that are wide, with the line of paper behind them; and of narrower ones, which are painted wide enough to
 # be seen, and beside one another.
-OFF, NARROW_OFF = 1 + DOUBT, 0.65
+OFF, NARROW_OFF = 1 + DOUBT, 0.5 + TOUCH
+
+# What is narrower may have no room between its neighbours. Then its pixels are still painted.
+HARDLY = 0.05
 
 
 def is_near(rectangle: Rectangle, place: Place) -> bool:
@@ -30,27 +33,19 @@ def has_colour(rectangle: Rectangle, place: Place) -> bool:
     return any(is_same(rectangle.fill, each) for each in place.colours)
 
 
-def called(sight: Sight, place: Place) -> str:
-    """A place as a fault names it."""
-    name = sight.document.name(sight.drawing, place.boxes[0])
-    first = f'{name[:40]!r} (box {place.boxes[0]}) from {place.left:.2f} to {place.right:.2f}'
-    return first if len(place.boxes) == 1 else f'{len(place.boxes)} boxes, the first {first}'
-
-
 class Row:
-    """One row of a paint beside its places. `explained` are the rectangles of which it is known what they stand for."""
+    """One row of a paint beside its places. `explained` has the place for which each rectangle stands."""
 
-    def __init__(self, sight: Sight, number: int, strip: Strip, has_titles: bool):
-        self.sight, self.number, self.strip, self.has_titles = sight, number, strip, has_titles
-        self.explained: set[int] = set()
+    def __init__(self, sight: Sight, number: int, strip: Strip, paint: Paint):
+        self.sight, self.number, self.strip = sight, number, strip
+        self.width, self.has_titles = paint.width, paint.heading is not None
+        self.explained: dict[int, Place] = {}
 
     def faults(self, places: list[Place]) -> Iterator[Fault]:
         for place in places:
-            is_lower = place.is_under or (place.within is not None and self.is_joined(place.within))
-            if is_lower or place.is_doubtful:
+            if place.is_doubtful:
                 self.explain(place)
-            if not is_lower:
-                yield from self.place_faults(place)
+            yield from self.place_faults(place)
             yield from self.pixel_faults(place)
         for order, rectangle in self.strip.rectangles:
             if order not in self.explained:
@@ -59,29 +54,27 @@ class Row:
     def fault(self, letter: str, text: str) -> Fault:
         return Fault(letter, f'row {self.number}: {text}')
 
+    def called(self, place: Place) -> str:
+        """A place as a fault names it."""
+        name = self.sight.document.name(self.sight.drawing, place.boxes[0])
+        first = f'{name[:40]!r} (box {place.boxes[0]}) from {place.left:.2f} to {place.right:.2f}'
+        return first if len(place.boxes) == 1 else f'{len(place.boxes)} boxes, the first {first}'
+
     def about(self, place: Place) -> list[Ordered]:
         """The rectangles over the middle of a place, and the pixels beside it."""
         pixel = math.floor(place.middle)
         return list({each[0]: each for beside in (pixel - 1, pixel, pixel + 1) for each in self.strip.about(beside)}.values())
 
     def explain(self, place: Place) -> None:
-        """What lies under a match may be painted or not, and beside what is in doubt there may be more."""
-        for order, rectangle in self.about(place):
-            is_its = is_near(rectangle, place) or (place.is_doubtful and rectangle.width < WIDE)
-            if is_its and has_colour(rectangle, place):
-                self.explained.add(order)
-
-    def is_joined(self, place: Place) -> bool:
-        """Whether a place with matches and others is painted in the colour of what is joined, and nothing over it."""
-        joined = [each for _, each in self.about(place) if is_near(each, place) and is_same(each.fill, self.sight.joined)]
-        return any(self.is_seen(each, place) for each in joined)
+        """Beside what is in doubt there may be more than one narrow rectangle."""
+        self.explained.update((order, place) for order, rectangle in self.about(place) if rectangle.width < WIDE and has_colour(rectangle, place))
 
     def painted(self, place: Place) -> Ordered | None:
         """The rectangle that stands for a place: the last painted over its middle. What is narrow may be painted beside its middle, for want of
         room: of what is near that of its colour is taken, and rather one that stands for nothing else."""
         over = self.strip.at(place.middle)
-        if place.width >= WIDE:
-            return over[0] if over else None
+        if over and (place.width >= WIDE or self.preference(place, *over[0])[:2] == (False, False) and is_near(over[0][1], place)):
+            return over[0]
         near = [each for each in self.about(place) if is_near(each[1], place)] or over
         return min(near, key=lambda each: self.preference(place, *each)) if near else None
 
@@ -95,18 +88,19 @@ class Row:
 
     def place_faults(self, place: Place) -> Iterator[Fault]:
         found = self.painted(place)
-        name = called(self.sight, place)
+        if place.width < HARDLY and not (found and is_near(found[1], place) and has_colour(found[1], place)):
+            return
         if found is None:
-            yield self.fault('e', f'nothing is painted over {name}')
+            yield self.fault('e', f'nothing is painted over {self.called(place)}')
             return
         order, rectangle = found
-        self.explained.add(order)
+        self.explained[order] = place
         if not place.is_doubtful and not is_near(rectangle, place):
-            yield self.fault('a', f'{name} is painted from {rectangle.left:.2f} to {rectangle.right:.2f}')
+            yield self.fault('a', f'{self.called(place)} is painted from {rectangle.left:.2f} to {rectangle.right:.2f}')
         if not has_colour(rectangle, place):
-            yield self.fault('d', f'{name} is painted in {rectangle.fill}, not in {place.colours}')
+            yield self.fault('d', f'{self.called(place)} is painted in {rectangle.fill}, not in {place.colours}')
         if not self.is_seen(rectangle, place):
-            yield self.fault('e', f'{name} is painted over')
+            yield self.fault('e', f'{self.called(place)} is painted over')
         if self.has_titles and not place.is_doubtful:
             yield from self.title_faults(rectangle.title or '', place)
 
@@ -116,7 +110,7 @@ class Row:
             return
         for pixel in range(math.floor(place.left), math.ceil(place.right)):
             if min(place.right, pixel + 1) - max(place.left, pixel) > TOUCH and not self.strip.about(pixel):
-                yield self.fault('e', f'pixel {pixel} is not painted, which {called(self.sight, place)} touches')
+                yield self.fault('e', f'pixel {pixel} is not painted, which {self.called(place)} touches')
 
     def title_faults(self, title: str, place: Place) -> Iterator[Fault]:
         """A box of an SVG tells its name, its weight and its percent; a joined place how many boxes it has and what they weigh."""
@@ -126,4 +120,4 @@ class Row:
         begin = name if len(place.boxes) == 1 else words.joined(len(place.boxes))
         wanted = [begin, f'{weight:,}', words.percent(weight, drawing.total)]
         if not (title.startswith(begin) and all(part in title for part in wanted)):
-            yield self.fault('c', f'{called(self.sight, place)} has the title {title[:200]!r}, and not {wanted}')
+            yield self.fault('c', f'{self.called(place)} has the title {title[:200]!r}, and not {wanted}')

@@ -1,53 +1,56 @@
 """What tip and status say over a place of the screen: that of the box which is painted there, or how many boxes are joined."""
 from __future__ import annotations
 
+import math
 import random
 from typing import Any, Iterator, NamedTuple
 
 import painted_words as words
-from painted_layout import ROW, Fault, Layout, Sorted, Strip
+from painted_layout import ROW, Fault, Layout, Sorted
 from painted_paint import Paint
 from painted_places import Place, Sight
-from painted_rows import distance, has_colour, is_near
+from painted_rows import Row
 
 # A pointer stands so far inside of what it points to.
-INSIDE = 0.02
+INSIDE, EDGE = 0.02, 0.1
 
 
 class Pointed(NamedTuple):
-    """A point of the picture in a row, and the boxes that are painted there; none beside all boxes."""
-    row: int
+    """A point of the picture, and the boxes that are painted there; none beside all boxes."""
     point: tuple[float, float]
     boxes: list[int]
 
 
 def tip_places(drawn: random.Random, sight: Sight, paint: Paint, layout: Layout, count: int) -> list[Pointed]:
-    """So many points at random: half of them in any rectangle, the others anywhere in a row."""
+    """So many points at random: half of them in any rectangle, also at its edges, and the others anywhere in a row."""
     sorted_paint = Sorted(paint, layout)
     rows = [row for row in range(len(sight.drawing.rows)) if 0 <= layout.top_of(row) <= paint.height - ROW]
     chosen: list[Pointed] = []
-    places: list[Place] = []
-    for row in sorted(drawn.choices(rows, k=count)) if rows else []:
-        if not chosen or chosen[-1].row != row:
-            places = [place for place in sight.places(sight.drawing.edges(row, sight.span, paint.width)) if not place.is_doubtful]
-        across = drawn.uniform(0, paint.width)
+    for row in {each: None for each in drawn.choices(rows, k=count)} if rows else []:
         strip = sorted_paint.strip(row)
-        if strip.rectangles and drawn.random() < 0.5:
-            rectangle = drawn.choice(strip.rectangles)[1]
-            across = drawn.uniform(rectangle.left, rectangle.right)
-        boxes = boxes_at(places, strip, across)
-        if boxes is not None:
-            chosen.append(Pointed(row, (across, layout.top_of(row) + ROW / 2), boxes))
-    return chosen
+        compared = Row(sight, row, strip, paint)
+        places = sight.places(sight.drawing.edges(row, sight.span, paint.width))
+        for _ in compared.faults(places):
+            pass
+        for _ in range(math.ceil(2 * count / len(rows))):
+            across = drawn.uniform(0, paint.width)
+            if strip.rectangles and drawn.random() < 0.5:
+                rectangle = drawn.choice(strip.rectangles)[1]
+                right = min(rectangle.right, paint.width)
+                across = drawn.choice((rectangle.left + EDGE, drawn.uniform(rectangle.left, right), right - EDGE))
+            boxes = boxes_at(compared, places, across)
+            if boxes is not None:
+                chosen.append(Pointed((across, layout.top_of(row) + ROW / 2), boxes))
+    return drawn.sample(chosen, min(count, len(chosen)))
 
 
-def boxes_at(places: list[Place], strip: Strip, across: float) -> list[int] | None:
+def boxes_at(row: Row, places: list[Place], across: float) -> list[int] | None:
     """The boxes for which the rectangle over a point stands; no boxes where none is near. None where it is open what is told, as on the line
     between two boxes."""
-    for _, rectangle in strip.at(across)[:1]:
-        found = [place for place in places if is_near(rectangle, place) and has_colour(rectangle, place)]
-        is_inside = rectangle.left + INSIDE <= across <= rectangle.right - INSIDE
-        return min(found, key=lambda place: distance(rectangle, place)).boxes if found and is_inside else None
+    for order, rectangle in row.strip.at(across)[:1]:
+        place = row.explained.get(order)
+        is_inside = rectangle.left + INSIDE <= across <= min(rectangle.right, row.width) - INSIDE
+        return place.boxes if place and is_inside and not place.is_doubtful else None
     is_far = all(across < place.left - 1.5 or across > place.right + 1.5 for place in places)
     return [] if is_far else None
 

@@ -2,6 +2,7 @@
 from __future__ import annotations
 
 import decimal
+import functools
 import unicodedata
 
 JOINERS = '\u200c\u200d'
@@ -11,6 +12,7 @@ ELLIPSIS = '\u2026'
 EMPTY = '(empty name)'
 
 
+@functools.lru_cache(maxsize=100_000)
 def visible(text: str) -> str:
     """The text with its number in the place of each character that is not seen, or that turns the text around it."""
     def shown(character: str) -> str:
