@@ -1,4 +1,10 @@
-"""Tests that what a page paints is what its data says. See painted_rows.py for what is compared, and recorder.js for how it is seen."""
+"""Tests that what a page paints is what its data says, by code that shares nothing with the page's.
+
+recorder.js keeps each rectangle and each text of a canvas while the page paints it; painted_paint.py reads them, and those of an SVG.
+painted_data.py, painted_places.py, painted_colours.py and painted_words.py say of the document's data what has to be painted.
+painted_compare.py compares them, and painted_tips.py what tip and status tell. painted_pages.py makes the pages, and painted_faults.py puts
+faults in, all of which have to be found. The letters of faults are said in painted_layout.py.
+"""
 from __future__ import annotations
 
 import itertools
@@ -68,14 +74,15 @@ def searches(drawn: random.Random, watched: Watched) -> Iterator[list[Fault]]:
     part, first, other = (drawn.choice(names) for _ in range(SEARCHES))
     begin = drawn.randrange(max(1, len(part) - 2))
     ends = [''.join(filter(str.isalnum, name))[:3] for name in (first, other)]
-    for find, by in ((part[begin:begin + 3], 'text'), (drawn.choice(watched.document.names or ['all']), 'name'), ('^' + '|'.join(ends), 'regexp')):
+    whole = drawn.choice(watched.document.names or ['all'])
+    for find, by in ((part[begin:begin + 3], 'text'), (whole, 'name'), ('^' + '|'.join(ends), 'regexp')):
         yield watched.go(watched.view.at(find=find, by=by))
 
 
 def walk(watched: Watched, seed: str) -> Iterator[list[Fault]]:
     """Looks at a page from all sides."""
     drawn = random.Random(seed)
-    yield watched.compare(watched.after('{}'))
+    yield watched.compare(watched.seen())
     yield watched.compare_tips(drawn, TIPS)
     yield watched.compare_saved()
     yield from zooms(drawn, watched)
@@ -91,6 +98,7 @@ def refuse(found: list[Fault], what: str) -> None:
 
 
 def painted(check: Any) -> None:
+    """Each page, in some windows or in all, shows what its data says."""
     documents_of = {page: page(check) for page in PAGES}
     for page, setting in plan():
         data = json.loads(documents.raw_data_in(documents_of[page]))
@@ -100,7 +108,6 @@ def painted(check: Any) -> None:
         if found:
             check.screenshot('painted')
         refuse(found, page.__name__)
-    check.browser.resize(*check.browser.size)
 
 
 TESTS = [painted, faults_are_found]

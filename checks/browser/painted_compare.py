@@ -25,10 +25,14 @@ def faults_of(sight: Sight, paint: Paint, layout: Layout) -> list[Fault]:
         found += Labels(sight, number, strip, layout.top_of(number) + ROW / 2, letter).faults(boxes)
     found += [Fault('b', f'row {row} has {len(strip.rectangles)} rectangles, and is not to be seen')
               for row, strip in sorted_paint.strips.items() if row >= len(sight.drawing.rows)]
-    total = f'{sight.drawing.total:,}'
-    if paint.heading is not None and total not in paint.heading:
-        found.append(Fault('e', f'the title {paint.heading!r} does not tell the total {total}'))
-    return found + [*Margins(sight, paint, layout, sorted_paint).faults()]
+    return [*found, *heading_faults(sight, paint), *Margins(sight, paint, layout, sorted_paint).faults()]
+
+
+def heading_faults(sight: Sight, paint: Paint) -> Iterator[Fault]:
+    """The title of an SVG tells that of the page, and the total of the drawing."""
+    for wanted in (words.visible(sight.document.title[:100]), f'{sight.drawing.total:,}'):
+        if paint.heading is not None and wanted not in paint.heading:
+            yield Fault('e', f'the title {paint.heading!r} does not tell {wanted}')
 
 
 class Margins:

@@ -104,7 +104,6 @@ class Document:
         self.kind: str = data['view']
         self.title: str = data['title']
         self.names: list[str] = data['names']
-        self.whole: int = data['whole']
         self.drawings = [Drawing(columns) for columns in data['drawings']]
         self.sources: list[tuple[str, int, int]] = []
         begin = 0

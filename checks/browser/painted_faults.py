@@ -67,7 +67,7 @@ FAULTS = [
 def looks(watched: Watched) -> Iterator[list[Fault]]:
     """Enough looks for each fault to be seen."""
     drawn = random.Random(1)
-    yield watched.compare(watched.after('{}'))
+    yield watched.compare(watched.seen())
     yield watched.compare_tips(drawn, PLACES)
     yield watched.compare_svg()
     yield watched.go(watched.view.at(find='s'))
@@ -77,16 +77,18 @@ def found(check: Any, fault: PutBack) -> str:
     """The letters by which a fault is found."""
     document = (fault.page or small)(check)
     data = json.loads(documents.raw_data_in(document))
-    path = check.place(of_data(fault.data(data)) if fault.data else document)
-    watched = Watched(check.browser, Document(data), path, SETTING, fault.bend)
+    shown = fault.data(data) if fault.data else data
+    watched = Watched(check.browser, Document(data), check.place(of_data(shown)), SETTING, fault.bend)
     letters = {each.letter for each in itertools.chain.from_iterable(looks(watched))}
-    if fault.bend:
-        assert check.browser.value('recorder.bend.changed') > 0, f'it was not put in that {fault.what}'
+    is_put = shown != data or check.browser.value('recorder.bend.changed') > 0
+    assert is_put or not (fault.data or fault.bend), f'it was not put in that {fault.what}'
     return ''.join(sorted(letters))
 
 
 def faults_are_found(check: Any) -> None:
-    assert found(check, PutBack('nothing', '')) == '', 'a fault is found where none was put back'
+    """Each fault is found by its letters, and nothing where none was put in."""
+    letters = found(check, PutBack('nothing is wrong', ''))
+    assert letters == '', f'where nothing was put in, there are faults of the letters {letters}'
     for fault in FAULTS:
         letters = found(check, fault)
         assert set(fault.letters) <= set(letters), f'that {fault.what} is found by {letters or "nothing"}, and not by {fault.letters}'

@@ -19,6 +19,8 @@ from painted_tips import tip_faults, tip_places
 HERE = pathlib.Path(__file__).resolve().parent
 # No picture that is higher has to become a PNG: not every browser has so high a canvas.
 HIGHEST_PNG = 16384
+# High enough for rows above and below what is seen, and no higher: each look waits until the browser has painted all of the window.
+HEIGHT = 500
 
 
 class Setting(NamedTuple):
@@ -53,7 +55,7 @@ class Watched:
 
     def open(self, path: pathlib.Path) -> None:
         width, dots, scheme, below = self.setting
-        self.browser.send('Emulation.setDeviceMetricsOverride', width=width, height=700, deviceScaleFactor=dots, mobile=False)
+        self.browser.send('Emulation.setDeviceMetricsOverride', width=width, height=HEIGHT, deviceScaleFactor=dots, mobile=False)
         self.browser.send('Emulation.setEmulatedMedia', media='', features=[{'name': 'prefers-color-scheme', 'value': scheme}])
         self.browser.go(path, '#root=below' if below else '')
         self.browser.value("new Promise((done) => { if (document.readyState === 'complete') done();"
@@ -62,6 +64,11 @@ class Watched:
     def after(self, action: str) -> dict[str, Any]:
         """What is seen after an action."""
         seen: dict[str, Any] = self.browser.value(f'recorder.after(() => {action})')
+        return seen
+
+    def seen(self) -> dict[str, Any]:
+        """What is seen now."""
+        seen: dict[str, Any] = self.browser.value('recorder.seen()')
         return seen
 
     def go(self, view: View) -> list[Fault]:
@@ -96,22 +103,21 @@ class Watched:
         return Layout(-seen['scrolled'], len(self.document.drawing(self.view).rows), self.view.below, lanes=False)
 
     def compare(self, seen: dict[str, Any]) -> list[Fault]:
-        found = [*canvas_faults(seen)]
-        return found + self.named('the screen', faults_of(self.sight(), of_canvas(seen), self.screen(seen)))
+        return self.named('the screen', [*canvas_faults(seen), *faults_of(self.sight(), of_canvas(seen), self.screen(seen))])
 
     def named(self, where: str, faults: list[Fault]) -> list[Fault]:
         return [Fault(letter, f'{where} at {self.fragment(self.view)[:200]}, {self.setting}: {text}') for letter, text in faults]
 
     def compare_tips(self, drawn: random.Random, count: int) -> list[Fault]:
         """What tip and status say over places chosen at random."""
-        seen = self.after('{}')
+        seen = self.seen()
         places = tip_places(drawn, self.sight(), of_canvas(seen), self.screen(seen), count)
         told = self.browser.value(f'recorder.tips({json.dumps([place.point for place in places])})')
         return self.named('the tip', [fault for place, said in zip(places, told) for fault in tip_faults(self.sight(), place, said)])
 
     def click(self, drawn: random.Random) -> list[Fault]:
         """Clicks the middle of a wide box that is seen, and compares what is zoomed then."""
-        seen = self.after('{}')
+        seen = self.seen()
         layout, sight = self.screen(seen), self.sight()
         rows = [row for row in range(layout.rows) if 0 <= layout.top_of(row) <= seen['room'][1] - ROW]
         boxes = [(row, box) for row in rows for box in sight.drawing.edges(row, sight.span, seen['room'][0]) if box.width >= WIDE]

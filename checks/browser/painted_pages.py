@@ -104,28 +104,28 @@ def comparison_made(check: Check) -> bytes:
 
 
 def snapshots(check: Check) -> bytes:
-    stacks = like_profile(random.Random(8), LANGUAGES['python'], 600, 500)
-    return of_program(check, 'graph', '--least', '0', '--every', '150', check.write('snapshots.folded', text_of(stacks)))
+    stacks = like_profile(random.Random(8), LANGUAGES['python'], 400, 500)
+    return of_program(check, 'graph', '--least', '0', '--every', '100', check.write('snapshots.folded', text_of(stacks)))
 
 
 def filtered(check: Check) -> bytes:
-    stacks = like_profile(random.Random(9), LANGUAGES['go'], 1500)
+    stacks = like_profile(random.Random(9), LANGUAGES['go'], 1000)
     path = check.write('filtered.folded', text_of(stacks))
     return of_program(check, 'graph', '--least', '0', '--focus', 'Encode', '--hide', 'Scan', path)
 
 
 def like_go(check: Check) -> bytes:
-    stacks = like_profile(random.Random(20), LANGUAGES['go'], 2500)
+    stacks = like_profile(random.Random(20), LANGUAGES['go'], 1500)
     profile = profiles.profile([('cpu', 'nanoseconds')], [(stack, [weight]) for stack, weight in stacks])
     return of_program(check, 'graph', '--least', '0', check.write('go.pb', profile))
 
 
 def like_java(check: Check) -> bytes:
-    return of_program(check, 'graph', check.write('java.folded', text_of(like_profile(random.Random(21), LANGUAGES['java'], 2000))))
+    return of_program(check, 'graph', check.write('java.folded', text_of(like_profile(random.Random(21), LANGUAGES['java'], 1500))))
 
 
 def like_python(check: Check) -> bytes:
-    stacks = like_profile(random.Random(22), LANGUAGES['python'], 2500)
+    stacks = like_profile(random.Random(22), LANGUAGES['python'], 1500)
     return of_program(check, 'graph', '--least', '0', check.write('python.folded', text_of(stacks)))
 
 

@@ -45,7 +45,7 @@ class Narrow:
         if abs(box.width - 1) < DOUBT:
             self.doubtful.append(box)
             self.loose.add(pixel)
-        elif 0 < abs(box.left - nearest) < DOUBT or (box.left == nearest and box.left > 0):
+        elif box.left > 0 and abs(box.left - nearest) < DOUBT:
             self.doubtful.append(box)
             self.loose.update((nearest - 1, nearest))
         else:

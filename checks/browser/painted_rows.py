@@ -99,7 +99,7 @@ class Row:
             yield self.fault('a', f'{self.called(place)} is painted from {rectangle.left:.2f} to {rectangle.right:.2f}')
         if not has_colour(rectangle, place):
             yield self.fault('d', f'{self.called(place)} is painted in {rectangle.fill}, not in {place.colours}')
-        if not self.is_seen(rectangle, place):
+        if place.width >= HARDLY and not self.is_seen(rectangle, place):
             yield self.fault('e', f'{self.called(place)} is painted over')
         if self.has_titles and not place.is_doubtful:
             yield from self.title_faults(rectangle.title or '', place)

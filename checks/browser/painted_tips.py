@@ -63,20 +63,16 @@ def tip_faults(sight: Sight, pointed: Pointed, told: dict[str, Any]) -> Iterator
         if lines:
             yield Fault('f', f'{at}, where there is no box, the tip says {lines}')
         return
-    begin, weight, part = wanted(sight, pointed.boxes)
-    if not lines or not lines[0].startswith(begin):
-        yield Fault('f', f'{at} is painted {begin!r}, and the tip says {lines}')
-    elif weight not in lines[1] or part not in lines[1]:
-        yield Fault('f', f'{at} is painted {begin!r} of {weight}, {part}, and the tip says {lines}')
-    status: str = told['status']
-    if not (status.startswith(begin) and weight in status and part in status):
-        yield Fault('f', f'{at} is painted {begin!r} of {weight}, {part}, and the status says {status!r}')
+    begin, parts = wanted(sight, pointed.boxes)
+    for what, text in (('tip', ' · '.join(lines)), ('status', told['status'])):
+        if not (text.startswith(begin) and all(part in text[len(begin):] for part in parts)):
+            yield Fault('f', f'{at} is painted {begin!r} with {parts}, and the {what} says {text[:300]!r}')
 
 
-def wanted(sight: Sight, boxes: list[int]) -> tuple[str, str, str]:
-    """How a tip and a status begin, and the weight and the part that they tell."""
+def wanted(sight: Sight, boxes: list[int]) -> tuple[str, list[str]]:
+    """How a tip and a status begin, and what they tell then: the weight, its part of the whole, and the own weight of one box."""
     drawing = sight.drawing
     weight = sum(drawing.weight[box] for box in boxes)
     name = words.visible(sight.document.name(drawing, boxes[0])[:100]) or words.EMPTY
-    begin = name if len(boxes) == 1 else words.joined(len(boxes))
-    return begin, f'{weight:,}', words.percent(weight, drawing.total)
+    parts = [f'{weight:,}', words.percent(weight, drawing.total)]
+    return (name, [*parts, f'{drawing.own[boxes[0]]:,}']) if len(boxes) == 1 else (words.joined(len(boxes)), parts)

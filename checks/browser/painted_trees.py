@@ -8,8 +8,8 @@ from typing import Callable
 from painted_data import Data
 
 WORDS = ('read', 'parse', 'next', 'encode', 'Row', 'List', 'hash', 'poll', 'flush', 'visit', 'Tree', 'scan', 'merge', 'lock', 'send', 'map')
-ODD_NAMES = ('', '<', '&amp;', '"quoted"', "it's", 'Vec<Box<dyn Fn(&str) -> bool>>', '</script><script>', 'été', '你好世界', '😀 👩‍💻',
-             'מה שלומך', 'tab\there', 'a\u200eb', 'line\u2028end', '[U+0000]', 'x' * 1500, 'ab' * 40, '%', 'a/b', '#&=', '…', ' lead')
+ODD_NAMES = ('', '<', '&amp;', '"quoted"', "it's", 'Vec<Box<dyn Fn(&str) -> bool>>', '</script><script>', 'été', '你好世界',
+             '😀 👩‍💻', 'מה שלומך', 'tab\there', 'a\u200eb', 'line\u2028end', '[U+0000]', 'x' * 1500, 'ab' * 40, '%', 'a/b', '#&=', '…', ' lead')
 
 
 @dataclass

@@ -199,7 +199,7 @@
         async saved(kind) {
             saved = null;
             byId(`save-${kind}`).click();
-            for (let frames = 0; !saved && frames < 100; frames++) await frame();
+            await frame();
             return saved && (saved.record || bent('saved', await saved.blob.text()));
         },
         // The picture that is made for paper.
