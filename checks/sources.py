@@ -19,6 +19,23 @@ def below() -> dict[str, list[str]]:
     return {crate[1]: crate[2].split() for line in lines if (crate := re.match(r'(\w+)[^:#]*:(.*)', line))}
 
 
+@functools.cache
+def all_below(crate: str) -> frozenset[str]:
+    """The crates on which a crate stands, itself or by others."""
+    own = [it for it in below()[crate] if it in below()]
+    return frozenset(own).union(*map(all_below, own))
+
+
+def top_of(crate: str) -> str:
+    """The last crate on the way down from this one, on which at each step one of the crates below stands on all the others."""
+    while True:
+        own = [it for it in below()[crate] if it in below()]
+        highest = [it for it in own if {*own} <= {it} | all_below(it)]
+        if not highest:
+            return crate
+        crate = highest[0]
+
+
 def is_of_tests(crate: str) -> bool:
     return crate.endswith('_tests') or crate == 'end_to_end'
 

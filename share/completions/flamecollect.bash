@@ -15,9 +15,9 @@ _flamecollect() {
     fi
     case ${COMP_WORDS[1]} in
         fold) options='--type --format --lines --quiet -h --help --focus --hide --ring' ;;
-        graph) options='--width --type --format --every --lines --quiet -h --help --focus --hide --ring --page --title --least' ;;
-        chart) options='--width --type --format --lines --quiet -h --help --focus --hide --ring --page --title --least' ;;
-        compare) options='--width --type --format --boxes --lines --quiet -h --help --focus --hide --ring --page --title --least' ;;
+        graph) options='--width --type --format --every --lines --quiet -h --help --focus --hide --ring --page --svg --title --root-below --least' ;;
+        chart) options='--width --type --format --lines --quiet -h --help --focus --hide --ring --page --svg --title --root-below --least' ;;
+        compare) options='--width --type --format --boxes --lines --quiet -h --help --focus --hide --ring --page --svg --title --root-below --least' ;;
         top) options='-n --number --by --json --type --format --lines --quiet -h --help --focus --hide --ring' ;;
         types) options='-h --help' ;;
         help) COMPREPLY=($(compgen -W 'fold graph chart compare top types' -- "$word")); return ;;

@@ -1,6 +1,7 @@
 -- From what a parse ensures to what a plan does.
-use Rattle.std.proofs.Common.{◌≡◌, ◌∙◌, ◌≤◌, inl, inr, ℕ, Bool, cond, true, false, true≢false, ne_eqb, arith, refl, sym, ap, subst, List, [], ◌∷◌, length, Option, Some, None, is_some, option_map, codes}
-use Rattle.std.specs.Prelude.{unwrap_or, IfSome, IsSomeAnd}
+use Rattle.std.proofs.Common.{◌≡◌, ◌∙◌, ◌≤◌, ◌&&◌, ◌||◌, inl, inr, ℕ, Bool, cond, true, false, true≢false, ne_eqb, arith, refl, sym, ap, subst, List, [], ◌∷◌, length, Option, Some, None, is_some, option_map, codes}
+use Rattle.std.specs.Prelude.{option_and_then, unwrap_or, IfSome, IsSomeAnd}
+use Rattle.std.specs.List.{find}
 use Rattle.std.specs.Str.{bytes_eq}
 use Rattle.std.specs.Str.Parse.{IsNumeral, digits_value, without_leading_plus}
 use Rattle.std.proofs.lemmas.Slice.Eq.{bytes_eq-Decides}
@@ -9,14 +10,14 @@ use Rattle.clap.specs.Kinds.{HasKind, Kinds, or_else}
 use Rattle.clap.specs.Simple.{App, HasMatchesOf, is_simple, subcommand_of, subcommand_rows_of}
 use Rattle.clap.specs.Takes.{takes as parses}
 use Rattle.clap.specs.Values.{kind_of}
-use Rattle.clap.specs.Walk.{Row, Text, is_empty, one_of}
+use Rattle.clap.specs.Walk.{Row, Text, is_empty, one_of, row_text}
 use Rattle.clap.specs.declared.error.Error.{Error}
 use Rattle.clap.specs.declared.error.kind.ErrorKind.{ErrorKind}
 use Rattle.clap.specs.declared.error.kind.ErrorKind.TheVariants as kind
 use Rattle.clap.specs.declared.parser.matches.ArgMatches.{ArgMatches}
 use Rattle.command_line.specs.CommandLine.{command_line}
 use Rattle.command_line.specs.checked.Entries.{IsFaultOf, IsNumberAt, IsRead}
-use Rattle.command_line.specs.Plans.{IsComparison, IsDrawn, IsFaultAmong, IsOfOneProfile, IsPage, IsRequest, command_plan, compared_view, entered_plan, entries_fault, fault_of, form_of, has_its_page, is_set, knows_format, knows_order, number_at, own_fault, page_of, plan_with, table_of, types_plan, view_of, width_of}
+use Rattle.command_line.specs.Plans.{IsComparison, IsDrawn, IsFaultAmong, IsOfOneProfile, IsPage, IsPicture, IsRequest, command_plan, compared_view, entered_plan, entries_fault, fault_of, form_of, has_conflict, has_its_form, has_its_page, is_set, is_used, knows_format, knows_order, number_at, own_fault, page_of, picture_of, plan_with, table_of, types_plan, view_of, width_of}
 use Rattle.command_line.specs.declared.plans.Form.TheVariants as form
 use Rattle.command_line.specs.declared.arguments.TheConstants.{MOST_BETWEEN_SNAPSHOTS}
 use Rattle.command_line.specs.declared.plans.Plan.{Plan}
@@ -79,32 +80,66 @@ pub record Asks (plan : Plan) : Type 0 where
   pub pair : IsComparison plan.view → length plan.files ≡ 2
   pub every : IfSome plan.options.every (λ every. (1 ≤ every) × (every ≤ MOST_BETWEEN_SNAPSHOTS))
   pub page : IsPage plan.form → IsDrawn plan.view
+  pub picture : IsPicture plan.form → IsDrawn plan.view
+  pub alone : IsPicture plan.form → plan.options.every ≡ None
   pub types : plan.form ≡ form.Types → IsOfOneProfile plan
 
-page_is_drawn : (entries : List Row) (view : View) → (is_set (codes "page") entries ≡ true → IsDrawn view) → IsPage (form_of entries) → IsDrawn view
-page_is_drawn entries view drawn = go (is_set (codes "page") entries) refl
+-- an option that was not used has no number
+unused_number : (entries : List Row) (id : Text) → is_used id entries ≡ false → number_at id entries ≡ None
+unused_number entries id = go (find (λ r. bytes_eq r.id id) entries)
   where
-    go : (b : Bool) → is_set (codes "page") entries ≡ b → IsPage (cond b (form.Page (page_of entries)) form.Text) → IsDrawn view
-    go true set page = drawn set
-    go false set page = absurd page
+    go : (found : Option Row) → is_some (option_map (λ r. r.values) found) ≡ false → option_map (λ t. digits_value 10 (without_leading_plus t)) (option_and_then row_text found) ≡ None
+    go None e = refl
+    go (Some r) e = absurd (true≢false e)
+
+page_is_drawn : (entries : List Row) (view : View) → (is_set (codes "page") entries ≡ true → IsDrawn view) → IsPage (form_of entries) → IsDrawn view
+page_is_drawn entries view drawn = go (is_set (codes "page") entries) (is_set (codes "svg") entries) refl
+  where
+    go : (page svg : Bool) → is_set (codes "page") entries ≡ page → IsPage (cond page (form.Page (page_of entries)) (cond svg (form.Picture (picture_of entries)) form.Text)) → IsDrawn view
+    go true svg set page = drawn set
+    go false true set page = absurd page
+    go false false set page = absurd page
+
+-- a picture is asked for by `--svg`
+picture_is_set : (entries : List Row) → IsPicture (form_of entries) → is_set (codes "svg") entries ≡ true
+picture_is_set entries = go (is_set (codes "page") entries) (is_set (codes "svg") entries) refl
+  where
+    go : (page svg : Bool) → is_set (codes "svg") entries ≡ svg → IsPicture (cond page (form.Page (page_of entries)) (cond svg (form.Picture (picture_of entries)) form.Text))
+        → is_set (codes "svg") entries ≡ true
+    go true svg is picture = absurd picture
+    go false true is picture = is
+    go false false is picture = absurd picture
+
+-- beside it stand no snapshots
+picture_has_no_snapshots : (entries : List Row) → has_conflict entries ≡ false → IsPicture (form_of entries) → number_at (codes "every") entries ≡ None
+picture_has_no_snapshots entries alone picture =
+    unused_number entries (codes "every") (go (is_set (codes "page") entries) (is_used (codes "every") entries) (is_used (codes "least") entries) (ap (λ svg. svg && (is_set (codes "page") entries || (is_used (codes "every") entries || is_used (codes "least") entries))) (sym (picture_is_set entries picture)) ∙ alone))
+  where
+    go : (page every least : Bool) → (page || (every || least)) ≡ false → every ≡ false
+    go true every least e = absurd (true≢false e)
+    go false true least e = absurd (true≢false e)
+    go false false least e = refl
 
 shows_no_types : (entries : List Row) (P : Type 0) → form_of entries ≡ form.Types → P
-shows_no_types entries P = go (is_set (codes "page") entries)
+shows_no_types entries P = go (is_set (codes "page") entries) (is_set (codes "svg") entries)
   where
-    go : (b : Bool) → cond b (form.Page (page_of entries)) form.Text ≡ form.Types → P
-    go true e = cc
-    go false e = cc
+    go : (page svg : Bool) → cond page (form.Page (page_of entries)) (cond svg (form.Picture (picture_of entries)) form.Text) ≡ form.Types → P
+    go true svg e = cc
+    go false true e = cc
+    go false false e = cc
 
-view_asks : (name : Text) (entries : List Row) (view : View) → IsRead name entries → view_of name entries ≡ Some view → Asks (plan_with entries view)
-view_asks name entries view read known = record {
+view_asks : (name : Text) (entries : List Row) (view : View) → IsRead name entries → has_conflict entries ≡ false → view_of name entries ≡ Some view → Asks (plan_with entries view)
+view_asks name entries view read alone known = record {
   pair = λ compares. read.pair (comparison_named name entries view known compares);
   every = number_in_range (codes "every") MOST_BETWEEN_SNAPSHOTS entries read.every;
   page = page_is_drawn entries view (λ set. subst (λ (o : Option View). IfSome o IsDrawn) known (read.drawn set));
+  picture = λ picture. subst (λ (o : Option View). IfSome o IsDrawn) known (read.pictured (picture_is_set entries picture));
+  alone = picture_has_no_snapshots entries alone;
   types = shows_no_types entries _;
 }
 
 types_asks : (name : Text) (entries : List Row) → IsRead name entries → bytes_eq name (codes "types") ≡ true → Asks (types_plan entries)
-types_asks name entries read is = record { pair = λ compares. absurd compares; every = tt; page = λ page. absurd page; types = λ _. (read.single is, refl, refl) }
+types_asks name entries read is = record { pair = λ compares. absurd compares; every = tt; page = λ page. absurd page; picture = λ picture. absurd picture; alone = λ picture. absurd picture; types = λ _. (read.single is, refl, refl) }
 
 -- entries without a fault
 pub none_in : (kinds : Kinds) → is_empty kinds ≡ true → kinds ≡ []
@@ -120,15 +155,26 @@ with_no_fault {A} kinds o x at = go (is_empty kinds) refl at
     go true is at = (none_in kinds is, at)
     go false is at = cc
 
+no_conflict : (entries : List Row) → entries_fault entries ≡ [] → has_conflict entries ≡ false
+no_conflict entries = go (knows_format entries && knows_order entries) (has_conflict entries) (has_its_page entries && has_its_form entries)
+  where
+    go : (known conflict formed : Bool) → cond known (cond conflict (kind.ArgumentConflict ∷ []) (cond formed [] (kind.MissingRequiredArgument ∷ []))) (kind.InvalidValue ∷ []) ≡ [] → conflict ≡ false
+    go false conflict formed e = cc
+    go true true formed e = cc
+    go true false formed e = refl
+
 command_asks : (name : Text) (entries : List Row) (plan : Plan) → IsRead name entries → command_plan name entries ≡ Some plan → Asks plan
 command_asks name entries plan read is = of_name (bytes_eq name (codes "types")) refl (with_no_fault (entries_fault entries) _ plan is).1
   where
+    alone : has_conflict entries ≡ false
+    alone = no_conflict entries (with_no_fault (entries_fault entries) _ plan is).0
+
     same : (p : Plan) → Some p ≡ Some plan → Asks p → Asks plan
     same p e asks = subst Asks (ap (λ (o : Option Plan). unwrap_or o p) e) asks
 
     of_view : (view : Option View) → view_of name entries ≡ view → option_map (plan_with entries) view ≡ Some plan → Asks plan
     of_view None known at = cc
-    of_view (Some view) known at = same (plan_with entries view) at (view_asks name entries view read known)
+    of_view (Some view) known at = same (plan_with entries view) at (view_asks name entries view read alone known)
 
     of_name : (b : Bool) → bytes_eq name (codes "types") ≡ b → cond b (Some (types_plan entries)) (option_map (plan_with entries) (view_of name entries)) ≡ Some plan → Asks plan
     of_name true named at = same (types_plan entries) at (types_asks name entries read named)
@@ -173,12 +219,20 @@ refused_format entries unknown = rw unknown refl
 pub refused_order : (entries : List Row) → knows_format entries ≡ true → knows_order entries ≡ false → entries_fault entries ≡ kind.InvalidValue ∷ []
 refused_order entries known unknown = rw (known, unknown) refl
 
-pub refused_page : (entries : List Row) → knows_format entries ≡ true → knows_order entries ≡ true → has_its_page entries ≡ false
-    → entries_fault entries ≡ kind.MissingRequiredArgument ∷ []
-refused_page entries format order page = rw (format, order, page) refl
+pub refused_conflict : (entries : List Row) → knows_format entries ≡ true → knows_order entries ≡ true → has_conflict entries ≡ true
+    → entries_fault entries ≡ kind.ArgumentConflict ∷ []
+refused_conflict entries format order conflict = rw (format, order, conflict) refl
 
-pub without_fault : (entries : List Row) → knows_format entries ≡ true → knows_order entries ≡ true → has_its_page entries ≡ true → entries_fault entries ≡ []
-without_fault entries format order page = rw (format, order, page) refl
+pub refused_page : (entries : List Row) → knows_format entries ≡ true → knows_order entries ≡ true → has_conflict entries ≡ false → has_its_page entries ≡ false
+    → entries_fault entries ≡ kind.MissingRequiredArgument ∷ []
+refused_page entries format order alone page = rw (format, order, alone, page) refl
+
+pub refused_form : (entries : List Row) → knows_format entries ≡ true → knows_order entries ≡ true → has_conflict entries ≡ false → has_its_page entries ≡ true → has_its_form entries ≡ false
+    → entries_fault entries ≡ kind.MissingRequiredArgument ∷ []
+refused_form entries format order alone page formed = rw (format, order, alone, page, formed) refl
+
+pub without_fault : (entries : List Row) → knows_format entries ≡ true → knows_order entries ≡ true → has_conflict entries ≡ false → has_its_page entries ≡ true → has_its_form entries ≡ true → entries_fault entries ≡ []
+without_fault entries format order alone page formed = rw (format, order, alone, page, formed) refl
 
 pub planned_command : (name : Text) (entries : List Row) (o : Option Plan) → entries_fault entries ≡ []
     → cond (bytes_eq name (codes "types")) (Some (types_plan entries)) (option_map (plan_with entries) (view_of name entries)) ≡ o

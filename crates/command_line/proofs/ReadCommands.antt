@@ -215,6 +215,8 @@ record KnowsArguments (c : List Rule) : Type 0 where
   json : IsFlagRule (arg_by_id c (codes "json"))
   quiet : IsFlagRule (arg_by_id c (codes "quiet"))
   page : IsFlagRule (arg_by_id c (codes "page"))
+  svg : IsFlagRule (arg_by_id c (codes "svg"))
+  below : IsFlagRule (arg_by_id c (codes "root-below"))
   least : IsCountRule (arg_by_id c (codes "least"))
 
 module _ (s : Shape) (known : KnowsArguments s.rules) (once : s.args_override_self ≡ false) (words : List Text)
@@ -231,8 +233,9 @@ module _ (s : Shape) (known : KnowsArguments s.rules) (once : s.args_override_se
   reads_command : (bytes_eq s.name (codes "types") ≡ false → IsSome (view_of s.name rows))
       → (s.name ≡ codes "compare" → length (files_of rows) ≡ 2)
       → (is_set (codes "page") rows ≡ true → IfSome (view_of s.name rows) IsDrawn)
+      → (is_set (codes "svg") rows ≡ true → IfSome (view_of s.name rows) IsDrawn)
       → (bytes_eq s.name (codes "types") ≡ true → length (files_of rows) ≡ 1) → IsRead s.name rows
-  reads_command viewed pair drawn single = record {
+  reads_command viewed pair drawn pictured single = record {
     command = viewed;
     width = number_at_id s.rules rows each_row (codes "width") MAX_WIDTH known.width;
     ring = number_at_id s.rules rows each_row (codes "ring") LARGEST_RING known.ring;
@@ -243,15 +246,18 @@ module _ (s : Shape) (known : KnowsArguments s.rules) (once : s.args_override_se
     json = flag_at_id s.rules rows each_row (codes "json") known.json;
     quiet = flag_at_id s.rules rows each_row (codes "quiet") known.quiet;
     page = flag_at_id s.rules rows each_row (codes "page") known.page;
+    svg = flag_at_id s.rules rows each_row (codes "svg") known.svg;
+    below = flag_at_id s.rules rows each_row (codes "root-below") known.below;
     least = count_at_id s.rules rows each_row (codes "least") known.least;
     pair = pair;
     drawn = drawn;
+    pictured = pictured;
     single = single;
   }
 
-  -- a command that has no page asks for none
-  draws_no_page : (P : Type 0) → arg_by_id s.rules (codes "page") ≡ None → is_set (codes "page") rows ≡ true → P
-  draws_no_page P unknown set = absurd (true≢false (sym set ∙ unset_at_id s.rules rows each_row (codes "page") unknown))
+  -- a command that has no page or no picture asks for none
+  draws_none : (id : Text) (P : Type 0) → arg_by_id s.rules id ≡ None → is_set id rows ≡ true → P
+  draws_none id P unknown set = absurd (true≢false (sym set ∙ unset_at_id s.rules rows each_row id unknown))
 
 -- what is known of a command of the built command line, `help` aside
 abbrev ReadsCommand : Shape → Type 0
@@ -294,12 +300,14 @@ fold_known = record {
   json = tt;
   quiet = refl;
   page = tt;
+  svg = tt;
+  below = tt;
   least = tt;
 }
 
 graph_known : KnowsArguments built_graph.rules
 graph_known = record {
-  firsts = (refl, (refl, (refl, (refl, (refl, (refl, (refl, (refl, (refl, (refl, (refl, (refl, (refl, (refl, tt))))))))))))));
+  firsts = (refl, (refl, (refl, (refl, (refl, (refl, (refl, (refl, (refl, (refl, (refl, (refl, (refl, (refl, (refl, (refl, tt))))))))))))))));
   width = refl;
   ring = refl;
   every = refl;
@@ -309,12 +317,14 @@ graph_known = record {
   json = tt;
   quiet = refl;
   page = refl;
+  svg = refl;
+  below = refl;
   least = refl;
 }
 
 chart_known : KnowsArguments built_chart.rules
 chart_known = record {
-  firsts = (refl, (refl, (refl, (refl, (refl, (refl, (refl, (refl, (refl, (refl, (refl, (refl, (refl, tt)))))))))))));
+  firsts = (refl, (refl, (refl, (refl, (refl, (refl, (refl, (refl, (refl, (refl, (refl, (refl, (refl, (refl, (refl, tt)))))))))))))));
   width = refl;
   ring = refl;
   every = tt;
@@ -324,12 +334,14 @@ chart_known = record {
   json = tt;
   quiet = refl;
   page = refl;
+  svg = refl;
+  below = refl;
   least = refl;
 }
 
 compare_known : KnowsArguments built_compare.rules
 compare_known = record {
-  firsts = (refl, (refl, (refl, (refl, (refl, (refl, (refl, (refl, (refl, (refl, (refl, (refl, (refl, (refl, (refl, tt)))))))))))))));
+  firsts = (refl, (refl, (refl, (refl, (refl, (refl, (refl, (refl, (refl, (refl, (refl, (refl, (refl, (refl, (refl, (refl, (refl, tt)))))))))))))))));
   width = refl;
   ring = refl;
   every = tt;
@@ -339,6 +351,8 @@ compare_known = record {
   json = tt;
   quiet = refl;
   page = refl;
+  svg = refl;
+  below = refl;
   least = refl;
 }
 
@@ -354,6 +368,8 @@ top_known = record {
   json = refl;
   quiet = refl;
   page = tt;
+  svg = tt;
+  below = tt;
   least = tt;
 }
 
@@ -369,6 +385,8 @@ types_known = record {
   json = tt;
   quiet = tt;
   page = tt;
+  svg = tt;
+  below = tt;
   least = tt;
 }
 
@@ -384,28 +402,28 @@ fold_reads : ReadsCommand built_fold
 fold_reads = (
   refl,
   λ words other fault. reads_command built_fold fold_known refl words fault (λ _. refl) (not_compare _ _ refl)
-      (draws_no_page built_fold fold_known refl words fault _ refl) (not_types _),
+      (draws_none built_fold fold_known refl words fault (codes "page") _ refl) (draws_none built_fold fold_known refl words fault (codes "svg") _ refl) (not_types _),
 )
 
 graph_reads : ReadsCommand built_graph
 graph_reads = (
   refl,
   λ words other fault. reads_command built_graph graph_known refl words fault (λ _. refl) (not_compare _ _ refl)
-      (λ _. tt) (not_types _),
+      (λ _. tt) (λ _. tt) (not_types _),
 )
 
 chart_reads : ReadsCommand built_chart
 chart_reads = (
   refl,
   λ words other fault. reads_command built_chart chart_known refl words fault (λ _. refl) (not_compare _ _ refl)
-      (λ _. tt) (not_types _),
+      (λ _. tt) (λ _. tt) (not_types _),
 )
 
 top_reads : ReadsCommand built_top
 top_reads = (
   refl,
   λ words other fault. reads_command built_top top_known refl words fault (λ _. refl) (not_compare _ _ refl)
-      (draws_no_page built_top top_known refl words fault _ refl) (not_types _),
+      (draws_none built_top top_known refl words fault (codes "page") _ refl) (draws_none built_top top_known refl words fault (codes "svg") _ refl) (not_types _),
 )
 
 both_given : (before after : Bool) → (not before || (not after || false)) ≡ false → (before ≡ true) × (after ≡ true)
@@ -413,19 +431,29 @@ both_given true true e = (refl, refl)
 both_given true false e = absurd (true≢false e)
 both_given false after e = absurd (true≢false e)
 
-compared_is_drawn : (entries : List Row) → is_set (codes "page") entries ≡ true → IsDrawn (compared_view entries)
-compared_is_drawn entries set = go (is_set (codes "boxes") entries) (is_set (codes "page") entries) set
+compared_is_drawn : (entries : List Row) → (is_set (codes "page") entries || is_set (codes "svg") entries) ≡ true → IsDrawn (compared_view entries)
+compared_is_drawn entries set = go (is_set (codes "boxes") entries) (is_set (codes "page") entries || is_set (codes "svg") entries) set
   where
-    go : (boxes page : Bool) → page ≡ true → IsDrawn (cond (boxes || page) (PairBoxes (width_of entries)) Pairs)
-    go true page e = tt
+    go : (boxes drawn : Bool) → drawn ≡ true → IsDrawn (cond (boxes || drawn) (PairBoxes (width_of entries)) Pairs)
+    go true drawn e = tt
     go false true e = tt
     go false false e = absurd (true≢false (sym e))
+
+page_is_drawn : (entries : List Row) → is_set (codes "page") entries ≡ true → IsDrawn (compared_view entries)
+page_is_drawn entries set = compared_is_drawn entries (rw set refl)
+
+picture_is_drawn : (entries : List Row) → is_set (codes "svg") entries ≡ true → IsDrawn (compared_view entries)
+picture_is_drawn entries set = compared_is_drawn entries (either (is_set (codes "page") entries) (is_set (codes "svg") entries) set)
+  where
+    either : (page svg : Bool) → svg ≡ true → (page || svg) ≡ true
+    either true svg e = refl
+    either false svg e = e
 
 compare_reads : ReadsCommand built_compare
 compare_reads = (
   refl,
   λ words other fault. reads_command built_compare compare_known refl words fault (λ _. refl) (λ _. two words fault)
-      (compared_is_drawn (rows_after built_compare.rules [] words)) (not_types _),
+      (page_is_drawn (rows_after built_compare.rules [] words)) (picture_is_drawn (rows_after built_compare.rules [] words)) (not_types _),
 )
   where
     two : (words : List Text) → level_fault built_compare [] nothing_held words false [] ≡ [] → length (files_of (rows_after built_compare.rules [] words)) ≡ 2
@@ -445,7 +473,7 @@ types_reads : ReadsCommand built_types
 types_reads = (
   refl,
   λ words other fault. reads_command built_types types_known refl words fault (λ e. absurd (true≢false e)) (not_compare _ _ refl)
-      (draws_no_page built_types types_known refl words fault _ refl) (λ _. one words fault),
+      (draws_none built_types types_known refl words fault (codes "page") _ refl) (draws_none built_types types_known refl words fault (codes "svg") _ refl) (λ _. one words fault),
 )
   where
     one : (words : List Text) → level_fault built_types [] nothing_held words false [] ≡ [] → length (files_of (rows_after built_types.rules [] words)) ≡ 1

@@ -15,7 +15,7 @@ use Rattle.command_line.specs.checked.Entries.{IsCountAt, IsFlagAt, IsNumberAt, 
 use Rattle.run_options.specs.Formats.{named_format}
 use Rattle.run_options.specs.Orders.{named_order}
 use Rattle.run_options.specs.declared.orders.FunctionOrder.TheVariants.{Own}
-use Rattle.command_line.specs.Plans.{asked_format, form_of, has_its_page, is_set, is_used, knows_format, knows_order, number_at, order_of, page_of, pick_of, shows_boxes, title_of, values_at}
+use Rattle.command_line.specs.Plans.{asked_format, form_of, has_conflict, has_its_form, has_its_page, is_drawn, is_root_below, is_set, is_used, knows_format, knows_order, number_at, order_of, page_of, pick_of, picture_of, shows_boxes, title_of, values_at}
 use Rattle.command_line.specs.declared.plans.Form.TheVariants as form
 
 -- how `u32` reads a text
@@ -126,26 +126,56 @@ used_given m id r is = is ∙ mapped (matched_of (found_of m) id) ∙ ap is_some
     mapped None = refl
     mapped (Some a) = refl
 
--- ---- pages
+-- ---- pages and pictures
 
 pub paged : (entries : List Row) → is_set (codes "page") entries ≡ true → form_of entries ≡ form.Page (page_of entries)
 paged entries set = rw set refl
 
-pub unpaged : (entries : List Row) → is_set (codes "page") entries ≡ false → form_of entries ≡ form.Text
-unpaged entries unset = rw unset refl
+pub pictured : (entries : List Row) → is_set (codes "page") entries ≡ false → is_set (codes "svg") entries ≡ true → form_of entries ≡ form.Picture (picture_of entries)
+pictured entries unset set = rw (unset, set) refl
 
+pub written : (entries : List Row) → is_set (codes "page") entries ≡ false → is_set (codes "svg") entries ≡ false → form_of entries ≡ form.Text
+written entries unset unpictured = rw (unset, unpictured) refl
+
+-- what a picture excludes
+pub no_picture : (entries : List Row) → is_set (codes "svg") entries ≡ false → has_conflict entries ≡ false
+no_picture entries unset = rw unset refl
+
+pub with_page : (entries : List Row) → is_set (codes "svg") entries ≡ true → is_set (codes "page") entries ≡ true → has_conflict entries ≡ true
+with_page entries svg page = rw (svg, page) refl
+
+pub with_every : (entries : List Row) → is_set (codes "svg") entries ≡ true → is_set (codes "page") entries ≡ false → is_used (codes "every") entries ≡ true → has_conflict entries ≡ true
+with_every entries svg page every = rw (svg, page, every) refl
+
+pub by_least : (entries : List Row) → is_set (codes "svg") entries ≡ true → is_set (codes "page") entries ≡ false → is_used (codes "every") entries ≡ false
+    → has_conflict entries ≡ is_used (codes "least") entries
+by_least entries svg page every = rw (svg, page, every) refl
+
+-- what is said of a page or a picture alone
 pub asked_page : (entries : List Row) → is_set (codes "page") entries ≡ true → has_its_page entries ≡ true
 asked_page entries set = rw set refl
 
-pub titled_alone : (entries : List Row) → is_set (codes "page") entries ≡ false → is_used (codes "title") entries ≡ true → has_its_page entries ≡ false
-titled_alone entries unset title = rw (unset, title) refl
+pub by_no_page : (entries : List Row) → is_set (codes "page") entries ≡ false → has_its_page entries ≡ not (is_used (codes "least") entries)
+by_no_page entries unset = rw unset refl
 
-pub untitled : (entries : List Row) → is_set (codes "page") entries ≡ false → is_used (codes "title") entries ≡ false
-    → has_its_page entries ≡ not (is_used (codes "least") entries)
-untitled entries unset title = rw (unset, title) refl
+pub asked_form : (entries : List Row) → is_drawn entries ≡ true → has_its_form entries ≡ true
+asked_form entries drawn = rw drawn refl
+
+pub titled_alone : (entries : List Row) → is_drawn entries ≡ false → is_used (codes "title") entries ≡ true → has_its_form entries ≡ false
+titled_alone entries undrawn title = rw (undrawn, title) refl
+
+pub untitled : (entries : List Row) → is_drawn entries ≡ false → is_used (codes "title") entries ≡ false
+    → has_its_form entries ≡ not (is_root_below entries)
+untitled entries undrawn title = rw (undrawn, title) refl
+
+pub drawn_by_page : (entries : List Row) → is_set (codes "page") entries ≡ true → is_drawn entries ≡ true
+drawn_by_page entries page = rw page refl
+
+pub drawn_by_picture : (entries : List Row) → is_set (codes "page") entries ≡ false → is_drawn entries ≡ is_set (codes "svg") entries
+drawn_by_picture entries unset = rw unset refl
 
 pub boxed : (entries : List Row) → is_set (codes "boxes") entries ≡ true → shows_boxes entries ≡ true
 boxed entries boxes = rw boxes refl
 
-pub boxed_by_page : (entries : List Row) → is_set (codes "boxes") entries ≡ false → shows_boxes entries ≡ is_set (codes "page") entries
-boxed_by_page entries unset = rw unset refl
+pub boxed_by_drawing : (entries : List Row) → is_set (codes "boxes") entries ≡ false → shows_boxes entries ≡ is_drawn entries
+boxed_by_drawing entries unset = rw unset refl

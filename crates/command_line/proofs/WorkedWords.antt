@@ -95,12 +95,12 @@ unfolding clap_on_literals
 quiet_fold = refl
 
 page_of_a_graph : plan_of (codes "graph" ∷ codes "--page" ∷ codes "x" ∷ [])
-    ≡ Some (record (plan_with (Graph 1200) defaults (codes "x" ∷ [])) { form = form.Page (record { title = None; least = None }) })
+    ≡ Some (record (plan_with (Graph 1200) defaults (codes "x" ∷ [])) { form = form.Page (record { title = None; least = None; is_root_below = false }) })
 unfolding clap_on_literals
 page_of_a_graph = refl
 
 page_with_a_title : plan_of (codes "chart" ∷ codes "--title" ∷ codes "t u" ∷ codes "--page" ∷ codes "--least=0" ∷ codes "--width=9" ∷ [])
-    ≡ Some (record (plan_with (Chart 9) defaults []) { form = form.Page (record { title = Some (codes "t u"); least = Some 0 }) })
+    ≡ Some (record (plan_with (Chart 9) defaults []) { form = form.Page (record { title = Some (codes "t u"); least = Some 0; is_root_below = false }) })
 unfolding clap_on_literals
 page_with_a_title = refl
 
@@ -109,6 +109,51 @@ page_of_a_comparison : plan_of (codes "compare" ∷ codes "--page" ∷ codes "a"
     ≡ plan_of (codes "compare" ∷ codes "--page" ∷ codes "--boxes" ∷ codes "a" ∷ codes "b" ∷ [])
 unfolding clap_on_literals
 page_of_a_comparison = refl
+
+page_with_the_root_below : plan_of (codes "graph" ∷ codes "--root-below" ∷ codes "--page" ∷ [])
+    ≡ Some (record (plan_with (Graph 1200) defaults []) { form = form.Page (record { title = None; least = None; is_root_below = true }) })
+unfolding clap_on_literals
+page_with_the_root_below = refl
+
+picture_of_a_graph : plan_of (codes "graph" ∷ codes "--svg" ∷ codes "--width" ∷ codes "800" ∷ codes "x" ∷ [])
+    ≡ Some (record (plan_with (Graph 800) defaults (codes "x" ∷ [])) { form = form.Picture (record { title = None; is_root_below = false }) })
+unfolding clap_on_literals
+picture_of_a_graph = refl
+
+picture_with_a_title : plan_of (codes "chart" ∷ codes "--title" ∷ codes "t u" ∷ codes "--root-below" ∷ codes "--svg" ∷ [])
+    ≡ Some (record (plan_with (Chart 1200) defaults []) { form = form.Picture (record { title = Some (codes "t u"); is_root_below = true }) })
+unfolding clap_on_literals
+picture_with_a_title = refl
+
+-- the picture of a comparison shows boxes, said or not
+picture_of_a_comparison : plan_of (codes "compare" ∷ codes "a" ∷ codes "--svg" ∷ codes "b" ∷ [])
+    ≡ Some (record (plan_with (PairBoxes 1200) defaults (codes "a" ∷ codes "b" ∷ [])) { form = form.Picture (record { title = None; is_root_below = false }) })
+unfolding clap_on_literals
+picture_of_a_comparison = refl
+
+picture_and_page : fault_of command_line (codes "graph" ∷ codes "--svg" ∷ codes "--page" ∷ []) ≡ kind.ArgumentConflict ∷ []
+unfolding clap_on_literals
+picture_and_page = refl
+
+picture_and_snapshots : fault_of command_line (codes "graph" ∷ codes "--every" ∷ codes "5" ∷ codes "--svg" ∷ []) ≡ kind.ArgumentConflict ∷ []
+unfolding clap_on_literals
+picture_and_snapshots = refl
+
+picture_and_least : plan_of (codes "compare" ∷ codes "a" ∷ codes "--least=0" ∷ codes "--svg" ∷ codes "b" ∷ []) ≡ None
+unfolding clap_on_literals
+picture_and_least = refl
+
+picture_and_json : fault_of command_line (codes "graph" ∷ codes "--svg" ∷ codes "--json" ∷ []) ≡ kind.UnknownArgument ∷ []
+unfolding clap_on_literals
+picture_and_json = refl
+
+root_below_alone : fault_of command_line (codes "graph" ∷ codes "--root-below" ∷ []) ≡ kind.MissingRequiredArgument ∷ []
+unfolding clap_on_literals
+root_below_alone = refl
+
+no_picture_of_fold : fault_of command_line (codes "fold" ∷ codes "--svg" ∷ []) ≡ kind.UnknownArgument ∷ []
+unfolding clap_on_literals
+no_picture_of_fold = refl
 
 title_without_a_page : fault_of command_line (codes "graph" ∷ codes "--title" ∷ codes "t" ∷ []) ≡ kind.MissingRequiredArgument ∷ []
 unfolding clap_on_literals

@@ -74,6 +74,12 @@ quiet_flag = flag (codes "quiet")
 abbrev pub page_flag : Rule
 page_flag = flag (codes "page")
 
+abbrev pub svg_flag : Rule
+svg_flag = flag (codes "svg")
+
+abbrev pub root_below_flag : Rule
+root_below_flag = flag (codes "root-below")
+
 abbrev pub title_option : Rule
 title_option = record (text_option (codes "title")) { parser = Some NonEmptyString }
 
@@ -92,17 +98,18 @@ fold_command = command (codes "fold") (type_option ∷ format_option ∷ focus_o
 abbrev pub graph_command : Shape
 graph_command = command (codes "graph") (width_option ∷ type_option ∷ format_option
     ∷ focus_option ∷ hide_option ∷ ring_option ∷ every_option ∷ lines_flag ∷ quiet_flag
-    ∷ page_flag ∷ title_option ∷ least_option ∷ any_files (codes "file") ∷ [])
+    ∷ page_flag ∷ svg_flag ∷ title_option ∷ root_below_flag ∷ least_option ∷ any_files (codes "file") ∷ [])
 
 abbrev pub chart_command : Shape
 chart_command = command (codes "chart") (width_option ∷ type_option ∷ format_option
     ∷ focus_option ∷ hide_option ∷ ring_option ∷ lines_flag ∷ quiet_flag
-    ∷ page_flag ∷ title_option ∷ least_option ∷ any_files (codes "file") ∷ [])
+    ∷ page_flag ∷ svg_flag ∷ title_option ∷ root_below_flag ∷ least_option ∷ any_files (codes "file") ∷ [])
 
 abbrev pub compare_command : Shape
 compare_command = command (codes "compare") (width_option ∷ type_option ∷ format_option
     ∷ focus_option ∷ hide_option ∷ ring_option ∷ boxes_flag ∷ lines_flag ∷ quiet_flag
-    ∷ page_flag ∷ title_option ∷ least_option ∷ one_file (codes "before") ∷ one_file (codes "after") ∷ [])
+    ∷ page_flag ∷ svg_flag ∷ title_option ∷ root_below_flag ∷ least_option
+    ∷ one_file (codes "before") ∷ one_file (codes "after") ∷ [])
 
 abbrev pub top_command : Shape
 top_command = command (codes "top") (rows_option ∷ by_option ∷ json_flag ∷ type_option ∷ format_option

@@ -27,6 +27,7 @@ use Rattle.command_line.specs.CommandLine.{command_line}
 use Rattle.command_line.specs.declared.plans.Form.{Form}
 use Rattle.command_line.specs.declared.plans.Form.TheVariants as form
 use Rattle.command_line.specs.declared.plans.PageForm.{PageForm}
+use Rattle.command_line.specs.declared.plans.PictureForm.{PictureForm}
 use Rattle.command_line.specs.declared.plans.Plan.{Plan}
 use Rattle.command_line.specs.declared.plans.PlanFault.{PlanFault}
 use Rattle.command_line.specs.declared.plans.PlanFault.TheVariants as fault
@@ -91,9 +92,13 @@ default_options = options_of []
 abbrev pub width_of : List Row → ℕ
 width_of entries = unwrap_or (number_at (codes "width") entries) 1200
 
--- a page shows boxes, whatever else is said
+-- a page or a picture is asked for
+abbrev pub is_drawn : List Row → Bool
+is_drawn entries = is_set (codes "page") entries || is_set (codes "svg") entries
+
+-- it shows boxes, whatever else is said
 abbrev pub shows_boxes : List Row → Bool
-shows_boxes entries = is_set (codes "boxes") entries || is_set (codes "page") entries
+shows_boxes entries = is_set (codes "boxes") entries || is_drawn entries
 
 abbrev pub compared_view : List Row → View
 compared_view entries =
@@ -125,20 +130,40 @@ view_of name entries =
     else (if bytes_eq name (codes "compare") then Some (compared_view entries)
     else (if bytes_eq name (codes "top") then Some (Top (table_of entries)) else None))))
 
--- what is written of the view: its text, or a page with what the words say of it
+-- what is written of the view: its text, or a page or a picture with what the words say of it
 abbrev pub title_of : List Row → Option Text
 title_of entries = first_of (codes "title") entries
 
+abbrev pub is_root_below : List Row → Bool
+is_root_below entries = is_set (codes "root-below") entries
+
 abbrev pub page_of : List Row → PageForm
-page_of entries = record { title = title_of entries; least = number_at (codes "least") entries }
+page_of entries = record {
+  title = title_of entries;
+  least = number_at (codes "least") entries;
+  is_root_below = is_root_below entries;
+}
+
+abbrev pub picture_of : List Row → PictureForm
+picture_of entries = record { title = title_of entries; is_root_below = is_root_below entries }
 
 abbrev pub form_of : List Row → Form
-form_of entries = if is_set (codes "page") entries then form.Page (page_of entries) else form.Text
+form_of entries =
+    if is_set (codes "page") entries then form.Page (page_of entries)
+    else (if is_set (codes "svg") entries then form.Picture (picture_of entries) else form.Text)
 
--- a title and a least weight are those of a page
+-- a picture is no page, has no snapshots, and leaves boxes out by its width alone
+abbrev pub has_conflict : List Row → Bool
+has_conflict entries = is_set (codes "svg") entries
+    && (is_set (codes "page") entries || (is_used (codes "every") entries || is_used (codes "least") entries))
+
+-- a least weight is that of a page, and a title and a root below are those of a page or a picture
 abbrev pub has_its_page : List Row → Bool
-has_its_page entries = is_set (codes "page") entries
-    || not (is_used (codes "title") entries || is_used (codes "least") entries)
+has_its_page entries = is_set (codes "page") entries || not (is_used (codes "least") entries)
+
+abbrev pub has_its_form : List Row → Bool
+has_its_form entries = is_drawn entries
+    || not (is_used (codes "title") entries || is_root_below entries)
 
 -- a command has either FILEs or BEFORE and AFTER
 abbrev pub files_of : List Row → List Text
@@ -167,11 +192,13 @@ types_plan entries = record {
   is_quiet = false;
 }
 
--- the faults of entries that `clap` takes: a format or an order that there is not, else a title or a least weight without a page
+-- the faults of entries that `clap` takes: a format or an order that there is not, else a picture beside what it excludes, else
+-- what is said of a page or a picture where none is asked for
 abbrev pub entries_fault : List Row → Kinds
 entries_fault entries =
     if knows_format entries && knows_order entries
-    then (if has_its_page entries then [] else kind.MissingRequiredArgument ∷ [])
+    then (if has_conflict entries then kind.ArgumentConflict ∷ []
+    else (if has_its_page entries && has_its_form entries then [] else kind.MissingRequiredArgument ∷ []))
     else kind.InvalidValue ∷ []
 
 -- the plan of a command with its entries, if they have no fault
@@ -215,7 +242,15 @@ IsDrawn (Top table) = ⊥
 abbrev pub IsPage : Form → Type 0
 IsPage form.Text = ⊥
 IsPage (form.Page page) = Unit {0}
+IsPage (form.Picture picture) = ⊥
 IsPage form.Types = ⊥
+
+-- a picture is written
+abbrev pub IsPicture : Form → Type 0
+IsPicture form.Text = ⊥
+IsPicture (form.Page page) = ⊥
+IsPicture (form.Picture picture) = Unit {0}
+IsPicture form.Types = ⊥
 
 -- the plan reads one profile, with the default options
 abbrev pub IsOfOneProfile : Plan → Type 0

@@ -4,8 +4,8 @@ ghost use Rattle.clap.specs.Words.{rule_of};
 ghost use Rattle.command_line.specs.checked.Commands.{rule_at};
 
 use crate::arguments::{
-    MOST_BETWEEN_SNAPSHOTS, files, filter_option, flag, least_option, number_option, one_file,
-    page_flag, ring_option, rows_option, text_option, title_option,
+    MOST_BETWEEN_SNAPSHOTS, files, filter_option, flag, form_flag, least_option, number_option,
+    one_file, ring_option, rows_option, text_option, title_option,
 };
 use clap::Arg;
 use run_options::MAX_WIDTH;
@@ -27,7 +27,9 @@ pub(crate) enum Argument {
     Json,
     Quiet,
     Page,
+    Svg,
     Title,
+    RootBelow,
     Least,
     Files,
     Before,
@@ -57,7 +59,9 @@ pub(crate) const GRAPH: &[Argument] = &[
     Argument::Lines,
     Argument::Quiet,
     Argument::Page,
+    Argument::Svg,
     Argument::Title,
+    Argument::RootBelow,
     Argument::Least,
     Argument::Files,
 ];
@@ -72,7 +76,9 @@ pub(crate) const CHART: &[Argument] = &[
     Argument::Lines,
     Argument::Quiet,
     Argument::Page,
+    Argument::Svg,
     Argument::Title,
+    Argument::RootBelow,
     Argument::Least,
     Argument::Files,
 ];
@@ -88,7 +94,9 @@ pub(crate) const COMPARE: &[Argument] = &[
     Argument::Lines,
     Argument::Quiet,
     Argument::Page,
+    Argument::Svg,
     Argument::Title,
+    Argument::RootBelow,
     Argument::Least,
     Argument::Before,
     Argument::After,
@@ -130,7 +138,9 @@ impl Argument {
             Argument::Json => "Write the table as a line of JSON instead",
             Argument::Quiet => "Show no progress on a terminal",
             Argument::Page => "Write a page for browsers instead",
-            Argument::Title => "Title of the page",
+            Argument::Svg => "Write an SVG instead",
+            Argument::Title => "Title of the page or the SVG",
+            Argument::RootBelow => "Draw the root below in the page or the SVG",
             Argument::Least => "Least weight of a box that the page keeps",
             Argument::Files =>
                 "Profiles, pprof if named .pb, .pprof or .prof, else folded [default: standard input]",
@@ -159,8 +169,10 @@ impl Argument {
             Argument::By => text_option(alloc, "by", "WEIGHT", help),
             Argument::Json => flag(alloc, "json", help),
             Argument::Quiet => flag(alloc, "quiet", help),
-            Argument::Page => page_flag(alloc, help),
+            Argument::Page => form_flag(alloc, "page", help),
+            Argument::Svg => form_flag(alloc, "svg", help),
             Argument::Title => title_option(alloc, help),
+            Argument::RootBelow => form_flag(alloc, "root-below", help),
             Argument::Least => least_option(alloc, help),
             Argument::Files => files(alloc, help),
             Argument::Before => one_file(alloc, "before", "BEFORE", help),

@@ -1,7 +1,7 @@
 //! The kinds of arguments that commands have: options, flags and files.
 ghost use Rattle.std.specs.Prelude.{◌≡◌, codes};
 ghost use Rattle.clap.specs.Words.{rule_of};
-ghost use Rattle.command_line.specs.CommandLine.{any_files, flag, least_option, number_option, one_file, page_flag, ring_option, rows_option, text_option, texts_option, title_option};
+ghost use Rattle.command_line.specs.CommandLine.{any_files, flag, least_option, number_option, one_file, ring_option, rows_option, text_option, texts_option, title_option};
 
 use clap::builder::ValueParser;
 use clap::{Arg, ArgAction, value_parser};
@@ -13,6 +13,9 @@ pub(crate) const MOST_BETWEEN_SNAPSHOTS: u32 = 1_000_000_000;
 
 // The most rows of a table.
 const MOST_ROWS: u32 = 1_000_000_000;
+
+// The heading of what is said of pages and of SVGs.
+const FORMS: &str = "Pages and SVGs";
 
 // An option with a value, which is any text.
 pub(crate) fn text_option<'a>(
@@ -67,10 +70,10 @@ pub(crate) fn rows_option<'a>(alloc: Global, help: &'a str) -> Arg<'a>
     number_option(alloc, "number", MOST_ROWS, help).short('n')
 }
 
-pub(crate) fn page_flag<'a>(alloc: Global, help: &'a str) -> Arg<'a>
-    ensures { rule_of result ≡ page_flag }
+pub(crate) fn form_flag<'a>(alloc: Global, name: &'a str, help: &'a str) -> Arg<'a>
+    ensures { rule_of result ≡ flag name.entry.now }
 {
-    flag(alloc, "page", help).help_heading("Pages")
+    flag(alloc, name, help).help_heading(FORMS)
 }
 
 pub(crate) fn title_option<'a>(alloc: Global, help: &'a str) -> Arg<'a>
@@ -78,7 +81,7 @@ pub(crate) fn title_option<'a>(alloc: Global, help: &'a str) -> Arg<'a>
 {
     text_option(alloc, "title", "TEXT", help)
         .value_parser(ValueParser::NonEmptyString)
-        .help_heading("Pages")
+        .help_heading(FORMS)
 }
 
 pub(crate) fn least_option<'a>(alloc: Global, help: &'a str) -> Arg<'a>
@@ -86,7 +89,7 @@ pub(crate) fn least_option<'a>(alloc: Global, help: &'a str) -> Arg<'a>
 {
     text_option(alloc, "least", "N", help)
         .value_parser(value_parser!(u64))
-        .help_heading("Pages")
+        .help_heading(FORMS)
 }
 
 pub(crate) fn files<'a>(alloc: Global, help: &'a str) -> Arg<'a>

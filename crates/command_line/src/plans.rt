@@ -43,6 +43,8 @@ pub enum Form {
     Text,
     /// A page for browsers that shows the view.
     Page(PageForm),
+    /// An SVG that shows the view.
+    Picture(PictureForm),
     /// The sample types of a profile, in place of a view.
     Types,
 }
@@ -54,6 +56,17 @@ pub struct PageForm {
     pub title: Option<Text>,
     /// The least weight of a box that it keeps, if the words set one.
     pub least: Option<u64>,
+    /// The root is below when it opens.
+    pub is_root_below: bool,
+}
+
+/// An SVG, as wide as its view.
+#[derive(Debug, Drop)]
+pub struct PictureForm {
+    /// Its title, if the words set one.
+    pub title: Option<Text>,
+    /// The root is below.
+    pub is_root_below: bool,
 }
 
 /// A run as the words ask for it.

@@ -1,19 +1,29 @@
 //! Why words are refused, and the entries that `clap` takes and that mean nothing.
-ghost use Rattle.std.specs.Prelude.{◌≡◌, [], IfErr, IfOk, OnOk, codes};
+ghost use Rattle.std.specs.Prelude.{◌≡◌, [], IfErr, IfOk, OnOk, codes, is_some};
 ghost use Rattle.clap.specs.declared.error.kind.ErrorKind.TheVariants.{InvalidValue};
 ghost use Rattle.clap.specs.Words.{kind_of};
-ghost use Rattle.command_line.specs.Plans.{IsFaultAmong, entries_fault, has_its_page, knows_format, knows_order};
+ghost use Rattle.command_line.specs.Plans.{IsFaultAmong, entries_fault, has_conflict, has_its_form, has_its_page, knows_format, knows_order};
 ghost use Rattle.command_line.specs.checked.Entries.{IsFaultOf, IsFlagAt, entries_of};
 
 use crate::commands::command_line;
 use crate::plans::PlanFault;
+use crate::views::{is_drawn, is_root_below};
 use clap::error::ErrorKind;
 use clap::{ArgMatches, Error};
 use run_options::{Format, FunctionOrder};
 use std::alloc::{AllocError, Global};
 
-// What is said of a title without a page.
+// What is said of a picture beside what it excludes.
+const SVG_AND_PAGE: &str = "the argument '--svg' cannot be used with '--page'";
+
+const SVG_AND_EVERY: &str = "the argument '--svg' cannot be used with '--every <N>'";
+
+const SVG_AND_LEAST: &str = "the argument '--svg' cannot be used with '--least <N>'";
+
+// What is said of a least weight without a page, and of a title or a root below with neither a page nor a picture.
 const MISSING_PAGE: &str = "the following required arguments were not provided:\n  --page";
+
+const MISSING_FORM: &str = "the following required arguments were not provided:\n  <--page|--svg>";
 
 // What the error is for the caller.
 pub(crate) fn refusal(alloc: Global, error: &Error) -> PlanFault
@@ -31,10 +41,12 @@ pub(crate) fn refusal(alloc: Global, error: &Error) -> PlanFault
     }
 }
 
-// Refuses a format or an order of functions that there is not, and what is said of a page where none
-// is asked for.
+// Refuses a format or an order of functions that there is not, a picture beside what it excludes, and
+// what is said of a page or a picture where none is asked for.
 pub(crate) fn check_entries(alloc: Global, entries: &ArgMatches<'_>) -> Result<(), PlanFault>
-    requires { IsFlagAt (codes "page") (entries_of entries.now) }
+    requires page { IsFlagAt (codes "page") (entries_of entries.now) }
+    requires svg { IsFlagAt (codes "svg") (entries_of entries.now) }
+    requires below { IsFlagAt (codes "root-below") (entries_of entries.now) }
     ensures meant { OnOk result (entries_fault (entries_of entries.now) ≡ []) }
     ensures refused { IfErr result (IsFaultAmong (entries_fault (entries_of entries.now))) }
 {
@@ -46,8 +58,14 @@ pub(crate) fn check_entries(alloc: Global, entries: &ArgMatches<'_>) -> Result<(
         let given = entries.get_str("by").unwrap_or("");
         return Err(refused_value(alloc, given, "--by <WEIGHT>", "own, total"));
     }
+    if let Some(conflict) = conflict(entries) {
+        return Err(refused(alloc, ErrorKind::ArgumentConflict, conflict));
+    }
     if !has_its_page(entries) {
         return Err(refused(alloc, ErrorKind::MissingRequiredArgument, MISSING_PAGE));
+    }
+    if !has_its_form(entries) {
+        return Err(refused(alloc, ErrorKind::MissingRequiredArgument, MISSING_FORM));
     }
     Ok(())
 }
@@ -70,16 +88,48 @@ fn knows_order(entries: &ArgMatches<'_>) -> bool
     }
 }
 
+// What is said of a picture beside the first thing that it excludes, if there is one.
+fn conflict(entries: &ArgMatches<'_>) -> Option<&'static str>
+    requires page { IsFlagAt (codes "page") (entries_of entries.now) }
+    requires svg { IsFlagAt (codes "svg") (entries_of entries.now) }
+    ensures { is_some result ≡ has_conflict (entries_of entries.now) }
+{
+    if !entries.get_flag("svg") {
+        None
+    } else if entries.get_flag("page") {
+        Some(SVG_AND_PAGE)
+    } else if entries.contains_id("every") {
+        Some(SVG_AND_EVERY)
+    } else if entries.contains_id("least") {
+        Some(SVG_AND_LEAST)
+    } else {
+        None
+    }
+}
+
 fn has_its_page(entries: &ArgMatches<'_>) -> bool
     requires { IsFlagAt (codes "page") (entries_of entries.now) }
     ensures { result ≡ has_its_page (entries_of entries.now) }
 {
     if entries.get_flag("page") {
         true
+    } else {
+        !entries.contains_id("least")
+    }
+}
+
+fn has_its_form(entries: &ArgMatches<'_>) -> bool
+    requires page { IsFlagAt (codes "page") (entries_of entries.now) }
+    requires svg { IsFlagAt (codes "svg") (entries_of entries.now) }
+    requires below { IsFlagAt (codes "root-below") (entries_of entries.now) }
+    ensures { result ≡ has_its_form (entries_of entries.now) }
+{
+    if is_drawn(entries) {
+        true
     } else if entries.contains_id("title") {
         false
     } else {
-        !entries.contains_id("least")
+        !is_root_below(entries)
     }
 }
 

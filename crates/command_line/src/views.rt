@@ -1,11 +1,11 @@
 //! The view that a command asks for, and what is written of it.
 ghost use Rattle.std.specs.Prelude.{◌≡◌, IfOk, IsSome, Some, codes};
-ghost use Rattle.command_line.specs.Plans.{compared_view, form_of, number_at, order_of, page_of, rows_of, shows_boxes, table_of, title_of, view_of, width_of};
+ghost use Rattle.command_line.specs.Plans.{compared_view, form_of, is_drawn, is_root_below, number_at, order_of, page_of, picture_of, rows_of, shows_boxes, table_of, title_of, view_of, width_of};
 ghost use Rattle.command_line.specs.checked.Entries.{IsCountAt, IsFlagAt, IsNumberAt, IsRead, entries_of};
 ghost use Rattle.command_line.specs.declared.arguments.TheConstants.{MOST_ROWS};
 ghost use Rattle.run_options.specs.declared.widths.TheConstants.{MAX_WIDTH};
 
-use crate::plans::{Form, PageForm, TopTable, View};
+use crate::plans::{Form, PageForm, PictureForm, TopTable, View};
 use clap::ArgMatches;
 use run_options::{FunctionOrder, Width};
 use stack_core::Text;
@@ -36,6 +36,7 @@ fn compared_view(entries: &ArgMatches<'_>) -> View
     requires width { IsNumberAt (codes "width") MAX_WIDTH (entries_of entries.now) }
     requires boxes { IsFlagAt (codes "boxes") (entries_of entries.now) }
     requires page { IsFlagAt (codes "page") (entries_of entries.now) }
+    requires svg { IsFlagAt (codes "svg") (entries_of entries.now) }
     ensures { result ≡ compared_view (entries_of entries.now) }
 {
     if shows_boxes(entries) {
@@ -45,13 +46,23 @@ fn compared_view(entries: &ArgMatches<'_>) -> View
     }
 }
 
-// A page shows boxes, whatever else is said.
+// A page or a picture shows boxes, whatever else is said.
 fn shows_boxes(entries: &ArgMatches<'_>) -> bool
     requires boxes { IsFlagAt (codes "boxes") (entries_of entries.now) }
     requires page { IsFlagAt (codes "page") (entries_of entries.now) }
+    requires svg { IsFlagAt (codes "svg") (entries_of entries.now) }
     ensures { result ≡ shows_boxes (entries_of entries.now) }
 {
-    entries.get_flag("boxes") || entries.get_flag("page")
+    entries.get_flag("boxes") || is_drawn(entries)
+}
+
+// A page or a picture is asked for.
+pub(crate) fn is_drawn(entries: &ArgMatches<'_>) -> bool
+    requires page { IsFlagAt (codes "page") (entries_of entries.now) }
+    requires svg { IsFlagAt (codes "svg") (entries_of entries.now) }
+    ensures { result ≡ is_drawn (entries_of entries.now) }
+{
+    entries.get_flag("page") || entries.get_flag("svg")
 }
 
 fn width(entries: &ArgMatches<'_>) -> Width
@@ -96,24 +107,48 @@ fn rows(entries: &ArgMatches<'_>) -> u64
 // What is written of the view.
 pub(crate) fn form(alloc: Global, entries: &ArgMatches<'_>) -> Result<Form, AllocError>
     requires page { IsFlagAt (codes "page") (entries_of entries.now) }
+    requires svg { IsFlagAt (codes "svg") (entries_of entries.now) }
+    requires below { IsFlagAt (codes "root-below") (entries_of entries.now) }
     requires least { IsCountAt (codes "least") (entries_of entries.now) }
     ensures { IfOk result (λ form. form ≡ form_of (entries_of entries.now)) }
 {
     if entries.get_flag("page") {
         Ok(Form::Page(page(alloc, entries)?))
+    } else if entries.get_flag("svg") {
+        Ok(Form::Picture(picture(alloc, entries)?))
     } else {
         Ok(Form::Text)
     }
 }
 
 fn page(alloc: Global, entries: &ArgMatches<'_>) -> Result<PageForm, AllocError>
-    requires { IsCountAt (codes "least") (entries_of entries.now) }
+    requires below { IsFlagAt (codes "root-below") (entries_of entries.now) }
+    requires least { IsCountAt (codes "least") (entries_of entries.now) }
     ensures { IfOk result (λ page. page ≡ page_of (entries_of entries.now)) }
 {
     Ok(PageForm {
         title: title(alloc, entries)?,
         least: least(entries),
+        is_root_below: is_root_below(entries),
     })
+}
+
+fn picture(alloc: Global, entries: &ArgMatches<'_>) -> Result<PictureForm, AllocError>
+    requires { IsFlagAt (codes "root-below") (entries_of entries.now) }
+    ensures { IfOk result (λ picture. picture ≡ picture_of (entries_of entries.now)) }
+{
+    Ok(PictureForm {
+        title: title(alloc, entries)?,
+        is_root_below: is_root_below(entries),
+    })
+}
+
+// The root is below in the page or the picture.
+pub(crate) fn is_root_below(entries: &ArgMatches<'_>) -> bool
+    requires { IsFlagAt (codes "root-below") (entries_of entries.now) }
+    ensures { result ≡ is_root_below (entries_of entries.now) }
+{
+    entries.get_flag("root-below")
 }
 
 fn least(entries: &ArgMatches<'_>) -> Option<u64>

@@ -26,7 +26,8 @@ use Rattle.flame_tool.specs.KnownFacts.{known_facts}
 use Rattle.flame_tool.proofs.KnownSources.{IsKnown, facts_are_known}
 use Rattle.flame_tool.specs.Requests.{AreRefused, AsksForHelp, asked_faults, asked_plan, known_rests}
 use Rattle.command_line.specs.declared.plans.PageForm.{PageForm}
-use Rattle.sent_views.specs.Pages.{asked_heading, asked_text, page_text, shown_text, text_in}
+use Rattle.command_line.specs.declared.plans.PictureForm.{PictureForm}
+use Rattle.sent_views.specs.Pages.{asked_heading, asked_text, page_text, picture_text, shown_text, text_in}
 use Rattle.sent_views.proofs.PageLemmas.{orderless_page}
 use Rattle.source_views.specs.Texts.{IsOrderless, graph_text, told_text, top_text, view_text}
 use Rattle.flame_tool.specs.checked.Forms.{IsOfView}
@@ -76,6 +77,7 @@ module _ (plan : Plan) (facts : RunFacts) (lists : List (List Sample)) (order : 
   of_view_in : (written : Form) → IsOfView written → IsOrderless plan.view every → asked_text plan facts lists [] None ≡ text_in written plan facts lists order every
   of_view_in form.Text of_view orderless = sym (orderless_text (told_whole plan facts) plan.view lists order every orderless)
   of_view_in (form.Page page) of_view orderless = absurd of_view
+  of_view_in (form.Picture picture) of_view orderless = absurd of_view
   of_view_in form.Types of_view orderless = sym (orderless_text (told_whole plan facts) plan.view lists order every orderless)
 
   pub orderless_shown : IsOfView plan.form → IsOrderless plan.view every → asked_text plan facts lists [] None ≡ shown_text plan facts lists order every
@@ -85,6 +87,7 @@ module _ (plan : Plan) (facts : RunFacts) (lists : List (List Sample)) (order : 
   graph_in : (written : Form) (width : ℕ) → IsOfView written → plan.view ≡ Graph width → text_in written plan facts lists order every ≡ graph_text width lists order every
   graph_in form.Text width of_view is = ap (λ (view : View). told_text (told_whole plan facts) view lists order every) is
   graph_in (form.Page page) width of_view is = absurd of_view
+  graph_in (form.Picture picture) width of_view is = absurd of_view
   graph_in form.Types width of_view is = ap (λ (view : View). told_text (told_whole plan facts) view lists order every) is
 
   pub graph_shown : (width : ℕ) → IsOfView plan.form → plan.view ≡ Graph width → shown_text plan facts lists order every ≡ graph_text width lists order every
@@ -139,10 +142,19 @@ module _ (plan : Plan) (old new : Option (List ℕ)) where
       of_shown (form.Page page) facts rests (page_text plan facts page (lists_of rests) [] None) as_page tt
       (λ order. sym (orderless_page (asked_heading plan facts page (lists_of rests)) plan.view (lists_of rests) order plan.options.every orderless)) shows
 
--- pages alone tell the types
+  picture_exactly : (told : Option RunFacts) (known : Option (List Rest)) → IfSome known (Shows plan told old new)
+      → (picture : PictureForm) → plan.form ≡ form.Picture picture
+      → IfSome told (λ facts. IfSome known (λ rests. Appends old new (picture_text plan facts picture (lists_of rests))))
+  picture_exactly None known shows picture as_picture = tt
+  picture_exactly (Some facts) None shows picture as_picture = tt
+  picture_exactly (Some facts) (Some rests) shows picture as_picture =
+      of_shown (form.Picture picture) facts rests (picture_text plan facts picture (lists_of rests)) as_picture tt (λ order. refl) shows
+
+-- pages and pictures alone tell the types
 pub same_shown : (plan : Plan) (one other : RunFacts) (lists : List (List Sample)) (order : List ℕ) (every : Option ℕ) → one.whole ≡ other.whole
-    → ((page : PageForm) → plan.form ≡ form.Page page → one.types ≡ other.types) → shown_text plan one lists order every ≡ shown_text plan other lists order every
-same_shown plan one other lists order every weighed typed = go plan.form refl
+    → ((page : PageForm) → plan.form ≡ form.Page page → one.types ≡ other.types) → ((picture : PictureForm) → plan.form ≡ form.Picture picture → one.types ≡ other.types)
+    → shown_text plan one lists order every ≡ shown_text plan other lists order every
+same_shown plan one other lists order every weighed typed pictured = go plan.form refl
   where
     told : told_text (told_whole plan one) plan.view lists order every ≡ told_text (told_whole plan other) plan.view lists order every
     told = ap (λ whole. told_text (cond (is_everything plan.options.filter) None (Some whole)) plan.view lists order every) weighed
@@ -150,6 +162,7 @@ same_shown plan one other lists order every weighed typed = go plan.form refl
     go : (written : Form) → plan.form ≡ written → text_in written plan one lists order every ≡ text_in written plan other lists order every
     go form.Text is = told
     go (form.Page page) is = λ i. page_text plan (record { whole = weighed i; types = typed page is i }) page lists order every
+    go (form.Picture picture) is = λ i. picture_text plan (record { whole = weighed i; types = pictured picture is i }) picture lists
     go form.Types is = told
 
 -- ---- without words
@@ -232,6 +245,13 @@ module _ (words : List Text) (plan : Plan) (input : Option (List ℕ)) (files : 
       words_have words plan (λ plan. (page : PageForm) → plan.form ≡ form.Page page → IsOrderless plan.view plan.options.every
       → IfSome (known_facts plan input files) (λ facts. IfSome (known_rests plan input files) (λ rests. Appends old new (page_text plan facts page (lists_of rests) [] None))))
       asked (page_exactly plan old new (known_facts plan input files) (known_rests plan input files) shows)
+
+  pub asked_svg : IsSomeAnd (asked_plan words) (λ plan. (picture : PictureForm) → plan.form ≡ form.Picture picture
+      → IfSome (known_facts plan input files) (λ facts. IfSome (known_rests plan input files) (λ rests. Appends old new (picture_text plan facts picture (lists_of rests)))))
+  asked_svg =
+      words_have words plan (λ plan. (picture : PictureForm) → plan.form ≡ form.Picture picture
+      → IfSome (known_facts plan input files) (λ facts. IfSome (known_rests plan input files) (λ rests. Appends old new (picture_text plan facts picture (lists_of rests)))))
+      asked (picture_exactly plan old new (known_facts plan input files) (known_rests plan input files) shows)
 
 pub some_asked : {A : Type 0} (bytes : A → List ℕ) (words : List A) (plan : Plan) → (length words ≡ 0 → ⊥) → plan_of (map bytes words) ≡ Some plan → asked_plan (map bytes words) ≡ Some plan
 some_asked bytes [] plan some planned = absurd (some refl)

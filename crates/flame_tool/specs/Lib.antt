@@ -25,12 +25,14 @@ pub use Rattle.run_options.specs.Filters
 pub use Rattle.run_options.specs.Formats
 pub use Rattle.sent_views.specs.Facts
 pub use Rattle.sent_views.specs.Pages
+pub use Rattle.sent_views.specs.Pictures
 pub use Rattle.source_views.specs.SumViews
 pub use Rattle.source_views.specs.Texts
 pub use Rattle.source_views.specs.Views
 pub use Rattle.sum_texts.specs.FunctionJson
 pub use Rattle.sum_texts.specs.FunctionTable
 pub use Rattle.sum_texts.specs.TopTexts
+pub use Rattle.svg_texts.specs.Svg
 pub use Rattle.view_texts.specs.Fold
 pub use Rattle.view_texts.specs.Json
 pub use Rattle.view_texts.specs.JsonLaws

@@ -47,10 +47,11 @@ lists_of rests = map (λ rest. rest.samples) rests
 abbrev pub ShowsSamples : Form → Type 0
 ShowsSamples form.Text = Unit {0}
 ShowsSamples (form.Page page) = Unit {0}
+ShowsSamples (form.Picture picture) = Unit {0}
 ShowsSamples form.Types = ⊥
 
--- a text that the plan asks for: all of each source was read, and it is the view of their samples, or its page, in an order in
--- which they may come
+-- a text that the plan asks for: all of each source was read, and it is the view of their samples, its page or its picture, in
+-- an order in which they may come
 pub record IsTextOf (plan : Plan) (facts : RunFacts) (rests : List Rest) (text : List ℕ) : Type 0 where
   pub clean : All (λ rest. IsClean rest.ending) rests
   pub order : List ℕ

@@ -13,7 +13,7 @@ pub use byte_io::{
     CountedReader, CountedWriter, Files, Inlet, LoadFault, MachineFiles, MemoryFiles, NamedFile,
     Outlet, SOURCE_LIMIT, SendFault, load, send,
 };
-pub use command_line::{Form, PageForm, Plan, PlanFault, TopTable, View, plan};
+pub use command_line::{Form, PageForm, PictureForm, Plan, PlanFault, TopTable, View, plan};
 pub use merging::{Gathered, Snapshot, Source, TreeSink, gather};
 pub use opened_sources::SOURCE_COUNT;
 pub use page_views::{Heading, PageView, Source as PageSource, render_page_data};

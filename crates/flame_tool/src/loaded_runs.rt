@@ -2,6 +2,7 @@
 ghost use Rattle.std.specs.Prelude.{◌≡◌, ◌≤◌, IfOk, length};
 ghost use Rattle.merged_stacks.specs.Timeline.{samples_of};
 ghost use Rattle.command_line.specs.declared.plans.PageForm.{PageForm as AskedPage};
+ghost use Rattle.command_line.specs.declared.plans.PictureForm.{PictureForm as AskedPicture};
 ghost use Rattle.ring_collect.specs.Collection.{AreWhole};
 ghost use Rattle.source_lists.specs.Sources.{rests_of, weight_of_sources};
 ghost use Rattle.stack_core.specs.Interleaving.{IsInterleaving};
@@ -66,17 +67,20 @@ fn read_asked<T: Threads + Wait + Copy + Send + 'static, E: Outlet>(
     }
 }
 
-/// The sample types of the weights of sources, which pages alone tell.
+/// The sample types of the weights of sources, which pages and pictures alone tell.
 pub(crate) fn told_types(
     alloc: Global,
     plan: &Plan,
     loaded: &Loaded,
 ) -> Result<Vec<SampleType>, AllocError>
-    ensures { IfOk result (λ types. (page : AskedPage) → plan.now.form ≡ Form.Page page
+    ensures page { IfOk result (λ types. (page : AskedPage) → plan.now.form ≡ Form.Page page
+        → types.items ≡ types_of plan.now.options (loaded_bytes loaded.now)) }
+    ensures picture { IfOk result (λ types. (picture : AskedPicture)
+        → plan.now.form ≡ Form.Picture picture
         → types.items ≡ types_of plan.now.options (loaded_bytes loaded.now)) }
 {
     match plan.form {
-        Form::Page(_) => types_of_loaded(alloc, loaded, &plan.options),
+        Form::Page(_) | Form::Picture(_) => types_of_loaded(alloc, loaded, &plan.options),
         Form::Text | Form::Types => Ok(Vec::new(alloc)),
     }
 }

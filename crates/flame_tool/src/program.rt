@@ -4,13 +4,14 @@ ghost use Rattle.std.specs.Io.KnownBytes.{Appends, Keeps};
 ghost use Rattle.folded_lines.specs.Reading.{read_folded};
 ghost use Rattle.command_line.specs.Plans.{IsComparison, IsOfOneProfile};
 ghost use Rattle.command_line.specs.declared.plans.PageForm.{PageForm};
+ghost use Rattle.command_line.specs.declared.plans.PictureForm.{PictureForm};
 ghost use Rattle.command_line.specs.declared.plans.TopTable.{TopTable};
 ghost use Rattle.command_line.specs.declared.plans.View.{View};
 ghost use Rattle.merging.specs.Sums.{all_samples};
 ghost use Rattle.run_options.specs.Filters.{is_everything};
 ghost use Rattle.flame_tool.specs.KnownFacts.{known_facts};
 ghost use Rattle.flame_tool.specs.Requests.{AreRefused, AsksForHelp, asked_faults, asked_plan, known_rests};
-ghost use Rattle.sent_views.specs.Pages.{page_text};
+ghost use Rattle.sent_views.specs.Pages.{page_text, picture_text};
 ghost use Rattle.source_views.specs.Texts.{IsOrderless, top_text, view_text};
 ghost use Rattle.flame_tool.specs.Runs.{IsClean, IsFault, text_of, lists_of, FailsUntouched, GainsFront, Shows, ShowsFront, ShowsSamples, HasFault, TellsNoWhole};
 ghost use Rattle.flame_tool.specs.TypeRuns.{known_profile, HasTableFault, ShowsTypes, ShowsTypesFront};
@@ -100,6 +101,15 @@ pub fn run<T: Threads + Wait + Copy + Send + 'static, F: Files, W: Outlet, E: Ou
         IfSome (known_rests plan (F.known_input files.old) (F.known_file files.old)) (λ rests.
         Appends (W.contents out.old) (W.contents out.new)
         (page_text plan facts page (lists_of rests) [] None)))) }
+
+    // Of a picture none is left at all.
+    ensures shown_svg { result ≡ 0 → AsksForHelp (map string_bytes words.items)
+        ⊎ IsSomeAnd (asked_plan (map string_bytes words.items)) (λ plan.
+        (picture : PictureForm) → plan.form ≡ Form.Picture picture
+        → IfSome (known_facts plan (F.known_input files.old) (F.known_file files.old)) (λ facts.
+        IfSome (known_rests plan (F.known_input files.old) (F.known_file files.old)) (λ rests.
+        Appends (W.contents out.old) (W.contents out.new)
+        (picture_text plan facts picture (lists_of rests))))) }
 
     // 1 is a fault of a source, 2 are words that are refused or more than 64 files, and 3 leaves nothing
     // or a part of the text from its front.
@@ -256,6 +266,8 @@ fn show_plan<T: Threads + Wait + Copy + Send + 'static, F: Files, W: Outlet, E: 
 {
     match plan.form {
         Form::Types => show_types(alloc, plan, files, out, err),
-        Form::Text | Form::Page(_) => show_views(rt, alloc, plan, files, out, err),
+        Form::Text | Form::Page(_) | Form::Picture(_) => {
+            show_views(rt, alloc, plan, files, out, err)
+        }
     }
 }

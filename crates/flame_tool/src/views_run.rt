@@ -21,7 +21,8 @@ use flame_layout::Width;
 use merging::{Gathered, SourceLists};
 use opened_sources::{Failure, Loaded, any_fault, load_sources, report_endings};
 use sent_views::{
-    RunFacts, send_asked_page, send_asked_view, send_graph_with_snapshots, send_snapshots,
+    AskedPicture, RunFacts, send_asked_page, send_asked_picture, send_asked_view,
+    send_graph_with_snapshots, send_snapshots,
 };
 use stack_core::Listed;
 use std::alloc::Global;
@@ -145,6 +146,9 @@ fn send_lists<T: Threads, W: Outlet>(
     match &plan.form {
         Form::Text | Form::Types => send_view(rt, alloc, &run, plan, facts, out),
         Form::Page(page) => send_page(alloc, run, plan, facts, page, out),
+        Form::Picture(form) => {
+            send_asked_picture(rt, alloc, &run, &AskedPicture { plan, facts, form }, out)
+        }
     }
 }
 

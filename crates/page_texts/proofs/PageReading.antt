@@ -8,7 +8,7 @@ use Rattle.serde_json.specs.Read.{read, max_depth}
 use Rattle.view_texts.specs.JsonLaws.{HasRisingKeys}
 use Rattle.view_texts.proofs.JsonReading.{HasWholeNumbers, MembersHaveWholeNumbers, HasNumbers-outline, text_reads_back}
 use Rattle.view_texts.proofs.JsonValues.{each_of, whole_items, rising_items, items_depth-le}
-use Rattle.page_texts.specs.Page.{PageBox, Moment, PageDrawing, PageSource, Page, whole_number, list_data, kept, left_out, page_names, place_of, column, moment_members, other_members, last_members, box_members, drawing_data, source_data, page_value, page_text}
+use Rattle.page_texts.specs.Page.{PageBox, below_members, later_members, Moment, PageDrawing, PageSource, Page, whole_number, list_data, kept, left_out, page_names, place_of, column, moment_members, other_members, last_members, box_members, drawing_data, source_data, page_value, page_text}
 use Rattle.page_texts.specs.PageLaws.{IsSmallBox, IsSmallMoment, IsSmallDrawing, IsSmallPage}
 use Rattle.page_texts.specs.ScriptSafe.{page_data_text}
 use Rattle.page_texts.proofs.SafeReading.{reads_as_plain}
@@ -70,14 +70,28 @@ rising_source : (source : PageSource) → HasRisingKeys (source_data source)
 unfolding IsStrictlySortedBy
 rising_source source = search rules
 
+abbrev page_with : List PageDrawing → List PageSource → List ℕ → List ℕ → ℕ → Bool → Page
+page_with drawings sources title view whole is_below =
+    record { drawings = drawings; sources = sources; title = title; view = view; whole = whole; is_root_below = is_below }
+
+module _ (all : List PageDrawing) (files : List PageSource) (title view : List ℕ) (whole : ℕ) where
+  rising_page_with : (is_below : Bool) → HasRisingKeys (page_value (page_with all files title view whole is_below))
+  unfolding IsStrictlySortedBy
+  rising_page_with false =
+      let names = page_names all in
+      let drawings = rising_items (drawing_data names) (rising_drawing names) all in
+      let texts = rising_items string (λ name. tt) names in
+      let sources = rising_items source_data rising_source files in
+      search (rules, drawings, texts, sources)
+  rising_page_with true =
+      let names = page_names all in
+      let drawings = rising_items (drawing_data names) (rising_drawing names) all in
+      let texts = rising_items string (λ name. tt) names in
+      let sources = rising_items source_data rising_source files in
+      search (rules, drawings, texts, sources)
+
 pub rising_page : (page : Page) → HasRisingKeys (page_value page)
-unfolding IsStrictlySortedBy
-rising_page page =
-    let names = page_names page.drawings in
-    let drawings = rising_items (drawing_data names) (rising_drawing names) page.drawings in
-    let texts = rising_items string (λ name. tt) names in
-    let sources = rising_items source_data rising_source page.sources in
-    search (rules, drawings, texts, sources)
+rising_page page = rising_page_with page.drawings page.sources page.title page.view page.whole page.is_root_below
 
 -- ---- depths
 
@@ -103,6 +117,13 @@ shallow_drawing names drawing =
     let others = left_out drawing.least drawing.boxes in
     omega (arith, shallow_moment drawing.moment (box_members names drawing boxes others) (shallow_boxes names drawing boxes others))
 
+shallow_below : (is_below : Bool) (later : Members) → members_depth later ≤ 2 → members_depth (below_members is_below later) ≤ 2
+shallow_below true later h = omega (arith, h)
+shallow_below false later h = h
+
+shallow_later : (sources : List PageSource) (title view : List ℕ) (whole : ℕ) → members_depth (later_members sources title view whole) ≤ 2
+shallow_later sources title view whole = omega (arith, items_depth-le source_data 1 (λ source. omega arith) sources)
+
 shallow_page : (page : Page) → depth (page_value page) ≤ max_depth
 shallow_page page =
     let names = page_names page.drawings in
@@ -110,7 +131,7 @@ shallow_page page =
       arith,
       items_depth-le (drawing_data names) 2 (shallow_drawing names) page.drawings,
       items_depth-le string 0 (λ name. omega arith) names,
-      items_depth-le source_data 1 (λ source. omega arith) page.sources,
+      shallow_below page.is_root_below (later_members page.sources page.title page.view page.whole) (shallow_later page.sources page.title page.view page.whole),
     )
 
 -- ---- numbers
@@ -143,8 +164,12 @@ whole_page page h =
     let drawings = whole_items (drawing_data names) page.drawings (each_of IsSmallDrawing (λ drawing. HasWholeNumbers (drawing_data names drawing)) page.drawings (whole_drawing names h.names) h.drawings) in
     let texts = whole_items string names (every_text names) in
     let sources = whole_items source_data page.sources (each_of (λ source. source.weight < 2 ^ 64) (λ source. HasWholeNumbers (source_data source)) page.sources (λ source small. (tt, (tt, (tt, (small, tt))))) h.sources) in
-    (drawings, (texts, (sources, (tt, (tt, (h.whole, tt))))))
+    (drawings, (texts, whole_below page.is_root_below (later_members page.sources page.title page.view page.whole) (sources, (tt, (tt, (h.whole, tt))))))
   where
+    whole_below : (is_below : Bool) (later : Members) → MembersHaveWholeNumbers later → MembersHaveWholeNumbers (below_members is_below later)
+    whole_below true later more = (tt, more)
+    whole_below false later more = more
+
     every_text : (names : List (List ℕ)) → AllByRecursion (λ name. HasWholeNumbers (string name)) names
     every_text [] = tt
     every_text (name ∷ names) = (tt, every_text names)

@@ -1,14 +1,14 @@
 -- The text of a page round its drawings.
-use Rattle.std.proofs.Common.{◌≡◌, ℕ, List, [], ◌∷◌, ◌++◌, map, codes, refl, sym, ap, ◌∙◌, append_assoc, append-nil}
+use Rattle.std.proofs.Common.{◌≡◌, ℕ, Bool, true, false, List, [], ◌∷◌, ◌++◌, map, codes, refl, sym, ap, ◌∙◌, append_assoc, append-nil}
 use Rattle.std.specs.List.{flat_map}
 use Rattle.json.specs.Print.{escape_byte, quoted}
 use Rattle.serde_json.specs.Data.{Data, string, object, member, no_members}
 use Rattle.stack_core.specs.NamesInOrder.{with_name, with_stack}
-use Rattle.page_texts.specs.Page.{PageDrawing, PageSource, Page, page_text, page_value, kept_names, page_names, whole_number, list_data, drawing_data, source_data}
+use Rattle.page_texts.specs.Page.{PageDrawing, PageSource, Page, page_text, page_value, below_members, kept_names, page_names, whole_number, list_data, drawing_data, source_data}
 use Rattle.page_texts.specs.ScriptSafe.{script_safe}
 use Rattle.page_texts.specs.Drawn.{source_of}
 use Rattle.page_texts.specs.declared.pages.Source.{Source}
-use Rattle.page_texts.specs.checked.Kept.{number_text}
+use Rattle.page_texts.specs.checked.Kept.{below_text, number_text}
 use Rattle.page_texts.specs.checked.SafeText.{safe_text}
 use Rattle.page_texts.proofs.SafeText.{safe-value}
 use Rattle.page_texts.proofs.Names.{grown}
@@ -53,31 +53,37 @@ list_end o key values items out1 out2 out3 e1 e2 e3 i = let parts = list_end_par
 
 -- ---- the whole
 
-eight : (o a b c d e f g h : List ℕ) → (((((((o ++ a) ++ b) ++ c) ++ d) ++ e) ++ f) ++ g) ++ h ≡ o ++ (a ++ (b ++ (c ++ (d ++ (e ++ (f ++ (g ++ h)))))))
-eight o a b c d e f g h = simp append_assoc
+nine : (o a b c d e f g h k : List ℕ) → ((((((((o ++ a) ++ b) ++ c) ++ d) ++ e) ++ f) ++ g) ++ h) ++ k ≡ o ++ (a ++ (b ++ (c ++ (d ++ (e ++ (f ++ (g ++ (h ++ k))))))))
+nine o a b c d e f g h k = simp append_assoc
 
-pub eight_in_turn : (o a b c d e f g h whole o1 o2 o3 o4 o5 o6 o7 o8 : List ℕ) → o1 ≡ o ++ a → o2 ≡ o1 ++ b → o3 ≡ o2 ++ c → o4 ≡ o3 ++ d → o5 ≡ o4 ++ e → o6 ≡ o5 ++ f → o7 ≡ o6 ++ g → o8 ≡ o7 ++ h
-    → whole ≡ a ++ (b ++ (c ++ (d ++ (e ++ (f ++ (g ++ h)))))) → o8 ≡ o ++ whole
-eight_in_turn o a b c d e f g h whole o1 o2 o3 o4 o5 o6 o7 o8 e1 e2 e3 e4 e5 e6 e7 e8 w = let parts = eight o a b c d e f g h in cc
+pub nine_in_turn : (o a b c d e f g h k whole o1 o2 o3 o4 o5 o6 o7 o8 o9 : List ℕ) → o1 ≡ o ++ a → o2 ≡ o1 ++ b → o3 ≡ o2 ++ c → o4 ≡ o3 ++ d → o5 ≡ o4 ++ e → o6 ≡ o5 ++ f → o7 ≡ o6 ++ g → o8 ≡ o7 ++ h → o9 ≡ o8 ++ k
+    → whole ≡ a ++ (b ++ (c ++ (d ++ (e ++ (f ++ (g ++ (h ++ k))))))) → o9 ≡ o ++ whole
+nine_in_turn o a b c d e f g h k whole o1 o2 o3 o4 o5 o6 o7 o8 o9 e1 e2 e3 e4 e5 e6 e7 e8 e9 w = let parts = nine o a b c d e f g h k in cc
 
 abbrev pub list_after : List ℕ → List Data → List ℕ
 list_after key values = key ++ safe_text (list_data values)
 
-page_shape : (drawings names sources : List Data) (title view : List ℕ) (whole : ℕ)
-    → safe_text (object (member (codes "drawings") (list_data drawings) (member (codes "names") (list_data names) (member (codes "sources") (list_data sources) (member (codes "title") (string title) (member (codes "view") (string view) (member (codes "whole") (whole_number whole) no_members)))))))
-    ≡ codes "{\"drawings\":" ++ (safe_text (list_data drawings) ++ (list_after (codes ",\"names\":") names ++ (list_after (codes ",\"sources\":") sources ++ (text_after (codes ",\"title\":") title ++ (text_after (codes ",\"view\":") view ++ (number_text (codes ",\"whole\":") whole ++ 125 ∷ []))))))
+-- what stands behind the drawings and the names
+abbrev later_text : Bool → List Data → List ℕ → List ℕ → ℕ → List ℕ
+later_text is_below sources title view whole =
+    below_text is_below ++ (list_after (codes ",\"sources\":") sources ++ (text_after (codes ",\"title\":") title ++ (text_after (codes ",\"view\":") view ++ (number_text (codes ",\"whole\":") whole ++ 125 ∷ []))))
+
+page_shape : (drawings names : List Data) (is_below : Bool) (sources : List Data) (title view : List ℕ) (whole : ℕ)
+    → safe_text (object (member (codes "drawings") (list_data drawings) (member (codes "names") (list_data names) (below_members is_below (member (codes "sources") (list_data sources) (member (codes "title") (string title) (member (codes "view") (string view) (member (codes "whole") (whole_number whole) no_members))))))))
+    ≡ codes "{\"drawings\":" ++ (safe_text (list_data drawings) ++ (list_after (codes ",\"names\":") names ++ later_text is_below sources title view whole))
 unfolding script_safe escape_byte
-page_shape drawings names sources title view whole = refl
+page_shape drawings names true sources title view whole = refl
+page_shape drawings names false sources title view whole = refl
 
 pub page_parts : (page : Page) (names : List (List ℕ)) → names ≡ page_names page.drawings → page_text page
-    ≡ codes "{\"drawings\":" ++ (safe_text (list_data (map (drawing_data names) page.drawings)) ++ (list_after (codes ",\"names\":") (map string names) ++ (list_after (codes ",\"sources\":") (map source_data page.sources)
-    ++ (text_after (codes ",\"title\":") page.title ++ (text_after (codes ",\"view\":") page.view ++ (number_text (codes ",\"whole\":") page.whole ++ 125 ∷ []))))))
+    ≡ codes "{\"drawings\":" ++ (safe_text (list_data (map (drawing_data names) page.drawings)) ++ (list_after (codes ",\"names\":") (map string names)
+    ++ later_text page.is_root_below (map source_data page.sources) page.title page.view page.whole))
 unfolding page_text
 page_parts page names are =
     safe-value (page_value page)
-    ∙ page_shape (map (drawing_data (page_names page.drawings)) page.drawings) (map string (page_names page.drawings)) (map source_data page.sources) page.title page.view page.whole
-    ∙ sym (ap (λ ns. codes "{\"drawings\":" ++ (safe_text (list_data (map (drawing_data ns) page.drawings)) ++ (list_after (codes ",\"names\":") (map string ns) ++ (list_after (codes ",\"sources\":") (map source_data page.sources)
-    ++ (text_after (codes ",\"title\":") page.title ++ (text_after (codes ",\"view\":") page.view ++ (number_text (codes ",\"whole\":") page.whole ++ 125 ∷ []))))))) are)
+    ∙ page_shape (map (drawing_data (page_names page.drawings)) page.drawings) (map string (page_names page.drawings)) page.is_root_below (map source_data page.sources) page.title page.view page.whole
+    ∙ sym (ap (λ ns. codes "{\"drawings\":" ++ (safe_text (list_data (map (drawing_data ns) page.drawings)) ++ (list_after (codes ",\"names\":") (map string ns)
+    ++ later_text page.is_root_below (map source_data page.sources) page.title page.view page.whole))) are)
 
 pub sources_same : (sources : List Source) → map (λ source. source_data (source_of source)) sources ≡ map source_data (map source_of sources)
 sources_same [] = refl

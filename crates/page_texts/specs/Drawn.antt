@@ -35,4 +35,5 @@ page_of span other is_compared page = record {
   title = page.title.now;
   view = page.view.now;
   whole = page.whole;
+  is_root_below = page.is_root_below;
 }

@@ -1,8 +1,8 @@
 -- The data of a page: one JSON value, whose keys are in byte order, and its text.
-use Rattle.std.specs.Prelude.{ℕ, Bool, List, [], length, map, filter, sum_by, nat_le, not, Option, Some, None, codes, if◌then◌else◌}
+use Rattle.std.specs.Prelude.{ℕ, Bool, true, List, [], length, map, filter, sum_by, nat_le, not, Option, Some, None, codes, if◌then◌else◌}
 use Rattle.std.specs.List.{flat_map, position_or_len}
 use Rattle.std.specs.Str.{bytes_eq}
-use Rattle.serde_json.specs.Data.{Data, string, object, Members, no_members, member}
+use Rattle.serde_json.specs.Data.{Data, boolean, string, object, Members, no_members, member}
 use Rattle.stack_core.specs.NamesInOrder.{with_stack}
 use Rattle.flame_layout.specs.declared.boxes.SpanBox.{SpanBox}
 pub use Rattle.view_texts.specs.Json.{whole_number, list_data}
@@ -33,13 +33,15 @@ pub record PageSource : Type 0 where
   pub unit : List ℕ
   pub weight : ℕ
 
--- what a page shows; `whole` is the weight of all samples of all sources, also of those that a filter leaves out
+-- what a page shows; `whole` is the weight of all samples of all sources, also of those that a filter leaves out, and it opens
+-- with the root below where that is said
 pub record Page : Type 0 where
   pub drawings : List PageDrawing
   pub sources : List PageSource
   pub title : List ℕ
   pub view : List ℕ
   pub whole : ℕ
+  pub is_root_below : Bool
 
 -- ---- boxes
 
@@ -135,16 +137,25 @@ source_data source =
 
 -- ---- the whole
 
+-- in pages that open with the root below alone
+abbrev pub below_members : Bool → Members → Members
+below_members is_below later =
+    if is_below then member (codes "root_below") (boolean true) later else later
+
+abbrev pub later_members : List PageSource → List ℕ → List ℕ → ℕ → Members
+later_members sources title view whole =
+    member (codes "sources") (list_data (map source_data sources))
+    (member (codes "title") (string title)
+    (member (codes "view") (string view)
+    (member (codes "whole") (whole_number whole)
+    no_members)))
+
 abbrev pub page_value : Page → Data
 page_value page =
     object
     (member (codes "drawings") (list_data (map (drawing_data (page_names page.drawings)) page.drawings))
     (member (codes "names") (list_data (map string (page_names page.drawings)))
-    (member (codes "sources") (list_data (map source_data page.sources))
-    (member (codes "title") (string page.title)
-    (member (codes "view") (string page.view)
-    (member (codes "whole") (whole_number page.whole)
-    no_members))))))
+    (below_members page.is_root_below (later_members page.sources page.title page.view page.whole))))
 
 -- the data of a page
 unfoldable pub page_text : Page → List ℕ

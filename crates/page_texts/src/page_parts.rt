@@ -3,7 +3,7 @@ ghost use Rattle.std.specs.Prelude.{◌≡◌, ◌++◌, ◌∷◌, List, ℕ, c
 ghost use Rattle.serde_json.specs.Data.{string};
 ghost use Rattle.page_texts.specs.Page.{drawing_data, list_data, page_text, source_data};
 ghost use Rattle.page_texts.specs.Drawn.{drawing_of, page_of, source_of};
-ghost use Rattle.page_texts.specs.checked.Kept.{AreAllKept, AreKept};
+ghost use Rattle.page_texts.specs.checked.Kept.{AreAllKept, AreKept, below_text};
 ghost use Rattle.page_texts.specs.checked.Parts.{parts_text};
 ghost use Rattle.page_texts.specs.checked.SafeText.{safe_text};
 
@@ -29,6 +29,7 @@ pub(crate) fn push_page<'p, 'k, B: PageBox>(
     push_literal(parts, b"{\"drawings\":")?;
     push_drawings(parts, page.drawings, &kept.drawings)?;
     push_names(parts, &kept.names)?;
+    push_root_below(parts, page.is_root_below)?;
     push_sources(parts, page.sources)?;
     push_text(parts, b",\"title\":", page.title)?;
     push_text(parts, b",\"view\":", page.view)?;
@@ -66,6 +67,17 @@ fn push_names<'k>(parts: &mut Vec<Part<'_, 'k>>, names: &'k FrameTable) -> Resul
         push_name(parts, comma_if(number > 0), names.name(number))?;
     }
     push_literal(parts, b"]")
+}
+
+// Adds what only a page has that opens with the root below.
+fn push_root_below(parts: &mut Vec<Part<'_, '_>>, is_below: bool) -> Result<(), AllocError>
+    ensures { OnOk result
+        (parts_text parts.new.items ≡ parts_text parts.old.items ++ below_text is_below) }
+{
+    if is_below {
+        push_literal(parts, b",\"root_below\":true")?;
+    }
+    Ok(())
 }
 
 // Adds the list of the sources, after its key.

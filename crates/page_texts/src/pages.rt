@@ -46,6 +46,8 @@ pub struct Page<'a, B> {
     pub view: &'a str,
     /// The weight of all samples of all sources, also of those that a filter leaves out.
     pub whole: u128,
+    /// It opens with the root below.
+    pub is_root_below: bool,
 }
 
 /// Sends a page: the document that a browser opens. No name and no title can be read as markup in it. It

@@ -1,5 +1,5 @@
 -- The pages of the views: what they draw of the lists of samples.
-use Rattle.std.specs.Prelude.{ℕ, ◌/◌, List, [], ◌∷◌, ◌++◌, length, map, codes, true, false, Option, Some, None}
+use Rattle.std.specs.Prelude.{ℕ, Bool, ◌/◌, List, [], ◌∷◌, ◌++◌, length, map, codes, true, false, Option, Some, None}
 use Rattle.sample_tables.specs.declared.samples.Sample.{Sample}
 use Rattle.merged_stacks.specs.Timeline.{timeline, total_weight}
 use Rattle.merging.specs.Snapshots.{snapshot_places, snapshot_samples}
@@ -21,13 +21,14 @@ abbrev pub least_of : Option ℕ → ℕ → ℕ
 least_of None total = total / 1200000
 least_of (Some least) total = least
 
--- what a page says beside its drawings, the least weight of a box that it keeps, if one is given, and the weight of
--- all samples of all sources, also of those that a filter leaves out
+-- what a page says beside its drawings, the least weight of a box that it keeps, if one is given, the weight of
+-- all samples of all sources, also of those that a filter leaves out, and whether it opens with the root below
 pub record PageHeading : Type 0 where
   pub title : List ℕ
   pub sources : List PageSource
   pub least : Option ℕ
   pub whole : ℕ
+  pub is_root_below : Bool
 
 abbrev pub heading_of : Heading → PageHeading
 heading_of heading = record {
@@ -35,6 +36,7 @@ heading_of heading = record {
   sources = map source_of heading.sources.now;
   least = heading.least;
   whole = heading.whole;
+  is_root_below = heading.is_root_below;
 }
 
 abbrev pub page_with : PageHeading → List ℕ → List PageDrawing → Page
@@ -44,6 +46,7 @@ page_with heading view drawings = record {
   title = heading.title;
   view = view;
   whole = heading.whole;
+  is_root_below = heading.is_root_below;
 }
 
 -- these boxes, of samples with this total, and in a snapshot its moment

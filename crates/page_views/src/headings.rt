@@ -21,6 +21,8 @@ pub struct Heading<'a> {
     pub least: Option<u64>,
     /// The weight of all samples of all sources, also of those that a filter leaves out.
     pub whole: u128,
+    /// The page opens with the root below.
+    pub is_root_below: bool,
 }
 
 impl Heading<'_> {
@@ -63,6 +65,7 @@ impl Heading<'_> {
             title: self.title,
             view,
             whole: self.whole,
+            is_root_below: self.is_root_below,
         }
     }
 }

@@ -1,3 +1,5 @@
 pub mod PageLemmas
+mod PictureLemmas
 pub mod SnapshotLines
 mod WorkedPages
+mod WorkedPictures

@@ -1,5 +1,5 @@
 -- Worked examples of what a page says beside its drawings, computed on the definitions.
-use Rattle.std.proofs.Common.{◌≡◌, ℕ, List, [], ◌∷◌, codes, refl, Some, None}
+use Rattle.std.proofs.Common.{◌≡◌, ℕ, List, [], ◌∷◌, codes, false, refl, Some, None}
 use Rattle.sample_tables.specs.declared.samples.Sample.{Sample}
 use Rattle.command_line.specs.Plans.{default_plan}
 use Rattle.page_texts.specs.Page.{PageSource}
@@ -35,7 +35,7 @@ source_of_the_input : sources_of [] [] ((weighing 2 ∷ []) ∷ []) ≡ named (c
 source_of_the_input = refl
 
 -- a title that the words set is taken as it is
-asked_title : (asked_heading default_plan (record { whole = 0; types = [] }) (record { title = Some (codes "t"); least = None }) []).title ≡ codes "t"
+asked_title : (asked_heading default_plan (record { whole = 0; types = [] }) (record { title = Some (codes "t"); least = None; is_root_below = false }) []).title ≡ codes "t"
 asked_title = refl
 
 -- without snapshots a graph has the page of the graph alone, whatever the order

@@ -1,4 +1,4 @@
--- The page that a plan asks for, of the lists of its samples, and the text of a plan whatever its form.
+-- The page and the picture that a plan asks for, of the lists of its samples, and the text of a plan whatever its form.
 use Rattle.std.specs.Prelude.{ℕ, List, [], ◌∷◌, codes, length, map, Option, None, slice_get, unwrap_or}
 use Rattle.std.specs.List.{join_by, range_with_len}
 use Rattle.sample_tables.specs.declared.samples.Sample.{Sample}
@@ -7,6 +7,7 @@ use Rattle.merged_stacks.specs.Timeline.{total_weight}
 use Rattle.command_line.specs.declared.plans.Form.{Form}
 use Rattle.command_line.specs.declared.plans.Form.TheVariants as form
 use Rattle.command_line.specs.declared.plans.PageForm.{PageForm}
+use Rattle.command_line.specs.declared.plans.PictureForm.{PictureForm}
 use Rattle.command_line.specs.declared.plans.Plan.{Plan}
 use Rattle.command_line.specs.declared.plans.View.{View}
 use Rattle.command_line.specs.declared.plans.View.TheVariants.{Fold, Graph, Chart, Pairs, PairBoxes, Top}
@@ -17,6 +18,7 @@ use Rattle.opened_sources.specs.Names.{source_name}
 use Rattle.profile_messages.specs.declared.types.SampleType.{SampleType}
 use Rattle.source_lists.specs.Types.{type_or_none}
 use Rattle.sent_views.specs.Facts.{told_whole}
+use Rattle.sent_views.specs.Pictures.{PictureFrame, common_unit, framed_text, units_with_weight}
 use Rattle.sent_views.specs.declared.run_facts.RunFacts.{RunFacts}
 use Rattle.source_views.specs.Texts.{told_text, view_text}
 
@@ -33,7 +35,7 @@ source_at files types lists at = record {
 abbrev pub sources_of : List (List ℕ) → List SampleType → List (List Sample) → List PageSource
 sources_of files types lists = map (source_at files types lists) (range_with_len 0 (length lists))
 
--- what a page is called where the words say nothing
+-- what a page or a picture is called where the words say nothing
 abbrev pub default_title : List (List ℕ) → List ℕ
 default_title [] = codes "standard input"
 default_title (file ∷ files) = join_by (λ name. name) (codes ", ") (file ∷ files)
@@ -44,6 +46,7 @@ asked_heading plan facts page lists = record {
   sources = sources_of plan.files facts.types lists;
   least = page.least;
   whole = facts.whole;
+  is_root_below = page.is_root_below;
 }
 
 -- the page of a view with boxes, and of a graph with a drawing for each snapshot; the others have none, and no words ask for a page
@@ -59,6 +62,17 @@ headed_text heading (Top top) lists order every = view_text (Top top) lists [] N
 abbrev pub page_text : Plan → RunFacts → PageForm → List (List Sample) → List ℕ → Option ℕ → List ℕ
 page_text plan facts page lists order every = headed_text (asked_heading plan facts page lists) plan.view lists order every
 
+-- a picture has the one unit of its sources, as a page says it
+abbrev pub asked_frame : Plan → RunFacts → PictureForm → List (List Sample) → PictureFrame
+asked_frame plan facts picture lists = record {
+  title = unwrap_or picture.title (default_title plan.files);
+  unit = common_unit (units_with_weight (sources_of plan.files facts.types lists));
+  is_root_below = picture.is_root_below;
+}
+
+abbrev pub picture_text : Plan → RunFacts → PictureForm → List (List Sample) → List ℕ
+picture_text plan facts picture lists = framed_text (asked_frame plan facts picture lists) plan.view lists
+
 -- the text of a plan's view
 abbrev pub asked_text : Plan → RunFacts → List (List Sample) → List ℕ → Option ℕ → List ℕ
 asked_text plan facts lists order every = told_text (told_whole plan facts) plan.view lists order every
@@ -66,8 +80,9 @@ asked_text plan facts lists order every = told_text (told_whole plan facts) plan
 abbrev pub text_in : Form → Plan → RunFacts → List (List Sample) → List ℕ → Option ℕ → List ℕ
 text_in form.Text plan facts lists order every = asked_text plan facts lists order every
 text_in (form.Page page) plan facts lists order every = page_text plan facts page lists order every
+text_in (form.Picture picture) plan facts lists order every = picture_text plan facts picture lists
 text_in form.Types plan facts lists order every = asked_text plan facts lists order every
 
--- the text that a plan asks for: its page, or that of its view
+-- the text that a plan asks for: its page, its picture, or that of its view
 abbrev pub shown_text : Plan → RunFacts → List (List Sample) → List ℕ → Option ℕ → List ℕ
 shown_text plan facts lists order every = text_in plan.form plan facts lists order every

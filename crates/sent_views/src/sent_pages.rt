@@ -1,5 +1,5 @@
 //! Pages for browsers of what was collected, sent while they are made.
-ghost use Rattle.std.specs.Prelude.{◌≡◌, ◌<◌, ◌^◌, [], None, IfOk, length, map, slice_get, string_bytes, unwrap_or};
+ghost use Rattle.std.specs.Prelude.{◌≡◌, ◌<◌, ◌^◌, [], None, length, map};
 ghost use Rattle.merged_stacks.specs.Timeline.{samples_of, total_weight};
 ghost use Rattle.view_texts.specs.Fold.{fold_text};
 ghost use Rattle.view_texts.specs.Pairs.{pairs_text};
@@ -9,24 +9,23 @@ ghost use Rattle.page_texts.specs.Document.{document_text};
 ghost use Rattle.page_texts.specs.Drawn.{source_of};
 ghost use Rattle.page_views.specs.Pages.{chart_page, comparison_page, graph_page, heading_of, snapshots_page};
 ghost use Rattle.command_line.specs.Plans.{IsComparison};
-ghost use Rattle.source_lists.specs.Types.{type_or_none};
-ghost use Rattle.sent_views.specs.Pages.{asked_heading, default_title, headed_text, page_text, sources_of};
+ghost use Rattle.sent_views.specs.Pages.{asked_heading, headed_text, page_text};
 ghost use Rattle.opened_sources.specs.Failures.{Flushes, Sends};
 
+use crate::headings::{described_sources, title_of};
 use crate::run_facts::RunFacts;
 use crate::sent_views::{send_text, send_top};
 use byte_io::Outlet;
 use command_line::{PageForm, Plan, View};
 use merged_stacks::PairedStacks;
 use merging::{Gathered, SourceLists};
-use opened_sources::{Failure, path_of};
+use opened_sources::Failure;
 use page_views::{
     Heading, Source, send_chart_page, send_comparison_page, send_graph_page, send_snapshots_page,
 };
-use profile_messages::SampleType;
 use source_views::merge;
 use stack_core::SourceList;
-use std::alloc::{AllocError, Global};
+use std::alloc::Global;
 use view_texts::{FoldedText, PairedText};
 
 /// Sends the page that a plan asks for, without snapshots.
@@ -45,7 +44,7 @@ pub fn send_asked_page<W: Outlet>(
         result }
 {
     let files = plan.files.get();
-    let title = title_of(alloc, page, files)?;
+    let title = title_of(alloc, &page.title, files)?;
     let described = described_sources(alloc, files, facts.types.get(), sources)?;
     let heading = heading_with(&title, &described, facts, page);
     send_headed(alloc, sources, plan.view, &heading, out)
@@ -68,7 +67,7 @@ pub fn send_graph_with_snapshots<W: Outlet>(
         result }
 {
     let files = plan.files.get();
-    let title = title_of(alloc, page, files)?;
+    let title = title_of(alloc, &page.title, files)?;
     let described = described_sources(alloc, files, facts.types.get(), gathered.sources())?;
     let heading = heading_with(&title, &described, facts, page);
     send_moments(alloc, gathered, &heading, out)
@@ -86,6 +85,7 @@ fn heading_with<'a>(
       sources = map source_of described.now;
       least = page.now.least;
       whole = facts.now.whole;
+      is_root_below = page.now.is_root_below;
     } }
 {
     Heading {
@@ -93,74 +93,7 @@ fn heading_with<'a>(
         sources: described,
         least: page.least,
         whole: u128::from(facts.whole),
-    }
-}
-
-// What a page of these files is called.
-fn title_of(alloc: Global, page: &PageForm, files: &[String]) -> Result<String, AllocError>
-    ensures { IfOk result (λ title. string_bytes title
-        ≡ unwrap_or page.now.title (default_title (map string_bytes files.now))) }
-{
-    match &page.title {
-        Some(title) => String::from_str(alloc, title.get()),
-        None => joined_names(alloc, files),
-    }
-}
-
-// The names of the files, or those words where there is none.
-fn joined_names(alloc: Global, files: &[String]) -> Result<String, AllocError>
-    ensures { IfOk result (λ title. string_bytes title
-        ≡ default_title (map string_bytes files.now)) }
-{
-    if files.is_empty() {
-        String::from_str(alloc, "standard input")
-    } else {
-        files.join(alloc, ", ")
-    }
-}
-
-// The sources of a page, one for each list.
-fn described_sources<'a>(
-    alloc: Global,
-    files: &'a [String],
-    types: &'a [SampleType],
-    sources: &SourceLists,
-) -> Result<Vec<Source<'a>>, AllocError>
-    ensures { IfOk result (λ described. map source_of described.items
-        ≡ sources_of (map string_bytes files.now) types.now (samples_of sources.now.lists)) }
-{
-    let lists = sources.lists();
-    let mut described = Vec::with_capacity(alloc, lists.len())?;
-    for at in 0..lists.len() {
-        described.push(described_source(path_of(files, at), types, at, &lists[at]))?;
-    }
-    Ok(described)
-}
-
-// A source of a page, with its own of the types.
-fn described_source<'a>(
-    name: &'a str,
-    types: &'a [SampleType],
-    at: usize,
-    list: &SourceList,
-) -> Source<'a>
-    requires { total_weight list.now.samples < 2 ^ 64 }
-    ensures name { result.name.now ≡ name.now }
-    ensures type_name { result.type_name.now
-        ≡ (type_or_none (slice_get types.now at)).name }
-    ensures unit { result.unit.now
-        ≡ (type_or_none (slice_get types.now at)).unit }
-    ensures weight { result.weight ≡ total_weight list.now.samples }
-{
-    let (type_name, unit) = match types.get(at) {
-        Some(found) => (found.name.get(), found.unit.get()),
-        None => ("", ""),
-    };
-    Source {
-        name,
-        type_name,
-        unit,
-        weight: list.total() as u64,
+        is_root_below: page.is_root_below,
     }
 }
 

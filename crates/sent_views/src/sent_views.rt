@@ -44,7 +44,7 @@ pub fn send_asked_view<T: Threads, W: Outlet>(
 }
 
 // Sends the text of a view without snapshots. It may say what all samples weigh.
-fn send_plain_view<T: Threads, W: Outlet>(
+pub(crate) fn send_plain_view<T: Threads, W: Outlet>(
     rt: &T,
     alloc: Global,
     sources: &SourceLists,
@@ -186,7 +186,7 @@ pub(crate) fn send_top<W: Outlet>(
 }
 
 // Sends a text while it is made, where it is long in threads of their own.
-fn send_long_text<T: Threads, P: Pieces + Sync, W: Outlet>(
+pub(crate) fn send_long_text<T: Threads, P: Pieces + Sync, W: Outlet>(
     rt: &T,
     alloc: Global,
     text: &P,

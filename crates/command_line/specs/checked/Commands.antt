@@ -2,7 +2,7 @@
 use Rattle.std.specs.Prelude.{codes}
 use Rattle.clap.specs.Simple.{Shape}
 use Rattle.clap.specs.Walk.{Rule}
-use Rattle.command_line.specs.CommandLine.{any_files, boxes_flag, by_option, chart_command, compare_command, every_option, focus_option, fold_command, format_option, graph_command, hide_option, json_flag, least_option, lines_flag, one_file, page_flag, quiet_flag, ring_option, rows_option, title_option, top_command, type_option, types_command, width_option}
+use Rattle.command_line.specs.CommandLine.{any_files, boxes_flag, by_option, chart_command, compare_command, every_option, focus_option, fold_command, format_option, graph_command, hide_option, json_flag, least_option, lines_flag, one_file, page_flag, quiet_flag, ring_option, root_below_flag, rows_option, svg_flag, title_option, top_command, type_option, types_command, width_option}
 use Rattle.command_line.specs.declared.argument_lists.Argument.{Argument}
 use Rattle.command_line.specs.declared.argument_lists.Argument.TheVariants as argument
 use Rattle.command_line.specs.declared.commands.Subcommand.{Subcommand}
@@ -23,7 +23,9 @@ rule_at argument.By = by_option
 rule_at argument.Json = json_flag
 rule_at argument.Quiet = quiet_flag
 rule_at argument.Page = page_flag
+rule_at argument.Svg = svg_flag
 rule_at argument.Title = title_option
+rule_at argument.RootBelow = root_below_flag
 rule_at argument.Least = least_option
 rule_at argument.Files = any_files (codes "file")
 rule_at argument.Before = one_file (codes "before")

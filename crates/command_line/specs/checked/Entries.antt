@@ -34,7 +34,7 @@ IsFlagAt id entries =
     IfSome (one_of id entries) (λ text. (text ≡ codes "true") ⊎ (text ≡ codes "false"))
 
 -- the command is `types` or shows a view, its values are read as they are meant, a comparison has two files, a page
--- is of a view with boxes, and `types` has one file
+-- and a picture are of a view with boxes, and `types` has one file
 pub record IsRead (name : Text) (entries : List Row) : Type 0 where
   pub command : bytes_eq name (codes "types") ≡ false → IsSome (view_of name entries)
   pub width : IsNumberAt (codes "width") MAX_WIDTH entries
@@ -46,9 +46,12 @@ pub record IsRead (name : Text) (entries : List Row) : Type 0 where
   pub json : IsFlagAt (codes "json") entries
   pub quiet : IsFlagAt (codes "quiet") entries
   pub page : IsFlagAt (codes "page") entries
+  pub svg : IsFlagAt (codes "svg") entries
+  pub below : IsFlagAt (codes "root-below") entries
   pub least : IsCountAt (codes "least") entries
   pub pair : name ≡ codes "compare" → length (files_of entries) ≡ 2
   pub drawn : is_set (codes "page") entries ≡ true → IfSome (view_of name entries) IsDrawn
+  pub pictured : is_set (codes "svg") entries ≡ true → IfSome (view_of name entries) IsDrawn
   pub single : bytes_eq name (codes "types") ≡ true → length (files_of entries) ≡ 1
 
 -- what an error of that kind is for the caller

@@ -6,4 +6,5 @@ use Rattle.command_line.specs.declared.plans.Form.TheVariants as form
 abbrev pub IsOfView : Form → Type 0
 IsOfView form.Text = Unit {0}
 IsOfView (form.Page page) = ⊥
+IsOfView (form.Picture picture) = ⊥
 IsOfView form.Types = Unit {0}

@@ -29,6 +29,7 @@ const HEADING: Heading<'static> = Heading {
     sources: &[SOURCE],
     least: None,
     whole: 3,
+    is_root_below: false,
 };
 
 // A source of folded text.

@@ -54,6 +54,10 @@ AreKept drawings kept = (kept.names ≡ page_names drawings) × AreAllKept kept.
 
 -- ---- the text of a drawing, in the parts in which it is written
 
+-- what stands behind the names of a page that opens with the root below
+abbrev pub below_text : Bool → List ℕ
+below_text is_below = if is_below then codes ",\"root_below\":true" else []
+
 -- a column after its key
 abbrev pub column_text : List ℕ → Column → List KeptBox → List ℕ
 column_text key column boxes = key ++ safe_text (list_data (map (λ item. whole_number (number_in column item)) boxes))

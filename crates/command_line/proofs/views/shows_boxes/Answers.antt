@@ -1,6 +1,6 @@
 use Rattle.std.proofs.Common.{◌∙◌, codes, sym}
 use Rattle.command_line.specs.checked.Entries.{entries_of}
-use Rattle.command_line.proofs.ReadEntries.{boxed, boxed_by_page, flag_given}
+use Rattle.command_line.proofs.ReadEntries.{boxed, boxed_by_drawing, flag_given}
 use Rattle.command_line.proofs.views.shows_boxes.Goals as goal
 
 pub returns-then-get_flag : goal.returns-then-get_flag
@@ -11,5 +11,4 @@ returns-then-get_flag c =
 pub returns-else-get_flag : goal.returns-else-get_flag
 returns-else-get_flag c =
     let boxes = flag_given c.args.entries.now (codes "boxes") c.get_flag.result c.requires.boxes c.get_flag.ensures.none c.get_flag.ensures.value c.get_flag.ensures.other in
-    let page = flag_given c.args.entries.now (codes "page") c.get_flag-else-get_flag.result c.requires.page c.get_flag-else-get_flag.ensures.none c.get_flag-else-get_flag.ensures.value c.get_flag-else-get_flag.ensures.other in
-    page ∙ sym (boxed_by_page (entries_of c.args.entries.now) (sym boxes ∙ c.if-get_flag.false))
+    c.is_drawn.ensures ∙ sym (boxed_by_drawing (entries_of c.args.entries.now) (sym boxes ∙ c.if-get_flag.false))

@@ -1,4 +1,4 @@
-//! Worked command lines of what a run writes: pages, and sample types; and of runs that show no progress.
+//! Worked command lines of what a run writes: pages, pictures, and sample types; and of runs that show no progress.
 
 use super::lines::are_answered;
 use super::wanted::{REFUSED, Shown, Wanted};
@@ -13,7 +13,7 @@ const COMMANDS: &[(&str, Wanted<'static>)] = &[
 ];
 
 #[test]
-fn texts_unless_a_page_is_asked_for(rt: HostRuntime) -> Result<(), Fail> {
+fn texts_unless_another_form_is_asked_for(rt: HostRuntime) -> Result<(), Fail> {
     are_answered(&rt, COMMANDS)
 }
 
@@ -42,6 +42,8 @@ const PAGES: &[(&str, Wanted<'static>)] = &[
         "compare a b --page --least 18446744073709551615",
         Wanted::Page(None, Some(u64::MAX)),
     ),
+    ("graph --root-below --page", Wanted::PageBelow),
+    ("compare a --page b --root-below", Wanted::PageBelow),
 ];
 
 #[test]
@@ -63,6 +65,36 @@ const PAGES_OF_BOXES: &[(&str, Wanted<'static>)] = &[
 #[test]
 fn pages_of_comparisons_show_boxes(rt: HostRuntime) -> Result<(), Fail> {
     are_answered(&rt, PAGES_OF_BOXES)
+}
+
+const PICTURES: &[(&str, Wanted<'static>)] = &[
+    ("graph --svg", Wanted::Picture(None, false)),
+    ("chart x --svg --title t", Wanted::Picture(Some("t"), false)),
+    (
+        "graph --title=t=u --root-below --svg",
+        Wanted::Picture(Some("t=u"), true),
+    ),
+    ("compare a --svg b", Wanted::Picture(None, false)),
+    (
+        "compare --svg --root-below a b",
+        Wanted::Picture(None, true),
+    ),
+    ("graph --svg --width 9", Wanted::View(Shown::Graph(9))),
+    ("chart --svg", Wanted::View(Shown::Chart(1_200))),
+    (
+        "compare --svg --width 9 a b",
+        Wanted::View(Shown::PairBoxes(9)),
+    ),
+    (
+        "compare a b --boxes --svg",
+        Wanted::View(Shown::PairBoxes(1_200)),
+    ),
+    ("graph --svg --quiet", Wanted::Quiet),
+];
+
+#[test]
+fn pictures(rt: HostRuntime) -> Result<(), Fail> {
+    are_answered(&rt, PICTURES)
 }
 
 const TYPES: &[(&str, Wanted<'static>)] = &[
@@ -87,6 +119,22 @@ const REFUSED_LINES: &[(&str, Wanted<'static>)] = &[
     ("graph --page --page", REFUSED),
     ("fold --page", REFUSED),
     ("top --page", REFUSED),
+    ("graph --svg --page", REFUSED),
+    ("chart --page --svg", REFUSED),
+    ("graph --svg --every 5", REFUSED),
+    ("graph --svg --json", REFUSED),
+    ("compare a b --svg --json", REFUSED),
+    ("chart --svg --least 5", REFUSED),
+    ("graph --svg --svg", REFUSED),
+    ("graph --svg=x", REFUSED),
+    ("graph --svg --title=", REFUSED),
+    ("graph --root-below", REFUSED),
+    ("compare a b --boxes --root-below", REFUSED),
+    ("graph --page --root-below --root-below", REFUSED),
+    ("fold --svg", REFUSED),
+    ("top --svg", REFUSED),
+    ("types a --svg", REFUSED),
+    ("fold --root-below", REFUSED),
     ("fold --quiet --quiet", REFUSED),
     ("types", REFUSED),
     ("types a b", REFUSED),
@@ -99,15 +147,57 @@ fn refused_forms(rt: HostRuntime) -> Result<(), Fail> {
     are_answered(&rt, REFUSED_LINES)
 }
 
-const TITLE_WITHOUT_A_PAGE: &[(&str, Wanted<'static>)] = &[(
-    "graph --title t",
-    Wanted::Refused(
-        "error: the following required arguments were not provided:\n  --page\n",
-        "",
-    ),
-)];
+const NO_PAGE: Wanted<'static> = Wanted::Refused(
+    "error: the following required arguments were not provided:\n  --page\n",
+    "",
+);
+
+const NO_FORM: Wanted<'static> = Wanted::Refused(
+    "error: the following required arguments were not provided:\n  <--page|--svg>\n",
+    "",
+);
+
+const WITHOUT_A_FORM: &[(&str, Wanted<'static>)] = &[
+    ("graph --least 5", NO_PAGE),
+    ("chart --least 5 --title t --root-below", NO_PAGE),
+    ("graph --title t", NO_FORM),
+    ("compare a b --root-below", NO_FORM),
+];
 
 #[test]
-fn text_of_a_title_without_a_page(rt: HostRuntime) -> Result<(), Fail> {
-    are_answered(&rt, TITLE_WITHOUT_A_PAGE)
+fn texts_of_what_is_said_of_no_page(rt: HostRuntime) -> Result<(), Fail> {
+    are_answered(&rt, WITHOUT_A_FORM)
+}
+
+const CONFLICTS: &[(&str, Wanted<'static>)] = &[
+    (
+        "graph --page --svg --every 5",
+        Wanted::Refused(
+            "error: the argument '--svg' cannot be used with '--page'\n",
+            "",
+        ),
+    ),
+    (
+        "graph --every 5 --svg",
+        Wanted::Refused(
+            "error: the argument '--svg' cannot be used with '--every <N>'\n",
+            "",
+        ),
+    ),
+    (
+        "compare a b --svg --least 5",
+        Wanted::Refused(
+            "error: the argument '--svg' cannot be used with '--least <N>'\n",
+            "",
+        ),
+    ),
+    (
+        "graph --svg --page --format svg",
+        Wanted::Refused("error: invalid value 'svg' for '--format <FORMAT>'\n", ""),
+    ),
+];
+
+#[test]
+fn texts_of_conflicts_with_a_picture(rt: HostRuntime) -> Result<(), Fail> {
+    are_answered(&rt, CONFLICTS)
 }

@@ -97,7 +97,12 @@ const PARTS: &[(&str, Wanted<'static>)] = &[
         Wanted::Help("\nExample: flamecollect types "),
     ),
     ("types --help", Wanted::Help("\nCompressed: gzip -dk ")),
-    ("graph --help", Wanted::Help("\nPages:\n      --page ")),
+    (
+        "graph --help",
+        Wanted::Help("\nPages and SVGs:\n      --page "),
+    ),
+    ("chart --help", Wanted::Help("\n      --svg ")),
+    ("compare --help", Wanted::Help("\n      --root-below ")),
     (
         "fold --help",
         Wanted::Help("\nRarely needed:\n      --ring <N> "),

@@ -51,8 +51,12 @@ pub(crate) enum Wanted<'a> {
     LoudText,
     /// No progress, with no other option.
     Quiet,
-    /// A page, with this title and this least weight.
+    /// A page, with this title and this least weight, and the root above.
     Page(Option<&'a str>, Option<u64>),
+    /// A page, with the root below, and neither title nor least weight.
+    PageBelow,
+    /// A picture, with this title, and with the root below or above.
+    Picture(Option<&'a str>, bool),
     /// The sample types of this file, with progress and no other option.
     Types(&'a str),
     /// Words that are refused, with a text that begins so, has this part, and tells how to get help.
@@ -123,10 +127,21 @@ fn is_titled(found: &Option<Text>, title: Option<&str>) -> bool {
     }
 }
 
-fn is_page(form: &Form, title: Option<&str>, least: Option<u64>) -> bool {
+fn is_page(form: &Form, title: Option<&str>, least: Option<u64>, is_below: bool) -> bool {
     match form {
-        Form::Page(page) => page.least == least && is_titled(&page.title, title),
-        Form::Text | Form::Types => false,
+        Form::Page(page) => {
+            page.least == least && page.is_root_below == is_below && is_titled(&page.title, title)
+        }
+        Form::Text | Form::Picture(_) | Form::Types => false,
+    }
+}
+
+fn is_picture(form: &Form, title: Option<&str>, is_below: bool) -> bool {
+    match form {
+        Form::Picture(picture) => {
+            picture.is_root_below == is_below && is_titled(&picture.title, title)
+        }
+        Form::Text | Form::Page(_) | Form::Types => false,
     }
 }
 
@@ -151,7 +166,9 @@ pub(crate) fn has(plan: &Plan, wanted: &Wanted<'_>) -> bool {
         Wanted::Format(format) => plan.format == format && has_defaults(plan),
         Wanted::LoudText => !plan.is_quiet && matches!(&plan.form, Form::Text),
         Wanted::Quiet => plan.is_quiet && has_defaults(plan),
-        Wanted::Page(title, least) => is_page(&plan.form, title, least),
+        Wanted::Page(title, least) => is_page(&plan.form, title, least, false),
+        Wanted::PageBelow => is_page(&plan.form, None, None, true),
+        Wanted::Picture(title, is_below) => is_picture(&plan.form, title, is_below),
         Wanted::Types(file) => is_of_types(plan, file),
         Wanted::Refused(..) | Wanted::Help(_) | Wanted::Version => false,
     }

@@ -13,7 +13,7 @@ returns-clause-ok g c = λ input files loaded.
     let run = c.in_ok-run.run'.kept in
     let sources = loaded_bytes c.args.loaded in
     let facts : RunFacts = record { whole = c.in_ok-run.run'.whole_weight; types = c.of.result } in
-    let text = same_shown plan (facts_of plan.options sources) facts (samples_of run.lists) run.order plan.options.every (sym c.in_ok-run.ensures.whole_weight) (λ page is. sym (c.of.ensures ∙ c.in_ok-types.ensures page is)) in
+    let text = same_shown plan (facts_of plan.options sources) facts (samples_of run.lists) run.order plan.options.every (sym c.in_ok-run.ensures.whole_weight) (λ page is. sym (c.of.ensures ∙ c.in_ok-types.ensures.page page is)) (λ picture is. sym (c.of.ensures ∙ c.in_ok-types.ensures.picture picture is)) in
     ok_shown_as plan input files sources run.lists run.order plan.options.every
     (collected_of plan input files _ sources run.lists run.order plan.options.every refl loaded
     c.in_ok-run.ensures.whole_lists c.in_ok-run.ensures.order refl)
@@ -25,7 +25,7 @@ returns-clause-err g c = λ input files loaded.
     let run = c.in_ok-run.run'.kept in
     let sources = loaded_bytes c.args.loaded in
     let facts : RunFacts = record { whole = c.in_ok-run.run'.whole_weight; types = c.of.result } in
-    let text = same_shown plan (facts_of plan.options sources) facts (samples_of run.lists) run.order plan.options.every (sym c.in_ok-run.ensures.whole_weight) (λ page is. sym (c.of.ensures ∙ c.in_ok-types.ensures page is)) in
+    let text = same_shown plan (facts_of plan.options sources) facts (samples_of run.lists) run.order plan.options.every (sym c.in_ok-run.ensures.whole_weight) (λ page is. sym (c.of.ensures ∙ c.in_ok-types.ensures.page page is)) (λ picture is. sym (c.of.ensures ∙ c.in_ok-types.ensures.picture picture is)) in
     err_shown_as plan input files sources run.lists run.order plan.options.every
     (collected_of plan input files _ sources run.lists run.order plan.options.every refl loaded
     c.in_ok-run.ensures.whole_lists c.in_ok-run.ensures.order refl)

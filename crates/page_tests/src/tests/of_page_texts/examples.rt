@@ -41,6 +41,7 @@ struct Case<'a> {
     title: &'a str,
     view: &'a str,
     whole: u128,
+    is_root_below: bool,
 }
 
 fn drawing_of<'a, B: PageBox>(boxes: &'a [B], case: &Case<'a>) -> Drawing<'a, B> {
@@ -59,6 +60,7 @@ fn page_with<'a, B: PageBox>(drawings: &'a [Drawing<'a, B>], case: &Case<'a>) ->
         title: case.title,
         view: case.view,
         whole: case.whole,
+        is_root_below: case.is_root_below,
     }
 }
 
@@ -110,6 +112,7 @@ const EXAMPLE: &Case<'static> = &Case {
     title: "small.folded",
     view: "graph",
     whole: 5,
+    is_root_below: false,
 };
 
 #[test]
@@ -117,6 +120,24 @@ fn example_of_the_page(rt: HostRuntime) -> Result<(), Fail> {
     let wanted =
         b"{\"drawings\":[{\"depth\":[0,1,2],\"least\":0,\"left_out\":{\"boxes\":0,\"weight\":0},\"name\":[0,1,2],\"own\":[0,1,2],\"start\":[0,0,1],\"total\":3,\"weight\":[3,3,2]}],\"names\":[\"all\",\"main\",\"read\\u003cint\\u003e\"],\"sources\":[{\"name\":\"small.folded\",\"type\":\"\",\"unit\":\"\",\"weight\":3}],\"title\":\"small.folded\",\"view\":\"graph\",\"whole\":5}";
     data_are(&rt, EXAMPLE, wanted)
+}
+
+const BELOW: &Case<'static> = &Case {
+    least: 4,
+    total: 3,
+    moment: None,
+    sources: &[],
+    title: "small",
+    view: "graph",
+    whole: 3,
+    is_root_below: true,
+};
+
+#[test]
+fn root_below_is_told(rt: HostRuntime) -> Result<(), Fail> {
+    let wanted =
+        b"{\"drawings\":[{\"depth\":[],\"least\":4,\"left_out\":{\"boxes\":3,\"weight\":3},\"name\":[],\"own\":[],\"start\":[],\"total\":3,\"weight\":[]}],\"names\":[],\"root_below\":true,\"sources\":[],\"title\":\"small\",\"view\":\"graph\",\"whole\":3}";
+    data_are(&rt, BELOW, wanted)
 }
 
 const NARROW: &Case<'static> = &Case {
@@ -130,6 +151,7 @@ const NARROW: &Case<'static> = &Case {
     title: "</script>&\u{2028}\u{2029}",
     view: "graph",
     whole: 5,
+    is_root_below: false,
 };
 
 #[test]
@@ -166,6 +188,7 @@ const COMPARED: &Case<'static> = &Case {
     title: "",
     view: "compare",
     whole: 5,
+    is_root_below: false,
 };
 
 fn append_compared(alloc: Global, out: &mut Vec<u8>) -> Result<(), AllocError> {
@@ -199,6 +222,7 @@ const LONG: &Case<'static> = &Case {
     title: "",
     view: "chart",
     whole: 5,
+    is_root_below: false,
 };
 
 // Appends the data of a page of more numbers than a part has.
@@ -227,6 +251,7 @@ const README: &Case<'static> = &Case {
     title: "<small>",
     view: "graph",
     whole: 3,
+    is_root_below: false,
 };
 
 // Sends the page of the README.

@@ -76,6 +76,7 @@ const SMALL: Heading<'static> = Heading {
     sources: &[],
     least: Some(0),
     whole: 3,
+    is_root_below: false,
 };
 
 const OF_SCRIPTS: Heading<'static> = Heading {
@@ -83,6 +84,7 @@ const OF_SCRIPTS: Heading<'static> = Heading {
     sources: &[],
     least: Some(10),
     whole: 57,
+    is_root_below: false,
 };
 
 // Whether there is what a view asks for.

@@ -16,4 +16,4 @@ returns-clause-sent g c =
     let sources = ap (map source_of) c.deref-2.ensures.value ∙ c.in_ok-described.ensures
     ∙ (λ i. sources_of (c.get-files.ensures i) (c.get.ensures i) (samples_of (ap (λ (run : ListsState). run.lists) c.sources.ensures i))) in
     subst (λ (heading : PageHeading). Sends (document_text (snapshots_page heading lists gathered.order gathered.every)) (g.W.Outlet.contents c.args.out.now) (g.W.Outlet.contents c.send_moments.new.out) c.send_moments.result)
-    (c.heading_with-heading.ensures ∙ (λ i. record { title = title i; sources = sources i; least = c.args.page.now.least; whole = c.args.facts.now.whole })) c.send_moments.ensures.sent
+    (c.heading_with-heading.ensures ∙ (λ i. record { title = title i; sources = sources i; least = c.args.page.now.least; whole = c.args.facts.now.whole; is_root_below = c.args.page.now.is_root_below })) c.send_moments.ensures.sent

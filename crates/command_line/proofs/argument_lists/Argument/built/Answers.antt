@@ -42,10 +42,16 @@ pub returns-in-Quiet : goal.returns-in-Quiet
 returns-in-Quiet c = c.flag-in-Quiet.ensures ∙ sym (ap rule_at c.in-Quiet.is)
 
 pub returns-in-Page : goal.returns-in-Page
-returns-in-Page c = c.page_flag.ensures ∙ sym (ap rule_at c.in-Page.is)
+returns-in-Page c = c.form_flag.ensures ∙ sym (ap rule_at c.in-Page.is)
+
+pub returns-in-Svg : goal.returns-in-Svg
+returns-in-Svg c = c.form_flag-in-Svg.ensures ∙ sym (ap rule_at c.in-Svg.is)
 
 pub returns-in-Title : goal.returns-in-Title
 returns-in-Title c = c.title_option.ensures ∙ sym (ap rule_at c.in-Title.is)
+
+pub returns-in-RootBelow : goal.returns-in-RootBelow
+returns-in-RootBelow c = c.form_flag-in-RootBelow.ensures ∙ sym (ap rule_at c.in-RootBelow.is)
 
 pub returns-in-Least : goal.returns-in-Least
 returns-in-Least c = c.least_option.ensures ∙ sym (ap rule_at c.in-Least.is)

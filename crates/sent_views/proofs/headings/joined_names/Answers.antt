@@ -1,6 +1,6 @@
 use Rattle.std.proofs.Common.{◌≡◌, ◌<◌, IfOk, List, length, rules, string_bytes, subst, ℕ}
 use Rattle.sent_views.proofs.PageLemmas.{joined_title}
-use Rattle.sent_views.proofs.sent_pages.joined_names.Goals as goal
+use Rattle.sent_views.proofs.headings.joined_names.Goals as goal
 
 pub returns-else-is_empty : goal.returns-else-is_empty
 returns-else-is_empty c =

@@ -3,7 +3,7 @@ use Rattle.stack_core.specs.Ledgers.{ListState}
 use Rattle.merged_stacks.specs.Timeline.{samples_of, total_weight}
 use Rattle.sent_views.proofs.PageLemmas.{told_more, told_source}
 use Rattle.source_views.proofs.TextLemmas.{listed_samples}
-use Rattle.sent_views.proofs.sent_pages.described_sources.Goals as goal
+use Rattle.sent_views.proofs.headings.described_sources.Goals as goal
 
 pub loop-at-preserved : goal.loop-at-preserved
 loop-at-preserved c =

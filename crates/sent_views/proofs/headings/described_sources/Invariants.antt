@@ -4,7 +4,7 @@ use Rattle.std.specs.List.{range_with_len}
 use Rattle.merged_stacks.specs.Timeline.{samples_of}
 use Rattle.page_texts.specs.Drawn.{source_of}
 use Rattle.sent_views.specs.Pages.{source_at}
-use Rattle.sent_views.proofs.sent_pages.described_sources.Given as goal
+use Rattle.sent_views.proofs.headings.described_sources.Given as goal
 
 abbrev pub invariant-loop-at : goal.invariant-loop-at
 invariant-loop-at l =

@@ -1,0 +1,6 @@
+-- What a frame of the code stands for.
+use Rattle.sent_views.specs.Pictures.{PictureFrame}
+use Rattle.sent_views.specs.declared.sent_pictures.Frame.{Frame}
+
+abbrev pub frame_of : Frame → PictureFrame
+frame_of frame = record { title = frame.title.now; unit = frame.unit.now; is_root_below = frame.is_root_below }

@@ -1,0 +1,103 @@
+//! What pages and pictures say beside their boxes: the title, the sources, and their unit.
+ghost use Rattle.std.specs.Prelude.{◌≡◌, ◌<◌, ◌^◌, IfOk, map, slice_get, string_bytes, unwrap_or};
+ghost use Rattle.merged_stacks.specs.Timeline.{samples_of, total_weight};
+ghost use Rattle.page_texts.specs.Drawn.{source_of};
+ghost use Rattle.source_lists.specs.Types.{type_or_none};
+ghost use Rattle.sent_views.specs.Pages.{default_title, sources_of};
+ghost use Rattle.sent_views.specs.Pictures.{common_unit, units_with_weight};
+
+use merging::SourceLists;
+use opened_sources::path_of;
+use page_views::Source;
+use profile_messages::SampleType;
+use stack_core::{SourceList, Text};
+use std::alloc::{AllocError, Global};
+
+// What a page or a picture of these files is called, with the title that the words set, if there is one.
+pub(crate) fn title_of(
+    alloc: Global,
+    asked: &Option<Text>,
+    files: &[String],
+) -> Result<String, AllocError>
+    ensures { IfOk result (λ title. string_bytes title
+        ≡ unwrap_or asked.now (default_title (map string_bytes files.now))) }
+{
+    match asked {
+        Some(title) => String::from_str(alloc, title.get()),
+        None => joined_names(alloc, files),
+    }
+}
+
+// The names of the files, or those words where there is none.
+fn joined_names(alloc: Global, files: &[String]) -> Result<String, AllocError>
+    ensures { IfOk result (λ title. string_bytes title
+        ≡ default_title (map string_bytes files.now)) }
+{
+    if files.is_empty() {
+        String::from_str(alloc, "standard input")
+    } else {
+        files.join(alloc, ", ")
+    }
+}
+
+// The sources of a page or a picture, one for each list.
+pub(crate) fn described_sources<'a>(
+    alloc: Global,
+    files: &'a [String],
+    types: &'a [SampleType],
+    sources: &SourceLists,
+) -> Result<Vec<Source<'a>>, AllocError>
+    ensures { IfOk result (λ described. map source_of described.items
+        ≡ sources_of (map string_bytes files.now) types.now (samples_of sources.now.lists)) }
+{
+    let lists = sources.lists();
+    let mut described = Vec::with_capacity(alloc, lists.len())?;
+    for at in 0..lists.len() {
+        described.push(described_source(path_of(files, at), types, at, &lists[at]))?;
+    }
+    Ok(described)
+}
+
+// A source, with its own of the types.
+fn described_source<'a>(
+    name: &'a str,
+    types: &'a [SampleType],
+    at: usize,
+    list: &SourceList,
+) -> Source<'a>
+    requires { total_weight list.now.samples < 2 ^ 64 }
+    ensures name { result.name.now ≡ name.now }
+    ensures type_name { result.type_name.now
+        ≡ (type_or_none (slice_get types.now at)).name }
+    ensures unit { result.unit.now
+        ≡ (type_or_none (slice_get types.now at)).unit }
+    ensures weight { result.weight ≡ total_weight list.now.samples }
+{
+    let (type_name, unit) = match types.get(at) {
+        Some(found) => (found.name.get(), found.unit.get()),
+        None => ("", ""),
+    };
+    Source {
+        name,
+        type_name,
+        unit,
+        weight: list.total() as u64,
+    }
+}
+
+// The one unit of the sources that have weight. It is empty where they have none, or different ones.
+pub(crate) fn common_unit<'a>(sources: &[Source<'a>]) -> &'a str
+    ensures { result.now ≡ common_unit (units_with_weight (map source_of sources.now)) }
+{
+    let mut common = None;
+    for source in sources {
+        if source.weight > 0 {
+            match common {
+                None => common = Some(source.unit),
+                Some(unit) if unit == source.unit => {}
+                Some(_) => return "",
+            }
+        }
+    }
+    common.unwrap_or("")
+}

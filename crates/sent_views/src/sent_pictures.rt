@@ -1,0 +1,184 @@
+//! Pictures of what was collected, sent while they are made.
+ghost use Rattle.std.specs.Prelude.{◌≡◌, ◌<◌, ◌^◌, length};
+ghost use Rattle.flame_layout.specs.Chart.{chart_of};
+ghost use Rattle.flame_layout.specs.Comparison.{compared_boxes_of};
+ghost use Rattle.flame_layout.specs.Graph.{graph_of};
+ghost use Rattle.merged_stacks.specs.Timeline.{samples_of, timeline, total_weight};
+ghost use Rattle.merging.specs.Sums.{all_samples};
+ghost use Rattle.command_line.specs.Plans.{IsComparison};
+ghost use Rattle.svg_texts.specs.Drawn.{picture_of};
+ghost use Rattle.svg_texts.specs.Svg.{compared_svg, plain_svg};
+ghost use Rattle.sent_views.specs.Pages.{picture_text};
+ghost use Rattle.sent_views.specs.Pictures.{framed_text, picture_in};
+ghost use Rattle.sent_views.specs.checked.Frames.{frame_of};
+ghost use Rattle.opened_sources.specs.Failures.{Flushes, Sends};
+
+use crate::headings::{common_unit, described_sources, title_of};
+use crate::run_facts::RunFacts;
+use crate::sent_views::{send_long_text, send_plain_view};
+use byte_io::Outlet;
+use command_line::{PictureForm, Plan, View};
+use flame_layout::{Width, draw_merged, draw_paired};
+use merged_stacks::PairedStacks;
+use merging::SourceLists;
+use opened_sources::Failure;
+use source_views::{lend_chart, merge_in_threads};
+use stack_core::SourceList;
+use std::alloc::Global;
+use std::thread::Threads;
+use svg_texts::{Picture, chart_svg, comparison_svg, graph_svg};
+
+/// A picture that a plan asks for.
+#[derive(Clone, Copy)]
+pub struct AskedPicture<'a> {
+    pub plan: &'a Plan,
+    pub facts: &'a RunFacts,
+    /// What the words say of it.
+    pub form: &'a PictureForm,
+}
+
+// What stands round the boxes of a picture, whatever its view.
+#[derive(Clone, Copy)]
+struct Frame<'a> {
+    title: &'a str,
+    unit: &'a str,
+    is_root_below: bool,
+}
+
+impl<'a> Frame<'a> {
+    // The picture of boxes that span so much, in so many pixels.
+    fn picture(&self, width: Width, total: u64) -> Picture<'a>
+        ensures { picture_of result ≡ picture_in (frame_of self.now) width total }
+    {
+        Picture {
+            title: self.title,
+            unit: self.unit,
+            total,
+            width,
+            root_below: self.is_root_below,
+        }
+    }
+}
+
+/// Sends the picture that a plan asks for. It has no snapshots.
+pub fn send_asked_picture<T: Threads, W: Outlet>(
+    rt: &T,
+    alloc: Global,
+    sources: &SourceLists,
+    asked: &AskedPicture<'_>,
+    out: &mut W,
+) -> Result<(), Failure>
+    requires pairs { IsComparison asked.now.plan.now.view → length sources.now.lists ≡ 2 }
+    ensures sent { Sends (picture_text asked.now.plan.now asked.now.facts.now asked.now.form.now (samples_of sources.now.lists))
+        (W.contents out.old) (W.contents out.new) result }
+    ensures flushed { Flushes (W.is_flushed out.new) (W.failures out.old) (W.failures out.new)
+        result }
+{
+    let files = asked.plan.files.get();
+    let title = title_of(alloc, &asked.form.title, files)?;
+    let described = described_sources(alloc, files, asked.facts.types.get(), sources)?;
+    let frame = Frame {
+        title: &title,
+        unit: common_unit(&described),
+        is_root_below: asked.form.is_root_below,
+    };
+    send_framed(rt, alloc, sources, asked.plan.view, &frame, out)
+}
+
+// Sends the picture of a view in a frame, or the text of a view that has no boxes.
+fn send_framed<T: Threads, W: Outlet>(
+    rt: &T,
+    alloc: Global,
+    sources: &SourceLists,
+    view: View,
+    frame: &Frame<'_>,
+    out: &mut W,
+) -> Result<(), Failure>
+    requires pairs { IsComparison view → length sources.now.lists ≡ 2 }
+    ensures sent { Sends (framed_text (frame_of frame.now) view (samples_of sources.now.lists))
+        (W.contents out.old) (W.contents out.new) result }
+    ensures flushed { Flushes (W.is_flushed out.new) (W.failures out.old) (W.failures out.new)
+        result }
+{
+    match view {
+        View::Graph(width) => {
+            let picture = frame.picture(width, sources.total());
+            send_graph(rt, alloc, sources, &picture, out)
+        }
+        View::Chart(width) => {
+            let picture = frame.picture(width, sources.total());
+            send_chart(rt, alloc, sources, &picture, out)
+        }
+        View::PairBoxes(width) => {
+            let lists = sources.lists();
+            let picture = frame.picture(width, lists[1].total() as u64);
+            send_compared(rt, alloc, &lists[0], &lists[1], &picture, out)
+        }
+        View::Fold | View::Pairs | View::Top(_) => {
+            send_plain_view(rt, alloc, sources, view, None, out)
+        }
+    }
+}
+
+// Sends the picture of the graph.
+fn send_graph<T: Threads, W: Outlet>(
+    rt: &T,
+    alloc: Global,
+    sources: &SourceLists,
+    picture: &Picture<'_>,
+    out: &mut W,
+) -> Result<(), Failure>
+    requires { picture.now.total ≡ total_weight (all_samples (samples_of sources.now.lists)) }
+    ensures sent { Sends (plain_svg (picture_of picture.now) (graph_of (all_samples (samples_of sources.now.lists))))
+        (W.contents out.old) (W.contents out.new) result }
+    ensures flushed { Flushes (W.is_flushed out.new) (W.failures out.old) (W.failures out.new)
+        result }
+{
+    // The own weights add up to the total, which has 64 bits.
+    let _total = picture.total;
+    let merged = merge_in_threads(rt, alloc, sources)?;
+    let boxes = draw_merged(alloc, &merged)?;
+    send_long_text(rt, alloc, &graph_svg(alloc, picture, &boxes)?, out)
+}
+
+// Sends the picture of the chart.
+fn send_chart<T: Threads, W: Outlet>(
+    rt: &T,
+    alloc: Global,
+    sources: &SourceLists,
+    picture: &Picture<'_>,
+    out: &mut W,
+) -> Result<(), Failure>
+    requires { picture.now.total ≡ total_weight (timeline (samples_of sources.now.lists)) }
+    ensures sent { Sends (plain_svg (picture_of picture.now) (chart_of (timeline (samples_of sources.now.lists))))
+        (W.contents out.old) (W.contents out.new) result }
+    ensures flushed { Flushes (W.is_flushed out.new) (W.failures out.old) (W.failures out.new)
+        result }
+{
+    // As in `send_graph`.
+    let _total = picture.total;
+    let boxes = lend_chart(alloc, sources)?;
+    send_long_text(rt, alloc, &chart_svg(alloc, picture, &boxes)?, out)
+}
+
+// Sends the picture of the second profile, with the weights of the first.
+fn send_compared<T: Threads, W: Outlet>(
+    rt: &T,
+    alloc: Global,
+    before: &SourceList,
+    after: &SourceList,
+    picture: &Picture<'_>,
+    out: &mut W,
+) -> Result<(), Failure>
+    requires before { total_weight before.now.samples < 2 ^ 64 }
+    requires after { total_weight after.now.samples < 2 ^ 64 }
+    requires total { picture.now.total ≡ total_weight after.now.samples }
+    ensures sent { Sends (compared_svg (picture_of picture.now) (compared_boxes_of before.now.samples after.now.samples))
+        (W.contents out.old) (W.contents out.new) result }
+    ensures flushed { Flushes (W.is_flushed out.new) (W.failures out.old) (W.failures out.new)
+        result }
+{
+    let stacks = PairedStacks::of_in_threads(rt, alloc, before, after)?;
+    let boxes = draw_paired(alloc, &stacks, before, after)?;
+    send_long_text(rt, alloc, &comparison_svg(alloc, picture, &boxes)?, out)
+}

@@ -1,0 +1,11 @@
+use Rattle.std.proofs.Common.{◌≡◌, ◌+◌, ◌++◌}
+use Rattle.std.specs.List.{flat_map}
+use Rattle.svg_texts.specs.Labels.{places_of}
+use Rattle.svg_texts.specs.Shown.{visible_character, xml_text}
+use Rattle.svg_texts.proofs.labels.append_front.Given as goal
+
+abbrev pub invariant-loop-character : goal.invariant-loop-character
+invariant-loop-character l = record {
+  room : places_of (flat_map visible_character l.yielded) + l.rest ≡ l.fn.room;
+  written : l.out.items ≡ l.fn.out.items ++ xml_text (flat_map visible_character l.yielded);
+}

@@ -1,0 +1,15 @@
+use Rattle.std.proofs.Common.{◌+◌, ◌≤◌, sym, ap, ◌∙◌}
+use Rattle.std.proofs.lemmas.Simd.{map-map}
+use Rattle.std.proofs.lemmas.List.Elements.{All-map}
+use Rattle.std.proofs.lemmas.Result.{IfOk-weaker}
+use Rattle.flame_layout.specs.Boxes.{span_of}
+use Rattle.svg_texts.specs.Drawn.{picture_of}
+use Rattle.svg_texts.specs.Svg.{SvgBox, plain_box, svg_text}
+use Rattle.svg_texts.proofs.svg.graph_svg.Goals as goal
+
+pub of-requires-clause-within : goal.of-requires-clause-within
+of-requires-clause-within c = All-map (λ (box : SvgBox). box.span.start + box.span.weight ≤ c.args.picture.now.total) (λ drawn. plain_box (span_of drawn)) c.args.boxes.now c.requires.within
+
+pub returns-clause-text : goal.returns-clause-text
+returns-clause-text c =
+    IfOk-weaker c.of.result _ _ (λ svg is. is ∙ ap (svg_text (picture_of c.args.picture.now)) (sym (map-map plain_box span_of c.args.boxes.now))) c.of.ensures.text
