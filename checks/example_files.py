@@ -30,13 +30,14 @@ class Answer:
 
 @dataclasses.dataclass
 class Example:
-    """A run: the line where it stands, as it is written there; its words, its streams that lead elsewhere, and what must come."""
+    """A run: the line where it stands, as it is written there; its words, its streams that lead elsewhere, what stands before its `$`, and what
+    must come."""
 
     line: int
     written: str
     words: list[bytes]
     streams: dict[str, str]
-    is_on_terminal: bool
+    mark: str
     answer: Answer
 
 
@@ -138,8 +139,8 @@ class Topic:
         if line.startswith(b'  '):
             mark, _, rest = line[2:].partition(b' ')
             self.read_below(mark.decode(), rest)
-        elif run := re.fullmatch(rb'(terminal)?\$ flamecollect *(.*)', line):
-            self.read_run(number, run[2], bool(run[1]))
+        elif run := re.fullmatch(rb'(terminal|refused|)\$ flamecollect *(.*)', line):
+            self.read_run(number, run[2], run[1].decode())
         elif not line.startswith(b'#'):
             if not self.is_answered:
                 raise Misspelled('nothing stands below the run before')
@@ -150,11 +151,11 @@ class Topic:
             if line:
                 self.items.append(Item(kind, name, []))
 
-    def read_run(self, number: int, line: bytes, is_on_terminal: bool) -> None:
+    def read_run(self, number: int, line: bytes, mark: str) -> None:
         """Runs that stand one below another have the same answer."""
         if self.is_answered:
             self.runs, self.is_answered = [], False
-        run = Example(number, line.decode(), *self.texts.words_of(line), is_on_terminal, Answer())
+        run = Example(number, line.decode(), *self.texts.words_of(line), mark, Answer())
         self.runs.append(run)
         self.items.append(run)
 

@@ -16,6 +16,7 @@ import { boxAt, pathOf } from './drawing.js';
 /** @typedef {Map<string, string>} Words */
 
 const LONGEST_PATH = 4000;
+const WIDEST_LISTS = 10000;
 
 /** @type {(text: string) => string} */
 function decoded(text) {
@@ -49,8 +50,11 @@ export function fragmentOf(page, state) {
     const words = zoomWords(page, page.drawing(state.drawing), state);
     if (state.find !== '') words.push(`find=${encoded(state.find)}`);
     if (state.find !== '' && state.by !== 'text') words.push(`by=${state.by}`);
+    if (state.order !== 'place') words.push(`order=${state.order}`);
     if (state.drawing !== page.drawingCount - 1) words.push(`drawing=${state.drawing}`);
-    if (state.below) words.push('root=below');
+    if (state.below !== page.isBelow) words.push(state.below ? 'root=below' : 'root=above');
+    if (state.lists >= 0) words.push(`lists=${state.lists}`);
+    if (state.share) words.push('share=1');
     return `#${words.join('&')}`;
 }
 
@@ -71,12 +75,13 @@ export function wordsOf(fragment) {
 }
 
 // The words of a step to which the browser's history goes. What was set without a step of its own stays as it is now: a search that was
-// typed, the drawing, and where the root is. `made` is the fragment that the step before began with.
+// typed, the order of its matches, the drawing, where the root is, the width of the lists, and whether shares are compared. `made` is the
+// fragment that the step before began with.
 /** @type {(fragment: string, made: string, now: string) => Words} */
 export function wordsOfStep(fragment, made, now) {
     const words = wordsOf(fragment);
     const [wordsMade, wordsNow] = [wordsOf(made), wordsOf(now)];
-    for (const key of ['find', 'by', 'drawing', 'root']) {
+    for (const key of ['find', 'by', 'order', 'drawing', 'root', 'lists', 'share']) {
         const kept = wordsNow.get(key);
         if (wordsMade.get(key) === kept) continue;
         // A number of a box is one of its own drawing.
@@ -111,7 +116,10 @@ export function linkedOf(page, words) {
         box: Math.max(0, box),
         find: decoded(words.get('find') || ''),
         by: by === 'name' || by === 'regexp' ? by : 'text',
-        below: words.get('root') === 'below',
+        order: words.get('order') === 'weight' ? 'weight' : 'place',
+        below: page.isBelow ? words.get('root') !== 'above' : words.get('root') === 'below',
+        lists: wholeNumber(words.get('lists'), WIDEST_LISTS),
+        share: page.view === 'compare' && words.get('share') === '1',
     };
     return { state, isDead: box < 0 };
 }

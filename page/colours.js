@@ -9,6 +9,7 @@
  * @property {string} dim what steps back
  * @property {string} dimInk
  * @property {string} joined several boxes in one place
+ * @property {string} joinedMatch several, of which some match and others do not
  * @property {string} match
  * @property {string} matchInk
  * @property {string[]} plain
@@ -47,13 +48,15 @@ function changeFills(saturation, still, full) {
 /** @type {Colours} */
 export const LIGHT = {
     paper: '#fbfbf9', ink: '#1f2226', line: '#80868f', root: 'hsl(220, 8%, 82%)', dim: 'hsl(220, 8%, 90%)', dimInk: '#555b64',
-    joined: '#9aa0a8', match: 'hsl(285, 48%, 45%)', matchInk: '#ffffff', plain: plainFills(48, 74, 4), changes: changeFills(74, 88, 68),
+    joined: '#9aa0a8', joinedMatch: '#a982bb', match: 'hsl(285, 48%, 45%)', matchInk: '#ffffff', plain: plainFills(48, 74, 4),
+    changes: changeFills(74, 88, 68),
 };
 
 /** @type {Colours} */
 export const DARK = {
     paper: '#1b1d20', ink: '#eef0f2', line: '#7c828b', root: 'hsl(220, 6%, 34%)', dim: 'hsl(220, 6%, 22%)', dimInk: '#a9afb8',
-    joined: '#5d646e', match: 'hsl(285, 50%, 68%)', matchInk: '#17121a', plain: plainFills(26, 25, 4), changes: changeFills(52, 30, 38),
+    joined: '#5d646e', joinedMatch: '#8c589d', match: 'hsl(285, 50%, 68%)', matchInk: '#17121a', plain: plainFills(26, 25, 4),
+    changes: changeFills(52, 30, 38),
 };
 
 // From -1 where all is gone to 1 where all is new.

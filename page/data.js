@@ -23,6 +23,7 @@ import { commonUnit } from './units.js';
  * @property {number} whole the weight of all samples
  * @property {number} kept the weight of those that a filter keeps
  * @property {boolean} isFiltered
+ * @property {boolean} isBelow whether it opens with the root below
  * @property {number} drawingCount
  * @property {(number: number) => Drawing} drawing
  */
@@ -61,6 +62,7 @@ export function pageOf(data) {
         kept: start,
         // Sums above 2^53 are rounded, and a rounded sum is no filter's doing.
         isFiltered: data.whole > start + data.whole * 2 ** -50,
+        isBelow: data.root_below === true,
         drawingCount: data.drawings.length,
         drawing: drawingsOf(data.drawings),
     };

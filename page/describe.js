@@ -1,6 +1,6 @@
 // What is told of a box, and of a place that has several, in the tip, in the line below the picture, and to screen readers.
 
-import { bothWeights, endOf } from './drawing.js';
+import { bothWeights, comparedOf, endOf } from './drawing.js';
 import { described, nameText, shortened } from './names.js';
 import { isJoined, weighedTogether } from './places.js';
 import { weightInSpan } from './spans.js';
@@ -15,7 +15,7 @@ import { changeText, exactText, percentText, separated, weightText } from './uni
 
 /**
  * What is looked at: all that a text of a box is made of.
- * @typedef {{ page: Page, drawing: Drawing, span: Span }} Seen
+ * @typedef {{ page: Page, drawing: Drawing, span: Span, isShare: boolean }} Seen
  */
 
 // The parts of what is told: the weight, the own weight, before and after, and the place in time.
@@ -26,7 +26,7 @@ function detailsOf(seen, box) {
         weightDetail(seen, drawing.weight[box], weightInSpan(drawing, box, span)),
         `own ${exactText(drawing.own[box], page.unit)}`,
     ];
-    if (drawing.other) details.push(changeDetail(page, drawing, box));
+    if (drawing.other) details.push(changeDetail(seen, box));
     if (page.view === 'chart') details.push(timeDetail(page, drawing, box));
     return details;
 }
@@ -49,10 +49,15 @@ function sharesText(page, drawing, weight) {
     return `${share} of what is kept${hasWhole ? `, ${percentText(weight, page.whole)} of the whole` : ''}`;
 }
 
-/** @type {(page: Page, drawing: Drawing, box: number) => string} */
-function changeDetail(page, drawing, box) {
-    const { before, after } = bothWeights(page, drawing, box);
-    return `before ${exactText(before, page.unit)}, after ${exactText(after, page.unit)}: ${changeText(before, after)}`;
+/** @type {(seen: Seen, box: number) => string} */
+function changeDetail({ page, drawing, isShare }, box) {
+    const weights = bothWeights(page, drawing, box);
+    const [before, after] = [weights.before, weights.after].map((weight, number) => {
+        const share = isShare ? `, ${percentText(weight, page.drawing(number).total)} of its whole` : '';
+        return `${exactText(weight, page.unit)}${share}`;
+    });
+    const compared = comparedOf(page, isShare, weights);
+    return `before ${before}, after ${after}: ${changeText(compared.before, compared.after)}${isShare ? ' of its share' : ''}`;
 }
 
 // When a box of a chart begins and ends, and in which sources.
@@ -101,6 +106,6 @@ export function placeTitle(seen, place) {
     const { box } = place;
     if (isJoined(place)) return joinedDetails(seen, place).join(' · ');
     const title = [nameText(page.names[drawing.name[box]]), weightDetail(seen, drawing.weight[box], weightInSpan(drawing, box, span))];
-    if (drawing.other) title.push(changeDetail(page, drawing, box));
+    if (drawing.other) title.push(changeDetail(seen, box));
     return title.join(' · ');
 }

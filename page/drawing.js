@@ -108,8 +108,22 @@ export function boxAt(page, drawing, path, start) {
     return found;
 }
 
+/**
+ * What a comparison compares.
+ * @typedef {{ before: number, after: number }} Both
+ */
+
+// What is compared of weights in both profiles: these, or their shares of what each profile weighs. Shares are told by one number that is large
+// enough for both: they are times the product of both wholes. Of nothing there are no shares.
+/** @type {(page: Page, isShare: boolean, weights: Both) => Both} */
+export function comparedOf(page, isShare, weights) {
+    const [before, after] = isShare ? [0, 1].map((number) => page.drawing(number).total) : [0, 0];
+    if (before === 0 || after === 0) return weights;
+    return { before: weights.before * after, after: weights.after * before };
+}
+
 // The weights of the box's path before and after, in a comparison. Its first drawing is that of the profile before.
-/** @type {(page: Page, drawing: Drawing, box: number) => { before: number, after: number }} */
+/** @type {(page: Page, drawing: Drawing, box: number) => Both} */
 export function bothWeights(page, drawing, box) {
     const here = drawing.weight[box];
     const there = drawing.other ? drawing.other[box] : here;

@@ -12,28 +12,22 @@ import { exactText, percentText, separated, weightText } from './units.js';
 
 const GONE_STEP = 100;
 
-// The boxes of the profile before whose paths are gone while their callers are there: their weights together are what vanished.
-/** @type {(drawing: Drawing) => number[]} */
-export function goneRoots(drawing) {
-    const roots = [];
+// The boxes of the profile before whose paths are gone while their callers are there, the heaviest first: their weights together are what
+// vanished. With each all is gone that stands on it: `rest` counts that.
+/** @type {(drawing: Drawing) => { boxes: number[], rest: number }} */
+export function goneOf(drawing) {
+    const boxes = [];
+    let rest = 0;
     for (let box = 0; box < drawing.count; ) {
         if (!drawing.other || drawing.other[box] > 0) {
             box++;
             continue;
         }
-        roots.push(box);
+        boxes.push(box);
+        rest += drawing.end[box] - box - 1;
         box = drawing.end[box];
     }
-    return roots;
-}
-
-// All boxes that are gone: the heaviest first, and after each what stands on it.
-/** @type {(drawing: Drawing, roots: number[]) => number[]} */
-export function goneBoxes(drawing, roots) {
-    const heaviest = roots.slice().sort((one, other) => drawing.weight[other] - drawing.weight[one] || one - other);
-    const boxes = [];
-    for (const root of heaviest) for (let box = root; box < drawing.end[root]; box++) boxes.push(box);
-    return boxes;
+    return { boxes: boxes.sort((one, other) => drawing.weight[other] - drawing.weight[one] || one - other), rest };
 }
 
 export class GoneList {
@@ -47,21 +41,22 @@ export class GoneList {
         this.before = page.drawing(0);
         this.list = element('gone-list');
         this.more = button('gone-more');
-        const roots = goneRoots(this.before);
-        this.boxes = goneBoxes(this.before, roots);
-        element('gone-summary').textContent = this.summary(roots);
+        const { boxes, rest } = goneOf(this.before);
+        this.boxes = boxes;
+        element('gone-summary').textContent = this.summary(rest);
         this.more.addEventListener('click', () => this.showMore());
         element('gone').hidden = false;
         this.showMore();
     }
 
-    /** @type {(roots: number[]) => string} */
-    summary(roots) {
+    /** @type {(rest: number) => string} */
+    summary(rest) {
         const { before, boxes, page } = this;
         if (boxes.length === 0) return 'Each path of the profile before is in the profile after.';
-        const vanished = roots.reduce((sum, box) => sum + before.weight[box], 0);
+        const vanished = boxes.reduce((sum, box) => sum + before.weight[box], 0);
         const much = `${exactText(vanished, page.unit)}, ${percentText(vanished, before.total)} of the profile before`;
-        return `${separated(boxes.length)} ${boxes.length === 1 ? 'path' : 'paths'}, together ${much}.`;
+        const others = rest === 0 ? '' : ` ${separated(rest)} more went with ${boxes.length === 1 ? 'it' : 'them'}.`;
+        return `${separated(boxes.length)} ${boxes.length === 1 ? 'path' : 'paths'}, together ${much}.${others}`;
     }
 
     // The weight, the callers, which are cut where there is no room, and the name.

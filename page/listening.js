@@ -2,6 +2,7 @@
 
 import { button, element, elementOf, input } from './elements.js';
 import { boxByKey } from './focus.js';
+import { draggedWidth, listsWidth, showLists } from './lists.js';
 import { isJoined } from './places.js';
 import { savePng, saveSvg } from './saving.js';
 import { svgOf } from './svg.js';
@@ -12,13 +13,15 @@ import { svgOf } from './svg.js';
 
 // How long typing has to rest until what was typed is searched for, in milliseconds.
 const TYPING = 150;
+// By how much a key makes the lists wider, in pixels.
+const WIDTH_STEP = 20;
 // How far the pointer may move while it is pressed, in pixels: the end of a drag is no click.
 const LONGEST_CLICK = 4;
 
 /** @type {(viewer: Viewer) => void} */
 function listenToSearch(viewer) {
     const find = input('find');
-    const by = elementOf('by', HTMLSelectElement);
+    const [by, order] = ['by', 'order'].map((id) => elementOf(id, HTMLSelectElement));
     let waiting = 0;
     const search = () => {
         clearTimeout(waiting);
@@ -30,6 +33,7 @@ function listenToSearch(viewer) {
         waiting = window.setTimeout(search, TYPING);
     });
     by.addEventListener('change', search);
+    order.addEventListener('change', () => viewer.change({ order: order.value }, false));
     element('search').addEventListener('submit', (event) => {
         event.preventDefault();
         search();
@@ -61,14 +65,44 @@ function listenToPrint(viewer) {
 
 /** @type {(viewer: Viewer) => void} */
 function listenToTools(viewer) {
-    const [below, snapshot, before] = [input('below'), input('snapshot'), input('before')];
+    const [below, snapshot, before, share] = [input('below'), input('snapshot'), input('before'), input('share')];
     button('back').addEventListener('click', () => viewer.goBack());
     below.addEventListener('change', () => viewer.change({ below: below.checked }, false));
     snapshot.addEventListener('input', () => viewer.turnTo(Number(snapshot.value)));
     before.addEventListener('change', () => viewer.turnTo(before.checked ? 0 : 1));
+    share.addEventListener('change', () => viewer.change({ share: share.checked }, false));
     const scene = () => viewer.stage.wholeScene(viewer.view, false);
     button('save-svg').addEventListener('click', () => saveSvg(scene()));
     button('save-png').addEventListener('click', () => savePng(scene(), (text) => viewer.say(text)));
+}
+
+// The lists are closed and opened, and as wide as they are dragged.
+/** @type {(viewer: Viewer) => void} */
+function listenToLists(viewer) {
+    const divider = element('divider');
+    const listed = input('listed');
+    /** @type {(width: number) => void} */
+    const widen = (width) => viewer.change({ lists: draggedWidth(width) }, false);
+    let [dragged, begin] = [-1, 0];
+    listed.addEventListener('change', () => viewer.change({ lists: listed.checked ? -1 : 0 }, false));
+    divider.addEventListener('pointerdown', (event) => {
+        divider.setPointerCapture(event.pointerId);
+        [dragged, begin] = [listsWidth(), event.clientX];
+        event.preventDefault();
+    });
+    divider.addEventListener('pointermove', (event) => {
+        if (dragged >= 0) showLists(draggedWidth(dragged + begin - event.clientX) || 1);
+    });
+    divider.addEventListener('pointerup', (event) => {
+        if (dragged >= 0 && event.clientX !== begin) widen(dragged + begin - event.clientX);
+        dragged = -1;
+    });
+    divider.addEventListener('keydown', (event) => {
+        const steps = event.key === 'ArrowLeft' ? 1 : event.key === 'ArrowRight' ? -1 : 0;
+        if (steps === 0 || isForBrowser(event)) return;
+        event.preventDefault();
+        widen(listsWidth() + steps * WIDTH_STEP);
+    });
 }
 
 /** @type {(viewer: Viewer) => void} */
@@ -84,7 +118,11 @@ function listenToPointer(viewer) {
         const moved = pressed ? Math.hypot(event.clientX - pressed.clientX, event.clientY - pressed.clientY) : 0;
         const place = viewer.stage.placeUnder(viewer.view, event);
         pressed = null;
-        if (place && !isJoined(place) && moved <= LONGEST_CLICK) viewer.zoomTo(place.box);
+        if (!place || isJoined(place) || moved > LONGEST_CLICK) return;
+        // A finger hovers over nothing, so its first tap names a box, and the second zooms.
+        const isNaming = event instanceof PointerEvent && event.pointerType === 'touch' && place.box !== viewer.view.state.focus;
+        if (isNaming) viewer.focusOn(place.box);
+        else viewer.zoomTo(place.box);
     });
     picture.addEventListener('scroll', () => {
         cancelAnimationFrame(frame);
@@ -124,6 +162,7 @@ export function listen(viewer) {
     listenToSearch(viewer);
     listenToPrint(viewer);
     listenToTools(viewer);
+    listenToLists(viewer);
     listenToPointer(viewer);
     listenToKeys(viewer);
     window.addEventListener('popstate', (event) => viewer.goTo(event));

@@ -2,7 +2,7 @@
 
 import { changeShade } from './colours.js';
 import { placeTitle } from './describe.js';
-import { bothWeights } from './drawing.js';
+import { bothWeights, comparedOf } from './drawing.js';
 import { PAD } from './lettering.js';
 import { isJoined, placesOf } from './places.js';
 import { ROW_HEIGHT, rowAt, rowTop } from './rows.js';
@@ -28,6 +28,7 @@ import { changeText } from './units.js';
  * @property {Span} span
  * @property {Matches | null} matches
  * @property {boolean} below
+ * @property {boolean} isShare whether shares are compared, and not weights
  * @property {number} width
  * @property {number} height that of the rows that are seen
  * @property {number} top
@@ -60,7 +61,7 @@ function coloursFor(scene, box) {
     if (matches && matches.isMatch(box)) return { fill: colours.match, ink: colours.matchInk };
     if (matches || drawing.depth[box] < span.depth) return { fill: colours.dim, ink: colours.dimInk };
     if (drawing.other) {
-        const { before, after } = bothWeights(scene.page, drawing, box);
+        const { before, after } = comparedOf(scene.page, scene.isShare, bothWeights(scene.page, drawing, box));
         return { fill: colours.changes[changeShade(before, after)], ink: colours.ink };
     }
     if (drawing.depth[box] === 0) return { fill: colours.root, ink: colours.ink };
@@ -69,17 +70,17 @@ function coloursFor(scene, box) {
 
 // The fill of several boxes: what they have in common, or a colour of its own.
 /** @type {(scene: Scene, place: Place) => string} */
-function joinedFill(scene, place) {
-    const { drawing, colours, span, matches } = scene;
-    const matching = matches ? matchesIn(matches, drawing, place) : 0;
-    if (matching === place.count) return colours.match;
-    return (matches && matching === 0) || drawing.depth[place.box] < span.depth ? colours.dim : colours.joined;
+function joinedFill({ drawing, colours, matches }, place) {
+    if (!matches) return colours.joined;
+    const matching = matchesIn(matches, drawing, place);
+    if (matching === 0) return colours.dim;
+    return matching === place.count ? colours.match : colours.joinedMatch;
 }
 
 /** @type {(scene: Scene, box: number) => string} */
 function addedText(scene, box) {
     if (!scene.drawing.other) return '';
-    const { before, after } = bothWeights(scene.page, scene.drawing, box);
+    const { before, after } = comparedOf(scene.page, scene.isShare, bothWeights(scene.page, scene.drawing, box));
     return changeText(before, after);
 }
 

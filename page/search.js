@@ -14,13 +14,18 @@ import { rowsOf } from './rows.js';
  * @typedef {{ boxes: number[], weight: number, rows: Rows, isMatch: (box: number) => boolean }} Matches
  */
 
+// Whether the words match whatever is a capital letter: text without capital letters does.
+/** @type {(find: string, by: string) => boolean} */
+export function isEitherCase(find, by) {
+    return by === 'text' && find === find.toLowerCase();
+}
+
 // A test of a name, or null where the words are no regular expression.
 /** @type {(find: string, by: string) => ((name: string) => boolean) | null} */
 function nameTest(find, by) {
     if (by === 'name') return (name) => name === find;
-    // Text without capital letters matches either case.
     const text = by === 'text' ? find.replace(/[\\^$.*+?()[\]{}|/]/g, '\\$&') : find;
-    const flags = by === 'text' && find === find.toLowerCase() ? 'iu' : 'u';
+    const flags = isEitherCase(find, by) ? 'iu' : 'u';
     try {
         const expression = new RegExp(text, flags);
         return (name) => expression.test(name);
@@ -85,4 +90,16 @@ export function neighbourMatch(matches, box, isForward) {
     if (isForward) return boxes[firstPlace(0, boxes.length, (place) => boxes[place] > box) % boxes.length];
     const place = firstPlace(0, boxes.length, (each) => boxes[each] >= box);
     return boxes[(place + boxes.length - 1) % boxes.length];
+}
+
+// The match behind or before a box where the heaviest come first, in a circle. Behind a box that does not match comes the heaviest.
+/** @type {(matches: Matches, drawing: Drawing, box: number, isForward: boolean) => number} */
+export function neighbourByWeight(matches, drawing, box, isForward) {
+    const { boxes, isMatch } = matches;
+    if (boxes.length === 0) return -1;
+    /** @type {(one: number, other: number) => number} */
+    const compare = (one, other) => drawing.weight[other] - drawing.weight[one] || one - other;
+    const heaviest = boxes.slice().sort(compare);
+    const at = isMatch(box) ? firstPlace(0, heaviest.length, (place) => compare(heaviest[place], box) >= 0) : isForward ? -1 : 0;
+    return heaviest[(at + (isForward ? 1 : -1) + heaviest.length) % heaviest.length];
 }

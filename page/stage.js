@@ -7,6 +7,7 @@ import { Lettering } from './lettering.js';
 import { placeOver, placesOf } from './places.js';
 import { ROW_HEIGHT, rowAt, rowTop } from './rows.js';
 import { LANE_HEIGHT } from './scene.js';
+import { formsOf } from './short.js';
 import { rowsInSpan } from './spans.js';
 
 /**
@@ -30,8 +31,8 @@ export class Stage {
         this.canvas = elementOf('canvas', HTMLCanvasElement);
         this.darkness = matchMedia('(prefers-color-scheme: dark)');
         this.shadeOf = nameShades(page.names);
-        this.lettering = new Lettering(page.names);
-        this.sourceLettering = new Lettering(page.sources.map((source) => source.name));
+        this.lettering = new Lettering(page.names, formsOf);
+        this.sourceLettering = new Lettering(page.sources.map((source) => source.name), (name) => [name]);
         // What is on the canvas.
         this.painted = { width: 0, height: 0, top: 0 };
     }
@@ -43,9 +44,9 @@ export class Stage {
 
     /** @type {(view: View, part: Part, colours: Colours) => Scene} */
     scene(view, part, colours) {
-        const { page, drawing, span, matches, state } = view;
+        const { page, drawing, span, matches, state, isShare } = view;
         const { shadeOf, lettering, sourceLettering } = this;
-        return { page, drawing, span, matches, below: state.below, ...part, colours, shadeOf, lettering, sourceLettering };
+        return { page, drawing, span, matches, isShare, below: state.below, ...part, colours, shadeOf, lettering, sourceLettering };
     }
 
     // All rows of what is zoomed, with the sources above a chart: what is saved. On paper it is always light.

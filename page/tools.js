@@ -3,6 +3,7 @@
 import { button, element, elementOf, input, inside, showItems } from './elements.js';
 import { described, shortened } from './names.js';
 import { drawingText, noticesOf, sourceText, summaryText } from './notices.js';
+import { isEitherCase } from './search.js';
 import { percentText, separated } from './units.js';
 import { isZoomed } from './view.js';
 
@@ -38,7 +39,10 @@ export function showTools(view) {
     const name = drawingText(page, drawing, state.drawing);
     const [find, snapshot] = [input('find'), input('snapshot')];
     if (find.value !== state.find) find.value = state.find;
-    elementOf('by', HTMLSelectElement).value = state.by;
+    const by = elementOf('by', HTMLSelectElement);
+    by.value = state.by;
+    by.options[0].text = isEitherCase(state.find, 'text') ? 'in names, any case' : 'in names, as written';
+    elementOf('order', HTMLSelectElement).value = state.order;
     find.setAttribute('aria-invalid', String(view.isRefused));
     element('matched').textContent = matchedText(view);
     button('next').disabled = !view.matches;
@@ -51,5 +55,7 @@ export function showTools(view) {
     snapshot.setAttribute('aria-valuetext', name);
     element('before-label').hidden = page.view !== 'compare';
     input('before').checked = state.drawing === 0;
+    element('share-label').hidden = page.view !== 'compare';
+    input('share').checked = state.share;
     element('drawing-name').textContent = name;
 }

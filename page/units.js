@@ -82,3 +82,10 @@ export function changeText(before, after) {
     const percent = (100 * (after - before)) / before;
     return `${percent > 0 ? '+' : '−'}${threeDigits(Math.abs(percent))}%`;
 }
+
+// How much more there is after than before, as a weight.
+/** @type {(before: number, after: number, unit: string | null) => string} */
+export function differenceText(before, after, unit) {
+    const sign = after > before ? '+' : after < before ? '−' : '';
+    return sign + weightText(Math.abs(after - before), unit);
+}

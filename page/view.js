@@ -12,14 +12,18 @@ import { spanOf } from './spans.js';
 
 /**
  * What a reader chose: the drawing, what of it is zoomed (a source of a chart, or none, -1, and a box), the words of the search and how they are
- * meant, whether the root is below, and the focused box.
+ * meant, whether the root is below, how wide the lists are (0 where they are closed, -1 as they are at first), whether a comparison is of shares,
+ * and the focused box.
  * @typedef {object} State
  * @property {number} drawing
  * @property {number} source
  * @property {number} box
  * @property {string} find
  * @property {string} by
+ * @property {string} order in which matches come: by `place` or by `weight`
  * @property {boolean} below
+ * @property {number} lists
+ * @property {boolean} share
  * @property {number} focus
  */
 
@@ -32,6 +36,7 @@ import { spanOf } from './spans.js';
  * @property {Span} span
  * @property {Matches | null} matches
  * @property {boolean} isRefused whether the words are no regular expression
+ * @property {boolean} isShare whether shares are compared, and not weights
  */
 
 /** @typedef {(find: string, by: string) => Uint8Array | null} Matching */
@@ -49,7 +54,8 @@ function searched(matching, drawing, state, old) {
 /** @type {(page: Page, matching: Matching, state: State, old: View | null) => View} */
 export function viewOf(page, matching, state, old) {
     const drawing = page.drawing(state.drawing);
-    return { page, state, drawing, span: spanOf(page, drawing, state), ...searched(matching, drawing, state, old) };
+    const isShare = state.share;
+    return { page, state, drawing, span: spanOf(page, drawing, state), isShare, ...searched(matching, drawing, state, old) };
 }
 
 /** @type {(view: View) => boolean} */

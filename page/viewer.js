@@ -7,7 +7,8 @@ import { afterPaint, element } from './elements.js';
 import { Ring } from './focus.js';
 import { FunctionTable } from './functions.js';
 import { LaneStrip } from './lanes.js';
-import { nameMatcher, neighbourMatch } from './search.js';
+import { showLists } from './lists.js';
+import { nameMatcher, neighbourByWeight, neighbourMatch } from './search.js';
 import { isInSpan } from './spans.js';
 import { Stage } from './stage.js';
 import { Tip } from './tip.js';
@@ -23,6 +24,13 @@ import { isZoomed, viewOf } from './view.js';
  */
 
 const DEAD_LINK = 'No box here has the path of this address, so all of them are shown.';
+
+// Whether something else is zoomed, matches, or is compared.
+/** @type {(old: View, view: View) => boolean} */
+function isOther(old, view) {
+    const isSamePart = old.drawing === view.drawing && old.state.box === view.state.box && old.state.source === view.state.source;
+    return !isSamePart || old.matches !== view.matches || old.isShare !== view.isShare;
+}
 
 export class Viewer {
     /** @param {Page} page */
@@ -112,14 +120,19 @@ export class Viewer {
         const { drawing, state } = view;
         this.forget();
         showTools(view);
-        if (!old || old.drawing !== drawing) {
-            showTop(page, drawing);
-            afterPaint(() => this.functions.show(this.view.drawing));
-        }
+        if (!old || old.state.lists !== state.lists) showLists(state.lists);
+        if (!old || old.drawing !== drawing) showTop(page, drawing);
+        if (!old || isOther(old, view)) afterPaint(() => this.showFunctions());
         stage.makeRoom(view);
         if (state.below !== (old ? old.state.below : false)) picture.scrollTop = state.below ? picture.scrollHeight : 0;
         if (!old || old.state.box !== state.box || old.drawing !== drawing) this.revealFocus();
         this.paint();
+    }
+
+    showFunctions() {
+        const { view, matching } = this;
+        const { find, by } = view.state;
+        this.functions.show(view, view.matches && matching(find, by));
     }
 
     // Looks at another state. `isStep` says that the browser's history gets a new step.
@@ -192,7 +205,9 @@ export class Viewer {
     /** @type {(isForward: boolean) => void} */
     toMatch(isForward) {
         const { drawing, matches, span, state } = this.view;
-        const box = matches ? neighbourMatch(matches, state.focus, isForward) : -1;
+        if (!matches) return;
+        const { focus, order } = state;
+        const box = order === 'weight' ? neighbourByWeight(matches, drawing, focus, isForward) : neighbourMatch(matches, focus, isForward);
         if (box < 0) return;
         if (!isInSpan(drawing, box, span)) this.change({ box: 0, source: -1, focus: box }, true);
         this.focusOn(box);

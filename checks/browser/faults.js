@@ -3,7 +3,7 @@
 (() => {
     'use strict';
     const { bend } = window.recorder;
-    const [JOINED, MATCHES] = [['#9aa0a8', '#5d646e'], ['#8e3caa', '#c285d6']];
+    const [JOINED, JOINED_MATCHES, MATCHES] = [['#9aa0a8', '#5d646e'], ['#a982bb', '#8c589d'], ['#8e3caa', '#c285d6']];
 
     // What came before, for each that comes.
     function before(chosen = () => true) {
@@ -32,8 +32,21 @@
         labels_of_the_box_before() {
             bend.text = before();
         },
+        labels_cut_at_their_end() {
+            bend.text = (text) => {
+                const data = JSON.parse(document.getElementById('data').textContent);
+                const whole = data.names.find((name) => name.endsWith(text) && name.length > text.length + 3);
+                return whole ? `${whole.slice(0, text.length - 1)}\u2026` : text;
+            };
+        },
+        labels_shorter_than_they_could_be() {
+            bend.text = (text) => text.replace(/^.*\.(?=\w+$)/, '');
+        },
         changes_turned() {
             bend.text = (text) => text.replace(/[+\u2212]/, (sign) => (sign === '+' ? '\u2212' : '+'));
+        },
+        shares_as_weights() {
+            bend.fragment = (fragment) => fragment.replace('&share=1', '');
         },
         joined_as_the_first() {
             let plain = '#000000';
@@ -42,6 +55,9 @@
                 plain = fill;
                 return fill;
             };
+        },
+        joined_matches_as_joined() {
+            bend.fill = (fill) => JOINED[JOINED_MATCHES.indexOf(fill)] ?? fill;
         },
         colours_of_the_box_before() {
             bend.fill = before();

@@ -20,7 +20,7 @@ from painted_looks import Setting, Watched
 from painted_pages import PAGES
 
 # The windows in which the picture is 368, 588, 1182 and 1912 pixels wide.
-WINDOWS = (390, 610, 1600, 2560)
+WINDOWS = (390, 610, 1663, 2560)
 ZOOMS, SEARCHES, TIPS = 10, 3, 30
 MOST_TOLD = 5
 
@@ -53,10 +53,10 @@ def boxes_to_zoom(drawn: random.Random, document: Document, view: View) -> int:
 
 
 def zooms(drawn: random.Random, watched: Watched) -> Iterator[list[Fault]]:
-    """Looks at ten parts: most by their address, some by a click, and in a chart some sources."""
+    """Looks at ten parts: most by their address, some by a click, in a chart some sources, and in a comparison every other by shares."""
     document = watched.document
     for number in range(ZOOMS):
-        view = View(drawn.randrange(len(document.drawings)), below=watched.setting.below)
+        view = View(drawn.randrange(len(document.drawings)), below=watched.setting.below, share=document.kind == 'compare' and number % 2 == 0)
         if document.drawing(view).count == 0:
             continue
         if document.kind == 'chart' and number % 3 == 0:

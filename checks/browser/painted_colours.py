@@ -25,14 +25,17 @@ class Palette(NamedTuple):
     match: str
     match_ink: str
     joined: str
+    joined_match: str
     plain: tuple[int, int]
     changes: tuple[int, int, int]
 
 
 LIGHT = Palette(paper='#fbfbf9', ink='#1f2226', line='#80868f', root='hsl(220, 8%, 82%)', dim='hsl(220, 8%, 90%)', dim_ink='#555b64',
-                match='hsl(285, 48%, 45%)', match_ink='#ffffff', joined='#9aa0a8', plain=(48, 74), changes=(74, 88, 68))
+                match='hsl(285, 48%, 45%)', match_ink='#ffffff', joined='#9aa0a8', joined_match='#a982bb', plain=(48, 74),
+                changes=(74, 88, 68))
 DARK = Palette(paper='#1b1d20', ink='#eef0f2', line='#7c828b', root='hsl(220, 6%, 34%)', dim='hsl(220, 6%, 22%)', dim_ink='#a9afb8',
-               match='hsl(285, 50%, 68%)', match_ink='#17121a', joined='#5d646e', plain=(26, 25), changes=(52, 30, 38))
+               match='hsl(285, 50%, 68%)', match_ink='#17121a', joined='#5d646e', joined_match='#8c589d', plain=(26, 25),
+               changes=(52, 30, 38))
 
 
 def hsl(hue: float, saturation: float, lightness: float) -> Colour:

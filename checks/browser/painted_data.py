@@ -14,13 +14,14 @@ Data = dict[str, Any]
 
 @dataclass(frozen=True)
 class View:
-    """What is looked at: a drawing, the zoomed box or source, a search, and where the root stands."""
+    """What is looked at: a drawing, the zoomed box or source, a search, where the root stands, and whether shares are compared."""
     drawing: int
     box: int = 0
     source: int = -1
     find: str = ''
     by: str = 'text'
     below: bool = False
+    share: bool = False
 
     def at(self, **changed: Any) -> View:
         return replace(self, **changed)
@@ -103,6 +104,7 @@ class Document:
     def __init__(self, data: Data):
         self.kind: str = data['view']
         self.title: str = data['title']
+        self.opens_below: bool = data.get('root_below', False)
         self.names: list[str] = data['names']
         self.drawings = [Drawing(columns) for columns in data['drawings']]
         self.sources: list[tuple[str, int, int]] = []
@@ -127,11 +129,13 @@ class Document:
             return Span(0, 1, 0)
         return Span(drawing.start[view.box], drawing.end(view.box), drawing.depth[view.box])
 
-    def before_and_after(self, drawing: Drawing, box: int) -> tuple[int, int]:
-        """The weights of a box's path in both profiles of a comparison."""
+    def before_and_after(self, drawing: Drawing, box: int, share: bool) -> tuple[int, int]:
+        """What is compared of a box's path in both profiles: the weights, or what is to each other as their shares of both wholes are."""
         assert drawing.other is not None
         here, there = drawing.weight[box], drawing.other[box]
-        return (here, there) if drawing is self.drawings[0] else (there, here)
+        before, after = (here, there) if drawing is self.drawings[0] else (there, here)
+        wholes = [each.total for each in self.drawings]
+        return (before * wholes[1], after * wholes[0]) if share and all(wholes) else (before, after)
 
 
 @functools.lru_cache(maxsize=64)

@@ -11,7 +11,7 @@ import documents
 from painted_data import Data, Document, Drawing
 from painted_layout import Fault
 from painted_looks import Setting, Watched
-from painted_pages import comparison_made, deep, of_data, random_tree
+from painted_pages import comparison, comparison_made, deep, like_go, of_data, random_tree
 from painted_trees import data_of
 
 SETTING = Setting(1600, 1, 'light', False)
@@ -51,8 +51,12 @@ FAULTS = [
     PutBack('wide boxes are two pixels wider', 'a', 'widths_off'),
     PutBack('rectangles stand on wide boxes that are none of them', 'b', 'rectangles_of_no_box'),
     PutBack('labels are those of the box before', 'c', 'labels_of_the_box_before'),
+    PutBack('names are cut at their end where a shorter form has room', 'c', 'labels_cut_at_their_end', like_go),
+    PutBack('names are shorter than their boxes need', 'e', 'labels_shorter_than_they_could_be', like_go),
     PutBack('changes have the other sign', 'c', 'changes_turned', comparison_made),
+    PutBack('changes are those of weights where shares are compared', 'cd', 'shares_as_weights', comparison),
     PutBack('what is joined has the colour of a box', 'd', 'joined_as_the_first'),
+    PutBack('what is joined and matches in part has the colour of what is joined without a search', 'd', 'joined_matches_as_joined'),
     PutBack('colours are those of the box before', 'd', 'colours_of_the_box_before'),
     PutBack('matches have the colour of what does not match', 'd', 'matches_as_the_others'),
     PutBack('a row is left out', 'e', 'a_row_left_out'),
@@ -71,6 +75,8 @@ def looks(watched: Watched) -> Iterator[list[Fault]]:
     yield watched.compare_tips(drawn, PLACES)
     yield watched.compare_svg()
     yield watched.go(watched.view.at(find='s'))
+    if watched.document.kind == 'compare':
+        yield watched.go(watched.view.at(find='', share=True))
 
 
 def found(check: Any, fault: PutBack) -> str:

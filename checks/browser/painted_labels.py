@@ -42,21 +42,22 @@ class Labels:
             if box.width >= LABELLED:
                 yield from self.missing(box, labels.get(box.number))
 
-    def whole_labels(self, box: Box) -> list[str]:
-        """The name as it is shown; in a comparison also the name with its change."""
+    def wanted(self, box: Box) -> list[str]:
+        """The labels that the box may have where nothing is cut, from the longest to the shortest: in a comparison the name with its change, and
+        the name and its shorter forms."""
         drawing, document = self.sight.drawing, self.sight.document
-        name = words.visible(document.name(drawing, box.number))
+        forms = words.forms(document.name(drawing, box.number))
         if drawing.other is None:
-            return [name]
-        return [name, f'{name} {words.change(*document.before_and_after(drawing, box.number))}']
+            return [*forms]
+        return [f'{forms[0]} {words.change(*document.before_and_after(drawing, box.number, self.sight.view.share))}', *forms]
 
     def label_faults(self, box: Box, text: Text) -> Iterator[Fault]:
-        whole = self.whole_labels(box)
-        called = f'row {self.number}: {text.text!r} on {whole[-1][:60]!r} (box {box.number}) from {box.left:.2f} to {box.right:.2f}'
+        wanted = self.wanted(box)
+        called = f'row {self.number}: {text.text!r} on {wanted[0][:60]!r} (box {box.number}) from {box.left:.2f} to {box.right:.2f}'
         off = abs(text.middle - self.middle) + abs(text.left - box.left - PAD)
         if off > 1 + TOUCH:
             yield Fault('c', f'{called} stands {off:.2f} pixels from its place')
-        if text.text not in whole and not words.is_front(text.text, whole[0]):
+        if text.text not in wanted and not words.is_front(text.text, wanted[-1]):
             yield Fault('c', f'{called} is another name')
         if text.width is not None and text.left + text.width > box.right + TOUCH:
             yield Fault('c', f'{called} goes on to {text.left + text.width:.2f}')
@@ -66,10 +67,12 @@ class Labels:
             yield Fault('e', f'{called} is painted over')
 
     def missing(self, box: Box, label: str | None) -> Iterator[Fault]:
-        wanted = self.whole_labels(box)[-1]
-        called = f'row {self.number}: {wanted[:60]!r} (box {box.number}), {box.width:.2f} wide,'
+        wanted = self.wanted(box)
+        called = f'row {self.number}: {wanted[0][:60]!r} (box {box.number}), {box.width:.2f} wide,'
         if label is None:
             if self.sight.document.name(self.sight.drawing, box.number) != '':
                 yield Fault('e', f'{called} has no label')
-        elif label != wanted and self.letter and is_plain(wanted) and len(wanted) * self.letter + SPARE < box.width:
+            return
+        longer = wanted[:wanted.index(label)] if label in wanted else wanted
+        if self.letter and any(is_plain(each) and len(each) * self.letter + SPARE < box.width for each in longer):
             yield Fault('e', f'{called} has only the label {label!r}')

@@ -57,7 +57,7 @@ class Watched:
         width, dots, scheme, below = self.setting
         self.browser.send('Emulation.setDeviceMetricsOverride', width=width, height=HEIGHT, deviceScaleFactor=dots, mobile=False)
         self.browser.send('Emulation.setEmulatedMedia', media='', features=[{'name': 'prefers-color-scheme', 'value': scheme}])
-        self.browser.go(path, '#root=below' if below else '')
+        self.browser.go(path, '#'.join(['', *self.root_words(below)]))
         self.browser.value("new Promise((done) => { if (document.readyState === 'complete') done();"
                            " else window.addEventListener('load', done); }).then(() => recorder.after(() => {}))")
 
@@ -89,7 +89,11 @@ class Watched:
             parts.append(f'zoom={path}')
         if view.find:
             parts += [f'find={urllib.parse.quote(view.find, safe="")}', f'by={view.by}']
-        return '#' + '&'.join([*parts, f'drawing={view.drawing}', *(['root=below'] if view.below else [])])
+        return '#' + '&'.join([*parts, f'drawing={view.drawing}', *self.root_words(view.below), *(['share=1'] if view.share else [])])
+
+    def root_words(self, below: bool) -> list[str]:
+        """What an address says of the root: nothing where that stands as it does on the page when it opens."""
+        return [] if below == self.document.opens_below else [f'root={"below" if below else "above"}']
 
     def scroll(self, part: float) -> list[Fault]:
         """Scrolls to a part of all rows, and compares."""

@@ -79,8 +79,8 @@ def chart(check: Check) -> bytes:
 
 
 def chart_made(check: Check) -> bytes:
-    """Boxes that go on from one source to the next, and sources that are narrower than a pixel."""
-    return of_data(data_of(random_tree(5, 4, 80), 'chart', (0.3, 0.30001, 0.30002, 0.7)))
+    """Boxes that go on from one source to the next, and sources that are narrower than a pixel. It opens with the root below."""
+    return of_data(data_of(random_tree(5, 4, 80), 'chart', (0.3, 0.30001, 0.30002, 0.7)) | {'root_below': True})
 
 
 def comparison(check: Check) -> bytes:

@@ -61,7 +61,7 @@ class Sight:
         self.span: Span = document.span(view)
         self.matching = matches_of(document, view)
         self.of_names: dict[int, Colour] = {}
-        self.dim, self.match, self.joined = (colour(text) for text in (palette.dim, palette.match, palette.joined))
+        self.dim, self.match, self.joined, self.joined_match = map(colour, (palette.dim, palette.match, palette.joined, palette.joined_match))
 
     def is_match(self, box: int) -> bool:
         return self.matching is not None and self.drawing.depth[box] > 0 and self.drawing.name[box] in self.matching
@@ -77,7 +77,7 @@ class Sight:
         if self.is_dim(box):
             return [self.dim]
         if drawing.other is not None:
-            return of_change(self.palette, *self.document.before_and_after(drawing, box))
+            return of_change(self.palette, *self.document.before_and_after(drawing, box, self.view.share))
         if drawing.depth[box] == 0:
             return [colour(self.palette.root)]
         name = drawing.name[box]
@@ -90,11 +90,12 @@ class Sight:
         return colour(inks)
 
     def joined_colour(self, boxes: list[int]) -> Colour:
-        """The colour of boxes that are painted as one: that of matches where all match, and that of what steps back where none does."""
+        """The colour of boxes that are painted as one. While a search is on, that of matches where all match, that of what steps back where none
+        does, and one of its own where some do."""
         if self.matching is None:
             return self.joined
         matching = sum(map(self.is_match, boxes))
-        return self.match if matching == len(boxes) else self.joined if matching else self.dim
+        return self.match if matching == len(boxes) else self.joined_match if matching else self.dim
 
     def places(self, boxes: list[Box]) -> list[Place]:
         """The places of a row, of which these boxes are seen."""
@@ -118,4 +119,4 @@ class Sight:
     def doubt(self, place: Place) -> None:
         """A neighbour may be joined with it, whatever that is."""
         place.is_doubtful = True
-        place.colours = [*place.colours, self.joined, *([] if self.matching is None else [self.match, self.dim])]
+        place.colours = [*place.colours, *([self.joined] if self.matching is None else [self.match, self.joined_match, self.dim])]

@@ -3,9 +3,13 @@ from __future__ import annotations
 
 import decimal
 import functools
+import itertools
+import re
 import unicodedata
 
 JOINERS = '\u200c\u200d'
+# These are no characters at all.
+NONE = '\ufffe\uffff'
 UNSEEN_CATEGORIES = ('Cc', 'Cf', 'Zl', 'Zp')
 MINUS = '\u2212'
 ELLIPSIS = '\u2026'
@@ -16,7 +20,7 @@ EMPTY = '(empty name)'
 def visible(text: str) -> str:
     """The text with its number in the place of each character that is not seen, or that turns the text around it."""
     def shown(character: str) -> str:
-        is_unseen = unicodedata.category(character) in UNSEEN_CATEGORIES and character not in JOINERS
+        is_unseen = unicodedata.category(character) in UNSEEN_CATEGORIES and character not in JOINERS or character in NONE
         return f'[U+{ord(character):04X}]' if is_unseen else character
     return ''.join(map(shown, text))
 
@@ -61,6 +65,46 @@ def change(before: int, after: int) -> str:
 def joined(count: int) -> str:
     """What is told of boxes that are painted as one."""
     return f'{count:,} boxes, each narrower than a pixel'
+
+
+# Stands in the place of each character in brackets.
+BRACKETED = '\uf8ff'
+GROUP = re.compile(r'\([^][(){}<>]*\)|\[[^][(){}<>]*\]|\{[^][(){}<>]*\}|<[^][(){}<>]*>')
+NO_NAME = re.compile(r'|[0-9]+|func[0-9]+|gowrap[0-9]+|deferwrap[0-9]+|cold|part|isra|constprop|llvm|h[0-9a-f]{16}|\{.*', re.DOTALL)
+
+
+def without_groups(text: str) -> str:
+    """The text with a mark in the place of each character in brackets, from the innermost out. Arrows are no brackets."""
+    masked, last = re.sub('[-=]>', '--', text), ''
+    while masked != last:
+        last, masked = masked, GROUP.sub(lambda group: BRACKETED * len(group[0]), masked)
+    return masked
+
+
+@functools.lru_cache(maxsize=100_000)
+def forms(name: str) -> tuple[str, ...]:
+    """What is shown of a name, and of what a box with less room may have of it, from the longest to the shortest: without where it stands in a
+    file, without one after another part of its path until two are left, these without brackets, and so the last alone. All that by characters
+    alone. Of what is no name of its own, such as a number, nothing is left alone."""
+    head = re.sub(r' (\([^()]*\)|\[[^][]*\]|[^ ]+:[0-9]+)\Z', '', name) or name
+    masked = without_groups(head)
+    if re.search(r'[][(){}<>]', masked) or len(name) > 5000:
+        return (visible(name),)
+    ends = [(found.start(), found.end()) for found in re.finditer(rf'::|[/.]| (?=.*({BRACKETED}|::|[/.]))', masked, re.DOTALL)]
+    begins = [0, *(end for _, end in ends)]
+    parts = [head[begin:end] for begin, end in zip(begins, [*(start for start, _ in ends), len(head)])]
+    own = [at for at, part in enumerate(parts) if at == 0 or not NO_NAME.fullmatch(part)]
+    bare = [re.sub(rf'^({BRACKETED}*[^{BRACKETED}]*).*', lambda kept: part[:len(kept[1])], masked[begin:begin + len(part)], flags=re.DOTALL).rstrip()
+            for begin, part in zip(begins, parts)]
+    between = [head[start:end] for start, end in ends]
+    short = [bare[at] + ''.join(itertools.chain(*zip(between[at:], bare[at + 1:]))) for at in own[-2:]]
+    found = [name, head, *(head[begins[at]:] for at in own[1:-1]), *short]
+    return tuple(map(visible, [name, *(form for before, form in itertools.pairwise(found) if form not in ('', before))]))
+
+
+def is_label(label: str, name: str) -> bool:
+    """Whether a label is one of the forms of a name, or a front of the shortest, with an ellipsis."""
+    return label in forms(name) or is_front(label, forms(name)[-1])
 
 
 def is_front(label: str, name: str) -> bool:

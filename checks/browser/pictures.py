@@ -69,6 +69,21 @@ def root_below(check):
     same(picture.name(0, 0.9), 'all', 'the top row')
 
 
+def root_below_at_first(check):
+    """A page that begins with the root below says in its address where it was turned back."""
+    browser = check.browser
+    path = check.place(check.show('graph', '--root-below', 'parse.folded'))
+    turned = []
+    for opened in ('', '#root=above', '#root=below'):
+        browser.open(path, opened)
+        picture = Picture(browser)
+        for _ in range(2):
+            turned.append([fragment(browser), picture.name(0, 0.9), picture.name(3, 0.9)])
+            browser.click_on('#below')
+    below, above = ['', 'tokenize', 'all'], ['#root=above', 'all', 'tokenize']
+    same(turned, [below, above, above, below, below, above], 'address, first and last row, as opened and as turned')
+
+
 def zoom(check):
     browser = check.browser
     check.show('graph', 'parse.folded')
@@ -206,6 +221,9 @@ def lanes(check):
     wanted = [(0, 11), (11, 23), (26, 34), (34, 38)]
     found = [(round(left * 38 / picture.width), round(right * 38 / picture.width)) for left, right, _ in picture.runs(3)]
     same(found, wanted, 'boxes of the second source')
+    same(browser.text('#functions-title'), 'Functions in faster.folded', 'what the table is of')
+    contains(table(browser), ['main', '0', '0%', '38', '100%'], 'a function that goes on from the first source')
+    contains(table(browser), ['read', '19', '50%', '19', '50%'], 'a function of the second source')
     browser.press('Escape')
     browser.wait_for("!location.hash.includes('source')")
 
@@ -225,24 +243,50 @@ def differences(check):
     assert new[0] - new[2] >= more[0] - more[2], 'what is new is at least as red as what is more'
     same([picture.told(2, weight / 39)[3] for weight in (2.5, 15, 27, 34)],
          ['before 20, after 5: −75%', 'before 5, after 20: +300%', 'before 0, after 4: new', 'before 10, after 10: ±0%'], 'tips')
-    same(browser.text('#gone-summary'), '3 paths, together 9, 20.5% of the profile before.', 'what is gone')
+    same(browser.text('#gone-summary'), '2 paths, together 9, 20.5% of the profile before. 1 more went with them.', 'what is gone')
     same(browser.value("[...document.querySelectorAll('#gone-list button')].map((each) => each.textContent)"),
-         ['8  main › old', '6  main › old › part', '1  main › also'], 'the paths that are gone')
+         ['8  main › old', '1  main › also'], 'the paths that are gone, whose callers are not')
     rows = table(browser)
-    contains(rows, ['more', '20', '20', '+300%'], 'functions')
-    contains(rows, ['old', '0', '0', 'gone'], 'functions')
+    contains(rows, ['more', '5', '20', '+15', '+300%'], 'functions')
+    contains(rows, ['old', '2', '0', '−2', 'gone'], 'functions')
+    same([row[0] for row in rows], ['more', 'new', 'main', 'same', 'also', 'old', 'part', 'less'], 'by change, the most growth first')
     check.screenshot('comparison')
-    browser.click_on('th[data-key="change"] button')
-    same([row[0] for row in table(browser)], ['more', 'new', 'same', 'also', 'main', 'part', 'old', 'less'], 'by change, the most growth first')
-    browser.click_on('#gone-list li:nth-child(2) button')
+    browser.value("""((of) => { of.value = 'total'; of.dispatchEvent(new Event('change')); })(document.getElementById('functions-of'))""")
+    contains(table(browser), ['old', '8', '0', '−8', 'gone'], 'functions by their totals')
+    same([row[0] for row in table(browser)], ['more', 'new', 'same', 'also', 'main', 'part', 'old', 'less'], 'by change of totals')
+    browser.click_on('#gone-list li:nth-child(1) button')
     same(browser.text('#drawing-name'), f'before: {before}', 'a path that is gone is shown in the profile before')
-    same(fragment(browser), '#zoom=main/old/part&drawing=0', 'fragment')
-    same(picture.told(3, 0.5)[3], 'before 6, after 0: gone', 'tip of what is gone')
+    same(fragment(browser), '#zoom=main/old&drawing=0', 'fragment')
+    same(picture.told(3, 0.5)[3], 'before 6, after 0: gone', 'tip of what went with it')
+    same(sorted(table(browser)), [['old', '8', '0', '−8', 'gone'], ['part', '6', '0', '−6', 'gone']], 'functions in what is gone')
     browser.click_on('#before')
     same(browser.text('#drawing-name'), f'after: {after}', 'back to the profile after')
     browser.value("[...document.querySelectorAll('#functions td button')].find((each) => each.textContent === 'old').click()")
     browser.settle()
     same([browser.text('#drawing-name'), browser.text('#matched')], [f'before: {before}', '1 matched, 18.2%'], 'a function that is gone')
+
+
+def shares(check):
+    """A comparison of shares: of profiles of which one is three times as long, nothing changed but what has another part of the whole."""
+    browser = check.browser
+    before = check.write('short.folded', 'main;same 10\nmain;less 20\nmain;more 10\n')
+    after = check.write('long.folded', 'main;same 30\nmain;less 30\nmain;more 60\n')
+    check.show('compare', before, after)
+    picture = Picture(browser)
+    browser.click_on('#share')
+    same(fragment(browser), '#share=1', 'fragment')
+    less, more, still = (picture.colour(2, part) for part in (0.1, 0.5, 0.9))
+    assert less[2] > less[0] + 15 and more[0] > more[2] + 15, f'less is blue and more is red: {less}, {more}'
+    assert max(still) - min(still) < 4, f'what has the same share is grey: {still}'
+    same([picture.told(2, part)[3] for part in (0.1, 0.9)],
+         ['before 20, 50% of its whole, after 30, 25% of its whole: −50% of its share',
+          'before 10, 25% of its whole, after 30, 25% of its whole: ±0% of its share'], 'tips')
+    rows = {name: cells for name, *cells in table(browser)}
+    same(rows['more'], ['25%', '50%', '+25%', '+100%'], 'a function that has more of the whole')
+    same(rows['less'], ['50%', '25%', '−25%', '−50%'], 'a function that has less of the whole')
+    same(list(rows), ['more', 'main', 'same', 'less'], 'by change of shares')
+    browser.click_on('#share')
+    same([fragment(browser), {name: cells for name, *cells in table(browser)}['less']], ['', ['20', '30', '+10', '+50%']], 'weights again')
 
 
 def gone_from_the_depth(check):
@@ -253,8 +297,8 @@ def gone_from_the_depth(check):
     check.show('compare', before, check.write('long-after.folded', f'{callers} 1\nstays 1\n'))
     parts = browser.value('''[...document.querySelectorAll('#gone-list button')].map((button) =>
         [...button.children].map((part) => [part.textContent, part.scrollWidth > part.clientWidth]))''')
-    same([part[0] for part in parts], [['5  ', False], ['2  ', False], ['2  ', False]], 'weights')
-    same([part[2] for part in parts], [['vanished_function', False], ['(empty name)', False], ['leaf', False]], 'names')
+    same([part[0] for part in parts], [['5  ', False], ['2  ', False]], 'weights')
+    same([part[2] for part in parts], [['vanished_function', False], ['(empty name)', False]], 'names')
     for _, (text, is_cut), _ in parts:
         same([text.split(' › ')[0], is_cut], ['a_caller_with_a_name_0', True], 'callers')
     left, _, width, _ = browser.area('#picture')
@@ -302,10 +346,11 @@ def narrow_boxes(check):
 
 
 def joined_colours(check):
-    """What is joined has a colour of its own, that of matches where all match, and steps back where none does."""
+    """What is joined has a colour of its own, that of matches where all match, another where some do, and steps back where none does."""
     browser = check.browser
     many = ''.join(f'main;{name}{number:04} 1\n' for name in ('a', 'b', 'c') for number in range(4000))
-    for scheme, wanted in (('light', [(154, 160, 168), (143, 60, 170), (227, 228, 232)]), ('dark', [(93, 100, 110), (195, 133, 214), (53, 55, 60)])):
+    for scheme, wanted in (('light', [(154, 160, 168), (169, 130, 187), (143, 60, 170), (227, 228, 232)]),
+                           ('dark', [(93, 100, 110), (140, 88, 157), (195, 133, 214), (53, 55, 60)])):
         browser.prefer(scheme)
         check.show('graph', '--least', '0', check.write('many.folded', many))
         picture = Picture(browser)
@@ -317,12 +362,12 @@ def joined_colours(check):
                 for part, other in zip(found, colour):
                     near(part, other, f'{what} in {scheme}, place {place}: {found} for {colour}', 8)
 
-        joined, match, dim = wanted
+        joined, some, match, dim = wanted
         look('what is joined', joined, joined, joined)
         same(search(browser, 'b'), '4,000 matched, 33.3%', 'a search')
         look('a search', dim, match, dim)
         search(browser, '[02468]$', 'regexp')
-        look('some of each place', joined, joined, joined)
+        look('some of each place', some, some, some)
     browser.prefer('light')
 
 
@@ -347,5 +392,5 @@ def narrow_windows(check):
         browser.resize(*browser.size)
 
 
-TESTS = [first_paint, widths, broken, root_below, zoom, keys, snapshots, snapshots_of_sources, lanes, differences,
+TESTS = [first_paint, widths, broken, root_below, root_below_at_first, zoom, keys, snapshots, snapshots_of_sources, lanes, differences, shares,
          gone_from_the_depth, deep, narrow_boxes, joined_colours, narrow_windows]

@@ -13,8 +13,9 @@ TOP = pathlib.Path(__file__).resolve().parents[2]
 PURE = pathlib.Path(__file__).resolve().parent / 'pure'
 START = b'''<!doctype html><script type="module">
 import { TESTS as boxes } from './boxes.js';
+import { TESTS as short } from './short.js';
 import { TESTS as texts } from './texts.js';
-window.tests = { ...boxes, ...texts };
+window.tests = { ...boxes, ...short, ...texts };
 </script>'''
 FAULT_OF = '''(() => { try { tests[%r](); return ''; } catch (fault) { return fault.message; } })()'''
 # For each test some faults: a module, what stands in it, and what is put in its place.
@@ -31,6 +32,10 @@ FAULTS = {
         ('drawing.js', 'while (opened > depth)', 'while (opened > depth + 1)'),
         ('drawing.js', 'start < endOf(drawing, box)', 'start <= endOf(drawing, box)'),
         ('drawing.js', '=== page.drawing(0)', '!== page.drawing(0)'),
+    ],
+    'shares': [
+        ('drawing.js', 'weights.before * after, after: weights.after * before', 'weights.before * before, after: weights.after * after'),
+        ('drawing.js', 'before === 0 || after === 0', 'before === 0 && after === 0'),
     ],
     'spans': [
         ('spans.js', 'Math.max(drawing.start[box], span.from)', 'drawing.start[box]'),
@@ -60,12 +65,18 @@ FAULTS = {
         ('search.js', 'order[place.at + place.count - 1] + 1', 'order[place.at + place.count - 1]'),
         ('search.js', "by === 'text' && find === find.toLowerCase()", "by === 'text'"),
         ('search.js', 'boxes[each] >= box', 'boxes[each] > box'),
+        ('search.js', 'drawing.weight[other] - drawing.weight[one]', 'drawing.weight[one] - drawing.weight[other]'),
+        ('search.js', 'isForward ? -1 : 0', '0'),
     ],
     'functions': [
-        ('functions.js', 'if (box < covered[name]) continue;', ''),
+        ('sums.js', 'if (box < covered[name]) continue;', ''),
+        ('sums.js', 'Math.max(1, span.depth)', '1'),
+        ('sums.js', 'rest -= weightInSpan', 'rest += weightInSpan'),
+        ('sums.js', 'total[name] += weightInSpan(drawing, box, span)', 'total[name] += drawing.weight[box]'),
     ],
     'gone': [
         ('gone.js', 'box = drawing.end[box];', 'box++;'),
+        ('gone.js', 'drawing.end[box] - box - 1', 'drawing.end[box] - box'),
         ('gone.js', 'drawing.weight[other] - drawing.weight[one]', 'drawing.weight[one] - drawing.weight[other]'),
     ],
     'names': [
@@ -76,6 +87,7 @@ FAULTS = {
         ('units.js', 'value >= step * 0.9995', 'value > step'),
         ('units.js', 'percent < 1 ?', 'percent < 10 ?'),
         ('units.js', '(after - before)) / before', '(after - before)) / after'),
+        ('units.js', 'Math.abs(after - before)', 'after - before'),
         ('units.js', 'microseconds: 1e-6, milliseconds: 1e-3', 'microseconds: 1e-6, milliseconds: 1e-4'),
     ],
     'colours': [
@@ -86,10 +98,27 @@ FAULTS = {
         ('address.js', "path.map(encoded).join('/')", "path.join('/')"),
         ('address.js', 'drawing.depth[box] === path.length', 'drawing.depth[box] <= path.length'),
         ('address.js', 'words.delete(key)', 'words.set(key, kept)'),
+        ('address.js', 'state.below !== page.isBelow', 'state.below'),
+        ('address.js', 'state.lists >= 0', 'state.lists > 0'),
+        ('address.js', "page.view === 'compare' && words.get('share')", "words.get('share')"),
+        ('address.js', "words.get('root') !== 'above'", "words.get('root') === 'below'"),
         ('drawing.js', 'const next = exact >= 0 ? exact : fallback;', 'const next = fallback;'),
     ],
+    'short': [
+        ('short.js', 'named.slice(1, -1)', 'named.slice(1)'),
+        ('short.js', '[name, head, ', '[name, '),
+        ('short.js', 'named.slice(-2)', 'named.slice(-1)'),
+        ('short.js', 'number === 0 || !NUMBERED', 'true || !NUMBERED'),
+        ('short.js', "name[at] === '>' && ", "name[at] === '>' && name === '' && "),
+        ('short.js', 'open.pop() !== closing', 'open.pop() === undefined'),
+        ('short.js', "separator === ' ' && index > last", "separator === ' '"),
+        ('short.js', 'word++;', 'break;'),
+        ('short.js', 'name.length > LONGEST_NAME', 'false'),
+    ],
     'lettering': [
-        ('lettering.js', 'first.slice(0, most - 1)', 'first.slice(0, most)'),
+        ('lettering.js', 'Math.floor(room / this.letter) - 1)', 'Math.floor(room / this.letter))'),
+        ('lettering.js', 'forms[chosen - 1]', 'forms[0]'),
+        ('lettering.js', 'chosen === 0 && added', 'added'),
         ('lettering.js', 'each + 1).join', 'each).join'),
         ('lettering.js', 'width - 2 * PAD', 'width - PAD'),
     ],

@@ -18,6 +18,7 @@
         text: (text) => text,
         place: (place) => place,
         saved: (text) => text,
+        fragment: (text) => text,
         changed: 0,
     };
 
@@ -177,7 +178,8 @@
             return seen();
         },
         // Goes to another address of the same document.
-        go(fragment) {
+        go(asked) {
+            const fragment = bent('fragment', asked);
             if (location.hash === fragment || (fragment === '#' && location.hash === '')) return Promise.resolve();
             const arrived = new Promise((done) => window.addEventListener('hashchange', done, { once: true }));
             location.hash = fragment;

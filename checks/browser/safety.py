@@ -71,7 +71,8 @@ def hostile(check):
     texts = [text.text for text in xml.etree.ElementTree.fromstring(svg).iter('{http://www.w3.org/2000/svg}text')]
     contains(texts, ']]>', 'texts of the SVG')
     gone = f'</ul><script>{RUN}</script>'
-    before, after = [check.write(f'{name}.folded', (lines + f'{name};{gone} 3\n').encode('utf-8')) for name in ('one', 'two')]
+    stacks = {'before': f'one;{gone} 3\n', 'after': 'one 3\n'}
+    before, after = [check.write(f'{name}.folded', (lines + stack).encode('utf-8')) for name, stack in stacks.items()]
     check.show('compare', before, after)
     contains(browser.text('#gone-list'), f'one › {gone}', 'a path that is gone')
     same(browser.value('typeof window.hostile'), 'undefined', 'what ran in the comparison')
@@ -187,4 +188,26 @@ def colours(check):
     browser.prefer('light')
 
 
-TESTS = [hostile, offline, colours]
+# The colours of a text, and of the first ground under it that is not clear.
+GROUNDS = """(() => [['#find', '::placeholder'], ['#find', null], ['#matched', null], ['#summary', null], ['#status', null], ['#help summary', null]]
+    .map(([selector, part]) => {
+        const at = document.querySelector(selector);
+        let ground = at;
+        while (getComputedStyle(ground).backgroundColor === 'rgba(0, 0, 0, 0)') ground = ground.parentElement;
+        return [selector, getComputedStyle(at, part).color, getComputedStyle(ground).backgroundColor];
+    }))()"""
+
+
+def contrast(check):
+    """What is said beside the picture can be read, light and dark, and the field's own hint too."""
+    browser = check.browser
+    for scheme in ('light', 'dark'):
+        browser.prefer(scheme)
+        check.show('graph', 'parse.folded')
+        for selector, ink, ground in browser.value(GROUNDS):
+            colours_of = [tuple(map(int, re.findall('[0-9]+', colour)[:3])) for colour in (ink, ground)]
+            assert is_readable(*colours_of), f'{selector} in {scheme}: {ink} on {ground} is hard to read'
+    browser.prefer('light')
+
+
+TESTS = [hostile, offline, colours, contrast]

@@ -4,6 +4,7 @@ import re
 import xml.etree.ElementTree
 
 from looking import ROW, Picture, contains, near, same, search
+from painted_words import forms, is_front
 
 SVG = '{http://www.w3.org/2000/svg}'
 # The colours of twelve points of a PNG, twice as large, and of the canvas, above the letters.
@@ -118,7 +119,7 @@ def saving_lanes(check):
 
 
 def lettering(check):
-    """A text stands inside of its box: whole where it fits, and else cut with an ellipsis."""
+    """A text stands inside of its box: whole where it fits, else as a shorter form, and else cut with an ellipsis."""
     browser = check.browser
     names = ['a', 'main', 'some::rather::long::name', 'été', '\u4f60\u597d\u4e16\u754c\u4f60\u597d', '😀' * 8, 'WWWWWWWWWW', 'מה שלומך']
     weights = [1, 2, 3, 5, 8, 13, 21, 34]
@@ -137,9 +138,9 @@ def lettering(check):
         assert length <= width + 0.5, f'{text}: {length} in a box of {width}'
         if text.endswith('…'):
             cut += 1
-            assert any(name.startswith(text[:-1]) and len(name) > len(text) - 2 for name in whole), f'{text} is the beginning of no name'
+            assert any(is_front(text, forms(name)[-1]) for name in whole), f'{text} is the beginning of no name'
         else:
-            assert re.sub(' ([+−±][0-9.,]+%|new)$', '', text) in whole, f'{text} is no name'
+            assert any(re.sub(' ([+−±][0-9.,]+%|new)$', '', text) in forms(name) for name in whole), f'{text} is no name'
     assert cut > 5 and len(boxes) - cut > 5, f'{cut} of {len(boxes)} are cut'
     contains([text for text, _, _ in boxes], 'all +1,121%', 'a name with its change')
 

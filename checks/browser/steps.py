@@ -31,7 +31,7 @@ def going_back(check):
     browser.value('history.back()')
     wait_for_fragment(browser, '#find=read&root=below')
     browser.click_on('#functions tbody tr:nth-child(1) button')
-    same(fragment(browser), '#find=tokenize&by=name&root=below', 'a function is a step')
+    same(fragment(browser), '#find=read&by=name&root=below', 'a function is a step')
     browser.click_on('#below')
     browser.value('history.back()')
     wait_for_fragment(browser, '#find=read')
@@ -103,6 +103,13 @@ def matches_in_turn(check):
         found.append(picture.heard().split(' of the whole')[0])
     first, second, third = 'leaf · 2, 10%', 'leaf · 5, 25%', 'leaf · 10, 50%'
     same(found, [first, third, second, third, first], 'the buttons for the next and the previous')
+    browser.value("""((order) => { order.value = 'weight'; order.dispatchEvent(new Event('change')); })(document.getElementById('order'))""")
+    found = []
+    for button in ('next', 'next', 'next', 'previous'):
+        browser.click_on(f'#{button}')
+        found.append(picture.heard().split(' of the whole')[0])
+    same([found, fragment(browser)], [[third, second, first, second], '#find=leaf&order=weight'], 'by weight, behind the lightest')
+    browser.value("""((order) => { order.value = 'place'; order.dispatchEvent(new Event('change')); })(document.getElementById('order'))""")
     picture.click(2, 0.5)
     same(fragment(browser), '#zoom=main/walk&find=leaf', 'zoomed to where one match is')
     for _ in range(3):
@@ -141,6 +148,48 @@ def keys_alone(check):
     same([place for place in wanted if place not in places], [], 'what keys do not reach')
 
 
+def widening(check):
+    """The lists are made wider by a drag and by keys, and closed, and the address remembers it."""
+    browser = check.browser
+    path = check.place(check.show('graph', 'parse.folded'))
+    browser.open(path)
+
+    def drag(by):
+        left, top, width, height = browser.area('#divider')
+        x, y = left + width / 2, top + height / 2
+        for kind, to in (('mouseMoved', x), ('mousePressed', x), ('mouseMoved', x + by / 2), ('mouseMoved', x + by), ('mouseReleased', x + by)):
+            browser.send('Input.dispatchMouseEvent', type=kind, x=to, y=y, button='left', clickCount=1)
+        browser.settle()
+
+    def seen():
+        picture = Picture(browser)
+        lists = browser.area('#lists')[2]
+        same([browser.value("document.getElementById('canvas').width"), len(picture.runs(3))], [picture.width, 3], 'the picture is painted anew')
+        return [fragment(browser), lists, picture.width + lists]
+
+    first = seen()
+    assert first[0] == '' and first[1] > 300, f'at first {first}'
+    whole = first[2]
+    drag(-100)
+    wider = [f'#lists={first[1] + 100}', first[1] + 100, whole]
+    same(seen(), wider, 'wider by a drag')
+    browser.open(path, wider[0])
+    same(seen(), wider, 'after a reload')
+    browser.value("document.getElementById('divider').focus()")
+    browser.press('ArrowRight')
+    same(seen(), [f'#lists={first[1] + 80}', first[1] + 80, whole], 'narrower by a key')
+    drag(first[1])
+    same(seen(), ['#lists=0', 0, whole + 11], 'closed by a drag')
+    same(browser.value("document.getElementById('listed').checked"), False, 'the switch')
+    Picture(browser).click(2, 0.5)
+    same(fragment(browser), '#zoom=main/parse&lists=0', 'a step')
+    browser.click_on('#listed')
+    same([fragment(browser), browser.area('#lists')[2]], ['#zoom=main/parse', first[1]], 'opened')
+    browser.press('Escape')
+    wait_for_fragment(browser, '#')
+    same(seen(), first, 'opened, also behind a step back')
+
+
 def on_a_phone(check):
     browser = check.browser
     browser.send('Emulation.setDeviceMetricsOverride', width=390, height=844, deviceScaleFactor=3, mobile=True)
@@ -156,9 +205,14 @@ def on_a_phone(check):
             assert lists[1] >= picture.top + picture.height, 'the lists stand below the picture'
             check.screenshot(f'phone-{words[0]}')
         x, y = picture.point(2, 0.9)
-        browser.send('Input.dispatchTouchEvent', type='touchStart', touchPoints=[{'x': x, 'y': y}])
-        browser.send('Input.dispatchTouchEvent', type='touchEnd', touchPoints=[])
-        browser.wait_for("location.hash === '#zoom=main/parse'")
+        for wanted in ('', '#zoom=main/parse'):
+            browser.send('Input.dispatchTouchEvent', type='touchStart', touchPoints=[{'x': x, 'y': y}])
+            browser.send('Input.dispatchTouchEvent', type='touchEnd', touchPoints=[])
+            browser.wait_for("document.getElementById('status').textContent.startsWith('parse · ')")
+            browser.wait_for(f'location.hash === {json.dumps(wanted)}')
+            same(picture.focused(), 'parse', 'what a tap names')
+        left, top, width, height = browser.area('#status')
+        assert top >= 0 and top + height <= 844, f'the status stands from {top} to {top + height} of 844'
     finally:
         browser.send('Emulation.setTouchEmulationEnabled', enabled=False)
         browser.resize(*browser.size)
@@ -191,4 +245,4 @@ def first_run(check):
     same(Picture(check.browser).name(3, 0.9), 'tokenize', 'a box of the example')
 
 
-TESTS = [going_back, back_from_a_link, back_to_a_snapshot, dragging, matches_in_turn, keys_alone, on_a_phone, in_wide_windows, first_run]
+TESTS = [going_back, back_from_a_link, back_to_a_snapshot, dragging, widening, matches_in_turn, keys_alone, on_a_phone, in_wide_windows, first_run]

@@ -39,7 +39,10 @@ def searching(check):
     match, other = picture.colour(2, 0.5), picture.colour(1, 0.5)
     assert match not in (plain, other), f'what matches has a colour of its own, not {match}'
     assert other != plain, 'what does not match steps back'
+    said = "document.getElementById('by').selectedOptions[0].text"
+    same(browser.value(said), 'in names, any case', 'what is said of a search without capital letters')
     same(search(browser, 'Walk'), '0 matched, 0%', 'capital letters count')
+    same(browser.value(said), 'in names, as written', 'what is said of one with a capital letter')
     same(search(browser, 'l'), '4 matched, 100%', 'a part of a name')
     same(search(browser, 'leaf', 'name'), '2 matched, 70%', 'whole names')
     same(search(browser, 'eaf', 'name'), '0 matched, 0%', 'a part is no whole name')
@@ -64,12 +67,13 @@ def searching(check):
 def functions(check):
     browser = check.browser
     check.show('graph', check.write('nested.folded', NESTED))
-    main, walk, leaf, other = ['main', '0', '10'], ['walk', '0', '8'], ['leaf', '7', '7'], ['other', '3', '3']
+    main, walk = ['main', '0', '0%', '10', '100%'], ['walk', '0', '0%', '8', '80%']
+    leaf, other = ['leaf', '7', '70%', '7', '70%'], ['other', '3', '30%', '3', '30%']
     same(table(browser)[:2], [leaf, other], 'by own weight')
     browser.click_on('th[data-key="total"] button')
     same(table(browser), [main, walk, leaf, other], 'by total weight, recursion counted once')
     same(browser.value("[...document.querySelectorAll('#functions th')].map((head) => head.getAttribute('aria-sort'))"),
-         [None, None, 'descending', None], 'aria-sort')
+         [None, None, 'descending', None, None, None, None], 'aria-sort')
     browser.click_on('th[data-key="total"] button')
     same(table(browser), [other, leaf, walk, main], 'rising')
     browser.click_on('th[data-key="name"] button')
@@ -77,6 +81,69 @@ def functions(check):
     browser.click_on('#functions tbody tr:nth-child(4) button')
     same(browser.text('#matched'), '2 matched, 80%', 'a click searches')
     same(fragment(browser), '#find=walk&by=name', 'fragment')
+    same([table(browser), browser.text('#functions-title')], [[leaf, main, other, walk], 'Functions'], 'a name that is searched for as a whole')
+    marked = "[...document.querySelectorAll('#functions tr[aria-current] button')].map((button) => button.textContent)"
+    same(browser.value(marked), ['walk'], 'it is marked')
+    check.show('graph', check.write('nameless.folded', 'main;;leaf 2\nmain 1\n'), fragment='#by=name')
+    same(browser.value(marked), [], 'nothing is marked without a search')
+
+
+def functions_of_a_part(check):
+    """The table follows what is zoomed, and what is searched for."""
+    browser = check.browser
+    check.show('graph', check.write('nested.folded', NESTED))
+    Picture(browser).click(2, 0.9)
+    same([fragment(browser), browser.text('#functions-title')], ['#zoom=main/walk', 'Functions in this box'], 'what is zoomed')
+    leaf, other, walk = ['leaf', '5', '62.5%', '5', '62.5%'], ['other', '3', '37.5%', '3', '37.5%'], ['walk', '0', '0%', '8', '100%']
+    same(table(browser), [leaf, other, walk], 'functions in what is zoomed, without its callers')
+    same(browser.value("document.querySelector('#functions td:nth-child(4)').title"), '5', 'the exact weight')
+    search(browser, 'l')
+    same([table(browser), browser.text('#functions-title')], [[leaf, walk], 'Functions in this box that match'], 'those that match')
+    search(browser, '(', 'regexp')
+    same(table(browser), [leaf, other, walk], 'where nothing can match')
+    browser.click_on('#back')
+    browser.wait_for("document.getElementById('functions-title').textContent === 'Functions'")
+    same(table(browser)[0], ['leaf', '7', '70%', '7', '70%'], 'the whole again')
+
+
+def columns(check):
+    """In whatever room the table has, names have half of it, and numbers are whole."""
+    browser = check.browser
+    kinds = [('cpu', 'nanoseconds')]
+    stacks = [(['main', f'{"a_very_long_name_" * 9}{number}'], [9_876_543_210 + number]) for number in range(9)]
+    before = check.write('hours.pb', profiles.profile(kinds, stacks))
+    after = check.write('others.pb', profiles.profile(kinds, [(['main'], [123_456_789_012]), (['main', 'other'], [10 ** 11])]))
+    for width in (390, 700, 1100, 1600, 2560):
+        browser.resize(width, 800)
+        for words, shown in ((['graph', before], ''), (['compare', before, after], ''), (['compare', before, after], '#share=1')):
+            if shown and width < 700:
+                continue
+            check.show(*words, fragment=shown)
+            cells = browser.value("""[...document.querySelectorAll('#functions tbody tr:first-child td')]
+                .map((cell) => [cell.clientWidth, cell.scrollWidth - cell.clientWidth])""")
+            room = browser.area('#functions')[2]
+            assert cells[0][0] >= 0.5 * room - 1, f'{words[0]}{shown} in {width}: names have {cells[0][0]} of {room}'
+            assert len(cells) == 5 and all(more <= 0 for _, more in cells[1:]), f'{words[0]}{shown} in {width}: {cells}'
+            same(browser.value("(({ scrollWidth, clientWidth }) => scrollWidth - clientWidth)(document.getElementById('lists'))"), 0,
+                 f'what is out of sight of the lists of {words[0]}{shown} in {width}')
+
+
+def standing_still(check):
+    """Whatever the search says, the tools beside it stay where they are; the field is as wide as there is room."""
+    browser = check.browser
+    many = check.write('many.folded', ''.join(f'main;function{number} 1\n' for number in range(2000)))
+    fields = []
+    for width in (1000, 1100, 1200, 1600):
+        browser.resize(width, 700)
+        check.show('graph', '--least', '0', '--focus', 'function', many)
+        places = []
+        for text in ('', 'function', 'nothing', '('):
+            search(browser, text, 'regexp')
+            places.append([browser.area(selector)[:2] for selector in ('#back', '#below', '#save-svg', '#help', '#picture')])
+        same(places, [places[0]] * len(places), f'where the tools stand in {width}')
+        search(browser, '')
+        fields.append(browser.area('#find')[2])
+    assert fields[0] < fields[-1] and min(fields) > 70, f'the field is {fields} wide'
 
 
 def units(check):
@@ -203,4 +270,4 @@ def failing_outputs(check):
         same([answer.returncode, answer.stderr], [3, b'flamecollect: output failed\n'], f'{words[0]} to a full device')
 
 
-TESTS = [data, searching, functions, units, more_units, notices, whole, links, failing_outputs]
+TESTS = [data, searching, functions, functions_of_a_part, columns, standing_still, units, more_units, notices, whole, links, failing_outputs]

@@ -1,13 +1,13 @@
 // Tests of where boxes stand: each function against a plain definition that looks at all boxes.
 
 import { firstPlace, nextPlace } from './page/bisect.js';
-import { bothWeights, boxAt, pathOf } from './page/drawing.js';
-import { totalsOf } from './page/functions.js';
-import { goneBoxes, goneRoots } from './page/gone.js';
+import { bothWeights, boxAt, comparedOf, pathOf } from './page/drawing.js';
+import { goneOf } from './page/gone.js';
 import { placeOver, placesOf, weighedTogether } from './page/places.js';
 import { ROW_HEIGHT, rowAt, rowTop, rowsOf } from './page/rows.js';
-import { matchesIn, matchesOf, nameMatcher, neighbourMatch } from './page/search.js';
+import { isEitherCase, matchesIn, matchesOf, nameMatcher, neighbourByWeight, neighbourMatch } from './page/search.js';
 import { edgesOf, inRow, isInSpan, lanesOf, rowsInSpan, spanOf, weightInSpan } from './page/spans.js';
+import { sumsOf } from './page/sums.js';
 import { boxesOf, forPages, holds, onPath, randomOf, randomSpan, same } from './random.js';
 
 function bisect() {
@@ -55,6 +55,24 @@ function nesting() {
         }
         const before = boxesOf(drawing).map((box) => bothWeights(page, drawing, box).before);
         same(before, Array.from(page.view === 'compare' ? drawing.other : drawing.weight), `${what}: weights before`);
+    });
+}
+
+// Shares of both wholes, as fractions: their order and their quotient are those of what is compared.
+function shares() {
+    forPages(10, (page, random, what) => {
+        if (page.view !== 'compare') return;
+        const wholes = [0, 1].map((number) => page.drawing(number).total);
+        for (let round = 0; round < 50; round++) {
+            const weights = { before: random.below(wholes[0] + 1), after: random.below(wholes[1] + 1) };
+            same(comparedOf(page, false, weights), weights, `${what}: weights`);
+            const { before, after } = comparedOf(page, true, weights);
+            const [first, second] = [weights.before / wholes[0], weights.after / wholes[1]];
+            same([before > after, before === 0, after === 0], [first > second, first === 0, second === 0], `${what}: which share is larger`);
+            if (first > 0) holds(Math.abs(after / before - second / first) < 1e-12 * (second / first) + 1e-300, `${what}: ${before} and ${after}`);
+        }
+        const none = { ...page, drawing: (number) => (number === 0 ? { total: 0 } : page.drawing(1)) };
+        same(comparedOf(none, true, { before: 0, after: 3 }), { before: 0, after: 3 }, `${what}: shares of nothing`);
     });
 }
 
@@ -185,6 +203,16 @@ function pointer() {
     });
 }
 
+// The matches behind and before a box by weight: those of the others that are lighter, or as heavy and come later, and those that are not.
+function plainByWeight(drawing, matches, box) {
+    const isBefore = (one, other) => drawing.weight[one] > drawing.weight[other] || (drawing.weight[one] === drawing.weight[other] && one < other);
+    const first = (those) => those.find((one) => those.every((other) => other === one || isBefore(one, other)));
+    const last = (those) => those.find((one) => those.every((other) => other === one || isBefore(other, one)));
+    const isMatch = matches.includes(box);
+    const behind = first(matches.filter((each) => isMatch && isBefore(box, each))) ?? first(matches);
+    return [behind ?? -1, last(matches.filter((each) => isMatch && isBefore(each, box))) ?? last(matches) ?? -1];
+}
+
 function search() {
     forPages(12, (page, random, what) => {
         const drawing = page.drawing(0);
@@ -202,6 +230,8 @@ function search() {
             const next = wanted.find((each) => each > box) ?? wanted[0] ?? -1;
             const last = wanted.findLast((each) => each < box) ?? wanted.at(-1) ?? -1;
             same([neighbourMatch(matches, box, true), neighbourMatch(matches, box, false)], [next, last], `${what}: matches beside ${box}`);
+            const found = [true, false].map((isForward) => neighbourByWeight(matches, drawing, box, isForward));
+            same(found, plainByWeight(drawing, wanted, box), `${what}: matches beside ${box} by weight`);
         }
         const span = randomSpan(drawing, random);
         for (let row = 0; row < drawing.rowCount; row++) {
@@ -212,19 +242,24 @@ function search() {
         }
     });
     same(nameMatcher(['a'])('(', 'regexp'), null, 'no regular expression');
+    same([isEitherCase('ab', 'text'), isEitherCase('aB', 'text'), isEitherCase('ab', 'regexp')], [true, false, false], 'either case');
     same([...nameMatcher(['aab', 'ab', 'b'])('^a+b$', 'regexp')], [1, 1, 0], 'a regular expression');
 }
 
+// The names over each unit of weight in the span, by its stack there: the last has it as its own.
 function functions() {
-    forPages(10, (page, random, what) => {
+    forPages(4, (page, random, what) => {
         const drawing = page.drawing(0);
-        const { own, total } = totalsOf(drawing, page.names.length);
-        page.names.forEach((_, name) => {
-            const isNamed = (box) => drawing.depth[box] > 0 && drawing.name[box] === name;
-            const sum = (isCounted) => boxesOf(drawing).reduce((all, box) => all + (isCounted(box) ? drawing.own[box] : 0), 0);
-            const wanted = [sum(isNamed), sum((box) => onPath(drawing, box).some(isNamed))];
-            same([own[name], total[name]], wanted, `${what}: weights of ${page.names[name]}`);
-        });
+        const span = random.below(2) ? randomSpan(drawing, random) : spanOf(page, drawing, { box: 0, source: -1 });
+        const { own, total } = sumsOf(drawing, page.names.length, span);
+        const wanted = page.names.map(() => [0, 0]);
+        for (let unit = span.from; unit < span.to; unit++) {
+            const stack = boxesOf(drawing).filter((box) => drawing.start[box] <= unit && unit < drawing.start[box] + drawing.weight[box]);
+            const names = stack.filter((box) => drawing.depth[box] > 0 && drawing.depth[box] >= span.depth).map((box) => drawing.name[box]);
+            for (const name of new Set(names)) wanted[name][1]++;
+            if (names.length > 0) wanted[names.at(-1)][0]++;
+        }
+        page.names.forEach((text, name) => same([own[name], total[name]], wanted[name], `${what}: weights of ${text}`));
     });
 }
 
@@ -234,15 +269,13 @@ function gone() {
         const drawing = page.drawing(0);
         const isGone = (box) => drawing.other[box] === 0;
         const roots = boxesOf(drawing).filter((box) => isGone(box) && !onPath(drawing, box).slice(1).some(isGone));
-        same(goneRoots(drawing), roots, `${what}: what is gone, and its caller is not`);
-        const found = goneBoxes(drawing, roots);
-        same(found.slice().sort((one, other) => one - other), boxesOf(drawing).filter(isGone), `${what}: what is gone`);
-        const rootOf = (box) => onPath(drawing, box).findLast(isGone);
-        found.slice(1).forEach((box, place) => {
-            const [one, other] = [rootOf(found[place]), rootOf(box)];
-            holds(one === other ? found[place] < box : drawing.weight[one] >= drawing.weight[other], `${what}: ${found[place]} is before ${box}`);
+        const { boxes, rest } = goneOf(drawing);
+        same(boxes.slice().sort((one, other) => one - other), roots, `${what}: what is gone, and its caller is not`);
+        same(boxes.length + rest, boxesOf(drawing).filter(isGone).length, `${what}: how many are gone`);
+        boxes.slice(1).forEach((box, place) => {
+            holds(drawing.weight[boxes[place]] >= drawing.weight[box], `${what}: ${boxes[place]} is before ${box}`);
         });
     });
 }
 
-export const TESTS = { bisect, rows, nesting, spans, places, painting, pointer, search, functions, gone };
+export const TESTS = { bisect, rows, nesting, shares, spans, places, painting, pointer, search, functions, gone };

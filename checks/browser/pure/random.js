@@ -71,7 +71,8 @@ export function randomPage(random, view) {
     const { total } = drawings[0];
     const parts = view === 'chart' ? [Math.floor(total / 3), 0, total - Math.floor(total / 3)] : drawings.map((each) => each.total);
     const sources = parts.map((weight, number) => ({ name: `source${number}`, type: '', unit: '', weight }));
-    return pageOf({ view, title: 'random', names: NAMES, sources, whole: parts.reduce((sum, each) => sum + each), drawings });
+    const whole = parts.reduce((sum, each) => sum + each);
+    return pageOf({ view, title: 'random', names: NAMES, sources, whole, drawings, ...(random.below(2) ? { root_below: true } : {}) });
 }
 
 // Does something with so many random pages of each view.

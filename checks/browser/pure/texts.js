@@ -4,7 +4,8 @@ import { fragmentOf, linkedOf, wordsOf, wordsOfStep } from './page/address.js';
 import { LIGHT, changeShade, nameShade } from './page/colours.js';
 import { FONT, Lettering, PAD } from './page/lettering.js';
 import { beginning, shortened, visible } from './page/names.js';
-import { changeText, commonUnit, exactText, percentText, separated, weightText } from './page/units.js';
+import { formsOf } from './page/short.js';
+import { changeText, commonUnit, differenceText, exactText, percentText, separated, weightText } from './page/units.js';
 import { forPages, holds, randomOf, same } from './random.js';
 
 const CHARACTERS = ['a', 'b', ' ', 'é', '😀', '\u202e', '\0', '\u4f60', '\ud83d', '\n'];
@@ -68,6 +69,8 @@ function units() {
         const exact = exactText(weight, unit);
         same(exact, text.startsWith(digits) ? text : `${text} (${digits} ${unit})`, `${weight} ${unit}, exactly`);
         const whole = weight + Math.floor(10 ** (random.next() * 14));
+        same([differenceText(weight, whole, unit), differenceText(whole, weight, unit)],
+             ['+', '−'].map((sign) => (whole > weight ? sign : '') + weightText(whole - weight, unit)), `${weight} and ${whole} ${unit}`);
         const percent = (100 * weight) / whole;
         const texts = [percentText(weight, whole), changeText(whole, weight), changeText(weight, whole)];
         holds(isRounded(texts[0], percent, percent < 1 ? 2 : 3), `${weight} of ${whole} as ${texts[0]}`);
@@ -101,11 +104,13 @@ function colours() {
     }
     LIGHT.plain.forEach((fill, number) => same(fill, `hsl(${(number % 36) * 10}, 48%, ${74 + 4 * Math.floor(number / 36)}%)`, `shade ${number}`));
     same([LIGHT.plain.length, LIGHT.changes.length], [108, 21], 'how many shades there are');
-    same(new Set([...LIGHT.plain, ...LIGHT.changes, LIGHT.joined, LIGHT.root, LIGHT.dim, LIGHT.match]).size, 133, 'all shades differ');
+    const { plain, changes, joined, joinedMatch, root, dim, match } = LIGHT;
+    same(new Set([...plain, ...changes, joined, joinedMatch, root, dim, match]).size, 134, 'all shades differ');
 }
 
 function address() {
     forPages(12, (page, random, what) => {
+        same(linkedOf(page, wordsOf('#share=1')).state.share, page.view === 'compare', `${what}: shares are of comparisons`);
         for (let round = 0; round < 20; round++) {
             const number = random.below(page.drawingCount);
             const drawing = page.drawing(number);
@@ -113,17 +118,22 @@ function address() {
             const find = random.choose(['', 'a', 'é&=#%', ' \u2028/']);
             const state = {
                 drawing: number, source, box: source >= 0 ? 0 : random.below(drawing.count), find,
-                by: find === '' ? 'text' : random.choose(['text', 'name', 'regexp']), below: random.below(2) === 0,
+                by: find === '' ? 'text' : random.choose(['text', 'name', 'regexp']), order: random.choose(['place', 'weight']),
+                below: random.below(2) === 0,
+                lists: random.choose([-1, 0, 9999, random.below(2000)]), share: page.view === 'compare' && random.below(2) === 0,
             };
             const fragment = fragmentOf(page, { ...state, focus: 0 });
             holds(/^#[\x21-\x7e]*$/.test(fragment), `${what}: ${fragment}`);
             same(linkedOf(page, wordsOf(fragment)), { state, isDead: false }, `${what}: ${fragment}`);
             const dead = fragment.replace(/zoom=([^&]*)/, 'zoom=$1/nothing');
             if (dead !== fragment) same(linkedOf(page, wordsOf(dead)), { state: { ...state, box: 0 }, isDead: true }, `${what}: ${dead}`);
-            const other = fragmentOf(page, { ...state, find: 'z', below: !state.below, box: 0, source: -1, focus: 0 });
+            const turned = { find: 'z', order: 'weight', below: !state.below, lists: 300, share: !state.share };
+            const other = fragmentOf(page, { ...state, ...turned, box: 0, source: -1, focus: 0 });
             const [made, now] = [wordsOf(fragment), wordsOf(other)];
             const wanted = { zoom: 'main', find: 'q', drawing: '0', root: 'below' };
-            for (const key of ['find', 'by', 'drawing', 'root']) if (made.get(key) !== now.get(key)) wanted[key] = now.get(key);
+            for (const key of ['find', 'by', 'order', 'drawing', 'root', 'lists', 'share']) {
+                if (made.get(key) !== now.get(key)) wanted[key] = now.get(key);
+            }
             same([...wordsOfStep('#zoom=main&find=q&drawing=0&root=below', fragment, other)],
                  Object.entries(wanted).filter(([, value]) => value !== undefined), `${what}: a step back from ${other}, made as ${fragment}`);
         }
@@ -136,12 +146,15 @@ function lettering() {
     context.font = FONT;
     const wide = (text) => context.measureText(text).width;
     const all = ['', 'a', 'main', 'some::rather::long::name<of, some>', 'été', '\u4f60\u597d\u4e16\u754c', '😀'.repeat(8), 'WWWWiiii',
-        'x'.repeat(3000), 'a\u202eb'];
-    const made = new Lettering(all);
+        'x'.repeat(3000), 'a\u202eb', 'net/\u4f60.(*conn).serve'];
+    const made = new Lettering(all, formsOf);
     let cut = 0;
     for (let round = 0; round < 1500; round++) {
         const [name, added, width] = [random.below(all.length), random.choose(['', '+12%']), random.next() * 300];
-        const [whole, room] = [[...visible(all[name])], width - 2 * PAD];
+        const forms = formsOf(all[name]).map(visible);
+        const room = width - 2 * PAD;
+        // A form that is longer and one that is the longest to fit.
+        const whole = [...(forms.find((form) => wide(form) <= room) ?? forms.at(-1))];
         const found = made.textFor(name, added, width);
         const about = `${all[name].slice(0, 40)} and ${added} in ${width}: ${found.slice(0, 60)}`;
         // A letter more or less than a hair of a pixel decides may be either.
@@ -149,7 +162,7 @@ function lettering() {
         if (room < 2 * wide('0') - 0.01) same(found, '', about);
         else if (wide(whole.join('')) <= room - 0.01) {
             const both = `${whole.join('')} ${added}`;
-            const isAdded = added !== '' && wide(both) <= room;
+            const isAdded = added !== '' && whole.join('') === forms[0] && wide(both) <= room;
             same(found, isAdded ? both : whole.join(''), `${about}: fits`);
         } else if (found !== whole.join('')) {
             const count = [...found].length - 1;

@@ -85,6 +85,7 @@ with_all_arguments subcommand.Graph = refl
 with_all_arguments subcommand.Chart = refl
 with_all_arguments subcommand.Compare = refl
 with_all_arguments subcommand.Top = refl
+with_all_arguments subcommand.Diff = refl
 with_all_arguments subcommand.Types = refl
 
 -- `Command::bin_name`, of whose clause `P` is the rest
@@ -105,6 +106,7 @@ command_is_plain subcommand.Graph = refl
 command_is_plain subcommand.Chart = refl
 command_is_plain subcommand.Compare = refl
 command_is_plain subcommand.Top = refl
+command_is_plain subcommand.Diff = refl
 command_is_plain subcommand.Types = refl
 
 -- `Command::subcommand`, of one of the commands

@@ -4,7 +4,6 @@ use Rattle.std.specs.Prelude.{option_and_then, unwrap_or, IfSome, IsSomeAnd}
 use Rattle.std.specs.List.{find}
 use Rattle.std.specs.Str.{bytes_eq}
 use Rattle.std.specs.Str.Parse.{IsNumeral, digits_value, without_leading_plus}
-use Rattle.std.proofs.lemmas.Slice.Eq.{bytes_eq-Decides}
 use Rattle.clap.specs.Faults.{fault_of as parsing_fault, is_simple_and_free}
 use Rattle.clap.specs.Kinds.{HasKind, Kinds, or_else}
 use Rattle.clap.specs.Simple.{App, HasMatchesOf, is_simple, subcommand_of, subcommand_rows_of}
@@ -16,7 +15,7 @@ use Rattle.clap.specs.declared.error.kind.ErrorKind.{ErrorKind}
 use Rattle.clap.specs.declared.error.kind.ErrorKind.TheVariants as kind
 use Rattle.clap.specs.declared.parser.matches.ArgMatches.{ArgMatches}
 use Rattle.command_line.specs.CommandLine.{command_line}
-use Rattle.command_line.specs.checked.Entries.{IsFaultOf, IsNumberAt, IsRead}
+use Rattle.command_line.specs.checked.Entries.{IsFaultOf, IsNumberAt, IsRead, compares}
 use Rattle.command_line.specs.Plans.{IsComparison, IsDrawn, IsFaultAmong, IsOfOneProfile, IsPage, IsPicture, IsRequest, command_plan, compared_view, entered_plan, entries_fault, fault_of, form_of, has_conflict, has_its_form, has_its_page, is_set, is_used, knows_format, knows_order, number_at, own_fault, page_of, picture_of, plan_with, table_of, types_plan, view_of, width_of}
 use Rattle.command_line.specs.declared.plans.Form.TheVariants as form
 use Rattle.command_line.specs.declared.arguments.TheConstants.{MOST_BETWEEN_SNAPSHOTS}
@@ -24,7 +23,7 @@ use Rattle.command_line.specs.declared.plans.Plan.{Plan}
 use Rattle.command_line.specs.declared.plans.PlanFault.{PlanFault}
 use Rattle.command_line.specs.declared.plans.PlanFault.TheVariants as fault
 use Rattle.command_line.specs.declared.plans.View.{View}
-use Rattle.command_line.specs.declared.plans.View.TheVariants.{Fold, Graph, Chart, Top}
+use Rattle.command_line.specs.declared.plans.View.TheVariants.{Fold, Graph, Chart, Top, Diff}
 use Rattle.command_line.proofs.ReadCommands.{enters, reads}
 
 -- ---- matches
@@ -46,25 +45,26 @@ entered_reads words none (Some p) is = reads words none p.0 p.1 (sym is)
 
 -- ---- what a run asks of its plan
 
--- the view that compares is that of the command `compare`
+-- a view that compares is that of a command that does
 comparison_named : (name : Text) (entries : List Row) (view : View) → view_of name entries ≡ Some view → IsComparison view
-    → name ≡ codes "compare"
-comparison_named name entries view is compares =
-    go (bytes_eq name (codes "fold")) (bytes_eq name (codes "graph")) (bytes_eq name (codes "chart")) (bytes_eq name (codes "compare")) (bytes_eq name (codes "top")) refl is
+    → compares name ≡ true
+comparison_named name entries view is comparing =
+    go (bytes_eq name (codes "fold")) (bytes_eq name (codes "graph")) (bytes_eq name (codes "chart")) (bytes_eq name (codes "compare")) (bytes_eq name (codes "top")) (bytes_eq name (codes "diff")) is
   where
     same : (v : View) → Some v ≡ Some view → IsComparison v
-    same v e = subst IsComparison (sym (ap (λ (o : Option View). unwrap_or o view) e)) compares
+    same v e = subst IsComparison (sym (ap (λ (o : Option View). unwrap_or o view) e)) comparing
 
-    go : (fold graph chart compare top : Bool) → bytes_eq name (codes "compare") ≡ compare
+    go : (fold graph chart compare top diff : Bool)
         → cond fold (Some Fold) (cond graph (Some (Graph (width_of entries))) (cond chart (Some (Chart (width_of entries)))
-        (cond compare (Some (compared_view entries)) (cond top (Some (Top (table_of entries))) None)))) ≡ Some view
-        → name ≡ codes "compare"
-    go true graph chart compare top named e = absurd (same Fold e)
-    go false true chart compare top named e = absurd (same (Graph (width_of entries)) e)
-    go false false true compare top named e = absurd (same (Chart (width_of entries)) e)
-    go false false false true top named e = (bytes_eq-Decides name (codes "compare")).0 named
-    go false false false false true named e = absurd (same (Top (table_of entries)) e)
-    go false false false false false named e = cc
+        (cond compare (Some (compared_view entries)) (cond top (Some (Top (table_of entries))) (cond diff (Some (Diff (table_of entries))) None))))) ≡ Some view
+        → (compare || diff) ≡ true
+    go true graph chart compare top diff e = absurd (same Fold e)
+    go false true chart compare top diff e = absurd (same (Graph (width_of entries)) e)
+    go false false true compare top diff e = absurd (same (Chart (width_of entries)) e)
+    go false false false true top diff e = refl
+    go false false false false true diff e = absurd (same (Top (table_of entries)) e)
+    go false false false false false true e = refl
+    go false false false false false false e = cc
 
 number_in_range : (id : Text) (most : ℕ) (entries : List Row) → IsNumberAt id most entries
     → IfSome (number_at id entries) (λ n. (1 ≤ n) × (n ≤ most))

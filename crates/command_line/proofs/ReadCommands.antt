@@ -27,7 +27,7 @@ use Rattle.run_options.specs.declared.ring_sizes.TheConstants.{LARGEST_RING}
 use Rattle.run_options.specs.declared.widths.TheConstants.{MAX_WIDTH}
 use Rattle.command_line.specs.declared.arguments.TheConstants.{MOST_BETWEEN_SNAPSHOTS, MOST_ROWS}
 use Rattle.command_line.specs.CommandLine.{command_line}
-use Rattle.command_line.specs.checked.Entries.{IsCountAt, IsFlagAt, IsNumberAt, IsRead}
+use Rattle.command_line.specs.checked.Entries.{IsCountAt, IsFlagAt, IsNumberAt, IsRead, compares}
 use Rattle.command_line.specs.Plans.{IsDrawn, compared_view, files_of, is_set, values_at, view_of, width_of}
 use Rattle.command_line.specs.declared.plans.View.TheVariants.{PairBoxes, Pairs}
 use Rattle.command_line.proofs.PassedLevels.{level_holds}
@@ -231,7 +231,7 @@ module _ (s : Shape) (known : KnowsArguments s.rules) (once : s.args_override_se
   checked = (level_holds s [] known.firsts once words false [] fault).3
 
   reads_command : (bytes_eq s.name (codes "types") ≡ false → IsSome (view_of s.name rows))
-      → (s.name ≡ codes "compare" → length (files_of rows) ≡ 2)
+      → (compares s.name ≡ true → length (files_of rows) ≡ 2)
       → (is_set (codes "page") rows ≡ true → IfSome (view_of s.name rows) IsDrawn)
       → (is_set (codes "svg") rows ≡ true → IfSome (view_of s.name rows) IsDrawn)
       → (bytes_eq s.name (codes "types") ≡ true → length (files_of rows) ≡ 1) → IsRead s.name rows
@@ -285,8 +285,11 @@ built_compare = slice_index_or built_line.subs 3 no_shape
 abbrev built_top : Shape
 built_top = slice_index_or built_line.subs 4 no_shape
 
+abbrev built_diff : Shape
+built_diff = slice_index_or built_line.subs 5 no_shape
+
 abbrev built_types : Shape
-built_types = slice_index_or built_line.subs 5 no_shape
+built_types = slice_index_or built_line.subs 6 no_shape
 
 fold_known : KnowsArguments built_fold.rules
 fold_known = record {
@@ -373,6 +376,23 @@ top_known = record {
   least = tt;
 }
 
+diff_known : KnowsArguments built_diff.rules
+diff_known = record {
+  firsts = (refl, (refl, (refl, (refl, (refl, (refl, (refl, (refl, (refl, (refl, (refl, (refl, (refl, tt)))))))))))));
+  width = tt;
+  ring = refl;
+  every = tt;
+  lines = refl;
+  boxes = tt;
+  rows = refl;
+  json = refl;
+  quiet = refl;
+  page = tt;
+  svg = tt;
+  below = tt;
+  least = tt;
+}
+
 types_known : KnowsArguments built_types.rules
 types_known = record {
   firsts = (refl, (refl, tt));
@@ -390,40 +410,36 @@ types_known = record {
   least = tt;
 }
 
--- a name that is not `compare`, by a byte that differs
-not_compare : (name : Text) (P : Type 0) → bytes_eq name (codes "compare") ≡ false → name ≡ codes "compare" → P
-not_compare name P differs same = absurd (true≢false (sym (ap (λ n. bytes_eq n (codes "compare")) same) ∙ differs))
-
--- the name is not `types`, by a byte that differs
-not_types : (P : Type 0) → false ≡ true → P
-not_types P same = absurd (true≢false (sym same))
+-- the name is another, by a byte that differs
+not_named : (P : Type 0) → false ≡ true → P
+not_named P same = absurd (true≢false (sym same))
 
 fold_reads : ReadsCommand built_fold
 fold_reads = (
   refl,
-  λ words other fault. reads_command built_fold fold_known refl words fault (λ _. refl) (not_compare _ _ refl)
-      (draws_none built_fold fold_known refl words fault (codes "page") _ refl) (draws_none built_fold fold_known refl words fault (codes "svg") _ refl) (not_types _),
+  λ words other fault. reads_command built_fold fold_known refl words fault (λ _. refl) (not_named _)
+      (draws_none built_fold fold_known refl words fault (codes "page") _ refl) (draws_none built_fold fold_known refl words fault (codes "svg") _ refl) (not_named _),
 )
 
 graph_reads : ReadsCommand built_graph
 graph_reads = (
   refl,
-  λ words other fault. reads_command built_graph graph_known refl words fault (λ _. refl) (not_compare _ _ refl)
-      (λ _. tt) (λ _. tt) (not_types _),
+  λ words other fault. reads_command built_graph graph_known refl words fault (λ _. refl) (not_named _)
+      (λ _. tt) (λ _. tt) (not_named _),
 )
 
 chart_reads : ReadsCommand built_chart
 chart_reads = (
   refl,
-  λ words other fault. reads_command built_chart chart_known refl words fault (λ _. refl) (not_compare _ _ refl)
-      (λ _. tt) (λ _. tt) (not_types _),
+  λ words other fault. reads_command built_chart chart_known refl words fault (λ _. refl) (not_named _)
+      (λ _. tt) (λ _. tt) (not_named _),
 )
 
 top_reads : ReadsCommand built_top
 top_reads = (
   refl,
-  λ words other fault. reads_command built_top top_known refl words fault (λ _. refl) (not_compare _ _ refl)
-      (draws_none built_top top_known refl words fault (codes "page") _ refl) (draws_none built_top top_known refl words fault (codes "svg") _ refl) (not_types _),
+  λ words other fault. reads_command built_top top_known refl words fault (λ _. refl) (not_named _)
+      (draws_none built_top top_known refl words fault (codes "page") _ refl) (draws_none built_top top_known refl words fault (codes "svg") _ refl) (not_named _),
 )
 
 both_given : (before after : Bool) → (not before || (not after || false)) ≡ false → (before ≡ true) × (after ≡ true)
@@ -453,7 +469,7 @@ compare_reads : ReadsCommand built_compare
 compare_reads = (
   refl,
   λ words other fault. reads_command built_compare compare_known refl words fault (λ _. refl) (λ _. two words fault)
-      (page_is_drawn (rows_after built_compare.rules [] words)) (picture_is_drawn (rows_after built_compare.rules [] words)) (not_types _),
+      (page_is_drawn (rows_after built_compare.rules [] words)) (picture_is_drawn (rows_after built_compare.rules [] words)) (not_named _),
 )
   where
     two : (words : List Text) → level_fault built_compare [] nothing_held words false [] ≡ [] → length (files_of (rows_after built_compare.rules [] words)) ≡ 2
@@ -465,6 +481,22 @@ compare_reads = (
         (checks_pass false false wants (checked built_compare compare_known refl words fault)).1 in
         pair_at built_compare.rules found each _ _ refl refl (refl, refl, refl, refl) given.0 refl (refl, refl, refl, refl) given.1
 
+diff_reads : ReadsCommand built_diff
+diff_reads = (
+  refl,
+  λ words other fault. reads_command built_diff diff_known refl words fault (λ _. refl) (λ _. two words fault)
+      (draws_none built_diff diff_known refl words fault (codes "page") _ refl) (draws_none built_diff diff_known refl words fault (codes "svg") _ refl) (not_named _),
+)
+  where
+    two : (words : List Text) → level_fault built_diff [] nothing_held words false [] ≡ [] → length (files_of (rows_after built_diff.rules [] words)) ≡ 2
+    two words fault =
+        let found = rows_after built_diff.rules [] words in
+        let each = each_row built_diff diff_known refl words fault in
+        let wants = not (is_given (codes "before") found) || (not (is_given (codes "after") found) || false) in
+        let given = both_given (is_given (codes "before") found) (is_given (codes "after") found)
+        (checks_pass false false wants (checked built_diff diff_known refl words fault)).1 in
+        pair_at built_diff.rules found each _ _ refl refl (refl, refl, refl, refl) given.0 refl (refl, refl, refl, refl) given.1
+
 one_given : (given : Bool) → (not given || false) ≡ false → given ≡ true
 one_given true e = refl
 one_given false e = absurd (true≢false e)
@@ -472,7 +504,7 @@ one_given false e = absurd (true≢false e)
 types_reads : ReadsCommand built_types
 types_reads = (
   refl,
-  λ words other fault. reads_command built_types types_known refl words fault (λ e. absurd (true≢false e)) (not_compare _ _ refl)
+  λ words other fault. reads_command built_types types_known refl words fault (λ e. absurd (true≢false e)) (not_named _)
       (draws_none built_types types_known refl words fault (codes "page") _ refl) (draws_none built_types types_known refl words fault (codes "svg") _ refl) (λ _. one words fault),
 )
   where
@@ -484,11 +516,11 @@ types_reads = (
         let given = one_given (is_given (codes "file") found) (checks_pass false false wants (checked built_types types_known refl words fault)).1 in
         single_at built_types.rules found each _ refl (refl, refl, refl, refl) given refl refl
 
-help_reads : ReadsCommand (slice_index_or built_line.subs 6 no_shape)
+help_reads : ReadsCommand (slice_index_or built_line.subs 7 no_shape)
 help_reads = (refl, λ words other fault. absurd (true≢false other))
 
 commands_read : Each ReadsCommand built_line.subs
-commands_read = (fold_reads, (graph_reads, (chart_reads, (compare_reads, (top_reads, (types_reads, (help_reads, tt)))))))
+commands_read = (fold_reads, (graph_reads, (chart_reads, (compare_reads, (top_reads, (diff_reads, (types_reads, (help_reads, tt))))))))
 
 -- ---- the command line
 

@@ -16,7 +16,7 @@ use Rattle.run_options.specs.declared.orders.FunctionOrder.TheVariants.{Own, Tot
 use Rattle.command_line.specs.declared.plans.Form.TheVariants as form
 use Rattle.command_line.specs.declared.plans.Plan.{Plan}
 use Rattle.command_line.specs.declared.plans.View.{View}
-use Rattle.command_line.specs.declared.plans.View.TheVariants.{Fold, Graph, Chart, Pairs, PairBoxes, Top}
+use Rattle.command_line.specs.declared.plans.View.TheVariants.{Fold, Graph, Chart, Pairs, PairBoxes, Top, Diff}
 
 -- what `clap` says in `plan`'s clauses it says of this command line
 line_is_simple : is_simple_and_free command_line ≡ true
@@ -89,6 +89,24 @@ no_plan_of_such_an_order = refl
 no_order_of_fold : fault_of command_line (codes "fold" ∷ codes "--by" ∷ codes "own" ∷ []) ≡ kind.UnknownArgument ∷ []
 unfolding clap_on_literals
 no_order_of_fold = refl
+
+diff_alone : plan_of (codes "diff" ∷ codes "b" ∷ codes "a" ∷ []) ≡ Some (plan_with (Diff (record { by = Own; rows = 10; is_json = false })) defaults (codes "b" ∷ codes "a" ∷ []))
+unfolding clap_on_literals
+diff_alone = refl
+
+diff_with_options : plan_of (codes "diff" ∷ codes "--json" ∷ codes "b" ∷ codes "-n" ∷ codes "3" ∷ codes "a" ∷ codes "--by" ∷ codes "total" ∷ codes "--focus" ∷ codes "f" ∷ [])
+    ≡ Some (plan_with (Diff (record { by = Total; rows = 3; is_json = true }))
+    (record defaults { filter = record { focus = codes "f" ∷ []; hide = [] } }) (codes "b" ∷ codes "a" ∷ []))
+unfolding clap_on_literals
+diff_with_options = refl
+
+diff_of_one_file : fault_of command_line (codes "diff" ∷ codes "b" ∷ []) ≡ kind.MissingRequiredArgument ∷ []
+unfolding clap_on_literals
+diff_of_one_file = refl
+
+no_page_of_a_diff : fault_of command_line (codes "diff" ∷ codes "--page" ∷ codes "b" ∷ codes "a" ∷ []) ≡ kind.UnknownArgument ∷ []
+unfolding clap_on_literals
+no_page_of_a_diff = refl
 
 quiet_fold : plan_of (codes "fold" ∷ codes "--quiet" ∷ []) ≡ Some (record (plan_with Fold defaults []) { is_quiet = true })
 unfolding clap_on_literals

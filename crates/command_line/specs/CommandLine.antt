@@ -115,6 +115,11 @@ abbrev pub top_command : Shape
 top_command = command (codes "top") (rows_option ∷ by_option ∷ json_flag ∷ type_option ∷ format_option
     ∷ focus_option ∷ hide_option ∷ ring_option ∷ lines_flag ∷ quiet_flag ∷ any_files (codes "file") ∷ [])
 
+abbrev pub diff_command : Shape
+diff_command = command (codes "diff") (rows_option ∷ by_option ∷ json_flag ∷ type_option ∷ format_option
+    ∷ focus_option ∷ hide_option ∷ ring_option ∷ lines_flag ∷ quiet_flag
+    ∷ one_file (codes "before") ∷ one_file (codes "after") ∷ [])
+
 abbrev pub types_command : Shape
 types_command = command (codes "types") (one_file (codes "file") ∷ [])
 
@@ -127,5 +132,6 @@ command_line = record {
     has_version = true;
     subcommand_required = true;
   };
-  subs = fold_command ∷ graph_command ∷ chart_command ∷ compare_command ∷ top_command ∷ types_command ∷ [];
+  subs = fold_command ∷ graph_command ∷ chart_command ∷ compare_command ∷ top_command ∷ diff_command
+      ∷ types_command ∷ [];
 }

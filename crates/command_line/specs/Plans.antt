@@ -33,7 +33,7 @@ use Rattle.command_line.specs.declared.plans.PlanFault.{PlanFault}
 use Rattle.command_line.specs.declared.plans.PlanFault.TheVariants as fault
 use Rattle.command_line.specs.declared.plans.TopTable.{TopTable}
 use Rattle.command_line.specs.declared.plans.View.{View}
-use Rattle.command_line.specs.declared.plans.View.TheVariants.{Fold, Graph, Chart, Pairs, PairBoxes, Top}
+use Rattle.command_line.specs.declared.plans.View.TheVariants.{Fold, Graph, Chart, Pairs, PairBoxes, Top, Diff}
 
 -- ---- the entries of a command, by the ids of its arguments
 
@@ -128,7 +128,8 @@ view_of name entries =
     else (if bytes_eq name (codes "graph") then Some (Graph (width_of entries))
     else (if bytes_eq name (codes "chart") then Some (Chart (width_of entries))
     else (if bytes_eq name (codes "compare") then Some (compared_view entries)
-    else (if bytes_eq name (codes "top") then Some (Top (table_of entries)) else None))))
+    else (if bytes_eq name (codes "top") then Some (Top (table_of entries))
+    else (if bytes_eq name (codes "diff") then Some (Diff (table_of entries)) else None)))))
 
 -- what is written of the view: its text, or a page or a picture with what the words say of it
 abbrev pub title_of : List Row → Option Text
@@ -228,6 +229,7 @@ IsComparison Fold = ⊥
 IsComparison (Graph width) = ⊥
 IsComparison (Chart width) = ⊥
 IsComparison (Top table) = ⊥
+IsComparison (Diff table) = Unit {0}
 
 -- the view has boxes
 abbrev pub IsDrawn : View → Type 0
@@ -237,6 +239,7 @@ IsDrawn (Chart width) = Unit {0}
 IsDrawn Pairs = ⊥
 IsDrawn (PairBoxes width) = Unit {0}
 IsDrawn (Top table) = ⊥
+IsDrawn (Diff table) = ⊥
 
 -- a page is written
 abbrev pub IsPage : Form → Type 0

@@ -116,6 +116,21 @@ pub(crate) const TOP: &[Argument] = &[
     Argument::Files,
 ];
 
+pub(crate) const DIFF: &[Argument] = &[
+    Argument::Rows,
+    Argument::By,
+    Argument::Json,
+    Argument::Type,
+    Argument::Format,
+    Argument::Focus,
+    Argument::Hide,
+    Argument::Ring,
+    Argument::Lines,
+    Argument::Quiet,
+    Argument::Before,
+    Argument::After,
+];
+
 pub(crate) const TYPES: &[Argument] = &[Argument::Profile];
 
 impl Argument {

@@ -5,12 +5,12 @@ ghost use Rattle.command_line.specs.CommandLine.{command_line};
 ghost use Rattle.command_line.specs.checked.Apps.{as_app, program};
 ghost use Rattle.command_line.specs.checked.Commands.{rule_at, shape_at};
 
-use crate::argument_lists::{Argument, CHART, COMPARE, FOLD, GRAPH, TOP, TYPES};
+use crate::argument_lists::{Argument, CHART, COMPARE, DIFF, FOLD, GRAPH, TOP, TYPES};
 use clap::Command;
 use std::alloc::{AllocError, Global};
 
 // The day of the newest entry in CHANGELOG.md.
-const VERSION: &str = "2026-11-27";
+const VERSION: &str = "2026-11-28";
 
 const NOTES: &str = "\
 Formats:
@@ -40,6 +40,10 @@ const TOP_EXAMPLE: &str = "\
 Example: flamecollect top -n 20 --by total cpu.pprof
 Compressed: gzip -dc cpu.pb.gz | flamecollect top --format pprof";
 
+const DIFF_EXAMPLE: &str = "\
+Example: flamecollect diff -n 20 before.pb after.pb
+Compressed: gzip -dk before.pb.gz after.pb.gz makes before.pb and after.pb, which can be compared";
+
 const TYPES_EXAMPLE: &str = "\
 Example: flamecollect types cpu.pprof
 Compressed: gzip -dk cpu.pb.gz makes cpu.pb, whose types can be told";
@@ -51,6 +55,7 @@ enum Subcommand {
     Chart,
     Compare,
     Top,
+    Diff,
     Types,
 }
 
@@ -61,6 +66,7 @@ const COMMANDS: &[Subcommand] = &[
     Subcommand::Chart,
     Subcommand::Compare,
     Subcommand::Top,
+    Subcommand::Diff,
     Subcommand::Types,
 ];
 
@@ -74,6 +80,7 @@ impl Subcommand {
             Subcommand::Chart => "chart",
             Subcommand::Compare => "compare",
             Subcommand::Top => "top",
+            Subcommand::Diff => "diff",
             Subcommand::Types => "types",
         }
     }
@@ -86,6 +93,7 @@ impl Subcommand {
             Subcommand::Chart => "Write the flame chart as a line of JSON",
             Subcommand::Compare => "Write each stack of two profiles with its weight in both",
             Subcommand::Top => "Write the functions with the greatest weights",
+            Subcommand::Diff => "Write the functions of two profiles with the greatest changes",
             Subcommand::Types => "Write the sample types of a pprof profile, each with its unit",
         }
     }
@@ -97,6 +105,7 @@ impl Subcommand {
             Subcommand::Chart => CHART_EXAMPLE,
             Subcommand::Compare => COMPARE_EXAMPLE,
             Subcommand::Top => TOP_EXAMPLE,
+            Subcommand::Diff => DIFF_EXAMPLE,
             Subcommand::Types => TYPES_EXAMPLE,
         }
     }
@@ -110,6 +119,7 @@ impl Subcommand {
             Subcommand::Chart => CHART,
             Subcommand::Compare => COMPARE,
             Subcommand::Top => TOP,
+            Subcommand::Diff => DIFF,
             Subcommand::Types => TYPES,
         }
     }

@@ -23,12 +23,14 @@ pub enum View {
     PairBoxes(Width),
     /// The functions by weight.
     Top(TopTable),
+    /// The functions of two sources by the change of their weight.
+    Diff(TopTable),
 }
 
 /// A table of functions.
 #[derive(Clone, Copy, Debug, PartialEq)]
 pub struct TopTable {
-    /// The weight that sorts the functions, the greatest first.
+    /// The weight, or the change of it, that sorts the functions, the greatest first.
     pub by: FunctionOrder,
     /// How many functions it has, if there are so many.
     pub rows: u64,

@@ -28,6 +28,7 @@ pub(crate) fn view(name: &str, entries: &ArgMatches<'_>) -> View
         "chart" => View::Chart(width(entries)),
         "compare" => compared_view(entries),
         "top" => View::Top(table(entries)),
+        "diff" => View::Diff(table(entries)),
         _ => unreachable!(),
     }
 }

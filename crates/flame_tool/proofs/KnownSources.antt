@@ -24,16 +24,10 @@ use Rattle.run_options.specs.declared.options.Options.{Options}
 use Rattle.ring_collect.specs.Collection.{AreWhole, seen_as_rest}
 use Rattle.merged_stacks.specs.Timeline.{samples_of}
 use Rattle.command_line.specs.declared.plans.Plan.{Plan}
-use Rattle.merging.specs.Sources.{asked_rest, rests_of, read_bytes, source_rest}
-use Rattle.source_lists.specs.declared.sources.Source.{Source}
-use Rattle.opened_sources.specs.Opening.{AreLoaded, IsLoaded, IsLoadedInput, format_and_bytes}
-use Rattle.flame_tool.specs.checked.LoadedSources.{rests_of_bytes}
-use Rattle.sample_tables.specs.Samples.{total_weight}
-use Rattle.merging.specs.Sums.{all_samples}
-use Rattle.source_lists.specs.Sources.{whole_rest, whole_rests_of, weight_of_sources}
-use Rattle.source_lists.specs.Types.{source_type}
+use Rattle.source_lists.specs.Sources.{asked_rest, asked_rests, read_bytes}
+use Rattle.opened_sources.specs.Opening.{AreLoaded, IsLoaded, IsLoadedInput}
 use Rattle.sent_views.specs.declared.run_facts.RunFacts.{RunFacts}
-use Rattle.flame_tool.specs.KnownFacts.{bytes_at, bytes_in, bytes_of, facts_of, known_facts, types_of, whole_weight}
+use Rattle.flame_tool.specs.KnownFacts.{bytes_at, bytes_in, bytes_of, facts_of, known_facts}
 use Rattle.flame_tool.specs.Requests.{all_found, rest_of, rest_at, rest_in, rests_at, known_rests}
 use Rattle.sent_views.specs.Pages.{shown_text}
 use Rattle.flame_tool.specs.Runs.{IsClean, IsFault, lists_of, IsTextOf, Shows, HasFault}
@@ -45,15 +39,15 @@ use Rattle.opened_sources.specs.declared.failures.Failure.TheVariants.{TooManyFi
 -- ---- what is known of loaded sources
 
 known_first : (options : Options) (format : Format) (known : Option (List ℕ)) (found : Option (List Rest)) (source : Format × List ℕ) (sources : List (Format × List ℕ))
-    → source.0 ≡ format → IfSome known (λ bytes. source.1 ≡ bytes) → IfSome found (λ rests. rests_of_bytes options sources ≡ rests)
-    → IfSome (option_and_then (λ rest. option_map (λ more. rest ∷ more) found) (rest_of options format known)) (λ rests. rests_of_bytes options (source ∷ sources) ≡ rests)
+    → source.0 ≡ format → IfSome known (λ bytes. source.1 ≡ bytes) → IfSome found (λ rests. asked_rests options sources ≡ rests)
+    → IfSome (option_and_then (λ rest. option_map (λ more. rest ∷ more) found) (rest_of options format known)) (λ rests. asked_rests options (source ∷ sources) ≡ rests)
 known_first options format None found source sources formed same more = tt
 known_first options format (Some bytes) None source sources formed same more = tt
 known_first options format (Some bytes) (Some rests) source sources formed same more =
     λ i. asked_rest options (formed i) (same i) ∷ more i
 
 known_files : (options : Options) (asked : Option Format) (files : List ℕ → Option (List ℕ)) (paths : List (List ℕ)) (sources : List (Format × List ℕ)) → AllZip (IsLoaded asked files) paths sources
-    → IfSome (all_found (rest_at options asked files) paths) (λ rests. rests_of_bytes options sources ≡ rests)
+    → IfSome (all_found (rest_at options asked files) paths) (λ rests. asked_rests options sources ≡ rests)
 known_files options asked files [] [] loaded = refl
 known_files options asked files [] (source ∷ sources) loaded = absurd loaded
 known_files options asked files (path ∷ paths) [] loaded = absurd loaded
@@ -61,14 +55,14 @@ known_files options asked files (path ∷ paths) (source ∷ sources) ((formed, 
     known_first options (unwrap_or asked (format_at path)) (files path) (all_found (rest_at options asked files) paths) source sources formed same (known_files options asked files paths sources more)
 
 known_input : (options : Options) (asked : Option Format) (input : Option (List ℕ)) (sources : List (Format × List ℕ)) → IfSome input (IsLoadedInput asked sources)
-    → IfSome (option_map (λ rest. rest ∷ []) (rest_in options asked input)) (λ rests. rests_of_bytes options sources ≡ rests)
+    → IfSome (option_map (λ rest. rest ∷ []) (rest_in options asked input)) (λ rests. asked_rests options sources ≡ rests)
 known_input options asked None sources loaded = tt
 known_input options asked (Some bytes) [] loaded = absurd loaded
 known_input options asked (Some bytes) (source ∷ []) (folded, same) = λ i. asked_rest options (folded i) (same i) ∷ []
 known_input options asked (Some bytes) (source ∷ other ∷ more) loaded = absurd loaded
 
 loaded_rests : (options : Options) (asked : Option Format) (input : Option (List ℕ)) (files : List ℕ → Option (List ℕ)) (paths : List (List ℕ)) (sources : List (Format × List ℕ)) → AreLoaded asked input files paths sources
-    → IfSome (rests_at options asked paths input files) (λ rests. rests_of_bytes options sources ≡ rests)
+    → IfSome (rests_at options asked paths input files) (λ rests. asked_rests options sources ≡ rests)
 loaded_rests options asked input files [] sources loaded = known_input options asked input sources loaded
 loaded_rests options asked input files (path ∷ paths) sources loaded = known_files options asked files (path ∷ paths) sources loaded
 
@@ -98,24 +92,6 @@ bytes_loaded : (asked : Option Format) (input : Option (List ℕ)) (files : List
     → IfSome (bytes_of asked paths input files) (λ all. sources ≡ all)
 bytes_loaded asked input files [] sources loaded = bytes_input asked input sources loaded
 bytes_loaded asked input files (path ∷ paths) sources loaded = bytes_files asked files (path ∷ paths) sources loaded
-
--- ---- what is said of sources is said of their bytes
-
-pub rests_by_bytes : (options : Options) (sources : List Source) → rests_of options sources ≡ rests_of_bytes options (map format_and_bytes sources)
-rests_by_bytes options [] = refl
-rests_by_bytes options (source ∷ sources) = ap (λ more. source_rest options source ∷ more) (rests_by_bytes options sources)
-
-whole_samples : (options : Options) (sources : List Source) → map (λ (rest : Rest). rest.samples) (whole_rests_of options sources)
-    ≡ map (λ (source : Format × List ℕ). (read_bytes source.0 source.1 options.pick options.naming).samples) (map format_and_bytes sources)
-whole_samples options [] = refl
-whole_samples options (source ∷ sources) = ap (λ more. (whole_rest options source).samples ∷ more) (whole_samples options sources)
-
-pub weight_by_bytes : (options : Options) (sources : List Source) → weight_of_sources options sources ≡ whole_weight options (map format_and_bytes sources)
-weight_by_bytes options sources = ap (λ samples. total_weight (all_samples samples)) (whole_samples options sources)
-
-pub types_by_bytes : (options : Options) (sources : List Source) → map (source_type options) sources ≡ types_of options (map format_and_bytes sources)
-types_by_bytes options [] = refl
-types_by_bytes options (source ∷ sources) = ap (λ more. source_type options source ∷ more) (types_by_bytes options sources)
 
 -- something is found
 abbrev pub IsKnown : {A : Type 0} → Option A → Type 0
@@ -177,13 +153,13 @@ neither : (a b : Bool) → (a || b) ≡ false → (a ≡ false) × (b ≡ false)
 neither true b none = absurd (true≢false none)
 neither false b none = (refl, none)
 
-clean_rests : (options : Options) (sources : List (Format × List ℕ)) → list_any (λ (rest : Rest). ends_in_fault rest.ending) (rests_of_bytes options sources) ≡ false
-    → All (λ (rest : Rest). IsClean rest.ending) (rests_of_bytes options sources)
+clean_rests : (options : Options) (sources : List (Format × List ℕ)) → list_any (λ (rest : Rest). ends_in_fault rest.ending) (asked_rests options sources) ≡ false
+    → All (λ (rest : Rest). IsClean rest.ending) (asked_rests options sources)
 clean_rests options [] faultless = All-nil (λ (rest : Rest). IsClean rest.ending)
 clean_rests options (source ∷ sources) faultless =
     let rest = asked_rest options source.0 source.1 in
-    let both = neither (ends_in_fault rest.ending) (list_any (λ (rest : Rest). ends_in_fault rest.ending) (rests_of_bytes options sources)) faultless in
-    All-cons (λ (rest : Rest). IsClean rest.ending) rest (rests_of_bytes options sources)
+    let both = neither (ends_in_fault rest.ending) (list_any (λ (rest : Rest). ends_in_fault rest.ending) (asked_rests options sources)) faultless in
+    All-cons (λ (rest : Rest). IsClean rest.ending) rest (asked_rests options sources)
     (clean_ending rest.ending (unstopped source.0 source.1 options.pick options.naming) both.0) (clean_rests options sources both.1)
 
 faulty_rests : (rests : List Rest) → list_any (λ (rest : Rest). ends_in_fault rest.ending) rests ≡ true → HasFault rests
@@ -206,12 +182,12 @@ faults_of_rests (list ∷ lists) = ap (λ more. ends_in_fault list.ending || mor
 -- a plan's sources were loaded and collected whole
 pub record AreCollected (plan : Plan) (input : Option (List ℕ)) (files : List ℕ → Option (List ℕ)) (sources : List (Format × List ℕ)) (lists : List ListState) (order : List ℕ) (every : Option ℕ) : Type 0 where
   pub loaded : AreLoaded plan.format input files plan.files sources
-  pub whole : AreWhole (rests_of_bytes plan.options sources) lists
+  pub whole : AreWhole (asked_rests plan.options sources) lists
   pub ordered : IsInterleaving order (samples_of lists)
   pub every_is : every ≡ plan.options.every
 
 pub collected_of : (plan : Plan) (input : Option (List ℕ)) (files : List ℕ → Option (List ℕ)) (paths : List (List ℕ)) (sources : List (Format × List ℕ)) (lists : List ListState) (order : List ℕ) (every : Option ℕ)
-    → paths ≡ plan.files → AreLoaded plan.format input files paths sources → AreWhole (rests_of_bytes plan.options sources) lists → IsInterleaving order (samples_of lists) → every ≡ plan.options.every
+    → paths ≡ plan.files → AreLoaded plan.format input files paths sources → AreWhole (asked_rests plan.options sources) lists → IsInterleaving order (samples_of lists) → every ≡ plan.options.every
     → AreCollected plan input files sources lists order every
 collected_of plan input files paths sources lists order every same loaded whole ordered every_is =
     record { loaded = subst (λ paths. AreLoaded plan.format input files paths sources) same loaded; whole = whole; ordered = ordered; every_is = every_is }
@@ -223,13 +199,13 @@ module _ (plan : Plan) (input : Option (List ℕ)) (files : List ℕ → Option 
   abbrev text : List ℕ
   text = shown_text plan facts (samples_of lists) order every
 
-  same_samples : samples_of lists ≡ lists_of (rests_of_bytes plan.options sources)
+  same_samples : samples_of lists ≡ lists_of (asked_rests plan.options sources)
   same_samples = samples_of_rests lists ∙ ap lists_of collected.whole
 
-  same_faults : has_fault lists ≡ list_any (λ (rest : Rest). ends_in_fault rest.ending) (rests_of_bytes plan.options sources)
+  same_faults : has_fault lists ≡ list_any (λ (rest : Rest). ends_in_fault rest.ending) (asked_rests plan.options sources)
   same_faults = faults_of_rests lists ∙ ap (λ rests. list_any (λ (rest : Rest). ends_in_fault rest.ending) rests) collected.whole
 
-  is_text : has_fault lists ≡ false → IsTextOf plan facts (rests_of_bytes plan.options sources) text
+  is_text : has_fault lists ≡ false → IsTextOf plan facts (asked_rests plan.options sources) text
   is_text faultless = record {
     clean = clean_rests plan.options sources (sym same_faults ∙ faultless);
     order = order;
@@ -238,9 +214,9 @@ module _ (plan : Plan) (input : Option (List ℕ)) (files : List ℕ → Option 
   }
 
   -- what holds of the sources that were collected holds of those that are known
-  if_known : (P : List Rest → Type 0) → P (rests_of_bytes plan.options sources) → IfSome (known_rests plan input files) P
+  if_known : (P : List Rest → Type 0) → P (asked_rests plan.options sources) → IfSome (known_rests plan input files) P
   if_known P holds =
-      elim (known_rests plan input files) as (λ known. IfSome known (λ rests. rests_of_bytes plan.options sources ≡ rests) → IfSome known P) [
+      elim (known_rests plan input files) as (λ known. IfSome known (λ rests. asked_rests plan.options sources ≡ rests) → IfSome known P) [
         | None ↦ λ _. tt
         | Some rests ↦ λ same. subst P same holds
       ] (loaded_rests plan.options plan.format input files plan.files sources collected.loaded)
@@ -255,7 +231,7 @@ module _ (plan : Plan) (input : Option (List ℕ)) (files : List ℕ → Option 
 
   pub ok_shown : {T E : Type 0} (result : Result T E) (old new : Option (List ℕ)) → OnOk result (has_fault lists ≡ false) → OnOk result (Appends old new text)
       → OnOk result (IfSome (known_rests plan input files) (Shows plan (known_facts plan input files) old new))
-  ok_shown (Ok done) old new faultless appends = if_known (Shows plan (known_facts plan input files) old new) (λ _. if_facts (λ facts. (text : List ℕ) × IsTextOf plan facts (rests_of_bytes plan.options sources) text × Appends old new text) (text, is_text faultless, appends))
+  ok_shown (Ok done) old new faultless appends = if_known (Shows plan (known_facts plan input files) old new) (λ _. if_facts (λ facts. (text : List ℕ) × IsTextOf plan facts (asked_rests plan.options sources) text × Appends old new text) (text, is_text faultless, appends))
   ok_shown (Err error) old new faultless appends = tt
 
   -- the same of a text that is said in other words
@@ -263,15 +239,15 @@ module _ (plan : Plan) (input : Option (List ℕ)) (files : List ℕ → Option 
       → OnOk result (IfSome (known_rests plan input files) (Shows plan (known_facts plan input files) old new))
   ok_shown_as result old new other same faultless appends = ok_shown result old new faultless (subst (λ said. OnOk result (Appends old new said)) same appends)
 
-  not_shown : (old new : Option (List ℕ)) (failure : Failure) → FailsToShow lists text old new failure → Fails plan (known_facts plan input files) old new failure (rests_of_bytes plan.options sources)
+  not_shown : (old new : Option (List ℕ)) (failure : Failure) → FailsToShow lists text old new failure → Fails plan (known_facts plan input files) old new failure (asked_rests plan.options sources)
   not_shown old new TooManyFiles fails = tt
   not_shown old new (Unreadable source) fails = tt
   not_shown old new (TooLarge source) fails = tt
   not_shown old new OutOfMemory fails = tt
   not_shown old new NoThread fails = tt
   not_shown old new (Unfinished source) fails = tt
-  not_shown old new Faults fails = faulty_rests (rests_of_bytes plan.options sources) (sym same_faults ∙ fails.0)
-  not_shown old new (Output fault) fails = λ _. if_facts (λ facts. (text : List ℕ) × IsTextOf plan facts (rests_of_bytes plan.options sources) text × AppendsFront text old new) (text, is_text fails.0, fails.1)
+  not_shown old new Faults fails = faulty_rests (asked_rests plan.options sources) (sym same_faults ∙ fails.0)
+  not_shown old new (Output fault) fails = λ _. if_facts (λ facts. (text : List ℕ) × IsTextOf plan facts (asked_rests plan.options sources) text × AppendsFront text old new) (text, is_text fails.0, fails.1)
 
   pub err_shown : {T : Type 0} (result : Result T Failure) (old new : Option (List ℕ)) → IfErr result (FailsToShow lists text old new)
       → IfErr result (λ failure. IfSome (known_rests plan input files) (Fails plan (known_facts plan input files) old new failure))

@@ -18,7 +18,7 @@ use Rattle.command_line.specs.declared.plans.Form.{Form}
 use Rattle.command_line.specs.declared.plans.Form.TheVariants as form
 use Rattle.command_line.specs.declared.plans.Plan.{Plan}
 use Rattle.command_line.specs.declared.plans.View.{View}
-use Rattle.command_line.specs.declared.plans.View.TheVariants.{Fold, Graph, Chart, Pairs, PairBoxes, Top}
+use Rattle.command_line.specs.declared.plans.View.TheVariants.{Fold, Graph, Chart, Pairs, PairBoxes, Top, Diff}
 use Rattle.command_line.specs.declared.plans.TopTable.{TopTable}
 use Rattle.sent_views.specs.Facts.{told_whole}
 use Rattle.sent_views.specs.declared.run_facts.RunFacts.{RunFacts}
@@ -71,6 +71,7 @@ orderless_text all (Chart width) lists order every orderless = refl
 orderless_text all Pairs lists order every orderless = refl
 orderless_text all (PairBoxes width) lists order every orderless = refl
 orderless_text all (Top top) lists order every orderless = refl
+orderless_text all (Diff table) lists order every orderless = refl
 
 module _ (plan : Plan) (facts : RunFacts) (lists : List (List Sample)) (order : List ℕ) (every : Option ℕ) where
   -- the text of a view, where no page is written
@@ -101,6 +102,7 @@ module _ (plan : Plan) (facts : RunFacts) (lists : List (List Sample)) (order : 
   plainly Pairs orderless tells = refl
   plainly (PairBoxes width) orderless tells = refl
   plainly (Top top) orderless tells = ap (λ kept. top_text (cond kept None (Some facts.whole)) top (all_samples lists)) tells
+  plainly (Diff table) orderless tells = refl
 
   -- one that says what all samples weigh
   with_all : (view : View) (top : TopTable) → view ≡ Top top → is_everything plan.options.filter ≡ false → told_text (told_whole plan facts) view lists order every ≡ top_text (Some facts.whole) top (all_samples lists)

@@ -13,7 +13,7 @@ use Rattle.profile_messages.specs.SampleTypes.{all_types}
 use Rattle.profile_messages.specs.declared.types.SampleTypes.{SampleTypes}
 use Rattle.profile_tables.specs.Samples.{read_pprof, read_samples, tables_of}
 use Rattle.profile_tables.specs.Samples as pprof
-use Rattle.merging.specs.Sources.{asked_rest}
+use Rattle.source_lists.specs.Sources.{asked_rest}
 use Rattle.command_line.specs.Plans.{IsOfOneProfile}
 use Rattle.command_line.specs.declared.plans.Form.TheVariants as form
 use Rattle.command_line.specs.declared.plans.Plan.{Plan}

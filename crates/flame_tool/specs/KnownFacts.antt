@@ -1,14 +1,11 @@
 -- What is known of the sources of a run beside the samples that it shows.
-use Rattle.std.specs.Prelude.{ℕ, List, [], ◌∷◌, Option, option_map, unwrap_or, map}
+use Rattle.std.specs.Prelude.{ℕ, List, [], ◌∷◌, Option, option_map, unwrap_or}
 use Rattle.run_options.specs.Formats.{format_at}
 use Rattle.run_options.specs.declared.formats.Format.{Format}
 use Rattle.run_options.specs.declared.formats.Format.TheVariants.{Folded}
 use Rattle.run_options.specs.declared.options.Options.{Options}
-use Rattle.sample_tables.specs.Samples.{total_weight}
-use Rattle.merging.specs.Sources.{read_bytes}
-use Rattle.profile_messages.specs.declared.types.SampleType.{SampleType}
-use Rattle.source_lists.specs.Types.{type_of_bytes}
-use Rattle.merging.specs.Sums.{all_samples}
+use Rattle.source_lists.specs.Sources.{whole_weight}
+use Rattle.source_lists.specs.Types.{types_of}
 use Rattle.command_line.specs.declared.plans.Plan.{Plan}
 use Rattle.sent_views.specs.declared.run_facts.RunFacts.{RunFacts}
 use Rattle.flame_tool.specs.Requests.{all_found}
@@ -26,15 +23,7 @@ abbrev pub bytes_of : Option Format → List (List ℕ) → Option (List ℕ) �
 bytes_of asked [] input files = option_map (λ source. source ∷ []) (bytes_in asked input)
 bytes_of asked (path ∷ paths) input files = all_found (bytes_at asked files) (path ∷ paths)
 
--- what all samples of sources weigh, whatever the filter
-abbrev pub whole_weight : Options → List (Format × List ℕ) → ℕ
-whole_weight options sources =
-    total_weight (all_samples (map (λ source. (read_bytes source.0 source.1 options.pick options.naming).samples) sources))
-
--- the sample type of the weights of each
-abbrev pub types_of : Options → List (Format × List ℕ) → List SampleType
-types_of options sources = map (λ source. type_of_bytes source.0 source.1 options.pick) sources
-
+-- what all samples of sources weigh, whatever the filter, and the sample type of the weights of each
 abbrev pub facts_of : Options → List (Format × List ℕ) → RunFacts
 facts_of options sources = record { whole = whole_weight options sources; types = types_of options sources }
 

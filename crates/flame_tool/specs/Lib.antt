@@ -10,12 +10,14 @@ pub use Rattle.byte_io.specs.Inlet
 pub use Rattle.byte_io.specs.Outlet
 pub use Rattle.command_line.specs.CommandLine
 pub use Rattle.command_line.specs.Plans
+pub use Rattle.function_sums.specs.FunctionChanges
 pub use Rattle.function_sums.specs.FunctionList
 pub use Rattle.function_sums.specs.FunctionSums
+pub use Rattle.function_sums.specs.Tables
 pub use Rattle.merged_stacks.specs.Merged
 pub use Rattle.merging.specs.Gathered
 pub use Rattle.merging.specs.Snapshots
-pub use Rattle.merging.specs.Sources
+pub use Rattle.source_lists.specs.Sources
 pub use Rattle.merging.specs.Sums
 pub use Rattle.merging.specs.TreeSinkState
 pub use Rattle.opened_sources.specs.Names
@@ -29,6 +31,9 @@ pub use Rattle.sent_views.specs.Pictures
 pub use Rattle.source_views.specs.SumViews
 pub use Rattle.source_views.specs.Texts
 pub use Rattle.source_views.specs.Views
+pub use Rattle.sum_texts.specs.ChangeJson
+pub use Rattle.sum_texts.specs.ChangeTable
+pub use Rattle.sum_texts.specs.DiffTexts
 pub use Rattle.sum_texts.specs.FunctionJson
 pub use Rattle.sum_texts.specs.FunctionTable
 pub use Rattle.sum_texts.specs.TopTexts

@@ -11,7 +11,7 @@ use Rattle.run_options.specs.declared.options.Options.{Options}
 use Rattle.command_line.specs.CommandLine.{command_line}
 use Rattle.command_line.specs.Plans.{IsRequest, default_plan, fault_of, plan_of}
 use Rattle.command_line.specs.declared.plans.Plan.{Plan}
-use Rattle.merging.specs.Sources.{asked_rest}
+use Rattle.source_lists.specs.Sources.{asked_rest}
 
 -- ---- the words
 

@@ -12,7 +12,7 @@ use Rattle.command_line.specs.declared.plans.Form.{Form}
 use Rattle.command_line.specs.declared.plans.Form.TheVariants as form
 use Rattle.command_line.specs.declared.plans.Plan.{Plan}
 use Rattle.command_line.specs.declared.plans.View.{View}
-use Rattle.command_line.specs.declared.plans.View.TheVariants.{Fold, Graph, Chart, Pairs, PairBoxes, Top}
+use Rattle.command_line.specs.declared.plans.View.TheVariants.{Fold, Graph, Chart, Pairs, PairBoxes, Top, Diff}
 use Rattle.run_options.specs.Filters.{is_everything}
 use Rattle.run_options.specs.declared.filters.Filter.{Filter}
 use Rattle.view_texts.specs.Fold.{fold_text}
@@ -76,6 +76,7 @@ TellsNoWhole filter (Chart width) = Unit {0}
 TellsNoWhole filter Pairs = Unit {0}
 TellsNoWhole filter (PairBoxes width) = Unit {0}
 TellsNoWhole filter (Top top) = is_everything filter ≡ true
+TellsNoWhole filter (Diff table) = Unit {0}
 
 -- a source was read up to a fault
 abbrev pub HasFault : List Rest → Type 0

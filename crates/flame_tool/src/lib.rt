@@ -3,7 +3,6 @@
 #![tactic(auto)]
 
 mod exits;
-mod loaded_runs;
 mod program;
 mod progress;
 mod types_run;
@@ -14,9 +13,10 @@ pub use byte_io::{
     Outlet, SOURCE_LIMIT, SendFault, load, send,
 };
 pub use command_line::{Form, PageForm, PictureForm, Plan, PlanFault, TopTable, View, plan};
-pub use merging::{Gathered, Snapshot, Source, TreeSink, gather};
+pub use merging::{Gathered, Snapshot, TreeSink};
 pub use opened_sources::SOURCE_COUNT;
 pub use page_views::{Heading, PageView, Source as PageSource, render_page_data};
 pub use program::run;
 pub use run_options::{Filter, Format, FunctionOrder, Options, format_of};
+pub use source_lists::Source;
 pub use source_views::{Views, laws, render, views};

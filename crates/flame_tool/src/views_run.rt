@@ -3,29 +3,33 @@ ghost use Rattle.std.specs.Prelude.{◌≡◌, ◌≢◌, ◌≤◌, ◌<◌, �
 ghost use Rattle.std.specs.Io.KnownBytes.{Appends};
 ghost use Rattle.merged_stacks.specs.Timeline.{samples_of};
 ghost use Rattle.command_line.specs.Plans.{IsComparison};
+ghost use Rattle.command_line.specs.declared.plans.PageForm.{PageForm as AskedPage};
+ghost use Rattle.command_line.specs.declared.plans.PictureForm.{PictureForm as AskedPictureForm};
+ghost use Rattle.source_lists.specs.Types.{types_of};
 ghost use Rattle.flame_tool.specs.KnownFacts.{known_facts};
 ghost use Rattle.flame_tool.specs.Requests.{known_rests};
 ghost use Rattle.sent_views.specs.Pages.{page_text, shown_text};
 ghost use Rattle.source_views.specs.Texts.{IsOrderless};
 ghost use Rattle.flame_tool.specs.Runs.{Shows};
-ghost use Rattle.opened_sources.specs.Opening.{AreLoaded, loaded_bytes};
+ghost use Rattle.opened_sources.specs.Opening.{AreLoaded};
 ghost use Rattle.flame_tool.specs.checked.Failures.{Fails, FailsToShow, KeepsOutput};
 ghost use Rattle.opened_sources.specs.Failures.{has_fault, Flushes, Sends};
 ghost use Rattle.flame_tool.specs.checked.Forms.{IsOfView};
 
-use crate::loaded_runs::{read_loaded, told_types};
 use crate::progress::Progress;
 use byte_io::{Files, Outlet};
 use command_line::{Form, PageForm, Plan, View};
 use flame_layout::Width;
-use merging::{Gathered, SourceLists};
-use opened_sources::{Failure, Loaded, any_fault, load_sources, report_endings};
+use merging::Gathered;
+use opened_sources::{Failure, any_fault, load_sources, report_endings};
+use profile_messages::SampleType;
 use sent_views::{
     AskedPicture, RunFacts, send_asked_page, send_asked_picture, send_asked_view,
     send_graph_with_snapshots, send_snapshots,
 };
-use stack_core::Listed;
-use std::alloc::Global;
+use source_lists::{Gating, Input, SourceLists, chosen_types, read};
+use stack_core::{Listed, OpenGate};
+use std::alloc::{AllocError, Global};
 use std::sync::Wait;
 use std::thread::Threads;
 
@@ -55,10 +59,10 @@ pub(crate) fn show_views<T: Threads + Wait + Copy + Send + 'static, F: Files, W:
     ensures flushed { Flushes (W.is_flushed out.new) (W.failures out.old) (W.failures out.new)
         result }
 {
-    let loaded = load_sources(alloc, files, plan.files.get(), plan.format)?;
+    let inputs = load_sources(alloc, files, plan.files.get(), plan.format)?;
     let is_shown = !plan.is_quiet && files.is_error_terminal();
     let mut progress = Progress::new(err, plan.files.get(), is_shown);
-    let shown = show_sources(rt, alloc, plan, loaded, out, &mut progress);
+    let shown = show_sources(rt, alloc, plan, inputs, out, &mut progress);
     progress.clear();
     shown
 }
@@ -78,7 +82,8 @@ fn asked_snapshots(view: View, every: Option<u64>) -> Option<AskedSnapshots>
 {
     match view {
         View::Graph(width) => every.map(|every| AskedSnapshots { width, every }),
-        View::Fold | View::Chart(_) | View::Pairs | View::PairBoxes(_) | View::Top(_) => None,
+        View::Fold | View::Chart(_) | View::Pairs | View::PairBoxes(_) => None,
+        View::Top(_) | View::Diff(_) => None,
     }
 }
 
@@ -87,20 +92,20 @@ fn show_sources<T: Threads + Wait + Copy + Send + 'static, W: Outlet, E: Outlet>
     rt: &T,
     alloc: Global,
     plan: &Plan,
-    loaded: Loaded,
+    inputs: Vec<Input>,
     out: &mut W,
     progress: &mut Progress<'_, E>,
 ) -> Result<(), Failure>
-    requires few { length (loaded_bytes loaded) ≤ 64 }
-    requires pairs { IsComparison plan.now.view → length (loaded_bytes loaded) ≡ 2 }
+    requires few { length inputs.items ≤ 64 }
+    requires pairs { IsComparison plan.now.view → length inputs.items ≡ 2 }
     requires every { IfSome plan.now.options.every (λ every. 1 ≤ every) }
     ensures ok { (input : Option (List ℕ)) (files : List ℕ → Option (List ℕ))
-        → AreLoaded plan.now.format input files plan.now.files (loaded_bytes loaded)
+        → AreLoaded plan.now.format input files plan.now.files inputs.items
         → OnOk result (IfSome (known_rests plan.now input files)
         (Shows plan.now (known_facts plan.now input files)
         (W.contents out.old) (W.contents out.new))) }
     ensures err { (input : Option (List ℕ)) (files : List ℕ → Option (List ℕ))
-        → AreLoaded plan.now.format input files plan.now.files (loaded_bytes loaded)
+        → AreLoaded plan.now.format input files plan.now.files inputs.items
         → IfErr result (λ failure. IfSome (known_rests plan.now input files)
         (Fails plan.now (known_facts plan.now input files) (W.contents out.old) (W.contents out.new) failure)) }
     ensures kept { IfErr result (λ failure.
@@ -109,14 +114,32 @@ fn show_sources<T: Threads + Wait + Copy + Send + 'static, W: Outlet, E: Outlet>
     ensures flushed { Flushes (W.is_flushed out.new) (W.failures out.old) (W.failures out.new)
         result }
 {
-    let types = told_types(alloc, plan, &loaded)?;
-    let run = read_loaded(rt, alloc, loaded, &plan.options, progress)?;
+    let types = told_types(alloc, plan, &inputs)?;
+    let gating = Gating::<OpenGate>::Open;
+    let run = read(rt, alloc, inputs, &plan.options, gating, progress)?;
     report_endings(progress.messages(), plan.files.get(), run.kept.lists());
+    let Some(whole) = run.whole_weight else {
+        unreachable!()
+    };
     let facts = RunFacts {
-        whole: run.whole_weight,
+        whole,
         types: Listed::of(types),
     };
     send_lists(rt, alloc, run.kept, plan, &facts, out)
+}
+
+// The sample types of the weights of sources, which pages and pictures alone tell.
+fn told_types(alloc: Global, plan: &Plan, inputs: &[Input]) -> Result<Vec<SampleType>, AllocError>
+    ensures page { IfOk result (λ types. (page : AskedPage) → plan.now.form ≡ Form.Page page
+        → types.items ≡ types_of plan.now.options inputs.now) }
+    ensures picture { IfOk result (λ types. (picture : AskedPictureForm)
+        → plan.now.form ≡ Form.Picture picture
+        → types.items ≡ types_of plan.now.options inputs.now) }
+{
+    match plan.form {
+        Form::Page(_) | Form::Picture(_) => chosen_types(alloc, inputs, &plan.options),
+        Form::Text | Form::Types => Ok(Vec::new(alloc)),
+    }
 }
 
 // Sends what a plan asks for of the lists of a run, unless a source has a fault.

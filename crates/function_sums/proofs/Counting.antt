@@ -24,7 +24,7 @@ same_name a b h = (bytes_eq-Decides a b).0 h
 is_same : (a b : List ℕ) → a ≡ b → bytes_eq a b ≡ true
 is_same a b e = (bytes_eq-Decides a b).1 e
 
-or-false : (b : Bool) → (b || false) ≡ b
+pub or-false : (b : Bool) → (b || false) ≡ b
 or-false true = refl
 or-false false = refl
 

@@ -24,18 +24,24 @@ use Rattle.merged_stacks.specs.Order.{AreRising}
 use Rattle.merged_stacks.proofs.JoinedStacks.{names_distinct}
 use Rattle.flame_layout.specs.Paths.{SameOwn}
 use Rattle.flame_layout.proofs.Sums.{same_tested, same_sums}
+use Rattle.function_sums.specs.declared.changes.FunctionChange.{FunctionChange}
 use Rattle.function_sums.specs.declared.sums.FunctionSum.{FunctionSum}
 use Rattle.run_options.specs.declared.orders.FunctionOrder.{FunctionOrder as Order}
+use Rattle.function_sums.specs.FunctionChanges.{size_of, change_cmp}
 use Rattle.function_sums.specs.FunctionSums.{stands_in, ends, own_of, total_of, sums_of, weight_of, sum_cmp, AreFunctionSums}
 use Rattle.function_sums.specs.checked.Counted.{has_weight, names_with_weight}
 use Rattle.function_sums.specs.checked.Rows.{Row, row_sum}
 use Rattle.function_sums.proofs.NamesWithWeight.{each_weighs, stays, filter-apart}
+use Rattle.function_sums.proofs.OneTable.{told_alike}
 
 abbrev pub row_cmp : Row → Row → Ordering
 row_cmp a b = ordering_then (ordering_then (ordering_then (nat_cmp b.0.0 a.0.0) (slice_cmp nat_cmp a.1.now b.1.now)) (nat_cmp a.2 b.2)) (nat_cmp a.3 b.3)
 
 pub sum_total : (by : Order) → IsTotalOrder (sum_cmp by)
 sum_total by = then_total (on_total (weight_of by) (back_total nat_cmp_total)) (on_total (λ (sum : FunctionSum). sum.name) nat_list_cmp_total)
+
+pub change_total : (by : Order) → IsTotalOrder (change_cmp by)
+change_total by = then_total (on_total (size_of by) (back_total nat_cmp_total)) (on_total (λ (change : FunctionChange). change.name) nat_list_cmp_total)
 
 abbrev same : FunctionSum → FunctionSum → Bool
 same one other = bytes_eq one.name other.name
@@ -128,11 +134,8 @@ module _ (by : Order) (stacks : List Sample) (names : List (List ℕ)) (rising :
 
   -- and so it is the table of all samples with the same sums
   pub table_of : (samples : List Sample) → SameOwn samples stacks → AreFunctionSums by samples (map row_sum sorted)
-  table_of samples alike = record {
-    each = λ k d lt. table_of_stacks.each k d lt ∙ sym (sums_are (get_or (map row_sum sorted) k d).name);
-    all = λ name. ((λ there. omega (arith, (table_of_stacks.all name).0 there, total_is name)), (λ weight. (table_of_stacks.all name).1 (omega (arith, weight, total_is name))));
-    ordered = table_of_stacks.ordered;
-  }
+  table_of samples alike =
+      told_alike (sum_cmp by) (λ (sum : FunctionSum). sum.name) (sums_of stacks) (sums_of samples) (λ name. total_of name stacks) (λ name. total_of name samples) (map row_sum sorted) (λ name. sym (sums_are name)) (λ name. sym (total_is name)) table_of_stacks
     where
       own_is : (name : List ℕ) → own_of name samples ≡ own_of name stacks
       own_is name = same_tested (ends name) (length samples) samples stacks (omega arith) (same_sums samples stacks alike)

@@ -1,10 +1,12 @@
--- worked examples of the weights by function: recursion counts once, and a sample without frames or weight counts nowhere
+-- worked examples of the weights by function and of their changes: recursion counts once, and a sample without frames or weight counts nowhere
 use Rattle.std.proofs.Common.{◌≡◌, ℕ, List, [], ◌∷◌, codes, refl}
 use Rattle.std.specs.declared.cmp.Ordering.TheVariants.{Less}
 use Rattle.sample_tables.specs.declared.samples.Sample.{Sample}
 use Rattle.run_options.specs.declared.orders.FunctionOrder.TheVariants.{Own, Total}
+use Rattle.function_sums.specs.declared.changes.Change.{Change}
+use Rattle.function_sums.specs.declared.changes.FunctionChange.{FunctionChange}
 use Rattle.function_sums.specs.declared.sums.FunctionSum.{FunctionSum}
-use Rattle.function_sums.specs.FunctionList.{functions_of}
+use Rattle.function_sums.specs.FunctionList.{changes_of, functions_of}
 use Rattle.function_sums.specs.FunctionSums.{own_of, total_of, sums_of, sum_cmp}
 
 abbrev samples : List Sample
@@ -40,3 +42,36 @@ sum name own total = record { name = name; own = own; total = total }
 list_by_own : functions_of Own samples ≡ sum (codes "m") 3 5 ∷ sum (codes "f") 2 3 ∷ sum (codes "g") 1 1 ∷ []
 unfolding functions_of
 list_by_own = refl
+
+-- ---- changes
+
+abbrev old : List Sample
+old =
+    record { stack = codes "m" ∷ codes "f" ∷ []; weight = 3 } ∷
+    record { stack = codes "m" ∷ []; weight = 5 } ∷
+    record { stack = codes "g" ∷ []; weight = 4 } ∷ []
+
+abbrev new : List Sample
+new =
+    record { stack = codes "m" ∷ codes "f" ∷ []; weight = 5 } ∷
+    record { stack = codes "m" ∷ []; weight = 1 } ∷
+    record { stack = codes "h" ∷ []; weight = 2 } ∷
+    record { stack = codes "g" ∷ []; weight = 4 } ∷ []
+
+abbrev change : List ℕ → Change → Change → FunctionChange
+change name own total = record { name = name; own = own; total = total }
+
+abbrev from : ℕ → ℕ → Change
+from before after = record { before = before; after = after }
+
+-- the greatest change first, also where it is down; a function of one side, and one that does not change
+changes_by_own : changes_of Own old new
+    ≡ change (codes "m") (from 5 1) (from 8 6) ∷ change (codes "f") (from 3 5) (from 3 5) ∷ change (codes "h") (from 0 2) (from 0 2) ∷ change (codes "g") (from 4 4) (from 4 4) ∷ []
+unfolding changes_of
+changes_by_own = refl
+
+-- three changes of 2, by their names
+changes_by_total : changes_of Total old new
+    ≡ change (codes "f") (from 3 5) (from 3 5) ∷ change (codes "h") (from 0 2) (from 0 2) ∷ change (codes "m") (from 5 1) (from 8 6) ∷ change (codes "g") (from 4 4) (from 4 4) ∷ []
+unfolding changes_of
+changes_by_total = refl

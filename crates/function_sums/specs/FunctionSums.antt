@@ -1,7 +1,6 @@
 -- The weights by function: by the name that a frame has.
-use Rattle.std.specs.Prelude.{◌≡◌, ℕ, ◌<◌, ◌-◌, ◌↔◌, Bool, ◌&&◌, List, length, map, sum_by, nat_lt, All, Contains, if◌then◌else◌}
+use Rattle.std.specs.Prelude.{ℕ, ◌-◌, Bool, ◌&&◌, List, length, sum_by, nat_lt, if◌then◌else◌}
 use Rattle.std.specs.List.{list_any}
-use Rattle.std.specs.List.Sorted.{IsStrictlySortedBy}
 use Rattle.std.specs.Str.{bytes_eq}
 use Rattle.std.specs.declared.cmp.Ordering.{Ordering}
 use Rattle.std.specs.Ordering.{nat_cmp, ordering_then}
@@ -10,6 +9,7 @@ use Rattle.sample_tables.specs.declared.samples.Sample.{Sample}
 use Rattle.sample_tables.specs.Rows.{name_at}
 use Rattle.merged_stacks.specs.Timeline.{Stack}
 use Rattle.function_sums.specs.declared.sums.FunctionSum.{FunctionSum}
+use Rattle.function_sums.specs.Tables.{IsTable}
 use Rattle.run_options.specs.declared.orders.FunctionOrder.{FunctionOrder as Order}
 use Rattle.run_options.specs.declared.orders.FunctionOrder.TheVariants.{Own, Total}
 
@@ -40,7 +40,5 @@ abbrev pub sum_cmp : Order → FunctionSum → FunctionSum → Ordering
 sum_cmp by one other = ordering_then (nat_cmp (weight_of by other) (weight_of by one)) (slice_cmp nat_cmp one.name other.name)
 
 -- the table of the functions: the sums of each name that stands in a sample with weight, in order
-pub record AreFunctionSums (by : Order) (samples : List Sample) (sums : List FunctionSum) : Type 0 where
-  pub each : All (λ sum. sum ≡ sums_of samples sum.name) sums
-  pub all : (name : List ℕ) → Contains (map (λ sum. sum.name) sums) name ↔ (0 < total_of name samples)
-  pub ordered : IsStrictlySortedBy (sum_cmp by) sums
+abbrev pub AreFunctionSums : Order → List Sample → List FunctionSum → Type 0
+AreFunctionSums by samples = IsTable (sum_cmp by) (λ sum. sum.name) (sums_of samples) (λ name. total_of name samples)

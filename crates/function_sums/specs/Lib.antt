@@ -1,3 +1,5 @@
+pub mod FunctionChanges
 pub mod FunctionList
 pub mod FunctionSums
+pub mod Tables
 pub mod checked

@@ -1,3 +1,4 @@
 -- Definitions that no contract of a public function cites. The proofs use them; a reader need not believe them.
 pub mod Counted
 pub mod Rows
+pub mod Sides

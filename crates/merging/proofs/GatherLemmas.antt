@@ -28,7 +28,8 @@ use Rattle.flame_layout.proofs.TreeSamples.{entries_named, path_in}
 use Rattle.merging.specs.declared.snapshots.Snapshot.{Snapshot}
 use Rattle.merging.specs.Sums.{all_samples, HasSumsOf, IsDrawable}
 use Rattle.merging.specs.Snapshots.{samples_of_pairs, first_samples, first_lists, snapshot_samples, IsSnapshot, AreSnapshots}
-use Rattle.merging.specs.Gathered.{AreLimited, IsGathered}
+use Rattle.merging.specs.Gathered.{IsGathered}
+use Rattle.source_lists.specs.Lists.{AreLimited}
 use Rattle.source_lists.proofs.ListLemmas.{AreSmall, depths_small, lists_small, total_fits}
 pub use Rattle.source_lists.proofs.ListLemmas.{timeline_weight}
 use Rattle.merging.specs.TreeSinkState.{TreeSinkState}

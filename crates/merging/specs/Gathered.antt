@@ -7,7 +7,7 @@ use Rattle.merged_stacks.specs.Timeline.{samples_of}
 use Rattle.merging.specs.declared.snapshots.Snapshot.{Snapshot}
 use Rattle.merging.specs.Snapshots.{snapshot_samples, AreSnapshots}
 use Rattle.merging.specs.Sums.{all_samples, HasSumsOf}
-pub use Rattle.source_lists.specs.Lists.{ListsState, AreLimited, AreOrdered}
+use Rattle.source_lists.specs.Lists.{AreLimited}
 
 -- the lists, the order in which their samples came, and what was merged of them meanwhile
 pub record GatheredState : Type 0 where

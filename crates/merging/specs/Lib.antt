@@ -4,5 +4,3 @@ pub mod Snapshots
 pub mod Sums
 pub mod TreeSinkState
 pub mod checked
-pub use Rattle.source_lists.specs.Sources
-pub use Rattle.source_lists.specs.WholeRuns

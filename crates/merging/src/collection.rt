@@ -1,28 +1,21 @@
 //! What a run collected, merged.
 
-ghost use Rattle.std.specs.Prelude.{◌≡◌, ◌≤◌, ◌<◌, ℕ, All, IfOk, IfSome, IsErrOf, length};
-ghost use Rattle.std.specs.Arc.{arc_value};
+ghost use Rattle.std.specs.Prelude.{◌≡◌, ◌≤◌, ℕ, All, IfOk, IfSome};
 ghost use Rattle.stack_core.specs.Interleaving.{IsInterleaving};
 ghost use Rattle.call_tree.specs.FrameTable.{HasDistinctNames};
-ghost use Rattle.ring_collect.specs.Collection.{Collects, AreWhole};
 ghost use Rattle.merged_stacks.specs.Timeline.{samples_of};
-ghost use Rattle.source_lists.specs.Sources.{rests_of};
 ghost use Rattle.merging.specs.Snapshots.{snapshot_samples, AreSnapshots};
 ghost use Rattle.merging.specs.Sums.{all_samples, HasSumsOf, IsDrawable};
-ghost use Rattle.merging.specs.Gathered.{AreLimited, IsGathered};
+ghost use Rattle.source_lists.specs.Lists.{AreLimited};
 
 use crate::list_samples::feed_lists;
 use crate::snapshots::Snapshot;
 use crate::tree_sink::TreeSink;
 use call_tree::{CallTree, FrameTable};
-use ring_collect::CollectFault;
-use run_options::Options;
-use source_lists::{Source, SourceLists, read_sources};
-use stack_core::{Gate, SourceList};
+use source_lists::SourceLists;
+use stack_core::SourceList;
 use std::alloc::{AllocError, Global};
 use std::marker::Model;
-use std::sync::{Arc, Wait};
-use std::thread::Threads;
 
 /// What a run collected and merged: the lists, the order, the tree and the snapshots, without boxes. No
 /// call takes memory.
@@ -132,45 +125,4 @@ impl Gathered {
     {
         self.sink.snapshots()
     }
-}
-
-/// Reads and collects all sources at the same time, each in a thread of its own and through a ring of
-/// its own, and merges their samples as they arrive: the lists, the order, the tree and the snapshots of
-/// a run, without boxes. At most 64 sources.
-///
-/// The gate is asked before each sample of a source. Where it says Stop, the source's list has the
-/// samples before, and the ending `Stopped`.
-pub fn gather<T: Threads + Wait + Copy + Send + 'static, G: Gate + Send + Sync + Drop + 'static>(
-    rt: &T,
-    alloc: Global,
-    sources: Vec<Source>,
-    options: &Options,
-    gate: Arc<G>,
-) -> Result<Gathered, CollectFault>
-    requires sources { length sources.items ≤ 64 }
-    requires every { IfSome options.now.every (λ every. 1 ≤ every) }
-
-    // Each list is the samples that the source's bytes stand for: all of them, or the first ones
-    // where the gate stopped the source.
-    ensures collected_lists { IfOk result (λ gathered.
-        Collects (G.may_stop (arc_value gate)) (G.may_go (arc_value gate))
-        (rests_of options.now sources.items) gathered.lists) }
-    ensures whole_lists { ((source index : ℕ) → G.may_stop (arc_value gate) source index → ⊥)
-        → IfOk result (λ gathered. AreWhole (rests_of options.now sources.items) gathered.lists) }
-
-    // What was merged is their samples, and each snapshot the first of them.
-    ensures merged_totals { IfOk result (λ gathered.
-        HasSumsOf gathered.names gathered.tree (all_samples (samples_of gathered.lists))) }
-    ensures order { IfOk result (λ gathered.
-        IsInterleaving gathered.order (samples_of gathered.lists)) }
-    ensures snapshots { IfOk result (λ gathered.
-        AreSnapshots options.now.every gathered.names gathered.order
-        (λ m. snapshot_samples m gathered.order (samples_of gathered.lists)) gathered.snapshots) }
-    ensures every { IfOk result (λ gathered. gathered.every ≡ options.now.every) }
-
-    ensures refused { (source : ℕ) → IsErrOf result (CollectFault.Unfinished source)
-        → source < length sources.items }
-{
-    let sources = read_sources(rt, alloc, sources, options, gate)?;
-    Ok(Gathered::of_lists(alloc, sources, options.every)?)
 }

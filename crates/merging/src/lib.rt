@@ -9,9 +9,6 @@ mod taken_rows;
 mod tally;
 mod tree_sink;
 
-pub use collection::{Gathered, gather};
+pub use collection::Gathered;
 pub use snapshots::Snapshot;
-pub use source_lists::{
-    Source, SourceLists, WholeRun, read_in_parts, read_sources, read_text, read_whole_sources,
-};
 pub use tree_sink::TreeSink;

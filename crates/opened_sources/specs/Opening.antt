@@ -1,21 +1,9 @@
 -- What is loaded for the paths of a run.
-use Rattle.std.specs.Prelude.{◌≡◌, ℕ, List, [], ◌∷◌, Option, IfSome, map, unwrap_or}
+use Rattle.std.specs.Prelude.{◌≡◌, ℕ, List, [], ◌∷◌, Option, IfSome, unwrap_or}
 use Rattle.std.specs.List.{AllZip}
 use Rattle.run_options.specs.Formats.{format_at}
 use Rattle.run_options.specs.declared.formats.Format.{Format}
 use Rattle.run_options.specs.declared.formats.Format.TheVariants.{Folded}
-use Rattle.source_lists.specs.Sources.{joined_pieces}
-use Rattle.source_lists.specs.declared.sources.Source.{Source}
-use Rattle.opened_sources.specs.declared.loaded.Loaded.{Loaded}
-use Rattle.opened_sources.specs.declared.loaded.Loaded.TheVariants.{Sources, Text}
-
-abbrev pub format_and_bytes : Source → Format × List ℕ
-format_and_bytes source = (source.format, source.bytes.items)
-
--- the same of each source that is loaded
-abbrev pub loaded_bytes : Loaded → List (Format × List ℕ)
-loaded_bytes (Sources sources) = map format_and_bytes sources.items
-loaded_bytes (Text pieces) = (Folded, joined_pieces pieces.items) ∷ []
 
 -- one source, by its format and its bytes: the input, which is folded text unless another format was asked for
 abbrev pub IsLoadedInput : Option Format → List (Format × List ℕ) → List ℕ → Type 0
@@ -33,11 +21,3 @@ IsLoaded asked files path source =
 abbrev pub AreLoaded : Option Format → Option (List ℕ) → (List ℕ → Option (List ℕ)) → List (List ℕ) → List (Format × List ℕ) → Type 0
 AreLoaded asked input files [] sources = IfSome input (IsLoadedInput asked sources)
 AreLoaded asked input files (path ∷ paths) sources = AllZip (IsLoaded asked files) (path ∷ paths) sources
-
--- the source of a path
-abbrev pub IsOpened : Option Format → (List ℕ → Option (List ℕ)) → List ℕ → Source → Type 0
-IsOpened asked files path source = IsLoaded asked files path (format_and_bytes source)
-
--- the source of each path, in order, or the input where there is no path
-abbrev pub AreOpened : Option Format → Option (List ℕ) → (List ℕ → Option (List ℕ)) → List (List ℕ) → List Source → Type 0
-AreOpened asked input files paths sources = AreLoaded asked input files paths (map format_and_bytes sources)

@@ -10,6 +10,6 @@ mod source_files;
 
 pub use endings::{any_fault, report_endings};
 pub use failures::Failure;
-pub use loaded::{Loaded, load_sources};
+pub use loaded::load_sources;
 pub use messages::{path_of, report_awaited_input, report_ending, report_failure};
-pub use source_files::{SOURCE_COUNT, open_named, open_sources};
+pub use source_files::{SOURCE_COUNT, open_named};

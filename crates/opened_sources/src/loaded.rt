@@ -1,45 +1,47 @@
-//! The sources of a run as they are loaded.
+//! The sources of a run, loaded.
 ghost use Rattle.std.specs.Prelude.{◌≡◌, ◌≢◌, ◌≤◌, ℕ, List, Option, [], ◌∷◌, IfErr, IfOk, IfSome, length, map, string_bytes};
 ghost use Rattle.run_options.specs.declared.formats.Format.TheVariants.{Folded as IsFolded};
 ghost use Rattle.source_lists.specs.Sources.{joined_pieces};
 ghost use Rattle.opened_sources.specs.Failures.{IsOpening};
-ghost use Rattle.opened_sources.specs.Opening.{AreLoaded, loaded_bytes};
+ghost use Rattle.opened_sources.specs.Opening.{AreLoaded};
 
 use crate::failures::Failure;
 use crate::source_files::open_sources;
 use byte_io::Files;
 use run_options::{Format, format_of};
-use source_lists::Source;
-use std::alloc::Global;
+use source_lists::Input;
+use std::alloc::{AllocError, Global};
 
-/// What is loaded for a run.
-#[derive(Drop)]
-pub enum Loaded {
-    /// Sources, each with its bytes in one vector.
-    Sources(Vec<Source>),
-    /// The only source, a long folded text: its pieces, one after another.
-    Text(Vec<Vec<u8>>),
-}
-
-/// As `open_sources`, but a long folded text that comes alone is loaded by several threads at the same time, a piece each.
+/// The sources of these paths, in order, or the input where there is none. The first that fails ends it. All have the format that was
+/// asked for, or each that of its name. A long folded text that comes alone is loaded by several threads at the same time, a piece each.
 pub fn load_sources<F: Files>(
     alloc: Global,
     files: &mut F,
     paths: &[String],
     asked: Option<Format>,
-) -> Result<Loaded, Failure>
-    ensures few { IfOk result (λ loaded. length (loaded_bytes loaded) ≤ 64) }
-    ensures count { IfOk result (λ loaded.
-        length paths.now ≡ 2 → length (loaded_bytes loaded) ≡ 2) }
-    ensures loaded { IfOk result (λ loaded. AreLoaded asked (F.known_input files.old)
-        (F.known_file files.old) (map string_bytes paths.now) (loaded_bytes loaded)) }
+) -> Result<Vec<Input>, Failure>
+    ensures few { IfOk result (λ inputs. length inputs.items ≤ 64) }
+    ensures count { IfOk result (λ inputs.
+        length paths.now ≡ 2 → length inputs.items ≡ 2) }
+    ensures loaded { IfOk result (λ inputs. AreLoaded asked (F.known_input files.old)
+        (F.known_file files.old) (map string_bytes paths.now) inputs.items) }
     ensures err { IfErr result (IsOpening (length paths.now)) }
     ensures within { result ≢ Err Failure.TooManyFiles → length paths.now ≤ 64 }
 {
     match long_text(alloc, files, paths, asked) {
-        Some(pieces) => Ok(Loaded::Text(pieces)),
-        None => Ok(Loaded::Sources(open_sources(alloc, files, paths, asked)?)),
+        Some(pieces) => Ok(text_alone(alloc, pieces)?),
+        None => open_sources(alloc, files, paths, asked),
     }
+}
+
+// The only source, a text in pieces.
+fn text_alone(alloc: Global, pieces: Vec<Vec<u8>>) -> Result<Vec<Input>, AllocError>
+    ensures { IfOk result (λ inputs.
+        inputs.items ≡ (IsFolded, joined_pieces pieces.items) ∷ []) }
+{
+    let mut inputs = Vec::new(alloc);
+    inputs.push(Input::of_text(alloc, pieces)?)?;
+    Ok(inputs)
 }
 
 // The pieces of the only file, if it is a long folded text.

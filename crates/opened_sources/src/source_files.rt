@@ -1,46 +1,47 @@
-//! The sources of a run, loaded.
-ghost use Rattle.std.specs.Prelude.{◌≡◌, ◌≢◌, ◌≤◌, [], ◌∷◌, ◌++◌, IfOk, IfErr, IfSome, OnOk, length, map, string_bytes};
-ghost use Rattle.opened_sources.specs.Opening.{AreOpened, IsLoadedInput, IsOpened, format_and_bytes};
+//! The sources of a run as files that are opened one after another.
+ghost use Rattle.std.specs.Prelude.{◌≡◌, ◌≢◌, ◌≤◌, ℕ, List, [], ◌∷◌, ◌++◌, IfOk, IfErr, IfSome, OnOk, length, map, string_bytes};
+ghost use Rattle.run_options.specs.declared.formats.Format.{Format as SourceFormat};
+ghost use Rattle.source_lists.specs.Sources.{format_and_bytes};
+ghost use Rattle.opened_sources.specs.Opening.{AreLoaded, IsLoaded, IsLoadedInput};
 ghost use Rattle.opened_sources.specs.Failures.{IsOfLoad, IsOpening};
 
 use crate::failures::Failure;
 use byte_io::Files;
 use run_options::{Format, format_of};
-use source_lists::Source;
+use source_lists::{Input, Source};
 use std::alloc::{AllocError, Global};
 
 /// The most sources of a run.
 pub const SOURCE_COUNT: usize = 64;
 
-/// The sources of these paths, in order, or the input where there is none. The first that fails ends
-/// it. All have the format that was asked for, or each that of its name.
-pub fn open_sources<F: Files>(
+/// The sources of these paths or of the input, as `load_sources` has them, each loaded whole.
+pub(crate) fn open_sources<F: Files>(
     alloc: Global,
     files: &mut F,
     paths: &[String],
     asked: Option<Format>,
-) -> Result<Vec<Source>, Failure>
-    ensures few { IfOk result (λ sources. length sources.items ≤ 64) }
-    ensures count { IfOk result (λ sources.
-        length paths.now ≡ 2 → length sources.items ≡ 2) }
-    ensures opened { IfOk result (λ sources. AreOpened asked (F.known_input files.old)
-        (F.known_file files.old) (map string_bytes paths.now) sources.items) }
+) -> Result<Vec<Input>, Failure>
+    ensures few { IfOk result (λ inputs. length inputs.items ≤ 64) }
+    ensures count { IfOk result (λ inputs.
+        length paths.now ≡ 2 → length inputs.items ≡ 2) }
+    ensures loaded { IfOk result (λ inputs. AreLoaded asked (F.known_input files.old)
+        (F.known_file files.old) (map string_bytes paths.now) inputs.items) }
     ensures err { IfErr result (IsOpening (length paths.now)) }
     ensures within { result ≢ Err Failure.TooManyFiles → length paths.now ≤ 64 }
 {
     if paths.len() > SOURCE_COUNT {
         return Err(Failure::TooManyFiles);
     }
-    let mut sources = Vec::new(alloc);
+    let mut inputs = Vec::new(alloc);
     if paths.is_empty() {
-        add_source(&mut sources, input(alloc, files, asked)?)?;
-        return Ok(sources);
+        add_source(alloc, &mut inputs, input(alloc, files, asked)?)?;
+        return Ok(inputs);
     }
     files.prefetch(alloc, paths);
     for path in paths {
-        add_named(alloc, files, path, asked, &mut sources)?;
+        add_named(alloc, files, path, asked, &mut inputs)?;
     }
-    Ok(sources)
+    Ok(inputs)
 }
 
 // Adds the source of the path after those that were opened. Where it is not loaded, it is blamed, by its place.
@@ -49,23 +50,23 @@ fn add_named<F: Files>(
     files: &mut F,
     path: &str,
     asked: Option<Format>,
-    sources: &mut Vec<Source>,
+    inputs: &mut Vec<Input>,
 ) -> Result<(), Failure>
-    ensures opened { OnOk result ((source : Source)
-        × (sources.new.items ≡ sources.old.items ++ source ∷ [])
-        × IsOpened asked (F.known_file files.old) path.now source) }
+    ensures loaded { OnOk result ((source : SourceFormat × List ℕ)
+        × (inputs.new.items ≡ inputs.old.items ++ source ∷ [])
+        × IsLoaded asked (F.known_file files.old) path.now source) }
     ensures files { F.known_file files.new ≡ F.known_file files.old }
-    ensures err { IfErr result (IsOfLoad (length sources.old.items)) }
+    ensures err { IfErr result (IsOfLoad (length inputs.old.items)) }
 {
-    let source = open_named(alloc, files, sources.len(), path, asked)?;
-    add_source(sources, source)?;
+    let source = open_named(alloc, files, inputs.len(), path, asked)?;
+    add_source(alloc, inputs, source)?;
     Ok(())
 }
 
-fn add_source(sources: &mut Vec<Source>, source: Source) -> Result<(), AllocError>
-    ensures { OnOk result (sources.new.items ≡ sources.old.items ++ source ∷ []) }
+fn add_source(alloc: Global, inputs: &mut Vec<Input>, source: Source) -> Result<(), AllocError>
+    ensures { OnOk result (inputs.new.items ≡ inputs.old.items ++ format_and_bytes source ∷ []) }
 {
-    sources.push(source)?;
+    inputs.push(Input::of(alloc, source)?)?;
     Ok(())
 }
 
@@ -92,7 +93,8 @@ pub fn open_named<F: Files>(
     path: &str,
     asked: Option<Format>,
 ) -> Result<Source, Failure>
-    ensures opened { IfOk result (IsOpened asked (F.known_file files.old) path.now) }
+    ensures opened { IfOk result (λ source.
+        IsLoaded asked (F.known_file files.old) path.now (format_and_bytes source)) }
     ensures files { F.known_file files.new ≡ F.known_file files.old }
     ensures err { IfErr result (IsOfLoad at) }
 {

@@ -9,11 +9,10 @@ pub(crate) const HEAD: [&str; 4] = [
     document::elements::TEXT,
 ];
 
-pub(crate) const TAIL: [&str; 32] = [
+pub(crate) const TAIL: [&str; 35] = [
     document::data_end::TEXT,
     scripts::rows::TEXT,
     scripts::drawing::TEXT,
-    scripts::address::TEXT,
     scripts::names::TEXT,
     scripts::units::TEXT,
     scripts::data::TEXT,
@@ -24,6 +23,7 @@ pub(crate) const TAIL: [&str; 32] = [
     scripts::places::TEXT,
     scripts::describe::TEXT,
     scripts::focus::TEXT,
+    scripts::lists::TEXT,
     scripts::lettering::TEXT,
     scripts::colours::TEXT,
     scripts::search::TEXT,
@@ -33,11 +33,14 @@ pub(crate) const TAIL: [&str; 32] = [
     scripts::svg::TEXT,
     scripts::saving::TEXT,
     scripts::listening::TEXT,
+    scripts::address::TEXT,
+    scripts::sums::TEXT,
+    scripts::view::TEXT,
     scripts::functions::TEXT,
     scripts::lanes::TEXT,
+    scripts::short::TEXT,
     scripts::stage::TEXT,
     scripts::tip::TEXT,
-    scripts::view::TEXT,
     scripts::tools::TEXT,
     scripts::viewer::TEXT,
     scripts::main::TEXT,

@@ -11,8 +11,8 @@ ghost use Rattle.page_views.specs.Pages.{chart_page, graph_page, heading_of, pla
 use crate::headings::Heading;
 use byte_io::{Outlet, PieceFault};
 use flame_layout::{DrawnBox, MergedStacks, draw_chart, draw_merged};
-use merging::SourceLists;
 use page_texts::send_page;
+use source_lists::SourceLists;
 use std::alloc::Global;
 
 /// Sends the page of the flame graph of all samples, as `send_page` does.

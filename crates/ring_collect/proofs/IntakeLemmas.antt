@@ -1,6 +1,8 @@
 -- What is tracked of a source, one record more.
 use Rattle.std.proofs.Common.{◌≡◌, ◌≢◌, ℕ, List, [], ◌∷◌, ◌++◌, length, map, refl, sym, ap, subst, ◌∙◌, append-nil, append_assoc, Option, None, inl, inr}
 use Rattle.std.proofs.lemmas.List.{map-append}
+use Rattle.std.proofs.lemmas.List.Elements.{recursion_from_All}
+use Rattle.std.specs.List.{AllByRecursion}
 use Rattle.stack_core.specs.Ledgers.{LedgerState}
 use Rattle.stack_core.specs.Records.{stands_for, names_told, stacks_told, IsWellToldAfter}
 use Rattle.stack_core.proofs.RecordLemmas.{stands_for-append, names_told-append, stacks_told-append, IsWellTold-append, IsWellTold-front, IsWellTold-back}
@@ -10,10 +12,17 @@ use Rattle.stack_core.specs.declared.endings.Item.TheVariants as item
 use Rattle.stack_core.specs.declared.records.RingRecord.{RingRecord}
 use Rattle.stack_core.specs.declared.records.RingRecord.TheVariants.{Name, Row, Again, Close as CloseRecord}
 use Rattle.ring_collect.specs.declared.intakes.Stage.TheVariants as stage
-use Rattle.ring_collect.specs.checked.Records.{TakesRecord, RecordTaken, RecordRefused, RecordUnnamed, IsNamed, samples_in, ledger_after, close_after}
-use Rattle.ring_collect.specs.checked.Intakes.{Tracked, HoldsAll, GainsMore, close_items}
+use Rattle.stack_core.specs.Interleaving.{sources_of}
+use Rattle.ring_collect.specs.checked.Batches.{records_in, close_after_batch}
+use Rattle.ring_collect.specs.checked.Records.{TakesRecord, RecordTaken, RecordRefused, RecordUnnamed, IsNamed, samples_in, ledger_after, close_after, of_one}
+use Rattle.ring_collect.specs.checked.Rings.{IsGathered, IsLimitedBatch}
+use Rattle.ring_collect.specs.checked.Intakes.{Brings, Tracked, HoldsAll, GainsMore, close_items}
+use Rattle.ring_collect.specs.declared.intakes.Intake.{Intake}
+use Rattle.ring_collect.specs.declared.batches.Batch.{Batch}
+use Rattle.ring_collect.specs.declared.batches.Batch.TheVariants.{One, Many}
 use Rattle.ring_collect.specs.declared.intakes.Stage.{Stage}
 use Rattle.ring_collect.specs.declared.intakes.Stage.TheVariants.{Taking, Unnamed}
+use Rattle.ring_collect.proofs.BatchLemmas.{gathered_open}
 
 dropping≢taking : stage.Dropping ≢ Taking
 dropping≢taking e = cc
@@ -51,6 +60,21 @@ tracked_dropped {records} {list = list} one other same_unnamed tracked = record 
   holds = λ e. absurd (other e);
   unnamed = λ e well. tracked.unnamed (same_unnamed e) (IsWellTold-front records (one ∷ []) well);
 }
+
+-- and so is a batch
+pub batch_dropped : {records : List RingRecord} {ledger ledger' : LedgerState} {stage stage' : Stage} {list : List Sample} (batch : Batch) → IsLimitedBatch batch → stage' ≢ Taking → (stage' ≡ Unnamed → stage ≡ Unnamed)
+    → Tracked records None ledger stage list → Tracked (records ++ records_in batch) (close_after_batch None batch) ledger' stage' list
+batch_dropped (One one) limited other same_unnamed tracked = tracked_dropped one other same_unnamed tracked
+batch_dropped {records} {ledger} {ledger'} {stage} {stage'} {list} (Many more) limited other same_unnamed tracked =
+    by_cases records more (recursion_from_All IsGathered more limited)
+    (record { samples = tracked.samples; stands = tracked.stands; first = tracked.first; holds = λ e. absurd (other e); unnamed = λ e. tracked.unnamed (same_unnamed e) })
+  where
+    by_cases : (before more : List RingRecord) → AllByRecursion IsGathered more → Tracked before None ledger' stage' list → Tracked (before ++ more) None ledger' stage' list
+    by_cases before [] gathered tracked = subst (λ all. Tracked all None ledger' stage' list) (sym (append-nil before)) tracked
+    by_cases before (one ∷ more) gathered tracked =
+        subst (λ all. Tracked all None ledger' stage' list) (append_assoc before (one ∷ []) more)
+        (by_cases (before ++ one ∷ []) more gathered.1
+        (subst (λ close. Tracked (before ++ one ∷ []) close ledger' stage' list) (gathered_open None one gathered.0) (tracked_dropped one other (λ e. e) tracked)))
 
 module _ {records : List RingRecord} {ledger : LedgerState} {samples list : List Sample} (holds : HoldsAll records ledger samples list) (one : RingRecord) where
   same_samples_in : samples_in ledger.told ledger.stacks one ≡ samples_in (names_told records) (stacks_told records) one
@@ -190,3 +214,45 @@ module _ {source : ℕ} {one : RingRecord} {records : List RingRecord} {ledger l
 pub more_weaker : {source : ℕ} {tracks : List Sample → Type 0} {list : List Sample} {taken taken' : List (ℕ × Sample)} {order order' : List ℕ} {well well' : Type 0}
     → (well' → well) → GainsMore source tracks list taken taken' order order' well → GainsMore source tracks list taken taken' order order' well'
 more_weaker f gained = record { more = gained.more; tracked = gained.tracked; gains = gained.gains; ordered = λ h. gained.ordered (f h) }
+
+-- what a record notes of the close
+pub takes_close : {source : ℕ} {one : RingRecord} {ledger ledger' : LedgerState} {close close' : Option Close} {taken taken' : List (ℕ × Sample)} {order order' : List ℕ} {stage : Stage}
+    → TakesRecord source one ledger ledger' close close' taken taken' order order' stage → close' ≡ close_after close one
+takes_close (RecordTaken is named ledger_is close_is gains ordered) = close_is
+takes_close (RecordRefused is close_is gains) = close_is
+takes_close (RecordUnnamed is unnamed close_is taken_is order_is) = close_is
+
+-- the sink has some samples more, and then some more
+pub gains_on : {source : ℕ} {tracks tracks' : List Sample → Type 0} {list : List Sample} {taken taken' taken'' : List (ℕ × Sample)} {order order' order'' : List ℕ} {well well' : Type 0}
+    (first : GainsMore source tracks list taken taken' order order' well) → (well' → well) → GainsMore source tracks' (list ++ first.more) taken' taken'' order' order'' well'
+    → GainsMore source tracks' list taken taken'' order order'' well'
+gains_on {source} {tracks' = tracks'} {list = list} {taken = taken} {order = order} first still second = record {
+  more = first.more ++ second.more;
+  tracked = subst tracks' (append_assoc list first.more second.more) second.tracked;
+  gains = second.gains ∙ ap (λ pairs. pairs ++ of_one source second.more) first.gains ∙ append_assoc taken (of_one source first.more) (of_one source second.more)
+      ∙ ap (λ pairs. taken ++ pairs) (sym both);
+  ordered = λ well. second.ordered well ∙ ap (λ sources. sources ++ sources_of (of_one source second.more)) (first.ordered (still well))
+      ∙ append_assoc order (sources_of (of_one source first.more)) (sources_of (of_one source second.more))
+      ∙ ap (λ sources. order ++ sources) (sym (ap sources_of both ∙ map-append (λ pair. pair.0) (of_one source first.more) (of_one source second.more)));
+}
+  where
+    both : of_one source (first.more ++ second.more) ≡ of_one source first.more ++ of_one source second.more
+    both = map-append (λ sample. (source, sample)) first.more second.more
+
+-- no record brings nothing
+pub brings_nothing : {taken : List (ℕ × Sample)} {order : List ℕ} (intake : Intake) → intake.close ≡ None → Brings [] intake intake taken taken order order
+brings_nothing intake unclosed = λ before list tracked.
+    nothing_more {tracks = Tracked (before ++ []) intake.close intake.ledger intake.stage}
+    (subst (λ records. Tracked records intake.close intake.ledger intake.stage list) (sym (append-nil before)) (along_close unclosed tracked))
+
+-- one record more
+pub brings_on : {taken taken' taken'' : List (ℕ × Sample)} {order order' order'' : List ℕ} (old mid new : Intake) (records : List RingRecord) (one : RingRecord)
+    → mid.number ≡ old.number → mid.close ≡ None → (mid.stage ≡ stage.Dropping → new.stage ≡ stage.Dropping)
+    → Brings records old mid taken taken' order order' → Brings (one ∷ []) mid new taken' taken'' order' order'' → Brings (records ++ one ∷ []) old new taken taken'' order order''
+brings_on {taken' = taken'} {taken''} {order' = order'} {order''} old mid new records one number unclosed dropping first second = λ before list tracked.
+    let gained = first before list tracked in
+    let tracked_mid = subst (λ close. Tracked (before ++ records) close mid.ledger mid.stage (list ++ gained.more)) unclosed gained.tracked in
+    gains_on gained (λ well is. well (dropping is))
+    (subst (λ n. GainsMore n (Tracked (before ++ (records ++ one ∷ [])) new.close new.ledger new.stage) (list ++ gained.more) taken' taken'' order' order'' (new.stage ≢ stage.Dropping)) number
+    (subst (λ all. GainsMore mid.number (Tracked all new.close new.ledger new.stage) (list ++ gained.more) taken' taken'' order' order'' (new.stage ≢ stage.Dropping)) (append_assoc before records (one ∷ []))
+    (second (before ++ records) (list ++ gained.more) tracked_mid)))

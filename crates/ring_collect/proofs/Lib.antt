@@ -1,3 +1,4 @@
+pub mod BatchLemmas
 pub mod CollectionLemmas
 pub mod IntakeLemmas
 pub mod LedgerLemmas

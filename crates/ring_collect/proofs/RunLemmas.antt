@@ -11,7 +11,8 @@ use Rattle.stack_core.specs.Interleaving.{list_of, of_source}
 use Rattle.stack_core.specs.Prefixes.{IsPrefixOf}
 use Rattle.stack_core.proofs.InterleavingLemmas.{of_source_at, of_source_past}
 use Rattle.sample_tables.specs.declared.samples.Sample.{Sample}
-use Rattle.ring_collect.specs.checked.Intakes.{Tracked}
+use Rattle.ring_collect.specs.checked.Batches.{records_of_all}
+use Rattle.ring_collect.specs.checked.Intakes.{Tracked, Tracks}
 use Rattle.ring_collect.specs.checked.Rounds.{HasGained}
 use Rattle.ring_collect.specs.checked.RunningSources.{ArePromised, IsFresh, AreFresh}
 use Rattle.ring_collect.specs.checked.Settlement.{IsSettledAs, IsAllTold, AreSettled}
@@ -26,7 +27,6 @@ use Rattle.ring_collect.specs.declared.intakes.Intake.{Intake}
 use Rattle.ring_collect.specs.declared.intakes.Stage.{Stage}
 use Rattle.ring_collect.specs.declared.intakes.Stage.TheVariants.{Taking, Dropping, Unnamed}
 use Rattle.ring_collect.specs.declared.running_sources.RunningSource.{RunningSource}
-use Rattle.rtrb.specs.Ring.{received}
 
 taking≢dropping : Taking ≢ Dropping
 taking≢dropping e = cc
@@ -54,9 +54,9 @@ nothing_tracked = record {
   unnamed = λ e. absurd (taking≢unnamed e);
 }
 
-fresh_tracked : {source : ℕ} (intake : Intake) → IsFresh source intake → Tracked (received intake.consumer) intake.close intake.ledger intake.stage []
+fresh_tracked : {source : ℕ} (intake : Intake) → IsFresh source intake → Tracks intake []
 fresh_tracked intake fresh =
-    subst (λ records. Tracked records intake.close intake.ledger intake.stage []) (sym fresh.received_nothing)
+    subst (λ batches. Tracked (records_of_all batches) intake.close intake.ledger intake.stage []) (sym fresh.received_nothing)
     (subst (λ close. Tracked [] close intake.ledger intake.stage []) (sym fresh.close)
     (subst (λ ledger. Tracked [] None ledger intake.stage []) (sym fresh.ledger)
     (subst (λ stage. Tracked [] None (record { samples = []; close = None; told = []; rows = []; stacks = []; entries = [] }) stage []) (sym fresh.stage) nothing_tracked)))
@@ -72,7 +72,7 @@ fresh_gained start intakes refused fresh = record {
   ordered = λ _. refl;
   each = λ source intake is.
       let one = fresh.each source intake is in
-      record { number = one.number; tracks = subst (Tracked (received intake.consumer) intake.close intake.ledger intake.stage) (sym (no_lists intakes source)) (fresh_tracked intake one) };
+      record { number = one.number; tracks = subst (Tracks intake) (sym (no_lists intakes source)) (fresh_tracked intake one) };
   going = λ e source intake is dropping. taking≢dropping (sym (fresh.each source intake is).stage ∙ dropping);
 }
 

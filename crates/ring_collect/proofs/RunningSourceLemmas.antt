@@ -1,5 +1,5 @@
 -- Sources that are started one after another.
-use Rattle.std.proofs.Common.{◌≡◌, ℕ, ◌+◌, ◌<◌, ◌⊎◌, inl, inr, List, [], ◌∷◌, ◌++◌, length, get_or, sym, ap, subst, ◌∙◌, arith, length-append, Some, slice_get}
+use Rattle.std.proofs.Common.{All, ◌≡◌, ℕ, ◌+◌, ◌<◌, ◌⊎◌, inl, inr, List, [], ◌∷◌, ◌++◌, length, get_or, sym, ap, subst, ◌∙◌, arith, length-append, Some, slice_get}
 use Rattle.std.proofs.lemmas.List.{get_or_append_left}
 use Rattle.std.proofs.Math.Seq.{get_or-append_seam}
 use Rattle.std.specs.Iterator.{Yields}
@@ -81,3 +81,7 @@ module _ {X A : Type 0} (s : IntoIter X A) (xs : List X) (t : IntoIter X A) (yie
 
   pub taken_next : slice_get (into_iter_items s) (length xs) ≡ Some x
   taken_next = ap (λ ys. slice_get ys (length xs)) taken_seam ∙ slice_get_seam xs x rest
+
+  -- what holds of all holds of the next
+  pub taken_one : (P : X → Type 0) → All P (into_iter_items s) → P x
+  taken_one P all = subst P (get_or_from_slice_get (into_iter_items s) (length xs) x x taken_next) (all (length xs) x taken_fewer)

@@ -19,10 +19,13 @@ use Rattle.stack_core.specs.declared.endings.Close.TheVariants as close
 use Rattle.stack_core.specs.declared.endings.Item.TheVariants as item
 use Rattle.stack_core.specs.declared.records.RingRecord.{RingRecord}
 use Rattle.stack_core.specs.declared.records.RingRecord.TheVariants.{Close as CloseRecord}
+use Rattle.ring_collect.specs.checked.Batches.{records_of_all}
 use Rattle.ring_collect.specs.checked.Intakes.{Tracked}
 use Rattle.ring_collect.specs.checked.Tellers.{TellsAll}
 use Rattle.ring_collect.specs.checked.Settlement.{AreListsOf, IsSettledAs, IsSettled, AreSettled, IsReceived}
 use Rattle.ring_collect.specs.declared.running_sources.RunningSource.{RunningSource}
+use Rattle.ring_collect.proofs.BatchLemmas.{records_of_all-append}
+use Rattle.ring_collect.specs.declared.batches.Batch.{Batch}
 use Rattle.ring_collect.proofs.RunningSourceLemmas.{PushedAt, Earlier, Last, pushed_at}
 use Rattle.ring_collect.specs.declared.intakes.Stage.{Stage}
 use Rattle.ring_collect.specs.declared.intakes.Stage.TheVariants.{Unnamed}
@@ -121,13 +124,17 @@ none_was_unnamed : {records sent : List RingRecord} {close : Option Close} {ledg
     → Tracked records close ledger stage list → IsPrefixOf records sent → IsWellTold sent → stage ≢ Unnamed
 none_was_unnamed tracked begins well unnamed = tracked.unnamed unnamed (front_well_told _ _ begins well)
 
+-- the records of what was received are the first of those that were sent
+pub begins_all : (batches more sent : List Batch) → batches ++ more ≡ sent → IsPrefixOf (records_of_all batches) (records_of_all sent)
+begins_all batches more sent is = (records_of_all more, sym (records_of_all-append batches more) ∙ ap records_of_all is)
+
 -- so not where the end of the ring left what shows what was sent
 pub none_unnamed : {A P : Type 0} {close : Option Close} {ledger : LedgerState} {stage : Stage} {list : List Sample} {whole : Type 0}
-    (left : Option (Finished RingRecord A P)) (one : Finished RingRecord A P) (records more : List RingRecord)
-    → left ≡ Some one → IfSome left (λ left. IsWellTold (all_sent left)) → records ++ more ≡ all_sent one → Tracked records close ledger stage list
+    (left : Option (Finished Batch A P)) (one : Finished Batch A P) (batches more : List Batch)
+    → left ≡ Some one → IfSome left (λ left. IsWellTold (records_of_all (all_sent left))) → batches ++ more ≡ all_sent one → Tracked (records_of_all batches) close ledger stage list
     → (stage ≢ Unnamed → whole) → IfSome left (λ _. (stage ≢ Unnamed) × whole)
-none_unnamed {stage = stage} {whole = whole} left one records more is well sent tracked then =
-    let told = none_was_unnamed tracked (more, sent) (subst (λ o. IfSome o (λ left. IsWellTold (all_sent left))) is well) in
+none_unnamed {stage = stage} {whole = whole} left one batches more is well sent tracked then =
+    let told = none_was_unnamed tracked (begins_all batches more (all_sent one) sent) (subst (λ o. IfSome o (λ left. IsWellTold (records_of_all (all_sent left)))) is well) in
     subst (λ o. IfSome o (λ _. (stage ≢ Unnamed) × whole)) (sym is) (told, then told)
 
 closed_by : (close : Option Close) → IsSome close → (last : Close) × (close ≡ Some last)
@@ -145,16 +152,16 @@ module _ {R G : Type 0} (may_stop may_go : G → ℕ → ℕ → Type 0) (rest :
   received_settled sent ledger closed tells is list tracked =
       let intake = started.intake in
       let last = closed_by intake.close closed in
-      settled last.0 (subst (λ close. Tracked (received intake.consumer) close intake.ledger intake.stage list) last.1 tracked) is.begins tells
+      settled last.0 (subst (λ close. Tracked (records_of_all (received intake.consumer)) close intake.ledger intake.stage list) last.1 tracked) is.begins tells
       (is.closed ∙ ap (λ close. record intake.ledger { close = close }) last.1)
 
-  pub left_settled : {A P : Type 0} (left : Option (Finished RingRecord A P)) (result : Option LedgerState) → IsSome started.intake.close
-      → IfSome left (λ left. TellsAll (may_stop gate) (may_go gate) started.handle.promise.source (rest started.handle.promise.reader.value) (all_sent left))
-      → IfSome left (λ left. IfSome result (IsReceived (all_sent left) started.intake)) → IfNone left (result ≡ None)
+  pub left_settled : {A P : Type 0} (left : Option (Finished Batch A P)) (result : Option LedgerState) → IsSome started.intake.close
+      → IfSome left (λ left. TellsAll (may_stop gate) (may_go gate) started.handle.promise.source (rest started.handle.promise.reader.value) (records_of_all (all_sent left)))
+      → IfSome left (λ left. IfSome result (IsReceived (records_of_all (all_sent left)) started.intake)) → IfNone left (result ≡ None)
       → IfSome result (IsSettled may_stop may_go rest started)
   left_settled left None closed tells received unshown = tt
   left_settled None (Some ledger) closed tells received unshown = absurd (some≢none unshown)
-  left_settled (Some left) (Some ledger) closed tells received unshown = received_settled (all_sent left) ledger closed tells received
+  left_settled (Some left) (Some ledger) closed tells received unshown = received_settled (records_of_all (all_sent left)) ledger closed tells received
 
 -- what holds of the ledgers goes on to one more, where no source is unfinished
 pub more_settled : {R G : Type 0} (may_stop may_go : G → ℕ → ℕ → Type 0) (rest : R → Rest) (all : List (RunningSource R G)) (ledgers ledgers' : List LedgerState)

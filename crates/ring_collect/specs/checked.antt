@@ -1,4 +1,5 @@
 -- Definitions that no public contract cites: not to be believed, but checked with the code that cites them.
+pub mod Batches
 pub mod Intakes
 pub mod Numbering
 pub mod Records

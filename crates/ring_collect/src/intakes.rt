@@ -1,11 +1,13 @@
 //! One source, as the collecting thread sees it: the consumer of its ring, its ledger, and how it was closed.
 
 ghost use Rattle.std.specs.Prelude.{◌≡◌, ◌≢◌, ◌<◌, ◌↔◌, All, IsTrue, None, length};
+ghost use Rattle.ring_collect.specs.checked.Batches.{close_after_batch};
 ghost use Rattle.ring_collect.specs.checked.Records.{close_after};
 
+use crate::batches::Batch;
 use crate::feeds::Feed;
-use crate::rings::RecordConsumer;
-use stack_core::{Close, Ledger, RingRecord};
+use crate::rings::BatchConsumer;
+use stack_core::{Close, Ledger, Listed, RingRecord};
 use std::alloc::Global;
 
 /// What is done with the records that come.
@@ -59,7 +61,7 @@ pub enum Look {
     Closed,
     /// Nothing was there.
     Idle,
-    /// A record came.
+    /// A batch came.
     Moved,
 }
 
@@ -92,11 +94,21 @@ fn note_close(close: &mut Option<Close>, popped: RingRecord)
     }
 }
 
+/// Notes what closes the ring, and drops every other batch.
+fn note_batch(close: &mut Option<Close>, popped: Batch)
+    ensures { close.new ≡ close_after_batch close.old popped }
+{
+    match popped {
+        Batch::One(one) => note_close(close, one),
+        Batch::Many(_) => (),
+    }
+}
+
 /// The collecting thread's part of one source.
 #[derive(Drop)]
 pub struct Intake {
     pub number: u32,
-    pub consumer: RecordConsumer,
+    pub consumer: BatchConsumer,
     pub ledger: Ledger,
     pub stage: Stage,
     /// What closed the ring. From then on it isn't looked into again.
@@ -105,11 +117,12 @@ pub struct Intake {
 }
 
 impl Intake {
-    ghost use Rattle.std.specs.Prelude.{◌≡◌, ◌≢◌, ◌≤◌, List, None, length};
+    ghost use Rattle.std.specs.Prelude.{◌≡◌, ◌≢◌, ◌≤◌, ◌∷◌, [], All, List, None, length};
     ghost use Rattle.rtrb.specs.Ring.{SameConsumer};
-    ghost use Rattle.ring_collect.specs.checked.Rings.{IsLimitedRecord};
-    ghost use Rattle.ring_collect.specs.checked.Records.{TakesRecord};
-    ghost use Rattle.ring_collect.specs.checked.Intakes.{PopsOne, FindsNothing, Tracks, GainsMore};
+    ghost use Rattle.ring_collect.specs.checked.Batches.{records_in};
+    ghost use Rattle.ring_collect.specs.checked.Rings.{IsGathered, IsLimitedBatch, IsLimitedRecord};
+    ghost use Rattle.ring_collect.specs.checked.Records.{TakesRecord, close_after};
+    ghost use Rattle.ring_collect.specs.checked.Intakes.{Brings, PopsOne, FindsNothing, Tracks, GainsMore};
     ghost use Rattle.sample_tables.specs.declared.samples.Sample.{Sample as TakenSample};
     ghost use Rattle.sample_tables.specs.declared.samples.TheConstants.{FRAME_LIMIT, WEIGHT_LIMIT};
 
@@ -210,7 +223,79 @@ impl Intake {
         }
     }
 
-    /// Takes the next record, if one is there.
+    /// Takes a record that came out of the ring, or drops it where none is taken any more. What closes the ring is noted.
+    fn take_or_drop<S, F: Feed<S>>(
+        &mut self,
+        alloc: Global,
+        popped: RingRecord,
+        feed: &mut F,
+        sink: &mut S,
+        order: &mut Vec<u32>,
+    )
+        requires unclosed { self.old.close ≡ None }
+        requires limits { IsLimitedRecord popped }
+        ensures number { self.new.number ≡ self.old.number }
+        ensures consumer { self.new.consumer ≡ self.old.consumer }
+        ensures close { self.new.close ≡ close_after None popped }
+        ensures dropping { self.old.stage ≡ Stage.Dropping → self.new.stage ≡ Stage.Dropping }
+        ensures brings { Brings (popped ∷ []) self.old self.new (F.taken sink.old) (F.taken sink.new)
+            order.old.items order.new.items }
+        ensures setting { F.setting sink.new ≡ F.setting sink.old }
+    {
+        if !self.stage.is_taking() {
+            note_close(&mut self.close, popped);
+            return;
+        }
+        self.stage = self.take_record(alloc, popped, feed, sink, order);
+    }
+
+    /// Takes or drops records that came out of the ring together, in their order.
+    fn take_all<S, F: Feed<S>>(
+        &mut self,
+        alloc: Global,
+        popped: Listed<RingRecord>,
+        feed: &mut F,
+        sink: &mut S,
+        order: &mut Vec<u32>,
+    )
+        requires unclosed { self.old.close ≡ None }
+        requires limits { All IsGathered popped }
+        ensures number { self.new.number ≡ self.old.number }
+        ensures consumer { self.new.consumer ≡ self.old.consumer }
+        ensures unclosed { self.new.close ≡ None }
+        ensures brings { Brings popped self.old self.new (F.taken sink.old) (F.taken sink.new)
+            order.old.items order.new.items }
+        ensures setting { F.setting sink.new ≡ F.setting sink.old }
+    {
+        for one in popped.into_plain() {
+            self.take_or_drop(alloc, one, feed, sink, order);
+        }
+    }
+
+    /// Takes or drops what came out of the ring.
+    fn take_batch<S, F: Feed<S>>(
+        &mut self,
+        alloc: Global,
+        popped: Batch,
+        feed: &mut F,
+        sink: &mut S,
+        order: &mut Vec<u32>,
+    )
+        requires unclosed { self.old.close ≡ None }
+        requires limits { IsLimitedBatch popped }
+        ensures number { self.new.number ≡ self.old.number }
+        ensures consumer { self.new.consumer ≡ self.old.consumer }
+        ensures brings { Brings (records_in popped) self.old self.new (F.taken sink.old) (F.taken sink.new)
+            order.old.items order.new.items }
+        ensures setting { F.setting sink.new ≡ F.setting sink.old }
+    {
+        match popped {
+            Batch::One(one) => self.take_or_drop(alloc, one, feed, sink, order),
+            Batch::Many(records) => self.take_all(alloc, records, feed, sink, order),
+        }
+    }
+
+    /// Takes the next batch, if one is there.
     pub fn take_next<S, F: Feed<S>>(
         &mut self,
         alloc: Global,
@@ -232,15 +317,11 @@ impl Intake {
         let Ok(popped) = self.consumer.pop() else {
             return Look::Idle;
         };
-        if !self.stage.is_taking() {
-            note_close(&mut self.close, popped);
-            return Look::Moved;
-        }
-        self.stage = self.take_record(alloc, popped, feed, sink, order);
+        self.take_batch(alloc, popped, feed, sink, order);
         Look::Moved
     }
 
-    /// Drops the next record, if one is there, but notes what closes the ring.
+    /// Drops the next batch, if one is there, but notes what closes the ring.
     pub fn drop_next(&mut self) -> Look
         requires { self.old.close ≡ None }
         ensures open { result ≢ Look.Closed }
@@ -254,7 +335,7 @@ impl Intake {
             return Look::Idle;
         };
         self.stage = self.stage.dropping();
-        note_close(&mut self.close, popped);
+        note_batch(&mut self.close, popped);
         Look::Moved
     }
 }

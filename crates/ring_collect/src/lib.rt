@@ -2,6 +2,7 @@
 //! the threads' steps fall.
 #![tactic(auto)]
 
+mod batches;
 mod bells;
 mod faults;
 mod feeds;

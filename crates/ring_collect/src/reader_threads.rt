@@ -2,7 +2,7 @@
 
 ghost use Rattle.std.specs.Prelude.{All, ◌≡◌, ◌≤◌, ℕ, [], IfOk, IsErrOf, OnOk, length, map, vec_capacity};
 ghost use Rattle.ring_collect.specs.checked.RunningSources.{IsPromised, ArePromised, IsFresh, AreFresh};
-ghost use Rattle.rtrb.specs.Ring.{sent};
+ghost use Rattle.ring_collect.specs.checked.Batches.{told_to};
 ghost use Rattle.std.specs.Arc.{arc_value};
 
 use crate::faults::CollectFault;
@@ -31,7 +31,7 @@ pub fn start<
     source: u32,
     outlet: Outlet,
 ) -> Result<ReaderHandle<R, G>, AllocError>
-    requires nothing_sent { sent outlet.producer ≡ [] }
+    requires nothing_sent { told_to outlet ≡ [] }
     requires nothing_told { R.told reader ≡ record { names = []; stacks = [] } }
     ensures reader { IfOk result (λ handle. handle.promise.reader.value ≡ reader) }
     ensures gate { IfOk result (λ handle. arc_value handle.promise.gate.value ≡ arc_value gate) }

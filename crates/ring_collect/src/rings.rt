@@ -1,39 +1,40 @@
-//! The ring of a source, and what each record in it keeps to.
+//! The ring of a source, and what each batch in it keeps to.
 
 ghost use Rattle.std.specs.Prelude.{◌≡◌, []};
-ghost use Rattle.rtrb.specs.Ring.{sent, received, IsPair};
-ghost use Rattle.ring_collect.specs.checked.Rings.{IsLimitedRecord};
+ghost use Rattle.rtrb.specs.Ring.{received, IsPair};
+ghost use Rattle.ring_collect.specs.checked.Batches.{told_to};
+ghost use Rattle.ring_collect.specs.checked.Rings.{IsLimitedBatch};
 
+use crate::batches::Batch;
 use crate::bells::Bell;
 use crate::outlets::Outlet;
 use rtrb::{Consumer, Finished, Producer, Protocol};
-use stack_core::RingRecord;
 use std::alloc::Global;
 use std::sync::Arc;
 
-/// The rule of each ring, on the record alone: a row keeps to `FRAME_LIMIT` and `WEIGHT_LIMIT`.
+/// The rule of each ring, on the batch alone: a row keeps to `FRAME_LIMIT` and `WEIGHT_LIMIT`, and a close goes by itself.
 #[derive(Clone, Copy)]
 pub struct Limits;
 
-impl Protocol<RingRecord> for Limits {
-    ghost allows = { λ _ item. IsLimitedRecord item };
+impl Protocol<Batch> for Limits {
+    ghost allows = { λ _ item. IsLimitedBatch item };
 }
 
-pub type RecordProducer = Producer<RingRecord, Global, Limits>;
+pub type BatchProducer = Producer<Batch, Global, Limits>;
 
-pub type RecordConsumer = Consumer<RingRecord, Global, Limits>;
+pub type BatchConsumer = Consumer<Batch, Global, Limits>;
 
 /// What a reader's end of a ring left: it shows all that was sent there.
-pub type LeftOfRing = Finished<RingRecord, Global, Limits>;
+pub type LeftOfRing = Finished<Batch, Global, Limits>;
 
 /// The ends of a new ring.
 #[derive(Drop)]
 pub struct RingEnds {
     pub outlet: Outlet,
-    pub consumer: RecordConsumer,
+    pub consumer: BatchConsumer,
     /// The bell of its reader.
     pub room: Arc<Bell>,
     ghost paired: { IsPair outlet.producer consumer },
-    ghost nothing_sent: { sent outlet.producer ≡ [] },
+    ghost nothing_told: { told_to outlet ≡ [] },
     ghost nothing_received: { received consumer ≡ [] },
 }

@@ -12,7 +12,7 @@ use stack_core::{Gate, RowReader};
 use std::alloc::Global;
 use std::sync::Wait;
 
-/// The most records that are taken from a ring before the next ring's turn.
+/// The most batches that are taken from a ring before the next ring's turn.
 const VISIT: u64 = 64;
 
 /// What the collecting thread has of a run.
@@ -24,7 +24,7 @@ pub struct Collector<R: RowReader, G: Gate> {
     pub order: Vec<u32>,
     /// There was want of memory. From then on what comes is dropped.
     pub refused: bool,
-    /// How many records came out of the rings in this round.
+    /// How many batches came out of the rings in this round.
     pub taken: u64,
 }
 
@@ -63,7 +63,7 @@ impl<R: RowReader, G: Gate> Collector<R, G> {
         look
     }
 
-    /// Counts records of the source with this number, and wakes its reader where that leaves the room that it waits for.
+    /// Counts batches of the source with this number, and wakes its reader where that leaves the room that it waits for.
     fn took(&mut self, source: usize, count: u64)
         requires { source < length self.old.sources.items }
         ensures sources { self.new.sources ≡ self.old.sources }

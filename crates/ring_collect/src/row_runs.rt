@@ -7,6 +7,7 @@ ghost use Rattle.ring_collect.specs.Collection.{Collects, AreWhole, GainsAllowed
 ghost use Rattle.ring_collect.specs.NamesInOrder.{names_in_order};
 ghost use Rattle.stack_core.specs.Interleaving.{IsInterleaving, AreOf, interleaved};
 
+use crate::batches::Handover;
 use crate::faults::CollectFault;
 use crate::feeds::ByRows;
 use crate::runs::{Collected, RingedReaders};
@@ -21,7 +22,8 @@ use std::thread::Threads;
 /// but what the lists keep of each sample. At most 64 readers, of which none has told anything.
 ///
 /// A reader asks the gate before each of its samples; where the gate says Stop, its list has the samples before, and the ending
-/// `Stopped`. Whatever the answer, every started thread is joined before, and the readers are used up.
+/// `Stopped`. Samples that go may wait in the reader's thread for others, so a gate must not wait for the sink to take them, as it may with
+/// `collect`. Whatever the answer, every started thread is joined before, and the readers are used up.
 pub fn collect_rows<
     T: Threads + Wait + Copy + Send + 'static,
     R: RowReader + Send + Drop + 'static,
@@ -71,5 +73,6 @@ pub fn collect_rows<
         → Unfinishes (length readers.items) source (S.taken sink.old) (S.taken sink.new) }
     ensures setting { S.setting sink.new ≡ S.setting sink.old }
 {
-    RingedReaders { readers, ring }.collect_by(rt, alloc, gate, &mut ByRows, sink)
+    let handover = Handover::in_batches(ring);
+    RingedReaders { readers, handover }.collect_by(rt, alloc, gate, &mut ByRows, sink)
 }

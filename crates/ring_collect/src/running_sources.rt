@@ -4,7 +4,7 @@ ghost use Rattle.rtrb.specs.Ends.{SameRing};
 
 use crate::bells::Bell;
 use crate::intakes::Intake;
-use crate::rings::{LeftOfRing, RecordConsumer, RecordProducer};
+use crate::rings::{BatchProducer, LeftOfRing};
 use stack_core::{Gate, RowReader};
 use std::snapshot::Snapshot;
 use std::sync::Arc;
@@ -14,7 +14,7 @@ use std::thread::{Promise, PromisedHandle};
 pub struct ReaderPromise<R, G> {
     pub reader: Snapshot<R>,
     pub gate: Snapshot<Arc<G>>,
-    pub producer: Snapshot<RecordProducer>,
+    pub producer: Snapshot<BatchProducer>,
     pub source: u32,
 }
 

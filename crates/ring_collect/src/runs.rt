@@ -10,13 +10,13 @@ ghost use Rattle.ring_collect.specs.checked.Settlement.{AreListsOf};
 ghost use Rattle.stack_core.specs.Ledgers.{IsRead};
 ghost use Rattle.stack_core.specs.Interleaving.{IsInterleaving, AreOf, interleaved};
 
+use crate::batches::Handover;
 use crate::faults::CollectFault;
 use crate::feeds::Feed;
 use crate::reader_threads::start_all;
 use crate::room::Room;
 use crate::rounds::Collector;
 use crate::settlement::settle_all;
-use run_options::RingSize;
 use stack_core::{Close, Gate, Ledger, RowReader, SourceList};
 use std::alloc::{AllocError, Global};
 use std::sync::{Arc, Wait};
@@ -142,11 +142,11 @@ impl<R: RowReader + Send + Drop + 'static, G: Gate + Send + Sync + Drop + 'stati
     }
 }
 
-/// Readers, and the size of the ring that each is given.
+/// Readers, and how their records are handed over.
 #[derive(Drop)]
 pub struct RingedReaders<R: RowReader> {
     pub readers: Vec<R>,
-    pub ring: RingSize,
+    pub handover: Handover,
 }
 
 impl<R: RowReader + Send + Drop + 'static> RingedReaders<R> {
@@ -200,8 +200,8 @@ impl<R: RowReader + Send + Drop + 'static> RingedReaders<R> {
             → Unfinishes (length self.readers.items) source (F.taken sink.old) (F.taken sink.new) }
         ensures setting { F.setting sink.new ≡ F.setting sink.old }
     {
-        let RingedReaders { readers, ring } = self;
-        let room = Room::new(alloc, readers.len(), ring)?;
+        let RingedReaders { readers, handover } = self;
+        let room = Room::new(alloc, readers.len(), handover)?;
         let run = room.run_sources(rt, alloc, readers, &gate, feed, sink)?;
         let lists = lists_of(alloc, run.ledgers)?;
         match run.fault {

@@ -8,6 +8,7 @@ ghost use Rattle.ring_collect.specs.NamesInOrder.{names_in_order};
 ghost use Rattle.ring_collect.specs.checked.Numbering.{told_of, with_waiting};
 ghost use Rattle.stack_core.specs.Interleaving.{IsInterleaving, AreOf, interleaved};
 
+use crate::batches::Handover;
 use crate::faults::CollectFault;
 use crate::numbering::NumberingReader;
 use crate::row_samples::BySamples;
@@ -36,8 +37,8 @@ pub(crate) fn number_all<R: SampleReader + Drop>(
     Ok(all)
 }
 
-/// Reads every source in a thread of its own and collects what the threads send through rings of this size. The sink is fed as
-/// the samples come out of the rings, in `order`. At most 64 readers.
+/// Reads every source in a thread of its own and collects what the threads send through rings of this size, each sample as soon as the gate
+/// let it go. The sink is fed as the samples come out of the rings, in `order`. At most 64 readers.
 ///
 /// A reader asks the gate before each of its samples; where the gate says Stop, its list has the samples before, and the ending
 /// `Stopped`. Whatever the answer, every started thread is joined before, and the readers are used up.
@@ -89,5 +90,12 @@ pub fn collect<
     ensures setting { S.setting sink.new ≡ S.setting sink.old }
 {
     let readers = number_all(alloc, readers)?;
-    RingedReaders { readers, ring }.collect_by(rt, alloc, gate, &mut BySamples::new(alloc), sink)
+    let handover = Handover::one_by_one(ring);
+    RingedReaders { readers, handover }.collect_by(
+        rt,
+        alloc,
+        gate,
+        &mut BySamples::new(alloc),
+        sink,
+    )
 }

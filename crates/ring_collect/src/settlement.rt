@@ -5,6 +5,7 @@ ghost use Rattle.std.specs.Arc.{arc_value};
 ghost use Rattle.rtrb.specs.Ring.{all_sent, IsFinishedOf};
 ghost use Rattle.stack_core.specs.Records.{IsWellTold};
 ghost use Rattle.sample_tables.specs.declared.samples.Sample.{Sample};
+ghost use Rattle.ring_collect.specs.checked.Batches.{records_of_all};
 ghost use Rattle.ring_collect.specs.checked.Intakes.{Tracks};
 ghost use Rattle.ring_collect.specs.checked.Settlement.{IsReceived, IsSettled, AreSettled};
 
@@ -19,8 +20,8 @@ use std::thread::Threads;
 fn settle_by(left: Option<LeftOfRing>, intake: Intake) -> Option<Ledger>
     requires closed { IsSome intake.close }
     requires ring { IfSome left (λ left. IsFinishedOf left intake.consumer) }
-    requires well_told { IfSome left (λ left. IsWellTold (all_sent left)) }
-    ensures received { IfSome left (λ left. IfSome result (IsReceived (all_sent left) intake)) }
+    requires well_told { IfSome left (λ left. IsWellTold (records_of_all (all_sent left))) }
+    ensures received { IfSome left (λ left. IfSome result (IsReceived (records_of_all (all_sent left)) intake)) }
     ensures unshown { IfNone left (result ≡ None) }
     ensures unnamed { intake.stage ≡ Stage.Unnamed → result ≡ None }
     ensures whole { (list : List Sample) → Tracks intake list

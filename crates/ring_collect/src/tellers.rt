@@ -1,34 +1,47 @@
 //! The reader thread of a source: it tells the samples in order, each new name once, and then the close.
 
-ghost use Rattle.std.specs.Prelude.{◌≡◌, ◌++◌, ◌∷◌, [], IfNone, IfSome, map};
-ghost use Rattle.rtrb.specs.Ring.{sent, SameProducer};
-ghost use Rattle.ring_collect.specs.checked.Rings.{IsLimitedRecord};
-ghost use Rattle.ring_collect.specs.checked.Tellers.{SentAll, ending_of, records_of};
+ghost use Rattle.std.specs.Prelude.{◌≡◌, ◌++◌, ◌∷◌, [], IfNone, IfSome, OnErr, OnOk, map};
+ghost use Rattle.rtrb.specs.Ring.{SameProducer};
+ghost use Rattle.ring_collect.specs.checked.Batches.{told_to};
+ghost use Rattle.ring_collect.specs.checked.Tellers.{SentAll, TellsNames, ending_of, records_of};
 ghost use Rattle.stack_core.specs.RowReading.{IsLimitedStep};
 ghost use Rattle.std.specs.Arc.{arc_value};
 
 use crate::outlets::Outlet;
 use crate::rings::LeftOfRing;
 use stack_core::{Close, Gate, Listed, RingRecord, RowReader, RowStep, SourceEnd, Text, Turn};
-use std::alloc::Global;
+use std::alloc::{AllocError, Global};
 use std::sync::{Arc, Wait};
 
-/// Tells names, in their order.
-fn tell_names<W: Wait>(rt: &W, outlet: &mut Outlet, names: Listed<Text>)
+/// Tells names, in their order. After an error some of them are told.
+fn tell_names<W: Wait>(
+    rt: &W,
+    alloc: Global,
+    outlet: &mut Outlet,
+    names: Listed<Text>,
+) -> Result<(), AllocError>
     ensures ring { SameProducer outlet.old.producer outlet.new.producer }
-    ensures sent { sent outlet.new.producer
-        ≡ sent outlet.old.producer ++ map RingRecord.Name names }
+    ensures told { OnOk result (told_to outlet.new ≡ told_to outlet.old ++ map RingRecord.Name names) }
+    ensures short { OnErr result (TellsNames (told_to outlet.old) (told_to outlet.new)) }
 {
     for name in names.into_plain() {
-        outlet.send(rt, RingRecord::Name(name));
+        outlet.tell(rt, alloc, RingRecord::Name(name))?;
     }
+    Ok(())
 }
 
-/// Tells what a reader gave: the names that are new and then the row, or the row again. An ending tells nothing.
-fn tell_step<W: Wait>(rt: &W, outlet: &mut Outlet, step: RowStep)
+/// Tells what a reader gave: the names that are new and then the row, or the row again. An ending tells nothing. After an error no
+/// row is told.
+fn tell_step<W: Wait>(
+    rt: &W,
+    alloc: Global,
+    outlet: &mut Outlet,
+    step: RowStep,
+) -> Result<(), AllocError>
     requires { IsLimitedStep step }
     ensures ring { SameProducer outlet.old.producer outlet.new.producer }
-    ensures sent { sent outlet.new.producer ≡ sent outlet.old.producer ++ records_of step }
+    ensures told { OnOk result (told_to outlet.new ≡ told_to outlet.old ++ records_of step) }
+    ensures short { OnErr result (TellsNames (told_to outlet.old) (told_to outlet.new)) }
 {
     match step {
         RowStep::New {
@@ -36,13 +49,11 @@ fn tell_step<W: Wait>(rt: &W, outlet: &mut Outlet, step: RowStep)
             frames,
             weight,
         } => {
-            tell_names(rt, outlet, names);
-            outlet.send(rt, RingRecord::Row { frames, weight });
+            tell_names(rt, alloc, outlet, names)?;
+            outlet.tell(rt, alloc, RingRecord::Row { frames, weight })
         }
-        RowStep::Again { row, weight } => {
-            outlet.send(rt, RingRecord::Again { row, weight });
-        }
-        RowStep::End(_) => (),
+        RowStep::Again { row, weight } => outlet.tell(rt, alloc, RingRecord::Again { row, weight }),
+        RowStep::End(_) => Ok(()),
     }
 }
 
@@ -72,6 +83,7 @@ struct SampleNumber {
 impl<R: RowReader> Teller<R> {
     ghost use Rattle.std.specs.Prelude.{◌≡◌, ◌<◌, ◌++◌, ◌∷◌, ◌^◌, [], IfNone, IfSome, length};
     ghost use Rattle.rtrb.specs.Ring.{sent, SameProducer};
+    ghost use Rattle.ring_collect.specs.checked.Batches.{records_of_all, told_to};
     ghost use Rattle.ring_collect.specs.checked.Tellers.{AreNamesOf, TellsOne, TellsAll, Closes, told_by};
     ghost use Rattle.stack_core.specs.Records.{names_told, stands_for, IsWellTold};
     ghost use Rattle.stack_core.specs.Told.{IsToldUnder};
@@ -86,17 +98,17 @@ impl<R: RowReader> Teller<R> {
         gate: &G,
         number: SampleNumber,
     ) -> Option<Close>
-        requires told { R.told self.old.reader ≡ told_by (sent self.old.outlet.producer) }
-        requires well_told { IsWellTold (sent self.old.outlet.producer) }
+        requires told { R.told self.old.reader ≡ told_by (told_to self.old.outlet) }
+        requires well_told { IsWellTold (told_to self.old.outlet) }
         ensures ring { SameProducer self.old.outlet.producer self.new.outlet.producer }
         ensures few { length (R.rest self.old.reader).samples < 2 ^ 64 }
         ensures told { IfNone result
             (TellsOne (G.may_go gate.now) number.source number.index (R.rest self.old.reader)
-            (R.rest self.new.reader) (R.told self.new.reader) (sent self.old.outlet.producer)
-            (sent self.new.outlet.producer)) }
+            (R.rest self.new.reader) (R.told self.new.reader) (told_to self.old.outlet)
+            (told_to self.new.outlet)) }
         ensures closes { IfSome result
             (Closes (G.may_stop gate.now) number.source number.index (R.rest self.old.reader)
-            (sent self.old.outlet.producer) (sent self.new.outlet.producer)) }
+            (told_to self.old.outlet) (told_to self.new.outlet)) }
     {
         let SampleNumber { source, index } = number;
         let Ok(step) = self.reader.next_row(alloc) else {
@@ -109,8 +121,10 @@ impl<R: RowReader> Teller<R> {
             Turn::Stop => return Some(Close::Read(SourceEnd::Stopped { after: index })),
             Turn::Go => (),
         }
-        tell_step(rt, &mut self.outlet, step);
-        None
+        match tell_step(rt, alloc, &mut self.outlet, step) {
+            Ok(()) => None,
+            Err(_) => Some(Close::NoMemory),
+        }
     }
 
     /// Tells the samples of the reader, asking the gate before each, and answers the close that comes next.
@@ -121,15 +135,15 @@ impl<R: RowReader> Teller<R> {
         gate: &G,
         source: u32,
     ) -> Close
-        requires nothing_sent { sent self.old.outlet.producer ≡ [] }
+        requires nothing_sent { told_to self.old.outlet ≡ [] }
         requires nothing_told { R.told self.old.reader ≡ record { names = []; stacks = [] } }
         ensures ring { SameProducer self.old.outlet.producer self.new.outlet.producer }
         ensures told { IsToldUnder (G.may_stop gate.now) (G.may_go gate.now) source
             (R.rest self.old.reader)
-            (stands_for (sent self.new.outlet.producer) ++ item.Close result ∷ []) }
-        ensures well_told { IsWellTold (sent self.new.outlet.producer) }
-        ensures in_order { AreNamesOf (stands_for (sent self.new.outlet.producer) ++ item.Close result ∷ [])
-            (names_told (sent self.new.outlet.producer)) }
+            (stands_for (told_to self.new.outlet) ++ item.Close result ∷ []) }
+        ensures well_told { IsWellTold (told_to self.new.outlet) }
+        ensures in_order { AreNamesOf (stands_for (told_to self.new.outlet) ++ item.Close result ∷ [])
+            (names_told (told_to self.new.outlet)) }
     {
         let mut index = 0u64;
         for _ in rt.forever() {
@@ -144,14 +158,14 @@ impl<R: RowReader> Teller<R> {
 
     /// Tells all that the reader gives, and then the close.
     fn tell_source<W: Wait, G: Gate>(&mut self, rt: &W, alloc: Global, gate: &G, source: u32)
-        requires nothing_sent { sent self.old.outlet.producer ≡ [] }
+        requires nothing_sent { told_to self.old.outlet ≡ [] }
         requires nothing_told { R.told self.old.reader ≡ record { names = []; stacks = [] } }
         ensures ring { SameProducer self.old.outlet.producer self.new.outlet.producer }
         ensures told { TellsAll (G.may_stop gate.now) (G.may_go gate.now) source
-            (R.rest self.old.reader) (sent self.new.outlet.producer) }
+            (R.rest self.old.reader) (records_of_all (sent self.new.outlet.producer)) }
     {
         let close = self.tell_samples(rt, alloc, gate, source);
-        self.outlet.close(rt, close);
+        self.outlet.close(rt, alloc, close);
     }
 }
 
@@ -165,7 +179,7 @@ pub fn tell_all<W: Wait, R: RowReader + Drop, G: Gate + Drop>(
     source: u32,
     outlet: Outlet,
 ) -> Option<LeftOfRing>
-    requires nothing_sent { sent outlet.producer ≡ [] }
+    requires nothing_sent { told_to outlet ≡ [] }
     requires nothing_told { R.told reader ≡ record { names = []; stacks = [] } }
     ensures { IfSome result
         (SentAll (G.may_stop (arc_value gate)) (G.may_go (arc_value gate)) source
@@ -177,7 +191,9 @@ pub fn tell_all<W: Wait, R: RowReader + Drop, G: Gate + Drop>(
     let Outlet {
         producer,
         pause: _,
-        records: _,
+        batches: _,
+        pending: _,
+        limit: _,
     } = outlet;
     producer.finish()
 }

@@ -14,7 +14,7 @@ use Rattle.source_lists.specs.Types.{type_or_none}
 use Rattle.command_line.specs.declared.plans.PageForm.{PageForm}
 use Rattle.command_line.specs.declared.plans.Plan.{Plan}
 use Rattle.command_line.specs.declared.plans.View.{View}
-use Rattle.command_line.specs.declared.plans.View.TheVariants.{Fold, Graph, Chart, Pairs, PairBoxes, Top}
+use Rattle.command_line.specs.declared.plans.View.TheVariants.{Fold, Graph, Chart, Pairs, PairBoxes, Top, Diff}
 use Rattle.page_texts.specs.Document.{document_text}
 use Rattle.page_views.specs.Pages.{PageHeading, snapshots_page}
 use Rattle.source_views.specs.Texts.{IsOrderless}
@@ -61,6 +61,7 @@ orderless_page heading (Chart width) lists order every orderless = refl
 orderless_page heading Pairs lists order every orderless = refl
 orderless_page heading (PairBoxes width) lists order every orderless = refl
 orderless_page heading (Top top) lists order every orderless = refl
+orderless_page heading (Diff table) lists order every orderless = refl
 
 -- the page of a graph with its snapshots is the one that a plan for a graph asks for
 pub gathered_page : (plan : Plan) (facts : RunFacts) (page : PageForm) (lists : List (List Sample)) (order : List ℕ) (every : Option ℕ) (width : ℕ) → plan.view ≡ Graph width

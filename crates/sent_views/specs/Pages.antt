@@ -10,7 +10,7 @@ use Rattle.command_line.specs.declared.plans.PageForm.{PageForm}
 use Rattle.command_line.specs.declared.plans.PictureForm.{PictureForm}
 use Rattle.command_line.specs.declared.plans.Plan.{Plan}
 use Rattle.command_line.specs.declared.plans.View.{View}
-use Rattle.command_line.specs.declared.plans.View.TheVariants.{Fold, Graph, Chart, Pairs, PairBoxes, Top}
+use Rattle.command_line.specs.declared.plans.View.TheVariants.{Fold, Graph, Chart, Pairs, PairBoxes, Top, Diff}
 use Rattle.page_texts.specs.Document.{document_text}
 use Rattle.page_texts.specs.Page.{PageSource}
 use Rattle.page_views.specs.Pages.{PageHeading, chart_page, comparison_page, snapshots_page}
@@ -58,6 +58,7 @@ headed_text heading (Chart width) lists order every = document_text (chart_page 
 headed_text heading Pairs lists order every = view_text Pairs lists [] None
 headed_text heading (PairBoxes width) lists order every = document_text (comparison_page heading (list_of lists 0) (list_of lists 1))
 headed_text heading (Top top) lists order every = view_text (Top top) lists [] None
+headed_text heading (Diff table) lists order every = view_text (Diff table) lists [] None
 
 abbrev pub page_text : Plan → RunFacts → PageForm → List (List Sample) → List ℕ → Option ℕ → List ℕ
 page_text plan facts page lists order every = headed_text (asked_heading plan facts page lists) plan.view lists order every

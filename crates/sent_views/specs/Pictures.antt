@@ -10,7 +10,7 @@ use Rattle.flame_layout.specs.Chart.{chart_of}
 use Rattle.flame_layout.specs.Comparison.{compared_boxes_of}
 use Rattle.flame_layout.specs.Graph.{graph_of}
 use Rattle.command_line.specs.declared.plans.View.{View}
-use Rattle.command_line.specs.declared.plans.View.TheVariants.{Fold, Graph, Chart, Pairs, PairBoxes, Top}
+use Rattle.command_line.specs.declared.plans.View.TheVariants.{Fold, Graph, Chart, Pairs, PairBoxes, Top, Diff}
 use Rattle.page_texts.specs.Page.{PageSource}
 use Rattle.source_views.specs.Texts.{view_text}
 use Rattle.svg_texts.specs.Svg.{Picture, compared_svg, plain_svg}
@@ -49,3 +49,4 @@ framed_text frame Pairs lists = view_text Pairs lists [] None
 framed_text frame (PairBoxes width) lists =
     compared_svg (picture_in frame width (total_weight (list_of lists 1))) (compared_boxes_of (list_of lists 0) (list_of lists 1))
 framed_text frame (Top top) lists = view_text (Top top) lists [] None
+framed_text frame (Diff table) lists = view_text (Diff table) lists [] None

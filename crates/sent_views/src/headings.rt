@@ -6,10 +6,10 @@ ghost use Rattle.source_lists.specs.Types.{type_or_none};
 ghost use Rattle.sent_views.specs.Pages.{default_title, sources_of};
 ghost use Rattle.sent_views.specs.Pictures.{common_unit, units_with_weight};
 
-use merging::SourceLists;
 use opened_sources::path_of;
 use page_views::Source;
 use profile_messages::SampleType;
+use source_lists::SourceLists;
 use stack_core::{SourceList, Text};
 use std::alloc::{AllocError, Global};
 

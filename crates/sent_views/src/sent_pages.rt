@@ -14,15 +14,16 @@ ghost use Rattle.opened_sources.specs.Failures.{Flushes, Sends};
 
 use crate::headings::{described_sources, title_of};
 use crate::run_facts::RunFacts;
-use crate::sent_views::{send_text, send_top};
+use crate::sent_views::{send_diff, send_text, send_top};
 use byte_io::Outlet;
 use command_line::{PageForm, Plan, View};
 use merged_stacks::PairedStacks;
-use merging::{Gathered, SourceLists};
+use merging::Gathered;
 use opened_sources::Failure;
 use page_views::{
     Heading, Source, send_chart_page, send_comparison_page, send_graph_page, send_snapshots_page,
 };
+use source_lists::SourceLists;
 use source_views::merge;
 use stack_core::SourceList;
 use std::alloc::Global;
@@ -145,6 +146,7 @@ fn send_headed<W: Outlet>(
         View::Fold => send_fold(alloc, sources, out),
         View::Pairs => send_pairs(alloc, sources, out),
         View::Top(top) => send_top(alloc, sources, top, None, out),
+        View::Diff(table) => send_diff(alloc, sources, table, out),
     }
 }
 

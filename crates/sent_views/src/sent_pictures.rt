@@ -20,8 +20,8 @@ use byte_io::Outlet;
 use command_line::{PictureForm, Plan, View};
 use flame_layout::{Width, draw_merged, draw_paired};
 use merged_stacks::PairedStacks;
-use merging::SourceLists;
 use opened_sources::Failure;
+use source_lists::SourceLists;
 use source_views::{lend_chart, merge_in_threads};
 use stack_core::SourceList;
 use std::alloc::Global;
@@ -114,7 +114,7 @@ fn send_framed<T: Threads, W: Outlet>(
             let picture = frame.picture(width, lists[1].total() as u64);
             send_compared(rt, alloc, &lists[0], &lists[1], &picture, out)
         }
-        View::Fold | View::Pairs | View::Top(_) => {
+        View::Fold | View::Pairs | View::Top(_) | View::Diff(_) => {
             send_plain_view(rt, alloc, sources, view, None, out)
         }
     }

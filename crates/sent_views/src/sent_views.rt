@@ -6,7 +6,7 @@ ghost use Rattle.view_texts.specs.Fold.{fold_text};
 ghost use Rattle.view_texts.specs.Pairs.{pairs_text};
 ghost use Rattle.merging.specs.Sums.{all_samples};
 ghost use Rattle.command_line.specs.Plans.{IsComparison};
-ghost use Rattle.source_views.specs.Texts.{chart_text, graph_line, pair_boxes_text, told_text, top_text};
+ghost use Rattle.source_views.specs.Texts.{chart_text, diff_text, graph_line, pair_boxes_text, told_text, top_text};
 ghost use Rattle.sent_views.specs.Pages.{asked_text};
 ghost use Rattle.opened_sources.specs.Failures.{Flushes, Sends};
 ghost use Rattle.stack_core.specs.Interleaving.{list_of};
@@ -15,14 +15,17 @@ use crate::run_facts::{RunFacts, told_whole};
 use byte_io::{Outlet, Pieces, send_pieces, send_pieces_in_threads};
 use command_line::{Plan, TopTable, View};
 use flame_layout::{Width, draw_merged, draw_paired};
+use function_sums::Change;
 use merged_stacks::PairedStacks;
-use merging::SourceLists;
 use opened_sources::Failure;
-use source_views::{drawn_chart, drawn_graph, lend_chart, merge_in_threads, weigh_functions};
+use source_lists::SourceLists;
+use source_views::{
+    change_functions, drawn_chart, drawn_graph, lend_chart, merge_in_threads, weigh_functions,
+};
 use stack_core::SourceList;
 use std::alloc::Global;
 use std::thread::Threads;
-use sum_texts::{SumLine, SumTable};
+use sum_texts::{ChangeLine, ChangeTable, SumLine, SumTable};
 use view_texts::{FoldedText, PairedText, Scale, drawn_comparison_line};
 
 /// Sends the text of a plan's view without snapshots, and draws no more than that view needs.
@@ -68,6 +71,7 @@ pub(crate) fn send_plain_view<T: Threads, W: Outlet>(
             send_compared(rt, alloc, &lists[0], &lists[1], width, out)
         }
         View::Top(top) => send_top(alloc, sources, top, all, out),
+        View::Diff(table) => send_diff(alloc, sources, table, out),
     }
 }
 
@@ -182,6 +186,50 @@ pub(crate) fn send_top<W: Outlet>(
         send_text(alloc, &SumLine::of(&sums, top.rows, whole, all), out)
     } else {
         send_text(alloc, &SumTable::of(&sums, top.rows, whole, all), out)
+    }
+}
+
+// Sends the greatest changes from the first source to the second.
+pub(crate) fn send_diff<W: Outlet>(
+    alloc: Global,
+    sources: &SourceLists,
+    table: TopTable,
+    out: &mut W,
+) -> Result<(), Failure>
+    requires { length sources.now.lists ≡ 2 }
+    ensures sent { Sends (diff_text table (list_of (samples_of sources.now.lists) 0)
+        (list_of (samples_of sources.now.lists) 1)) (W.contents out.old) (W.contents out.new) result }
+    ensures flushed { Flushes (W.is_flushed out.new) (W.failures out.old) (W.failures out.new)
+        result }
+{
+    let lists = sources.lists();
+    send_changes(alloc, &lists[0], &lists[1], table, out)
+}
+
+// Sends the greatest changes from one profile to another, as a table or as a line of JSON.
+fn send_changes<W: Outlet>(
+    alloc: Global,
+    before: &SourceList,
+    after: &SourceList,
+    table: TopTable,
+    out: &mut W,
+) -> Result<(), Failure>
+    requires before { total_weight before.now.samples < 2 ^ 64 }
+    requires after { total_weight after.now.samples < 2 ^ 64 }
+    ensures sent { Sends (diff_text table before.now.samples after.now.samples)
+        (W.contents out.old) (W.contents out.new) result }
+    ensures flushed { Flushes (W.is_flushed out.new) (W.failures out.old) (W.failures out.new)
+        result }
+{
+    let changes = change_functions(alloc, before, after, table.by)?;
+    let whole = Change {
+        before: before.total() as u64,
+        after: after.total() as u64,
+    };
+    if table.is_json {
+        send_text(alloc, &ChangeLine::of(&changes, table.rows, whole), out)
+    } else {
+        send_text(alloc, &ChangeTable::of(&changes, table.rows), out)
     }
 }
 

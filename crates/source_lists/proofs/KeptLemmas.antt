@@ -14,14 +14,13 @@ use Rattle.stack_core.specs.Reading.{IsSourceLimited, Rest}
 use Rattle.stack_core.specs.declared.endings.Close.{Close}
 use Rattle.stack_core.specs.declared.endings.Close.TheVariants.{NoMemory, Read}
 use Rattle.stack_core.specs.declared.endings.SourceEnd.{SourceEnd}
-use Rattle.stack_core.proofs.InterleavingLemmas.{AreOf-interleaved, AreOf-IsInterleaving, IsInterleaving-AreOf}
+use Rattle.stack_core.proofs.InterleavingLemmas.{AreOf-IsInterleaving, IsInterleaving-AreOf}
 use Rattle.run_options.specs.Filters.{has_match, has_text, is_everything, is_none, keeps, kept_rest, kept_samples}
-use Rattle.run_options.proofs.FilterLemmas.{all_is_kept, keeps_each, limited_kept}
+use Rattle.run_options.proofs.FilterLemmas.{all_is_kept, limited_kept}
 use Rattle.run_options.specs.declared.filters.Filter.{Filter}
 use Rattle.merged_stacks.specs.Timeline.{samples_of}
 use Rattle.ring_collect.specs.Collection.{seen_as_rest}
 use Rattle.source_lists.specs.Lists.{AreLimited}
-use Rattle.source_lists.specs.WholeRuns.{kept_pairs}
 use Rattle.source_lists.specs.checked.KeptStacks.{all_are_kept, are_kept, are_matched, is_marked}
 use Rattle.source_lists.proofs.OrderLemmas.{length-interleaved, no_pair, pair_at}
 
@@ -88,7 +87,11 @@ kept_more asked samples i within =
 
 -- ---- the order
 
--- the sources of the pairs that are kept
+-- the pairs whose sample is kept
+abbrev kept_pairs : Filter → List (ℕ × Sample) → List (ℕ × Sample)
+kept_pairs asked pairs = filter (λ pair. keeps asked pair.1.stack) pairs
+
+-- their sources
 abbrev pub kept_sources : Filter → List (ℕ × Sample) → List ℕ
 kept_sources asked pairs = sources_of (kept_pairs asked pairs)
 
@@ -158,25 +161,15 @@ kept_are_of asked lists order ordered = record {
       ∙ (ap (kept_samples asked) ((IsInterleaving-AreOf order lists ordered).by_source source) ∙ sym (list_of_kept asked lists source));
 }
 
--- the order of all that are kept, and what it stands for
+-- the order of all that are kept
 pub kept_order_all : (asked : Filter) (lists : List (List Sample)) (order left : List ℕ) (p : ℕ) → IsInterleaving order lists → length order ≤ p → left ≡ kept_sources asked (take p (interleaved order lists))
-    → IsInterleaving left (map (kept_samples asked) lists) × (kept_pairs asked (interleaved order lists) ≡ interleaved left (map (kept_samples asked) lists))
+    → IsInterleaving left (map (kept_samples asked) lists)
 kept_order_all asked lists order left p ordered past left_is =
     let is : left ≡ kept_sources asked (interleaved order lists) =
     left_is ∙ ap (kept_sources asked) (take_all p (interleaved order lists) (omega (arith, past, length-interleaved lists order ordered))) in
-    let pairs = kept_pairs asked (interleaved order lists) in
     let lists_left = map (kept_samples asked) lists in
-    let of = kept_are_of asked lists order ordered in (
-      subst (λ (order : List ℕ). IsInterleaving order lists_left) (sym is) (AreOf-IsInterleaving pairs lists_left of),
-      sym (ap (λ (order : List ℕ). interleaved order lists_left) is ∙ AreOf-interleaved pairs lists_left of),
-    )
-
--- where all is kept all pairs are
-pub all_pairs_kept : (asked : Filter) → is_everything asked ≡ true → (pairs : List (ℕ × Sample)) → kept_pairs asked pairs ≡ pairs
-all_pairs_kept asked e [] = refl
-all_pairs_kept asked e (pair ∷ pairs) =
-    ap (λ b. cond b (pair ∷ kept_pairs asked pairs) (kept_pairs asked pairs)) (keeps_each asked e pair.1.stack)
-    ∙ ap (λ later. pair ∷ later) (all_pairs_kept asked e pairs)
+    subst (λ (order : List ℕ). IsInterleaving order lists_left) (sym is)
+    (AreOf-IsInterleaving (kept_pairs asked (interleaved order lists)) lists_left (kept_are_of asked lists order ordered))
 
 -- ---- lists and their marks
 

@@ -3,5 +3,4 @@ pub mod Lists
 pub mod Runs
 pub mod Sources
 pub mod Types
-pub mod WholeRuns
 pub mod checked

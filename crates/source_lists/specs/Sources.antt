@@ -19,6 +19,10 @@ use Rattle.merged_stacks.specs.Merged.{all_samples}
 abbrev pub joined_pieces : List (Vec ℕ Global) → List ℕ
 joined_pieces pieces = concat (map (λ piece. piece.items) pieces)
 
+-- a source, by its format and its bytes
+abbrev pub format_and_bytes : Source → Format × List ℕ
+format_and_bytes source = (source.format, source.bytes.items)
+
 -- the samples and the ending for which bytes of a format stand
 abbrev pub read_bytes : Format → List ℕ → Pick → Naming → Rest
 read_bytes Folded bytes pick naming = read_folded bytes
@@ -36,14 +40,18 @@ source_rest options source = asked_rest options source.format source.bytes.items
 abbrev pub rests_of : Options → List Source → List Rest
 rests_of options sources = map (source_rest options) sources
 
--- all samples of a source and its ending, whatever the filter
-abbrev pub whole_rest : Options → Source → Rest
-whole_rest options source = read_bytes source.format source.bytes.items options.pick options.naming
+-- the same of sources by their formats and bytes
+abbrev pub asked_rests : Options → List (Format × List ℕ) → List Rest
+asked_rests options inputs = map (λ input. asked_rest options input.0 input.1) inputs
 
-abbrev pub whole_rests_of : Options → List Source → List Rest
-whole_rests_of options sources = map (whole_rest options) sources
+-- all samples of such a source and its ending, whatever the filter
+abbrev pub whole_rest : Options → Format × List ℕ → Rest
+whole_rest options input = read_bytes input.0 input.1 options.pick options.naming
+
+abbrev pub whole_rests : Options → List (Format × List ℕ) → List Rest
+whole_rests options inputs = map (whole_rest options) inputs
 
 -- what the samples of all sources weigh together, whatever the filter
-abbrev pub weight_of_sources : Options → List Source → ℕ
-weight_of_sources options sources =
-    total_weight (all_samples (map (λ rest. rest.samples) (whole_rests_of options sources)))
+abbrev pub whole_weight : Options → List (Format × List ℕ) → ℕ
+whole_weight options inputs =
+    total_weight (all_samples (map (λ input. (whole_rest options input).samples) inputs))

@@ -1,5 +1,5 @@
 -- The sample type whose values are the weights of a source.
-use Rattle.std.specs.Prelude.{ℕ, List, [], Option, Some, None}
+use Rattle.std.specs.Prelude.{ℕ, List, [], Option, Some, None, map}
 use Rattle.run_options.specs.declared.choices.Pick.{Pick}
 use Rattle.run_options.specs.declared.formats.Format.{Format}
 use Rattle.run_options.specs.declared.formats.Format.TheVariants.{Folded, Pprof}
@@ -9,7 +9,6 @@ use Rattle.profile_messages.specs.declared.types.SampleType.{SampleType}
 use Rattle.profile_messages.specs.Message.{first}
 use Rattle.profile_messages.specs.FileFaults.{file_faults}
 use Rattle.profile_messages.specs.SampleTypes.{chosen_type}
-use Rattle.source_lists.specs.declared.sources.Source.{Source}
 
 -- the type of a source that has none
 abbrev pub no_type : SampleType
@@ -29,5 +28,9 @@ abbrev pub type_of_bytes : Format → List ℕ → Pick → SampleType
 type_of_bytes Folded bytes pick = no_type
 type_of_bytes Pprof bytes pick = type_without (first (file_faults bytes pick)) (chosen_type bytes pick)
 
-abbrev pub source_type : Options → Source → SampleType
-source_type options source = type_of_bytes source.format source.bytes.items options.pick
+abbrev pub input_type : Options → Format × List ℕ → SampleType
+input_type options input = type_of_bytes input.0 input.1 options.pick
+
+-- the same of each
+abbrev pub types_of : Options → List (Format × List ℕ) → List SampleType
+types_of options inputs = map (input_type options) inputs

@@ -1,5 +1,6 @@
 -- What the insides of the crate keep, which the checks prove: no public contract stands on it.
 pub mod Filtering
+pub mod Inputs
 pub mod Joining
 pub mod KeptStacks
 pub mod Parts

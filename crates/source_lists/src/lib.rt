@@ -2,6 +2,8 @@
 #![tactic(auto)]
 
 mod filtered_reader;
+mod gating;
+mod inputs;
 mod joined_names;
 mod joined_stacks;
 mod kept_lists;
@@ -18,14 +20,11 @@ mod source_reader;
 mod source_readers;
 mod source_types;
 mod sources;
-mod text_runs;
 mod unkept_samples;
-mod whole_runs;
 
-pub use part_runs::read_in_parts;
-pub use reading::read_sources;
+pub use gating::Gating;
+pub use inputs::Input;
+pub use reading::{Run, read};
 pub use source_lists::SourceLists;
-pub use source_types::{chosen_types, no_type};
+pub use source_types::chosen_types;
 pub use sources::Source;
-pub use text_runs::read_text;
-pub use whole_runs::{WholeRun, read_whole_sources};

@@ -1,56 +1,94 @@
 //! The readers of the parts of a source.
 
-ghost use Rattle.std.specs.Prelude.{◌≡◌, ◌≤◌, ◌<◌, ◌∷◌, [], All, IfOk, length, map};
+ghost use Rattle.std.specs.Prelude.{◌≡◌, ◌<◌, [], All, IfOk, map};
 ghost use Rattle.std.specs.List.{concat};
 ghost use Rattle.stack_core.specs.Parts.{ReadsInParts};
 ghost use Rattle.folded_lines.specs.Reading.{read_folded};
 ghost use Rattle.folded_lines.specs.TextParts.{AreCutAtLines};
+ghost use Rattle.profile_tables.specs.Samples.{read_pprof};
 ghost use Rattle.profile_tables.specs.State.{nothing_told};
-ghost use Rattle.source_lists.specs.Sources.{read_bytes};
+ghost use Rattle.source_lists.specs.Sources.{whole_rest};
 ghost use Rattle.source_lists.specs.checked.Readers.{reader_rest, reader_told};
 
+use crate::inputs::{Content, Input};
 use crate::source_reader::SourceReader;
 use bytes::Bytes;
 use folded_lines::FoldedReader;
 use profile_tables::PprofReader;
-use run_options::{Format, Options};
+use run_options::Options;
 use std::alloc::{AllocError, Global};
 
-/// Readers of at most so many parts of a source, one after another, which have told nothing.
-pub(crate) fn part_readers(
-    alloc: Global,
-    format: Format,
-    bytes: Bytes,
-    options: &Options,
-    count: usize,
-) -> Result<Vec<SourceReader>, AllocError>
-    requires { 0 < count }
-    ensures parts { IfOk result (λ readers.
-        ReadsInParts (read_bytes format bytes options.now.pick options.now.naming)
-        (map reader_rest readers.items)) }
-    ensures few { IfOk result (λ readers. length readers.items ≤ count) }
-    ensures told { IfOk result (λ readers.
-        All (λ reader. reader_told reader ≡ record { names = []; stacks = [] }) readers.items) }
+/// How many readers read the parts of a source at most, if it is all there at once. A stack that stands in all parts is told once for each.
+const READERS: usize = 4;
+
+/// How many bytes there are for each reader. For fewer a thread costs more than it brings.
+const PART_LEN: usize = 1 << 20;
+
+/// How many readers read so many bytes that come alone.
+fn reader_count(len: usize) -> usize
+    ensures { 0 < result }
 {
-    match format {
-        Format::Folded => of_texts(alloc, FoldedReader::parts(alloc, bytes, count)?),
-        Format::Pprof => {
-            let parts = PprofReader::parts(alloc, bytes, &options.pick, options.naming, count)?;
-            of_profiles(alloc, parts)
-        }
+    (len / PART_LEN).clamp(1, READERS)
+}
+
+/// In how many parts a source is read where it comes alone.
+pub(crate) fn part_count(input: &Input) -> usize {
+    match input.content() {
+        Content::Text(parts) => match parts.as_slice() {
+            [text] => reader_count(text.len()),
+            _ => parts.len(),
+        },
+        Content::Profile(bytes) => reader_count(bytes.len()),
     }
 }
 
-/// Readers of parts of a text that is cut at line ends, in their order, which have told nothing.
-pub(crate) fn text_readers(alloc: Global, parts: &[Bytes]) -> Result<Vec<SourceReader>, AllocError>
-    requires { AreCutAtLines parts.now }
+/// Readers of the parts of a source, one after another, which have told nothing.
+pub(crate) fn part_readers(
+    alloc: Global,
+    input: &Input,
+    options: &Options,
+) -> Result<Vec<SourceReader>, AllocError>
     ensures parts { IfOk result (λ readers.
-        ReadsInParts (read_folded (concat parts.now)) (map reader_rest readers.items)) }
-    ensures count { IfOk result (λ readers. length readers.items ≡ length parts.now) }
+        ReadsInParts (whole_rest options.now input.now) (map reader_rest readers.items)) }
     ensures told { IfOk result (λ readers.
         All (λ reader. reader_told reader ≡ record { names = []; stacks = [] }) readers.items) }
 {
-    of_texts(alloc, FoldedReader::of_parts(alloc, parts)?)
+    match input.content() {
+        Content::Text(parts) => text_readers(alloc, parts.as_slice()),
+        Content::Profile(bytes) => profile_readers(alloc, bytes, options),
+    }
+}
+
+fn text_readers(alloc: Global, parts: &[Bytes]) -> Result<Vec<SourceReader>, AllocError>
+    requires { AreCutAtLines parts.now }
+    ensures parts { IfOk result (λ readers.
+        ReadsInParts (read_folded (concat parts.now)) (map reader_rest readers.items)) }
+    ensures told { IfOk result (λ readers.
+        All (λ reader. reader_told reader ≡ record { names = []; stacks = [] }) readers.items) }
+{
+    match parts {
+        [text] => {
+            let count = reader_count(text.len());
+            of_texts(alloc, FoldedReader::parts(alloc, text.clone()?, count)?)
+        }
+        _ => of_texts(alloc, FoldedReader::of_parts(alloc, parts)?),
+    }
+}
+
+fn profile_readers(
+    alloc: Global,
+    bytes: &Bytes,
+    options: &Options,
+) -> Result<Vec<SourceReader>, AllocError>
+    ensures parts { IfOk result (λ readers.
+        ReadsInParts (read_pprof bytes.now options.now.pick options.now.naming)
+        (map reader_rest readers.items)) }
+    ensures told { IfOk result (λ readers.
+        All (λ reader. reader_told reader ≡ record { names = []; stacks = [] }) readers.items) }
+{
+    let count = reader_count(bytes.len());
+    let parts = PprofReader::parts(alloc, bytes.clone()?, &options.pick, options.naming, count)?;
+    of_profiles(alloc, parts)
 }
 
 fn of_texts(alloc: Global, texts: Vec<FoldedReader>) -> Result<Vec<SourceReader>, AllocError>
@@ -78,22 +116,5 @@ fn of_profiles(alloc: Global, profiles: Vec<PprofReader>) -> Result<Vec<SourceRe
     for profile in profiles {
         readers.push(SourceReader::Pprof(profile))?;
     }
-    Ok(readers)
-}
-
-/// The one reader of a source whose bytes others share, which has told nothing.
-pub(crate) fn lone_reader(
-    alloc: Global,
-    format: Format,
-    bytes: Bytes,
-    options: &Options,
-) -> Result<Vec<SourceReader>, AllocError>
-    ensures rests { IfOk result (λ readers. map reader_rest readers.items
-        ≡ read_bytes format bytes options.now.pick options.now.naming ∷ []) }
-    ensures told { IfOk result (λ readers.
-        All (λ reader. reader_told reader ≡ record { names = []; stacks = [] }) readers.items) }
-{
-    let mut readers = Vec::new(alloc);
-    readers.push(SourceReader::over_shared(alloc, format, bytes, options)?)?;
     Ok(readers)
 }

@@ -1,10 +1,8 @@
 //! Readers that are run in threads. Each run stands alone, since that a reader may go to another thread is found where there is
 //! little else to look through.
 
-ghost use Rattle.std.specs.Prelude.{◌≡◌, ◌≤◌, ◌<◌, ◌++◌, ℕ, [], All, IfOk, IsErrOf, length, map};
+ghost use Rattle.std.specs.Prelude.{◌≡◌, ◌≤◌, ◌<◌, ℕ, [], All, IfOk, IsErrOf, length, map};
 ghost use Rattle.std.specs.Arc.{arc_value};
-ghost use Rattle.stack_core.specs.Interleaving.{AreOf, interleaved};
-ghost use Rattle.merged_stacks.specs.Timeline.{samples_of};
 ghost use Rattle.source_lists.specs.Runs.{ReadsLists};
 ghost use Rattle.source_lists.specs.checked.Readers.{filtered_rest, reader_rest, reader_told};
 
@@ -39,10 +37,6 @@ pub(crate) fn run_rows<
         (map reader_rest readers.items) run.lists.items run.order.items) }
     ensures unfinished { (source : ℕ) → IsErrOf result (CollectFault.Unfinished source)
         → source < length readers.items }
-    ensures fed { IfOk result (λ run. S.taken sink.new ≡ S.taken sink.old ++ interleaved run.order.items
-        (samples_of run.lists.items)) }
-    ensures by_source { IfOk result (λ run. AreOf (interleaved run.order.items
-        (samples_of run.lists.items)) (samples_of run.lists.items)) }
     ensures setting { S.setting sink.new ≡ S.setting sink.old }
 {
     collect_rows(rt, alloc, readers, ring, gate, sink)

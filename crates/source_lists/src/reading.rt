@@ -1,69 +1,148 @@
-//! Runs under a gate.
+//! What is read of sources, each to its end or as far as a gate lets it.
 
-ghost use Rattle.std.specs.Prelude.{◌≡◌, ◌≤◌, ◌<◌, ℕ, IfOk, IsErrOf, length};
+ghost use Rattle.std.specs.Prelude.{◌≡◌, ◌≤◌, ◌<◌, ℕ, Some, IfOk, IsErrOf, length, map};
 ghost use Rattle.std.specs.Arc.{arc_value};
+ghost use Rattle.stack_core.specs.Interleaving.{IsInterleaving};
+ghost use Rattle.merged_stacks.specs.Merged.{all_samples};
+ghost use Rattle.merged_stacks.specs.Timeline.{samples_of, total_weight};
+ghost use Rattle.ring_collect.specs.Collection.{seen_as_rest};
+ghost use Rattle.run_options.specs.Filters.{kept_rest};
 ghost use Rattle.source_lists.specs.Lists.{AreLimited};
-ghost use Rattle.source_lists.specs.Runs.{ReadsLists};
-ghost use Rattle.source_lists.specs.Sources.{rests_of};
+ghost use Rattle.source_lists.specs.Runs.{IsOpen, MayGo, MayStop, ReadsLists};
+ghost use Rattle.source_lists.specs.Sources.{asked_rests, whole_weight};
 
+use crate::gating::Gating;
+use crate::inputs::Input;
+use crate::part_runs::collect_all;
 use crate::reader_runs::{run_filtered, run_rows};
 use crate::source_lists::SourceLists;
 use crate::source_readers::{filtered_readers_of, readers_of};
-use crate::sources::Source;
 use ring_collect::{CollectFault, Collected};
 use run_options::Options;
-use stack_core::{Gate, NoSink};
-use std::alloc::Global;
+use stack_core::{Gate, RowSink};
+use std::alloc::{AllocError, Global};
 use std::sync::{Arc, Wait};
 use std::thread::Threads;
 
-/// Collects what the options ask for of the sources: by rows, or, where a filter leaves samples out, by samples.
-fn collect_asked<T: Threads + Wait + Copy + Send + 'static, G: Gate + Send + Sync + Drop + 'static>(
+/// What was read of sources.
+#[derive(Drop)]
+pub struct Run {
+    /// The samples that the filter keeps.
+    pub kept: SourceLists,
+    /// What all samples weigh, with those that the filter leaves out. `None` where a gate was asked: what is behind a stop was not read.
+    pub whole_weight: Option<u64>,
+}
+
+/// Collects what the options ask for of the sources: by rows, or, where a filter leaves samples out, by samples, since a gate is asked
+/// for those alone that are kept.
+fn collect_asked<
+    T: Threads + Wait + Copy + Send + 'static,
+    G: Gate + Send + Sync + Drop + 'static,
+    S: RowSink,
+>(
     rt: &T,
     alloc: Global,
-    sources: Vec<Source>,
+    inputs: Vec<Input>,
     options: &Options,
     gate: Arc<G>,
+    sink: &mut S,
 ) -> Result<Collected, CollectFault>
-    requires { length sources.items ≤ 64 }
+    requires { length inputs.items ≤ 64 }
     ensures reads { IfOk result (λ run.
         ReadsLists (G.may_stop (arc_value gate)) (G.may_go (arc_value gate))
-        (rests_of options.now sources.items) run.lists.items run.order.items) }
+        (asked_rests options.now inputs.items) run.lists.items run.order.items) }
     ensures limits { IfOk result (λ run. AreLimited run.lists.items) }
     ensures unfinished { (source : ℕ) → IsErrOf result (CollectFault.Unfinished source)
-        → source < length sources.items }
+        → source < length inputs.items }
+    ensures setting { S.setting sink.new ≡ S.setting sink.old }
 {
     if options.filter.is_everything() {
-        let readers = readers_of(alloc, sources, options)?;
-        run_rows(rt, alloc, readers, options.ring, gate, &mut NoSink::new())
+        let readers = readers_of(alloc, inputs, options)?;
+        run_rows(rt, alloc, readers, options.ring, gate, sink)
     } else {
-        let readers = filtered_readers_of(alloc, sources, options)?;
+        let readers = filtered_readers_of(alloc, inputs, options)?;
         run_filtered(rt, alloc, readers, options.ring, gate)
     }
 }
 
-/// Reads and collects all sources at the same time, each in a thread of its own and through a ring of its own: the lists and the
-/// order of a run. A stack that comes again costs twelve bytes, and four for the order. At most 64 sources.
+/// What the filter of the options keeps of a run in which each source was read to its end.
+fn kept_run(alloc: Global, whole: SourceLists, options: &Options) -> Result<Run, AllocError>
+    ensures lists { IfOk result (λ run. map seen_as_rest run.kept.lists
+        ≡ map (kept_rest options.now.filter) (map seen_as_rest whole.lists)) }
+    ensures order { IfOk result (λ run.
+        IsInterleaving run.kept.order (samples_of run.kept.lists)) }
+    ensures whole_weight { IfOk result (λ run.
+        run.whole_weight ≡ Some (total_weight (all_samples (samples_of whole.lists)))) }
+{
+    let whole_weight = Some(whole.total());
+    let kept = whole.kept(alloc, &options.filter)?;
+    Ok(Run { kept, whole_weight })
+}
+
+fn read_open<T: Threads + Wait + Copy + Send + 'static, S: RowSink>(
+    rt: &T,
+    alloc: Global,
+    inputs: Vec<Input>,
+    options: &Options,
+    sink: &mut S,
+) -> Result<Run, CollectFault>
+    requires { length inputs.items ≤ 64 }
+    ensures reads { IfOk result (λ run. ReadsLists (λ _ _. ⊥) (λ _ _. Unit {0})
+        (asked_rests options.now inputs.items) run.kept.lists run.kept.order) }
+    ensures weight { IfOk result (λ run.
+        run.whole_weight ≡ Some (whole_weight options.now inputs.items)) }
+    ensures refused { (source : ℕ) → IsErrOf result (CollectFault.Unfinished source)
+        → source < length inputs.items }
+    ensures setting { S.setting sink.new ≡ S.setting sink.old }
+{
+    let whole = collect_all(rt, alloc, inputs, options, sink)?;
+    Ok(kept_run(alloc, whole, options)?)
+}
+
+/// Reads and collects sources at the same time, each in a thread of its own and through a ring of its own: the lists of the samples that
+/// the filter of the options keeps, and the order in which they came. A stack that comes again costs twelve bytes, and four for the
+/// order. At most 64 sources. A long source that comes alone is read in parts at the same time, if no gate is asked.
 ///
-/// The gate is asked before each sample of a source. Where it says Stop, the source's list has the samples before, and the ending
-/// `Stopped`.
-pub fn read_sources<
+/// A gate is asked before each sample of a source that the filter keeps. Where it says Stop, the source's list has the samples before,
+/// and the ending `Stopped`. Without a gate all samples are collected by rows, whatever the filter, and then each name and each stack of
+/// a source is looked at once, however many samples have it.
+///
+/// The sink looks on: it is fed with samples as they arrive, those of a part under the part's number. Under a gate and a filter that
+/// leaves samples out it is not fed.
+pub fn read<
     T: Threads + Wait + Copy + Send + 'static,
     G: Gate + Send + Sync + Drop + 'static,
+    S: RowSink,
 >(
     rt: &T,
     alloc: Global,
-    sources: Vec<Source>,
+    inputs: Vec<Input>,
     options: &Options,
-    gate: Arc<G>,
-) -> Result<SourceLists, CollectFault>
-    requires { length sources.items ≤ 64 }
+    gating: Gating<G>,
+    sink: &mut S,
+) -> Result<Run, CollectFault>
+    requires { length inputs.items ≤ 64 }
+
+    // Each list is the samples that the source's bytes stand for, as the options ask for them: all of them, or the first ones where the
+    // gate stopped the source. The order is one of the lists.
     ensures reads { IfOk result (λ run.
-        ReadsLists (G.may_stop (arc_value gate)) (G.may_go (arc_value gate))
-        (rests_of options.now sources.items) run.lists run.order) }
+        ReadsLists (MayStop G.may_stop gating) (MayGo G.may_go gating)
+        (asked_rests options.now inputs.items) run.kept.lists run.kept.order) }
+    ensures weight { IsOpen gating → IfOk result (λ run.
+        run.whole_weight ≡ Some (whole_weight options.now inputs.items)) }
+
     ensures refused { (source : ℕ) → IsErrOf result (CollectFault.Unfinished source)
-        → source < length sources.items }
+        → source < length inputs.items }
+    ensures setting { S.setting sink.new ≡ S.setting sink.old }
 {
-    let run = collect_asked(rt, alloc, sources, options, gate)?;
-    Ok(SourceLists::of(run))
+    match gating {
+        Gating::Open => read_open(rt, alloc, inputs, options, sink),
+        Gating::Asked(gate) => {
+            let kept = SourceLists::of(collect_asked(rt, alloc, inputs, options, gate, sink)?);
+            Ok(Run {
+                kept,
+                whole_weight: None,
+            })
+        }
+    }
 }

@@ -1,14 +1,13 @@
 //! What a run collected of its sources.
 
 ghost use Rattle.std.specs.Prelude.{◌≡◌, ◌<◌, ◌^◌, ◌∷◌, [], IfOk, map};
-ghost use Rattle.stack_core.specs.Interleaving.{IsInterleaving, interleaved};
+ghost use Rattle.stack_core.specs.Interleaving.{IsInterleaving};
 ghost use Rattle.stack_core.specs.Reading.{IsSourceLimited};
 ghost use Rattle.merged_stacks.specs.Merged.{all_samples};
 ghost use Rattle.merged_stacks.specs.Timeline.{samples_of, timeline, total_weight};
 ghost use Rattle.ring_collect.specs.Collection.{seen_as_rest};
 ghost use Rattle.run_options.specs.Filters.{kept_rest};
 ghost use Rattle.source_lists.specs.Lists.{AreLimited};
-ghost use Rattle.source_lists.specs.WholeRuns.{kept_pairs};
 
 use crate::kept_lists::kept_lists;
 use crate::kept_order::kept_order;
@@ -63,11 +62,8 @@ impl SourceLists {
 
     /// What a filter keeps of the samples, in the order in which they came.
     pub(crate) fn kept(self, alloc: Global, filter: &Filter) -> Result<SourceLists, AllocError>
-        ensures lists { IfOk result (λ left. map seen_as_rest left.lists
+        ensures { IfOk result (λ left. map seen_as_rest left.lists
             ≡ map (kept_rest filter.now) (map seen_as_rest self.lists)) }
-        ensures in_order { IfOk result (λ left.
-            kept_pairs filter.now (interleaved self.order (samples_of self.lists))
-            ≡ interleaved left.order (samples_of left.lists)) }
     {
         if filter.is_everything() {
             return Ok(self);

@@ -1,14 +1,15 @@
 //! The readers of all formats as one type.
 
-ghost use Rattle.std.specs.Prelude.{◌≡◌, [], IfOk, OnOk};
+ghost use Rattle.std.specs.Prelude.{◌≡◌, [], IfOk};
+ghost use Rattle.std.specs.List.{concat};
 ghost use Rattle.stack_core.specs.Reading.{IsSourceLimited};
-ghost use Rattle.source_lists.specs.Sources.{read_bytes, whole_rest};
+ghost use Rattle.source_lists.specs.Sources.{whole_rest};
 
-use crate::sources::Source;
+use crate::inputs::{Content, Input};
 use bytes::Bytes;
 use folded_lines::FoldedReader;
 use profile_tables::PprofReader;
-use run_options::{Format, Options};
+use run_options::Options;
 use stack_core::{RowReader, RowStep, SampleReader, Step};
 use std::alloc::{AllocError, Global};
 
@@ -25,48 +26,47 @@ impl SourceReader {
     /// A reader of the source from its beginning, which has told nothing.
     pub(crate) fn over(
         alloc: Global,
-        source: Source,
+        input: Input,
         options: &Options,
     ) -> Result<SourceReader, AllocError>
         ensures rest { IfOk result (λ reader.
-            reader_rest reader ≡ whole_rest options.now source) }
+            reader_rest reader ≡ whole_rest options.now input) }
         ensures told { IfOk result (λ reader. reader_told reader ≡ record { names = []; stacks = [] }) }
-        ensures limits { OnOk result (IsSourceLimited (whole_rest options.now source).samples) }
+        ensures limits { IsSourceLimited (whole_rest options.now input).samples }
     {
-        match source.format {
-            Format::Folded => Ok(SourceReader::Folded(FoldedReader::over(source.bytes))),
-            Format::Pprof => {
-                let pick = options.pick.copy(alloc)?;
-                let reader = PprofReader::over(source.bytes, pick, options.naming);
-                Ok(SourceReader::Pprof(reader))
+        match input.into_content() {
+            Content::Text(parts) => {
+                let text = whole_text(alloc, parts)?;
+                Ok(SourceReader::Folded(FoldedReader::over_shared(alloc, text)))
             }
-        }
-    }
-}
-
-impl SourceReader {
-    ghost use Rattle.source_lists.specs.checked.Readers.{reader_rest, reader_told};
-
-    /// A reader of bytes that others share, which has told nothing.
-    pub(crate) fn over_shared(
-        alloc: Global,
-        format: Format,
-        bytes: Bytes,
-        options: &Options,
-    ) -> Result<SourceReader, AllocError>
-        ensures rest { IfOk result (λ reader. reader_rest reader
-            ≡ read_bytes format bytes options.now.pick options.now.naming) }
-        ensures told { IfOk result (λ reader. reader_told reader ≡ record { names = []; stacks = [] }) }
-    {
-        match format {
-            Format::Folded => Ok(SourceReader::Folded(FoldedReader::over_shared(alloc, bytes))),
-            Format::Pprof => {
+            Content::Profile(bytes) => {
                 let pick = options.pick.copy(alloc)?;
                 let reader = PprofReader::over_shared(bytes, pick, options.naming);
                 Ok(SourceReader::Pprof(reader))
             }
         }
     }
+}
+
+/// The parts of a text as one.
+fn whole_text(alloc: Global, parts: Vec<Bytes>) -> Result<Bytes, AllocError>
+    ensures { IfOk result (λ text. text ≡ concat parts.items) }
+{
+    match parts.as_slice() {
+        [text] => text.clone(),
+        _ => joined_text(alloc, parts),
+    }
+}
+
+/// The same of several parts. Each is given back as soon as it is copied.
+fn joined_text(alloc: Global, parts: Vec<Bytes>) -> Result<Bytes, AllocError>
+    ensures { IfOk result (λ text. text ≡ concat parts.items) }
+{
+    let mut text = Vec::new(alloc);
+    for part in parts {
+        text.extend_from_slice(&part)?;
+    }
+    Ok(Bytes::from_vec(text)?)
 }
 
 impl SampleReader for SourceReader {

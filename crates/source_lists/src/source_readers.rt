@@ -2,31 +2,31 @@
 
 ghost use Rattle.std.specs.Prelude.{◌≡◌, [], All, IfOk, map};
 ghost use Rattle.stack_core.specs.Reading.{IsSourceLimited};
-ghost use Rattle.source_lists.specs.Sources.{rests_of, whole_rests_of};
+ghost use Rattle.source_lists.specs.Sources.{asked_rests, whole_rests};
 ghost use Rattle.source_lists.specs.checked.Readers.{filtered_rest, reader_rest, reader_told};
 
 use crate::filtered_reader::{FilteredReader, filter_all};
+use crate::inputs::Input;
 use crate::source_reader::SourceReader;
-use crate::sources::Source;
 use run_options::Options;
 use std::alloc::{AllocError, Global};
 
 /// A reader for each source, which has told nothing.
 pub(crate) fn readers_of(
     alloc: Global,
-    sources: Vec<Source>,
+    inputs: Vec<Input>,
     options: &Options,
 ) -> Result<Vec<SourceReader>, AllocError>
     ensures rests { IfOk result (λ readers.
-        map reader_rest readers.items ≡ whole_rests_of options.now sources.items) }
+        map reader_rest readers.items ≡ whole_rests options.now inputs.items) }
     ensures limits { IfOk result (λ readers.
-        All (λ rest. IsSourceLimited rest.samples) (whole_rests_of options.now sources.items)) }
+        All (λ rest. IsSourceLimited rest.samples) (whole_rests options.now inputs.items)) }
     ensures told { IfOk result (λ readers.
         All (λ reader. reader_told reader ≡ record { names = []; stacks = [] }) readers.items) }
 {
-    let mut readers = Vec::with_capacity(alloc, sources.len())?;
-    for source in sources {
-        readers.push(SourceReader::over(alloc, source, options)?)?;
+    let mut readers = Vec::with_capacity(alloc, inputs.len())?;
+    for input in inputs {
+        readers.push(SourceReader::over(alloc, input, options)?)?;
     }
     Ok(readers)
 }
@@ -34,14 +34,14 @@ pub(crate) fn readers_of(
 /// A reader for each source that gives what the filter keeps.
 pub(crate) fn filtered_readers_of(
     alloc: Global,
-    sources: Vec<Source>,
+    inputs: Vec<Input>,
     options: &Options,
 ) -> Result<Vec<FilteredReader<SourceReader>>, AllocError>
     ensures rests { IfOk result (λ readers.
-        map filtered_rest readers.items ≡ rests_of options.now sources.items) }
+        map filtered_rest readers.items ≡ asked_rests options.now inputs.items) }
     ensures limits { IfOk result (λ readers.
-        All (λ rest. IsSourceLimited rest.samples) (rests_of options.now sources.items)) }
+        All (λ rest. IsSourceLimited rest.samples) (asked_rests options.now inputs.items)) }
 {
-    let readers = readers_of(alloc, sources, options)?;
+    let readers = readers_of(alloc, inputs, options)?;
     filter_all(alloc, readers, &options.filter)
 }

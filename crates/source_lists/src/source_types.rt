@@ -1,17 +1,17 @@
 //! The sample types whose values are the weights of sources.
 
-ghost use Rattle.std.specs.Prelude.{◌≡◌, IfOk, map};
+ghost use Rattle.std.specs.Prelude.{◌≡◌, IfOk};
 ghost use Rattle.run_options.specs.declared.formats.Format.TheVariants.{Pprof as IsPprof};
-ghost use Rattle.source_lists.specs.Types.{no_type, source_type, type_of_bytes};
+ghost use Rattle.source_lists.specs.Types.{input_type, no_type, type_of_bytes, types_of};
 
-use crate::sources::Source;
+use crate::inputs::{Content, Input};
 use profile_messages::{SampleType, TableFault, chosen_type};
-use run_options::{Format, Options, Pick};
+use run_options::{Options, Pick};
 use stack_core::Text;
 use std::alloc::{AllocError, Global};
 
 /// The type of a source that has none, as folded text: name and unit are empty.
-pub fn no_type(alloc: Global) -> SampleType
+fn no_type(alloc: Global) -> SampleType
     ensures { result ≡ no_type }
 {
     SampleType {
@@ -32,16 +32,12 @@ fn type_of_profile(alloc: Global, bytes: &[u8], pick: &Pick) -> Result<SampleTyp
 }
 
 /// The sample type of a source's weights.
-fn type_of_source(
-    alloc: Global,
-    source: &Source,
-    options: &Options,
-) -> Result<SampleType, AllocError>
-    ensures { IfOk result (λ found. found ≡ source_type options.now source.now) }
+fn type_of_input(alloc: Global, input: &Input, options: &Options) -> Result<SampleType, AllocError>
+    ensures { IfOk result (λ found. found ≡ input_type options.now input.now) }
 {
-    match source.format {
-        Format::Folded => Ok(no_type(alloc)),
-        Format::Pprof => type_of_profile(alloc, &source.bytes, &options.pick),
+    match input.content() {
+        Content::Text(_) => Ok(no_type(alloc)),
+        Content::Profile(bytes) => type_of_profile(alloc, bytes.as_slice(), &options.pick),
     }
 }
 
@@ -50,14 +46,14 @@ fn type_of_source(
 /// alone.
 pub fn chosen_types(
     alloc: Global,
-    sources: &[Source],
+    inputs: &[Input],
     options: &Options,
 ) -> Result<Vec<SampleType>, AllocError>
-    ensures { IfOk result (λ types. types.items ≡ map (source_type options.now) sources.now) }
+    ensures { IfOk result (λ types. types.items ≡ types_of options.now inputs.now) }
 {
-    let mut types = Vec::with_capacity(alloc, sources.len())?;
-    for source in sources {
-        types.push(type_of_source(alloc, source, options)?)?;
+    let mut types = Vec::with_capacity(alloc, inputs.len())?;
+    for input in inputs {
+        types.push(type_of_input(alloc, input, options)?)?;
     }
     Ok(types)
 }

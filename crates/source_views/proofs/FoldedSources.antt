@@ -13,21 +13,23 @@ use Rattle.folded_lines.proofs.ReadLemmas.{IsSourceLimited-read_folded}
 use Rattle.profile_tables.proofs.RestLemmas.{pprof-limited}
 use Rattle.merged_stacks.specs.Timeline.{drawn}
 use Rattle.flame_layout.proofs.Sums.{same_graph}
-use Rattle.merging.specs.Sources.{read_bytes}
+use Rattle.source_lists.specs.Sources.{read_bytes}
 use Rattle.merging.specs.Sums.{all_samples}
 use Rattle.merging.proofs.BackLemmas.{samples_back}
-use Rattle.function_sums.proofs.FunctionList.{same_functions}
+use Rattle.function_sums.proofs.FunctionList.{same_changes, same_functions}
+use Rattle.sum_texts.specs.ChangeJson.{changes_line}
+use Rattle.sum_texts.specs.ChangeTable.{changes_table}
 use Rattle.sum_texts.specs.FunctionJson.{functions_line}
 use Rattle.sum_texts.specs.FunctionTable.{table_text}
 use Rattle.command_line.specs.declared.plans.TopTable.{TopTable}
 use Rattle.command_line.specs.declared.plans.View.{View}
-use Rattle.command_line.specs.declared.plans.View.TheVariants.{Fold, Graph, Chart, Pairs, PairBoxes, Top}
+use Rattle.command_line.specs.declared.plans.View.TheVariants.{Fold, Graph, Chart, Pairs, PairBoxes, Top, Diff}
 use Rattle.view_texts.specs.Json.{boxes_line, pair_boxes_line}
 use Rattle.view_texts.specs.Parts.{IsFoldable, refolded}
 use Rattle.view_texts.proofs.PartFolds.{refolded-sums, foldable-from}
 use Rattle.view_texts.proofs.SumViews.{SameSums, same_append, same_weights, same_folds, same_pairs, same_boxes}
 use Rattle.source_views.specs.SumViews.{SeesSums}
-use Rattle.source_views.specs.Texts.{top_text, view_text}
+use Rattle.source_views.specs.Texts.{diff_text, top_text, view_text}
 
 same_all : (lists : List (List Sample)) → All IsFoldable lists → SameSums (all_samples (map refolded lists)) (all_samples lists)
 same_all [] foldable = λ q. refl
@@ -46,6 +48,13 @@ same_top top xs ys same =
     let weight = same_weights xs ys same in
     λ i. cond top.is_json (functions_line None (weight i) (take top.rows (functions i))) (table_text None (weight i) (take top.rows (functions i)))
 
+same_diff : (table : TopTable) (old new before after : List Sample) → SameSums old before → SameSums new after → diff_text table old new ≡ diff_text table before after
+same_diff table old new before after first second =
+    let changes = same_changes table.by old new before after first second in
+    let olds = same_weights old before first in
+    let news = same_weights new after second in
+    λ i. cond table.is_json (changes_line (olds i) (news i) (take table.rows (changes i))) (changes_table (take table.rows (changes i)))
+
 pub same_views : (view : View) (lists : List (List Sample)) → SeesSums view → All IsFoldable lists → view_text view (map refolded lists) [] None ≡ view_text view lists [] None
 same_views Fold lists sees foldable = same_folds (all_samples (map refolded lists)) (all_samples lists) (same_all lists foldable)
 same_views (Graph width) lists sees foldable =
@@ -63,6 +72,8 @@ same_views (PairBoxes width) lists sees foldable =
     λ i. pair_boxes_line (same_weights old (list_of lists 0) first i) (same_weights new (list_of lists 1) second i) width
     (same_boxes old new (list_of lists 0) (list_of lists 1) first second i)
 same_views (Top top) lists sees foldable = same_top top (all_samples (map refolded lists)) (all_samples lists) (same_all lists foldable)
+same_views (Diff table) lists sees foldable =
+    same_diff table (list_of (map refolded lists) 0) (list_of (map refolded lists) 1) (list_of lists 0) (list_of lists 1) (same_at lists 0 foldable) (same_at lists 1 foldable)
 
 limited : (format : Format) (bytes : List ℕ) (pick : Pick) (naming : Naming) → IsSourceLimited (read_bytes format bytes pick naming).samples
 limited Folded bytes pick naming = IsSourceLimited-read_folded bytes

@@ -12,11 +12,12 @@ use Rattle.view_texts.specs.Json.{boxes_line, snapshot_line, pair_boxes_line}
 use Rattle.view_texts.specs.Pairs.{pairs_text}
 use Rattle.merging.specs.Snapshots.{snapshot_samples, snapshot_places}
 use Rattle.merging.specs.Sums.{all_samples}
+use Rattle.sum_texts.specs.DiffTexts.{diff_table, diff_line}
 use Rattle.sum_texts.specs.TopTexts.{top_table, top_line}
 use Rattle.command_line.specs.declared.plans.TopTable.{TopTable}
 use Rattle.command_line.specs.declared.plans.View.{View}
 use Rattle.merging.specs.declared.snapshots.Snapshot.{Snapshot}
-use Rattle.command_line.specs.declared.plans.View.TheVariants.{Fold, Graph, Chart, Pairs, PairBoxes, Top}
+use Rattle.command_line.specs.declared.plans.View.TheVariants.{Fold, Graph, Chart, Pairs, PairBoxes, Top, Diff}
 
 -- the flame graph of samples
 abbrev pub graph_line : ℕ → List Sample → List ℕ
@@ -59,6 +60,11 @@ abbrev pub top_text : Option ℕ → TopTable → List Sample → List ℕ
 top_text all top samples =
     if top.is_json then top_line all top.by top.rows samples else top_table all top.by top.rows samples
 
+-- the functions with the greatest changes from some samples to others: their table, or their line of JSON
+abbrev pub diff_text : TopTable → List Sample → List Sample → List ℕ
+diff_text table before after =
+    if table.is_json then diff_line table.by table.rows before after else diff_table table.by table.rows before after
+
 abbrev pub view_text : View → List (List Sample) → List ℕ → Option ℕ → List ℕ
 view_text Fold lists order every = fold_text (all_samples lists)
 view_text (Graph width) lists order every = graph_text width lists order every
@@ -66,6 +72,7 @@ view_text (Chart width) lists order every = chart_text width lists
 view_text Pairs lists order every = pairs_text (list_of lists 0) (list_of lists 1)
 view_text (PairBoxes width) lists order every = pair_boxes_text width (list_of lists 0) (list_of lists 1)
 view_text (Top top) lists order every = top_text None top (all_samples lists)
+view_text (Diff table) lists order every = diff_text table (list_of lists 0) (list_of lists 1)
 
 -- the same, where `all` may say what all samples weigh: the table of functions is the one text that tells it
 abbrev pub told_text : Option ℕ → View → List (List Sample) → List ℕ → Option ℕ → List ℕ
@@ -75,6 +82,7 @@ told_text all (Chart width) lists order every = view_text (Chart width) lists or
 told_text all Pairs lists order every = view_text Pairs lists order every
 told_text all (PairBoxes width) lists order every = view_text (PairBoxes width) lists order every
 told_text all (Top top) lists order every = top_text all top (all_samples lists)
+told_text all (Diff table) lists order every = view_text (Diff table) lists order every
 
 -- the text is the same in whatever order the samples come, since it has no snapshots
 abbrev pub IsOrderless : View → Option ℕ → Type 0
@@ -84,3 +92,4 @@ IsOrderless (Chart width) every = Unit {0}
 IsOrderless Pairs every = Unit {0}
 IsOrderless (PairBoxes width) every = Unit {0}
 IsOrderless (Top top) every = Unit {0}
+IsOrderless (Diff table) every = Unit {0}

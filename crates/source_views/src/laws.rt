@@ -6,19 +6,21 @@ ghost use Rattle.run_options.specs.declared.choices.Pick.{Pick};
 ghost use Rattle.run_options.specs.declared.formats.Format.{Format};
 ghost use Rattle.folded_lines.specs.LastNames.{last_ends_in_number};
 ghost use Rattle.merged_stacks.specs.Timeline.{drawn};
-ghost use Rattle.merging.specs.Sources.{read_bytes};
+ghost use Rattle.source_lists.specs.Sources.{read_bytes};
 ghost use Rattle.command_line.specs.declared.plans.View.{View};
 ghost use Rattle.view_texts.specs.Parts.{IsFoldable, refolded};
 ghost use Rattle.source_views.specs.SumViews.{SeesSums};
 ghost use Rattle.source_views.specs.Texts.{view_text};
 
 pub use folded_lines::laws::{lines_read_back, names_read_back, text_reads_as_its_parts};
-pub use function_sums::laws::{functions_are_listed, tables_are_one};
+pub use function_sums::laws::{changes_are_listed, functions_are_listed, tables_are_one};
 pub use merging::laws::{
     all_samples_come, counts_have_each_source, counts_never_fall, lines_and_addresses_read_back,
     samples_read_back,
 };
-pub use sum_texts::laws::{function_lines_read_back, percentages_are_rounded};
+pub use sum_texts::laws::{
+    change_lines_read_back, function_lines_read_back, percentages_are_rounded,
+};
 pub use view_texts::laws::{
     folds_are_of_the_whole, folds_see_no_order, json_lines_read_back, merged_rows, merging_goes_on,
     pairs_have_all_stacks, text_folds_in_parts,

@@ -12,7 +12,7 @@ mod whole_run;
 
 pub use drawings::{lend_chart, merge, merge_in_threads};
 pub use drawn_texts::{drawn_chart, drawn_graph};
-pub use functions::weigh_functions;
+pub use functions::{change_functions, weigh_functions};
 pub use graph_texts::{SnapshotLines, filled_counts};
 pub use view_set::Views;
 pub use view_text::render;

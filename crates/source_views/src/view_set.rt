@@ -8,7 +8,7 @@ ghost use Rattle.flame_layout.specs.Chart.{chart_of};
 ghost use Rattle.flame_layout.specs.Graph.{graph_of};
 ghost use Rattle.merging.specs.Snapshots.{snapshot_samples, AreSnapshots};
 ghost use Rattle.merging.specs.Sums.{all_samples, HasSumsOf, IsDrawable};
-ghost use Rattle.merging.specs.Gathered.{AreLimited};
+ghost use Rattle.source_lists.specs.Lists.{AreLimited};
 
 use crate::drawings::{draw_chart, draw_graph};
 use call_tree::{CallTree, FrameTable};

@@ -5,25 +5,26 @@ ghost use Rattle.view_texts.specs.Fold.{fold_text};
 ghost use Rattle.view_texts.specs.Pairs.{pairs_text};
 ghost use Rattle.merging.specs.Sums.{all_samples};
 ghost use Rattle.command_line.specs.Plans.{IsComparison};
-ghost use Rattle.source_views.specs.Texts.{view_text, pair_boxes_text, top_text};
+ghost use Rattle.source_views.specs.Texts.{diff_text, view_text, pair_boxes_text, top_text};
 ghost use Rattle.stack_core.specs.Interleaving.{list_of};
 
 use crate::drawings::merge;
-use crate::functions::weigh_functions;
+use crate::functions::{change_functions, weigh_functions};
 use crate::graph_texts::{chart_line, graph_text};
 use crate::view_set::Views;
 use byte_io::append_pieces;
 use command_line::{TopTable, View};
 use flame_layout::{Width, draw_paired};
+use function_sums::Change;
 use merged_stacks::PairedStacks;
 use source_lists::SourceLists;
 use stack_core::SourceList;
 use std::alloc::{AllocError, Global};
-use sum_texts::{append_sum_line, append_sum_table};
+use sum_texts::{ChangeLine, ChangeTable, append_sum_line, append_sum_table};
 use view_texts::{FoldedText, PairedText, Scale, drawn_comparison_line};
 
 /// Appends the whole text of a view: folded lines, two-column lines, lines of JSON, or a table. An `Err` changes
-/// nothing. The two views of a comparison are of exactly two sources.
+/// nothing. The views of a comparison are of exactly two sources.
 pub fn render(alloc: Global, views: &Views, view: View, out: &mut Vec<u8>) -> Result<(), AllocError>
     requires pairs { IsComparison view → length views.now.lists ≡ 2 }
     ensures ok { OnOk result (out.new.items ≡ out.old.items
@@ -43,6 +44,7 @@ pub fn render(alloc: Global, views: &Views, view: View, out: &mut Vec<u8>) -> Re
         View::Pairs => append_pairs(alloc, out, sources),
         View::PairBoxes(width) => append_pair_boxes(alloc, out, sources, width),
         View::Top(top) => append_top(alloc, out, sources, top),
+        View::Diff(table) => append_diff(alloc, out, sources, table),
     }
 }
 
@@ -124,5 +126,48 @@ fn append_top(
         append_sum_line(alloc, out, &sums, top.rows, whole, None)
     } else {
         append_sum_table(alloc, out, &sums, top.rows, whole, None)
+    }
+}
+
+// Appends the greatest changes from the first source to the second.
+fn append_diff(
+    alloc: Global,
+    out: &mut Vec<u8>,
+    sources: &SourceLists,
+    table: TopTable,
+) -> Result<(), AllocError>
+    requires { length sources.now.lists ≡ 2 }
+    ensures ok { OnOk result (out.new.items ≡ out.old.items
+        ++ diff_text table (list_of (samples_of sources.now.lists) 0)
+        (list_of (samples_of sources.now.lists) 1)) }
+    ensures err { OnErr result (out.new.items ≡ out.old.items) }
+{
+    let lists = sources.lists();
+    append_changes(alloc, out, &lists[0], &lists[1], table)
+}
+
+// Appends the greatest changes from one profile to another, as a table or as a line of JSON.
+fn append_changes(
+    alloc: Global,
+    out: &mut Vec<u8>,
+    before: &SourceList,
+    after: &SourceList,
+    table: TopTable,
+) -> Result<(), AllocError>
+    requires before { total_weight before.now.samples < 2 ^ 64 }
+    requires after { total_weight after.now.samples < 2 ^ 64 }
+    ensures ok { OnOk result (out.new.items ≡ out.old.items
+        ++ diff_text table before.now.samples after.now.samples) }
+    ensures err { OnErr result (out.new.items ≡ out.old.items) }
+{
+    let changes = change_functions(alloc, before, after, table.by)?;
+    let whole = Change {
+        before: before.total() as u64,
+        after: after.total() as u64,
+    };
+    if table.is_json {
+        append_pieces(alloc, &ChangeLine::of(&changes, table.rows, whole), out)
+    } else {
+        append_pieces(alloc, &ChangeTable::of(&changes, table.rows), out)
     }
 }

@@ -7,15 +7,15 @@ ghost use Rattle.ring_collect.specs.Collection.{Collects, AreWhole};
 ghost use Rattle.merged_stacks.specs.Timeline.{samples_of, timeline};
 ghost use Rattle.flame_layout.specs.Chart.{chart_of};
 ghost use Rattle.flame_layout.specs.Graph.{graph_of};
-ghost use Rattle.merging.specs.Sources.{rests_of};
+ghost use Rattle.source_lists.specs.Sources.{rests_of};
 ghost use Rattle.merging.specs.Snapshots.{snapshot_samples, AreSnapshots};
 ghost use Rattle.merging.specs.Sums.{all_samples, HasSumsOf};
 
 use crate::view_set::Views;
 use ring_collect::CollectFault;
 use run_options::Options;
-use source_lists::{Source, read_sources};
-use stack_core::Gate;
+use source_lists::{Gating, Input, Source, read};
+use stack_core::{Gate, NoSink};
 use std::alloc::Global;
 use std::sync::{Arc, Wait};
 use std::thread::Threads;
@@ -63,6 +63,8 @@ pub fn views<T: Threads + Wait + Copy + Send + 'static, G: Gate + Send + Sync + 
     ensures refused { (source : ℕ) → IsErrOf result (CollectFault.Unfinished source)
         → source < length sources.items }
 {
-    let sources = read_sources(rt, alloc, sources, options, gate)?;
-    Ok(Views::of(alloc, sources, options.every)?)
+    let inputs = Input::all_of(alloc, sources)?;
+    let gating = Gating::Asked(gate);
+    let run = read(rt, alloc, inputs, options, gating, &mut NoSink::new())?;
+    Ok(Views::of(alloc, run.kept, options.every)?)
 }

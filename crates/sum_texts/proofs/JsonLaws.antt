@@ -1,12 +1,15 @@
--- The value of the line: its keys rise, its numbers are whole and have 64 bits, and it nests three deep.
+-- The values of the lines: their keys rise, their numbers are whole and have 64 bits, and they nest three deep.
 use Rattle.std.proofs.Common.{ℕ, ◌^◌, ◌<◌, ◌≤◌, List, map, All, IfSome, Option, None, Some, rules, arith}
 use Rattle.std.specs.List.Sorted.{IsStrictlySortedBy}
 use Rattle.serde_json.specs.Data.{depth}
+use Rattle.function_sums.specs.declared.changes.Change.{Change}
+use Rattle.function_sums.specs.declared.changes.FunctionChange.{FunctionChange}
 use Rattle.function_sums.specs.declared.sums.FunctionSum.{FunctionSum}
 use Rattle.view_texts.specs.JsonLaws.{HasRisingKeys, IsJsonLine}
 use Rattle.view_texts.proofs.JsonReading.{HasWholeNumbers}
 use Rattle.view_texts.proofs.JsonValues.{each_of, whole_items, rising_items, items_depth-le, line_of_value}
 use Rattle.view_texts.specs.Json.{list_data}
+use Rattle.sum_texts.specs.ChangeJson.{change_data, changes_data, changes_line}
 use Rattle.sum_texts.specs.FunctionJson.{function_data, functions_data, functions_line}
 
 abbrev HasBits : FunctionSum → Type 0
@@ -42,3 +45,34 @@ pub read_back : (all : Option ℕ) (whole : ℕ) (sums : List FunctionSum) → w
 unfolding functions_line
 read_back all whole sums w bits h =
     line_of_value (functions_data all whole sums) (whole_functions all whole sums w bits h) (rising_functions all whole sums) (omega (arith, deep all whole sums))
+
+-- ---- changes
+
+abbrev HasBoth : Change → Type 0
+HasBoth change = (change.before < 2 ^ 64) × (change.after < 2 ^ 64)
+
+rising_change : (change : FunctionChange) → HasRisingKeys (change_data change)
+unfolding IsStrictlySortedBy
+rising_change change = search rules
+
+rising_changes : (before after : ℕ) (changes : List FunctionChange) → HasRisingKeys (changes_data before after changes)
+unfolding IsStrictlySortedBy
+rising_changes before after changes =
+    let items = rising_items change_data rising_change changes in
+    search (rules, items)
+
+whole_changes : (before after : ℕ) (changes : List FunctionChange) → before < 2 ^ 64 → after < 2 ^ 64 → All (λ change. HasBoth change.own) changes → All (λ change. HasBoth change.total) changes
+    → HasWholeNumbers (changes_data before after changes)
+whole_changes before after changes first second own total =
+    let each = each_of (λ (change : FunctionChange). HasBoth change.own × HasBoth change.total) (λ change. HasWholeNumbers (change_data change)) changes
+    (λ change both. (tt, (both.0.1, (both.0.0, (both.1.1, (both.1.0, tt)))))) (λ k d below. (own k d below, total k d below)) in
+    (whole_items change_data changes each, (second, (first, (tt, tt))))
+
+deep_changes : (before after : ℕ) (changes : List FunctionChange) → depth (changes_data before after changes) ≤ 3
+deep_changes before after changes = omega (arith, items_depth-le change_data 1 (λ change. omega arith) changes)
+
+pub changes_read_back : (before after : ℕ) (changes : List FunctionChange) → before < 2 ^ 64 → after < 2 ^ 64 → All (λ change. HasBoth change.own) changes → All (λ change. HasBoth change.total) changes
+    → IsJsonLine (changes_line before after changes) (changes_data before after changes)
+unfolding changes_line
+changes_read_back before after changes first second own total =
+    line_of_value (changes_data before after changes) (whole_changes before after changes first second own total) (rising_changes before after changes) (omega (arith, deep_changes before after changes))

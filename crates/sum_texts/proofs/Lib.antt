@@ -1,3 +1,4 @@
+pub mod ChangePieces
 pub mod JsonLaws
 pub mod TableWidths
 pub mod TextPieces

@@ -6,7 +6,7 @@ use Rattle.sum_texts.specs.FunctionTable.{Entries, at_right, at_right_if, headin
 use Rattle.sum_texts.specs.checked.Widths.{widths_in, widths_of}
 use Rattle.sum_texts.specs.declared.widths.Widths.{Widths}
 
-widest-push : (column : Entries → List ℕ) (lines : List Entries) (line : Entries) → widest column (lines ++ line ∷ []) ≡ max (widest column lines) (length (column line))
+pub widest-push : {Line : Type 0} (column : Line → List ℕ) (lines : List Line) (line : Line) → widest column (lines ++ line ∷ []) ≡ max (widest column lines) (length (column line))
 widest-push column [] line = swapped (length (column line))
   where
     swapped : (n : ℕ) → max n 0 ≡ max 0 n

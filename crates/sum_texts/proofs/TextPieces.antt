@@ -19,36 +19,39 @@ use Rattle.sum_texts.specs.FunctionTable.{Entries, headings, entries_of, lines_o
 abbrev pub row_line : List Entries → Option ℕ → ℕ → FunctionSum → List ℕ
 row_line lines all whole sum = table_line lines (entries_of all whole sum) sum.name
 
-rows-text : (lines : List Entries) (all : Option ℕ) (whole : ℕ) (sums : List FunctionSum) → concat (map (row_line lines all whole) sums) ≡ flat_map (row_line lines all whole) sums
-rows-text lines all whole [] = refl
-rows-text lines all whole (sum ∷ sums) = ap (λ text. row_line lines all whole sum ++ text) (rows-text lines all whole sums)
+pub lines-text : {Row : Type 0} (line : Row → List ℕ) (rows : List Row) → concat (map line rows) ≡ flat_map line rows
+lines-text line [] = refl
+lines-text line (row ∷ rows) = ap (λ text. line row ++ text) (lines-text line rows)
 
 pub table-text : (all : Option ℕ) (whole : ℕ) (sums : List FunctionSum) → concat (table_pieces all whole sums) ≡ table_text all whole sums
 unfolding table_text
 table-text all whole sums =
     let lines = lines_of all whole sums in
-    ap (λ text. table_line lines (headings all) (codes "name") ++ text) (rows-text lines all whole sums)
+    ap (λ text. table_line lines (headings all) (codes "name") ++ text) (lines-text (row_line lines all whole) sums)
 
 pub length-table_pieces : (all : Option ℕ) (whole : ℕ) (sums : List FunctionSum) → length (table_pieces all whole sums) ≡ suc (length sums)
 length-table_pieces all whole sums = ap suc (length-map sums (row_line (lines_of all whole sums) all whole))
 
--- the piece of a function
-pub row_piece : (all : Option ℕ) (whole : ℕ) (sums : List FunctionSum) (at place : ℕ) (sum : FunctionSum) → at ≡ place + 1 → place < length sums
-    → get_or (table_pieces all whole sums) at [] ≡ row_line (lines_of all whole sums) all whole (get_or sums place sum)
-row_piece all whole sums at place sum e within =
-    let row = row_line (lines_of all whole sums) all whole in
-    ap (λ n. get_or (table_pieces all whole sums) n []) (e ∙ suc_is place) ∙ get_or-map row sums place sum [] within
+-- the piece of a row, after that of the headings
+pub piece_of_row : {Row : Type 0} (first : List ℕ) (line : Row → List ℕ) (rows : List Row) (at place : ℕ) (row : Row) → at ≡ place + 1 → place < length rows → get_or (first ∷ map line rows) at [] ≡ line (get_or rows place row)
+piece_of_row first line rows at place row e within =
+    ap (λ n. get_or (first ∷ map line rows) n []) (e ∙ suc_is place) ∙ get_or-map line rows place row [] within
   where
     suc_is : (n : ℕ) → n + 1 ≡ suc n
     suc_is n = omega arith
 
+-- the piece of a function
+pub row_piece : (all : Option ℕ) (whole : ℕ) (sums : List FunctionSum) (at place : ℕ) (sum : FunctionSum) → at ≡ place + 1 → place < length sums
+    → get_or (table_pieces all whole sums) at [] ≡ row_line (lines_of all whole sums) all whole (get_or sums place sum)
+row_piece all whole sums = piece_of_row (table_line (lines_of all whole sums) (headings all) (codes "name")) (row_line (lines_of all whole sums) all whole) sums
+
 -- ---- the line of JSON
 
-after_value : (key value rest end : List ℕ) → (key ++ (value ++ rest)) ++ end ≡ key ++ (value ++ (rest ++ end))
+pub after_value : (key value rest end : List ℕ) → (key ++ (value ++ rest)) ++ end ≡ key ++ (value ++ (rest ++ end))
 after_value key value rest end = simp append_assoc
 
 -- the list's brackets stand with what is round it
-bracketed : (values : List Data) (after : List ℕ) → compact_text (list_data values) ++ after ≡ 91 ∷ (values_text false values ++ 93 ∷ after)
+pub bracketed : (values : List Data) (after : List ℕ) → compact_text (list_data values) ++ after ≡ 91 ∷ (values_text false values ++ 93 ∷ after)
 bracketed values after = ap (λ text. 91 ∷ (text ++ after)) (items_text-items_of false values) ∙ ap (λ text. 91 ∷ text) (append_assoc (values_text false values) (93 ∷ []) after)
 
 -- the members after the weight of the samples

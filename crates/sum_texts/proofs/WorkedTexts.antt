@@ -2,7 +2,11 @@
 use Rattle.std.proofs.Common.{◌≡◌, ℕ, List, [], ◌∷◌, ◌++◌, None, Some, codes, refl}
 use Rattle.std.specs.Fmt.{digits}
 use Rattle.json.specs.Print.{escape_byte}
+use Rattle.function_sums.specs.declared.changes.Change.{Change}
+use Rattle.function_sums.specs.declared.changes.FunctionChange.{FunctionChange}
 use Rattle.function_sums.specs.declared.sums.FunctionSum.{FunctionSum}
+use Rattle.sum_texts.specs.ChangeJson.{changes_line}
+use Rattle.sum_texts.specs.ChangeTable.{changes_table, signed}
 use Rattle.sum_texts.specs.FunctionJson.{functions_line}
 use Rattle.sum_texts.specs.FunctionTable.{table_text}
 
@@ -44,3 +48,39 @@ kept_line : functions_line (Some 32) 8 (sum (codes "main") 1 8 ∷ [])
     ≡ codes "{\"functions\":[{\"name\":\"main\",\"own\":1,\"total\":8}],\"total\":8,\"view\":\"top\",\"whole\":32}\n"
 unfolding functions_line escape_byte digits
 kept_line = refl
+
+-- ---- changes
+
+abbrev from : ℕ → ℕ → Change
+from before after = record { before = before; after = after }
+
+abbrev change : List ℕ → Change → Change → FunctionChange
+change name own total = record { name = name; own = own; total = total }
+
+more : signed (from 8 20) ≡ codes "+12"
+unfolding digits
+more = refl
+
+less : signed (from 4 1) ≡ codes "-3"
+unfolding digits
+less = refl
+
+as_much : signed (from 7 7) ≡ codes "0"
+unfolding digits
+as_much = refl
+
+table_of_changes : changes_table (change (codes "read") (from 4 12345678) (from 4 7) ∷ change (codes "main") (from 2 1) (from 6 6) ∷ [])
+    ≡ codes "own before     after     change  total before  after  change  name\n"
+    ++ (codes "         4  12345678  +12345674             4      7      +3  read\n"
+    ++ codes "         2         1         -1             6      6       0  main\n")
+unfolding changes_table digits
+table_of_changes = refl
+
+no_changes : changes_table [] ≡ codes "own before  after  change  total before  after  change  name\n"
+unfolding changes_table digits
+no_changes = refl
+
+line_of_changes : changes_line 9 11 (change (codes "read") (from 4 7) (from 5 8) ∷ [])
+    ≡ codes "{\"functions\":[{\"name\":\"read\",\"own_after\":7,\"own_before\":4,\"total_after\":8,\"total_before\":5}],\"total_after\":11,\"total_before\":9,\"view\":\"diff\"}\n"
+unfolding changes_line escape_byte digits
+line_of_changes = refl

@@ -32,9 +32,9 @@ entries_of all whole sum = record {
 }
 
 -- the length of a column's longest entry
-abbrev pub widest : (Entries → List ℕ) → List Entries → ℕ
+abbrev pub widest : {Line : Type 0} → (Line → List ℕ) → List Line → ℕ
 widest column [] = 0
-widest column (entries ∷ lines) = max (length (column entries)) (widest column lines)
+widest column (line ∷ lines) = max (length (column line)) (widest column lines)
 
 -- an entry at the right of its column, and two spaces
 abbrev pub at_right : ℕ → List ℕ → List ℕ

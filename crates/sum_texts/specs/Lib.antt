@@ -1,4 +1,7 @@
 -- The definitions that the contracts of sum_texts cite.
+pub mod ChangeJson
+pub mod ChangeTable
+pub mod DiffTexts
 pub mod FunctionJson
 pub mod FunctionTable
 pub mod Pieces

@@ -1,7 +1,10 @@
 -- The pieces of the texts, of which each text is made.
 use Rattle.std.specs.Prelude.{ℕ, List, ◌∷◌, ◌++◌, map, codes, decimal, Option, None, Some}
+use Rattle.function_sums.specs.declared.changes.FunctionChange.{FunctionChange}
 use Rattle.function_sums.specs.declared.sums.FunctionSum.{FunctionSum}
 use Rattle.view_texts.specs.Pieces.{line_pieces}
+use Rattle.sum_texts.specs.ChangeJson.{change_data}
+use Rattle.sum_texts.specs.ChangeTable.{function_line, heading_line}
 use Rattle.sum_texts.specs.FunctionJson.{function_data}
 use Rattle.sum_texts.specs.FunctionTable.{headings, entries_of, lines_of, table_line}
 
@@ -23,3 +26,15 @@ functions_tail all whole = codes "],\"total\":" ++ (decimal whole ++ (codes ",\"
 abbrev pub functions_pieces : Option ℕ → ℕ → List FunctionSum → List (List ℕ)
 functions_pieces all whole sums =
     line_pieces (codes "{\"functions\":[") (map function_data sums) (functions_tail all whole)
+
+-- the same of changes
+abbrev pub change_table_pieces : List FunctionChange → List (List ℕ)
+change_table_pieces changes = heading_line changes ∷ map (function_line changes) changes
+
+abbrev pub changes_tail : ℕ → ℕ → List ℕ
+changes_tail before after =
+    codes "],\"total_after\":" ++ (decimal after ++ (codes ",\"total_before\":" ++ (decimal before ++ codes ",\"view\":\"diff\"}\n")))
+
+abbrev pub changes_pieces : ℕ → ℕ → List FunctionChange → List (List ℕ)
+changes_pieces before after changes =
+    line_pieces (codes "{\"functions\":[") (map change_data changes) (changes_tail before after)

@@ -52,7 +52,7 @@ pub(crate) fn append_percent(
 }
 
 // Appends spaces, so many.
-fn append_spaces(out: &mut Vec<u8>, count: usize) -> Result<(), AllocError>
+pub(crate) fn append_spaces(out: &mut Vec<u8>, count: usize) -> Result<(), AllocError>
     ensures ok { OnOk result (out.new.items ≡ out.old.items ++ replicate count 32) }
     ensures front { StartsWith out.new.items out.old.items }
 {

@@ -2,7 +2,9 @@
 
 ghost use Rattle.std.specs.Prelude.{ℕ, ◌<◌, ◌^◌, List, All, IfSome, Option};
 ghost use Rattle.view_texts.specs.JsonLaws.{IsJsonLine};
+ghost use Rattle.function_sums.specs.declared.changes.FunctionChange.{FunctionChange};
 ghost use Rattle.function_sums.specs.declared.sums.FunctionSum.{FunctionSum};
+ghost use Rattle.sum_texts.specs.ChangeJson.{changes_data, changes_line};
 ghost use Rattle.sum_texts.specs.FunctionJson.{functions_data, functions_line};
 
 pub use weight_texts::laws::percentages_are_rounded;
@@ -14,4 +16,12 @@ pub fn function_lines_read_back()
         → IfSome all (λ weight. weight < 2 ^ 64)
         → All (λ sum. (sum.own < 2 ^ 64) × (sum.total < 2 ^ 64)) sums
         → IsJsonLine (functions_line all whole sums) (functions_data all whole sums) }
+{}
+
+/// The same of the line of JSON of changes.
+pub fn change_lines_read_back()
+    ensures { (before after : ℕ) (changes : List FunctionChange) → before < 2 ^ 64 → after < 2 ^ 64
+        → All (λ change. (change.own.before < 2 ^ 64) × (change.own.after < 2 ^ 64)) changes
+        → All (λ change. (change.total.before < 2 ^ 64) × (change.total.after < 2 ^ 64)) changes
+        → IsJsonLine (changes_line before after changes) (changes_data before after changes) }
 {}

@@ -1,6 +1,9 @@
-//! The texts of the weights by function: a table, and a line of JSON.
+//! The texts of the weights by function, and of their changes: a table, and a line of JSON.
 #![tactic(auto)]
 
+mod change_columns;
+mod change_lines;
+mod change_tables;
 mod entries;
 mod first_sums;
 mod json_parts;
@@ -9,5 +12,7 @@ mod sum_lines;
 mod sum_tables;
 mod widths;
 
+pub use change_lines::ChangeLine;
+pub use change_tables::ChangeTable;
 pub use sum_lines::{SumLine, append_sum_line};
 pub use sum_tables::{SumTable, append_sum_table};

@@ -26,7 +26,7 @@ scalars_all (c ∷ rest) all = rw all.0 (scalars_all rest all.1)
 
 -- ---- escapes, as characters
 
-pub escaped : ℕ → List ℕ
+unfoldable pub escaped : ℕ → List ℕ
 escaped c =
     cond (eqb c 38) (codes "&amp;") (cond (eqb c 60) (codes "&lt;") (cond (eqb c 62) (codes "&gt;") (cond (eqb c 34) (codes "&quot;") (cond (eqb c 39) (codes "&#39;") (c ∷ [])))))
 
@@ -39,7 +39,7 @@ unfolding escaped encode_utf8
 encoded c =
     either (eqb c 38) _ _ _ _ refl (either (eqb c 60) _ _ _ _ refl (either (eqb c 62) _ _ _ _ refl (either (eqb c 34) _ _ _ _ refl (either (eqb c 39) _ _ _ _ refl (append-nil (encode_utf8 c))))))
 
-all_encoded : (characters : List ℕ) → encode_utf8_all (flat_map escaped characters) ≡ xml_text characters
+pub all_encoded : (characters : List ℕ) → encode_utf8_all (flat_map escaped characters) ≡ xml_text characters
 all_encoded [] = refl
 all_encoded (c ∷ rest) = encodes-append (escaped c) (flat_map escaped rest) ∙ (λ i. encoded c i ++ all_encoded rest i)
 

@@ -5,4 +5,5 @@ pub mod Labels
 pub mod Shown
 pub mod Svg
 pub mod SvgLaws
+pub mod SvgTags
 pub mod checked

@@ -158,10 +158,11 @@ abbrev pub own_weight : List SvgBox → ℕ
 own_weight boxes = sum_by (λ box. box.span.own) boxes
 
 -- the total, and what is left out
+abbrev pub foot_text : Picture → ℕ → ℕ → List ℕ
+foot_text picture count weight = codes "total " ++ (weight_in picture picture.total ++ told_left_out picture count weight)
+
 unfoldable pub foot : Picture → ℕ → ℕ → ℕ → List ℕ
-foot picture rows count weight =
-    text_element 4 (height_of rows - 5) (codes "total " ++ (weight_in picture picture.total ++ told_left_out picture count weight))
-    ++ codes "\n</svg>\n"
+foot picture rows count weight = text_element 4 (height_of rows - 5) (foot_text picture count weight) ++ codes "\n</svg>\n"
 
 unfoldable pub svg_text : Picture → List SvgBox → List ℕ
 svg_text picture boxes =

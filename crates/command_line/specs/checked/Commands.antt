@@ -2,7 +2,7 @@
 use Rattle.std.specs.Prelude.{codes}
 use Rattle.clap.specs.Simple.{Shape}
 use Rattle.clap.specs.Walk.{Rule}
-use Rattle.command_line.specs.CommandLine.{any_files, boxes_flag, by_option, chart_command, compare_command, every_option, focus_option, fold_command, format_option, graph_command, hide_option, json_flag, least_option, lines_flag, one_file, page_flag, quiet_flag, ring_option, root_below_flag, rows_option, svg_flag, title_option, top_command, type_option, types_command, width_option}
+use Rattle.command_line.specs.CommandLine.{any_files, boxes_flag, by_option, chart_command, compare_command, diff_command, every_option, focus_option, fold_command, format_option, graph_command, hide_option, json_flag, least_option, lines_flag, one_file, page_flag, quiet_flag, ring_option, root_below_flag, rows_option, svg_flag, title_option, top_command, type_option, types_command, width_option}
 use Rattle.command_line.specs.declared.argument_lists.Argument.{Argument}
 use Rattle.command_line.specs.declared.argument_lists.Argument.TheVariants as argument
 use Rattle.command_line.specs.declared.commands.Subcommand.{Subcommand}
@@ -38,4 +38,5 @@ shape_at subcommand.Graph = graph_command
 shape_at subcommand.Chart = chart_command
 shape_at subcommand.Compare = compare_command
 shape_at subcommand.Top = top_command
+shape_at subcommand.Diff = diff_command
 shape_at subcommand.Types = types_command

@@ -1,5 +1,5 @@
 -- What holds of the entries of a command line without a fault.
-use Rattle.std.specs.Prelude.{◌≡◌, ◌≢◌, ◌⊎◌, ◌≤◌, ◌<◌, ◌^◌, ℕ, List, IfSome, IsSome, codes, false, length, true}
+use Rattle.std.specs.Prelude.{◌≡◌, ◌≢◌, ◌⊎◌, ◌≤◌, ◌<◌, ◌^◌, ◌||◌, ℕ, Bool, List, IfSome, IsSome, codes, false, length, true}
 use Rattle.std.specs.Str.{bytes_eq}
 use Rattle.std.specs.Str.Parse.{IsNumeral, digits_value, without_leading_plus}
 use Rattle.clap.specs.Matches.{found_of}
@@ -33,6 +33,10 @@ abbrev pub IsFlagAt : Text → List Row → Type 0
 IsFlagAt id entries =
     IfSome (one_of id entries) (λ text. (text ≡ codes "true") ⊎ (text ≡ codes "false"))
 
+-- the command compares two profiles
+abbrev pub compares : Text → Bool
+compares name = bytes_eq name (codes "compare") || bytes_eq name (codes "diff")
+
 -- the command is `types` or shows a view, its values are read as they are meant, a comparison has two files, a page
 -- and a picture are of a view with boxes, and `types` has one file
 pub record IsRead (name : Text) (entries : List Row) : Type 0 where
@@ -49,7 +53,7 @@ pub record IsRead (name : Text) (entries : List Row) : Type 0 where
   pub svg : IsFlagAt (codes "svg") entries
   pub below : IsFlagAt (codes "root-below") entries
   pub least : IsCountAt (codes "least") entries
-  pub pair : name ≡ codes "compare" → length (files_of entries) ≡ 2
+  pub pair : compares name ≡ true → length (files_of entries) ≡ 2
   pub drawn : is_set (codes "page") entries ≡ true → IfSome (view_of name entries) IsDrawn
   pub pictured : is_set (codes "svg") entries ≡ true → IfSome (view_of name entries) IsDrawn
   pub single : bytes_eq name (codes "types") ≡ true → length (files_of entries) ≡ 1

@@ -1,4 +1,5 @@
 //! Worked command lines.
+mod diff;
 mod examples;
 mod faults;
 mod filters;

@@ -2,24 +2,25 @@
 ghost use Rattle.std.specs.Prelude.{◌≡◌, IfOk, None, length};
 
 use crate::tests::holds;
-use merging::{Gathered, Source, WholeRun, gather, read_whole_sources};
+use merging::Gathered;
 use ring_collect::CollectFault;
 use run_options::{Filter, Format, Naming, Options, Pick, RingSize};
+use source_lists::{Gating, Input, Run, Source, read};
 use stack_core::{Names, NoSink, OpenGate, SourceList};
 use std::alloc::{AllocError, Global};
-use std::sync::{Arc, Wait};
+use std::sync::Wait;
 use std::test::Fail;
 use std::thread::Threads;
 
 /// One source, of folded text.
-fn one_source(alloc: Global, text: &[u8]) -> Result<Vec<Source>, AllocError>
-    ensures { IfOk result (λ sources. length sources.items ≡ 1) }
+fn one_input(alloc: Global, text: &[u8]) -> Result<Vec<Input>, AllocError>
+    ensures { IfOk result (λ inputs. length inputs.items ≡ 1) }
 {
     let source = Source {
         format: Format::Folded,
         bytes: text.to_vec(alloc)?,
     };
-    Ok(vec![in alloc; source]?)
+    Ok(vec![in alloc; Input::of(alloc, source)?]?)
 }
 
 /// The settings of a run, in which nothing else is chosen.
@@ -35,8 +36,16 @@ fn options_of(ring: RingSize, filter: Filter) -> Options
     }
 }
 
-fn open_gate(alloc: Global) -> Result<Arc<OpenGate>, AllocError> {
-    Ok(Arc::new(alloc, OpenGate)?)
+/// What is read of a folded text under these options.
+fn read_text<T: Threads + Wait + Copy + Send + 'static>(
+    rt: &T,
+    alloc: Global,
+    text: &[u8],
+    options: &Options,
+) -> Result<Run, CollectFault> {
+    let inputs = one_input(alloc, text)?;
+    let gating = Gating::<OpenGate>::Open;
+    read(rt, alloc, inputs, options, gating, &mut NoSink::new())
 }
 
 fn is_as_on_the_page(gathered: &Gathered) -> bool {
@@ -52,9 +61,8 @@ fn gathers_as_on_the_page<T: Threads + Wait + Copy + Send + 'static>(
 ) -> Result<bool, CollectFault>
     requires { options.now.every ≡ None }
 {
-    let sources = one_source(alloc, b"a;b 2\na 1\n")?;
-    let gate = open_gate(alloc)?;
-    let gathered = gather(rt, alloc, sources, options, gate)?;
+    let run = read_text(rt, alloc, b"a;b 2\na 1\n", options)?;
+    let gathered = Gathered::of_lists(alloc, run.kept, options.every)?;
     Ok(is_as_on_the_page(&gathered))
 }
 
@@ -77,9 +85,9 @@ fn has_two_of_a(list: &SourceList) -> bool {
     list.len() == 2 && list.weight(0) == 2 && list.weight(1) == 1
 }
 
-fn is_kept_of_a(run: &WholeRun) -> bool {
+fn is_kept_of_a(run: &Run) -> bool {
     let lists = run.kept.lists();
-    run.whole_weight == 20
+    run.whole_weight == Some(20)
         && run.kept.total() == 3
         && run.kept.order().len() == 2
         && lists.len() == 1
@@ -92,8 +100,7 @@ fn keeps_two_of_five<T: Threads + Wait + Copy + Send + 'static>(
     alloc: Global,
     options: &Options,
 ) -> Result<bool, CollectFault> {
-    let sources = one_source(alloc, b"a;b 2\nc 5\na;b 1\nd;a 4\nc;e 8\n")?;
-    let run = read_whole_sources(rt, alloc, sources, options, &mut NoSink::new())?;
+    let run = read_text(rt, alloc, b"a;b 2\nc 5\na;b 1\nd;a 4\nc;e 8\n", options)?;
     Ok(is_kept_of_a(&run))
 }
 

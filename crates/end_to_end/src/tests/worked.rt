@@ -57,6 +57,19 @@ pub(super) const COMPARISON_BOXES: &str = "{\"before\":4,\"boxes\":[\
     {\"before\":0,\"depth\":1,\"left\":3,\"name\":\"c\",\"own\":2,\"right\":10,\"start\":1,\
     \"weight\":2}],\"total\":3,\"view\":\"compare\",\"width\":10}\n";
 
+/// Their functions, by the change of their own weight.
+pub(super) const CHANGES: &str = "\
+own before  after  change  total before  after  change  name
+         3      1      -2             3      1      -2  a
+         0      2      +2             0      2      +2  c
+         1      0      -1             1      0      -1  b
+";
+
+/// The function of the greatest change of its total.
+pub(super) const GREATEST_CHANGE: &str = "{\"functions\":[\
+    {\"name\":\"a\",\"own_after\":1,\"own_before\":3,\"total_after\":1,\"total_before\":3}],\
+    \"total_after\":3,\"total_before\":4,\"view\":\"diff\"}\n";
+
 /// A name that calls itself, one that stands twice, a stack without frames, and one without weight.
 pub(super) const CALLS: &[u8] = b"main;f;g 3\nmain;f;f 2\nmain 1\nmain;h 2\nz 0\n 4\nf;g;f;g 1\n";
 

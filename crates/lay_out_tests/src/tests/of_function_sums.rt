@@ -77,5 +77,6 @@ fn no_functions(rt: HostRuntime) -> Result<(), Fail> {
 #[test]
 fn laws_take_nothing() {
     function_sums::laws::functions_are_listed();
+    function_sums::laws::changes_are_listed();
     function_sums::laws::tables_are_one();
 }

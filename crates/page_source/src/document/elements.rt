@@ -13,9 +13,13 @@ pub(crate) const TEXT: &str = r##"</style>
 <form id="search" role="search">
 <input id="find" type="search" placeholder="Search" aria-label="Search for" autocomplete="off" spellcheck="false">
 <select id="by" aria-label="What is searched for">
-<option value="text">in names</option>
+<option value="text">in names, any case</option>
 <option value="name">whole name</option>
 <option value="regexp">regular expression</option>
+</select>
+<select id="order" aria-label="In what order matches come">
+<option value="place">by place</option>
+<option value="weight">by weight</option>
 </select>
 <button type="button" id="previous" title="Previous match (Shift+Enter)" aria-label="Previous match">&#x25b2;</button>
 <button type="submit" id="next" title="Next match (Enter)" aria-label="Next match">&#x25bc;</button>
@@ -23,8 +27,10 @@ pub(crate) const TEXT: &str = r##"</style>
 </form>
 <button type="button" id="back" title="Back (Escape)">Back</button>
 <label><input type="checkbox" id="below"> Root below</label>
+<label><input type="checkbox" id="listed" checked> Lists</label>
 <label id="snapshot-label" hidden>Snapshot <input type="range" id="snapshot" min="0" step="1"></label>
 <label id="before-label" hidden><input type="checkbox" id="before"> Show before</label>
+<label id="share-label" title="Compare shares of each profile, and not weights" hidden><input type="checkbox" id="share"> Shares</label>
 <output id="drawing-name"></output>
 <span class="group">
 <button type="button" id="save-svg">Save SVG</button>
@@ -35,7 +41,7 @@ pub(crate) const TEXT: &str = r##"</style>
 <dl>
 <dt>Arrow keys</dt><dd>to the caller, to what it calls, to the neighbours</dd>
 <dt>Home, End</dt><dd>to the first and the last box of the row</dd>
-<dt>Enter, click</dt><dd>zoom to the box</dd>
+<dt>Enter, click</dt><dd>zoom to the box; of two taps the first names it</dd>
 <dt>Escape</dt><dd>back</dd>
 <dt>/</dt><dd>search; then Enter and Shift+Enter for the next and the previous match</dd>
 </dl>
@@ -51,6 +57,8 @@ pub(crate) const TEXT: &str = r##"</style>
 <p id="status"></p>
 <div id="paper" aria-hidden="true"></div>
 </section>
+<div id="divider" role="separator" tabindex="0" aria-controls="lists" aria-label="Width of the lists" aria-orientation="vertical"
+title="Drag to make the lists wider, or to close them"></div>
 <aside id="lists" aria-label="Lists">
 <section id="gone" hidden aria-labelledby="gone-title">
 <h2 id="gone-title">Only before</h2>
@@ -60,12 +68,19 @@ pub(crate) const TEXT: &str = r##"</style>
 </section>
 <section id="functions" aria-labelledby="functions-title">
 <h2 id="functions-title">Functions</h2>
+<select id="functions-of" aria-label="Which weights are compared" hidden>
+<option value="own">own weights</option>
+<option value="total">total weights</option>
+</select>
 <table aria-labelledby="functions-title">
 <thead><tr>
 <th scope="col" data-key="name"><button type="button">Name</button></th>
-<th scope="col" data-key="own"><button type="button">Own</button></th>
-<th scope="col" data-key="total"><button type="button">Total</button></th>
-<th scope="col" data-key="change" hidden><button type="button">Change</button></th>
+<th scope="col" colspan="2" data-key="own"><button type="button">Own</button></th>
+<th scope="col" colspan="2" data-key="total"><button type="button">Total</button></th>
+<th scope="col" data-key="before" data-of="compare" hidden><button type="button">Before</button></th>
+<th scope="col" data-key="after" data-of="compare" hidden><button type="button">After</button></th>
+<th scope="col" data-key="change" data-of="compare" hidden><button type="button">Change</button></th>
+<th scope="col" data-key="percent" data-of="compare" hidden><button type="button">%</button></th>
 </tr></thead>
 <tbody></tbody>
 </table>

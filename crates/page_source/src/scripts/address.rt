@@ -1,6 +1,7 @@
 //! What `page/join` takes of page/address.js. `checks/page_source --write` makes this file.
 
 pub(crate) const TEXT: &str = r##"const LONGEST_PATH = 4000;
+const WIDEST_LISTS = 10000;
 function decoded(text) {
 try {
 return decodeURIComponent(text);
@@ -24,8 +25,11 @@ function fragmentOf(page, state) {
 const words = zoomWords(page, page.drawing(state.drawing), state);
 if (state.find !== '') words.push(`find=${encoded(state.find)}`);
 if (state.find !== '' && state.by !== 'text') words.push(`by=${state.by}`);
+if (state.order !== 'place') words.push(`order=${state.order}`);
 if (state.drawing !== page.drawingCount - 1) words.push(`drawing=${state.drawing}`);
-if (state.below) words.push('root=below');
+if (state.below !== page.isBelow) words.push(state.below ? 'root=below' : 'root=above');
+if (state.lists >= 0) words.push(`lists=${state.lists}`);
+if (state.share) words.push('share=1');
 return `#${words.join('&')}`;
 }
 function wholeNumber(text, limit) {
@@ -42,7 +46,7 @@ return words;
 function wordsOfStep(fragment, made, now) {
 const words = wordsOf(fragment);
 const [wordsMade, wordsNow] = [wordsOf(made), wordsOf(now)];
-for (const key of ['find', 'by', 'drawing', 'root']) {
+for (const key of ['find', 'by', 'order', 'drawing', 'root', 'lists', 'share']) {
 const kept = wordsNow.get(key);
 if (wordsMade.get(key) === kept) continue;
 if (key === 'drawing') words.delete('box');
@@ -70,7 +74,10 @@ source: source >= 0 && page.sources[source].weight > 0 ? source : -1,
 box: Math.max(0, box),
 find: decoded(words.get('find') || ''),
 by: by === 'name' || by === 'regexp' ? by : 'text',
-below: words.get('root') === 'below',
+order: words.get('order') === 'weight' ? 'weight' : 'place',
+below: page.isBelow ? words.get('root') !== 'above' : words.get('root') === 'below',
+lists: wholeNumber(words.get('lists'), WIDEST_LISTS),
+share: page.view === 'compare' && words.get('share') === '1',
 };
 return { state, isDead: box < 0 };
 }

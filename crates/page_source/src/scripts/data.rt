@@ -26,6 +26,7 @@ unit: commonUnit(sources),
 whole: data.whole,
 kept: start,
 isFiltered: data.whole > start + data.whole * 2 ** -50,
+isBelow: data.root_below === true,
 drawingCount: data.drawings.length,
 drawing: drawingsOf(data.drawings),
 };

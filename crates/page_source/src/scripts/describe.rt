@@ -6,7 +6,7 @@ const details = [
 weightDetail(seen, drawing.weight[box], weightInSpan(drawing, box, span)),
 `own ${exactText(drawing.own[box], page.unit)}`,
 ];
-if (drawing.other) details.push(changeDetail(page, drawing, box));
+if (drawing.other) details.push(changeDetail(seen, box));
 if (page.view === 'chart') details.push(timeDetail(page, drawing, box));
 return details;
 }
@@ -21,9 +21,14 @@ if (!page.isFiltered) return `${share} of the whole`;
 const hasWhole = page.view !== 'compare' && drawing.at === undefined;
 return `${share} of what is kept${hasWhole ? `, ${percentText(weight, page.whole)} of the whole` : ''}`;
 }
-function changeDetail(page, drawing, box) {
-const { before, after } = bothWeights(page, drawing, box);
-return `before ${exactText(before, page.unit)}, after ${exactText(after, page.unit)}: ${changeText(before, after)}`;
+function changeDetail({ page, drawing, isShare }, box) {
+const weights = bothWeights(page, drawing, box);
+const [before, after] = [weights.before, weights.after].map((weight, number) => {
+const share = isShare ? `, ${percentText(weight, page.drawing(number).total)} of its whole` : '';
+return `${exactText(weight, page.unit)}${share}`;
+});
+const compared = comparedOf(page, isShare, weights);
+return `before ${before}, after ${after}: ${changeText(compared.before, compared.after)}${isShare ? ' of its share' : ''}`;
 }
 function timeDetail(page, drawing, box) {
 const from = drawing.start[box];
@@ -55,7 +60,7 @@ const { page, drawing, span } = seen;
 const { box } = place;
 if (isJoined(place)) return joinedDetails(seen, place).join(' \u00b7 ');
 const title = [nameText(page.names[drawing.name[box]]), weightDetail(seen, drawing.weight[box], weightInSpan(drawing, box, span))];
-if (drawing.other) title.push(changeDetail(page, drawing, box));
+if (drawing.other) title.push(changeDetail(seen, box));
 return title.join(' \u00b7 ');
 }
 "##;

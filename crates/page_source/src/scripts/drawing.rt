@@ -62,6 +62,11 @@ found = next;
 }
 return found;
 }
+function comparedOf(page, isShare, weights) {
+const [before, after] = isShare ? [0, 1].map((number) => page.drawing(number).total) : [0, 0];
+if (before === 0 || after === 0) return weights;
+return { before: weights.before * after, after: weights.after * before };
+}
 function bothWeights(page, drawing, box) {
 const here = drawing.weight[box];
 const there = drawing.other ? drawing.other[box] : here;

@@ -1,48 +1,29 @@
 //! What `page/join` takes of page/functions.js. `checks/page_source --write` makes this file.
 
 pub(crate) const TEXT: &str = r##"const TABLE_STEP = 100;
-function totalsOf(drawing, nameCount) {
-const own = new Float64Array(nameCount);
-const total = new Float64Array(nameCount);
-const covered = new Int32Array(nameCount);
-for (let box = 0; box < drawing.count; box++) {
-if (drawing.depth[box] === 0) continue;
-const name = drawing.name[box];
-own[name] += drawing.own[box];
-if (box < covered[name]) continue;
-covered[name] = drawing.end[box];
-total[name] += drawing.weight[box];
+const NOTHING = { from: 0, to: 0, depth: 0 };
+function sumsOfProfile({ page, drawing, span, state }, number) {
+const profile = page.drawing(number);
+if (profile === drawing) return sumsOf(drawing, page.names.length, span);
+const path = pathOf(page, drawing, state.box);
+const box = boxAt(page, profile, path, -1);
+const isThere = profile.count > 0 && profile.depth[box] === path.length;
+return sumsOf(profile, page.names.length, isThere ? spanOf(page, profile, { ...state, box }) : NOTHING);
 }
-return { own, total };
+function functionRows(view, matching) {
+const { page, drawing, span, state } = view;
+const compared = page.view === 'compare' ? [0, 1].map((number) => sumsOfProfile(view, number)) : null;
+const here = compared ? compared[state.drawing] : sumsOf(drawing, page.names.length, span);
+const all = upTo(page.names.length).filter((name) => {
+const isThere = here.total[name] > 0 || (compared !== null && compared.some(({ total }) => total[name] > 0));
+return isThere && (!matching || matching[name] === 1);
+});
+return { here, compared, all };
 }
-function comparedOf(page) {
-if (page.view !== 'compare') return null;
-const [before, after] = [0, 1].map((number) => totalsOf(page.drawing(number), page.names.length).total);
-return { before, after, change: after.map((weight, name) => weight - before[name]) };
-}
-function functionRows(page, drawing) {
-const { own, total } = totalsOf(drawing, page.names.length);
-const compared = comparedOf(page);
-const isThere = (name) => total[name] > 0 || (compared !== null && compared.before[name] + compared.after[name] > 0);
-return { own, total, compared, all: upTo(page.names.length).filter(isThere) };
-}
-function columnOf(rows, key) {
-if (key === 'change' && rows.compared) return rows.compared.change;
-return key === 'total' ? rows.total : rows.own;
-}
-function sortedRows(page, rows, key, isRising) {
-const all = Array.from(rows.all);
-if (key === 'name') {
-const sorted = all.sort((one, other) => (page.names[one] < page.names[other] ? -1 : 1));
-return isRising ? sorted : sorted.reverse();
-}
-const column = columnOf(rows, key);
-return all.sort((one, other) => (isRising ? column[one] - column[other] : column[other] - column[one]) || one - other);
-}
-function weightCell(weight, whole, unit) {
-const cell = withText('td', weightText(weight, unit));
-cell.title = `${exactText(weight, unit)}, ${percentText(weight, whole)}`;
-return cell;
+function headingText(view, isMatching) {
+const { page, state } = view;
+const part = state.source >= 0 ? ` in ${shortened(page.sources[state.source].name, 60)}` : ' in this box';
+return `Functions${isZoomed(view) ? part : ''}${isMatching ? ' that match' : ''}`;
 }
 class FunctionTable {
 constructor(page, onChoose) {
@@ -52,19 +33,30 @@ const section = element('functions');
 this.body = inside(section, 'tbody');
 this.more = button('functions-more');
 this.heads = [...section.querySelectorAll('th')];
-this.sort = { key: 'own', isRising: false };
+this.kind = elementOf('functions-of', HTMLSelectElement);
+this.kind.hidden = page.view !== 'compare';
+this.sort = { key: page.view === 'compare' ? 'change' : 'own', isRising: false };
 this.whole = 0;
-this.rows = { own: new Float64Array(0), total: new Float64Array(0), compared: null, all: new Int32Array(0) };
+this.isShare = false;
+this.marked = null;
+const none = { own: new Float64Array(0), total: new Float64Array(0) };
+this.rows = { here: none, compared: null, all: new Int32Array(0) };
 this.sorted = [];
 for (const head of this.heads) {
-if (head.dataset.key === 'change') head.hidden = page.view !== 'compare';
+const isOfComparison = head.dataset.of === 'compare';
+head.hidden = head.dataset.key !== 'name' && isOfComparison !== (page.view === 'compare');
 inside(head, 'button').addEventListener('click', () => this.sortBy(head.dataset.key || 'own'));
 }
+this.kind.addEventListener('change', () => this.showSorted());
 this.more.addEventListener('click', () => this.showMore());
 }
-show(drawing) {
-this.whole = drawing.total;
-this.rows = functionRows(this.page, drawing);
+show(view, matching) {
+const isMarked = matching !== null && view.state.by === 'name';
+this.marked = isMarked ? view.state.find : null;
+this.isShare = view.isShare;
+this.whole = isZoomed(view) ? view.span.to - view.span.from : view.drawing.total;
+this.rows = functionRows(view, isMarked ? null : matching);
+element('functions-title').textContent = headingText(view, matching !== null && !isMarked);
 this.showSorted();
 }
 sortBy(key) {
@@ -74,13 +66,34 @@ this.showSorted();
 }
 showSorted() {
 const { key, isRising } = this.sort;
-this.sorted = sortedRows(this.page, this.rows, key, isRising);
+this.sorted = this.sortedNames(key, isRising);
 this.body.replaceChildren();
 for (const head of this.heads) {
 if (head.dataset.key !== key) head.removeAttribute('aria-sort');
 else head.setAttribute('aria-sort', isRising ? 'ascending' : 'descending');
 }
 this.showMore();
+}
+sortedNames(key, isRising) {
+const { names } = this.page;
+const all = Array.from(this.rows.all);
+const turned = isRising ? 1 : -1;
+if (key === 'name') return all.sort((one, other) => (names[one] < names[other] ? -turned : turned));
+const values = new Map(all.map((name) => [name, this.valueOf(name, key)]));
+const value = (name) => values.get(name) || 0;
+return all.sort((one, other) => (value(one) === value(other) ? one - other : turned * (value(one) - value(other))));
+}
+valueOf(name, key) {
+if (key === 'own' || key === 'total') return this.rows.here[key][name];
+const { before, after } = comparedOf(this.page, this.isShare, this.bothOf(name));
+if (key === 'before') return before;
+if (key === 'after') return after;
+return key === 'change' ? after - before : (after - before) / before;
+}
+bothOf(name) {
+const kind = this.kind.value === 'total' ? 'total' : 'own';
+const [before, after] = (this.rows.compared || [this.rows.here, this.rows.here]).map((sums) => sums[kind][name]);
+return { before, after };
 }
 showMore() {
 const { body, more, sorted } = this;
@@ -90,21 +103,38 @@ more.hidden = body.children.length >= sorted.length;
 more.textContent = `Show more of ${separated(sorted.length)}`;
 }
 row(name) {
-const { page, whole, rows } = this;
-const chosen = nameButton(nameText(page.names[name]), () => this.onChoose(page.names[name], rows.total[name] > 0));
-chosen.title = described(page.names[name]);
+const { names } = this.page;
+const { here, compared } = this.rows;
+const chosen = nameButton(nameText(names[name]), () => this.onChoose(names[name], here.total[name] > 0));
+chosen.title = described(names[name]);
 const first = document.createElement('td');
 first.append(chosen);
 const row = document.createElement('tr');
-row.append(first, weightCell(rows.own[name], whole, page.unit), weightCell(rows.total[name], whole, page.unit));
-if (rows.compared) row.append(this.changeCell(rows.compared.before[name], rows.compared.after[name]));
+if (names[name] === this.marked) row.setAttribute('aria-current', 'true');
+row.append(first, ...(compared ? this.comparedCells(name) : [here.own, here.total].flatMap((sums) => this.weightCells(sums[name]))));
 return row;
 }
-changeCell(before, after) {
+weightCells(weight) {
 const { unit } = this.page;
-const cell = withText('td', changeText(before, after));
-cell.title = `total before ${exactText(before, unit)}, after ${exactText(after, unit)}`;
-return cell;
+const cells = [weightText(weight, unit), percentText(weight, this.whole)].map((text) => withText('td', text));
+for (const cell of cells) cell.title = exactText(weight, unit);
+return cells;
+}
+comparedCells(name) {
+const { page, isShare } = this;
+const { unit } = page;
+const { before, after } = this.bothOf(name);
+const compared = comparedOf(page, isShare, { before, after });
+const weights = [weightText(before, unit), weightText(after, unit), differenceText(before, after, unit)];
+const texts = isShare ? this.shareTexts(before, after) : weights;
+const cells = [...texts, changeText(compared.before, compared.after)].map((text) => withText('td', text));
+for (const cell of cells) cell.title = `before ${exactText(before, unit)}, after ${exactText(after, unit)}`;
+return cells;
+}
+shareTexts(before, after) {
+const [first, second] = [before, after].map((weight, number) => weight / (this.page.drawing(number).total || 1));
+const sign = second > first ? '+' : second < first ? '\u2212' : '';
+return [percentText(first, 1), percentText(second, 1), sign + percentText(Math.abs(second - first), 1)];
 }
 }
 "##;

@@ -1,23 +1,19 @@
 //! What `page/join` takes of page/gone.js. `checks/page_source --write` makes this file.
 
 pub(crate) const TEXT: &str = r##"const GONE_STEP = 100;
-function goneRoots(drawing) {
-const roots = [];
+function goneOf(drawing) {
+const boxes = [];
+let rest = 0;
 for (let box = 0; box < drawing.count; ) {
 if (!drawing.other || drawing.other[box] > 0) {
 box++;
 continue;
 }
-roots.push(box);
+boxes.push(box);
+rest += drawing.end[box] - box - 1;
 box = drawing.end[box];
 }
-return roots;
-}
-function goneBoxes(drawing, roots) {
-const heaviest = roots.slice().sort((one, other) => drawing.weight[other] - drawing.weight[one] || one - other);
-const boxes = [];
-for (const root of heaviest) for (let box = root; box < drawing.end[root]; box++) boxes.push(box);
-return boxes;
+return { boxes: boxes.sort((one, other) => drawing.weight[other] - drawing.weight[one] || one - other), rest };
 }
 class GoneList {
 constructor(page, onChoose) {
@@ -26,19 +22,20 @@ this.onChoose = onChoose;
 this.before = page.drawing(0);
 this.list = element('gone-list');
 this.more = button('gone-more');
-const roots = goneRoots(this.before);
-this.boxes = goneBoxes(this.before, roots);
-element('gone-summary').textContent = this.summary(roots);
+const { boxes, rest } = goneOf(this.before);
+this.boxes = boxes;
+element('gone-summary').textContent = this.summary(rest);
 this.more.addEventListener('click', () => this.showMore());
 element('gone').hidden = false;
 this.showMore();
 }
-summary(roots) {
+summary(rest) {
 const { before, boxes, page } = this;
 if (boxes.length === 0) return 'Each path of the profile before is in the profile after.';
-const vanished = roots.reduce((sum, box) => sum + before.weight[box], 0);
+const vanished = boxes.reduce((sum, box) => sum + before.weight[box], 0);
 const much = `${exactText(vanished, page.unit)}, ${percentText(vanished, before.total)} of the profile before`;
-return `${separated(boxes.length)} ${boxes.length === 1 ? 'path' : 'paths'}, together ${much}.`;
+const others = rest === 0 ? '' : ` ${separated(rest)} more went with ${boxes.length === 1 ? 'it' : 'them'}.`;
+return `${separated(boxes.length)} ${boxes.length === 1 ? 'path' : 'paths'}, together ${much}.${others}`;
 }
 item(box) {
 const { before, page } = this;

@@ -1,10 +1,11 @@
 //! What `page/join` takes of page/listening.js. `checks/page_source --write` makes this file.
 
 pub(crate) const TEXT: &str = r##"const TYPING = 150;
+const WIDTH_STEP = 20;
 const LONGEST_CLICK = 4;
 function listenToSearch(viewer) {
 const find = input('find');
-const by = elementOf('by', HTMLSelectElement);
+const [by, order] = ['by', 'order'].map((id) => elementOf(id, HTMLSelectElement));
 let waiting = 0;
 const search = () => {
 clearTimeout(waiting);
@@ -16,6 +17,7 @@ clearTimeout(waiting);
 waiting = window.setTimeout(search, TYPING);
 });
 by.addEventListener('change', search);
+order.addEventListener('change', () => viewer.change({ order: order.value }, false));
 element('search').addEventListener('submit', (event) => {
 event.preventDefault();
 search();
@@ -42,14 +44,40 @@ window.addEventListener('afterprint', () => paper.replaceChildren());
 button('print').addEventListener('click', () => window.print());
 }
 function listenToTools(viewer) {
-const [below, snapshot, before] = [input('below'), input('snapshot'), input('before')];
+const [below, snapshot, before, share] = [input('below'), input('snapshot'), input('before'), input('share')];
 button('back').addEventListener('click', () => viewer.goBack());
 below.addEventListener('change', () => viewer.change({ below: below.checked }, false));
 snapshot.addEventListener('input', () => viewer.turnTo(Number(snapshot.value)));
 before.addEventListener('change', () => viewer.turnTo(before.checked ? 0 : 1));
+share.addEventListener('change', () => viewer.change({ share: share.checked }, false));
 const scene = () => viewer.stage.wholeScene(viewer.view, false);
 button('save-svg').addEventListener('click', () => saveSvg(scene()));
 button('save-png').addEventListener('click', () => savePng(scene(), (text) => viewer.say(text)));
+}
+function listenToLists(viewer) {
+const divider = element('divider');
+const listed = input('listed');
+const widen = (width) => viewer.change({ lists: draggedWidth(width) }, false);
+let [dragged, begin] = [-1, 0];
+listed.addEventListener('change', () => viewer.change({ lists: listed.checked ? -1 : 0 }, false));
+divider.addEventListener('pointerdown', (event) => {
+divider.setPointerCapture(event.pointerId);
+[dragged, begin] = [listsWidth(), event.clientX];
+event.preventDefault();
+});
+divider.addEventListener('pointermove', (event) => {
+if (dragged >= 0) showLists(draggedWidth(dragged + begin - event.clientX) || 1);
+});
+divider.addEventListener('pointerup', (event) => {
+if (dragged >= 0 && event.clientX !== begin) widen(dragged + begin - event.clientX);
+dragged = -1;
+});
+divider.addEventListener('keydown', (event) => {
+const steps = event.key === 'ArrowLeft' ? 1 : event.key === 'ArrowRight' ? -1 : 0;
+if (steps === 0 || isForBrowser(event)) return;
+event.preventDefault();
+widen(listsWidth() + steps * WIDTH_STEP);
+});
 }
 function listenToPointer(viewer) {
 const { picture } = viewer.stage;
@@ -62,7 +90,10 @@ picture.addEventListener('click', (event) => {
 const moved = pressed ? Math.hypot(event.clientX - pressed.clientX, event.clientY - pressed.clientY) : 0;
 const place = viewer.stage.placeUnder(viewer.view, event);
 pressed = null;
-if (place && !isJoined(place) && moved <= LONGEST_CLICK) viewer.zoomTo(place.box);
+if (!place || isJoined(place) || moved > LONGEST_CLICK) return;
+const isNaming = event instanceof PointerEvent && event.pointerType === 'touch' && place.box !== viewer.view.state.focus;
+if (isNaming) viewer.focusOn(place.box);
+else viewer.zoomTo(place.box);
 });
 picture.addEventListener('scroll', () => {
 cancelAnimationFrame(frame);
@@ -95,6 +126,7 @@ function listen(viewer) {
 listenToSearch(viewer);
 listenToPrint(viewer);
 listenToTools(viewer);
+listenToLists(viewer);
 listenToPointer(viewer);
 listenToKeys(viewer);
 window.addEventListener('popstate', (event) => viewer.goTo(event));

@@ -7,21 +7,21 @@ const { drawing, colours, span, matches } = scene;
 if (matches && matches.isMatch(box)) return { fill: colours.match, ink: colours.matchInk };
 if (matches || drawing.depth[box] < span.depth) return { fill: colours.dim, ink: colours.dimInk };
 if (drawing.other) {
-const { before, after } = bothWeights(scene.page, drawing, box);
+const { before, after } = comparedOf(scene.page, scene.isShare, bothWeights(scene.page, drawing, box));
 return { fill: colours.changes[changeShade(before, after)], ink: colours.ink };
 }
 if (drawing.depth[box] === 0) return { fill: colours.root, ink: colours.ink };
 return { fill: colours.plain[scene.shadeOf(drawing.name[box])], ink: colours.ink };
 }
-function joinedFill(scene, place) {
-const { drawing, colours, span, matches } = scene;
-const matching = matches ? matchesIn(matches, drawing, place) : 0;
-if (matching === place.count) return colours.match;
-return (matches && matching === 0) || drawing.depth[place.box] < span.depth ? colours.dim : colours.joined;
+function joinedFill({ drawing, colours, matches }, place) {
+if (!matches) return colours.joined;
+const matching = matchesIn(matches, drawing, place);
+if (matching === 0) return colours.dim;
+return matching === place.count ? colours.match : colours.joinedMatch;
 }
 function addedText(scene, box) {
 if (!scene.drawing.other) return '';
-const { before, after } = bothWeights(scene.page, scene.drawing, box);
+const { before, after } = comparedOf(scene.page, scene.isShare, bothWeights(scene.page, scene.drawing, box));
 return changeText(before, after);
 }
 function paintPlace(painter, scene, place, top) {

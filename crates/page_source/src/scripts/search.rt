@@ -1,9 +1,12 @@
 //! What `page/join` takes of page/search.js. `checks/page_source --write` makes this file.
 
-pub(crate) const TEXT: &str = r##"function nameTest(find, by) {
+pub(crate) const TEXT: &str = r##"function isEitherCase(find, by) {
+return by === 'text' && find === find.toLowerCase();
+}
+function nameTest(find, by) {
 if (by === 'name') return (name) => name === find;
 const text = by === 'text' ? find.replace(/[\\^$.*+?()[\]{}|/]/g, '\\$&') : find;
-const flags = by === 'text' && find === find.toLowerCase() ? 'iu' : 'u';
+const flags = isEitherCase(find, by) ? 'iu' : 'u';
 try {
 const expression = new RegExp(text, flags);
 return (name) => expression.test(name);
@@ -54,5 +57,13 @@ if (boxes.length === 0) return -1;
 if (isForward) return boxes[firstPlace(0, boxes.length, (place) => boxes[place] > box) % boxes.length];
 const place = firstPlace(0, boxes.length, (each) => boxes[each] >= box);
 return boxes[(place + boxes.length - 1) % boxes.length];
+}
+function neighbourByWeight(matches, drawing, box, isForward) {
+const { boxes, isMatch } = matches;
+if (boxes.length === 0) return -1;
+const compare = (one, other) => drawing.weight[other] - drawing.weight[one] || one - other;
+const heaviest = boxes.slice().sort(compare);
+const at = isMatch(box) ? firstPlace(0, heaviest.length, (place) => compare(heaviest[place], box) >= 0) : isForward ? -1 : 0;
+return heaviest[(at + (isForward ? 1 : -1) + heaviest.length) % heaviest.length];
 }
 "##;

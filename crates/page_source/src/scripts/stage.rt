@@ -7,17 +7,17 @@ this.picture = element('picture');
 this.canvas = elementOf('canvas', HTMLCanvasElement);
 this.darkness = matchMedia('(prefers-color-scheme: dark)');
 this.shadeOf = nameShades(page.names);
-this.lettering = new Lettering(page.names);
-this.sourceLettering = new Lettering(page.sources.map((source) => source.name));
+this.lettering = new Lettering(page.names, formsOf);
+this.sourceLettering = new Lettering(page.sources.map((source) => source.name), (name) => [name]);
 this.painted = { width: 0, height: 0, top: 0 };
 }
 area() {
 return { width: this.picture.clientWidth, height: this.picture.clientHeight, top: this.picture.scrollTop };
 }
 scene(view, part, colours) {
-const { page, drawing, span, matches, state } = view;
+const { page, drawing, span, matches, state, isShare } = view;
 const { shadeOf, lettering, sourceLettering } = this;
-return { page, drawing, span, matches, below: state.below, ...part, colours, shadeOf, lettering, sourceLettering };
+return { page, drawing, span, matches, isShare, below: state.below, ...part, colours, shadeOf, lettering, sourceLettering };
 }
 wholeScene(view, isPaper) {
 const rowCount = rowsInSpan(view.drawing, view.span);

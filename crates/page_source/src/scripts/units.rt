@@ -48,4 +48,8 @@ if (after === 0) return 'gone';
 const percent = (100 * (after - before)) / before;
 return `${percent > 0 ? '+' : '\u2212'}${threeDigits(Math.abs(percent))}%`;
 }
+function differenceText(before, after, unit) {
+const sign = after > before ? '+' : after < before ? '\u2212' : '';
+return sign + weightText(Math.abs(after - before), unit);
+}
 "##;

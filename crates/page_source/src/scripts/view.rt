@@ -9,7 +9,8 @@ return { matches: names && matchesOf(drawing, names), isRefused: !names };
 }
 function viewOf(page, matching, state, old) {
 const drawing = page.drawing(state.drawing);
-return { page, state, drawing, span: spanOf(page, drawing, state), ...searched(matching, drawing, state, old) };
+const isShare = state.share;
+return { page, state, drawing, span: spanOf(page, drawing, state), isShare, ...searched(matching, drawing, state, old) };
 }
 function isZoomed(view) {
 return view.state.box > 0 || view.state.source >= 0;

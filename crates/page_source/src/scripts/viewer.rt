@@ -2,6 +2,10 @@
 
 pub(crate) const TEXT: &str =
     r##"const DEAD_LINK = 'No box here has the path of this address, so all of them are shown.';
+function isOther(old, view) {
+const isSamePart = old.drawing === view.drawing && old.state.box === view.state.box && old.state.source === view.state.source;
+return !isSamePart || old.matches !== view.matches || old.isShare !== view.isShare;
+}
 class Viewer {
 constructor(page) {
 this.page = page;
@@ -66,14 +70,18 @@ const { picture } = stage;
 const { drawing, state } = view;
 this.forget();
 showTools(view);
-if (!old || old.drawing !== drawing) {
-showTop(page, drawing);
-afterPaint(() => this.functions.show(this.view.drawing));
-}
+if (!old || old.state.lists !== state.lists) showLists(state.lists);
+if (!old || old.drawing !== drawing) showTop(page, drawing);
+if (!old || isOther(old, view)) afterPaint(() => this.showFunctions());
 stage.makeRoom(view);
 if (state.below !== (old ? old.state.below : false)) picture.scrollTop = state.below ? picture.scrollHeight : 0;
 if (!old || old.state.box !== state.box || old.drawing !== drawing) this.revealFocus();
 this.paint();
+}
+showFunctions() {
+const { view, matching } = this;
+const { find, by } = view.state;
+this.functions.show(view, view.matches && matching(find, by));
 }
 change(changed, isStep) {
 this.look({ ...this.view.state, ...changed });
@@ -124,7 +132,9 @@ this.change({ find: name, by: 'name', ...there }, true);
 }
 toMatch(isForward) {
 const { drawing, matches, span, state } = this.view;
-const box = matches ? neighbourMatch(matches, state.focus, isForward) : -1;
+if (!matches) return;
+const { focus, order } = state;
+const box = order === 'weight' ? neighbourByWeight(matches, drawing, focus, isForward) : neighbourMatch(matches, focus, isForward);
 if (box < 0) return;
 if (!isInSpan(drawing, box, span)) this.change({ box: 0, source: -1, focus: box }, true);
 this.focusOn(box);

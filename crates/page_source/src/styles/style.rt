@@ -42,10 +42,12 @@ p { margin: 0.1rem 0; }
 #notices { list-style: none; margin: 0; max-height: 8em; overflow: auto; padding: 0; }
 #notices li { background: var(--warning); margin: 0.2rem 0; overflow-wrap: anywhere; padding: 0.2rem 0.5rem; }
 #tools { align-items: center; display: flex; flex-wrap: wrap; gap: 0.4rem 0.8rem; padding: 0.4rem 0; position: relative; }
-#search { align-items: center; display: flex; flex-wrap: wrap; gap: 0.3rem; }
-#find { width: 12rem; }
+#search { align-items: center; display: flex; flex: 1 1 39rem; gap: 0.3rem; max-width: 56rem; min-width: 0; }
+#find { background: var(--panel); border: 1px solid var(--quiet); flex: 1 1 6rem; min-width: 5rem; padding: 0.15rem 0.3rem; }
+#find::placeholder { color: var(--quiet); opacity: 1; }
 #find[aria-invalid="true"] { outline: 2px solid #c0392b; }
-#matched { min-width: 7.5rem; }
+#by { width: 12.2rem; }
+#matched { flex: none; min-width: 7.5rem; white-space: nowrap; }
 #help dl {
 background: var(--panel);
 border: 1px solid var(--line);
@@ -59,7 +61,7 @@ z-index: 3;
 #help dd { margin: 0 0 0.3rem; }
 button, input, select { color: inherit; font: inherit; }
 :focus-visible { outline: 2px solid var(--accent); outline-offset: 1px; }
-main { display: flex; flex: 1; gap: 11px; min-height: 0; }
+main { display: flex; flex: 1; min-height: 0; }
 #stage { display: flex; flex: 1; flex-direction: column; min-width: 0; }
 #lanes { height: 1.6rem; overflow: hidden; position: relative; }
 #lanes button {
@@ -83,22 +85,30 @@ white-space: nowrap;
 #picture:focus .ring { box-shadow: 0 0 0 1px var(--paper); outline: 3px solid var(--accent); outline-offset: -3px; }
 #status { color: var(--quiet); height: 1.4em; overflow: hidden; text-overflow: ellipsis; unicode-bidi: isolate; white-space: nowrap; }
 #paper { display: none; }
+#divider { cursor: col-resize; flex: none; touch-action: none; width: 11px; }
+#divider:hover, #divider:active { background: var(--panel); }
 #lists {
 border-left: 1px solid var(--line);
 flex: none;
-overflow-y: auto;
+max-width: calc(100% - 168px);
+overflow: auto;
 padding-left: 0.8rem;
-width: max(27rem, 24vw);
-width: max(27rem, round(down, 24vw, 1px));
+width: var(--lists, max(32rem, 24vw));
+width: var(--lists, max(32rem, round(down, 24vw, 1px)));
 }
-#functions table { border-collapse: collapse; width: 100%; }
-#functions th { background: var(--paper); padding: 0 0 0 0.6rem; position: sticky; text-align: right; top: 0; white-space: nowrap; }
-#functions td { font-variant-numeric: tabular-nums; padding: 0 0 0 0.6rem; text-align: right; white-space: nowrap; }
-#functions th:first-child, #functions td:first-child { max-width: 0; padding: 0; text-align: left; width: 100%; }
+#functions { container-type: inline-size; }
+#functions h2 { display: inline-block; margin-right: 0.6rem; overflow-wrap: anywhere; }
+#functions table { border-collapse: collapse; font-size: 12px; width: 100%; }
+#functions th { background: var(--paper); padding: 0 0 0 0.4rem; position: sticky; text-align: right; top: 0; white-space: nowrap; }
+#functions td { font-variant-numeric: tabular-nums; padding: 0 0 0 0.4rem; text-align: right; white-space: nowrap; }
+#functions th:first-child, #functions td:first-child { max-width: 0; min-width: 50cqi; padding: 0; text-align: left; width: 100%; }
+#functions tr[aria-current] { background: var(--panel); font-weight: 600; }
 #functions th button, #lists td button, #gone-list button { background: none; border: 0; padding: 0; text-align: inherit; }
 #functions th button { font-weight: 600; }
-#functions th[aria-sort="descending"] button::after { content: " \25be"; }
-#functions th[aria-sort="ascending"] button::after { content: " \25b4"; }
+#functions th[aria-sort] button::before { font-size: 9px; margin-left: -1em; position: absolute; }
+#functions th[aria-sort="descending"] button::before { content: "\25bc"; }
+#functions th[aria-sort="ascending"] button::before { content: "\25b2"; }
+#functions th:first-child[aria-sort] button::before { margin-left: 4.2em; }
 #lists td button, #gone-list button {
 display: block;
 font: 12px/1.6 ui-monospace, monospace;
@@ -133,9 +143,11 @@ z-index: 4;
 #tip p:first-child { font: 12px/1.4 ui-monospace, monospace; font-weight: 600; }
 @media (max-width: 60rem) {
 body { height: auto; min-height: 100vh; }
-main { flex-direction: column; }
-#find { width: 9.5rem; }
+main { flex-direction: column; gap: 11px; }
+#divider { display: none; }
+#search { flex-wrap: wrap; }
+#status { background: var(--paper); bottom: 0; position: sticky; z-index: 2; }
 #picture { flex: none; height: 70vh; }
-#lists { border-left: 0; padding: 0; width: auto; }
+#lists { border-left: 0; max-width: none; padding: 0; width: auto; }
 }
 "##;

@@ -7,13 +7,13 @@ mod data;
 use super::of_page_source::is_page;
 use super::texts::holds;
 use byte_io::{CountedWriter, PieceFault};
-use merging::{Source, SourceLists, read_sources};
 use page_views::{Heading, send_chart_page, send_comparison_page, send_graph_page};
 use run_options::{Filter, Format, Naming, Options, Pick, RingSize};
-use stack_core::{OpenGate, SourceList};
+use source_lists::{Gating, Input, Source, SourceLists, read};
+use stack_core::{NoSink, OpenGate, SourceList};
 use std::alloc::{AllocError, Global};
 use std::process::Abort;
-use std::sync::{Arc, Wait};
+use std::sync::Wait;
 use std::test::Fail;
 use std::thread::Threads;
 
@@ -63,12 +63,14 @@ pub(crate) fn options_of(alloc: Global, every: Option<u64>) -> Options
 fn collected<T: Threads + Wait + Copy + Send + 'static>(
     rt: &T,
     alloc: Global,
-    mut sources: Vec<Source>,
+    sources: Vec<Source>,
     options: &Options,
 ) -> Result<SourceLists, Fail> {
-    sources.truncate(64);
-    let gate = Arc::new(alloc, OpenGate)?;
-    Ok(read_sources(rt, alloc, sources, options, gate)?)
+    let mut inputs = Input::all_of(alloc, sources)?;
+    inputs.truncate(64);
+    let gating = Gating::<OpenGate>::Open;
+    let run = read(rt, alloc, inputs, options, gating, &mut NoSink::new())?;
+    Ok(run.kept)
 }
 
 // What was collected of two folded texts.

@@ -1,5 +1,5 @@
 -- What the collecting thread has of a source: checked, not to be believed.
-use Rattle.std.specs.Prelude.{◌≡◌, ◌++◌, ℕ, List, [], ◌∷◌, Option, Some, None, map}
+use Rattle.std.specs.Prelude.{◌≡◌, ◌≢◌, ◌++◌, ℕ, List, [], ◌∷◌, Option, Some, None, map}
 use Rattle.rtrb.specs.Ring.{received, known_items}
 use Rattle.rtrb.specs.declared.consumer.Consumer.{Consumer}
 use Rattle.stack_core.specs.Ledgers.{LedgerState}
@@ -11,17 +11,19 @@ use Rattle.stack_core.specs.declared.endings.Close.{Close}
 use Rattle.stack_core.specs.declared.endings.Item.{Item}
 use Rattle.stack_core.specs.declared.endings.Item.TheVariants as item
 use Rattle.stack_core.specs.declared.records.RingRecord.{RingRecord}
+use Rattle.ring_collect.specs.checked.Batches.{records_of_all}
 use Rattle.ring_collect.specs.checked.Records.{of_one}
+use Rattle.ring_collect.specs.declared.batches.Batch.{Batch}
 use Rattle.ring_collect.specs.declared.intakes.Intake.{Intake}
 use Rattle.ring_collect.specs.declared.intakes.Stage.{Stage}
-use Rattle.ring_collect.specs.declared.intakes.Stage.TheVariants.{Taking, Unnamed}
+use Rattle.ring_collect.specs.declared.intakes.Stage.TheVariants.{Taking, Dropping, Unnamed}
 
--- a record came out of the ring
-abbrev pub PopsOne : {A P : Type 0} → Consumer RingRecord A P → Consumer RingRecord A P → Type 0
-PopsOne old new = (one : RingRecord) × (received new ≡ received old ++ one ∷ [])
+-- a batch came out of the ring
+abbrev pub PopsOne : {A P : Type 0} → Consumer Batch A P → Consumer Batch A P → Type 0
+PopsOne old new = (one : Batch) × (received new ≡ received old ++ one ∷ [])
 
--- no record was known to be in the ring
-abbrev pub FindsNothing : {A P : Type 0} → Consumer RingRecord A P → Consumer RingRecord A P → Type 0
+-- no batch was known to be in the ring
+abbrev pub FindsNothing : {A P : Type 0} → Consumer Batch A P → Consumer Batch A P → Type 0
 FindsNothing old new = (received new ≡ received old) × (known_items new ≡ [])
 
 -- the item that a close is, if there is one
@@ -48,7 +50,7 @@ pub record Tracked (records : List RingRecord) (close : Option Close) (ledger : 
   pub unnamed : stage ≡ Unnamed → IsWellTold records → ⊥
 
 abbrev pub Tracks : Intake → List Sample → Type 0
-Tracks intake list = Tracked (received intake.consumer) intake.close intake.ledger intake.stage list
+Tracks intake list = Tracked (records_of_all (received intake.consumer)) intake.close intake.ledger intake.stage list
 
 -- the sink has some samples more of the source, and what is tracked says so; where it went well the order has their source too
 pub record GainsMore (source : ℕ) (tracks : List Sample → Type 0) (list : List Sample) (taken taken' : List (ℕ × Sample)) (order order' : List ℕ) (went_well : Type 0) : Type 0 where
@@ -56,3 +58,9 @@ pub record GainsMore (source : ℕ) (tracks : List Sample → Type 0) (list : Li
   pub tracked : tracks (list ++ more)
   pub gains : taken' ≡ taken ++ of_one source more
   pub ordered : went_well → order' ≡ order ++ sources_of (of_one source more)
+
+-- what the sink has some samples more of, when these records came behind any others and no close came before
+abbrev pub Brings : List RingRecord → Intake → Intake → List (ℕ × Sample) → List (ℕ × Sample) → List ℕ → List ℕ → Type 0
+Brings records old new taken taken' order order' =
+    (before : List RingRecord) (list : List Sample) → Tracked before None old.ledger old.stage list
+    → GainsMore old.number (Tracked (before ++ records) new.close new.ledger new.stage) list taken taken' order order' (new.stage ≢ Dropping)

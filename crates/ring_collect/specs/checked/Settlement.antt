@@ -10,6 +10,7 @@ use Rattle.sample_tables.specs.declared.samples.Sample.{Sample}
 use Rattle.stack_core.specs.declared.endings.Close.{Close}
 use Rattle.stack_core.specs.declared.endings.Close.TheVariants.{Read}
 use Rattle.stack_core.specs.declared.records.RingRecord.{RingRecord}
+use Rattle.ring_collect.specs.checked.Batches.{records_of_all}
 use Rattle.ring_collect.specs.checked.Tellers.{AreNamesOf}
 use Rattle.ring_collect.specs.checked.Intakes.{Tracks}
 use Rattle.ring_collect.specs.declared.intakes.Intake.{Intake}
@@ -47,7 +48,7 @@ module _ {R G : Type 0} (may_stop may_go : G → ℕ → ℕ → Type 0) (rest :
 
 -- what was received is a beginning of what was sent, and the ledger is closed as the ring was
 pub record IsReceived (sent : List RingRecord) (intake : Intake) (ledger : LedgerState) : Type 0 where
-  pub begins : IsPrefixOf (received intake.consumer) sent
+  pub begins : IsPrefixOf (records_of_all (received intake.consumer)) sent
   pub closed : ledger ≡ record intake.ledger { close = intake.close }
 
 -- the lists that ledgers hand out

@@ -11,7 +11,9 @@ use Rattle.stack_core.specs.declared.endings.SourceEnd.TheVariants as ending
 use Rattle.rtrb.specs.Ring.{all_sent}
 use Rattle.rtrb.specs.declared.producer.Producer.{Producer}
 use Rattle.rtrb.specs.declared.finished.Finished.{Finished}
+use Rattle.ring_collect.specs.checked.Batches.{records_of_all}
 use Rattle.ring_collect.specs.checked.Rings.{IsLeftOf}
+use Rattle.ring_collect.specs.declared.batches.Batch.{Batch}
 use Rattle.ring_collect.specs.NamesInOrder.{names_in_order, with_stack}
 use Rattle.sample_tables.specs.declared.samples.Sample.{Sample}
 use Rattle.stack_core.specs.declared.endings.Close.{Close}
@@ -29,6 +31,10 @@ pub record Tells (items : List Item) (old new : List RingRecord) : Type 0 where
 -- the names and stacks that records told
 abbrev pub told_by : List RingRecord → ToldRows
 told_by records = record { names = names_told records; stacks = stacks_told records }
+
+-- the records go on by names alone
+abbrev pub TellsNames : List RingRecord → List RingRecord → Type 0
+TellsNames old new = (names : List (List ℕ)) × (new ≡ old ++ map one.Name names)
 
 -- the records that tell what a reader gave
 abbrev pub records_of : RowStep → List RingRecord
@@ -79,6 +85,6 @@ pub record TellsAll (may_stop may_go : ℕ → ℕ → Type 0) (source : ℕ) (r
   pub in_order : AreNamesOf (stands_for records) (names_told records)
 
 -- what is left of a ring shows that all that was sent there is what the reader tells
-pub record SentAll {A P : Type 0} (may_stop may_go : ℕ → ℕ → Type 0) (source : ℕ) (rest : Rest) (producer : Producer RingRecord A P) (finished : Finished RingRecord A P) : Type 0 where
+pub record SentAll {A P : Type 0} (may_stop may_go : ℕ → ℕ → Type 0) (source : ℕ) (rest : Rest) (producer : Producer Batch A P) (finished : Finished Batch A P) : Type 0 where
   pub ring : IsLeftOf producer finished
-  pub all : TellsAll may_stop may_go source rest (all_sent finished)
+  pub all : TellsAll may_stop may_go source rest (records_of_all (all_sent finished))

@@ -6,7 +6,7 @@ mod pieces;
 use super::holds;
 use profile_messages::SampleType;
 use run_options::{Filter, Format, Naming, Options, Pick, RingSize};
-use source_lists::{Source, chosen_types};
+use source_lists::{Input, Source, chosen_types};
 use stack_core::Text;
 use std::alloc::{AllocError, Global};
 use std::test::Fail;
@@ -25,9 +25,9 @@ const NO_SAMPLE: &[u8] = b"\x0a\x00";
 /// The first string is not empty.
 const WITH_FAULT: &[u8] = b"\x32\x01a";
 
-fn source_of(alloc: Global, format: Format, bytes: &[u8]) -> Result<Source, AllocError> {
+fn input_of(alloc: Global, format: Format, bytes: &[u8]) -> Result<Input, AllocError> {
     let bytes = bytes.to_vec(alloc)?;
-    Ok(Source { format, bytes })
+    Input::of(alloc, Source { format, bytes })
 }
 
 const WORKED: &[(Format, &[u8])] = &[
@@ -38,9 +38,9 @@ const WORKED: &[(Format, &[u8])] = &[
     (Format::Pprof, WITH_FAULT),
 ];
 
-fn add_worked_sources(alloc: Global, sources: &mut Vec<Source>) -> Result<(), AllocError> {
+fn add_worked_inputs(alloc: Global, inputs: &mut Vec<Input>) -> Result<(), AllocError> {
     for (format, bytes) in WORKED {
-        sources.push(source_of(alloc, *format, bytes)?)?;
+        inputs.push(input_of(alloc, *format, bytes)?)?;
     }
     Ok(())
 }
@@ -77,11 +77,11 @@ fn are_types(types: &[SampleType], expected: &[(&str, &str)]) -> bool {
 fn types_are_chosen(
     alloc: Global,
     options: &Options,
-    sources: &mut Vec<Source>,
+    inputs: &mut Vec<Input>,
     expected: &[(&str, &str)],
 ) -> Result<bool, AllocError> {
-    add_worked_sources(alloc, sources)?;
-    let types = chosen_types(alloc, sources, options)?;
+    add_worked_inputs(alloc, inputs)?;
+    let types = chosen_types(alloc, inputs, options)?;
     Ok(are_types(&types, expected))
 }
 

@@ -147,7 +147,7 @@ fn can_show(views: &Views, view: View) -> bool
     ensures { IsTrue result → IsComparison view → length views.now.lists ≡ 2 }
 {
     match view {
-        View::Pairs | View::PairBoxes(_) => views.lists().len() == 2,
+        View::Pairs | View::PairBoxes(_) | View::Diff(_) => views.lists().len() == 2,
         View::Fold | View::Graph(_) | View::Chart(_) | View::Top(_) => true,
     }
 }

@@ -244,4 +244,5 @@ fn escaped_names(rt: HostRuntime) -> Result<(), Fail> {
 fn laws_take_nothing() {
     sum_texts::laws::percentages_are_rounded();
     sum_texts::laws::function_lines_read_back();
+    sum_texts::laws::change_lines_read_back();
 }

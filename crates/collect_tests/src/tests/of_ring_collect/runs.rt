@@ -2,6 +2,7 @@
 
 ghost use Rattle.std.specs.Prelude.{◌≤◌, length, IfOk};
 
+mod batches;
 mod fakes;
 mod gates;
 mod lists;

@@ -28,6 +28,10 @@ const USAGES: &[(&str, Wanted<'static>)] = &[
         Wanted::Help("\nUsage: flamecollect top [OPTIONS] [FILE]...\n"),
     ),
     (
+        "diff --help",
+        Wanted::Help("\nUsage: flamecollect diff [OPTIONS] <BEFORE> <AFTER>\n"),
+    ),
+    (
         "types --help",
         Wanted::Help("\nUsage: flamecollect types <FILE>\n"),
     ),
@@ -49,6 +53,7 @@ const COMMANDS: &[(&str, Wanted<'static>)] = &[
     ("--help", Wanted::Help("\n  chart ")),
     ("--help", Wanted::Help("\n  compare ")),
     ("--help", Wanted::Help("\n  top ")),
+    ("--help", Wanted::Help("\n  diff ")),
     ("--help", Wanted::Help("\n  types ")),
 ];
 

@@ -13,6 +13,7 @@ pub(crate) enum Shown {
     Pairs,
     PairBoxes(u32),
     Top(TopTable),
+    Diff(TopTable),
 }
 
 /// What words set of the options.
@@ -78,6 +79,7 @@ fn view_of(shown: Shown) -> Option<View> {
         Shown::Pairs => View::Pairs,
         Shown::PairBoxes(pixels) => View::PairBoxes(Width::of(pixels)?),
         Shown::Top(table) => View::Top(table),
+        Shown::Diff(table) => View::Diff(table),
     })
 }
 

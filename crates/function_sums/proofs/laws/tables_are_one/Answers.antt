@@ -1,4 +1,4 @@
-use Rattle.function_sums.proofs.OneTable.{one_table}
+use Rattle.function_sums.proofs.FunctionList.{one_table}
 use Rattle.function_sums.proofs.laws.tables_are_one.Goals as goal
 
 pub returns : goal.returns

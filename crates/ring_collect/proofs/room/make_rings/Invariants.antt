@@ -5,5 +5,5 @@ use Rattle.ring_collect.proofs.room.make_rings.Given as goal
 abbrev pub invariant-loop : goal.invariant-loop
 invariant-loop l = record {
   count : length l.rings.items ≡ l.counter;
-  size : All (IsOfSize l.ring) l.rings.items;
+  size : All (IsOfSize l.handover.ring) l.rings.items;
 }

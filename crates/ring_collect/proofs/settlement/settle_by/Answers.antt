@@ -7,10 +7,10 @@ pub returns-clause-whole : goal.returns-clause-whole
 returns-clause-whole c = λ list tracked.
     let more = known_items c.slots_after.new.self in
     none_unnamed c.args.left c.in_ok-left.left (received c.args.intake.consumer) more c.in_ok-left.was c.requires.well_told
-    (ap (λ records. records ++ more) (sym c.slots_after.ensures.looked.1) ∙ c.slots_after.ensures.fifo) tracked (λ _. refl)
+    (ap (λ batches. batches ++ more) (sym c.slots_after.ensures.looked.1) ∙ c.slots_after.ensures.fifo) tracked (λ _. refl)
 
 pub returns-then-is_unnamed-clause-whole : goal.returns-then-is_unnamed-clause-whole
 returns-then-is_unnamed-clause-whole c = λ list tracked.
     let more = known_items c.slots_after.new.self in
     none_unnamed c.args.left c.in_ok-left.left (received c.args.intake.consumer) more c.in_ok-left.was c.requires.well_told
-    (ap (λ records. records ++ more) (sym c.slots_after.ensures.looked.1) ∙ c.slots_after.ensures.fifo) tracked (λ told. absurd (told (c.if-is_unnamed.ensures.0 refl)))
+    (ap (λ batches. batches ++ more) (sym c.slots_after.ensures.looked.1) ∙ c.slots_after.ensures.fifo) tracked (λ told. absurd (told (c.if-is_unnamed.ensures.0 refl)))

@@ -1,6 +1,6 @@
 use Rattle.std.proofs.Common.{◌∙◌, List, ap, map, subst, unwrap_or, ℕ}
 use Rattle.merged_stacks.specs.Timeline.{samples_of}
-use Rattle.merging.specs.Gathered.{ListsState}
+use Rattle.source_lists.specs.Lists.{ListsState}
 use Rattle.page_texts.specs.Document.{document_text}
 use Rattle.page_texts.specs.Drawn.{source_of}
 use Rattle.page_views.specs.Pages.{PageHeading, snapshots_page}

@@ -93,10 +93,6 @@ loop-source-preserved c =
           ∙ kept_order_more asked samples order left p source at c.is_kept.result c.requires.ordered within refl (at_is ∙ counted) (omega (arith, at_is, counted, next.1)) keeps_it (c.loop-source.invariant.kept asked flags);
     }
 
-pub returns-clause-ordered : goal.returns-clause-ordered
-returns-clause-ordered c = λ asked flags.
-    (kept_order_all asked (samples_of c.args.lists.now) c.args.order.now c.loop-source.left.items c.loop-source.source-index c.requires.ordered (omega arith) (c.loop-source.invariant.kept asked flags)).0
-
-pub returns-clause-in_order : goal.returns-clause-in_order
-returns-clause-in_order c = λ asked flags.
-    (kept_order_all asked (samples_of c.args.lists.now) c.args.order.now c.loop-source.left.items c.loop-source.source-index c.requires.ordered (omega arith) (c.loop-source.invariant.kept asked flags)).1
+pub returns : goal.returns
+returns c = λ asked flags.
+    kept_order_all asked (samples_of c.args.lists.now) c.args.order.now c.loop-source.left.items c.loop-source.source-index c.requires.ordered (omega arith) (c.loop-source.invariant.kept asked flags)

@@ -4,24 +4,29 @@ ghost use Rattle.std.specs.Prelude.{◌≡◌, IfOk, length};
 
 mod long_sources;
 
-use super::{options_with, source_of};
+use super::{input_of, options_with};
 use crate::tests::holds;
 use long_sources::{
     COMPRESSED, Long, PROFILES, Repeated, Section, TEXTS, TOO_HEAVY, WITH_BAD_TABLES, WITH_FAULT,
 };
 use ring_collect::CollectFault;
 use run_options::{Format, Pick};
-use source_lists::{Source, WholeRun, read_in_parts, read_whole_sources};
-use stack_core::{NoSink, SourceEnd, SourceList};
+use source_lists::{Gating, Input, Run, read};
+use stack_core::{NoSink, OpenGate, SourceEnd, SourceList};
 use std::alloc::{AllocError, Global};
-use std::sync::Wait;
+use std::sync::{Arc, Wait};
 use std::test::Fail;
 use std::thread::Threads;
 
-fn one_source(alloc: Global, format: Format, bytes: &[u8]) -> Result<Vec<Source>, AllocError>
-    ensures { IfOk result (λ sources. length sources.items ≡ 1) }
+fn one_input(alloc: Global, format: Format, bytes: &[u8]) -> Result<Vec<Input>, AllocError>
+    ensures { IfOk result (λ inputs. length inputs.items ≡ 1) }
 {
-    Ok(vec![in alloc; source_of(alloc, format, bytes)?]?)
+    Ok(vec![in alloc; input_of(alloc, format, bytes)?]?)
+}
+
+/// A gate that never stops, which makes each source be read by one reader.
+fn one_reader_each(alloc: Global) -> Result<Gating<OpenGate>, AllocError> {
+    Ok(Gating::Asked(Arc::new(alloc, OpenGate)?))
 }
 
 fn read_as_parts<T: Threads + Wait + Copy + Send + 'static>(
@@ -29,10 +34,11 @@ fn read_as_parts<T: Threads + Wait + Copy + Send + 'static>(
     alloc: Global,
     format: Format,
     bytes: &[u8],
-) -> Result<WholeRun, CollectFault> {
-    let sources = one_source(alloc, format, bytes)?;
+) -> Result<Run, CollectFault> {
+    let inputs = one_input(alloc, format, bytes)?;
     let options = options_with(alloc, Pick::Preferred);
-    read_in_parts(rt, alloc, sources, &options, &mut NoSink::new())
+    let gating = Gating::<OpenGate>::Open;
+    read(rt, alloc, inputs, &options, gating, &mut NoSink::new())
 }
 
 fn read_as_one<T: Threads + Wait + Copy + Send + 'static>(
@@ -40,10 +46,11 @@ fn read_as_one<T: Threads + Wait + Copy + Send + 'static>(
     alloc: Global,
     format: Format,
     bytes: &[u8],
-) -> Result<WholeRun, CollectFault> {
-    let sources = one_source(alloc, format, bytes)?;
+) -> Result<Run, CollectFault> {
+    let inputs = one_input(alloc, format, bytes)?;
     let options = options_with(alloc, Pick::Preferred);
-    read_whole_sources(rt, alloc, sources, &options, &mut NoSink::new())
+    let gating = one_reader_each(alloc)?;
+    read(rt, alloc, inputs, &options, gating, &mut NoSink::new())
 }
 
 fn has_same_sample(one: &SourceList, other: &SourceList, at: usize) -> bool {
@@ -72,7 +79,7 @@ fn end_so(one: &SourceList, other: &SourceList, ending: SourceEnd) -> bool {
 }
 
 /// Each run has one list, of the same samples and with this ending.
-fn are_alike(one: &WholeRun, other: &WholeRun, ending: SourceEnd) -> bool {
+fn are_alike(one: &Run, other: &Run, ending: SourceEnd) -> bool {
     let (one, other) = (one.kept.lists(), other.kept.lists());
     one.len() == 1
         && other.len() == 1
@@ -86,7 +93,7 @@ pub(super) fn is_as_read_by_one<T: Threads + Wait + Copy + Send + 'static>(
     alloc: Global,
     format: Format,
     bytes: &[u8],
-    run: &WholeRun,
+    run: &Run,
     ending: SourceEnd,
 ) -> Result<bool, CollectFault> {
     let one = read_as_one(rt, alloc, format, bytes)?;
@@ -168,7 +175,7 @@ fn long_profile_of_bad_tables(rt: HostRuntime) -> Result<(), Fail> {
 }
 
 /// How many names and stacks the one list of a run has.
-fn has_counts(run: &WholeRun, names: usize, stacks: usize) -> bool {
+fn has_counts(run: &Run, names: usize, stacks: usize) -> bool {
     let lists = run.kept.lists();
     lists.len() == 1 && lists[0].told() == names && lists[0].stack_count() == stacks
 }

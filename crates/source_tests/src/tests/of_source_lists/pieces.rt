@@ -1,12 +1,14 @@
 //! A text that comes in pieces, beside the same text read by one reader.
 
+ghost use Rattle.std.specs.Prelude.{◌≡◌, IfOk, length};
+
 use super::options_with;
 use super::parts::is_as_read_by_one;
 use crate::tests::holds;
 use ring_collect::CollectFault;
 use run_options::{Format, Pick};
-use source_lists::{WholeRun, read_text};
-use stack_core::{NoSink, ReadFault, ReadKind, SourceEnd};
+use source_lists::{Gating, Input, Run, read};
+use stack_core::{NoSink, OpenGate, ReadFault, ReadKind, SourceEnd};
 use std::alloc::{AllocError, Global};
 use std::sync::Wait;
 use std::test::Fail;
@@ -25,16 +27,24 @@ fn add_pieces(
     Ok(())
 }
 
+fn one_text(alloc: Global, pieces: Vec<Vec<u8>>) -> Result<Vec<Input>, AllocError>
+    ensures { IfOk result (λ inputs. length inputs.items ≡ 1) }
+{
+    Ok(vec![in alloc; Input::of_text(alloc, pieces)?]?)
+}
+
 fn read_in_pieces<T: Threads + Wait + Copy + Send + 'static>(
     rt: &T,
     alloc: Global,
     text: &[u8],
     len: usize,
-) -> Result<WholeRun, CollectFault> {
+) -> Result<Run, CollectFault> {
     let mut pieces = Vec::new(alloc);
     add_pieces(alloc, &mut pieces, text, len)?;
+    let inputs = one_text(alloc, pieces)?;
     let options = options_with(alloc, Pick::Preferred);
-    read_text(rt, alloc, pieces, &options, &mut NoSink::new())
+    let gating = Gating::<OpenGate>::Open;
+    read(rt, alloc, inputs, &options, gating, &mut NoSink::new())
 }
 
 /// The text, read in pieces of so many bytes, is as read by one reader.

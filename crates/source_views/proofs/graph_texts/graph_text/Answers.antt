@@ -1,6 +1,6 @@
 use Rattle.std.proofs.Common.{◌+◌, ◌<◌, ◌^◌, ◌∙◌, List, length, ap, sym, subst}
 use Rattle.merged_stacks.specs.Timeline.{samples_of}
-use Rattle.merging.specs.Gathered.{ListsState}
+use Rattle.source_lists.specs.Lists.{ListsState}
 use Rattle.merging.specs.Sums.{all_samples}
 use Rattle.merging.specs.declared.snapshots.Snapshot.{Snapshot}
 use Rattle.source_views.specs.Texts.{graph_line, places_of}

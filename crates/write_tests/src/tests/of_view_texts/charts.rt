@@ -2,7 +2,7 @@
 
 use super::fold::{Written, makes};
 use super::joined::Joined;
-use super::sources::Rows;
+use crate::tests::sources::Rows;
 use std::test::Fail;
 
 const ONE: Rows<'static> = &[(&["a"], 1), (&["c"], 0)];

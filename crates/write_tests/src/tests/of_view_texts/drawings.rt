@@ -1,6 +1,6 @@
 //! Lines of pictures.
 
-use super::boxes::{Row, add_boxes, add_drawn, add_pairs, are_within};
+use crate::tests::boxes::{Row, add_boxes, add_drawn, add_pairs, are_within};
 use crate::tests::texts::refuse;
 use byte_io::append_pieces;
 use flame_layout::{DrawnBox, DrawnPair, SpanBox, Width};

@@ -1,7 +1,7 @@
 //! Worked examples.
 
 use super::joined::{Joined, append_of};
-use super::sources::Rows;
+use crate::tests::sources::Rows;
 use crate::tests::texts::is_text;
 use std::alloc::{AllocError, Global};
 use std::process::Abort;

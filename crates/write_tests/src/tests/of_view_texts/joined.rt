@@ -4,7 +4,7 @@ ghost use Rattle.sample_tables.specs.Samples.{total_weight as list_weight};
 ghost use Rattle.merged_stacks.specs.Merged.{all_samples};
 ghost use Rattle.merged_stacks.specs.Timeline.{samples_of, timeline, total_weight};
 
-use super::sources::{Rows, add_lists, are_light};
+use crate::tests::sources::{Rows, add_lists, are_light};
 use crate::tests::texts::refuse;
 use byte_io::append_pieces;
 use flame_layout::{Chart, MergedStacks, Width, total_weight};

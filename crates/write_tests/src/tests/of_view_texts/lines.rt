@@ -1,7 +1,7 @@
 //! Worked examples.
 
-use super::boxes::Row;
 use super::drawings::{Line, Written, append_all};
+use crate::tests::boxes::Row;
 use crate::tests::texts::is_text;
 use flame_layout::DrawnBox;
 use std::alloc::AllocError;

@@ -10,7 +10,7 @@ use std::sync::atomic::Ordering;
 type Counts = [usize; 64];
 
 /// The sample of this number has this weight, and one frame of this name.
-fn has_sample(list: &SourceList, i: usize, weight: u8, name: &str) -> bool {
+pub(super) fn has_sample(list: &SourceList, i: usize, weight: u8, name: &str) -> bool {
     i < list.len()
         && list.weight(i) == u64::from(weight)
         && list.depth(i) == 1

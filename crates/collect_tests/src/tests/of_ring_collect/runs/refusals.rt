@@ -1,5 +1,6 @@
 //! Runs in which a reader or the sink meets want of memory.
 
+use super::batches::few_run_whole;
 use super::fakes::{CLEAN, Recorder, StopsAt};
 use super::lists::{had, is_cut_short, is_run};
 use super::{HUNDRED, Source, THREE, collected};
@@ -105,10 +106,11 @@ fn readers_are_joined<T: Threads + Wait + Copy + Send + 'static>(
 }
 
 /// Whatever request is refused (checks/growths), also in starting, every reader is dropped before the answer, though each has more to
-/// send than its ring holds.
+/// send than its ring holds. A run in batches is whole or refused, too.
 #[test]
 fn every_reader_is_joined(rt: HostRuntime) -> Result<(), Fail> {
-    holds(&rt, readers_are_joined(&rt, rt.alloc()))
+    holds(&rt, readers_are_joined(&rt, rt.alloc()))?;
+    holds(&rt, few_run_whole(&rt, rt.alloc()))
 }
 
 #[test]

@@ -15,7 +15,7 @@ use std::test::Fail;
 use std::thread::Threads;
 
 /// How many entries of an order have this source.
-fn count_of(order: &[u32], wanted: u32) -> usize {
+pub(super) fn count_of(order: &[u32], wanted: u32) -> usize {
     let mut count = 0usize;
     for source in order {
         if *source == wanted {

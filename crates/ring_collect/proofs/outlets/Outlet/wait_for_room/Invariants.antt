@@ -8,4 +8,5 @@ invariant-loop g l = record {
   ends : (goal.iterator-loop g).can_next l.iterator' × (goal.iterator-loop g).is_finite l.iterator';
   ring : SameProducer l.fn.self.producer l.self.producer;
   sent : sent l.self.producer ≡ sent l.fn.self.producer;
+  pending : l.self.pending ≡ l.fn.self.pending;
 }

@@ -1,14 +1,14 @@
 use Rattle.std.proofs.Common.{◌∙◌, sym, ap, subst, [], ◌∷◌, append-nil}
-use Rattle.rtrb.specs.Ring.{sent}
 use Rattle.stack_core.specs.Records.{stands_for, names_told, IsWellTold}
 use Rattle.stack_core.specs.Told.{IsToldUnder}
 use Rattle.stack_core.specs.declared.records.RingRecord.TheVariants.{Close}
 use Rattle.stack_core.proofs.RecordLemmas.{names_told-append, stands_for-append, IsWellTold-append}
+use Rattle.ring_collect.specs.checked.Batches.{told_to}
 use Rattle.ring_collect.proofs.tellers.Teller.tell_source.Goals as goal
 
 pub returns-clause-told : goal.returns-clause-told
 returns-clause-told g c =
-    let told = sent c.tell_samples-close.new.self.outlet.producer in
+    let told = told_to c.tell_samples-close.new.self.outlet in
     let all = c.close.ensures.sent in
     let close = c.tell_samples-close.result in
     let samples = c.tell_samples-close.ensures in

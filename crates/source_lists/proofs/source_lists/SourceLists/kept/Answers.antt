@@ -1,41 +1,17 @@
 use Rattle.std.proofs.Common.{◌∙◌, List, ap, map, subst, sym}
 use Rattle.sample_tables.specs.declared.samples.Sample.{Sample}
-use Rattle.stack_core.specs.Interleaving.{IsInterleaving, interleaved}
+use Rattle.stack_core.specs.Interleaving.{IsInterleaving}
 use Rattle.stack_core.specs.Ledgers.{ListState}
 use Rattle.merged_stacks.specs.Timeline.{samples_of}
 use Rattle.ring_collect.specs.Collection.{seen_as_rest}
 use Rattle.run_options.specs.Filters.{kept_rest, kept_samples}
-use Rattle.source_lists.specs.Lists.{ListsState}
-use Rattle.source_lists.specs.WholeRuns.{kept_pairs}
 use Rattle.source_lists.specs.checked.KeptStacks.{all_are_kept}
-use Rattle.source_lists.proofs.KeptLemmas.{all_pairs_kept, kept_everything, limited_kept_lists, samples_kept}
+use Rattle.source_lists.proofs.KeptLemmas.{kept_everything, limited_kept_lists, samples_kept}
 use Rattle.source_lists.proofs.source_lists.SourceLists.kept.Goals as goal
 
-pub returns-then-is_everything-clause-lists : goal.returns-then-is_everything-clause-lists
-returns-then-is_everything-clause-lists c =
+pub returns-then-is_everything : goal.returns-then-is_everything
+returns-then-is_everything c =
     kept_everything c.args.filter.now (sym c.is_everything.ensures ∙ c.if-is_everything.true) (map seen_as_rest c.args.self.lists)
-
-pub returns-then-is_everything-clause-in_order : goal.returns-then-is_everything-clause-in_order
-returns-then-is_everything-clause-in_order c =
-    all_pairs_kept c.args.filter.now (sym c.is_everything.ensures ∙ c.if-is_everything.true) (interleaved c.args.self.order (samples_of c.args.self.lists))
-
-pub returns-clause-in_order : goal.returns-clause-in_order
-returns-clause-in_order c =
-    let asked = c.args.filter.now in
-    let lists : List ListState = c.self.inside.lists.items in
-    let left = c.in_ok-lists.lists.items in
-    let order = c.in_ok-order.order.items in
-    let flags = c.in_ok-kept.ensures ∙ ap (all_are_kept asked) c.deref.ensures.value in
-    let of_lists =
-    c.in_ok-lists.ensures asked (ap (map (λ marks. marks.items)) c.deref-6.ensures.value ∙ (flags ∙ ap (all_are_kept asked) (sym c.deref-5.ensures.value)))
-    ∙ ap (λ (lists : List ListState). map (kept_rest asked) (map seen_as_rest lists)) c.deref-5.ensures.value in
-    let of_order =
-    c.in_ok-order.ensures.in_order asked (ap (map (λ marks. marks.items)) c.deref-4.ensures.value ∙ (flags ∙ ap (all_are_kept asked) (sym c.deref-3.ensures.value))) in
-    ap (λ (state : ListsState). kept_pairs asked (interleaved state.order (samples_of state.lists))) (sym c.self.view_is)
-    ∙ ((λ j. kept_pairs asked (interleaved (sym c.deref-2.ensures.value j) (samples_of (sym c.deref-3.ensures.value j))))
-    ∙ (of_order
-    ∙ (ap (λ (lists : List ListState). interleaved order (map (kept_samples asked) (samples_of lists))) c.deref-3.ensures.value
-    ∙ ap (λ (samples : List (List Sample)). interleaved order samples) (samples_kept asked lists left of_lists))))
 
 pub invariant_of-result : goal.invariant_of-result
 invariant_of-result c =
@@ -48,7 +24,7 @@ invariant_of-result c =
     c.in_ok-lists.ensures asked (ap (map (λ marks. marks.items)) c.deref-6.ensures.value ∙ (flags ∙ ap (all_are_kept asked) (sym c.deref-5.ensures.value)))
     ∙ ap (λ (lists : List ListState). map (kept_rest asked) (map seen_as_rest lists)) c.deref-5.ensures.value in
     let of_order =
-    c.in_ok-order.ensures.ordered asked (ap (map (λ marks. marks.items)) c.deref-4.ensures.value ∙ (flags ∙ ap (all_are_kept asked) (sym c.deref-3.ensures.value))) in
+    c.in_ok-order.ensures asked (ap (map (λ marks. marks.items)) c.deref-4.ensures.value ∙ (flags ∙ ap (all_are_kept asked) (sym c.deref-3.ensures.value))) in
     record {
       limits = limited_kept_lists asked lists left of_lists c.self.invariant.limits;
       ordered =

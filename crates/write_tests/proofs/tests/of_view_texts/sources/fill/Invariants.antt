@@ -1,6 +1,0 @@
--- The ledger is not closed.
-use Rattle.std.proofs.Common.{◌≡◌, None}
-use Rattle.write_tests.proofs.tests.of_view_texts.sources.fill.Given as goal
-
-abbrev pub invariant-loop-names : goal.invariant-loop-names
-invariant-loop-names l = l.ledger.close ≡ None

@@ -1,0 +1,7 @@
+//! Worked pictures.
+mod charts;
+mod comparisons;
+mod drawings;
+mod graphs;
+mod names;
+mod widths;
