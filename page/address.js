@@ -1,8 +1,9 @@
 // What is looked at, in the fragment of the page's address, so that a link shows the same.
 
-import { boxAt, pathOf } from './drawing.js';
+import { boxAt, isCaller, isTimeline, pathOf } from './drawing.js';
 
 /**
+ * @typedef {import('./data.js').Choice} Choice
  * @typedef {import('./data.js').Page} Page
  * @typedef {import('./drawing.js').Drawing} Drawing
  * @typedef {import('./view.js').State} State
@@ -33,21 +34,31 @@ function encoded(text) {
     return encodeURIComponent(new TextDecoder('utf-8', { ignoreBOM: true }).decode(new TextEncoder().encode(text)));
 }
 
-// The part of the fragment that names the zoomed box: its path, and in a chart its start too; a very long path by the box's number.
+// The part of the fragment that names the zoomed box: its path, up from a function or down, and in a chart its start too; a very long path by the
+// box's number.
 /** @type {(page: Page, drawing: Drawing, state: State) => string[]} */
 function zoomWords(page, drawing, state) {
     if (state.source >= 0) return [`source=${state.source}`];
-    if (drawing.count === 0 || drawing.depth[state.box] === 0) return [];
+    if (state.from >= 0) return [`from=${state.from}`, `to=${state.to}`];
+    if (state.box === 0) return [];
     const path = pathOf(page, drawing, state.box);
     const length = path.reduce((sum, name) => sum + name.length, 0);
     const zoom = length > LONGEST_PATH ? '' : path.map(encoded).join('/');
     if (length > LONGEST_PATH || zoom.length > 3 * LONGEST_PATH) return [`box=${state.box}`];
-    return page.view === 'chart' ? [`zoom=${zoom}`, `start=${drawing.start[state.box]}`] : [`zoom=${zoom}`];
+    if (isCaller(drawing, state.box)) return [`up=${zoom}`];
+    return isTimeline(page, drawing) ? [`zoom=${zoom}`, `start=${drawing.start[state.box]}`] : [`zoom=${zoom}`];
+}
+
+// The part of the fragment that names the function whose callers are looked at; a very long name by its number.
+/** @type {(text: string, name: number) => string} */
+function callersWord(text, name) {
+    return text.length > LONGEST_PATH ? `function=${name}` : `callers=${encoded(text)}`;
 }
 
 /** @type {(page: Page, state: State) => string} */
 export function fragmentOf(page, state) {
-    const words = zoomWords(page, page.drawing(state.drawing), state);
+    const words = zoomWords(page, page.arranged(state), state);
+    if (state.callers >= 0) words.unshift(callersWord(page.names[state.callers], state.callers));
     if (state.find !== '') words.push(`find=${encoded(state.find)}`);
     if (state.find !== '' && state.by !== 'text') words.push(`by=${state.by}`);
     if (state.order !== 'place') words.push(`order=${state.order}`);
@@ -55,7 +66,15 @@ export function fragmentOf(page, state) {
     if (state.below !== page.isBelow) words.push(state.below ? 'root=below' : 'root=above');
     if (state.lists >= 0) words.push(`lists=${state.lists}`);
     if (state.share) words.push('share=1');
+    if (state.heavy) words.push('heavy=1');
     return `#${words.join('&')}`;
+}
+
+// The part of a chart that the words name, of nothing -1.
+/** @type {(words: Words, total: number) => { from: number, to: number }} */
+function partOfWords(words, total) {
+    const [from, to] = ['from', 'to'].map((key) => (/^[0-9]{1,15}(\.[0-9]{1,3})?$/.test(words.get(key) || '') ? Number(words.get(key)) : -1));
+    return from >= 0 && to - from > 0.999 && to <= total ? { from, to } : { from: -1, to: -1 };
 }
 
 // The number that a text is, where that is below the limit, else -1.
@@ -75,17 +94,17 @@ export function wordsOf(fragment) {
 }
 
 // The words of a step to which the browser's history goes. What was set without a step of its own stays as it is now: a search that was
-// typed, the order of its matches, the drawing, where the root is, the width of the lists, and whether shares are compared. `made` is the
-// fragment that the step before began with.
+// typed, the order of its matches, the drawing, where the root is, the width of the lists, whether shares are compared, and whether heavy boxes
+// come first. `made` is the fragment that the step before began with.
 /** @type {(fragment: string, made: string, now: string) => Words} */
 export function wordsOfStep(fragment, made, now) {
     const words = wordsOf(fragment);
     const [wordsMade, wordsNow] = [wordsOf(made), wordsOf(now)];
-    for (const key of ['find', 'by', 'order', 'drawing', 'root', 'lists', 'share']) {
+    for (const key of ['find', 'by', 'order', 'drawing', 'root', 'lists', 'share', 'heavy']) {
         const kept = wordsNow.get(key);
         if (wordsMade.get(key) === kept) continue;
-        // A number of a box is one of its own drawing.
-        if (key === 'drawing') words.delete('box');
+        // A number of a box is one of its own drawing, in its order.
+        if (key === 'drawing' || key === 'heavy') words.delete('box');
         if (kept === undefined) words.delete(key);
         else words.set(key, kept);
     }
@@ -95,25 +114,41 @@ export function wordsOfStep(fragment, made, now) {
 // The box that the words of a fragment name, the root where they name none, or -1 where there is no such box.
 /** @type {(page: Page, drawing: Drawing, words: Words) => number} */
 function boxOfWords(page, drawing, words) {
-    const zoom = words.get('zoom');
+    const isUp = words.has('up');
+    const zoom = words.get(isUp ? 'up' : 'zoom');
     if (zoom === undefined) return words.has('box') ? wholeNumber(words.get('box'), drawing.count) : 0;
     const path = zoom.split('/').map(decoded);
-    const box = boxAt(page, drawing, path, Number(words.get('start') || -1));
+    const box = boxAt(page, drawing, path, Number(words.get('start') || -1), isUp);
     return drawing.depth[box] === path.length ? box : -1;
+}
+
+// The drawing that the words name, and whether there is none with the function whose callers they ask for.
+/** @type {(page: Page, words: Words) => { choice: Choice, isLost: boolean }} */
+function choiceOfWords(page, words) {
+    const number = wholeNumber(words.get('drawing'), page.drawingCount);
+    const drawing = number >= 0 ? number : page.drawingCount - 1;
+    const choice = { drawing, callers: -1, heavy: page.view !== 'chart' && words.get('heavy') === '1' };
+    const name = words.get('callers');
+    if (name === undefined && !words.has('function')) return { choice, isLost: false };
+    const callers = name === undefined ? wholeNumber(words.get('function'), page.names.length) : page.names.indexOf(decoded(name));
+    const isLost = callers < 0 || page.arranged({ ...choice, callers }).count === 0;
+    return { choice: isLost ? choice : { ...choice, callers }, isLost };
 }
 
 // The state that the words of a fragment stand for. What is not understood is left out.
 /** @type {(page: Page, words: Words) => Linked} */
 export function linkedOf(page, words) {
-    const number = wholeNumber(words.get('drawing'), page.drawingCount);
-    const drawing = number >= 0 ? number : page.drawingCount - 1;
-    const source = page.view === 'chart' ? wholeNumber(words.get('source'), page.sources.length) : -1;
-    const box = boxOfWords(page, page.drawing(drawing), words);
+    const { choice, isLost } = choiceOfWords(page, words);
+    const isSourced = page.view === 'chart' && choice.callers < 0;
+    const source = isSourced ? wholeNumber(words.get('source'), page.sources.length) : -1;
+    const drawing = page.arranged(choice);
+    const box = isLost ? -1 : boxOfWords(page, drawing, words);
     const by = words.get('by');
     const state = {
-        drawing,
+        ...choice,
         source: source >= 0 && page.sources[source].weight > 0 ? source : -1,
         box: Math.max(0, box),
+        ...(isSourced ? partOfWords(words, drawing.total) : { from: -1, to: -1 }),
         find: decoded(words.get('find') || ''),
         by: by === 'name' || by === 'regexp' ? by : 'text',
         order: words.get('order') === 'weight' ? 'weight' : 'place',

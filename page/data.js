@@ -1,6 +1,8 @@
 // What the document says.
 
+import { callersOf } from './callers.js';
 import { drawingOf } from './drawing.js';
+import { leftHeavy } from './heaviest.js';
 import { commonUnit } from './units.js';
 
 /**
@@ -26,6 +28,12 @@ import { commonUnit } from './units.js';
  * @property {boolean} isBelow whether it opens with the root below
  * @property {number} drawingCount
  * @property {(number: number) => Drawing} drawing
+ * @property {(choice: Choice) => Drawing} arranged the drawing that is chosen, as it is chosen
+ */
+
+/**
+ * What a reader looks at: a drawing, of it all or the callers and callees of a function by its name (-1 for none), and whether heavy boxes come first.
+ * @typedef {{ drawing: number, callers: number, heavy: boolean }} Choice
  */
 
 // Gives each drawing by its number. It is made when it is first asked for, and its columns are let go.
@@ -35,10 +43,27 @@ function drawingsOf(columns) {
     const made = [];
     return (number) => {
         if (!made[number]) {
-            made[number] = drawingOf(columns[number]);
+            made[number] = drawingOf(columns[number], number);
             columns[number] = null;
         }
         return made[number];
+    };
+}
+
+// Gives the drawings that are chosen, and keeps the last of those that it makes.
+/** @type {(drawing: (number: number) => Drawing, isComparison: boolean, nameCount: number) => (choice: Choice) => Drawing} */
+function arranging(drawing, isComparison, nameCount) {
+    /** @type {Choice & { made: Drawing | null }} */
+    let last = { drawing: 0, callers: -1, heavy: false, made: null };
+    return (choice) => {
+        const { drawing: number, callers, heavy } = choice;
+        const base = drawing(number);
+        if (callers < 0 && !heavy) return base;
+        if (last.made && last.drawing === number && last.callers === callers && last.heavy === heavy) return last.made;
+        const there = isComparison ? drawing(1 - number) : null;
+        const made = callers < 0 ? leftHeavy(base) : callersOf(base, there, callers, nameCount);
+        last = { drawing: number, callers, heavy, made };
+        return made;
     };
 }
 
@@ -52,6 +77,7 @@ export function pageOf(data) {
         sources.push({ ...source, start });
         start += source.weight;
     }
+    const drawing = drawingsOf(data.drawings);
     return {
         view: data.view,
         title: data.title,
@@ -64,6 +90,7 @@ export function pageOf(data) {
         isFiltered: data.whole > start + data.whole * 2 ** -50,
         isBelow: data.root_below === true,
         drawingCount: data.drawings.length,
-        drawing: drawingsOf(data.drawings),
+        drawing,
+        arranged: arranging(drawing, data.view === 'compare', data.names.length),
     };
 }

@@ -1,9 +1,9 @@
 // What is told of a box, and of a place that has several, in the tip, in the line below the picture, and to screen readers.
 
-import { bothWeights, comparedOf, endOf } from './drawing.js';
+import { bothWeights, comparedOf, endOf, isCaller, isTimeline } from './drawing.js';
 import { described, nameText, shortened } from './names.js';
 import { isJoined, weighedTogether } from './places.js';
-import { weightInSpan } from './spans.js';
+import { spanOfRow, weightInSpan } from './spans.js';
 import { changeText, exactText, percentText, separated, weightText } from './units.js';
 
 /**
@@ -22,20 +22,20 @@ import { changeText, exactText, percentText, separated, weightText } from './uni
 /** @type {(seen: Seen, box: number) => string[]} */
 function detailsOf(seen, box) {
     const { page, drawing, span } = seen;
-    const details = [
-        weightDetail(seen, drawing.weight[box], weightInSpan(drawing, box, span)),
-        `own ${exactText(drawing.own[box], page.unit)}`,
-    ];
+    const details = [weightDetail(seen, drawing.row[box], drawing.weight[box], weightInSpan(drawing, box, span))];
+    // The samples of a caller end in what it calls.
+    if (!isCaller(drawing, box)) details.push(`own ${exactText(drawing.own[box], page.unit)}`);
     if (drawing.other) details.push(changeDetail(seen, box));
-    if (page.view === 'chart') details.push(timeDetail(page, drawing, box));
+    if (isTimeline(page, drawing)) details.push(timeDetail(page, drawing, box));
     return details;
 }
 
-// A weight, how much it is of the whole, and how much that which lies in the span is of it.
-/** @type {(seen: Seen, weight: number, inSpan: number) => string} */
-function weightDetail({ page, drawing, span }, weight, inSpan) {
-    const isZoomed = span.to - span.from < drawing.total;
-    const zoomed = isZoomed ? `, ${percentText(inSpan, span.to - span.from)} of what is zoomed` : '';
+// A weight in a row, how much it is of the whole, and how much that which lies in the span is of it.
+/** @type {(seen: Seen, row: number, weight: number, inSpan: number) => string} */
+function weightDetail({ page, drawing, span }, row, weight, inSpan) {
+    const { from, to, depth } = spanOfRow(drawing, row, span);
+    const what = drawing.centre >= 0 && depth === 0 ? shortened(page.names[drawing.centre], 60) : 'what is zoomed';
+    const zoomed = to - from < drawing.total ? `, ${percentText(inSpan, to - from)} of ${what}` : '';
     return `${exactText(weight, page.unit)}, ${sharesText(page, drawing, weight)}${zoomed}`;
 }
 
@@ -51,7 +51,7 @@ function sharesText(page, drawing, weight) {
 
 /** @type {(seen: Seen, box: number) => string} */
 function changeDetail({ page, drawing, isShare }, box) {
-    const weights = bothWeights(page, drawing, box);
+    const weights = bothWeights(drawing, box);
     const [before, after] = [weights.before, weights.after].map((weight, number) => {
         const share = isShare ? `, ${percentText(weight, page.drawing(number).total)} of its whole` : '';
         return `${exactText(weight, page.unit)}${share}`;
@@ -78,7 +78,8 @@ function joinedDetails(seen, place) {
     const { drawing, span } = seen;
     const weight = weighedTogether(drawing, place, (box) => drawing.weight[box]);
     const inSpan = weighedTogether(drawing, place, (box) => weightInSpan(drawing, box, span));
-    return [`${separated(place.count)} boxes, each narrower than a pixel`, `together ${weightDetail(seen, weight, inSpan)}`];
+    const much = weightDetail(seen, drawing.row[place.box], weight, inSpan);
+    return [`${separated(place.count)} boxes, each narrower than a pixel`, `together ${much}`];
 }
 
 /** @type {(seen: Seen, box: number) => string} */
@@ -105,7 +106,8 @@ export function placeTitle(seen, place) {
     const { page, drawing, span } = seen;
     const { box } = place;
     if (isJoined(place)) return joinedDetails(seen, place).join(' · ');
-    const title = [nameText(page.names[drawing.name[box]]), weightDetail(seen, drawing.weight[box], weightInSpan(drawing, box, span))];
+    const much = weightDetail(seen, drawing.row[box], drawing.weight[box], weightInSpan(drawing, box, span));
+    const title = [nameText(page.names[drawing.name[box]]), much];
     if (drawing.other) title.push(changeDetail(seen, box));
     return title.join(' · ');
 }

@@ -9,8 +9,12 @@ import { rowsOf } from './rows.js';
 
 /**
  * What can be looked at: a flame graph, a snapshot of one, a chart, or one of the two graphs of a comparison. A box is a number below `count`;
- * the columns have its depth, the number of its name, and its weights. `end` is the first box after it that does not stand on it.
+ * the columns have its depth, the number of its name, and its weights. `end` is the first box after it that does not stand on it. The callers and
+ * callees of a function are a drawing, too, whose first box is the function: `depth` is how far a box is from it.
  * @typedef {object} Drawing
+ * @property {number} number which of the page's drawings it is made of
+ * @property {number} centre the name of the function whose callers and callees it has, -1 in others
+ * @property {number} callees the first box that is no caller of the first one
  * @property {number | undefined} at how many samples were taken, in snapshots
  * @property {number[] | undefined} counts how many of them are of each source, in snapshots
  * @property {number} total
@@ -18,6 +22,7 @@ import { rowsOf } from './rows.js';
  * @property {{ boxes: number, weight: number }} leftOut
  * @property {number} count
  * @property {Int32Array} depth
+ * @property {Int32Array} row the row in which it stands
  * @property {Int32Array} name
  * @property {Float64Array} start
  * @property {Float64Array} weight
@@ -25,9 +30,12 @@ import { rowsOf } from './rows.js';
  * @property {Float64Array | null} other the weights in the other profile, in comparisons
  * @property {number} rowCount
  * @property {Rows} rows
- * @property {Int32Array} parent the caller, -1 of the root
+ * @property {Int32Array} parent the box on which it stands, its caller, -1 of the root; but the callers of a function stand on what they call
  * @property {Int32Array} end
  */
+
+/** @typedef {Pick<Drawing, 'number' | 'centre' | 'callees' | 'at' | 'counts' | 'total' | 'least' | 'leftOut'>} About */
+/** @typedef {Pick<Drawing, 'depth' | 'row' | 'name' | 'start' | 'weight' | 'own' | 'other'>} Columns */
 
 /** @type {(count: number) => Int32Array} */
 export function upTo(count) {
@@ -52,28 +60,47 @@ function nestingOf(depths) {
     return { parent, end };
 }
 
-// The drawing that the document has as columns.
-/** @type {(columns: any) => Drawing} */
-export function drawingOf(columns) {
+// The drawing with these columns, in which each box comes behind the one on which it stands.
+/** @type {(about: About, columns: Columns) => Drawing} */
+export function drawingWith(about, columns) {
+    const { depth, row } = columns;
+    const rowCount = row.reduce((most, each) => Math.max(most, each + 1), 0);
+    const rows = rowsOf(row, rowCount, upTo(row.length));
+    return { ...about, ...columns, count: depth.length, rowCount, rows, ...nestingOf(depth) };
+}
+
+// The drawing that the document has as columns, by its number.
+/** @type {(columns: any, number: number) => Drawing} */
+export function drawingOf(columns, number) {
+    const { at, counts, total, least, left_out: leftOut } = columns;
     const depth = new Int32Array(columns.depth);
-    const rowCount = depth.reduce((most, each) => Math.max(most, each + 1), 0);
-    return {
-        at: columns.at,
-        counts: columns.counts,
-        total: columns.total,
-        least: columns.least,
-        leftOut: columns.left_out,
-        count: depth.length,
+    return drawingWith({ number, centre: -1, callees: 1, at, counts, total, least, leftOut }, {
         depth,
+        row: depth,
         name: new Int32Array(columns.name),
         start: new Float64Array(columns.start),
         weight: new Float64Array(columns.weight),
         own: new Float64Array(columns.own),
         other: columns.other ? new Float64Array(columns.other) : null,
-        rowCount,
-        rows: rowsOf(depth, rowCount, upTo(depth.length)),
-        ...nestingOf(depth),
-    };
+    });
+}
+
+// Whether a box is no function, but all samples.
+/** @type {(drawing: Drawing, box: number) => boolean} */
+export function isRoot(drawing, box) {
+    return drawing.depth[box] === 0 && drawing.centre < 0;
+}
+
+// Whether a box is a caller of the function whose callers and callees are drawn.
+/** @type {(drawing: Drawing, box: number) => boolean} */
+export function isCaller(drawing, box) {
+    return box > 0 && box < drawing.callees;
+}
+
+// Whether it goes by time.
+/** @type {(page: Page, drawing: Drawing) => boolean} */
+export function isTimeline(page, drawing) {
+    return page.view === 'chart' && drawing.centre < 0;
 }
 
 /** @type {(drawing: Drawing, box: number) => number} */
@@ -81,7 +108,7 @@ export function endOf(drawing, box) {
     return drawing.start[box] + drawing.weight[box];
 }
 
-// The names from the root's first callee to this box: the frames of a stack.
+// The names from the one on the first box to this box: the frames of a stack, or what leads from a function to it.
 /** @type {(page: Page, drawing: Drawing, box: number) => string[]} */
 export function pathOf(page, drawing, box) {
     const path = [];
@@ -89,14 +116,16 @@ export function pathOf(page, drawing, box) {
     return path.reverse();
 }
 
-// The box of the path, or the last on the way to it. Of boxes with the same path, as charts have them, the one at that start is meant.
-/** @type {(page: Page, drawing: Drawing, path: string[], start: number) => number} */
-export function boxAt(page, drawing, path, start) {
+// The box of the path, or the last on the way to it. Of boxes with the same path, as charts have them, the one at that start is meant. The path is
+// one of callers of a function, or not.
+/** @type {(page: Page, drawing: Drawing, path: string[], start: number, isUp: boolean) => number} */
+export function boxAt(page, drawing, path, start, isUp) {
     let found = 0;
+    let [first, end] = isUp ? [1, drawing.callees] : [drawing.callees, drawing.count];
     for (const name of path) {
         let fallback = -1;
         let exact = -1;
-        for (let box = found + 1; box < drawing.end[found] && exact < 0; box = drawing.end[box]) {
+        for (let box = first; box < end && exact < 0; box = drawing.end[box]) {
             if (page.names[drawing.name[box]] !== name) continue;
             if (fallback < 0) fallback = box;
             if (start >= drawing.start[box] && start < endOf(drawing, box)) exact = box;
@@ -104,6 +133,7 @@ export function boxAt(page, drawing, path, start) {
         const next = exact >= 0 ? exact : fallback;
         if (next < 0) break;
         found = next;
+        [first, end] = [next + 1, drawing.end[next]];
     }
     return found;
 }
@@ -123,9 +153,9 @@ export function comparedOf(page, isShare, weights) {
 }
 
 // The weights of the box's path before and after, in a comparison. Its first drawing is that of the profile before.
-/** @type {(page: Page, drawing: Drawing, box: number) => Both} */
-export function bothWeights(page, drawing, box) {
+/** @type {(drawing: Drawing, box: number) => Both} */
+export function bothWeights(drawing, box) {
     const here = drawing.weight[box];
     const there = drawing.other ? drawing.other[box] : here;
-    return drawing === page.drawing(0) ? { before: here, after: there } : { before: there, after: here };
+    return drawing.number === 0 ? { before: here, after: there } : { before: there, after: here };
 }

@@ -5,7 +5,7 @@ import { boxLine } from './describe.js';
 import { endOf } from './drawing.js';
 import { element } from './elements.js';
 import { ROW_HEIGHT, rowTop } from './rows.js';
-import { edgesOf, inRow, isInSpan } from './spans.js';
+import { edgesOf, inRow, isInSpan, spanOfRow } from './spans.js';
 
 /**
  * @typedef {import('./drawing.js').Drawing} Drawing
@@ -20,7 +20,7 @@ const NARROWEST_RING = 4;
 /** @type {(drawing: Drawing, box: number) => number} */
 function placeInRow(drawing, box) {
     const { first, order } = drawing.rows;
-    const row = drawing.depth[box];
+    const row = drawing.row[box];
     return firstPlace(first[row], first[row + 1], (at) => order[at] >= box);
 }
 
@@ -59,17 +59,19 @@ export class Ring {
     place(ring, view) {
         const { drawing, span, state } = view;
         const { focus } = state;
-        const { left, right } = edgesOf(drawing.start[focus], endOf(drawing, focus), span, this.picture.clientWidth);
+        const row = drawing.row[focus];
+        const seen = spanOfRow(drawing, row, span);
+        const { left, right } = edgesOf(drawing.start[focus], endOf(drawing, focus), seen, this.picture.clientWidth);
         ring.style.left = `${left}px`;
         ring.style.width = `${Math.max(right - left, NARROWEST_RING)}px`;
-        ring.style.top = `${rowTop(drawing.rowCount, drawing.depth[focus], state.below)}px`;
+        ring.style.top = `${rowTop(drawing.rowCount, row, state.below)}px`;
         ring.style.height = `${ROW_HEIGHT}px`;
     }
 
     /** @type {(ring: HTMLElement, view: View, text: string) => void} */
     label(ring, view, text) {
         const { drawing, state } = view;
-        const row = drawing.depth[state.focus];
+        const row = drawing.row[state.focus];
         const [first, stop] = [drawing.rows.first[row], drawing.rows.first[row + 1]];
         ring.setAttribute('aria-label', text);
         ring.setAttribute('aria-level', String(row + 1));
@@ -84,11 +86,12 @@ export class Ring {
 export function boxByKey(view, key) {
     const { drawing, span, state } = view;
     const box = state.focus;
-    const { from, to } = inRow(drawing, drawing.depth[box], span);
+    const row = drawing.row[box];
+    const { from, to } = inRow(drawing, row, span);
     /** @type {(at: number) => number} */
     const seen = (at) => (at >= from && at < to ? drawing.rows.order[at] : -1);
-    const deeper = state.below ? 'ArrowUp' : 'ArrowDown';
-    if (key === 'ArrowUp' || key === 'ArrowDown') return key === deeper ? heaviestOn(drawing, box, span) : drawing.parent[box];
+    const behind = state.below ? 'ArrowUp' : 'ArrowDown';
+    if (key === 'ArrowUp' || key === 'ArrowDown') return boxBeside(drawing, box, span, key === behind ? row + 1 : row - 1);
     if (key === 'ArrowLeft') return seen(placeInRow(drawing, box) - 1);
     if (key === 'ArrowRight') return seen(placeInRow(drawing, box) + 1);
     if (key === 'Home') return seen(from);
@@ -96,12 +99,14 @@ export function boxByKey(view, key) {
     return -1;
 }
 
-// The heaviest of the boxes that stand on a box and are seen, or -1.
-/** @type {(drawing: Drawing, box: number, span: Span) => number} */
-function heaviestOn(drawing, box, span) {
+// In the row before or behind that of a box the one on which it stands, or else the heaviest of those that stand on it and are seen, or -1.
+/** @type {(drawing: Drawing, box: number, span: Span, row: number) => number} */
+function boxBeside(drawing, box, span, row) {
+    const on = drawing.parent[box];
+    if (on >= 0 && drawing.row[on] === row) return on;
     let found = -1;
     for (let each = box + 1; each < drawing.end[box]; each = drawing.end[each]) {
-        if (!isInSpan(drawing, each, span)) continue;
+        if (drawing.row[each] !== row || !isInSpan(drawing, each, span)) continue;
         if (found < 0 || drawing.weight[each] > drawing.weight[found]) found = each;
     }
     return found;

@@ -6,7 +6,7 @@ import { described, nameText, shortened } from './names.js';
 import { spanOf } from './spans.js';
 import { sumsOf } from './sums.js';
 import { changeText, differenceText, exactText, percentText, separated, weightText } from './units.js';
-import { isZoomed } from './view.js';
+import { isZoomed, wholeOf } from './view.js';
 
 /**
  * @typedef {import('./data.js').Page} Page
@@ -20,15 +20,15 @@ import { isZoomed } from './view.js';
  */
 
 const TABLE_STEP = 100;
-const NOTHING = { from: 0, to: 0, depth: 0 };
+const NOTHING = { from: 0, to: 0, depth: 0, row: 0 };
 
 // The sums of a drawing of a comparison, in the path that is zoomed.
 /** @type {(view: View, number: number) => Sums} */
 function sumsOfProfile({ page, drawing, span, state }, number) {
     const profile = page.drawing(number);
-    if (profile === drawing) return sumsOf(drawing, page.names.length, span);
+    if (number === drawing.number) return sumsOf(drawing, page.names.length, span);
     const path = pathOf(page, drawing, state.box);
-    const box = boxAt(page, profile, path, -1);
+    const box = boxAt(page, profile, path, -1, false);
     const isThere = profile.count > 0 && profile.depth[box] === path.length;
     return sumsOf(profile, page.names.length, isThere ? spanOf(page, profile, { ...state, box }) : NOTHING);
 }
@@ -50,7 +50,8 @@ function functionRows(view, matching) {
 /** @type {(view: View, isMatching: boolean) => string} */
 function headingText(view, isMatching) {
     const { page, state } = view;
-    const part = state.source >= 0 ? ` in ${shortened(page.sources[state.source].name, 60)}` : ' in this box';
+    const ofBox = state.from >= 0 ? ' in this part' : ' in this box';
+    const part = state.source >= 0 ? ` in ${shortened(page.sources[state.source].name, 60)}` : ofBox;
     return `Functions${isZoomed(view) ? part : ''}${isMatching ? ' that match' : ''}`;
 }
 
@@ -58,7 +59,7 @@ export class FunctionTable {
     // `onChoose` is told the name that is clicked, and whether the drawing has it.
     /**
      * @param {Page} page
-     * @param {(name: string, isHere: boolean) => void} onChoose
+     * @param {(name: number, isHere: boolean) => void} onChoose
      */
     constructor(page, onChoose) {
         this.page = page;
@@ -89,11 +90,14 @@ export class FunctionTable {
         this.more.addEventListener('click', () => this.showMore());
     }
 
-    // Shows the functions of what is zoomed, of those that match; a name that is searched for as a whole is marked, and the others stay.
-    /** @type {(view: View, matching: Uint8Array | null) => void} */
-    show(view, matching) {
-        const isMarked = matching !== null && view.state.by === 'name';
-        this.marked = isMarked ? view.state.find : null;
+    // Shows the functions of what is zoomed, of those that match. A name that is searched for as a whole is marked, or the one whose callers are
+    // looked at, and the others stay.
+    /** @type {(seen: View, matching: Uint8Array | null) => void} */
+    show(seen, matching) {
+        const view = wholeOf(seen);
+        const { callers, by, find } = seen.state;
+        const isMarked = matching !== null && by === 'name';
+        this.marked = callers >= 0 ? view.page.names[callers] : isMarked ? find : null;
         this.isShare = view.isShare;
         this.whole = isZoomed(view) ? view.span.to - view.span.from : view.drawing.total;
         this.rows = functionRows(view, isMarked ? null : matching);
@@ -162,7 +166,7 @@ export class FunctionTable {
     row(name) {
         const { names } = this.page;
         const { here, compared } = this.rows;
-        const chosen = nameButton(nameText(names[name]), () => this.onChoose(names[name], here.total[name] > 0));
+        const chosen = nameButton(nameText(names[name]), () => this.onChoose(name, here.total[name] > 0));
         chosen.title = described(names[name]);
         const first = document.createElement('td');
         first.append(chosen);

@@ -1,6 +1,8 @@
-// The sources of a chart above it, each as wide as its part of the timeline. A click zooms to one.
+// The sources of a chart above it, each as wide as its part of the timeline, and the axis. A click zooms to a source.
 
-import { element, nameButton } from './elements.js';
+import { ticksOf } from './axis.js';
+import { isTimeline } from './drawing.js';
+import { element, nameButton, withText } from './elements.js';
 import { described, shortened } from './names.js';
 import { lanesOf } from './spans.js';
 import { exactText } from './units.js';
@@ -21,7 +23,7 @@ export class LaneStrip {
     constructor(page, onChoose) {
         this.page = page;
         this.strip = element('lanes');
-        this.strip.hidden = page.view !== 'chart';
+        this.axis = element('axis');
         /** @type {HTMLButtonElement[]} */
         this.buttons = [];
         if (page.view !== 'chart') return;
@@ -35,7 +37,10 @@ export class LaneStrip {
 
     /** @type {(view: View) => void} */
     show(view) {
-        const seen = new Map(lanesOf(this.page, view.span, this.strip.clientWidth).map((lane) => [lane.number, lane]));
+        this.strip.hidden = !isTimeline(this.page, view.drawing);
+        this.axis.hidden = this.strip.hidden;
+        this.showAxis(view);
+        const seen = new Map(lanesOf(this.page, view.drawing, view.span, this.strip.clientWidth).map((lane) => [lane.number, lane]));
         for (const [number, button] of this.buttons.entries()) {
             const lane = seen.get(number);
             button.hidden = !lane;
@@ -45,5 +50,15 @@ export class LaneStrip {
             button.style.width = `${lane.right - lane.left}px`;
             button.style.padding = lane.right - lane.left < PADDED_FROM ? '0' : '';
         }
+    }
+
+    /** @type {(view: View) => void} */
+    showAxis(view) {
+        const ticks = ticksOf(this.page, view.drawing, view.span, this.strip.clientWidth);
+        this.axis.replaceChildren(...ticks.map(({ left, text }) => {
+            const tick = withText('span', text);
+            tick.style.left = `${Math.round(left)}px`;
+            return tick;
+        }));
     }
 }

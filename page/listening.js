@@ -3,6 +3,7 @@
 import { button, element, elementOf, input } from './elements.js';
 import { boxByKey } from './focus.js';
 import { draggedWidth, listsWidth, showLists } from './lists.js';
+import { isMapKey, listenToMap, moveByKey } from './map.js';
 import { isJoined } from './places.js';
 import { savePng, saveSvg } from './saving.js';
 import { svgOf } from './svg.js';
@@ -65,11 +66,13 @@ function listenToPrint(viewer) {
 
 /** @type {(viewer: Viewer) => void} */
 function listenToTools(viewer) {
-    const [below, snapshot, before, share] = [input('below'), input('snapshot'), input('before'), input('share')];
+    const [below, snapshot, before, share, heavy] = ['below', 'snapshot', 'before', 'share', 'heavy'].map(input);
     button('back').addEventListener('click', () => viewer.goBack());
     below.addEventListener('change', () => viewer.change({ below: below.checked }, false));
-    snapshot.addEventListener('input', () => viewer.turnTo(Number(snapshot.value)));
-    before.addEventListener('change', () => viewer.turnTo(before.checked ? 0 : 1));
+    snapshot.addEventListener('input', () => viewer.turnTo({ drawing: Number(snapshot.value) }));
+    before.addEventListener('change', () => viewer.turnTo({ drawing: before.checked ? 0 : 1 }));
+    heavy.addEventListener('change', () => viewer.turnTo({ heavy: heavy.checked }));
+    button('callers').addEventListener('click', () => viewer.showCallersOfFocus());
     share.addEventListener('change', () => viewer.change({ share: share.checked }, false));
     const scene = () => viewer.stage.wholeScene(viewer.view, false);
     button('save-svg').addEventListener('click', () => saveSvg(scene()));
@@ -141,6 +144,8 @@ function listenToKeys(viewer) {
         const { view } = viewer;
         if (view.drawing.count === 0 || isForBrowser(event)) return;
         if (event.key === 'Enter') viewer.zoomTo(view.state.focus);
+        else if (event.key === 'c') viewer.showCallersOfFocus();
+        else if (isMapKey(event.key)) moveByKey(viewer, event.key);
         else if (/^(Arrow|Home|End)/.test(event.key)) {
             const box = boxByKey(view, event.key);
             if (box >= 0) viewer.focusOn(box);
@@ -164,6 +169,7 @@ export function listen(viewer) {
     listenToTools(viewer);
     listenToLists(viewer);
     listenToPointer(viewer);
+    listenToMap(viewer);
     listenToKeys(viewer);
     window.addEventListener('popstate', (event) => viewer.goTo(event));
     new ResizeObserver(() => viewer.refresh()).observe(viewer.stage.picture);

@@ -15,7 +15,7 @@ function show(page) {
     afterPaint(() => performance.mark('painted'));
     const viewer = new Viewer(page);
     if (page.view === 'compare') {
-        new GoneList(page, (box) => viewer.change({ drawing: 0, source: -1, box, focus: box }, true));
+        new GoneList(page, (box) => viewer.showBefore(box));
     }
     listen(viewer);
 }

@@ -84,6 +84,14 @@ export function noticesOf(page, drawing) {
     return notices;
 }
 
+// Of what function the callers and the callees are drawn, empty where they are of none.
+/** @type {(page: Page, drawing: Drawing) => string} */
+export function centreText(page, drawing) {
+    if (drawing.centre < 0) return '';
+    const name = shortened(page.names[drawing.centre], 100) || '(empty name)';
+    return drawing.count > 0 ? `callers and callees of ${name}` : `${name} is not here`;
+}
+
 // How many of a snapshot's samples are of each source.
 /** @type {(page: Page, counts: number[]) => string} */
 function countsText(page, counts) {

@@ -2,7 +2,7 @@
 
 import { firstPlace, nextPlace } from './bisect.js';
 import { endOf } from './drawing.js';
-import { inRow } from './spans.js';
+import { inRow, spanOfRow } from './spans.js';
 
 /**
  * @typedef {import('./drawing.js').Drawing} Drawing
@@ -26,11 +26,12 @@ const NARROWEST = 0.3;
 export function placesOf(drawing, row, span, width) {
     const { order } = drawing.rows;
     const { from, to } = inRow(drawing, row, span);
-    const scale = width / (span.to - span.from);
+    const seen = spanOfRow(drawing, row, span);
+    const scale = width / (seen.to - seen.from);
     /** @type {(at: number) => number} */
-    const leftOf = (at) => Math.max(0, (drawing.start[order[at]] - span.from) * scale);
+    const leftOf = (at) => Math.max(0, (drawing.start[order[at]] - seen.from) * scale);
     /** @type {(at: number) => number} */
-    const rightOf = (at) => Math.min(width, (endOf(drawing, order[at]) - span.from) * scale);
+    const rightOf = (at) => Math.min(width, (endOf(drawing, order[at]) - seen.from) * scale);
     /** @type {(at: number) => boolean} */
     const isNarrow = (at) => rightOf(at) - leftOf(at) < 1;
     /** @type {Place[]} */

@@ -1,13 +1,14 @@
 // What is seen of a drawing, told to a painter place by place.
 
+import { ticksOf } from './axis.js';
 import { changeShade } from './colours.js';
 import { placeTitle } from './describe.js';
-import { bothWeights, comparedOf } from './drawing.js';
+import { bothWeights, comparedOf, isTimeline } from './drawing.js';
 import { PAD } from './lettering.js';
 import { isJoined, placesOf } from './places.js';
 import { ROW_HEIGHT, rowAt, rowTop } from './rows.js';
 import { matchesIn } from './search.js';
-import { lanesOf } from './spans.js';
+import { lanesOf, spanOfRow } from './spans.js';
 import { changeText } from './units.js';
 
 /**
@@ -33,7 +34,7 @@ import { changeText } from './units.js';
  * @property {number} height that of the rows that are seen
  * @property {number} top
  * @property {number} rowCount
- * @property {number} lanes the height of the sources above the rows, 0 without
+ * @property {number} lanes the height of the sources and of the axis above the rows, 0 without
  * @property {Colours} colours
  * @property {(name: number) => number} shadeOf
  * @property {Lettering} lettering
@@ -50,6 +51,9 @@ import { changeText } from './units.js';
  */
 
 export const LANE_HEIGHT = 22;
+export const AXIS_HEIGHT = 16;
+
+const TICK_HEIGHT = 12;
 
 // A text is as wide as this at least.
 const TEXT_FROM = 20;
@@ -59,9 +63,9 @@ const TEXT_FROM = 20;
 function coloursFor(scene, box) {
     const { drawing, colours, span, matches } = scene;
     if (matches && matches.isMatch(box)) return { fill: colours.match, ink: colours.matchInk };
-    if (matches || drawing.depth[box] < span.depth) return { fill: colours.dim, ink: colours.dimInk };
+    if (matches || drawing.depth[box] < spanOfRow(drawing, drawing.row[box], span).depth) return { fill: colours.dim, ink: colours.dimInk };
     if (drawing.other) {
-        const { before, after } = comparedOf(scene.page, scene.isShare, bothWeights(scene.page, drawing, box));
+        const { before, after } = comparedOf(scene.page, scene.isShare, bothWeights(drawing, box));
         return { fill: colours.changes[changeShade(before, after)], ink: colours.ink };
     }
     if (drawing.depth[box] === 0) return { fill: colours.root, ink: colours.ink };
@@ -80,7 +84,7 @@ function joinedFill({ drawing, colours, matches }, place) {
 /** @type {(scene: Scene, box: number) => string} */
 function addedText(scene, box) {
     if (!scene.drawing.other) return '';
-    const { before, after } = comparedOf(scene.page, scene.isShare, bothWeights(scene.page, scene.drawing, box));
+    const { before, after } = comparedOf(scene.page, scene.isShare, bothWeights(scene.drawing, box));
     return changeText(before, after);
 }
 
@@ -109,7 +113,7 @@ function paintRow(painter, scene, row) {
 // Where one source of a chart ends and the next begins.
 /** @type {(painter: Painter, scene: Scene) => void} */
 function paintBoundaries(painter, scene) {
-    if (scene.page.view !== 'chart') return;
+    if (!isTimeline(scene.page, scene.drawing)) return;
     const { span, width, lanes } = scene;
     for (const source of scene.page.sources.slice(1)) {
         if (source.start <= span.from || source.start >= span.to) continue;
@@ -120,10 +124,19 @@ function paintBoundaries(painter, scene) {
 // The names of the sources above a chart.
 /** @type {(painter: Painter, scene: Scene) => void} */
 function paintLanes(painter, scene) {
-    for (const { number, left, right } of lanesOf(scene.page, scene.span, scene.width)) {
+    for (const { number, left, right } of lanesOf(scene.page, scene.drawing, scene.span, scene.width)) {
         painter.rectangle(left, 0, Math.max(right - left - 1, 0.3), LANE_HEIGHT - 2, scene.colours.dim);
         const text = scene.sourceLettering.textFor(number, '', right - left);
         if (text) painter.text(left + PAD, LANE_HEIGHT / 2, text, scene.colours.ink);
+    }
+}
+
+// The axis between the sources and the rows.
+/** @type {(painter: Painter, scene: Scene) => void} */
+function paintAxis(painter, scene) {
+    for (const { left, text } of ticksOf(scene.page, scene.drawing, scene.span, scene.width)) {
+        painter.upright(left, LANE_HEIGHT, TICK_HEIGHT, scene.colours.line);
+        painter.text(left + PAD, LANE_HEIGHT + TICK_HEIGHT / 2, text, scene.colours.ink);
     }
 }
 
@@ -131,7 +144,10 @@ function paintLanes(painter, scene) {
 export function paintScene(painter, scene) {
     const { rowCount, below, top, lanes } = scene;
     painter.rectangle(0, 0, scene.width, lanes + scene.height, scene.colours.paper);
-    if (lanes > 0) paintLanes(painter, scene);
+    if (lanes > 0) {
+        paintLanes(painter, scene);
+        paintAxis(painter, scene);
+    }
     const rows = [rowAt(rowCount, top, below), rowAt(rowCount, top + scene.height, below)];
     const last = Math.min(rowCount - 1, Math.max(...rows));
     for (let row = Math.max(0, Math.min(...rows)); row <= last; row++) paintRow(painter, scene, row);

@@ -1,6 +1,7 @@
 // Search in names: which boxes match, and with how much weight.
 
 import { firstPlace } from './bisect.js';
+import { isRoot } from './drawing.js';
 import { rowsOf } from './rows.js';
 
 /**
@@ -58,7 +59,7 @@ export function matchesOf(drawing, matching) {
     let weight = 0;
     let covered = 0;
     for (let box = 0; box < drawing.count; box++) {
-        if (!matching[drawing.name[box]] || drawing.depth[box] === 0) continue;
+        if (!matching[drawing.name[box]] || isRoot(drawing, box)) continue;
         boxes.push(box);
         if (box < covered) continue;
         covered = drawing.end[box];
@@ -67,8 +68,8 @@ export function matchesOf(drawing, matching) {
     return {
         boxes,
         weight,
-        rows: rowsOf(drawing.depth, drawing.rowCount, boxes),
-        isMatch: (box) => drawing.depth[box] > 0 && matching[drawing.name[box]] === 1,
+        rows: rowsOf(drawing.row, drawing.rowCount, boxes),
+        isMatch: (box) => !isRoot(drawing, box) && matching[drawing.name[box]] === 1,
     };
 }
 
@@ -76,7 +77,7 @@ export function matchesOf(drawing, matching) {
 /** @type {(matches: Matches, drawing: Drawing, place: Place) => number} */
 export function matchesIn(matches, drawing, place) {
     const { first, order } = matches.rows;
-    const row = drawing.depth[place.box];
+    const row = drawing.row[place.box];
     /** @type {(box: number) => number} */
     const firstFrom = (box) => firstPlace(first[row], first[row + 1], (at) => order[at] >= box);
     return firstFrom(drawing.rows.order[place.at + place.count - 1] + 1) - firstFrom(place.box);

@@ -1,7 +1,7 @@
 // What is zoomed: the part of a drawing from one weight to another, which takes the whole width of the picture.
 
 import { firstPlace } from './bisect.js';
-import { endOf } from './drawing.js';
+import { endOf, isTimeline } from './drawing.js';
 
 /**
  * @typedef {import('./data.js').Page} Page
@@ -11,50 +11,89 @@ import { endOf } from './drawing.js';
  */
 
 /**
- * From one weight to another. What is above that depth is not zoomed: it is what leads there.
- * @typedef {{ from: number, to: number, depth: number }} Span
+ * From one weight to another. What is above that depth is not zoomed: it is what leads there. `row` is that of what is zoomed.
+ * @typedef {{ from: number, to: number, depth: number, row: number }} Span
  */
 
 /** @type {(page: Page, drawing: Drawing, state: State) => Span} */
 export function spanOf(page, drawing, state) {
     if (state.source >= 0) {
         const source = page.sources[state.source];
-        return { from: source.start, to: source.start + source.weight, depth: 0 };
+        return { from: source.start, to: source.start + source.weight, depth: 0, row: 0 };
     }
-    if (drawing.count === 0) return { from: 0, to: 1, depth: 0 };
+    if (drawing.count === 0) return { from: 0, to: 1, depth: 0, row: 0 };
+    if (state.from >= 0) return { from: state.from, to: state.to, depth: 0, row: 0 };
     const { box } = state;
-    return { from: drawing.start[box], to: endOf(drawing, box), depth: drawing.depth[box] };
+    return { from: drawing.start[box], to: endOf(drawing, box), depth: drawing.depth[box], row: drawing.row[box] };
+}
+
+// A part of a drawing, no less than a whole weight and no more than all. Small weights have digits behind the point, so that it moves by pixels.
+/** @type {(from: number, width: number, total: number) => { from: number, to: number }} */
+function partOf(from, width, total) {
+    const wide = Math.min(total, Math.max(1, width));
+    const begin = Math.min(total - wide, Math.max(0, from));
+    const digits = total < 1e9 ? 1000 : 1;
+    return { from: Math.round(begin * digits) / digits, to: Math.round((begin + wide) * digits) / digits };
+}
+
+// A part that is so many times as wide, with the same weight at that place of its width.
+/** @type {(span: { from: number, to: number }, total: number, place: number, times: number) => { from: number, to: number }} */
+export function widened({ from, to }, total, place, times) {
+    const width = Math.min(total, Math.max(1, (to - from) * times));
+    return partOf(from + place * (to - from - width), width, total);
+}
+
+// The part that stands so many of its widths to the right.
+/** @type {(span: { from: number, to: number }, total: number, widths: number) => { from: number, to: number }} */
+export function moved({ from, to }, total, widths) {
+    return partOf(from + widths * (to - from), to - from, total);
+}
+
+// What is seen of a row. Where callers stand above callees, what is zoomed of the ones leaves the others as they are.
+/** @type {(drawing: Drawing, row: number, span: Span) => Span} */
+export function spanOfRow(drawing, row, span) {
+    if (drawing.centre < 0 || drawing.count === 0) return span;
+    const centre = drawing.row[0];
+    const isSameSide = (row - centre) * (span.row - centre) > 0;
+    return isSameSide ? span : { from: 0, to: drawing.weight[0], depth: 0, row: centre };
 }
 
 /** @type {(drawing: Drawing, box: number, span: Span) => boolean} */
 export function isInSpan(drawing, box, span) {
-    return drawing.start[box] < span.to && endOf(drawing, box) > span.from;
+    const { from, to } = spanOfRow(drawing, drawing.row[box], span);
+    return drawing.start[box] < to && endOf(drawing, box) > from;
 }
 
 // How much of the box lies in the span.
 /** @type {(drawing: Drawing, box: number, span: Span) => number} */
 export function weightInSpan(drawing, box, span) {
-    return Math.max(0, Math.min(endOf(drawing, box), span.to) - Math.max(drawing.start[box], span.from));
+    const { from, to } = spanOfRow(drawing, drawing.row[box], span);
+    return Math.max(0, Math.min(endOf(drawing, box), to) - Math.max(drawing.start[box], from));
 }
 
 // Where the boxes of a row that are in the span stand in the order of the rows: from one place up to another.
 /** @type {(drawing: Drawing, row: number, span: Span) => { from: number, to: number }} */
 export function inRow(drawing, row, span) {
     const { first, order } = drawing.rows;
-    const from = firstPlace(first[row], first[row + 1], (at) => endOf(drawing, order[at]) > span.from);
-    return { from, to: firstPlace(from, first[row + 1], (at) => drawing.start[order[at]] >= span.to) };
+    const seen = spanOfRow(drawing, row, span);
+    const from = firstPlace(first[row], first[row + 1], (at) => endOf(drawing, order[at]) > seen.from);
+    return { from, to: firstPlace(from, first[row + 1], (at) => drawing.start[order[at]] >= seen.to) };
 }
 
-// How many rows have something in the span.
-/** @type {(drawing: Drawing, span: Span) => number} */
+// The rows that have something in the span: from one up to another. They go up and down from the first box without a gap.
+/** @type {(drawing: Drawing, span: Span) => { first: number, end: number }} */
 export function rowsInSpan(drawing, span) {
-    return firstPlace(0, drawing.rowCount, (row) => {
+    const centre = drawing.row[0] || 0;
+    /** @type {(row: number) => boolean} */
+    const isEmpty = (row) => {
         const { from, to } = inRow(drawing, row, span);
         return from === to;
-    });
+    };
+    const above = firstPlace(0, centre, (each) => isEmpty(centre - 1 - each));
+    return { first: centre - above, end: firstPlace(centre, drawing.rowCount, isEmpty) };
 }
 
-// The edges of what goes from one weight to another, cut to the span.
+// The edges of what goes from one weight to another, cut to what is seen of its row.
 /** @type {(from: number, to: number, span: Span, width: number) => { left: number, right: number }} */
 export function edgesOf(from, to, span, width) {
     const scale = width / (span.to - span.from);
@@ -64,9 +103,9 @@ export function edgesOf(from, to, span, width) {
 }
 
 // The sources of a chart that are seen, with their edges on the screen.
-/** @type {(page: Page, span: Span, width: number) => { source: Source, number: number, left: number, right: number }[]} */
-export function lanesOf(page, span, width) {
-    if (page.view !== 'chart') return [];
+/** @type {(page: Page, drawing: Drawing, span: Span, width: number) => { source: Source, number: number, left: number, right: number }[]} */
+export function lanesOf(page, drawing, span, width) {
+    if (!isTimeline(page, drawing)) return [];
     return page.sources
         .map((source, number) => ({ source, number, ...edgesOf(source.start, source.start + source.weight, span, width) }))
         .filter(({ left, right }) => right > left);

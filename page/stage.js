@@ -2,11 +2,12 @@
 
 import { paintOnCanvas } from './canvas.js';
 import { DARK, LIGHT, nameShades } from './colours.js';
+import { isTimeline } from './drawing.js';
 import { element, elementOf } from './elements.js';
 import { Lettering } from './lettering.js';
 import { placeOver, placesOf } from './places.js';
 import { ROW_HEIGHT, rowAt, rowTop } from './rows.js';
-import { LANE_HEIGHT } from './scene.js';
+import { AXIS_HEIGHT, LANE_HEIGHT } from './scene.js';
 import { formsOf } from './short.js';
 import { rowsInSpan } from './spans.js';
 
@@ -52,10 +53,11 @@ export class Stage {
     // All rows of what is zoomed, with the sources above a chart: what is saved. On paper it is always light.
     /** @type {(view: View, isPaper: boolean) => Scene} */
     wholeScene(view, isPaper) {
-        const rowCount = rowsInSpan(view.drawing, view.span);
-        const height = Math.max(rowCount, 1) * ROW_HEIGHT;
-        const lanes = this.page.view === 'chart' ? LANE_HEIGHT : 0;
-        const part = { width: this.picture.clientWidth, height, top: 0, rowCount, lanes };
+        const { first, end } = rowsInSpan(view.drawing, view.span);
+        const height = Math.max(end - first, 1) * ROW_HEIGHT;
+        const lanes = isTimeline(this.page, view.drawing) ? LANE_HEIGHT + AXIS_HEIGHT : 0;
+        const top = view.state.below ? 0 : first * ROW_HEIGHT;
+        const part = { width: this.picture.clientWidth, height, top, rowCount: end, lanes };
         return this.scene(view, part, this.darkness.matches && !isPaper ? DARK : LIGHT);
     }
 
@@ -104,6 +106,13 @@ export class Stage {
         const row = rowAt(drawing.rowCount, point.clientY - top + scrolled, state.below);
         if (across < 0 || across >= width || row < 0 || row >= drawing.rowCount) return null;
         return placeOver(placesOf(drawing, row, span, width), across);
+    }
+
+    // Scrolls so that a row stands in the middle.
+    /** @type {(view: View, row: number) => void} */
+    centre(view, row) {
+        const { picture } = this;
+        picture.scrollTop = rowTop(view.drawing.rowCount, row, view.state.below) + (ROW_HEIGHT - picture.clientHeight) / 2;
     }
 
     // Scrolls no further than is needed to see a row.

@@ -2,7 +2,7 @@
 
 import { FONT_FAMILY } from './lettering.js';
 import { shortened } from './names.js';
-import { summaryText } from './notices.js';
+import { centreText, summaryText } from './notices.js';
 import { paintScene } from './scene.js';
 
 /** @typedef {import('./scene.js').Scene} Scene */
@@ -57,11 +57,12 @@ class SvgPainter {
 export function svgOf(scene, isPaper) {
     const { page, drawing, width } = scene;
     const height = scene.lanes + scene.height;
+    const texts = [shortened(page.title, 1500), centreText(page, drawing), summaryText(page, drawing)];
     const painter = new SvgPainter(isPaper);
     paintScene(painter, scene);
     return [
         `<svg xmlns="http://www.w3.org/2000/svg" width="${width}" height="${height}" viewBox="0 0 ${width} ${height}">`,
-        `<title>${escapedText(`${shortened(page.title, 1500)} · ${summaryText(page, drawing)}`)}</title>`,
+        `<title>${escapedText(texts.filter((text) => text !== '').join(' · '))}</title>`,
         `<g font-family="${escapedText(FONT_FAMILY)}" font-size="12" xml:space="preserve">`,
         ...painter.parts,
         '</g>',

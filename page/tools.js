@@ -2,7 +2,7 @@
 
 import { button, element, elementOf, input, inside, showItems } from './elements.js';
 import { described, shortened } from './names.js';
-import { drawingText, noticesOf, sourceText, summaryText } from './notices.js';
+import { centreText, drawingText, noticesOf, sourceText, summaryText } from './notices.js';
 import { isEitherCase } from './search.js';
 import { percentText, separated } from './units.js';
 import { isZoomed } from './view.js';
@@ -28,8 +28,10 @@ export function showTop(page, drawing) {
 function matchedText({ page, drawing, matches, isRefused }) {
     if (isRefused) return 'not a regular expression';
     if (!matches) return '';
-    const share = percentText(matches.weight, drawing.total);
-    return `${separated(matches.boxes.length)} matched, ${share}${page.isFiltered ? ' of what is kept' : ''}`;
+    const matched = `${separated(matches.boxes.length)} matched`;
+    // A sample has callers and callees, and may match in both.
+    if (drawing.centre >= 0) return matched;
+    return `${matched}, ${percentText(matches.weight, drawing.total)}${page.isFiltered ? ' of what is kept' : ''}`;
 }
 
 // The tools as they have to stand in a view. What is being typed is left alone.
@@ -47,7 +49,10 @@ export function showTools(view) {
     element('matched').textContent = matchedText(view);
     button('next').disabled = !view.matches;
     button('previous').disabled = !view.matches;
-    button('back').disabled = !isZoomed(view);
+    button('back').disabled = !isZoomed(view) && state.callers < 0;
+    element('heavy-label').hidden = page.view === 'chart';
+    input('heavy').checked = state.heavy;
+    input('heavy').disabled = state.callers >= 0;
     input('below').checked = state.below;
     element('snapshot-label').hidden = page.view === 'compare' || page.drawingCount === 1;
     snapshot.max = String(page.drawingCount - 1);
@@ -57,5 +62,5 @@ export function showTools(view) {
     input('before').checked = state.drawing === 0;
     element('share-label').hidden = page.view !== 'compare';
     input('share').checked = state.share;
-    element('drawing-name').textContent = name;
+    element('drawing-name').textContent = [name, centreText(page, drawing)].filter((text) => text !== '').join(' · ');
 }

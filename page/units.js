@@ -27,9 +27,14 @@ export function separated(number) {
     return WHOLE.format(number);
 }
 
+/** @type {(value: number, steps: [size: number, sign: string][]) => [size: number, sign: string]} */
+function stepFor(value, steps) {
+    return steps.find(([step]) => value >= step * 0.9995) || steps[steps.length - 1];
+}
+
 /** @type {(value: number, steps: [size: number, sign: string][]) => string} */
 function inSteps(value, steps) {
-    const [size, sign] = steps.find(([step]) => value >= step * 0.9995) || steps[steps.length - 1];
+    const [size, sign] = stepFor(value, steps);
     return `${threeDigits(value / size)} ${sign}`;
 }
 
@@ -47,6 +52,17 @@ export function weighty(sources) {
 export function commonUnit(sources) {
     const units = new Set(weighty(sources).map((source) => source.unit));
     return units.size > 1 ? null : [...units].join('');
+}
+
+// The step of the unit in which a weight is read at a glance: what weighs as much, and its sign.
+/** @type {(weight: number, unit: string | null) => { size: number, sign: string }} */
+export function unitStep(weight, unit) {
+    const sizes = [SECONDS, BYTES].find((each) => unit && Object.hasOwn(each, unit));
+    if (unit && sizes) {
+        const [size, sign] = stepFor(Math.max(1, weight) * sizes[unit], sizes === SECONDS ? TIME_STEPS : BYTE_STEPS);
+        return { size: Math.round(size / sizes[unit]), sign };
+    }
+    return { size: 1, sign: unit && unit !== 'count' ? visible(unit) : '' };
 }
 
 // A weight as it is read at a glance: 1.23 ms, 4.5 MiB, 1,234.

@@ -11,19 +11,24 @@ import { spanOf } from './spans.js';
  */
 
 /**
- * What a reader chose: the drawing, what of it is zoomed (a source of a chart, or none, -1, and a box), the words of the search and how they are
- * meant, whether the root is below, how wide the lists are (0 where they are closed, -1 as they are at first), whether a comparison is of shares,
- * and the focused box.
+ * What a reader chose: the drawing, what of it is zoomed (a source of a chart, or none, -1, and a box, or a part of a chart from one weight to
+ * another, -1 without), the words of the search and how they are meant, whether the root is below, how wide the lists are (0 where they are closed,
+ * -1 as they are at first), whether a comparison is of shares, the name of the function whose callers and callees are looked at (-1 without),
+ * whether of a graph the heaviest boxes come first, and the focused box.
  * @typedef {object} State
  * @property {number} drawing
  * @property {number} source
  * @property {number} box
+ * @property {number} from
+ * @property {number} to
  * @property {string} find
  * @property {string} by
  * @property {string} order in which matches come: by `place` or by `weight`
  * @property {boolean} below
  * @property {number} lists
  * @property {boolean} share
+ * @property {number} callers
+ * @property {boolean} heavy
  * @property {number} focus
  */
 
@@ -53,12 +58,25 @@ function searched(matching, drawing, state, old) {
 
 /** @type {(page: Page, matching: Matching, state: State, old: View | null) => View} */
 export function viewOf(page, matching, state, old) {
-    const drawing = page.drawing(state.drawing);
+    const drawing = page.arranged(state);
     const isShare = state.share;
     return { page, state, drawing, span: spanOf(page, drawing, state), isShare, ...searched(matching, drawing, state, old) };
 }
 
+// Nothing of the drawing is zoomed.
+export const UNZOOMED = { source: -1, box: 0, from: -1, to: -1 };
+
 /** @type {(view: View) => boolean} */
-export function isZoomed(view) {
-    return view.state.box > 0 || view.state.source >= 0;
+export function isZoomed({ state }) {
+    return state.box > 0 || state.source >= 0 || state.from >= 0;
+}
+
+// What is looked at where no function's callers and callees are: with those, all of their drawing.
+/** @type {(view: View) => View} */
+export function wholeOf(view) {
+    if (view.state.callers < 0) return view;
+    const { page, isShare } = view;
+    const state = { ...view.state, callers: -1, heavy: false, ...UNZOOMED, focus: 0 };
+    const drawing = page.drawing(state.drawing);
+    return { page, state, drawing, span: spanOf(page, drawing, state), isShare, matches: null, isRefused: view.isRefused };
 }

@@ -2,8 +2,8 @@
 
 import { fragmentOf, linkedOf, stepsMade, wordsOf, wordsOfStep, writeAddress } from './address.js';
 import { boxLine, placeLine } from './describe.js';
-import { boxAt, pathOf } from './drawing.js';
-import { afterPaint, element } from './elements.js';
+import { boxAt, isCaller, isRoot, isTimeline, pathOf } from './drawing.js';
+import { afterPaint, button, element } from './elements.js';
 import { Ring } from './focus.js';
 import { FunctionTable } from './functions.js';
 import { LaneStrip } from './lanes.js';
@@ -13,23 +13,35 @@ import { isInSpan } from './spans.js';
 import { Stage } from './stage.js';
 import { Tip } from './tip.js';
 import { showTools, showTop } from './tools.js';
-import { isZoomed, viewOf } from './view.js';
+import { UNZOOMED, isZoomed, viewOf } from './view.js';
 
 /**
  * @typedef {import('./address.js').Words} Words
+ * @typedef {import('./data.js').Choice} Choice
  * @typedef {import('./data.js').Page} Page
+ * @typedef {import('./drawing.js').Drawing} Drawing
  * @typedef {import('./places.js').Place} Place
  * @typedef {import('./view.js').State} State
  * @typedef {import('./view.js').View} View
  */
 
+// How long a part of a chart rests before what looks at all boxes does, in milliseconds.
+const REST = 200;
 const DEAD_LINK = 'No box here has the path of this address, so all of them are shown.';
 
 // Whether something else is zoomed, matches, or is compared.
 /** @type {(old: View, view: View) => boolean} */
 function isOther(old, view) {
-    const isSamePart = old.drawing === view.drawing && old.state.box === view.state.box && old.state.source === view.state.source;
+    const isSamePart = old.drawing === view.drawing && old.span.from === view.span.from && old.span.to === view.span.to && old.span.depth === view.span.depth;
     return !isSamePart || old.matches !== view.matches || old.isShare !== view.isShare;
+}
+
+// The name of the focused box, -1 where that is no function, or the one whose callers are looked at.
+/** @type {(view: View) => number} */
+function focusedFunction({ drawing, state }) {
+    if (drawing.count === 0 || isRoot(drawing, state.focus)) return -1;
+    const name = drawing.name[state.focus];
+    return name === state.callers ? -1 : name;
 }
 
 export class Viewer {
@@ -39,18 +51,24 @@ export class Viewer {
         this.stage = new Stage(page);
         this.ring = new Ring(this.stage.picture);
         this.tip = new Tip();
-        this.lanes = new LaneStrip(page, (source) => this.change({ source, box: 0, focus: 0 }, true));
-        this.functions = new FunctionTable(page, (name, isHere) => this.searchFunction(name, isHere));
+        this.lanes = new LaneStrip(page, (source) => this.change({ ...UNZOOMED, source, focus: 0 }, true));
+        this.functions = new FunctionTable(page, (name, isHere) => {
+            const { drawing, callers } = this.view.state;
+            if (name === callers) this.zoomTo(0);
+            else this.showCallers(name, isHere ? drawing : 1 - drawing);
+        });
         this.matching = nameMatcher(page.names);
         /** @type {Place | null} */
         this.hovered = null;
         // What has to be said until something else is looked at.
         this.message = '';
         // The path that was asked for, where the drawing has the first part of it only.
-        /** @type {{ drawing: number, box: number, path: string[] } | null} */
+        /** @type {{ drawing: Drawing, box: number, path: string[] } | null} */
         this.wished = null;
         // The address with which the last step of the browser's history began.
         this.made = '';
+        // What waits until a part of a chart rests: the functions in it, and its address.
+        [this.waiting, this.writing] = [0, 0];
         const { state, isDead } = linkedOf(page, wordsOf(location.hash));
         this.view = viewOf(page, this.matching, { ...state, focus: state.box }, null);
         this.showChange(null);
@@ -91,13 +109,14 @@ export class Viewer {
     }
 
     paint() {
-        this.stage.paint(this.view);
         this.lanes.show(this.view);
+        this.stage.paint(this.view);
         this.showFocus();
     }
 
     showFocus() {
         this.ring.show(this.view);
+        button('callers').disabled = focusedFunction(this.view) < 0;
         this.showStatus();
     }
 
@@ -121,12 +140,23 @@ export class Viewer {
         this.forget();
         showTools(view);
         if (!old || old.state.lists !== state.lists) showLists(state.lists);
-        if (!old || old.drawing !== drawing) showTop(page, drawing);
-        if (!old || isOther(old, view)) afterPaint(() => this.showFunctions());
+        if (!old || old.state.drawing !== state.drawing) showTop(page, page.drawing(state.drawing));
+        if (!old || isOther(old, view)) this.showFunctionsSoon();
+        // Before anything is scrolled what stands above the picture has its room, and the ring stands where there is some.
+        this.lanes.show(view);
         stage.makeRoom(view);
+        this.showFocus();
         if (state.below !== (old ? old.state.below : false)) picture.scrollTop = state.below ? picture.scrollHeight : 0;
-        if (!old || old.state.box !== state.box || old.drawing !== drawing) this.revealFocus();
-        this.paint();
+        if (drawing.count > 0 && drawing.centre >= 0 && (!old || old.drawing !== drawing)) stage.centre(view, drawing.row[state.box]);
+        else if (!old || old.state.box !== state.box || old.drawing !== drawing) this.revealFocus();
+        stage.paint(view);
+    }
+
+    // Looks at all boxes, so not at each move of the pointer.
+    showFunctionsSoon() {
+        clearTimeout(this.waiting);
+        if (this.view.state.from < 0) afterPaint(() => this.showFunctions());
+        else this.waiting = window.setTimeout(() => this.showFunctions(), REST);
     }
 
     showFunctions() {
@@ -135,9 +165,21 @@ export class Viewer {
         this.functions.show(view, view.matches && matching(find, by));
     }
 
+    // Looks at another part of a chart. The address is written when it rests.
+    /** @type {(part: { from: number, to: number }) => void} */
+    lookAt(part) {
+        const { state, drawing } = this.view;
+        if (!isTimeline(this.page, drawing) || drawing.count === 0) return;
+        const isWhole = part.from <= 0 && part.to >= drawing.total;
+        this.look({ ...state, ...UNZOOMED, ...(isWhole ? {} : part) });
+        clearTimeout(this.writing);
+        this.writing = window.setTimeout(() => writeAddress(fragmentOf(this.page, this.view.state), false), REST);
+    }
+
     // Looks at another state. `isStep` says that the browser's history gets a new step.
     /** @type {(changed: Partial<State>, isStep: boolean) => void} */
     change(changed, isStep) {
+        clearTimeout(this.writing);
         this.look({ ...this.view.state, ...changed });
         const fragment = fragmentOf(this.page, this.view.state);
         if (isStep) this.made = fragment;
@@ -146,21 +188,32 @@ export class Viewer {
 
     revealFocus() {
         const { drawing, state } = this.view;
-        if (drawing.count > 0) this.stage.reveal(this.view, drawing.depth[state.focus]);
+        if (drawing.count > 0) this.stage.reveal(this.view, drawing.row[state.focus]);
     }
 
     /** @type {(box: number) => void} */
     zoomTo(box) {
         const { state } = this.view;
-        if (box === state.box && state.source < 0) this.change({ focus: box }, false);
-        else this.change({ box, source: -1, focus: box }, true);
+        if (box === state.box && state.source < 0 && state.from < 0) this.change({ focus: box }, false);
+        else this.change({ ...UNZOOMED, box, focus: box }, true);
     }
 
     // The step before, where this page made it, and else the whole.
     goBack() {
-        if (!isZoomed(this.view)) return;
+        const { view } = this;
+        if (!isZoomed(view) && view.state.callers < 0) return;
         if (stepsMade() > 0) history.back();
-        else this.zoomTo(0);
+        else this.change({ ...UNZOOMED, callers: -1, focus: 0 }, true);
+    }
+
+    // What calls a function, and what it calls, in that drawing.
+    /** @type {(name: number, drawing: number) => void} */
+    showCallers(name, drawing) {
+        if (name >= 0) this.change({ ...UNZOOMED, callers: name, drawing, focus: 0 }, true);
+    }
+
+    showCallersOfFocus() {
+        this.showCallers(focusedFunction(this.view), this.view.state.drawing);
     }
 
     /** @type {(box: number) => void} */
@@ -172,33 +225,35 @@ export class Viewer {
         this.showFocus();
     }
 
-    // The same path in another drawing. A snapshot may have the first part of it only: the others show all of it again.
-    /** @type {(number: number) => void} */
-    turnTo(number) {
+    // The same path in another drawing, or in another order. A snapshot may have the first part of it only: the others show all of it again.
+    /** @type {(choice: Partial<Choice>) => void} */
+    turnTo(choice) {
         const { page, wished } = this;
         const { state, drawing } = this.view;
-        const other = page.drawing(number);
-        const isWished = wished && wished.drawing === state.drawing && wished.box === state.box;
+        const other = page.arranged({ ...state, ...choice });
+        const isWished = wished && wished.drawing === drawing && wished.box === state.box;
         const zoomed = isWished ? wished.path : this.pathTo(state.box);
-        /** @type {(path: string[], start: number) => number} */
-        const find = (path, start) => (other.count ? boxAt(page, other, path, start) : 0);
-        const box = find(zoomed, drawing.start[state.box]);
-        const focus = state.focus === state.box ? box : find(this.pathTo(state.focus), drawing.start[state.focus]);
-        this.wished = { drawing: number, box, path: zoomed };
-        this.change({ drawing: number, box, focus }, false);
+        /** @type {(path: string[], box: number) => number} */
+        const find = (path, from) => (other.count ? boxAt(page, other, path, drawing.start[from], isCaller(drawing, from)) : 0);
+        const box = find(zoomed, state.box);
+        const focus = state.focus === state.box ? box : find(this.pathTo(state.focus), state.focus);
+        this.wished = { drawing: other, box, path: zoomed };
+        this.change({ ...choice, box, focus }, false);
+    }
+
+    // A path of the profile before, by its box there.
+    /** @type {(box: number) => void} */
+    showBefore(box) {
+        const { page, view } = this;
+        const choice = { drawing: 0, callers: -1, heavy: view.state.heavy };
+        const there = boxAt(page, page.arranged(choice), pathOf(page, page.drawing(0), box), -1, false);
+        this.change({ ...UNZOOMED, ...choice, box: there, focus: there }, true);
     }
 
     /** @type {(box: number) => string[]} */
     pathTo(box) {
         const { drawing } = this.view;
         return drawing.count ? pathOf(this.page, drawing, box) : [];
-    }
-
-    // Looks at what has a name. A function that only the other profile has is shown there.
-    /** @type {(name: string, isHere: boolean) => void} */
-    searchFunction(name, isHere) {
-        const there = isHere ? {} : { drawing: 1 - this.view.state.drawing, box: 0, focus: 0 };
-        this.change({ find: name, by: 'name', ...there }, true);
     }
 
     // The next match, or the one before.
@@ -209,7 +264,7 @@ export class Viewer {
         const { focus, order } = state;
         const box = order === 'weight' ? neighbourByWeight(matches, drawing, focus, isForward) : neighbourMatch(matches, focus, isForward);
         if (box < 0) return;
-        if (!isInSpan(drawing, box, span)) this.change({ box: 0, source: -1, focus: box }, true);
+        if (!isInSpan(drawing, box, span)) this.change({ ...UNZOOMED, focus: box }, true);
         this.focusOn(box);
     }
 
@@ -217,7 +272,7 @@ export class Viewer {
     /** @type {(words: Words) => void} */
     arrive(words) {
         const { state, isDead } = linkedOf(this.page, words);
-        const drawing = this.page.drawing(state.drawing);
+        const drawing = this.page.arranged(state);
         const { focus } = this.view.state;
         const isInside = this.view.drawing === drawing && focus >= state.box && focus < drawing.end[state.box];
         this.look({ ...state, focus: isInside ? focus : state.box });

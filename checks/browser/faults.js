@@ -48,6 +48,24 @@
         shares_as_weights() {
             bend.fragment = (fragment) => fragment.replace('&share=1', '');
         },
+        numbers_beside_their_ticks() {
+            bend.saved = (text) => text.replace(/(<text x=")([\d.]+)(?=" y="32")/g, (whole, begin, left) => begin + (Number(left) + 9));
+        },
+        parts_begin_elsewhere() {
+            bend.fragment = (fragment) => fragment.replace(/from=(\d+)&to=(\d+)/, (part, from, to) => `from=${(Number(from) + Number(to)) / 2}&to=${to}`);
+        },
+        heavy_boxes_in_their_order() {
+            bend.fragment = (fragment) => fragment.replace('&heavy=1', '');
+        },
+        callers_of_another() {
+            bend.fragment = (fragment) => fragment.replace(/callers=([^&]*)/, (word, name) => {
+                const { names } = JSON.parse(document.getElementById('data').textContent);
+                return `callers=${encodeURIComponent(names.find((each) => each !== decodeURIComponent(name) && each !== names[0]))}`;
+            });
+        },
+        callers_below_callees() {
+            bend.fragment = (fragment) => (fragment.includes('callers=') ? fragment.replace('drawing=0', 'drawing=0&root=below') : fragment);
+        },
         joined_as_the_first() {
             let plain = '#000000';
             bend.fill = (fill) => {

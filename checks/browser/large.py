@@ -1,4 +1,4 @@
-"""A page of 10^6 boxes: how long it takes to the first paint, to a zoom and to a search. These are figures, printed and not asserted."""
+"""A page of 10^6 boxes: how long it takes to the first paint, to a zoom, to a search and to another order. These are figures, printed and not asserted."""
 import os
 import pathlib
 import random
@@ -73,11 +73,19 @@ def large(check):
     same(browser.value("document.getElementById('back').disabled"), True, 'at the whole again')
     find = took(browser, "document.getElementById('find').value = 'function_12'; document.getElementById('search').requestSubmit()")
     contains(browser.text('#matched'), ' matched, ', 'search')
+    browser.value("document.getElementById('find').value = ''; document.getElementById('search').requestSubmit()")
+    # To the heaviest function and what calls it, back, and the heaviest boxes first.
+    browser.value(PRESS.format('ArrowDown'))
+    called = took(browser, PRESS.format('c'))
+    contains(browser.text('#drawing-name'), 'callers and callees of ', 'callers')
+    browser.value('history.back()')
+    browser.wait_for("document.getElementById('drawing-name').textContent === ''")
+    heavy = took(browser, "document.getElementById('heavy').click()")
     lines = [
         f'{browser.text("#summary")}; {len(document):,} bytes, made in {made:.1f} s; {os.cpu_count()} cores, load {os.getloadavg()[0]:.1f}',
         f'to the first paint of the picture: {spread(paints)}',
         f'zoom in: {spread(ins)}; zoom out to the whole: {spread(outs)}',
-        f'search: {find:.0f} ms',
+        f'search: {find:.0f} ms; callers of the heaviest function: {called:.0f} ms; left heavy: {heavy:.0f} ms',
     ]
     FIGURES.write_text('\n'.join(lines) + '\n')
     print('\n'.join(lines))

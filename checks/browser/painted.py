@@ -21,7 +21,7 @@ from painted_pages import PAGES
 
 # The windows in which the picture is 368, 588, 1182 and 1912 pixels wide.
 WINDOWS = (390, 610, 1663, 2560)
-ZOOMS, SEARCHES, TIPS = 10, 3, 30
+ZOOMS, SEARCHES, TIPS, CALLERS = 10, 3, 30, 2
 MOST_TOLD = 5
 
 # With `checks/page --painted all` each page is tried in each setting.
@@ -52,6 +52,12 @@ def boxes_to_zoom(drawn: random.Random, document: Document, view: View) -> int:
     return drawn.choice(heaviest[:60])
 
 
+def part_of(drawn: random.Random, total: int) -> tuple[float, float]:
+    """A part of a chart, to thousandths of a weight."""
+    begin = drawn.randrange(int(0.9 * total)) + drawn.randrange(1000) / 1000
+    return begin, min(total, round(begin + 1 + total * drawn.random() ** 4, 3))
+
+
 def zooms(drawn: random.Random, watched: Watched) -> Iterator[list[Fault]]:
     """Looks at ten parts: most by their address, some by a click, in a chart some sources, and in a comparison every other by shares."""
     document = watched.document
@@ -61,6 +67,8 @@ def zooms(drawn: random.Random, watched: Watched) -> Iterator[list[Fault]]:
             continue
         if document.kind == 'chart' and number % 3 == 0:
             yield watched.go(view.at(source=drawn.choice([each for each, (_, begin, end) in enumerate(document.sources) if end > begin])))
+        elif document.kind == 'chart' and number % 3 == 2:
+            yield watched.go(view.at(part=part_of(drawn, document.drawing(view).total)))
         elif number % 3 == 1:
             yield watched.click(drawn)
         else:
@@ -90,6 +98,28 @@ def walk(watched: Watched, seed: str) -> Iterator[list[Fault]]:
     yield from searches(drawn, watched)
     yield watched.compare_tips(drawn, TIPS)
     yield watched.compare_saved()
+    yield from arrangements(drawn, watched)
+
+
+def arrangements(drawn: random.Random, watched: Watched) -> Iterator[list[Fault]]:
+    """Looks at the callers and callees of functions, whole and zoomed on either side, and at heavy boxes first."""
+    document = watched.document
+    drawing = document.drawings[-1]
+    for number in range(CALLERS if drawing.count > 1 else 0):
+        name = document.name(drawing, max(1, boxes_to_zoom(drawn, document, View(drawing.number))))
+        view = View(drawing.number, below=watched.setting.below, callers=name, share=document.kind == 'compare' and number % 2 == 0)
+        yield watched.go(view)
+        yield watched.scroll(drawn.random())
+        yield watched.compare_tips(drawn, TIPS)
+        yield watched.click(drawn)
+        yield watched.go(view.at(box=boxes_to_zoom(drawn, document, view), find=name[:3], by='text'))
+        yield watched.go(watched.view.at(find=''))
+    if drawing.count > 1:
+        yield watched.compare_saved()
+    if drawing.count > 1 and document.kind != 'chart':
+        yield watched.go(View(drawing.number, below=watched.setting.below, heavy=True))
+        yield watched.click(drawn)
+        yield watched.compare_tips(drawn, TIPS)
 
 
 def refuse(found: list[Fault], what: str) -> None:

@@ -4,12 +4,17 @@ from __future__ import annotations
 from typing import Iterator
 
 import painted_words as words
+from painted_axis import Tick, axis_faults
 from painted_colours import colour, is_same
 from painted_labels import Labels, is_plain
-from painted_layout import LANES, ROW, TOUCH, Fault, Layout, Sorted
+from painted_layout import AXIS, LANES, ROW, TOUCH, Fault, Layout, Sorted
 from painted_paint import Paint, Rectangle
 from painted_places import Sight
 from painted_rows import OFF, Row
+
+
+# How far a number is from its line.
+TICK_PAD = 4
 
 
 def faults_of(sight: Sight, paint: Paint, layout: Layout) -> list[Fault]:
@@ -30,7 +35,9 @@ def faults_of(sight: Sight, paint: Paint, layout: Layout) -> list[Fault]:
 
 def heading_faults(sight: Sight, paint: Paint) -> Iterator[Fault]:
     """The title of an SVG tells that of the page, and the total of the drawing."""
-    for wanted in (words.visible(sight.document.title[:100]), f'{sight.drawing.total:,}'):
+    callers = sight.view.callers
+    centre = [] if callers is None or sight.drawing.count == 0 else [f'callers and callees of {words.visible(callers[:50])}']
+    for wanted in (words.visible(sight.document.title[:100]), f'{sight.drawing.total:,}', *centre):
         if paint.heading is not None and wanted not in paint.heading:
             yield Fault('e', f'the title {paint.heading!r} does not tell {wanted}')
 
@@ -46,11 +53,14 @@ class Margins:
         if not others or not self.is_paper(others[0]):
             yield Fault('e', 'there is no paper under the picture')
         rest = [each for each in others if not self.is_paper(each)]
-        if self.sight.document.kind == 'chart':
+        if self.sight.document.is_timeline(self.sight.view):
             lines = [each for each in rest if self.is_line(each)]
             rest = [each for each in rest if not self.is_line(each)]
             yield from self.line_faults(lines)
         if self.layout.lanes:
+            ticks = [each for each in rest if self.is_tick(each)]
+            rest = [each for each in rest if not self.is_tick(each)]
+            yield from self.tick_faults(ticks)
             lanes = [each for each in rest if each.top + each.height <= LANES]
             rest = [each for each in rest if each.top + each.height > LANES]
             yield from self.lane_faults(lanes)
@@ -62,6 +72,20 @@ class Margins:
 
     def is_line(self, rectangle: Rectangle) -> bool:
         return rectangle.width == 1 and rectangle.height > ROW and is_same(rectangle.fill, colour(self.sight.palette.line))
+
+    def is_tick(self, rectangle: Rectangle) -> bool:
+        is_line = rectangle.width == 1 and is_same(rectangle.fill, colour(self.sight.palette.line))
+        return is_line and LANES <= rectangle.top and rectangle.top + rectangle.height <= LANES + AXIS
+
+    def tick_faults(self, ticks: list[Rectangle]) -> Iterator[Fault]:
+        """Each line of the axis has its number beside it."""
+        numbers = [text for text in self.sorted.texts if text.middle > LANES]
+        if len(numbers) != len(ticks):
+            yield Fault('e', f'there are {len(ticks)} lines on the axis, and {len(numbers)} numbers')
+        for tick, number in zip(ticks, numbers):
+            if abs(number.left - tick.left - TICK_PAD) > OFF:
+                yield Fault('c', f'{number.text!r} stands at {number.left:.2f}, and its line at {tick.left:.2f}')
+        yield from axis_faults(self.sight, [Tick(number.left - TICK_PAD, number.text) for number in numbers], self.paint.width)
 
     def across(self, weight: int) -> float:
         """Where a weight of the drawing stands."""
@@ -92,7 +116,7 @@ class Margins:
                 yield Fault('a', f'the lane of {name!r} from {left:.2f} to {right:.2f} is painted from {lane.left:.2f} to {lane.right:.2f}')
             if not is_same(lane.fill, colour(self.sight.palette.dim)):
                 yield Fault('d', f'the lane of {name!r} is painted in {lane.fill}')
-        for text in self.sorted.texts:
+        for text in (each for each in self.sorted.texts if each.middle <= LANES):
             names = [words.visible(name) for name, left, right in seen if left <= text.left < right]
             if not any(words.is_front(text.text, name) for name in names):
                 yield Fault('c', f'{text.text!r} at {text.left:.2f} stands on the lane of {names}')

@@ -1,20 +1,21 @@
-"""What the data of a page says: its boxes by rows, what is looked at, and where a box then stands. Written from docs/PAGE-DATA.md; nothing
-here is taken from the page's scripts.
+"""What the data of a page says: its drawings, and what is looked at. Written from docs/PAGE-DATA.md; nothing here is taken from the page's
+scripts.
 """
 from __future__ import annotations
 
-import bisect
 import functools
 import re
 from dataclasses import dataclass, replace
-from typing import Any, Callable, Iterator, NamedTuple
+from typing import Any, Callable
 
-Data = dict[str, Any]
+from painted_arranged import callers_of, left_heavy
+from painted_drawing import Data, Drawing, Span
 
 
 @dataclass(frozen=True)
 class View:
-    """What is looked at: a drawing, the zoomed box or source, a search, where the root stands, and whether shares are compared."""
+    """What is looked at: a drawing, the zoomed box or source or a part of a chart, a search, where the root stands, whether shares are compared, the function whose
+    callers and callees are shown, and whether heavy boxes come first."""
     drawing: int
     box: int = 0
     source: int = -1
@@ -22,80 +23,12 @@ class View:
     by: str = 'text'
     below: bool = False
     share: bool = False
+    callers: str | None = None
+    part: tuple[float, float] | None = None
+    heavy: bool = False
 
     def at(self, **changed: Any) -> View:
         return replace(self, **changed)
-
-
-class Span(NamedTuple):
-    """The part of a drawing that takes the whole width. Boxes in rows above `depth` are the callers of what is zoomed."""
-    begin: int
-    end: int
-    depth: int
-
-
-class Box(NamedTuple):
-    """A box with its edges in pixels, cut to what is zoomed."""
-    number: int
-    left: float
-    right: float
-
-    @property
-    def width(self) -> float:
-        return self.right - self.left
-
-    @property
-    def middle(self) -> float:
-        return (self.left + self.right) / 2
-
-
-class Drawing:
-    """The boxes of one drawing, and those of each row in their order."""
-
-    def __init__(self, columns: Data):
-        self.depth: list[int] = columns['depth']
-        self.name: list[int] = columns['name']
-        self.own: list[int] = columns['own']
-        self.start: list[int] = columns['start']
-        self.weight: list[int] = columns['weight']
-        self.other: list[int] | None = columns.get('other')
-        self.total: int = columns['total']
-        self.rows: list[list[int]] = [[] for _ in range(max(self.depth, default=-1) + 1)]
-        for box, depth in enumerate(self.depth):
-            self.rows[depth].append(box)
-        self.starts = [[self.start[box] for box in row] for row in self.rows]
-
-    @property
-    def count(self) -> int:
-        return len(self.depth)
-
-    def end(self, box: int) -> int:
-        return self.start[box] + self.weight[box]
-
-    def within(self, row: int, span: Span) -> Iterator[int]:
-        """The boxes of a row that have a part in the span."""
-        boxes = self.rows[row]
-        first = bisect.bisect_right(self.starts[row], span.begin)
-        if first > 0 and self.end(boxes[first - 1]) > span.begin:
-            first -= 1
-        for place in range(first, len(boxes)):
-            if self.start[boxes[place]] >= span.end:
-                return
-            yield boxes[place]
-
-    def edges(self, row: int, span: Span, width: float) -> list[Box]:
-        """The boxes of a row that are seen, from left to right. The numbers of the data are exact, so only the division rounds."""
-        whole = span.end - span.begin
-        return [Box(box, max(0.0, (self.start[box] - span.begin) * width / whole), min(width, (self.end(box) - span.begin) * width / whole))
-                for box in self.within(row, span)]
-
-    def path(self, box: int) -> list[int]:
-        """The boxes from the root's first callee to this one."""
-        path = [box]
-        for each in range(box - 1, -1, -1):
-            if self.depth[each] < self.depth[path[-1]]:
-                path.append(each)
-        return [each for each in reversed(path) if self.depth[each] > 0]
 
 
 class Document:
@@ -106,7 +39,8 @@ class Document:
         self.title: str = data['title']
         self.opens_below: bool = data.get('root_below', False)
         self.names: list[str] = data['names']
-        self.drawings = [Drawing(columns) for columns in data['drawings']]
+        self.drawings = [Drawing(columns, number) for number, columns in enumerate(data['drawings'])]
+        self.arranged: dict[tuple[int, str | None, bool], Drawing] = {}
         self.sources: list[tuple[str, int, int]] = []
         begin = 0
         for source in data['sources']:
@@ -114,7 +48,21 @@ class Document:
             begin += source['weight']
 
     def drawing(self, view: View) -> Drawing:
-        return self.drawings[view.drawing]
+        """The drawing that is looked at, as it is arranged."""
+        key = (view.drawing, view.callers, view.heavy)
+        if key not in self.arranged:
+            self.arranged[key] = self.arrange(view)
+        return self.arranged[key]
+
+    def arrange(self, view: View) -> Drawing:
+        base = self.drawings[view.drawing]
+        if view.callers is None:
+            return left_heavy(base) if view.heavy else base
+        there = self.drawings[1 - view.drawing] if self.kind == 'compare' else None
+        return callers_of(base, there, self.names.index(view.callers))
+
+    def is_timeline(self, view: View) -> bool:
+        return self.kind == 'chart' and view.callers is None
 
     def name(self, drawing: Drawing, box: int) -> str:
         return self.names[drawing.name[box]]
@@ -124,16 +72,18 @@ class Document:
         drawing = self.drawing(view)
         if view.source >= 0:
             _, begin, end = self.sources[view.source]
-            return Span(begin, end, 0)
+            return Span(begin, end, 0, 0)
         if drawing.count == 0:
-            return Span(0, 1, 0)
-        return Span(drawing.start[view.box], drawing.end(view.box), drawing.depth[view.box])
+            return Span(0, 1, 0, 0)
+        if view.part:
+            return Span(*view.part, 0, 0)
+        return Span(drawing.start[view.box], drawing.end(view.box), drawing.depth[view.box], drawing.row[view.box])
 
     def before_and_after(self, drawing: Drawing, box: int, share: bool) -> tuple[int, int]:
         """What is compared of a box's path in both profiles: the weights, or what is to each other as their shares of both wholes are."""
         assert drawing.other is not None
         here, there = drawing.weight[box], drawing.other[box]
-        before, after = (here, there) if drawing is self.drawings[0] else (there, here)
+        before, after = (here, there) if drawing.number == 0 else (there, here)
         wholes = [each.total for each in self.drawings]
         return (before * wholes[1], after * wholes[0]) if share and all(wholes) else (before, after)
 

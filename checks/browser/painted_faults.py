@@ -8,10 +8,11 @@ import random
 from typing import Any, Callable, Iterator, NamedTuple
 
 import documents
-from painted_data import Data, Document, Drawing
+from painted_data import Document
+from painted_drawing import Data
 from painted_layout import Fault
 from painted_looks import Setting, Watched
-from painted_pages import comparison, comparison_made, deep, like_go, of_data, random_tree
+from painted_pages import chart_made, comparison, comparison_made, deep, like_go, of_data, random_tree
 from painted_trees import data_of
 
 SETTING = Setting(1600, 1, 'light', False)
@@ -31,7 +32,7 @@ class PutBack(NamedTuple):
 def narrow_before_wide(data: Data) -> Data:
     """A wide box with a narrow one before it in the same pixel has the name of that one, and so its colour and its label."""
     changed = copy.deepcopy(data)
-    for columns, drawing in zip(changed['drawings'], map(Drawing, data['drawings'])):
+    for columns, drawing in zip(changed['drawings'], Document(data).drawings):
         pixel = drawing.total / 1000
         for row in drawing.rows:
             for before, box in itertools.pairwise(row):
@@ -55,6 +56,11 @@ FAULTS = [
     PutBack('names are shorter than their boxes need', 'e', 'labels_shorter_than_they_could_be', like_go),
     PutBack('changes have the other sign', 'c', 'changes_turned', comparison_made),
     PutBack('changes are those of weights where shares are compared', 'cd', 'shares_as_weights', comparison),
+    PutBack('a part of a chart begins elsewhere', 'a', 'parts_begin_elsewhere', chart_made),
+    PutBack('numbers of an axis stand beside their ticks', 'c', 'numbers_beside_their_ticks', chart_made),
+    PutBack('heavy boxes stand in their usual order', 'a', 'heavy_boxes_in_their_order'),
+    PutBack('callers are those of another function', 'c', 'callers_of_another'),
+    PutBack('callers stand below what they call', 'c', 'callers_below_callees'),
     PutBack('what is joined has the colour of a box', 'd', 'joined_as_the_first'),
     PutBack('what is joined and matches in part has the colour of what is joined without a search', 'd', 'joined_matches_as_joined'),
     PutBack('colours are those of the box before', 'd', 'colours_of_the_box_before'),
@@ -77,6 +83,14 @@ def looks(watched: Watched) -> Iterator[list[Fault]]:
     yield watched.go(watched.view.at(find='s'))
     if watched.document.kind == 'compare':
         yield watched.go(watched.view.at(find='', share=True))
+    if watched.document.kind == 'chart':
+        total = watched.document.drawings[0].total
+        yield watched.go(watched.view.at(find='', part=(total // 5, total // 2)))
+        yield watched.go(watched.view.at(part=None))
+    drawing = watched.document.drawing(watched.view)
+    heaviest = max((box for box in range(drawing.count) if drawing.depth[box] == 2), key=lambda box: drawing.weight[box])
+    yield watched.go(watched.view.at(find='', callers=watched.document.name(drawing, heaviest)))
+    yield watched.go(watched.view.at(callers=None, heavy=True))
 
 
 def found(check: Any, fault: PutBack) -> str:

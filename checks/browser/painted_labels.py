@@ -6,7 +6,7 @@ from typing import Iterator
 
 import painted_words as words
 from painted_colours import is_same
-from painted_data import Box
+from painted_drawing import Box
 from painted_layout import TOUCH, Fault, Strip
 from painted_paint import Text
 from painted_places import WIDE, Sight

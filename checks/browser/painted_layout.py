@@ -8,7 +8,8 @@ from typing import NamedTuple
 from painted_paint import Paint, Rectangle, Text
 
 ROW = 18
-LANES = 22
+# Above the rows of a saved chart stand the sources, and then the axis.
+LANES, AXIS = 22, 16
 # What differs by less stands at the same place. What is narrower is not seen: an SVG has two digits behind the point.
 TOUCH, UNSEEN = 0.01, 0.005
 

@@ -8,10 +8,11 @@ import urllib.parse
 from typing import Any, Iterator, NamedTuple
 
 import chromium
+from painted_axis import Tick, axis_faults
 from painted_colours import DARK, LIGHT, Palette
 from painted_compare import faults_of
 from painted_data import Document, View
-from painted_layout import LANES, ROW, Fault, Layout
+from painted_layout import AXIS, LANES, ROW, Fault, Layout
 from painted_paint import Paint, of_canvas, of_svg
 from painted_places import WIDE, Sight
 from painted_tips import tip_faults, tip_places
@@ -80,16 +81,19 @@ class Watched:
         """The address of a view: a source, a path, or where that would be long the number of a box."""
         drawing = self.document.drawing(view)
         path = '/'.join(urllib.parse.quote(self.document.name(drawing, box), safe='') for box in drawing.path(view.box)) if view.box else ''
-        parts = []
+        parts = [f'callers={urllib.parse.quote(view.callers, safe="")}'] if view.callers is not None else []
         if view.source >= 0:
             parts.append(f'source={view.source}')
-        elif view.box and (self.document.kind == 'chart' or len(path) > 2000):
+        elif view.part:
+            parts.append('from={:.15g}&to={:.15g}'.format(*view.part))
+        elif view.box and (self.document.is_timeline(view) or len(path) > 2000):
             parts.append(f'box={view.box}')
         elif view.box:
-            parts.append(f'zoom={path}')
+            parts.append(f'{"up" if drawing.is_caller(view.box) else "zoom"}={path}')
         if view.find:
             parts += [f'find={urllib.parse.quote(view.find, safe="")}', f'by={view.by}']
-        return '#' + '&'.join([*parts, f'drawing={view.drawing}', *self.root_words(view.below), *(['share=1'] if view.share else [])])
+        switches = [*(['share=1'] if view.share else []), *(['heavy=1'] if view.heavy else [])]
+        return '#' + '&'.join([*parts, f'drawing={view.drawing}', *self.root_words(view.below), *switches])
 
     def root_words(self, below: bool) -> list[str]:
         """What an address says of the root: nothing where that stands as it does on the page when it opens."""
@@ -107,7 +111,10 @@ class Watched:
         return Layout(-seen['scrolled'], len(self.document.drawing(self.view).rows), self.view.below, lanes=False)
 
     def compare(self, seen: dict[str, Any]) -> list[Fault]:
-        return self.named('the screen', [*canvas_faults(seen), *faults_of(self.sight(), of_canvas(seen), self.screen(seen))])
+        sight = self.sight()
+        axis = [Tick(left, text) for left, text in seen['axis']]
+        found = [*canvas_faults(seen), *axis_faults(sight, axis, seen['room'][0])]
+        return self.named('the screen', [*found, *faults_of(sight, of_canvas(seen), self.screen(seen))])
 
     def named(self, where: str, faults: list[Fault]) -> list[Fault]:
         return [Fault(letter, f'{where} at {self.fragment(self.view)[:200]}, {self.setting}: {text}') for letter, text in faults]
@@ -128,7 +135,7 @@ class Watched:
         if not boxes:
             return []
         row, box = drawn.choice(boxes)
-        self.view = self.view.at(box=box.number, source=-1)
+        self.view = self.view.at(box=box.number, source=-1, part=None)
         return self.compare(self.after(f'recorder.click({json.dumps([box.middle, layout.top_of(row) + ROW / 2])})'))
 
     def compare_saved(self) -> list[Fault]:
@@ -145,22 +152,23 @@ class Watched:
         if record:
             return self.saved(of_canvas(record), self.setting.palette, 'the PNG')
         is_told = 'too large' in self.browser.value('document.body.innerText')
-        is_high = self.rows_seen() * ROW > HIGHEST_PNG
-        return [] if is_told and is_high else [Fault('e', f'there is no PNG of {self.rows_seen()} rows')]
+        first, end = self.rows_seen()
+        is_high = (end - first) * ROW > HIGHEST_PNG
+        return [] if is_told and is_high else [Fault('e', f'there is no PNG of {end - first} rows')]
 
     def saved(self, paint: Paint, palette: Palette, where: str) -> list[Fault]:
         """A saved picture has all rows of what is zoomed, whatever is scrolled into view."""
-        lanes = LANES if self.document.kind == 'chart' else 0
+        lanes = LANES + AXIS if self.document.is_timeline(self.view) else 0
         rows = round((paint.height - lanes) / ROW)
-        layout = Layout(lanes, rows, self.view.below, lanes > 0)
+        first, _ = self.rows_seen()
+        layout = Layout(lanes if self.view.below else lanes - first * ROW, first + rows, self.view.below, lanes > 0)
         found = faults_of(self.sight(palette), paint, layout)
-        if rows < self.rows_seen():
-            found.append(Fault('e', f'has {rows} rows, and what is zoomed has {self.rows_seen()}'))
+        if first + rows < self.rows_seen()[1]:
+            found.append(Fault('e', f'has {rows} rows, and what is zoomed has those of {self.rows_seen()}'))
         return self.named(where, found)
 
-    def rows_seen(self) -> int:
-        drawing, span = self.document.drawing(self.view), self.document.span(self.view)
-        return sum(1 for row in range(len(drawing.rows)) if any(True for _ in drawing.within(row, span)))
+    def rows_seen(self) -> tuple[int, int]:
+        return self.document.drawing(self.view).rows_within(self.document.span(self.view))
 
 
 def canvas_faults(seen: dict[str, Any]) -> Iterator[Fault]:

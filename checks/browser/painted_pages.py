@@ -8,7 +8,7 @@ from typing import Any, Callable
 
 import documents
 import profiles
-from painted_data import Data
+from painted_drawing import Data
 from painted_trees import LANGUAGES, ODD_NAMES, Node, columns, data_of, folded, like_profile, siblings, text_of
 
 # What a page is made with: see checks/page.

@@ -7,7 +7,8 @@ import math
 from dataclasses import dataclass, field
 
 from painted_colours import Colour, Palette, colour, of_change, of_name
-from painted_data import Box, Document, Drawing, Span, View, matches_of
+from painted_data import Document, View, matches_of
+from painted_drawing import Box, Drawing, Span
 
 # Nearer to a whole pixel than this an edge may be rounded either way.
 DOUBT = 1e-6
@@ -64,10 +65,11 @@ class Sight:
         self.dim, self.match, self.joined, self.joined_match = map(colour, (palette.dim, palette.match, palette.joined, palette.joined_match))
 
     def is_match(self, box: int) -> bool:
-        return self.matching is not None and self.drawing.depth[box] > 0 and self.drawing.name[box] in self.matching
+        return self.matching is not None and self.drawing.is_function(box) and self.drawing.name[box] in self.matching
 
     def is_dim(self, box: int) -> bool:
-        return not self.is_match(box) and (self.matching is not None or self.drawing.depth[box] < self.span.depth)
+        leads_on = self.drawing.depth[box] < self.drawing.seen(self.drawing.row[box], self.span).depth
+        return not self.is_match(box) and (self.matching is not None or leads_on)
 
     def colours(self, box: int) -> list[Colour]:
         """The colours that the box may have."""

@@ -70,9 +70,11 @@ def tip_faults(sight: Sight, pointed: Pointed, told: dict[str, Any]) -> Iterator
 
 
 def wanted(sight: Sight, boxes: list[int]) -> tuple[str, list[str]]:
-    """How a tip and a status begin, and what they tell then: the weight, its part of the whole, and the own weight of one box."""
+    """How a tip and a status begin, and what they tell then: the weight, its part of the whole, and of one box, but for a caller, its own."""
     drawing = sight.drawing
     weight = sum(drawing.weight[box] for box in boxes)
     name = words.visible(sight.document.name(drawing, boxes[0])[:100]) or words.EMPTY
     parts = [f'{weight:,}', words.percent(weight, drawing.total)]
-    return (name, [*parts, f'{drawing.own[boxes[0]]:,}']) if len(boxes) == 1 else (words.joined(len(boxes)), parts)
+    if len(boxes) > 1:
+        return words.joined(len(boxes)), parts
+    return name, parts if drawing.is_caller(boxes[0]) else [*parts, f'{drawing.own[boxes[0]]:,}']

@@ -5,7 +5,7 @@ import random
 from dataclasses import dataclass, field
 from typing import Callable
 
-from painted_data import Data
+from painted_drawing import Data
 
 WORDS = ('read', 'parse', 'next', 'encode', 'Row', 'List', 'hash', 'poll', 'flush', 'visit', 'Tree', 'scan', 'merge', 'lock', 'send', 'map')
 ODD_NAMES = ('', '<', '&amp;', '"quoted"', "it's", 'Vec<Box<dyn Fn(&str) -> bool>>', '</script><script>', 'été', '你好世界',

@@ -213,6 +213,10 @@ def lanes(check):
     same(dark, [round(boundary)], 'the line between the sources')
     contains(picture.told(1, 0.5)[3], 'in parse.folded, faster.folded', 'the sources of main')
     check.screenshot('chart')
+    ticks = browser.value("[...document.querySelectorAll('#axis span')].map((each) => [each.textContent, each.getBoundingClientRect().left])")
+    for text, left in ticks:
+        near(left - picture.left, int(text) * picture.width / 95, f'tick {text}')
+    same([text for text, _ in ticks][:3], ['0', '10', '20'], 'the axis')
     browser.click_on('#lanes button:nth-child(2)')
     same(fragment(browser), '#source=1', 'fragment')
     hidden = browser.value("[...document.querySelectorAll('#lanes button')].map((each) => each.hidden)")
@@ -263,7 +267,8 @@ def differences(check):
     same(browser.text('#drawing-name'), f'after: {after}', 'back to the profile after')
     browser.value("[...document.querySelectorAll('#functions td button')].find((each) => each.textContent === 'old').click()")
     browser.settle()
-    same([browser.text('#drawing-name'), browser.text('#matched')], [f'before: {before}', '1 matched, 18.2%'], 'a function that is gone')
+    same(browser.text('#drawing-name'), f'before: {before} · callers and callees of old', 'a function that is gone')
+    same(picture.told(1, 0.5)[1:], ['8, 18.2% of the whole, 100% of old', 'own 2', 'before 8, after 0: gone'], 'tip of what is gone')
 
 
 def shares(check):

@@ -12,10 +12,11 @@ from looking import contains, same
 TOP = pathlib.Path(__file__).resolve().parents[2]
 PURE = pathlib.Path(__file__).resolve().parent / 'pure'
 START = b'''<!doctype html><script type="module">
+import { TESTS as arranged } from './arranged.js';
 import { TESTS as boxes } from './boxes.js';
 import { TESTS as short } from './short.js';
 import { TESTS as texts } from './texts.js';
-window.tests = { ...boxes, ...short, ...texts };
+window.tests = { ...arranged, ...boxes, ...short, ...texts };
 </script>'''
 FAULT_OF = '''(() => { try { tests[%r](); return ''; } catch (fault) { return fault.message; } })()'''
 # For each test some faults: a module, what stands in it, and what is put in its place.
@@ -31,17 +32,22 @@ FAULTS = {
     'nesting': [
         ('drawing.js', 'while (opened > depth)', 'while (opened > depth + 1)'),
         ('drawing.js', 'start < endOf(drawing, box)', 'start <= endOf(drawing, box)'),
-        ('drawing.js', '=== page.drawing(0)', '!== page.drawing(0)'),
+        ('drawing.js', 'drawing.number === 0', 'drawing.number !== 0'),
     ],
     'shares': [
         ('drawing.js', 'weights.before * after, after: weights.after * before', 'weights.before * before, after: weights.after * after'),
         ('drawing.js', 'before === 0 || after === 0', 'before === 0 && after === 0'),
     ],
     'spans': [
-        ('spans.js', 'Math.max(drawing.start[box], span.from)', 'drawing.start[box]'),
-        ('spans.js', 'order[at]) > span.from', 'order[at]) >= span.from'),
+        ('spans.js', 'Math.max(drawing.start[box], from)', 'drawing.start[box]'),
+        ('spans.js', 'order[at]) > seen.from', 'order[at]) >= seen.from'),
         ('spans.js', 'return from === to;', 'return from + 1 === to;'),
         ('spans.js', 'right > left', 'right >= left'),
+    ],
+    'parts': [
+        ('spans.js', 'place * (to - from - width)', 'place * (to - from)'),
+        ('spans.js', 'Math.min(total - wide, Math.max(0, from))', 'Math.max(0, from)'),
+        ('spans.js', 'from + widths * (to - from)', 'from + widths'),
     ],
     'places': [
         ('places.js', 'if (!isNarrow(next - 1)) next--;', ''),
@@ -74,6 +80,27 @@ FAULTS = {
         ('sums.js', 'rest -= weightInSpan', 'rest += weightInSpan'),
         ('sums.js', 'total[name] += weightInSpan(drawing, box, span)', 'total[name] += drawing.weight[box]'),
     ],
+    'callers': [
+        ('callers.js', 'box = drawing.end[box];', 'box++;'),
+        ('callers.js', 'drawing.depth[each] > 0', 'drawing.depth[each] >= 0'),
+        ('callers.js', 'drawing.depth[box] === 0 || ', ''),
+        ('callers.js', 'drawing.weight[box], 0)', 'drawing.own[box], 0)'),
+        ('callers.js', 'others.weight[found[path]]', 'others.own[found[path]]'),
+        ('callers.js', 'centreRow - depth', 'centreRow + depth'),
+        ('heaviest.js', 'weight[other] - weight[one]', 'weight[one] - weight[other]'),
+    ],
+    'sides': [
+        ('spans.js', '* (span.row - centre) > 0', '* (span.row - centre) < 0'),
+        ('spans.js', 'centre - 1 - each', 'centre - each'),
+        ('drawing.js', '[1, drawing.callees] : [drawing.callees, drawing.count]', '[1, drawing.count] : [1, drawing.count]'),
+        ('focus.js', 'drawing.row[on] === row', 'true'),
+        ('focus.js', 'drawing.row[each] !== row || ', ''),
+    ],
+    'heavy': [
+        ('heaviest.js', 'at += weight[each];', 'at += weight[each] + 1;'),
+        ('heaviest.js', 'box < 0 ? 0 : start[box]', '0'),
+        ('heaviest.js', 'own: weights(drawing.own)', 'own: weights(drawing.weight)'),
+    ],
     'gone': [
         ('gone.js', 'box = drawing.end[box];', 'box++;'),
         ('gone.js', 'drawing.end[box] - box - 1', 'drawing.end[box] - box'),
@@ -90,12 +117,22 @@ FAULTS = {
         ('units.js', 'Math.abs(after - before)', 'after - before'),
         ('units.js', 'microseconds: 1e-6, milliseconds: 1e-3', 'microseconds: 1e-6, milliseconds: 1e-4'),
     ],
+    'axis': [
+        ('axis.js', '[1, 2, 5]', '[1, 2, 4]'),
+        ('axis.js', 'Math.ceil(span.from', 'Math.floor(span.from'),
+        ('axis.js', 'longest(digits) <= width', 'longest(digits) <= width + ROOM'),
+        ('axis.js', '.step * size < 1', '.step * size < 0'),
+        ('units.js', 'Math.round(size / sizes[unit])', 'Math.round(sizes[unit] / size)'),
+    ],
     'colours': [
         ('colours.js', 'Math.imul(hash, 31) + byte', 'Math.imul(hash, 33) + byte'),
         ('colours.js', 'Math.ceil(Math.abs', 'Math.round(Math.abs'),
     ],
     'address': [
         ('address.js', "path.map(encoded).join('/')", "path.join('/')"),
+        ('address.js', 'isCaller(drawing, state.box)', 'false'),
+        ('address.js', "const [from, to] = ['from', 'to']", "const [from, to] = ['to', 'from']"),
+        ('address.js', 'isLost ? choice', 'isLost ? { ...choice, callers }'),
         ('address.js', 'drawing.depth[box] === path.length', 'drawing.depth[box] <= path.length'),
         ('address.js', 'words.delete(key)', 'words.set(key, kept)'),
         ('address.js', 'state.below !== page.isBelow', 'state.below'),

@@ -151,6 +151,8 @@
             origin: [area.left + picture.clientLeft, area.top + picture.clientTop],
             dots: window.devicePixelRatio,
             fragment: location.hash,
+            axis: [...document.querySelectorAll('#axis:not([hidden]) span')].map((tick) => [
+                tick.getBoundingClientRect().left - area.left - picture.clientLeft, tick.textContent]),
         };
     }
 

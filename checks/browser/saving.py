@@ -112,8 +112,9 @@ def saving_lanes(check):
     lanes = {name: place for name, place in named_boxes(svg).items() if name.endswith('.folded')}
     same(list(lanes), ['parse.folded', 'faster.folded'], 'the lanes in the SVG')
     near(lanes['faster.folded'][0], 57 * picture.width / 95, 'left edge of the second lane')
-    lines = [float(box.get('x')) for box in svg.iter(f'{SVG}rect') if box.get('width') == '1']
-    near(lines[0], 57 * picture.width / 95, 'the line between the sources')
+    *ticks, line = [float(box.get('x')) for box in svg.iter(f'{SVG}rect') if box.get('width') == '1']
+    near(line, 57 * picture.width / 95, 'the line between the sources')
+    near(ticks[1], 10 * picture.width / 95, 'the second tick of the axis')
     found = [box for box in svg.iter(f'{SVG}rect') if box.get('fill') == 'hsl(285, 48%, 45%)']
     same(len(found), 2, 'matches in the SVG')
 

@@ -31,7 +31,7 @@ def going_back(check):
     browser.value('history.back()')
     wait_for_fragment(browser, '#find=read&root=below')
     browser.click_on('#functions tbody tr:nth-child(1) button')
-    same(fragment(browser), '#find=read&by=name&root=below', 'a function is a step')
+    same(fragment(browser), '#callers=read&find=read&root=below', 'a function is a step')
     browser.click_on('#below')
     browser.value('history.back()')
     wait_for_fragment(browser, '#find=read')
@@ -92,6 +92,92 @@ def dragging(check):
         same(fragment(browser), wanted, f'after {moved} pixels')
 
 
+def as_a_map(check):
+    """In a chart the wheel brings closer what is under the pointer, a drag and keys move it, and the address has what is seen."""
+    browser = check.browser
+    path = check.place(check.show('chart', 'parse.folded', 'faster.folded'))
+    browser.open(path)
+    picture = Picture(browser)
+
+    def part():
+        browser.settle()
+        browser.value('new Promise((done) => setTimeout(done, 400))')
+        words = dict(word.split('=') for word in fragment(browser)[1:].split('&') if word)
+        return float(words.get('from', 0)), float(words.get('to', 95))
+
+    def mouse(kind, across, **more):
+        x, y = picture.point(3, across)
+        browser.send('Input.dispatchMouseEvent', type=kind, x=x, y=y, clickCount=1, **more)
+
+    mouse('mouseWheel', 0.25, deltaX=0, deltaY=-400)
+    begin, end = part()
+    width = end - begin
+    assert 30 < width < 60, f'the wheel shows {width} of 95'
+    near(begin + 0.25 * width, 0.25 * 95, 'what is under the pointer', 0.1)
+    same(browser.text('#functions-title'), 'Functions in this part', 'what the table is of')
+    mouse('mouseWheel', 0.5, deltaX=0.1 * picture.width, deltaY=0)
+    near(part()[0], begin + 0.1 * width, 'a wheel to the side', 0.1)
+    mouse('mousePressed', 0.6, button='left')
+    mouse('mouseMoved', 0.7, button='left', buttons=1)
+    mouse('mouseMoved', 0.8, button='left', buttons=1)
+    mouse('mouseReleased', 0.8, button='left')
+    moved, _ = part()
+    near(moved, begin - 0.1 * width, 'after a drag', 0.1)
+    shown = picture.told(3, 0.3)
+    browser.open(path, fragment(browser))
+    same(Picture(browser).told(3, 0.3), shown, 'after a reload')
+    browser.value("document.getElementById('picture').focus()")
+    for key, wanted in (('>', (moved + width / 4, width)), ('<', (moved, width)), ('+', (moved + width / 6, width / 1.5)), ('-', (moved, width))):
+        browser.press(key)
+        begin, end = part()
+        near(begin, wanted[0], f'the left edge after {key}', 0.1)
+        near(end - begin, wanted[1], f'the width after {key}', 0.1)
+    picture.click(3, 0.3)
+    same(fragment(browser), '#zoom=main/parse/tokenize&start=12', 'a click on a box')
+    browser.press('Escape')
+    browser.wait_for("location.hash.startsWith('#from=')")
+    near(part()[0], moved, 'a step back', 0.1)
+    browser.press('Escape')
+    same(part(), (0, 95), 'a step further')
+    for dead in ('#from=5', '#from=9&to=5', '#from=0&to=96', '#from=x&to=7'):
+        browser.open(path, dead)
+        same([fragment(browser), part()], ['', (0, 95)], dead)
+    check.show('graph', 'parse.folded')
+    mouse('mouseWheel', 0.25, deltaX=0, deltaY=-400)
+    same(fragment(browser), '', 'a graph is no map')
+
+
+def by_two_fingers(check):
+    """Two fingers widen what is seen of a chart between them, and one moves it."""
+    browser = check.browser
+    browser.send('Emulation.setDeviceMetricsOverride', width=390, height=844, deviceScaleFactor=3, mobile=True)
+    browser.send('Emulation.setTouchEmulationEnabled', enabled=True)
+    try:
+        check.show('chart', 'parse.folded', 'faster.folded')
+        picture = Picture(browser)
+
+        def touch(*steps):
+            for kind, places in zip(('touchStart', *['touchMove'] * (len(steps) - 1)), steps):
+                points = [dict(zip(('x', 'y'), picture.point(3, place)), id=number) for number, place in enumerate(places)]
+                browser.send('Input.dispatchTouchEvent', type=kind, touchPoints=points)
+                browser.settle()
+            browser.send('Input.dispatchTouchEvent', type='touchEnd', touchPoints=[])
+            browser.wait_for("location.hash.startsWith('#from=')")
+            browser.value('new Promise((done) => setTimeout(done, 400))')
+            begin, end = (float(word.split('=')[1]) for word in fragment(browser)[1:].split('&'))
+            return begin, end - begin
+
+        begin, width = touch((0.4, 0.6), (0.35, 0.65), (0.3, 0.7))
+        near(width, 95 / 2, 'twice as far apart', 2)
+        near(begin + width / 2, 95 / 2, 'the middle stays', 2)
+        moved, same_width = touch((0.6,), (0.55,), (0.5,), (0.4,))
+        near(same_width, width, 'one finger', 0.1)
+        near(moved - begin, 0.2 * width, 'one finger moves it', 2)
+    finally:
+        browser.send('Emulation.setTouchEmulationEnabled', enabled=False)
+        browser.resize(*browser.size)
+
+
 def matches_in_turn(check):
     browser = check.browser
     check.show('graph', check.write('turns.folded', 'main;leaf 2\nmain;walk;walk;leaf 5\nmain;walk;other 3\nmain;work;leaf 10\n'))
@@ -141,7 +227,7 @@ def keys_alone(check):
             browser.press(' ')
         elif (place, text) == ('functions', 'tokenize'):
             browser.press('Enter')
-            same(browser.text('#matched').split(',')[0], '2 matched', 'Enter on a function')
+            same(browser.text('#drawing-name'), 'callers and callees of tokenize', 'Enter on a function')
             break
     places = [place for place, _ in reached]
     wanted = ['sources', 'find', 'by', 'below', 'save-svg', 'save-png', 'print', 'help', 'lanes', 'picture', 'functions']
@@ -245,4 +331,4 @@ def first_run(check):
     same(Picture(check.browser).name(3, 0.9), 'tokenize', 'a box of the example')
 
 
-TESTS = [going_back, back_from_a_link, back_to_a_snapshot, dragging, widening, matches_in_turn, keys_alone, on_a_phone, in_wide_windows, first_run]
+TESTS = [going_back, back_from_a_link, back_to_a_snapshot, dragging, as_a_map, by_two_fingers, widening, matches_in_turn, keys_alone, on_a_phone, in_wide_windows, first_run]

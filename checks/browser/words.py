@@ -78,8 +78,7 @@ def functions(check):
     same(table(browser), [other, leaf, walk, main], 'rising')
     browser.click_on('th[data-key="name"] button')
     same(table(browser), [leaf, main, other, walk], 'by name')
-    browser.click_on('#functions tbody tr:nth-child(4) button')
-    same(browser.text('#matched'), '2 matched, 80%', 'a click searches')
+    same(search(browser, 'walk', 'name'), '2 matched, 80%', 'a search for a whole name')
     same(fragment(browser), '#find=walk&by=name', 'fragment')
     same([table(browser), browser.text('#functions-title')], [[leaf, main, other, walk], 'Functions'], 'a name that is searched for as a whole')
     marked = "[...document.querySelectorAll('#functions tr[aria-current] button')].map((button) => button.textContent)"

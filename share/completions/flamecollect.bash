@@ -10,7 +10,7 @@ _flamecollect() {
         --every|--focus|--hide|--least|--number|--ring|--title|--type|--width|-n) return ;;
     esac
     if [ "$COMP_CWORD" = 1 ]; then
-        COMPREPLY=($(compgen -W 'fold graph chart compare top diff types help -h --help -V --version' -- "$word"))
+        COMPREPLY=($(compgen -W 'fold graph chart compare top diff callers callees types help -h --help -V --version' -- "$word"))
         return
     fi
     case ${COMP_WORDS[1]} in
@@ -20,8 +20,10 @@ _flamecollect() {
         compare) options='--width --type --format --boxes --lines --quiet -h --help --focus --hide --ring --page --svg --title --root-below --least' ;;
         top) options='-n --number --by --json --type --format --lines --quiet -h --help --focus --hide --ring' ;;
         diff) options='-n --number --by --json --type --format --lines --quiet -h --help --focus --hide --ring' ;;
+        callers) options='-n --number --json --type --format --lines --quiet -h --help --focus --hide --ring' ;;
+        callees) options='-n --number --json --type --format --lines --quiet -h --help --focus --hide --ring' ;;
         types) options='-h --help' ;;
-        help) COMPREPLY=($(compgen -W 'fold graph chart compare top diff types' -- "$word")); return ;;
+        help) COMPREPLY=($(compgen -W 'fold graph chart compare top diff callers callees types' -- "$word")); return ;;
         *) return ;;
     esac
     case $word in

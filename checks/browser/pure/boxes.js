@@ -6,7 +6,7 @@ import { goneOf } from './page/gone.js';
 import { placeOver, placesOf, weighedTogether } from './page/places.js';
 import { ROW_HEIGHT, rowAt, rowTop, rowsOf } from './page/rows.js';
 import { isEitherCase, matchesIn, matchesOf, nameMatcher, neighbourByWeight, neighbourMatch } from './page/search.js';
-import { edgesOf, inRow, isInSpan, lanesOf, rowsInSpan, spanOf, weightInSpan } from './page/spans.js';
+import { edgesOf, inRow, isInSpan, lanesOf, moved, rowsInSpan, spanOf, weightInSpan, widened } from './page/spans.js';
 import { sumsOf } from './page/sums.js';
 import { boxesOf, forPages, holds, onPath, randomOf, randomSpan, same } from './random.js';
 
@@ -50,10 +50,10 @@ function nesting() {
             same([drawing.parent[box], drawing.end[box]], [path[1] ?? -1, after ?? drawing.count], `${what}, box ${box}`);
             const names = path.slice(0, -1).reverse().map((each) => page.names[drawing.name[each]]);
             same(pathOf(page, drawing, box), names, `${what}, path of ${box}`);
-            same(boxAt(page, drawing, names, drawing.start[box]), box, `${what}, box of the path of ${box}`);
-            same(boxAt(page, drawing, [...names, 'nothing', 'main'], drawing.start[box]), box, `${what}, the last on the way`);
+            same(boxAt(page, drawing, names, drawing.start[box], false), box, `${what}, box of the path of ${box}`);
+            same(boxAt(page, drawing, [...names, 'nothing', 'main'], drawing.start[box], false), box, `${what}, the last on the way`);
         }
-        const before = boxesOf(drawing).map((box) => bothWeights(page, drawing, box).before);
+        const before = boxesOf(drawing).map((box) => bothWeights(drawing, box).before);
         same(before, Array.from(page.view === 'compare' ? drawing.other : drawing.weight), `${what}: weights before`);
     });
 }
@@ -104,17 +104,45 @@ function spans() {
             const wanted = boxesOf(drawing).filter((box) => drawing.depth[box] === row && seen.has(box));
             same([...drawing.rows.order.slice(from, to)], wanted, `${what}: boxes of row ${row} in the span`);
         }
-        same(rowsInSpan(drawing, span), new Set([...seen].map((box) => drawing.depth[box])).size, `${what}: rows in the span`);
+        const rowsSeen = new Set([...seen].map((box) => drawing.depth[box]));
+        same(rowsInSpan(drawing, span), { first: 0, end: rowsSeen.size }, `${what}: rows in the span`);
         const numbers = page.sources.map((_, number) => number);
         const isSeen = ({ start, weight }) => countOf(span.from, span.to, (unit) => unit >= start && unit < start + weight) > 0;
-        same(lanesOf(page, span, 500).map((lane) => lane.number), page.view === 'chart' ? numbers.filter((each) => isSeen(page.sources[each])) : [],
+        same(lanesOf(page, drawing, span, 500).map((lane) => lane.number), page.view === 'chart' ? numbers.filter((each) => isSeen(page.sources[each])) : [],
              `${what}: sources in the span`);
         const box = random.below(drawing.count);
         const { start, weight } = page.sources[0];
-        const covered = { from: drawing.start[box], to: drawing.start[box] + drawing.weight[box], depth: drawing.depth[box] };
-        same(spanOf(page, drawing, { box, source: -1 }), covered, `${what}: span of ${box}`);
-        same(spanOf(page, drawing, { box, source: 0 }), { from: start, to: start + weight, depth: 0 }, `${what}: span of a source`);
+        const depth = drawing.depth[box];
+        const covered = { from: drawing.start[box], to: drawing.start[box] + drawing.weight[box], depth, row: depth };
+        same(spanOf(page, drawing, { box, source: -1, from: -1 }), covered, `${what}: span of ${box}`);
+        same(spanOf(page, drawing, { box: 0, source: -1, from: 1, to: 3 }), { from: 1, to: 3, depth: 0, row: 0 }, `${what}: span of a part`);
+        same(spanOf(page, drawing, { box, source: 0 }), { from: start, to: start + weight, depth: 0, row: 0 }, `${what}: span of a source`);
     });
+}
+
+// A part of a chart that is widened or moved: what stands at the place stays there, unless the part would begin or end outside of all.
+function parts() {
+    const random = randomOf(7);
+    for (let round = 0; round < 2000; round++) {
+        const total = 1 + Math.floor(10 ** (random.next() * 13));
+        const off = total < 1e9 ? 0.0011 : 1.1;
+        const from = Math.floor(random.next() * (total - 1));
+        const span = { from, to: from + 1 + Math.floor(random.next() * (total - from - 1)) };
+        const [place, times] = [random.next(), 2 ** (4 * random.next() - 2)];
+        const wide = widened(span, total, place, times);
+        const width = Math.min(total, Math.max(1, (span.to - span.from) * times));
+        const about = `${JSON.stringify(span)} of ${total}, ${times} times as wide at ${place}: ${JSON.stringify(wide)}`;
+        holds(wide.from >= 0 && wide.to <= total && wide.to - wide.from > 0.999, `${about}: outside`);
+        holds(Math.abs(wide.to - wide.from - width) <= 2 * off, `${about}: its width`);
+        const [before, after] = [span.from + place * (span.to - span.from), wide.from + place * width];
+        const isAtEdge = wide.from <= off || wide.to >= total - off;
+        holds(isAtEdge || Math.abs(before - after) <= 2 * off, `${about}: ${before} becomes ${after}`);
+        const by = 4 * random.next() - 2;
+        const away = moved(span, total, by);
+        const begin = Math.max(0, Math.min(total - (span.to - span.from), span.from + by * (span.to - span.from)));
+        holds(Math.abs(away.from - begin) <= off && Math.abs(away.to - begin - (span.to - span.from)) <= off, `${about}: moved by ${by}`);
+        holds(away.from >= 0 && away.to <= total, `${about}: moved outside`);
+    }
 }
 
 // The places of a row by their meaning: neighbours are together where both are narrower than a pixel and begin in the same.
@@ -250,7 +278,7 @@ function search() {
 function functions() {
     forPages(4, (page, random, what) => {
         const drawing = page.drawing(0);
-        const span = random.below(2) ? randomSpan(drawing, random) : spanOf(page, drawing, { box: 0, source: -1 });
+        const span = random.below(2) ? randomSpan(drawing, random) : spanOf(page, drawing, { box: 0, source: -1, from: -1 });
         const { own, total } = sumsOf(drawing, page.names.length, span);
         const wanted = page.names.map(() => [0, 0]);
         for (let unit = span.from; unit < span.to; unit++) {
@@ -278,4 +306,4 @@ function gone() {
     });
 }
 
-export const TESTS = { bisect, rows, nesting, shares, spans, places, painting, pointer, search, functions, gone };
+export const TESTS = { bisect, rows, nesting, shares, spans, parts, places, painting, pointer, search, functions, gone };

@@ -72,7 +72,8 @@ export function randomPage(random, view) {
     const parts = view === 'chart' ? [Math.floor(total / 3), 0, total - Math.floor(total / 3)] : drawings.map((each) => each.total);
     const sources = parts.map((weight, number) => ({ name: `source${number}`, type: '', unit: '', weight }));
     const whole = parts.reduce((sum, each) => sum + each);
-    return pageOf({ view, title: 'random', names: NAMES, sources, whole, drawings, ...(random.below(2) ? { root_below: true } : {}) });
+    const names = [...NAMES, 'nowhere'];
+    return pageOf({ view, title: 'random', names, sources, whole, drawings, ...(random.below(2) ? { root_below: true } : {}) });
 }
 
 // Does something with so many random pages of each view.
@@ -104,9 +105,11 @@ export function onPath(drawing, box) {
 // A part of a drawing: what a box covers, or any other.
 export function randomSpan(drawing, random) {
     const box = random.below(drawing.count);
-    if (random.below(3) > 0) return { from: drawing.start[box], to: drawing.start[box] + drawing.weight[box], depth: drawing.depth[box] };
+    if (random.below(3) > 0) {
+        return { from: drawing.start[box], to: drawing.start[box] + drawing.weight[box], depth: drawing.depth[box], row: drawing.row[box] };
+    }
     const from = random.below(drawing.total);
-    return { from, to: from + 1 + random.below(drawing.total - from), depth: 0 };
+    return { from, to: from + 1 + random.below(drawing.total - from), depth: 0, row: 0 };
 }
 
 export function same(found, wanted, what) {

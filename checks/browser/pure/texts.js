@@ -1,6 +1,7 @@
 // Tests of texts and colours: each function against a plain definition.
 
 import { fragmentOf, linkedOf, wordsOf, wordsOfStep } from './page/address.js';
+import { ticksOf } from './page/axis.js';
 import { LIGHT, changeShade, nameShade } from './page/colours.js';
 import { FONT, Lettering, PAD } from './page/lettering.js';
 import { beginning, shortened, visible } from './page/names.js';
@@ -82,6 +83,41 @@ function units() {
     same([commonUnit(sources.slice(0, 3)), commonUnit(sources), commonUnit([])], ['bytes', null, ''], 'the unit of all sources');
 }
 
+// The ticks of an axis: all multiples of a round step that have room, and no smaller step would leave room between them.
+function axis() {
+    const random = randomOf(6);
+    let many = 0;
+    for (let round = 0; round < 1500; round++) {
+        const unit = random.choose(['', 'count', 'samples', ...Object.keys(STEPS)]);
+        const from = random.choose([0, Math.floor(10 ** (random.next() * 12))]);
+        const to = from + 1 + Math.floor(10 ** (random.next() * 12));
+        const width = 50 + random.below(2000);
+        const sign = unit in STEPS ? weightText(to, unit).split(' ')[1] : unit === 'count' ? '' : unit;
+        const size = unit in STEPS ? STEPS[unit][sign] : 1;
+        const textOf = (number, power) => {
+            const [whole, rest] = number.toFixed(Math.max(0, -power)).split('.');
+            return [whole.replace(/(?<=[0-9])(?=([0-9]{3})+$)/g, ','), ...(rest ? [rest] : [])].join('.') + (sign ? ` ${sign}` : '');
+        };
+        const across = (number) => ((number * size - from) * width) / (to - from);
+        const wide = (power) => 7.5 * textOf(to / size, power).length;
+        let [power, times] = [-12, 1];
+        const step = () => Number(`${times}e${power}`);
+        while (across(step()) - across(0) < wide(power) + 24 || step() * size < 1) {
+            times = { 1: 2, 2: 5, 5: 1 }[times];
+            if (times === 1) power++;
+        }
+        const wanted = [];
+        for (let each = Math.ceil(from / size / step()); across(each * step()) + wide(power) <= width; each++) wanted.push(each * step());
+        const found = ticksOf({ view: 'chart', unit }, { centre: -1, count: 1 }, { from, to, depth: 0, row: 0 }, width);
+        const about = `${from} to ${to} ${unit} on ${width}`;
+        same(found.map(({ text }) => text), wanted.map((number) => textOf(number, power)), about);
+        found.forEach(({ left }, tick) => holds(Math.abs(left - across(wanted[tick])) < 1e-6 * width, `${about}: tick ${tick} at ${left}`));
+        many += Number(found.length > 3);
+    }
+    holds(many > 500, `${many} axes have more than three ticks`);
+    same(ticksOf({ view: 'graph', unit: '' }, { centre: -1, count: 1 }, { from: 0, to: 9, depth: 0, row: 0 }, 900), [], 'a graph goes by no time');
+}
+
 // The place of a name's colour, with whole numbers of any size.
 function plainShade(name) {
     let hash = 0n;
@@ -111,13 +147,21 @@ function colours() {
 function address() {
     forPages(12, (page, random, what) => {
         same(linkedOf(page, wordsOf('#share=1')).state.share, page.view === 'compare', `${what}: shares are of comparisons`);
+        same(linkedOf(page, wordsOf('#heavy=1')).state.heavy, page.view !== 'chart', `${what}: charts go by time`);
         for (let round = 0; round < 20; round++) {
             const number = random.below(page.drawingCount);
-            const drawing = page.drawing(number);
-            const source = page.view === 'chart' && random.below(4) === 0 ? random.choose([0, 2]) : -1;
+            const heavy = page.view !== 'chart' && random.below(2) === 0;
+            const called = random.below(2) ? random.below(page.names.length) : -1;
+            const callers = called >= 0 && page.arranged({ drawing: number, callers: called, heavy }).count > 0 ? called : -1;
+            const asked = linkedOf(page, wordsOf(`#callers=${encodeURIComponent(page.names[called] ?? 'nothing')}&drawing=${number}`));
+            same([asked.state.callers, asked.isDead], [callers, callers < 0], `${what}: callers of ${page.names[called]}`);
+            const drawing = page.arranged({ drawing: number, callers, heavy });
+            const source = page.view === 'chart' && callers < 0 && random.below(4) === 0 ? random.choose([0, 2]) : -1;
             const find = random.choose(['', 'a', 'é&=#%', ' \u2028/']);
+            const isPart = page.view === 'chart' && callers < 0 && source < 0 && random.below(3) === 0 && drawing.total > 2;
+            const [from, to] = isPart ? [random.below(1000 * (drawing.total - 2)) / 1000, drawing.total - random.below(1000) / 1000] : [-1, -1];
             const state = {
-                drawing: number, source, box: source >= 0 ? 0 : random.below(drawing.count), find,
+                drawing: number, callers, heavy, source, box: source >= 0 || isPart ? 0 : random.below(drawing.count), from, to, find,
                 by: find === '' ? 'text' : random.choose(['text', 'name', 'regexp']), order: random.choose(['place', 'weight']),
                 below: random.below(2) === 0,
                 lists: random.choose([-1, 0, 9999, random.below(2000)]), share: page.view === 'compare' && random.below(2) === 0,
@@ -125,13 +169,13 @@ function address() {
             const fragment = fragmentOf(page, { ...state, focus: 0 });
             holds(/^#[\x21-\x7e]*$/.test(fragment), `${what}: ${fragment}`);
             same(linkedOf(page, wordsOf(fragment)), { state, isDead: false }, `${what}: ${fragment}`);
-            const dead = fragment.replace(/zoom=([^&]*)/, 'zoom=$1/nothing');
+            const dead = fragment.replace(/(zoom|up)=([^&]*)/, '$1=$2/nothing');
             if (dead !== fragment) same(linkedOf(page, wordsOf(dead)), { state: { ...state, box: 0 }, isDead: true }, `${what}: ${dead}`);
-            const turned = { find: 'z', order: 'weight', below: !state.below, lists: 300, share: !state.share };
-            const other = fragmentOf(page, { ...state, ...turned, box: 0, source: -1, focus: 0 });
+            const turned = { find: 'z', order: 'weight', below: !state.below, lists: 300, share: !state.share, heavy: !state.heavy };
+            const other = fragmentOf(page, { ...state, ...turned, box: 0, source: -1, from: -1, to: -1, focus: 0 });
             const [made, now] = [wordsOf(fragment), wordsOf(other)];
             const wanted = { zoom: 'main', find: 'q', drawing: '0', root: 'below' };
-            for (const key of ['find', 'by', 'order', 'drawing', 'root', 'lists', 'share']) {
+            for (const key of ['find', 'by', 'order', 'drawing', 'root', 'lists', 'share', 'heavy']) {
                 if (made.get(key) !== now.get(key)) wanted[key] = now.get(key);
             }
             same([...wordsOfStep('#zoom=main&find=q&drawing=0&root=below', fragment, other)],
@@ -174,4 +218,4 @@ function lettering() {
     holds(cut > 100, `${cut} are cut`);
 }
 
-export const TESTS = { names, units, colours, address, lettering };
+export const TESTS = { names, units, axis, colours, address, lettering };

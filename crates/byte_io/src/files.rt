@@ -45,9 +45,13 @@ pub trait Files {
         None
     }
 
-    /// Whether the input is a terminal, where someone has to type it.
-    fn is_input_terminal(&self) -> bool;
+    /// Whether the input is a terminal, where someone has to type it. Unless an implementation knows, it is none.
+    fn is_input_terminal(&self) -> bool {
+        false
+    }
 
-    /// Whether standard error is a terminal, where a line can be written over.
-    fn is_error_terminal(&self) -> bool;
+    /// Whether standard error is a terminal, where a line can be written over. Unless an implementation knows, it is none.
+    fn is_error_terminal(&self) -> bool {
+        false
+    }
 }

@@ -63,6 +63,7 @@ argument_is_simple argument.Svg = refl
 argument_is_simple argument.Title = refl
 argument_is_simple argument.RootBelow = refl
 argument_is_simple argument.Least = refl
+argument_is_simple argument.Function = refl
 argument_is_simple argument.Files = refl
 argument_is_simple argument.Before = refl
 argument_is_simple argument.After = refl
@@ -86,6 +87,8 @@ with_all_arguments subcommand.Chart = refl
 with_all_arguments subcommand.Compare = refl
 with_all_arguments subcommand.Top = refl
 with_all_arguments subcommand.Diff = refl
+with_all_arguments subcommand.Callers = refl
+with_all_arguments subcommand.Callees = refl
 with_all_arguments subcommand.Types = refl
 
 -- `Command::bin_name`, of whose clause `P` is the rest
@@ -107,6 +110,8 @@ command_is_plain subcommand.Chart = refl
 command_is_plain subcommand.Compare = refl
 command_is_plain subcommand.Top = refl
 command_is_plain subcommand.Diff = refl
+command_is_plain subcommand.Callers = refl
+command_is_plain subcommand.Callees = refl
 command_is_plain subcommand.Types = refl
 
 -- `Command::subcommand`, of one of the commands

@@ -16,7 +16,8 @@ use Rattle.clap.specs.declared.error.kind.ErrorKind.TheVariants as kind
 use Rattle.clap.specs.declared.parser.matches.ArgMatches.{ArgMatches}
 use Rattle.command_line.specs.CommandLine.{command_line}
 use Rattle.command_line.specs.checked.Entries.{IsFaultOf, IsNumberAt, IsRead, compares}
-use Rattle.command_line.specs.Plans.{IsComparison, IsDrawn, IsFaultAmong, IsOfOneProfile, IsPage, IsPicture, IsRequest, command_plan, compared_view, entered_plan, entries_fault, fault_of, form_of, has_conflict, has_its_form, has_its_page, is_set, is_used, knows_format, knows_order, number_at, own_fault, page_of, picture_of, plan_with, table_of, types_plan, view_of, width_of}
+use Rattle.command_line.specs.Plans.{IsComparison, IsDrawn, IsFaultAmong, IsOfOneProfile, IsPage, IsPicture, IsRequest, call_table_of, command_plan, compared_view, entered_plan, entries_fault, fault_of, form_of, has_conflict, has_its_form, has_its_page, is_set, is_used, knows_format, knows_order, number_at, own_fault, page_of, picture_of, plan_with, table_of, text_form, types_plan, view_of, width_of}
+use Rattle.command_line.specs.declared.plans.Form.{Form}
 use Rattle.command_line.specs.declared.plans.Form.TheVariants as form
 use Rattle.command_line.specs.declared.arguments.TheConstants.{MOST_BETWEEN_SNAPSHOTS}
 use Rattle.command_line.specs.declared.plans.Plan.{Plan}
@@ -49,22 +50,23 @@ entered_reads words none (Some p) is = reads words none p.0 p.1 (sym is)
 comparison_named : (name : Text) (entries : List Row) (view : View) → view_of name entries ≡ Some view → IsComparison view
     → compares name ≡ true
 comparison_named name entries view is comparing =
-    go (bytes_eq name (codes "fold")) (bytes_eq name (codes "graph")) (bytes_eq name (codes "chart")) (bytes_eq name (codes "compare")) (bytes_eq name (codes "top")) (bytes_eq name (codes "diff")) is
+    go (bytes_eq name (codes "fold")) (bytes_eq name (codes "graph")) (bytes_eq name (codes "chart")) (bytes_eq name (codes "compare")) (bytes_eq name (codes "top")) (bytes_eq name (codes "diff")) (bytes_eq name (codes "callers") || bytes_eq name (codes "callees")) is
   where
     same : (v : View) → Some v ≡ Some view → IsComparison v
     same v e = subst IsComparison (sym (ap (λ (o : Option View). unwrap_or o view) e)) comparing
 
-    go : (fold graph chart compare top diff : Bool)
+    go : (fold graph chart compare top diff calls : Bool)
         → cond fold (Some Fold) (cond graph (Some (Graph (width_of entries))) (cond chart (Some (Chart (width_of entries)))
-        (cond compare (Some (compared_view entries)) (cond top (Some (Top (table_of entries))) (cond diff (Some (Diff (table_of entries))) None))))) ≡ Some view
+        (cond compare (Some (compared_view entries)) (cond top (Some (Top (table_of entries))) (cond diff (Some (Diff (table_of entries))) (cond calls (Some Fold) None)))))) ≡ Some view
         → (compare || diff) ≡ true
-    go true graph chart compare top diff e = absurd (same Fold e)
-    go false true chart compare top diff e = absurd (same (Graph (width_of entries)) e)
-    go false false true compare top diff e = absurd (same (Chart (width_of entries)) e)
-    go false false false true top diff e = refl
-    go false false false false true diff e = absurd (same (Top (table_of entries)) e)
-    go false false false false false true e = refl
-    go false false false false false false e = cc
+    go true graph chart compare top diff calls e = absurd (same Fold e)
+    go false true chart compare top diff calls e = absurd (same (Graph (width_of entries)) e)
+    go false false true compare top diff calls e = absurd (same (Chart (width_of entries)) e)
+    go false false false true top diff calls e = refl
+    go false false false false true diff calls e = absurd (same (Top (table_of entries)) e)
+    go false false false false false true calls e = refl
+    go false false false false false false true e = absurd (same Fold e)
+    go false false false false false false false e = cc
 
 number_in_range : (id : Text) (most : ℕ) (entries : List Row) → IsNumberAt id most entries
     → IfSome (number_at id entries) (λ n. (1 ≤ n) × (n ≤ most))
@@ -92,50 +94,66 @@ unused_number entries id = go (find (λ r. bytes_eq r.id id) entries)
     go None e = refl
     go (Some r) e = absurd (true≢false e)
 
-page_is_drawn : (entries : List Row) (view : View) → (is_set (codes "page") entries ≡ true → IsDrawn view) → IsPage (form_of entries) → IsDrawn view
-page_is_drawn entries view drawn = go (is_set (codes "page") entries) (is_set (codes "svg") entries) refl
+-- what is written where no page and no picture is asked for is none
+no_form_of_text : (name : Text) (entries : List Row) (P : Form → Type 0) → P form.Text → (P (form.Callers (call_table_of entries))) → (P (form.Callees (call_table_of entries)))
+    → P (text_form name entries)
+no_form_of_text name entries P text callers callees = go (bytes_eq name (codes "callers")) (bytes_eq name (codes "callees"))
   where
-    go : (page svg : Bool) → is_set (codes "page") entries ≡ page → IsPage (cond page (form.Page (page_of entries)) (cond svg (form.Picture (picture_of entries)) form.Text)) → IsDrawn view
+    go : (up down : Bool) → P (cond up (form.Callers (call_table_of entries)) (cond down (form.Callees (call_table_of entries)) form.Text))
+    go true down = callers
+    go false true = callees
+    go false false = text
+
+no_page : (name : Text) (entries : List Row) → IsPage (text_form name entries) → ⊥
+no_page name entries = no_form_of_text name entries (λ written. IsPage written → ⊥) (λ page. page) (λ page. page) (λ page. page)
+
+no_picture : (name : Text) (entries : List Row) → IsPicture (text_form name entries) → ⊥
+no_picture name entries = no_form_of_text name entries (λ written. IsPicture written → ⊥) (λ picture. picture) (λ picture. picture) (λ picture. picture)
+
+page_is_drawn : (name : Text) (entries : List Row) (view : View) → (is_set (codes "page") entries ≡ true → IsDrawn view) → IsPage (form_of name entries) → IsDrawn view
+page_is_drawn name entries view drawn = go (is_set (codes "page") entries) (is_set (codes "svg") entries) refl
+  where
+    go : (page svg : Bool) → is_set (codes "page") entries ≡ page → IsPage (cond page (form.Page (page_of entries)) (cond svg (form.Picture (picture_of entries)) (text_form name entries))) → IsDrawn view
     go true svg set page = drawn set
     go false true set page = absurd page
-    go false false set page = absurd page
+    go false false set page = absurd (no_page name entries page)
 
 -- a picture is asked for by `--svg`
-picture_is_set : (entries : List Row) → IsPicture (form_of entries) → is_set (codes "svg") entries ≡ true
-picture_is_set entries = go (is_set (codes "page") entries) (is_set (codes "svg") entries) refl
+picture_is_set : (name : Text) (entries : List Row) → IsPicture (form_of name entries) → is_set (codes "svg") entries ≡ true
+picture_is_set name entries = go (is_set (codes "page") entries) (is_set (codes "svg") entries) refl
   where
-    go : (page svg : Bool) → is_set (codes "svg") entries ≡ svg → IsPicture (cond page (form.Page (page_of entries)) (cond svg (form.Picture (picture_of entries)) form.Text))
+    go : (page svg : Bool) → is_set (codes "svg") entries ≡ svg → IsPicture (cond page (form.Page (page_of entries)) (cond svg (form.Picture (picture_of entries)) (text_form name entries)))
         → is_set (codes "svg") entries ≡ true
     go true svg is picture = absurd picture
     go false true is picture = is
-    go false false is picture = absurd picture
+    go false false is picture = absurd (no_picture name entries picture)
 
 -- beside it stand no snapshots
-picture_has_no_snapshots : (entries : List Row) → has_conflict entries ≡ false → IsPicture (form_of entries) → number_at (codes "every") entries ≡ None
-picture_has_no_snapshots entries alone picture =
-    unused_number entries (codes "every") (go (is_set (codes "page") entries) (is_used (codes "every") entries) (is_used (codes "least") entries) (ap (λ svg. svg && (is_set (codes "page") entries || (is_used (codes "every") entries || is_used (codes "least") entries))) (sym (picture_is_set entries picture)) ∙ alone))
+picture_has_no_snapshots : (name : Text) (entries : List Row) → has_conflict entries ≡ false → IsPicture (form_of name entries) → number_at (codes "every") entries ≡ None
+picture_has_no_snapshots name entries alone picture =
+    unused_number entries (codes "every") (go (is_set (codes "page") entries) (is_used (codes "every") entries) (is_used (codes "least") entries) (ap (λ svg. svg && (is_set (codes "page") entries || (is_used (codes "every") entries || is_used (codes "least") entries))) (sym (picture_is_set name entries picture)) ∙ alone))
   where
     go : (page every least : Bool) → (page || (every || least)) ≡ false → every ≡ false
     go true every least e = absurd (true≢false e)
     go false true least e = absurd (true≢false e)
     go false false least e = refl
 
-shows_no_types : (entries : List Row) (P : Type 0) → form_of entries ≡ form.Types → P
-shows_no_types entries P = go (is_set (codes "page") entries) (is_set (codes "svg") entries)
+shows_no_types : (name : Text) (entries : List Row) (P : Type 0) → form_of name entries ≡ form.Types → P
+shows_no_types name entries P = go (is_set (codes "page") entries) (is_set (codes "svg") entries)
   where
-    go : (page svg : Bool) → cond page (form.Page (page_of entries)) (cond svg (form.Picture (picture_of entries)) form.Text) ≡ form.Types → P
+    go : (page svg : Bool) → cond page (form.Page (page_of entries)) (cond svg (form.Picture (picture_of entries)) (text_form name entries)) ≡ form.Types → P
     go true svg e = cc
     go false true e = cc
-    go false false e = cc
+    go false false e = no_form_of_text name entries (λ written. written ≡ form.Types → P) (λ e. cc) (λ e. cc) (λ e. cc) e
 
-view_asks : (name : Text) (entries : List Row) (view : View) → IsRead name entries → has_conflict entries ≡ false → view_of name entries ≡ Some view → Asks (plan_with entries view)
+view_asks : (name : Text) (entries : List Row) (view : View) → IsRead name entries → has_conflict entries ≡ false → view_of name entries ≡ Some view → Asks (plan_with name entries view)
 view_asks name entries view read alone known = record {
   pair = λ compares. read.pair (comparison_named name entries view known compares);
   every = number_in_range (codes "every") MOST_BETWEEN_SNAPSHOTS entries read.every;
-  page = page_is_drawn entries view (λ set. subst (λ (o : Option View). IfSome o IsDrawn) known (read.drawn set));
-  picture = λ picture. subst (λ (o : Option View). IfSome o IsDrawn) known (read.pictured (picture_is_set entries picture));
-  alone = picture_has_no_snapshots entries alone;
-  types = shows_no_types entries _;
+  page = page_is_drawn name entries view (λ set. subst (λ (o : Option View). IfSome o IsDrawn) known (read.drawn set));
+  picture = λ picture. subst (λ (o : Option View). IfSome o IsDrawn) known (read.pictured (picture_is_set name entries picture));
+  alone = picture_has_no_snapshots name entries alone;
+  types = shows_no_types name entries _;
 }
 
 types_asks : (name : Text) (entries : List Row) → IsRead name entries → bytes_eq name (codes "types") ≡ true → Asks (types_plan entries)
@@ -172,11 +190,11 @@ command_asks name entries plan read is = of_name (bytes_eq name (codes "types"))
     same : (p : Plan) → Some p ≡ Some plan → Asks p → Asks plan
     same p e asks = subst Asks (ap (λ (o : Option Plan). unwrap_or o p) e) asks
 
-    of_view : (view : Option View) → view_of name entries ≡ view → option_map (plan_with entries) view ≡ Some plan → Asks plan
+    of_view : (view : Option View) → view_of name entries ≡ view → option_map (plan_with name entries) view ≡ Some plan → Asks plan
     of_view None known at = cc
-    of_view (Some view) known at = same (plan_with entries view) at (view_asks name entries view read alone known)
+    of_view (Some view) known at = same (plan_with name entries view) at (view_asks name entries view read alone known)
 
-    of_name : (b : Bool) → bytes_eq name (codes "types") ≡ b → cond b (Some (types_plan entries)) (option_map (plan_with entries) (view_of name entries)) ≡ Some plan → Asks plan
+    of_name : (b : Bool) → bytes_eq name (codes "types") ≡ b → cond b (Some (types_plan entries)) (option_map (plan_with name entries) (view_of name entries)) ≡ Some plan → Asks plan
     of_name true named at = same (types_plan entries) at (types_asks name entries read named)
     of_name false named at = of_view (view_of name entries) refl at
 
@@ -235,7 +253,7 @@ pub without_fault : (entries : List Row) → knows_format entries ≡ true → k
 without_fault entries format order alone page formed = rw (format, order, alone, page, formed) refl
 
 pub planned_command : (name : Text) (entries : List Row) (o : Option Plan) → entries_fault entries ≡ []
-    → cond (bytes_eq name (codes "types")) (Some (types_plan entries)) (option_map (plan_with entries) (view_of name entries)) ≡ o
+    → cond (bytes_eq name (codes "types")) (Some (types_plan entries)) (option_map (plan_with name entries) (view_of name entries)) ≡ o
     → command_plan name entries ≡ o
 planned_command name entries o none is = rw none is
 

@@ -288,8 +288,14 @@ built_top = slice_index_or built_line.subs 4 no_shape
 abbrev built_diff : Shape
 built_diff = slice_index_or built_line.subs 5 no_shape
 
+abbrev built_callers : Shape
+built_callers = slice_index_or built_line.subs 6 no_shape
+
+abbrev built_callees : Shape
+built_callees = slice_index_or built_line.subs 7 no_shape
+
 abbrev built_types : Shape
-built_types = slice_index_or built_line.subs 6 no_shape
+built_types = slice_index_or built_line.subs 8 no_shape
 
 fold_known : KnowsArguments built_fold.rules
 fold_known = record {
@@ -393,6 +399,26 @@ diff_known = record {
   least = tt;
 }
 
+callers_known : KnowsArguments built_callers.rules
+callers_known = record {
+  firsts = (refl, (refl, (refl, (refl, (refl, (refl, (refl, (refl, (refl, (refl, (refl, (refl, tt))))))))))));
+  width = tt;
+  ring = refl;
+  every = tt;
+  lines = refl;
+  boxes = tt;
+  rows = refl;
+  json = refl;
+  quiet = refl;
+  page = tt;
+  svg = tt;
+  below = tt;
+  least = tt;
+}
+
+callees_known : KnowsArguments built_callees.rules
+callees_known = callers_known
+
 types_known : KnowsArguments built_types.rules
 types_known = record {
   firsts = (refl, (refl, tt));
@@ -440,6 +466,20 @@ top_reads = (
   refl,
   λ words other fault. reads_command built_top top_known refl words fault (λ _. refl) (not_named _)
       (draws_none built_top top_known refl words fault (codes "page") _ refl) (draws_none built_top top_known refl words fault (codes "svg") _ refl) (not_named _),
+)
+
+callers_reads : ReadsCommand built_callers
+callers_reads = (
+  refl,
+  λ words other fault. reads_command built_callers callers_known refl words fault (λ _. refl) (not_named _)
+      (draws_none built_callers callers_known refl words fault (codes "page") _ refl) (draws_none built_callers callers_known refl words fault (codes "svg") _ refl) (not_named _),
+)
+
+callees_reads : ReadsCommand built_callees
+callees_reads = (
+  refl,
+  λ words other fault. reads_command built_callees callees_known refl words fault (λ _. refl) (not_named _)
+      (draws_none built_callees callees_known refl words fault (codes "page") _ refl) (draws_none built_callees callees_known refl words fault (codes "svg") _ refl) (not_named _),
 )
 
 both_given : (before after : Bool) → (not before || (not after || false)) ≡ false → (before ≡ true) × (after ≡ true)
@@ -516,11 +556,11 @@ types_reads = (
         let given = one_given (is_given (codes "file") found) (checks_pass false false wants (checked built_types types_known refl words fault)).1 in
         single_at built_types.rules found each _ refl (refl, refl, refl, refl) given refl refl
 
-help_reads : ReadsCommand (slice_index_or built_line.subs 7 no_shape)
+help_reads : ReadsCommand (slice_index_or built_line.subs 9 no_shape)
 help_reads = (refl, λ words other fault. absurd (true≢false other))
 
 commands_read : Each ReadsCommand built_line.subs
-commands_read = (fold_reads, (graph_reads, (chart_reads, (compare_reads, (top_reads, (diff_reads, (types_reads, (help_reads, tt))))))))
+commands_read = (fold_reads, (graph_reads, (chart_reads, (compare_reads, (top_reads, (diff_reads, (callers_reads, (callees_reads, (types_reads, (help_reads, tt))))))))))
 
 -- ---- the command line
 

@@ -15,7 +15,7 @@ use Rattle.command_line.specs.checked.Entries.{IsCountAt, IsFlagAt, IsNumberAt, 
 use Rattle.run_options.specs.Formats.{named_format}
 use Rattle.run_options.specs.Orders.{named_order}
 use Rattle.run_options.specs.declared.orders.FunctionOrder.TheVariants.{Own}
-use Rattle.command_line.specs.Plans.{asked_format, form_of, has_conflict, has_its_form, has_its_page, is_drawn, is_root_below, is_set, is_used, knows_format, knows_order, number_at, order_of, page_of, pick_of, picture_of, shows_boxes, title_of, values_at}
+use Rattle.command_line.specs.Plans.{asked_format, form_of, function_of, has_conflict, has_its_form, has_its_page, is_drawn, is_root_below, is_set, is_used, knows_format, knows_order, number_at, order_of, page_of, pick_of, picture_of, shows_boxes, text_form, title_of, values_at}
 use Rattle.command_line.specs.declared.plans.Form.TheVariants as form
 
 -- how `u32` reads a text
@@ -118,6 +118,9 @@ order_given m name is =
 pub title_given : (m : ArgMatches) (name : Option Text) → name ≡ first_value (found_of m) (codes "title") → title_of (entries_of m) ≡ name
 title_given m name is = sym (first_value-rows (found_of m) (codes "title")) ∙ sym is
 
+pub function_given : (m : ArgMatches) (name : Option Text) → name ≡ first_value (found_of m) (codes "function") → function_of (entries_of m) ≡ unwrap_or name []
+function_given m name is = ap (λ o. unwrap_or o []) (sym (first_value-rows (found_of m) (codes "function")) ∙ sym is)
+
 -- `contains_id`
 pub used_given : (m : ArgMatches) (id : Text) (r : Bool) → r ≡ is_some (matched_of (found_of m) id) → r ≡ is_used id (entries_of m)
 used_given m id r is = is ∙ mapped (matched_of (found_of m) id) ∙ ap is_some (raw_values-rows (found_of m) id)
@@ -128,14 +131,14 @@ used_given m id r is = is ∙ mapped (matched_of (found_of m) id) ∙ ap is_some
 
 -- ---- pages and pictures
 
-pub paged : (entries : List Row) → is_set (codes "page") entries ≡ true → form_of entries ≡ form.Page (page_of entries)
-paged entries set = rw set refl
+pub paged : (name : Text) (entries : List Row) → is_set (codes "page") entries ≡ true → form_of name entries ≡ form.Page (page_of entries)
+paged name entries set = rw set refl
 
-pub pictured : (entries : List Row) → is_set (codes "page") entries ≡ false → is_set (codes "svg") entries ≡ true → form_of entries ≡ form.Picture (picture_of entries)
-pictured entries unset set = rw (unset, set) refl
+pub pictured : (name : Text) (entries : List Row) → is_set (codes "page") entries ≡ false → is_set (codes "svg") entries ≡ true → form_of name entries ≡ form.Picture (picture_of entries)
+pictured name entries unset set = rw (unset, set) refl
 
-pub written : (entries : List Row) → is_set (codes "page") entries ≡ false → is_set (codes "svg") entries ≡ false → form_of entries ≡ form.Text
-written entries unset unpictured = rw (unset, unpictured) refl
+pub written : (name : Text) (entries : List Row) → is_set (codes "page") entries ≡ false → is_set (codes "svg") entries ≡ false → form_of name entries ≡ text_form name entries
+written name entries unset unpictured = rw (unset, unpictured) refl
 
 -- what a picture excludes
 pub no_picture : (entries : List Row) → is_set (codes "svg") entries ≡ false → has_conflict entries ≡ false

@@ -108,6 +108,25 @@ no_page_of_a_diff : fault_of command_line (codes "diff" ∷ codes "--page" ∷ c
 unfolding clap_on_literals
 no_page_of_a_diff = refl
 
+callers_of_a_function : plan_of (codes "callers" ∷ codes "f g" ∷ [])
+    ≡ Some (record (plan_with Fold defaults []) { form = form.Callers (record { name = codes "f g"; rows = 10; is_json = false }) })
+unfolding clap_on_literals
+callers_of_a_function = refl
+
+callees_with_options : plan_of (codes "callees" ∷ codes "--json" ∷ codes "f" ∷ codes "-n" ∷ codes "3" ∷ codes "x" ∷ codes "--hide" ∷ codes "c" ∷ codes "y" ∷ [])
+    ≡ Some (record (plan_with Fold (record defaults { filter = record { focus = []; hide = codes "c" ∷ [] } }) (codes "x" ∷ codes "y" ∷ []))
+    { form = form.Callees (record { name = codes "f"; rows = 3; is_json = true }) })
+unfolding clap_on_literals
+callees_with_options = refl
+
+callers_of_none : fault_of command_line (codes "callers" ∷ codes "--json" ∷ []) ≡ kind.MissingRequiredArgument ∷ []
+unfolding clap_on_literals
+callers_of_none = refl
+
+no_order_of_callers : fault_of command_line (codes "callers" ∷ codes "--by" ∷ codes "own" ∷ codes "f" ∷ []) ≡ kind.UnknownArgument ∷ []
+unfolding clap_on_literals
+no_order_of_callers = refl
+
 quiet_fold : plan_of (codes "fold" ∷ codes "--quiet" ∷ []) ≡ Some (record (plan_with Fold defaults []) { is_quiet = true })
 unfolding clap_on_literals
 quiet_fold = refl

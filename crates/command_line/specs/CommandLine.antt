@@ -24,12 +24,12 @@ texts_option name =
 abbrev pub flag : Text → Rule
 flag name = record (new_rule name) { long = Some name; action = Some SetTrue }
 
--- any number of files, and one file that has to be there
+-- any number of files, and one value that has to be there: a file, or a name
 abbrev pub any_files : Text → Rule
 any_files name = record (new_rule name) { value_names = 1; action = Some Append }
 
-abbrev pub one_file : Text → Rule
-one_file name = record (new_rule name) { value_names = 1; required = true }
+abbrev pub one_value : Text → Rule
+one_value name = record (new_rule name) { value_names = 1; required = true }
 
 abbrev pub width_option : Rule
 width_option = number_option (codes "width") MAX_WIDTH
@@ -109,7 +109,7 @@ abbrev pub compare_command : Shape
 compare_command = command (codes "compare") (width_option ∷ type_option ∷ format_option
     ∷ focus_option ∷ hide_option ∷ ring_option ∷ boxes_flag ∷ lines_flag ∷ quiet_flag
     ∷ page_flag ∷ svg_flag ∷ title_option ∷ root_below_flag ∷ least_option
-    ∷ one_file (codes "before") ∷ one_file (codes "after") ∷ [])
+    ∷ one_value (codes "before") ∷ one_value (codes "after") ∷ [])
 
 abbrev pub top_command : Shape
 top_command = command (codes "top") (rows_option ∷ by_option ∷ json_flag ∷ type_option ∷ format_option
@@ -118,10 +118,22 @@ top_command = command (codes "top") (rows_option ∷ by_option ∷ json_flag ∷
 abbrev pub diff_command : Shape
 diff_command = command (codes "diff") (rows_option ∷ by_option ∷ json_flag ∷ type_option ∷ format_option
     ∷ focus_option ∷ hide_option ∷ ring_option ∷ lines_flag ∷ quiet_flag
-    ∷ one_file (codes "before") ∷ one_file (codes "after") ∷ [])
+    ∷ one_value (codes "before") ∷ one_value (codes "after") ∷ [])
+
+-- the name comes before the files
+abbrev pub calls_command : Text → Shape
+calls_command name = command name (rows_option ∷ json_flag ∷ type_option ∷ format_option
+    ∷ focus_option ∷ hide_option ∷ ring_option ∷ lines_flag ∷ quiet_flag
+    ∷ one_value (codes "function") ∷ any_files (codes "file") ∷ [])
+
+abbrev pub callers_command : Shape
+callers_command = calls_command (codes "callers")
+
+abbrev pub callees_command : Shape
+callees_command = calls_command (codes "callees")
 
 abbrev pub types_command : Shape
-types_command = command (codes "types") (one_file (codes "file") ∷ [])
+types_command = command (codes "types") (one_value (codes "file") ∷ [])
 
 -- the words begin after the program's name, one of the commands is required, and the version can be asked for before it
 abbrev pub command_line : App
@@ -133,5 +145,5 @@ command_line = record {
     subcommand_required = true;
   };
   subs = fold_command ∷ graph_command ∷ chart_command ∷ compare_command ∷ top_command ∷ diff_command
-      ∷ types_command ∷ [];
+      ∷ callers_command ∷ callees_command ∷ types_command ∷ [];
 }

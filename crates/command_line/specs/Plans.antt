@@ -24,6 +24,7 @@ use Rattle.run_options.specs.declared.options.Options.{Options}
 use Rattle.run_options.specs.declared.orders.FunctionOrder.{FunctionOrder}
 use Rattle.run_options.specs.declared.orders.FunctionOrder.TheVariants.{Own}
 use Rattle.command_line.specs.CommandLine.{command_line}
+use Rattle.command_line.specs.declared.plans.CallTable.{CallTable}
 use Rattle.command_line.specs.declared.plans.Form.{Form}
 use Rattle.command_line.specs.declared.plans.Form.TheVariants as form
 use Rattle.command_line.specs.declared.plans.PageForm.{PageForm}
@@ -122,6 +123,18 @@ table_of entries = record {
   is_json = is_set (codes "json") entries;
 }
 
+-- a function, and how much is told of its calls
+abbrev pub function_of : List Row → Text
+function_of entries = unwrap_or (first_of (codes "function") entries) []
+
+abbrev pub call_table_of : List Row → CallTable
+call_table_of entries = record {
+  name = function_of entries;
+  rows = rows_of entries;
+  is_json = is_set (codes "json") entries;
+}
+
+-- the two commands that tell the calls of a function show no view: the plan has that of `fold`
 abbrev pub view_of : Text → List Row → Option View
 view_of name entries =
     if bytes_eq name (codes "fold") then Some Fold
@@ -129,9 +142,10 @@ view_of name entries =
     else (if bytes_eq name (codes "chart") then Some (Chart (width_of entries))
     else (if bytes_eq name (codes "compare") then Some (compared_view entries)
     else (if bytes_eq name (codes "top") then Some (Top (table_of entries))
-    else (if bytes_eq name (codes "diff") then Some (Diff (table_of entries)) else None)))))
+    else (if bytes_eq name (codes "diff") then Some (Diff (table_of entries))
+    else (if bytes_eq name (codes "callers") || bytes_eq name (codes "callees") then Some Fold else None))))))
 
--- what is written of the view: its text, or a page or a picture with what the words say of it
+-- what is written: a page or a picture with what the words say of it, else the calls of a function, or the text of the view
 abbrev pub title_of : List Row → Option Text
 title_of entries = first_of (codes "title") entries
 
@@ -148,10 +162,15 @@ page_of entries = record {
 abbrev pub picture_of : List Row → PictureForm
 picture_of entries = record { title = title_of entries; is_root_below = is_root_below entries }
 
-abbrev pub form_of : List Row → Form
-form_of entries =
+abbrev pub text_form : Text → List Row → Form
+text_form name entries =
+    if bytes_eq name (codes "callers") then form.Callers (call_table_of entries)
+    else (if bytes_eq name (codes "callees") then form.Callees (call_table_of entries) else form.Text)
+
+abbrev pub form_of : Text → List Row → Form
+form_of name entries =
     if is_set (codes "page") entries then form.Page (page_of entries)
-    else (if is_set (codes "svg") entries then form.Picture (picture_of entries) else form.Text)
+    else (if is_set (codes "svg") entries then form.Picture (picture_of entries) else text_form name entries)
 
 -- a picture is no page, has no snapshots, and leaves boxes out by its width alone
 abbrev pub has_conflict : List Row → Bool
@@ -171,14 +190,14 @@ abbrev pub files_of : List Row → List Text
 files_of entries = values_at (codes "file") entries
     ++ (values_at (codes "before") entries ++ values_at (codes "after") entries)
 
--- the plan of a view
-abbrev pub plan_with : List Row → View → Plan
-plan_with entries view = record {
+-- the plan of a command that shows a view, or the calls of a function
+abbrev pub plan_with : Text → List Row → View → Plan
+plan_with name entries view = record {
   view = view;
   options = options_of entries;
   format = asked_format entries;
   files = files_of entries;
-  form = form_of entries;
+  form = form_of name entries;
   is_quiet = is_set (codes "quiet") entries;
 }
 
@@ -206,7 +225,7 @@ entries_fault entries =
 abbrev pub command_plan : Text → List Row → Option Plan
 command_plan name entries =
     if is_empty (entries_fault entries) then (if bytes_eq name (codes "types") then Some (types_plan entries)
-    else option_map (plan_with entries) (view_of name entries))
+    else option_map (plan_with name entries) (view_of name entries))
     else None
 
 -- the plan of the command that was entered
@@ -219,7 +238,7 @@ plan_of words = entered_plan (subcommand_of command_line words)
 
 -- the plan without words: the input is folded, and each option has its default
 abbrev pub default_plan : Plan
-default_plan = plan_with [] Fold
+default_plan = plan_with (codes "fold") [] Fold
 
 -- two files are compared
 abbrev pub IsComparison : View → Type 0
@@ -247,6 +266,8 @@ IsPage form.Text = ⊥
 IsPage (form.Page page) = Unit {0}
 IsPage (form.Picture picture) = ⊥
 IsPage form.Types = ⊥
+IsPage (form.Callers table) = ⊥
+IsPage (form.Callees table) = ⊥
 
 -- a picture is written
 abbrev pub IsPicture : Form → Type 0
@@ -254,6 +275,8 @@ IsPicture form.Text = ⊥
 IsPicture (form.Page page) = ⊥
 IsPicture (form.Picture picture) = Unit {0}
 IsPicture form.Types = ⊥
+IsPicture (form.Callers table) = ⊥
+IsPicture (form.Callees table) = ⊥
 
 -- the plan reads one profile, with the default options
 abbrev pub IsOfOneProfile : Plan → Type 0

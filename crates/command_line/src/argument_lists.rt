@@ -5,7 +5,7 @@ ghost use Rattle.command_line.specs.checked.Commands.{rule_at};
 
 use crate::arguments::{
     MOST_BETWEEN_SNAPSHOTS, files, filter_option, flag, form_flag, least_option, number_option,
-    one_file, ring_option, rows_option, text_option, title_option,
+    one_value, ring_option, rows_option, text_option, title_option,
 };
 use clap::Arg;
 use run_options::MAX_WIDTH;
@@ -31,6 +31,7 @@ pub(crate) enum Argument {
     Title,
     RootBelow,
     Least,
+    Function,
     Files,
     Before,
     After,
@@ -131,6 +132,20 @@ pub(crate) const DIFF: &[Argument] = &[
     Argument::After,
 ];
 
+pub(crate) const CALLS: &[Argument] = &[
+    Argument::Rows,
+    Argument::Json,
+    Argument::Type,
+    Argument::Format,
+    Argument::Focus,
+    Argument::Hide,
+    Argument::Ring,
+    Argument::Lines,
+    Argument::Quiet,
+    Argument::Function,
+    Argument::Files,
+];
+
 pub(crate) const TYPES: &[Argument] = &[Argument::Profile];
 
 impl Argument {
@@ -157,6 +172,7 @@ impl Argument {
             Argument::Title => "Title of the page or the SVG",
             Argument::RootBelow => "Draw the root below in the page or the SVG",
             Argument::Least => "Least weight of a box that the page keeps",
+            Argument::Function => "The whole name of the function",
             Argument::Files =>
                 "Profiles, pprof if named .pb, .pprof or .prof, else folded [default: standard input]",
             Argument::Before => "The profile before",
@@ -189,10 +205,11 @@ impl Argument {
             Argument::Title => title_option(alloc, help),
             Argument::RootBelow => form_flag(alloc, "root-below", help),
             Argument::Least => least_option(alloc, help),
+            Argument::Function => one_value(alloc, "function", "NAME", help),
             Argument::Files => files(alloc, help),
-            Argument::Before => one_file(alloc, "before", "BEFORE", help),
-            Argument::After => one_file(alloc, "after", "AFTER", help),
-            Argument::Profile => one_file(alloc, "file", "FILE", help),
+            Argument::Before => one_value(alloc, "before", "BEFORE", help),
+            Argument::After => one_value(alloc, "after", "AFTER", help),
+            Argument::Profile => one_value(alloc, "file", "FILE", help),
         }
     }
 }

@@ -1,7 +1,7 @@
 //! The kinds of arguments that commands have: options, flags and files.
 ghost use Rattle.std.specs.Prelude.{◌≡◌, codes};
 ghost use Rattle.clap.specs.Words.{rule_of};
-ghost use Rattle.command_line.specs.CommandLine.{any_files, flag, least_option, number_option, one_file, ring_option, rows_option, text_option, texts_option, title_option};
+ghost use Rattle.command_line.specs.CommandLine.{any_files, flag, least_option, number_option, one_value, ring_option, rows_option, text_option, texts_option, title_option};
 
 use clap::builder::ValueParser;
 use clap::{Arg, ArgAction, value_parser};
@@ -101,8 +101,9 @@ pub(crate) fn files<'a>(alloc: Global, help: &'a str) -> Arg<'a>
         .help(help)
 }
 
-pub(crate) fn one_file<'a>(alloc: Global, id: &'a str, name: &'a str, help: &'a str) -> Arg<'a>
-    ensures { rule_of result ≡ one_file id.entry.now }
+// A value that has to be there.
+pub(crate) fn one_value<'a>(alloc: Global, id: &'a str, name: &'a str, help: &'a str) -> Arg<'a>
+    ensures { rule_of result ≡ one_value id.entry.now }
 {
     Arg::new(alloc, id)
         .value_name(name)

@@ -5,7 +5,7 @@ ghost use Rattle.command_line.specs.CommandLine.{command_line};
 ghost use Rattle.command_line.specs.checked.Apps.{as_app, program};
 ghost use Rattle.command_line.specs.checked.Commands.{rule_at, shape_at};
 
-use crate::argument_lists::{Argument, CHART, COMPARE, DIFF, FOLD, GRAPH, TOP, TYPES};
+use crate::argument_lists::{Argument, CALLS, CHART, COMPARE, DIFF, FOLD, GRAPH, TOP, TYPES};
 use clap::Command;
 use std::alloc::{AllocError, Global};
 
@@ -44,6 +44,14 @@ const DIFF_EXAMPLE: &str = "\
 Example: flamecollect diff -n 20 before.pb after.pb
 Compressed: gzip -dk before.pb.gz after.pb.gz makes before.pb and after.pb, which can be compared";
 
+const CALLERS_EXAMPLE: &str = "\
+Example: flamecollect callers runtime.mallocgc cpu.pprof
+Compressed: gzip -dc cpu.pb.gz | flamecollect callers runtime.mallocgc --format pprof";
+
+const CALLEES_EXAMPLE: &str = "\
+Example: flamecollect callees main.serve cpu.pprof
+Compressed: gzip -dc cpu.pb.gz | flamecollect callees main.serve --format pprof";
+
 const TYPES_EXAMPLE: &str = "\
 Example: flamecollect types cpu.pprof
 Compressed: gzip -dk cpu.pb.gz makes cpu.pb, whose types can be told";
@@ -56,6 +64,8 @@ enum Subcommand {
     Compare,
     Top,
     Diff,
+    Callers,
+    Callees,
     Types,
 }
 
@@ -67,6 +77,8 @@ const COMMANDS: &[Subcommand] = &[
     Subcommand::Compare,
     Subcommand::Top,
     Subcommand::Diff,
+    Subcommand::Callers,
+    Subcommand::Callees,
     Subcommand::Types,
 ];
 
@@ -81,6 +93,8 @@ impl Subcommand {
             Subcommand::Compare => "compare",
             Subcommand::Top => "top",
             Subcommand::Diff => "diff",
+            Subcommand::Callers => "callers",
+            Subcommand::Callees => "callees",
             Subcommand::Types => "types",
         }
     }
@@ -94,6 +108,8 @@ impl Subcommand {
             Subcommand::Compare => "Write each stack of two profiles with its weight in both",
             Subcommand::Top => "Write the functions with the greatest weights",
             Subcommand::Diff => "Write the functions of two profiles with the greatest changes",
+            Subcommand::Callers => "Write the functions that call one, by the weight of the calls",
+            Subcommand::Callees => "Write the functions that one calls, by the weight of the calls",
             Subcommand::Types => "Write the sample types of a pprof profile, each with its unit",
         }
     }
@@ -106,6 +122,8 @@ impl Subcommand {
             Subcommand::Compare => COMPARE_EXAMPLE,
             Subcommand::Top => TOP_EXAMPLE,
             Subcommand::Diff => DIFF_EXAMPLE,
+            Subcommand::Callers => CALLERS_EXAMPLE,
+            Subcommand::Callees => CALLEES_EXAMPLE,
             Subcommand::Types => TYPES_EXAMPLE,
         }
     }
@@ -120,6 +138,8 @@ impl Subcommand {
             Subcommand::Compare => COMPARE,
             Subcommand::Top => TOP,
             Subcommand::Diff => DIFF,
+            Subcommand::Callers => CALLS,
+            Subcommand::Callees => CALLS,
             Subcommand::Types => TYPES,
         }
     }

@@ -37,14 +37,14 @@ pub(crate) fn planned(alloc: Global, matches: &ArgMatches<'_>) -> Result<Plan, P
 fn view_plan(alloc: Global, name: &str, entries: &ArgMatches<'_>) -> Result<Plan, AllocError>
     requires read { IsRead name.now (entries_of entries.now) }
     requires view { IsSome (view_of name.now (entries_of entries.now)) }
-    ensures { IfOk result (λ plan. option_map (plan_with (entries_of entries.now))
+    ensures { IfOk result (λ plan. option_map (plan_with name.now (entries_of entries.now))
         (view_of name.now (entries_of entries.now)) ≡ Some plan) }
 {
     Ok(Plan {
         view: view(name, entries),
         format: format(entries),
         is_quiet: entries.get_flag("quiet"),
-        form: form(alloc, entries)?,
+        form: form(alloc, name, entries)?,
         files: files(alloc, entries)?,
         options: options(alloc, entries)?,
     })

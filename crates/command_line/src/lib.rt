@@ -11,5 +11,5 @@ mod refusals;
 mod views;
 mod words;
 
-pub use plans::{Form, PageForm, PictureForm, Plan, PlanFault, TopTable, View};
+pub use plans::{CallTable, Form, PageForm, PictureForm, Plan, PlanFault, TopTable, View};
 pub use words::{plan, plan_without_words};

@@ -49,6 +49,21 @@ pub enum Form {
     Picture(PictureForm),
     /// The sample types of a profile, in place of a view.
     Types,
+    /// A function and those that call it, in place of a view.
+    Callers(CallTable),
+    /// A function and those that it calls, in place of a view.
+    Callees(CallTable),
+}
+
+/// A table of a function and its callers, or its callees.
+#[derive(Debug, Drop)]
+pub struct CallTable {
+    /// The whole name of the function.
+    pub name: Text,
+    /// How many callers or callees it has, if there are so many.
+    pub rows: u64,
+    /// It is written as a line of JSON.
+    pub is_json: bool,
 }
 
 /// A page for browsers.

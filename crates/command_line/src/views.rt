@@ -1,11 +1,11 @@
 //! The view that a command asks for, and what is written of it.
 ghost use Rattle.std.specs.Prelude.{◌≡◌, IfOk, IsSome, Some, codes};
-ghost use Rattle.command_line.specs.Plans.{compared_view, form_of, is_drawn, is_root_below, number_at, order_of, page_of, picture_of, rows_of, shows_boxes, table_of, title_of, view_of, width_of};
+ghost use Rattle.command_line.specs.Plans.{call_table_of, compared_view, form_of, function_of, is_drawn, is_root_below, number_at, order_of, page_of, picture_of, rows_of, shows_boxes, table_of, text_form, title_of, view_of, width_of};
 ghost use Rattle.command_line.specs.checked.Entries.{IsCountAt, IsFlagAt, IsNumberAt, IsRead, entries_of};
 ghost use Rattle.command_line.specs.declared.arguments.TheConstants.{MOST_ROWS};
 ghost use Rattle.run_options.specs.declared.widths.TheConstants.{MAX_WIDTH};
 
-use crate::plans::{Form, PageForm, PictureForm, TopTable, View};
+use crate::plans::{CallTable, Form, PageForm, PictureForm, TopTable, View};
 use clap::ArgMatches;
 use run_options::{FunctionOrder, Width};
 use stack_core::Text;
@@ -29,6 +29,7 @@ pub(crate) fn view(name: &str, entries: &ArgMatches<'_>) -> View
         "compare" => compared_view(entries),
         "top" => View::Top(table(entries)),
         "diff" => View::Diff(table(entries)),
+        "callers" | "callees" => View::Fold,
         _ => unreachable!(),
     }
 }
@@ -106,19 +107,56 @@ fn rows(entries: &ArgMatches<'_>) -> u64
 }
 
 // What is written of the view.
-pub(crate) fn form(alloc: Global, entries: &ArgMatches<'_>) -> Result<Form, AllocError>
+pub(crate) fn form(alloc: Global, name: &str, entries: &ArgMatches<'_>) -> Result<Form, AllocError>
     requires page { IsFlagAt (codes "page") (entries_of entries.now) }
     requires svg { IsFlagAt (codes "svg") (entries_of entries.now) }
     requires below { IsFlagAt (codes "root-below") (entries_of entries.now) }
     requires least { IsCountAt (codes "least") (entries_of entries.now) }
-    ensures { IfOk result (λ form. form ≡ form_of (entries_of entries.now)) }
+    requires rows { IsNumberAt (codes "number") MOST_ROWS (entries_of entries.now) }
+    requires json { IsFlagAt (codes "json") (entries_of entries.now) }
+    ensures { IfOk result (λ form. form ≡ form_of name.now (entries_of entries.now)) }
 {
     if entries.get_flag("page") {
         Ok(Form::Page(page(alloc, entries)?))
     } else if entries.get_flag("svg") {
         Ok(Form::Picture(picture(alloc, entries)?))
     } else {
-        Ok(Form::Text)
+        text_form(alloc, name, entries)
+    }
+}
+
+// What is written where neither a page nor a picture is asked for.
+fn text_form(alloc: Global, name: &str, entries: &ArgMatches<'_>) -> Result<Form, AllocError>
+    requires rows { IsNumberAt (codes "number") MOST_ROWS (entries_of entries.now) }
+    requires json { IsFlagAt (codes "json") (entries_of entries.now) }
+    ensures { IfOk result (λ form. form ≡ text_form name.now (entries_of entries.now)) }
+{
+    match name {
+        "callers" => Ok(Form::Callers(call_table(alloc, entries)?)),
+        "callees" => Ok(Form::Callees(call_table(alloc, entries)?)),
+        _ => Ok(Form::Text),
+    }
+}
+
+fn call_table(alloc: Global, entries: &ArgMatches<'_>) -> Result<CallTable, AllocError>
+    requires rows { IsNumberAt (codes "number") MOST_ROWS (entries_of entries.now) }
+    requires json { IsFlagAt (codes "json") (entries_of entries.now) }
+    ensures { IfOk result (λ table. table ≡ call_table_of (entries_of entries.now)) }
+{
+    Ok(CallTable {
+        name: Text::from_str(alloc, function(entries))?,
+        rows: rows(entries),
+        is_json: entries.get_flag("json"),
+    })
+}
+
+// The function that is asked for.
+fn function<'a>(entries: &ArgMatches<'a>) -> &'a str
+    ensures { result.now ≡ function_of (entries_of entries.now) }
+{
+    match entries.get_str("function") {
+        Some(name) => name,
+        None => "",
     }
 }
 

@@ -1,6 +1,7 @@
 //! Worked examples, run through the whole program.
 mod answers;
 mod asked_files;
+mod calls;
 mod changes;
 mod folded;
 mod growths;

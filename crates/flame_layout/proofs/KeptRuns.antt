@@ -1,7 +1,7 @@
 -- runs by the places where they begin
 use Rattle.std.proofs.Common.{◌≡◌, ◌<◌, ◌≤◌, ◌++◌, List, length, map, get_or, All, sym, ◌∙◌, ap, subst, arith}
 use Rattle.std.proofs.lemmas.List.{same_lists, get_or-map, get_or_append_left, length-map, length-append}
-use Rattle.stack_core.specs.Ledgers.{ListState}
+use Rattle.sample_tables.specs.declared.samples.Sample.{Sample}
 use Rattle.flame_layout.specs.declared.boxes.SpanBox.{SpanBox}
 use Rattle.flame_layout.specs.declared.chart_runs.ChartRun.{ChartRun}
 use Rattle.flame_layout.specs.declared.chart_runs.RunStart.{RunStart}
@@ -11,7 +11,7 @@ start_stays : (starts more : List RunStart) (run : ChartRun) → run.first < len
 start_stays starts more run h = get_or_append_left starts more no_start run.first h
 
 -- further places change nothing
-run_stays : (lists : List ListState) (starts more : List RunStart) (run : ChartRun) → IsRun lists starts run → IsRun lists (starts ++ more) run
+run_stays : (lists : List (List Sample)) (starts more : List RunStart) (run : ChartRun) → IsRun lists starts run → IsRun lists (starts ++ more) run
 run_stays lists starts more run h =
     let same = start_stays starts more run h.first in
     record {
@@ -20,10 +20,10 @@ run_stays lists starts more run h =
       deep = subst (λ start. run.depth ≤ length (stack_at lists start)) (sym same) h.deep;
     }
 
-pub runs_stay : (lists : List ListState) (starts more : List RunStart) (runs : List ChartRun) → All (IsRun lists starts) runs → All (IsRun lists (starts ++ more)) runs
+pub runs_stay : (lists : List (List Sample)) (starts more : List RunStart) (runs : List ChartRun) → All (IsRun lists starts) runs → All (IsRun lists (starts ++ more)) runs
 runs_stay lists starts more runs h k d l = run_stays lists starts more (get_or runs k d) (h k d l)
 
-pub spans_stay : (lists : List ListState) (starts more : List RunStart) (runs : List ChartRun) → All (IsRun lists starts) runs →
+pub spans_stay : (lists : List (List Sample)) (starts more : List RunStart) (runs : List ChartRun) → All (IsRun lists starts) runs →
     map (span_of_run lists (starts ++ more)) runs ≡ map (span_of_run lists starts) runs
 spans_stay lists starts more runs h = same_lists _ _ (length-map runs (span_of_run lists (starts ++ more)) ∙ sym (length-map runs (span_of_run lists starts))) each
   where

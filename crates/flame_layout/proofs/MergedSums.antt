@@ -1,5 +1,5 @@
 -- The sums of merged stacks, and their graph.
-use Rattle.std.proofs.Common.{◌≡◌, ℕ, ◌+◌, ◌<◌, List, [], ◌∷◌, ◌++◌, false, cond, length, map, T, Decides, sym, ◌∙◌, ap, subst, refl, arith, All}
+use Rattle.std.proofs.Common.{◌≡◌, ℕ, ◌+◌, ◌<◌, List, [], ◌∷◌, ◌++◌, false, cond, map, T, Decides, sym, ◌∙◌, ap, subst, refl, arith, All}
 use Rattle.std.specs.List.{AllByRecursion}
 use Rattle.std.specs.declared.cmp.Ordering.{Ordering}
 use Rattle.std.specs.declared.cmp.Ordering.TheVariants.{Less, Equal, Greater}
@@ -11,9 +11,8 @@ use Rattle.std.proofs.lemmas.Cmp.{tied_itself}
 use Rattle.std.proofs.lemmas.Bool.{lt-ltb}
 use Rattle.std.proofs.lemmas.List.{append-nil}
 use Rattle.std.proofs.lemmas.List.Elements.{recursion_from_All}
-use Rattle.flame_layout.specs.declared.walks.OpenRun.{OpenRun}
-use Rattle.flame_layout.specs.declared.boxes.SpanBox.{SpanBox}
-use Rattle.flame_layout.specs.checked.Walk.{IsWalk, seen}
+use Rattle.flame_layout.specs.declared.chart_walks.ChartWalk.{ChartWalk}
+use Rattle.flame_layout.specs.checked.ChartWalks.{IsChartWalk}
 use Rattle.std.proofs.lemmas.Bool.Decides.{same_from_decides}
 use Rattle.sample_tables.specs.declared.samples.Sample.{Sample}
 use Rattle.merged_stacks.specs.Timeline.{Stack, drawn, total_weight}
@@ -83,11 +82,9 @@ chart_is_graph stacks samples ordered positive same =
     sym (ap (λ all. chart_of (sorted_by_stack all)) (drawn_already stacks positive) ∙ ap chart_of (sorted_already stacks ordered)) ∙ sym (same_graph samples stacks (same_sums samples stacks same))
 
 -- what was walked of merged stacks, from their total on, begins at 0 and is all of them
-pub walked_stacks : (stacks : List Sample) (start end : ℕ) (runs : List OpenRun) (boxes : List SpanBox) → All (λ sample. 0 < sample.weight) stacks → end ≡ total_weight stacks → start + total_weight stacks ≡ end
-    → IsWalk start runs boxes (drawn stacks ++ []) → IsWalk 0 runs boxes stacks
-walked_stacks stacks start end runs boxes positive is sum walked =
-    let none : start ≡ 0 = omega arith in
-    subst (λ n. IsWalk n runs boxes stacks) none (subst (IsWalk start runs boxes) (append-nil (drawn stacks) ∙ drawn_already stacks (recursion_from_All (λ (sample : Sample). 0 < sample.weight) stacks positive)) walked)
-
-pub nothing_walked : (end : ℕ) (runs : List OpenRun) (boxes : List SpanBox) → runs ≡ [] → boxes ≡ [] → IsWalk end runs boxes []
-nothing_walked end runs boxes r b = record { going = ap (map seen) r; closed = b; few = omega (arith, ap length r) }
+pub walked_stacks : {S : Type 0} (stacks listed : List Sample) (start end : ℕ) (walk : ChartWalk S) → listed ≡ stacks → All (λ sample. 0 < sample.weight) stacks → end ≡ total_weight stacks → start + total_weight listed ≡ end
+    → IsChartWalk start walk (drawn listed ++ []) → IsChartWalk 0 walk stacks
+walked_stacks stacks listed start end walk same positive is sum walked =
+    let none : start ≡ 0 = omega (arith, is, sum, ap total_weight same) in
+    let all : drawn listed ++ [] ≡ stacks = append-nil (drawn listed) ∙ (ap drawn same ∙ drawn_already stacks (recursion_from_All (λ (sample : Sample). 0 < sample.weight) stacks positive)) in
+    subst (λ n. IsChartWalk n walk stacks) none (subst (IsChartWalk start walk) all walked)

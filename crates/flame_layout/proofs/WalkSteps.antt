@@ -1,15 +1,14 @@
 -- the steps of the walk's loops
-use Rattle.std.proofs.Common.{add-one, ◌≡◌, ℕ, ◌+◌, ◌-◌, ◌≤◌, ◌<◌, List, [], ◌∷◌, ◌++◌, false, length, take, drop, map, reverse, get_or, sym, ◌∙◌, ap, refl, arith}
+use Rattle.std.proofs.Common.{add-one, ◌≡◌, ℕ, ◌+◌, ◌-◌, ◌≤◌, ◌<◌, List, [], ◌∷◌, ◌++◌, false, length, take, drop, reverse, get_or, sym, ◌∙◌, ap, refl, arith}
 use Rattle.std.specs.Str.{bytes_eq}
 use Rattle.std.specs.List.{enumerate_from}
 use Rattle.std.proofs.lemmas.Slice.Eq.{bytes_eq-Decides}
 use Rattle.std.proofs.lemmas.List.Sums.{common_prefix_len-drop_yes, common_prefix_len-drop_no}
 use Rattle.std.proofs.lemmas.List.{get_or_at, get_or-take, get_or-map, length_push, take-take, take_at, drop_more, drop_all, length-map, length-drop, reverse-append}
 use Rattle.std.proofs.lemmas.List.FromFn.{length-enumerate_from, get_or-enumerate_from}
-use Rattle.flame_layout.specs.declared.walks.OpenRun.{OpenRun}
 use Rattle.merged_stacks.specs.Timeline.{Stack}
 use Rattle.flame_layout.specs.Chart.{names_shared}
-use Rattle.flame_layout.specs.checked.Walk.{Run, seen, names_of, shared_runs_of, box_of_run, boxes_of_runs}
+use Rattle.flame_layout.specs.checked.Walk.{Run, names_of, shared_runs_of, box_of_run, boxes_of_runs}
 use Rattle.flame_layout.specs.declared.boxes.SpanBox.{SpanBox}
 
 pub shared_more : (a b : Stack) (i : ℕ) → i < length a → i < length b → get_or a i [] ≡ get_or b i [] → names_shared (drop i a) (drop i b) ≡ 1 + names_shared (drop (i + 1) a) (drop (i + 1) b)
@@ -28,18 +27,18 @@ shared_ends_left a b i h = rw (drop_all i a h) refl
 pub shared_ends_right : (a b : Stack) (i : ℕ) → length b ≤ i → names_shared (drop i a) (drop i b) ≡ 0
 shared_ends_right a b i h = rw (drop_all i b h) (shared_nil (drop i a))
 
-pub names_of-length : (runs : List OpenRun) → length (names_of runs) ≡ length runs - 1
-names_of-length runs = length-map (drop 1 runs) (λ run. run.name.now) ∙ length-drop 1 runs
+pub names_of-length : (runs : List Run) → length (names_of runs) ≡ length runs - 1
+names_of-length runs = length-map (drop 1 runs) (λ run. run.name) ∙ length-drop 1 runs
 
 -- runs begin with the root's, which each sample shares
-pub shared_runs-some : (stack : Stack) (runs : List OpenRun) → 0 < length runs → shared_runs_of stack runs ≡ names_shared stack (names_of runs) + 1
+pub shared_runs-some : (stack : Stack) (runs : List Run) → 0 < length runs → shared_runs_of stack runs ≡ names_shared stack (names_of runs) + 1
 shared_runs-some stack [] some = omega (arith, some)
 shared_runs-some stack (run ∷ runs) some = refl
 
-pub names_of-at : (runs : List OpenRun) (i : ℕ) (d : OpenRun) → i + 1 < length runs → get_or (names_of runs) i [] ≡ (get_or runs (i + 1) d).name.now
+pub names_of-at : (runs : List Run) (i : ℕ) (d : Run) → i + 1 < length runs → get_or (names_of runs) i [] ≡ (get_or runs (i + 1) d).name
 names_of-at [] i d h = absurd (omega arith)
 names_of-at (x ∷ xs) i d h =
-    get_or-map (λ run. run.name.now) xs i d [] (omega arith) ∙ (rw (add-one i) refl)
+    get_or-map (λ run. run.name) xs i d [] (omega arith) ∙ (rw (add-one i) refl)
 
 -- a run that is taken off the end of those that are left
 pub popped_left : {A : Type 0} (all now new : List A) (r : A) → now ≡ take (length now) all → now ≡ new ++ r ∷ [] → new ≡ take (length new) all
@@ -65,15 +64,13 @@ boxes_of_runs-at start runs i d e h =
     get_or-map (box_of_run start) (enumerate_from 0 runs) i (0, d) e long ∙ ap (box_of_run start) (get_or-enumerate_from 0 runs i (0, d) h ∙ ap (λ n. (n, get_or runs i d)) (omega arith))
 
 -- the box of the deepest run comes behind those of the runs that were taken off before it
-pub boxes_more : (start : ℕ) (all : List OpenRun) (n m : ℕ) (r : OpenRun) → m ≡ n + 1 → n < length all → ((d : OpenRun) → get_or all n d ≡ r) →
-    reverse (drop n (boxes_of_runs start (map seen all))) ≡ reverse (drop m (boxes_of_runs start (map seen all))) ++ box_of_run start (n, seen r) ∷ []
+pub boxes_more : (start : ℕ) (all : List Run) (n m : ℕ) (r : Run) → m ≡ n + 1 → n < length all → ((d : Run) → get_or all n d ≡ r) →
+    reverse (drop n (boxes_of_runs start all)) ≡ reverse (drop m (boxes_of_runs start all)) ++ box_of_run start (n, r) ∷ []
 boxes_more start all n m r e h is =
-    let boxes = boxes_of_runs start (map seen all) in
-    let b = box_of_run start (n, seen r) in
-    let many : length (map seen all) ≡ length all = length-map all seen in
-    let long : n < length (boxes_of_runs start (map seen all)) = omega (arith, boxes_of_runs-length start (map seen all)) in
-    let read : get_or (boxes_of_runs start (map seen all)) n b ≡ b =
-    boxes_of_runs-at start (map seen all) n (seen r) b (omega arith) ∙ ap (λ s. box_of_run start (n, s)) (get_or-map seen all n r (seen r) h ∙ ap seen (is r)) in
-    let first : drop n (boxes_of_runs start (map seen all)) ≡ b ∷ drop m (boxes_of_runs start (map seen all)) =
-    drop_more (boxes_of_runs start (map seen all)) n b long ∙ (λ i. read i ∷ drop (sym e i) (boxes_of_runs start (map seen all))) in
-    ap reverse first ∙ reverse-append (b ∷ []) (drop m (boxes_of_runs start (map seen all)))
+    let boxes = boxes_of_runs start all in
+    let b = box_of_run start (n, r) in
+    let long : n < length (boxes_of_runs start all) = omega (arith, h, boxes_of_runs-length start all) in
+    let read : get_or (boxes_of_runs start all) n b ≡ b = boxes_of_runs-at start all n r b h ∙ ap (λ s. box_of_run start (n, s)) (is r) in
+    let first : drop n (boxes_of_runs start all) ≡ b ∷ drop m (boxes_of_runs start all) =
+    drop_more (boxes_of_runs start all) n b long ∙ (λ i. read i ∷ drop (sym e i) (boxes_of_runs start all)) in
+    ap reverse first ∙ reverse-append (b ∷ []) (drop m (boxes_of_runs start all))

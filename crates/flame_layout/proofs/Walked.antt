@@ -1,15 +1,14 @@
 -- one more sample in front of what was walked
 use Rattle.std.proofs.Common.{add-one, ◌≡◌, ℕ, zero, suc, ◌+◌, ◌-◌, ◌≤◌, ◌<◌, List, [], ◌∷◌, ◌++◌, Bool, true, false, cond, length, take, drop, map, reverse, get_or, set, sym, ◌∙◌, ap, refl, arith, All, Some, eqb, ⊎_elim}
 use Rattle.std.specs.List.{range_with_len}
-use Rattle.std.proofs.lemmas.List.{same_lists, get_or-take, get_or-drop, get_or_append_left, get_or-append_right, get_or-set_same, get_or-set_other, length-set, length-append, length-take-le, length-map, length-drop, reverse-append, reverse-reverse, append-nil, get_or-map, get_or_default, map-set, take-map}
+use Rattle.std.proofs.lemmas.List.{same_lists, get_or-take, get_or-drop, get_or_append_left, get_or-append_right, get_or-set_same, get_or-set_other, length-set, length-append, length-take-le, length-drop, reverse-append, reverse-reverse, append-nil, get_or_default}
 use Rattle.std.proofs.lemmas.List.FromFn.{length-map-range_with_len, get_or-map-range_with_len}
 use Rattle.std.proofs.lemmas.Bool.{cases_lt, cases_eq, cond-true, cond-false, eq-eqb, ne_eqb}
 use Rattle.sample_tables.specs.declared.samples.Sample.{Sample}
 use Rattle.flame_layout.specs.declared.boxes.SpanBox.{SpanBox}
-use Rattle.flame_layout.specs.declared.walks.OpenRun.{OpenRun}
 use Rattle.merged_stacks.specs.Timeline.{Stack, total_weight}
 use Rattle.flame_layout.specs.Chart.{names_shared, box_name, run_at, own_weight, box_at, boxes_from, boxes_after, chart_of}
-use Rattle.flame_layout.specs.checked.Walk.{Run, run_of, runs_at_front, boxes_behind, box_of_run, boxes_of_runs, new_run, seen, names_of, shared_runs_of, IsWalk}
+use Rattle.flame_layout.specs.checked.Walk.{Run, run_of, runs_at_front, boxes_behind, box_of_run, boxes_of_runs, new_run, names_of, shared_runs_of, IsWalk}
 use Rattle.flame_layout.proofs.Shared.{IsAlike, alike_from_shared}
 use Rattle.merged_stacks.proofs.Timelines.{total_weight-cons}
 use Rattle.flame_layout.proofs.Runs.{own_of_one, own_weight-cons, run_at-alike, run_at-apart, run_at-same, names_shared-self}
@@ -211,19 +210,14 @@ own_weight-le k (s ∷ xs) = omega (arith, own_weight-cons k s xs, total_weight-
         by true = omega arith
         by false = omega arith
 
-seen-none : (runs : List OpenRun) → map seen runs ≡ [] → runs ≡ []
-seen-none [] e = refl
-seen-none (r ∷ rs) e = cc
+pub walk-length : (start : ℕ) (runs : List Run) (boxes : List SpanBox) (s : Sample) (rest : List Sample) → IsWalk start runs boxes (s ∷ rest) → length runs ≡ length s.stack + 1
+walk-length start runs boxes s rest w = ap length w.going ∙ runs_at_front-length start s rest
 
-pub walk-length : (start : ℕ) (runs : List OpenRun) (boxes : List SpanBox) (s : Sample) (rest : List Sample) → IsWalk start runs boxes (s ∷ rest) → length runs ≡ length s.stack + 1
-walk-length start runs boxes s rest w = sym (length-map runs seen) ∙ (ap length w.going ∙ runs_at_front-length start s rest)
-
-walk-at : (start : ℕ) (runs : List OpenRun) (boxes : List SpanBox) (s : Sample) (rest : List Sample) (k : ℕ) (d : OpenRun) → IsWalk start runs boxes (s ∷ rest) → k < length s.stack + 1 → seen (get_or runs k d) ≡ run_of s.stack start (s ∷ rest) k
-walk-at start runs boxes s rest k d w h =
-    sym (get_or-map seen runs k d (seen d) (omega (arith, h, walk-length start runs boxes s rest w))) ∙ (ap (λ xs. get_or xs k (seen d)) w.going ∙ runs_at_front-at start s rest k (seen d) h)
+walk-at : (start : ℕ) (runs : List Run) (boxes : List SpanBox) (s : Sample) (rest : List Sample) (k : ℕ) (d : Run) → IsWalk start runs boxes (s ∷ rest) → k < length s.stack + 1 → get_or runs k d ≡ run_of s.stack start (s ∷ rest) k
+walk-at start runs boxes s rest k d w h = ap (λ xs. get_or xs k d) w.going ∙ runs_at_front-at start s rest k d h
 
 -- the runs' names are the stack at the front
-pub walk-names : (start : ℕ) (runs : List OpenRun) (boxes : List SpanBox) (s : Sample) (rest : List Sample) → IsWalk start runs boxes (s ∷ rest) → names_of runs ≡ s.stack
+pub walk-names : (start : ℕ) (runs : List Run) (boxes : List SpanBox) (s : Sample) (rest : List Sample) → IsWalk start runs boxes (s ∷ rest) → names_of runs ≡ s.stack
 walk-names start [] boxes s rest w = absurd (omega (arith, walk-length start [] boxes s rest w))
 walk-names start (r ∷ rs) boxes s rest w = same_lists _ _ long each
   where
@@ -241,25 +235,25 @@ walk-names start (r ∷ rs) boxes s rest w = same_lists _ _ long each
         (ap (λ run. run.name) (walk-at start (r ∷ rs) boxes s rest (k + 1) r w (omega (arith, within))) ∙
         (rw (add-one k) refl ∙ get_or_default s.stack k [] d within)))
 
-pub walk-goes_on : (start : ℕ) (runs : List OpenRun) (boxes : List SpanBox) (samples : List Sample) (p : Sample) → IsWalk start runs boxes samples → GoOn (shared_runs_of p.stack runs) p.stack start (map seen runs) samples
+pub walk-goes_on : (start : ℕ) (runs : List Run) (boxes : List SpanBox) (samples : List Sample) (p : Sample) → IsWalk start runs boxes samples → GoOn (shared_runs_of p.stack runs) p.stack start runs samples
 walk-goes_on start [] boxes [] p w = go_on_none start p
-walk-goes_on start (r ∷ rs) boxes [] p w = absurd (cc (seen-none (r ∷ rs) w.going))
+walk-goes_on start (r ∷ rs) boxes [] p w = absurd (cc w.going)
 walk-goes_on start [] boxes (s ∷ rest) p w = absurd (omega (arith, walk-length start [] boxes s rest w))
 walk-goes_on start (r ∷ rs) boxes (s ∷ rest) p w =
     let keep : shared_runs_of p.stack (r ∷ rs) ≡ names_shared p.stack s.stack + 1 = ap (λ names. names_shared p.stack names + 1) (walk-names start (r ∷ rs) boxes s rest w) in
     rw (keep, w.going) (go_on_some start p s rest)
 
-pub walk-begun : (start : ℕ) (runs : List OpenRun) (boxes : List SpanBox) (samples : List Sample) → IsWalk start runs boxes samples → All (λ run. start ≤ run.end) runs
-walk-begun start runs boxes [] w = λ k d h. absurd (omega (arith, h, ap length (seen-none runs w.going)))
+pub walk-begun : (start : ℕ) (runs : List Run) (boxes : List SpanBox) (samples : List Sample) → IsWalk start runs boxes samples → All (λ run. start ≤ run.end) runs
+walk-begun start runs boxes [] w = λ k d h. absurd (omega (arith, h, ap length w.going))
 walk-begun start runs boxes (s ∷ rest) w = λ k d h.
     let at = walk-at start runs boxes s rest k d w (omega (arith, h, walk-length start runs boxes s rest w)) in
     omega (arith, ap (λ (run : Run). run.end) at)
 
 -- the boxes after the entry
-pub walk-closes : (start before : ℕ) (runs : List OpenRun) (boxes : List SpanBox) (samples : List Sample) (p : Sample) → before + p.weight ≡ start → IsWalk start runs boxes samples →
-    boxes ++ reverse (drop (shared_runs_of p.stack runs) (boxes_of_runs start (map seen runs))) ≡ reverse (boxes_behind before (p ∷ samples))
+pub walk-closes : (start before : ℕ) (runs : List Run) (boxes : List SpanBox) (samples : List Sample) (p : Sample) → before + p.weight ≡ start → IsWalk start runs boxes samples →
+    boxes ++ reverse (drop (shared_runs_of p.stack runs) (boxes_of_runs start runs)) ≡ reverse (boxes_behind before (p ∷ samples))
 walk-closes start before [] boxes [] p e w = append-nil boxes ∙ w.closed
-walk-closes start before (r ∷ rs) boxes [] p e w = absurd (cc (seen-none (r ∷ rs) w.going))
+walk-closes start before (r ∷ rs) boxes [] p e w = absurd (cc w.going)
 walk-closes start before [] boxes (s ∷ rest) p e w = absurd (omega (arith, walk-length start [] boxes s rest w))
 walk-closes start before (r ∷ rs) boxes (s ∷ rest) p e w =
     let keep : shared_runs_of p.stack (r ∷ rs) ≡ names_shared p.stack s.stack + 1 = ap (λ names. names_shared p.stack names + 1) (walk-names start (r ∷ rs) boxes s rest w) in
@@ -267,15 +261,15 @@ walk-closes start before (r ∷ rs) boxes (s ∷ rest) p e w =
     (entry_boxes_some start p s rest ∙ ap (λ n. reverse (boxes_after (Some p.stack) n (s ∷ rest))) (sym e))
 
 -- what the walk is after the entry: `two` are the runs that were kept and the new ones, r the deepest
-pub walk-enters : (start before : ℕ) (runs two : List OpenRun) (r : OpenRun) (boxes all : List SpanBox) (samples : List Sample) (p : Sample) →
+pub walk-enters : (start before : ℕ) (runs two : List Run) (r : Run) (boxes all : List SpanBox) (samples : List Sample) (p : Sample) →
     length p.stack ≤ 4096 → before + p.weight ≡ start → IsWalk start runs boxes samples →
-    map seen two ≡ map seen (take (shared_runs_of p.stack runs) runs) ++ map (new_run p.stack start) (range_with_len (shared_runs_of p.stack runs) (length p.stack + 1 - shared_runs_of p.stack runs)) →
-    ((d : OpenRun) → get_or two (length p.stack) d ≡ r) →
-    all ≡ boxes ++ reverse (drop (shared_runs_of p.stack runs) (boxes_of_runs start (map seen runs))) →
+    two ≡ take (shared_runs_of p.stack runs) runs ++ map (new_run p.stack start) (range_with_len (shared_runs_of p.stack runs) (length p.stack + 1 - shared_runs_of p.stack runs)) →
+    ((d : Run) → get_or two (length p.stack) d ≡ r) →
+    all ≡ boxes ++ reverse (drop (shared_runs_of p.stack runs) (boxes_of_runs start runs)) →
     IsWalk before (set two (length p.stack) (record r { own = r.own + p.weight })) all (p ∷ samples)
 walk-enters start before runs two r boxes all samples p few e w is last closed = record {
-  going = map-set seen two (length p.stack) (record r { own = r.own + p.weight }) ∙ (ap (λ xs. set xs (length p.stack) (add_own p.weight (seen r))) entry ∙
-      entry_runs keep start before p samples (map seen runs) (seen r) goes e (λ d. ap (λ xs. get_or xs (length p.stack) d) (sym entry) ∙ read d));
+  going = ap (λ xs. set xs (length p.stack) (add_own p.weight r)) is ∙
+      entry_runs keep start before p samples runs r goes e (λ d. ap (λ xs. get_or xs (length p.stack) d) (sym is) ∙ last d);
   closed = closed ∙ walk-closes start before runs boxes samples p e w;
   few = omega (arith, long, length-set two (length p.stack) (record r { own = r.own + p.weight }));
 }
@@ -283,54 +277,39 @@ walk-enters start before runs two r boxes all samples p few e w is last closed =
     keep : ℕ
     keep = shared_runs_of p.stack runs
 
-    goes : GoOn (shared_runs_of p.stack runs) p.stack start (map seen runs) samples
+    goes : GoOn (shared_runs_of p.stack runs) p.stack start runs samples
     goes = walk-goes_on start runs boxes samples p w
-
-    entry : map seen two ≡ after_entry (shared_runs_of p.stack runs) start p (map seen runs)
-    entry = is ∙ ap (λ xs. xs ++ map (new_run p.stack start) (range_with_len (shared_runs_of p.stack runs) (length p.stack + 1 - shared_runs_of p.stack runs))) (sym (take-map seen (shared_runs_of p.stack runs) runs))
 
     long : length two ≡ length p.stack + 1
-    long = sym (length-map two seen) ∙ (ap length entry ∙ after_entry-length (shared_runs_of p.stack runs) start p samples (map seen runs) goes)
-
-    read : (d : Run) → get_or (map seen two) (length p.stack) d ≡ seen r
-    read d = get_or-map seen two (length p.stack) r d (omega (arith, long)) ∙ ap seen (last r)
+    long = ap length is ∙ after_entry-length (shared_runs_of p.stack runs) start p samples runs goes
 
 -- one run for each depth
-pub walk-length-after : (start : ℕ) (runs two : List OpenRun) (boxes : List SpanBox) (samples : List Sample) (p : Sample) → IsWalk start runs boxes samples →
-    map seen two ≡ map seen (take (shared_runs_of p.stack runs) runs) ++ map (new_run p.stack start) (range_with_len (shared_runs_of p.stack runs) (length p.stack + 1 - shared_runs_of p.stack runs)) →
+pub walk-length-after : (start : ℕ) (runs two : List Run) (boxes : List SpanBox) (samples : List Sample) (p : Sample) → IsWalk start runs boxes samples →
+    two ≡ take (shared_runs_of p.stack runs) runs ++ map (new_run p.stack start) (range_with_len (shared_runs_of p.stack runs) (length p.stack + 1 - shared_runs_of p.stack runs)) →
     length two ≡ length p.stack + 1
-walk-length-after start runs two boxes samples p w is = sym (length-map two seen) ∙ (ap length entry ∙ after_entry-length (shared_runs_of p.stack runs) start p samples (map seen runs) goes)
-  where
-    goes : GoOn (shared_runs_of p.stack runs) p.stack start (map seen runs) samples
-    goes = walk-goes_on start runs boxes samples p w
-
-    entry : map seen two ≡ after_entry (shared_runs_of p.stack runs) start p (map seen runs)
-    entry = is ∙ ap (λ xs. xs ++ map (new_run p.stack start) (range_with_len (shared_runs_of p.stack runs) (length p.stack + 1 - shared_runs_of p.stack runs))) (sym (take-map seen (shared_runs_of p.stack runs) runs))
+walk-length-after start runs two boxes samples p w is =
+    ap length is ∙ after_entry-length (shared_runs_of p.stack runs) start p samples runs (walk-goes_on start runs boxes samples p w)
 
 -- the deepest run, before the sample's weight is added to its own
-pub walk-room : (start : ℕ) (runs two : List OpenRun) (r : OpenRun) (boxes : List SpanBox) (samples : List Sample) (p : Sample) → IsWalk start runs boxes samples →
-    map seen two ≡ map seen (take (shared_runs_of p.stack runs) runs) ++ map (new_run p.stack start) (range_with_len (shared_runs_of p.stack runs) (length p.stack + 1 - shared_runs_of p.stack runs)) →
+pub walk-room : (start : ℕ) (runs two : List Run) (r : Run) (boxes : List SpanBox) (samples : List Sample) (p : Sample) → IsWalk start runs boxes samples →
+    two ≡ take (shared_runs_of p.stack runs) runs ++ map (new_run p.stack start) (range_with_len (shared_runs_of p.stack runs) (length p.stack + 1 - shared_runs_of p.stack runs)) →
     get_or two (length p.stack) r ≡ r → r.own + start ≤ r.end
 walk-room start runs two r boxes samples p w is last = room
   where
-    goes : GoOn (shared_runs_of p.stack runs) p.stack start (map seen runs) samples
+    goes : GoOn (shared_runs_of p.stack runs) p.stack start runs samples
     goes = walk-goes_on start runs boxes samples p w
-
-    entry : map seen two ≡ after_entry (shared_runs_of p.stack runs) start p (map seen runs)
-    entry = is ∙ ap (λ xs. xs ++ map (new_run p.stack start) (range_with_len (shared_runs_of p.stack runs) (length p.stack + 1 - shared_runs_of p.stack runs))) (sym (take-map seen (shared_runs_of p.stack runs) runs))
 
     long : length two ≡ length p.stack + 1
     long = walk-length-after start runs two boxes samples p w is
 
-    behind : seen r ≡ run_behind (length p.stack) start p samples
-    behind = sym (get_or-map seen two (length p.stack) r (seen r) (omega (arith, long)) ∙ ap seen last) ∙ (ap (λ xs. get_or xs (length p.stack) (seen r)) entry ∙ after_entry-at (shared_runs_of p.stack runs) start p samples (map seen runs) (length p.stack) (seen r) goes (omega arith))
+    behind : r ≡ run_behind (length p.stack) start p samples
+    behind = sym last ∙ (ap (λ xs. get_or xs (length p.stack) r) is ∙ after_entry-at (shared_runs_of p.stack runs) start p samples runs (length p.stack) r goes (omega arith))
 
     room : r.own + start ≤ r.end
     room = omega (arith, ap (λ (run : Run). run.end) behind, ap (λ (run : Run). run.own) behind, own_weight-le (length p.stack) (run_at (length p.stack) p.stack samples))
 
 -- what is left to close at the end, and the chart
-pub walk-ends : (runs : List OpenRun) (boxes all : List SpanBox) (samples : List Sample) → IsWalk 0 runs boxes samples → all ≡ boxes ++ reverse (drop 0 (boxes_of_runs 0 (map seen runs))) → reverse all ≡ chart_of samples
+pub walk-ends : (runs : List Run) (boxes all : List SpanBox) (samples : List Sample) → IsWalk 0 runs boxes samples → all ≡ boxes ++ reverse (drop 0 (boxes_of_runs 0 runs)) → reverse all ≡ chart_of samples
 walk-ends runs boxes all [] w e =
-    let none : runs ≡ [] = seen-none runs w.going in
-    ap reverse (e ∙ (λ i. w.closed i ++ reverse (drop 0 (boxes_of_runs 0 (map seen (none i))))))
+    ap reverse (e ∙ (λ i. w.closed i ++ reverse (drop 0 (boxes_of_runs 0 (w.going i)))))
 walk-ends runs boxes all (s ∷ rest) w e = ap reverse (e ∙ (λ i. w.closed i ++ reverse (drop 0 (boxes_of_runs 0 (w.going i))))) ∙ chart_boxes_some s rest

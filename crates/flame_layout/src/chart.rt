@@ -1,10 +1,11 @@
 //! The boxes of a flame chart, in little memory.
 
-ghost use Rattle.std.specs.Prelude.{◌≡◌, ℕ, ◌+◌, ◌<◌, ◌≤◌, ◌^◌, ◌↔◌, IfOk, IsTrue, All, length, slice_index_or};
+ghost use Rattle.std.specs.Prelude.{◌≡◌, ℕ, ◌+◌, ◌<◌, ◌≤◌, ◌^◌, ◌↔◌, IfOk, IsTrue, All, length, map, slice_index_or};
 ghost use Rattle.flame_layout.specs.declared.boxes.SpanBox.{SpanBox as Span};
 ghost use Rattle.merged_stacks.specs.Timeline.{samples_of, timeline, total_weight};
 ghost use Rattle.flame_layout.specs.Boxes.{span_of};
 ghost use Rattle.flame_layout.specs.Chart.{chart_of};
+ghost use Rattle.flame_layout.specs.checked.ChartRuns.{samples_in};
 
 use crate::boxes::DrawnBox;
 use crate::chart_runs::ChartRuns;
@@ -18,7 +19,7 @@ use std::marker::Model;
 /// the sample at which it begins, and the names are lent by the lists.
 #[derive(Debug, Drop)]
 pub struct Chart<'a> {
-    runs: ChartRuns<'a>,
+    runs: ChartRuns<'a, SourceList>,
 }
 
 impl<'a> Model for Chart<'a> {
@@ -41,7 +42,7 @@ impl<'a> Chart<'a> {
         ensures positive { IfOk result (λ chart. 0 < length chart
             → 0 < total_weight (timeline (samples_of lists.now))) }
     {
-        let mut walk = ChartWalk::new(alloc, lists);
+        let mut walk = ChartWalk::new(alloc, lent(alloc, lists)?);
         let mut start = total_weight(lists);
         for index in (0..lists.len()).rev() {
             start = enter_samples(&mut walk, start, index)?;
@@ -72,4 +73,22 @@ impl<'a> Chart<'a> {
     {
         self.runs.get(self.len() - 1 - at)
     }
+
+    /// All boxes, one after another.
+    pub(crate) fn drawn(&self, alloc: Global) -> Result<Vec<DrawnBox<'a>>, AllocError>
+        ensures { IfOk result (λ boxes. map span_of boxes.items ≡ self.now) }
+    {
+        self.runs.drawn(alloc)
+    }
+}
+
+/// The lists, each lent.
+fn lent(alloc: Global, lists: &[SourceList]) -> Result<Vec<&SourceList>, AllocError>
+    ensures { IfOk result (λ all. samples_in (λ list. list.samples) all.items ≡ samples_of lists.now) }
+{
+    let mut all = Vec::with_capacity(alloc, lists.len())?;
+    for list in lists {
+        all.push(list)?;
+    }
+    Ok(all)
 }

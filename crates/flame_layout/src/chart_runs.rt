@@ -1,14 +1,15 @@
 //! The boxes of a chart by the samples at which they begin.
 
-ghost use Rattle.std.specs.Prelude.{◌≡◌, ℕ, ◌<◌, ◌≤◌, ◌^◌, ◌++◌, ◌∷◌, [], List, IfOk, OnOk, length, slice_index_or};
+ghost use Rattle.std.specs.Prelude.{◌≡◌, ℕ, ◌<◌, ◌≤◌, ◌^◌, ◌++◌, ◌∷◌, [], List, IfOk, OnOk, length, map, reverse, slice_index_or};
 ghost use Rattle.flame_layout.specs.declared.boxes.SpanBox.{SpanBox as Span};
 ghost use Rattle.flame_layout.specs.declared.chart_runs.RunStart.{RunStart as Start};
+ghost use Rattle.stack_core.specs.Interleaving.{list_of};
 ghost use Rattle.flame_layout.specs.Boxes.{span_of};
-ghost use Rattle.flame_layout.specs.checked.ChartRuns.{IsThere, no_start, span_from, stack_at};
+ghost use Rattle.flame_layout.specs.checked.ChartRuns.{IsThere, no_start, samples_in, span_from, stack_at};
 
 use crate::boxes::DrawnBox;
-use crate::walks::frame_name;
-use stack_core::SourceList;
+use crate::shared_names::frame_name;
+use merged_stacks::StackRows;
 use std::alloc::{AllocError, Global};
 use std::marker::Model;
 
@@ -35,28 +36,30 @@ pub(crate) struct ChartRun {
 
 /// Boxes of a chart, the last first. What all boxes that begin at one sample have in common is kept once.
 #[derive(Debug, Drop)]
-pub(crate) struct ChartRuns<'a> {
-    lists: &'a [SourceList],
+pub(crate) struct ChartRuns<'a, S: StackRows> {
+    lists: Vec<&'a S>,
     starts: Vec<RunStart>,
     runs: Vec<ChartRun>,
 }
 
-impl<'a> Model for ChartRuns<'a> {
+impl<'a, S: StackRows> Model for ChartRuns<'a, S> {
     ghost use Rattle.std.specs.Prelude.{All, map};
-    ghost use Rattle.flame_layout.specs.checked.ChartRuns.{RunsState, IsRun, span_of_run};
+    ghost use Rattle.flame_layout.specs.checked.ChartRuns.{RunsState, IsRun, samples_in, span_of_run};
 
     ghost Value = { RunsState };
 
-    ghost view = { λ c. record
-        { lists = c.lists.now; spans = map (span_of_run c.lists.now c.starts.items) c.runs.items } };
+    ghost view = { λ c. record {
+      lists = samples_in S.samples c.lists.items;
+      spans = map (span_of_run (samples_in S.samples c.lists.items) c.starts.items) c.runs.items;
+    } };
 
-    ghost invariant = { λ c. All (IsRun c.lists.now c.starts.items) c.runs.items };
+    ghost invariant = { λ c. All (IsRun (samples_in S.samples c.lists.items) c.starts.items) c.runs.items };
 }
 
-impl<'a> ChartRuns<'a> {
+impl<'a, S: StackRows> ChartRuns<'a, S> {
     /// No boxes of these lists.
-    pub(crate) fn new(alloc: Global, lists: &'a [SourceList]) -> Self
-        ensures { result ≡ record { lists = lists.now; spans = [] } }
+    pub(crate) fn new(alloc: Global, lists: Vec<&'a S>) -> Self
+        ensures { result ≡ record { lists = samples_in S.samples lists.entry.items; spans = [] } }
     {
         ChartRuns {
             lists,
@@ -65,10 +68,12 @@ impl<'a> ChartRuns<'a> {
         }
     }
 
-    pub(crate) fn lists(&self) -> &'a [SourceList]
-        ensures { result.now ≡ self.now.lists }
+    /// The list of a number.
+    pub(crate) fn list(&self, number: usize) -> &'a S
+        requires { number < length self.now.lists }
+        ensures { S.samples result.now ≡ list_of self.now.lists number }
     {
-        self.lists
+        self.lists[number]
     }
 
     pub(crate) fn len(&self) -> usize
@@ -87,11 +92,22 @@ impl<'a> ChartRuns<'a> {
         let first = self.starts[run.first as usize];
         DrawnBox {
             depth: run.depth,
-            name: frame_name(&self.lists[first.list], first.at, run.depth as usize),
+            name: frame_name(self.lists[first.list], first.at, run.depth as usize),
             start: first.start,
             weight: run.weight,
             own: run.own,
         }
+    }
+
+    /// The boxes from the first on, one after another.
+    pub(crate) fn drawn(&self, alloc: Global) -> Result<Vec<DrawnBox<'a>>, AllocError>
+        ensures { IfOk result (λ boxes. map span_of boxes.items ≡ reverse self.now.spans) }
+    {
+        let mut boxes = Vec::with_capacity(alloc, self.len())?;
+        for at in (0..self.len()).rev() {
+            boxes.push(self.get(at))?;
+        }
+        Ok(boxes)
     }
 
     /// Appends a box that begins there. A place past the 2^32nd is refused as memory is.

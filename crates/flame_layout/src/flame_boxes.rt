@@ -4,7 +4,7 @@ ghost use Rattle.std.specs.Prelude.{◌≡◌, IfOk, map};
 ghost use Rattle.flame_layout.specs.declared.boxes.SpanBox.{SpanBox as Span};
 ghost use Rattle.flame_layout.specs.Boxes.{span_of};
 
-use crate::boxes::{ComparedBox, DrawnBox, DrawnPair, SpanBox};
+use crate::boxes::{DrawnBox, DrawnPair, SpanBox};
 use stack_core::Text;
 use std::alloc::{AllocError, Global};
 
@@ -79,30 +79,6 @@ impl<'a> FlameBox for DrawnBox<'a> {
 
     fn own(&self) -> u64 {
         self.own
-    }
-}
-
-impl FlameBox for ComparedBox {
-    ghost span = { λ compared. compared.span };
-
-    fn depth(&self) -> u32 {
-        self.span.depth
-    }
-
-    fn name(&self) -> &str {
-        self.span.name.get()
-    }
-
-    fn start(&self) -> u64 {
-        self.span.start
-    }
-
-    fn weight(&self) -> u64 {
-        self.span.weight
-    }
-
-    fn own(&self) -> u64 {
-        self.span.own
     }
 }
 

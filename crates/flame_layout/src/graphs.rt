@@ -12,9 +12,8 @@ ghost use Rattle.flame_layout.specs.checked.Listed.{listed_box, listed_boxes};
 ghost use Rattle.flame_layout.specs.Paths.{SameOwn, tree_samples};
 
 use crate::boxes::{DrawnBox, SpanBox};
-use crate::charts::{end, enter_list};
+use crate::chart_walks::{ChartWalk, end, enter_samples};
 use crate::flame_boxes::span_boxes;
-use crate::walks::Walk;
 use call_tree::{CallTree, FrameTable, Visit};
 use merged_stacks::{MergedStacks, StackRows};
 use std::alloc::{AllocError, Global};
@@ -109,12 +108,10 @@ pub fn draw_ordered<'a, S: StackRows>(
         All (λ drawn. drawn.start + drawn.weight ≤ total) boxes.items) }
     ensures positive { IfOk result (λ boxes. 0 < length boxes.items → 0 < total) }
 {
-    let mut walk = Walk {
-        runs: Vec::new(alloc),
-        boxes: Vec::new(alloc),
-    };
-    enter_list(&mut walk, total, stacks)?;
-    end(walk)
+    let mut walk = ChartWalk::over(alloc, stacks)?;
+    enter_samples(&mut walk, total, 0)?;
+    let runs = end(walk)?;
+    runs.drawn(alloc)
 }
 
 /// The boxes of the visits of a listing.

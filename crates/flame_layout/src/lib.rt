@@ -12,7 +12,7 @@ mod flame_boxes;
 mod graphs;
 mod image;
 pub mod laws;
-mod walks;
+mod shared_names;
 
 pub use boxes::{ComparedBox, DrawnBox, DrawnPair, PairRow, PlacedBox, SpanBox};
 pub use chart::Chart;

@@ -9,6 +9,8 @@ use Rattle.command_line.specs.CommandLine.{command_line}
 use Rattle.folded_lines.specs.Reading.{read_folded}
 use Rattle.run_options.specs.Filters.{everything, is_everything, kept_rest}
 use Rattle.run_options.proofs.FilterLemmas.{all_is_kept}
+use Rattle.function_sums.specs.declared.call_sides.CallSide.{CallSide}
+use Rattle.function_sums.specs.declared.call_sides.CallSide.TheVariants.{Callers, Callees}
 use Rattle.merging.specs.Sums.{all_samples}
 use Rattle.view_texts.specs.Fold.{fold_text}
 use Rattle.command_line.specs.Plans.{IsFaultAmong, default_plan, fault_of, plan_of}
@@ -25,12 +27,12 @@ use Rattle.sent_views.specs.declared.run_facts.RunFacts.{RunFacts}
 use Rattle.flame_tool.specs.KnownFacts.{known_facts}
 use Rattle.flame_tool.proofs.KnownSources.{IsKnown, facts_are_known}
 use Rattle.flame_tool.specs.Requests.{AreRefused, AsksForHelp, asked_faults, asked_plan, known_rests}
+use Rattle.command_line.specs.declared.plans.CallTable.{CallTable}
 use Rattle.command_line.specs.declared.plans.PageForm.{PageForm}
 use Rattle.command_line.specs.declared.plans.PictureForm.{PictureForm}
-use Rattle.sent_views.specs.Pages.{asked_heading, asked_text, page_text, picture_text, shown_text, text_in}
+use Rattle.sent_views.specs.Pages.{asked_heading, called_text, page_text, picture_text, shown_text, text_in}
 use Rattle.sent_views.proofs.PageLemmas.{orderless_page}
-use Rattle.source_views.specs.Texts.{IsOrderless, graph_text, told_text, top_text, view_text}
-use Rattle.flame_tool.specs.checked.Forms.{IsOfView}
+use Rattle.source_views.specs.Texts.{IsOrderless, calls_text, told_text, top_text, view_text}
 use Rattle.flame_tool.specs.Runs.{lists_of, text_of, GainsFront, IsClean, Shows, ShowsFront, ShowsSamples, FailsUntouched, HasFault, TellsNoWhole}
 use Rattle.flame_tool.specs.TypeRuns.{known_profile, HasTableFault, ShowsTypes, ShowsTypesFront}
 use Rattle.flame_tool.specs.checked.Failures.{Fails, IsHelp, IsWords, KeepsOutput}
@@ -64,36 +66,7 @@ module _ (plan : Plan) (told : Option RunFacts) (known : Option (List Rest)) (ol
 
 -- ---- a text without snapshots
 
-orderless_text : (all : Option ℕ) (view : View) (lists : List (List Sample)) (order : List ℕ) (every : Option ℕ) → IsOrderless view every → told_text all view lists order every ≡ told_text all view lists [] None
-orderless_text all Fold lists order every orderless = refl
-orderless_text all (Graph width) lists order every orderless = ap (view_text (Graph width) lists order) orderless
-orderless_text all (Chart width) lists order every orderless = refl
-orderless_text all Pairs lists order every orderless = refl
-orderless_text all (PairBoxes width) lists order every orderless = refl
-orderless_text all (Top top) lists order every orderless = refl
-orderless_text all (Diff table) lists order every orderless = refl
-
 module _ (plan : Plan) (facts : RunFacts) (lists : List (List Sample)) (order : List ℕ) (every : Option ℕ) where
-  -- the text of a view, where no page is written
-  of_view_in : (written : Form) → IsOfView written → IsOrderless plan.view every → asked_text plan facts lists [] None ≡ text_in written plan facts lists order every
-  of_view_in form.Text of_view orderless = sym (orderless_text (told_whole plan facts) plan.view lists order every orderless)
-  of_view_in (form.Page page) of_view orderless = absurd of_view
-  of_view_in (form.Picture picture) of_view orderless = absurd of_view
-  of_view_in form.Types of_view orderless = sym (orderless_text (told_whole plan facts) plan.view lists order every orderless)
-
-  pub orderless_shown : IsOfView plan.form → IsOrderless plan.view every → asked_text plan facts lists [] None ≡ shown_text plan facts lists order every
-  orderless_shown = of_view_in plan.form
-
-  -- the text of a graph, where no page is written
-  graph_in : (written : Form) (width : ℕ) → IsOfView written → plan.view ≡ Graph width → text_in written plan facts lists order every ≡ graph_text width lists order every
-  graph_in form.Text width of_view is = ap (λ (view : View). told_text (told_whole plan facts) view lists order every) is
-  graph_in (form.Page page) width of_view is = absurd of_view
-  graph_in (form.Picture picture) width of_view is = absurd of_view
-  graph_in form.Types width of_view is = ap (λ (view : View). told_text (told_whole plan facts) view lists order every) is
-
-  pub graph_shown : (width : ℕ) → IsOfView plan.form → plan.view ≡ Graph width → shown_text plan facts lists order every ≡ graph_text width lists order every
-  graph_shown = graph_in plan.form
-
   -- a text that says nothing of what a filter left out
   plainly : (view : View) → IsOrderless view every → TellsNoWhole plan.options.filter view → told_text (told_whole plan facts) view lists order every ≡ view_text view lists [] None
   plainly Fold orderless tells = refl
@@ -152,6 +125,15 @@ module _ (plan : Plan) (old new : Option (List ℕ)) where
   picture_exactly (Some facts) (Some rests) shows picture as_picture =
       of_shown (form.Picture picture) facts rests (picture_text plan facts picture (lists_of rests)) as_picture tt (λ order. refl) shows
 
+  pub calls_exactly : (side : CallSide) (written : CallTable → Form) (table : CallTable) → ShowsSamples (written table)
+      → ((facts : RunFacts) (lists : List (List Sample)) (order : List ℕ) → text_in (written table) plan facts lists order plan.options.every ≡ called_text side table plan facts lists)
+      → (told : Option RunFacts) (known : Option (List Rest)) → IfSome known (Shows plan told old new) → plan.form ≡ written table
+      → IfSome told (λ facts. IfSome known (λ rests. Appends old new (called_text side table plan facts (lists_of rests))))
+  calls_exactly side written table samples told_as None known shows as_calls = tt
+  calls_exactly side written table samples told_as (Some facts) None shows as_calls = tt
+  calls_exactly side written table samples told_as (Some facts) (Some rests) shows as_calls =
+      of_shown (written table) facts rests (called_text side table plan facts (lists_of rests)) as_calls samples (told_as facts (lists_of rests)) shows
+
 -- pages and pictures alone tell the types
 pub same_shown : (plan : Plan) (one other : RunFacts) (lists : List (List Sample)) (order : List ℕ) (every : Option ℕ) → one.whole ≡ other.whole
     → ((page : PageForm) → plan.form ≡ form.Page page → one.types ≡ other.types) → ((picture : PictureForm) → plan.form ≡ form.Picture picture → one.types ≡ other.types)
@@ -166,6 +148,8 @@ same_shown plan one other lists order every weighed typed pictured = go plan.for
     go (form.Page page) is = λ i. page_text plan (record { whole = weighed i; types = typed page is i }) page lists order every
     go (form.Picture picture) is = λ i. picture_text plan (record { whole = weighed i; types = pictured picture is i }) picture lists
     go form.Types is = told
+    go (form.Callers table) is = ap (λ whole. calls_text (cond (is_everything plan.options.filter) None (Some whole)) Callers table (all_samples lists)) weighed
+    go (form.Callees table) is = ap (λ whole. calls_text (cond (is_everything plan.options.filter) None (Some whole)) Callees table (all_samples lists)) weighed
 
 -- ---- without words
 
@@ -254,6 +238,20 @@ module _ (words : List Text) (plan : Plan) (input : Option (List ℕ)) (files : 
       words_have words plan (λ plan. (picture : PictureForm) → plan.form ≡ form.Picture picture
       → IfSome (known_facts plan input files) (λ facts. IfSome (known_rests plan input files) (λ rests. Appends old new (picture_text plan facts picture (lists_of rests)))))
       asked (picture_exactly plan old new (known_facts plan input files) (known_rests plan input files) shows)
+
+  pub asked_callers : IsSomeAnd (asked_plan words) (λ plan. (table : CallTable) → plan.form ≡ form.Callers table
+      → IfSome (known_facts plan input files) (λ facts. IfSome (known_rests plan input files) (λ rests. Appends old new (called_text Callers table plan facts (lists_of rests)))))
+  asked_callers =
+      words_have words plan (λ plan. (table : CallTable) → plan.form ≡ form.Callers table
+      → IfSome (known_facts plan input files) (λ facts. IfSome (known_rests plan input files) (λ rests. Appends old new (called_text Callers table plan facts (lists_of rests)))))
+      asked (λ table. calls_exactly plan old new Callers form.Callers table tt (λ facts lists order. refl) (known_facts plan input files) (known_rests plan input files) shows)
+
+  pub asked_callees : IsSomeAnd (asked_plan words) (λ plan. (table : CallTable) → plan.form ≡ form.Callees table
+      → IfSome (known_facts plan input files) (λ facts. IfSome (known_rests plan input files) (λ rests. Appends old new (called_text Callees table plan facts (lists_of rests)))))
+  asked_callees =
+      words_have words plan (λ plan. (table : CallTable) → plan.form ≡ form.Callees table
+      → IfSome (known_facts plan input files) (λ facts. IfSome (known_rests plan input files) (λ rests. Appends old new (called_text Callees table plan facts (lists_of rests)))))
+      asked (λ table. calls_exactly plan old new Callees form.Callees table tt (λ facts lists order. refl) (known_facts plan input files) (known_rests plan input files) shows)
 
 pub some_asked : {A : Type 0} (bytes : A → List ℕ) (words : List A) (plan : Plan) → (length words ≡ 0 → ⊥) → plan_of (map bytes words) ≡ Some plan → asked_plan (map bytes words) ≡ Some plan
 some_asked bytes [] plan some planned = absurd (some refl)

@@ -49,6 +49,8 @@ ShowsSamples form.Text = Unit {0}
 ShowsSamples (form.Page page) = Unit {0}
 ShowsSamples (form.Picture picture) = Unit {0}
 ShowsSamples form.Types = ⊥
+ShowsSamples (form.Callers table) = Unit {0}
+ShowsSamples (form.Callees table) = Unit {0}
 
 -- a text that the plan asks for: all of each source was read, and it is the view of their samples, its page or its picture, in
 -- an order in which they may come

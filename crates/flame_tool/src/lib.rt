@@ -12,11 +12,17 @@ pub use byte_io::{
     CountedReader, CountedWriter, Files, Inlet, LoadFault, MachineFiles, MemoryFiles, NamedFile,
     Outlet, SOURCE_LIMIT, SendFault, load, send,
 };
-pub use command_line::{Form, PageForm, PictureForm, Plan, PlanFault, TopTable, View, plan};
+pub use command_line::{
+    CallTable, Form, PageForm, PictureForm, Plan, PlanFault, TopTable, View, plan,
+};
 pub use merging::{Gathered, Snapshot, TreeSink};
 pub use opened_sources::SOURCE_COUNT;
 pub use page_views::{Heading, PageView, Source as PageSource, render_page_data};
 pub use program::run;
-pub use run_options::{Filter, Format, FunctionOrder, Options, format_of};
+pub use ring_collect::CollectFault;
+pub use run_options::{
+    Filter, Format, FunctionOrder, Naming, Options, Pick, RingSize, Width, format_of,
+};
 pub use source_lists::Source;
 pub use source_views::{Views, laws, render, views};
+pub use stack_core::{Gate, OpenGate, SourceEnd, SourceList, Turn};

@@ -3,15 +3,17 @@ ghost use Rattle.std.specs.Prelude.{◌≡◌, ◌≢◌, ◌≤◌, ◌<◌, �
 ghost use Rattle.std.specs.Io.KnownBytes.{Appends, Keeps};
 ghost use Rattle.folded_lines.specs.Reading.{read_folded};
 ghost use Rattle.command_line.specs.Plans.{IsComparison, IsOfOneProfile};
+ghost use Rattle.command_line.specs.declared.plans.CallTable.{CallTable};
 ghost use Rattle.command_line.specs.declared.plans.PageForm.{PageForm};
 ghost use Rattle.command_line.specs.declared.plans.PictureForm.{PictureForm};
 ghost use Rattle.command_line.specs.declared.plans.TopTable.{TopTable};
 ghost use Rattle.command_line.specs.declared.plans.View.{View};
+ghost use Rattle.function_sums.specs.declared.call_sides.CallSide.TheVariants.{Callers, Callees};
 ghost use Rattle.merging.specs.Sums.{all_samples};
 ghost use Rattle.run_options.specs.Filters.{is_everything};
 ghost use Rattle.flame_tool.specs.KnownFacts.{known_facts};
 ghost use Rattle.flame_tool.specs.Requests.{AreRefused, AsksForHelp, asked_faults, asked_plan, known_rests};
-ghost use Rattle.sent_views.specs.Pages.{page_text, picture_text};
+ghost use Rattle.sent_views.specs.Pages.{called_text, page_text, picture_text};
 ghost use Rattle.source_views.specs.Texts.{IsOrderless, top_text, view_text};
 ghost use Rattle.flame_tool.specs.Runs.{IsClean, IsFault, text_of, lists_of, FailsUntouched, GainsFront, Shows, ShowsFront, ShowsSamples, HasFault, TellsNoWhole};
 ghost use Rattle.flame_tool.specs.TypeRuns.{known_profile, HasTableFault, ShowsTypes, ShowsTypesFront};
@@ -110,6 +112,22 @@ pub fn run<T: Threads + Wait + Copy + Send + 'static, F: Files, W: Outlet, E: Ou
         IfSome (known_rests plan (F.known_input files.old) (F.known_file files.old)) (λ rests.
         Appends (W.contents out.old) (W.contents out.new)
         (picture_text plan facts picture (lists_of rests))))) }
+
+    // Nor of the callers of a function, and of its callees; under a filter they say what all samples weigh.
+    ensures shown_callers { result ≡ 0 → AsksForHelp (map string_bytes words.items)
+        ⊎ IsSomeAnd (asked_plan (map string_bytes words.items)) (λ plan.
+        (table : CallTable) → plan.form ≡ Form.Callers table
+        → IfSome (known_facts plan (F.known_input files.old) (F.known_file files.old)) (λ facts.
+        IfSome (known_rests plan (F.known_input files.old) (F.known_file files.old)) (λ rests.
+        Appends (W.contents out.old) (W.contents out.new)
+        (called_text Callers table plan facts (lists_of rests))))) }
+    ensures shown_callees { result ≡ 0 → AsksForHelp (map string_bytes words.items)
+        ⊎ IsSomeAnd (asked_plan (map string_bytes words.items)) (λ plan.
+        (table : CallTable) → plan.form ≡ Form.Callees table
+        → IfSome (known_facts plan (F.known_input files.old) (F.known_file files.old)) (λ facts.
+        IfSome (known_rests plan (F.known_input files.old) (F.known_file files.old)) (λ rests.
+        Appends (W.contents out.old) (W.contents out.new)
+        (called_text Callees table plan facts (lists_of rests))))) }
 
     // 1 is a fault of a source, 2 are words that are refused or more than 64 files, and 3 leaves nothing
     // or a part of the text from its front.
@@ -266,7 +284,7 @@ fn show_plan<T: Threads + Wait + Copy + Send + 'static, F: Files, W: Outlet, E: 
 {
     match plan.form {
         Form::Types => show_types(alloc, plan, files, out, err),
-        Form::Text | Form::Page(_) | Form::Picture(_) => {
+        Form::Text | Form::Page(_) | Form::Picture(_) | Form::Callers(_) | Form::Callees(_) => {
             show_views(rt, alloc, plan, files, out, err)
         }
     }

@@ -10,7 +10,7 @@ use byte_io::{Files, Outlet};
 use command_line::Plan;
 use opened_sources::{Failure, open_named, report_ending};
 use profile_tables::{SampleTypes, TableFault, sample_types};
-use sent_views::send_text;
+use source_views::send_text;
 use stack_core::SourceEnd;
 use std::alloc::Global;
 use view_texts::TypesText;

@@ -8,26 +8,24 @@ ghost use Rattle.command_line.specs.declared.plans.PictureForm.{PictureForm as A
 ghost use Rattle.source_lists.specs.Types.{types_of};
 ghost use Rattle.flame_tool.specs.KnownFacts.{known_facts};
 ghost use Rattle.flame_tool.specs.Requests.{known_rests};
-ghost use Rattle.sent_views.specs.Pages.{page_text, shown_text};
-ghost use Rattle.source_views.specs.Texts.{IsOrderless};
+ghost use Rattle.sent_views.specs.Pages.{shown_text};
 ghost use Rattle.flame_tool.specs.Runs.{Shows};
 ghost use Rattle.opened_sources.specs.Opening.{AreLoaded};
 ghost use Rattle.flame_tool.specs.checked.Failures.{Fails, FailsToShow, KeepsOutput};
-ghost use Rattle.opened_sources.specs.Failures.{has_fault, Flushes, Sends};
-ghost use Rattle.flame_tool.specs.checked.Forms.{IsOfView};
+ghost use Rattle.opened_sources.specs.Failures.{has_fault, Flushes};
 
 use crate::progress::Progress;
 use byte_io::{Files, Outlet};
-use command_line::{Form, PageForm, Plan, View};
-use flame_layout::Width;
-use merging::Gathered;
+use command_line::{Form, Plan};
+use function_sums::CallSide;
 use opened_sources::{Failure, any_fault, load_sources, report_endings};
 use profile_messages::SampleType;
 use sent_views::{
-    AskedPicture, RunFacts, send_asked_page, send_asked_picture, send_asked_view,
-    send_graph_with_snapshots, send_snapshots,
+    AskedCalls, AskedPicture, RunFacts, send_asked_calls, send_asked_page, send_asked_picture,
+    send_asked_view,
 };
 use source_lists::{Gating, Input, SourceLists, chosen_types, read};
+use source_views::InThreads;
 use stack_core::{Listed, OpenGate};
 use std::alloc::{AllocError, Global};
 use std::sync::Wait;
@@ -65,26 +63,6 @@ pub(crate) fn show_views<T: Threads + Wait + Copy + Send + 'static, F: Files, W:
     let shown = show_sources(rt, alloc, plan, inputs, out, &mut progress);
     progress.clear();
     shown
-}
-
-// The snapshots of a graph: its width, and after how many samples more there is one.
-#[derive(Clone, Copy)]
-struct AskedSnapshots {
-    width: Width,
-    every: u64,
-}
-
-// The snapshots that are asked for. The text of each other view is the same in whatever order the samples came.
-fn asked_snapshots(view: View, every: Option<u64>) -> Option<AskedSnapshots>
-    ensures some { IfSome result (λ asked. view ≡ View.Graph asked.width) }
-    ensures every { IfSome result (λ asked. every ≡ Some asked.every) }
-    ensures none { IsNone result → IsOrderless view every }
-{
-    match view {
-        View::Graph(width) => every.map(|every| AskedSnapshots { width, every }),
-        View::Fold | View::Chart(_) | View::Pairs | View::PairBoxes(_) => None,
-        View::Top(_) | View::Diff(_) => None,
-    }
 }
 
 // Collects the samples of sources, and sends the view of them.
@@ -138,7 +116,7 @@ fn told_types(alloc: Global, plan: &Plan, inputs: &[Input]) -> Result<Vec<Sample
 {
     match plan.form {
         Form::Page(_) | Form::Picture(_) => chosen_types(alloc, inputs, &plan.options),
-        Form::Text | Form::Types => Ok(Vec::new(alloc)),
+        Form::Text | Form::Types | Form::Callers(_) | Form::Callees(_) => Ok(Vec::new(alloc)),
     }
 }
 
@@ -166,59 +144,32 @@ fn send_lists<T: Threads, W: Outlet>(
     if any_fault(run.lists()) {
         return Err(Failure::Faults);
     }
+    let workers = InThreads { rt };
     match &plan.form {
-        Form::Text | Form::Types => send_view(rt, alloc, &run, plan, facts, out),
-        Form::Page(page) => send_page(alloc, run, plan, facts, page, out),
+        Form::Text | Form::Types => send_asked_view(&workers, alloc, &run, plan, facts, out),
+        Form::Callers(table) => {
+            let side = CallSide::Callers;
+            let asked = AskedCalls {
+                plan,
+                facts,
+                side,
+                table,
+            };
+            send_asked_calls(&workers, alloc, &run, &asked, out)
+        }
+        Form::Callees(table) => {
+            let side = CallSide::Callees;
+            let asked = AskedCalls {
+                plan,
+                facts,
+                side,
+                table,
+            };
+            send_asked_calls(&workers, alloc, &run, &asked, out)
+        }
+        Form::Page(page) => send_asked_page(alloc, run, plan, facts, page, out),
         Form::Picture(form) => {
             send_asked_picture(rt, alloc, &run, &AskedPicture { plan, facts, form }, out)
         }
-    }
-}
-
-// Sends the text of a plan's view, with the snapshots of its graph where they are asked for.
-fn send_view<T: Threads, W: Outlet>(
-    rt: &T,
-    alloc: Global,
-    run: &SourceLists,
-    plan: &Plan,
-    facts: &RunFacts,
-    out: &mut W,
-) -> Result<(), Failure>
-    requires pairs { IsComparison plan.now.view → length run.now.lists ≡ 2 }
-    requires every { IfSome plan.now.options.every (λ every. 1 ≤ every) }
-    requires of_view { IsOfView plan.now.form }
-    ensures sent { Sends (shown_text plan.now facts.now (samples_of run.now.lists) run.now.order
-        plan.now.options.every) (W.contents out.old) (W.contents out.new) result }
-    ensures flushed { Flushes (W.is_flushed out.new) (W.failures out.old) (W.failures out.new)
-        result }
-{
-    match asked_snapshots(plan.view, plan.options.every) {
-        Some(asked) => send_snapshots(alloc, run, asked.width, asked.every, out),
-        None => send_asked_view(rt, alloc, run, plan, facts, out),
-    }
-}
-
-// Sends the page of the lists of a run, with the snapshots of its graph where they are asked for.
-fn send_page<W: Outlet>(
-    alloc: Global,
-    run: SourceLists,
-    plan: &Plan,
-    facts: &RunFacts,
-    page: &PageForm,
-    out: &mut W,
-) -> Result<(), Failure>
-    requires pairs { IsComparison plan.now.view → length run.lists ≡ 2 }
-    requires every { IfSome plan.now.options.every (λ every. 1 ≤ every) }
-    ensures sent { Sends (page_text plan.now facts.now page.now (samples_of run.lists) run.order
-        plan.now.options.every) (W.contents out.old) (W.contents out.new) result }
-    ensures flushed { Flushes (W.is_flushed out.new) (W.failures out.old) (W.failures out.new)
-        result }
-{
-    match asked_snapshots(plan.view, plan.options.every) {
-        Some(_) => {
-            let gathered = Gathered::of_lists(alloc, run, plan.options.every)?;
-            send_graph_with_snapshots(alloc, &gathered, plan, facts, page, out)
-        }
-        None => send_asked_page(alloc, &run, plan, facts, page, out),
     }
 }

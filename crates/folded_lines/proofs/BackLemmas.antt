@@ -8,7 +8,7 @@ use Rattle.std.proofs.lemmas.List.Elements.{All-head, All-tail, All-weaker}
 use Rattle.bstr.proofs.lemmas.EncodeLemmas.{lossy_chars-utf8}
 use Rattle.sample_tables.specs.declared.samples.TheConstants.{FRAME_LIMIT}
 use Rattle.sample_tables.specs.declared.samples.Sample.{Sample as StackSample}
-use Rattle.folded_lines.specs.declared.lines.Line.TheVariants.{Sample}
+use Rattle.folded_lines.specs.Line.{Sample}
 use Rattle.folded_lines.specs.Lines.{columns, ends_in_number, onto_kept, without_trailing_empty, lossy_text, names_of, read_columns, read_line}
 use Rattle.folded_lines.specs.ReadingBack.{EndsPlainly, IsPlainName, IsPlain}
 use Rattle.folded_lines.specs.Writing.{column_of}

@@ -8,8 +8,8 @@ use Rattle.std.proofs.lemmas.List.Splits.{length-slice_split}
 use Rattle.std.proofs.lemmas.List.Sums.{count_by-le-length}
 use Rattle.sample_tables.specs.declared.samples.TheConstants.{FRAME_LIMIT, WEIGHT_LIMIT}
 use Rattle.stack_core.specs.declared.endings.ReadKind.TheVariants.{DecimalWeight, TwoColumns, TooDeep, TotalTooLarge}
-use Rattle.folded_lines.specs.declared.lines.Line.{Line}
-use Rattle.folded_lines.specs.declared.lines.Line.TheVariants.{Ignored, Fault, Sample}
+use Rattle.folded_lines.specs.Line.{Line}
+use Rattle.folded_lines.specs.Line.{Ignored, Fault, Sample}
 use Rattle.folded_lines.specs.declared.row_lines.Count.TheVariants as count
 use Rattle.folded_lines.specs.Lines.{is_semicolon, lossy_text, names_of, last_blank, columns, is_number, has_point, ends_in_number, read_line, read_columns}
 use Rattle.folded_lines.specs.checked.Cutting.{without_trailing_semicolons}

@@ -13,8 +13,8 @@ use Rattle.sample_tables.specs.declared.samples.TheConstants.{FRAME_LIMIT, WEIGH
 use Rattle.sample_tables.specs.declared.samples.Sample.{Sample as StackSample}
 use Rattle.stack_core.specs.declared.endings.ReadKind.TheVariants.{DecimalWeight, TwoColumns, TooDeep, TotalTooLarge}
 use Rattle.stack_core.specs.declared.endings.SourceEnd.{SourceEnd}
-use Rattle.folded_lines.specs.declared.lines.Line.{Line}
-use Rattle.folded_lines.specs.declared.lines.Line.TheVariants.{Ignored, Fault, Sample}
+use Rattle.folded_lines.specs.Line.{Line}
+use Rattle.folded_lines.specs.Line.{Ignored, Fault, Sample}
 use Rattle.folded_lines.specs.declared.cursor.Cursor.{Cursor}
 use Rattle.folded_lines.specs.Lines.{text_lines, columns, has_point, ends_in_number, names_of, sample_of, read_columns, read_line}
 use Rattle.folded_lines.specs.checked.Scanning.{within_total, scan, rest_at, IsWithin}

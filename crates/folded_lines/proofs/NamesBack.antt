@@ -11,8 +11,8 @@ use Rattle.stack_core.specs.Reading.{Rest}
 use Rattle.sample_tables.specs.declared.samples.TheConstants.{FRAME_LIMIT, WEIGHT_LIMIT}
 use Rattle.sample_tables.specs.declared.samples.Sample.{Sample as StackSample}
 use Rattle.stack_core.specs.declared.endings.ReadKind.TheVariants.{Compressed, DecimalWeight, TwoColumns, TooDeep, TotalTooLarge}
-use Rattle.folded_lines.specs.declared.lines.Line.{Line}
-use Rattle.folded_lines.specs.declared.lines.Line.TheVariants.{Ignored, Fault, Sample}
+use Rattle.folded_lines.specs.Line.{Line}
+use Rattle.folded_lines.specs.Line.{Ignored, Fault, Sample}
 use Rattle.folded_lines.specs.LastNames.{last_ends_in_number, ends_in_semicolon, is_open}
 use Rattle.folded_lines.specs.Lines.{text_lines, last_blank, columns, has_point, ends_in_number, names_of, sample_of, read_columns, read_line}
 use Rattle.folded_lines.specs.Reading.{cut_short, read_after, begins_compressed, read_folded}

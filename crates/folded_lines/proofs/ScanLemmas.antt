@@ -5,8 +5,8 @@ use Rattle.bstr.specs.Text.{line_len, without_terminator}
 use Rattle.bstr.proofs.lemmas.LineLemmas.{line_len-bounds, lines-step, lines-nil}
 use Rattle.stack_core.specs.Reading.{Rest}
 use Rattle.stack_core.specs.declared.endings.SourceEnd.TheVariants as ends
-use Rattle.folded_lines.specs.declared.lines.Line.{Line}
-use Rattle.folded_lines.specs.declared.lines.Line.TheVariants.{Ignored, Fault, Sample}
+use Rattle.folded_lines.specs.Line.{Line}
+use Rattle.folded_lines.specs.Line.{Ignored, Fault, Sample}
 use Rattle.folded_lines.specs.declared.cursor.Cursor.{Cursor}
 use Rattle.folded_lines.specs.Lines.{text_lines, read_line}
 use Rattle.folded_lines.specs.checked.Scanning.{within_total, ended, followed_by, scan, rest_at, place_after, rest_from, IsPlace, IsWithin}

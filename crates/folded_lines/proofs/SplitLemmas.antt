@@ -7,7 +7,7 @@ use Rattle.std.proofs.Math.Seq.{take-suc}
 use Rattle.std.proofs.lemmas.List.Splits.{slice_split-cons_yes, slice_split-cons_no, length-slice_split}
 use Rattle.sample_tables.specs.declared.samples.TheConstants.{FRAME_LIMIT}
 use Rattle.folded_lines.specs.Lines.{is_semicolon, lossy_text, names_of, onto_kept, without_trailing_empty}
-use Rattle.folded_lines.specs.checked.Cutting.{onto_trimmed, without_trailing_semicolons, if_few}
+use Rattle.folded_lines.specs.checked.Cutting.{onto_trimmed, without_trailing_semicolons}
 use Rattle.folded_lines.proofs.Cuts.{names_between}
 
 is_false : (b : Bool) → ¬ (b ≡ true) → b ≡ false
@@ -118,11 +118,3 @@ pub names_of-something : (head left : List ℕ) → left ≡ without_trailing_se
 names_of-something head [] is some = absurd (omega arith)
 names_of-something head (b ∷ bytes) is some =
     ap (map lossy_text) (without_trailing_empty-slice_split head ∙ ap parts_of (sym is))
-
-pub if_few-many : (names : List (List ℕ)) → FRAME_LIMIT < length names → if_few names ≡ None
-if_few-many names many = cond-true _ _ _ (lt-ltb FRAME_LIMIT (length names) many)
-
-pub names_left-some : (before : List (List ℕ)) (text head : List ℕ) → before ++ slice_split is_semicolon text ≡ slice_split is_semicolon head → FRAME_LIMIT ≤ length before
-    → if_few (slice_split is_semicolon head) ≡ None
-names_left-some before text head same many =
-    if_few-many (slice_split is_semicolon head) (omega (arith, ap length same, length-append before (slice_split is_semicolon text), split_some text))

@@ -14,7 +14,7 @@ use Rattle.bstr.proofs.lemmas.LineLemmas.{lines-append, lines-one, lines-nil}
 use Rattle.sample_tables.specs.declared.samples.TheConstants.{WEIGHT_LIMIT}
 use Rattle.sample_tables.specs.declared.samples.Sample.{Sample as StackSample}
 use Rattle.stack_core.specs.declared.endings.SourceEnd.TheVariants as ends
-use Rattle.folded_lines.specs.declared.lines.Line.TheVariants.{Sample}
+use Rattle.folded_lines.specs.Line.{Sample}
 use Rattle.folded_lines.specs.Lines.{text_lines, read_line}
 use Rattle.folded_lines.specs.Reading.{begins_compressed, read_folded}
 use Rattle.folded_lines.specs.ReadingBack.{text_of, IsPlainName, IsPlain}

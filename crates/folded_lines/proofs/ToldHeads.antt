@@ -13,8 +13,8 @@ use Rattle.sample_tables.specs.declared.samples.TheConstants.{WEIGHT_LIMIT}
 use Rattle.call_tree.specs.SpellingCache.{Spelling, IsRowOf, GrowsByAtMost}
 use Rattle.call_tree.proofs.NameNumbers.{numbers-longer, names_at-longer}
 use Rattle.folded_lines.specs.Lines.{names_of}
-use Rattle.folded_lines.specs.declared.lines.Line.{Line}
-use Rattle.folded_lines.specs.declared.lines.Line.TheVariants.{Fault, Sample}
+use Rattle.folded_lines.specs.Line.{Line}
+use Rattle.folded_lines.specs.Line.{Fault, Sample}
 use Rattle.folded_lines.specs.checked.RowLines.{line_of_head}
 use Rattle.folded_lines.specs.checked.Scanning.{within_total}
 use Rattle.folded_lines.specs.checked.Telling.{head_fault, TellsStack, IsToldAs, AreToldAs}

@@ -1,4 +1,5 @@
 pub mod LastNames
+pub mod Line
 pub mod Lines
 pub mod Reading
 pub mod ReadingBack

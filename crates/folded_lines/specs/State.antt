@@ -1,4 +1,4 @@
--- What callers see of a reader.
+-- What callers see of the readers.
 use Rattle.std.specs.Prelude.{Bool}
 use Rattle.stack_core.specs.Reading.{Rest}
 use Rattle.sample_tables.specs.Rows.{ToldRows}

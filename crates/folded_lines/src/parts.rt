@@ -7,7 +7,7 @@ ghost use Rattle.folded_lines.specs.Reading.{read_folded};
 ghost use Rattle.folded_lines.specs.TextParts.{IsWholeLines, AreCutAtLines};
 ghost use Rattle.folded_lines.specs.checked.Pieces.{text_of_cut};
 
-use crate::reader::FoldedReader;
+use crate::rows::FoldedRows;
 use bytes::Bytes;
 use memchr::memchr;
 use std::alloc::{AllocError, Global};
@@ -114,10 +114,10 @@ pub fn cut_pieces(alloc: Global, pieces: Vec<Vec<u8>>) -> Result<Vec<Bytes>, All
     Ok(parts)
 }
 
-impl FoldedReader {
+impl FoldedRows {
     /// A reader of each part of a text that is cut at line ends, in their order. Where no part has a fault, what they give one after
     /// another is what the text stands for. The line that a fault names is counted from the beginning of its part.
-    pub fn of_parts(alloc: Global, parts: &[Bytes]) -> Result<Vec<FoldedReader>, AllocError>
+    pub fn of_parts(alloc: Global, parts: &[Bytes]) -> Result<Vec<FoldedRows>, AllocError>
         requires { AreCutAtLines parts.now }
         ensures parts { IfOk result (λ readers.
             ReadsInParts (read_folded (concat parts.now)) (map (λ reader. reader.rest) readers.items)) }
@@ -127,7 +127,7 @@ impl FoldedReader {
     {
         let mut readers = Vec::with_capacity(alloc, parts.len())?;
         for part in parts {
-            readers.push(FoldedReader::over_shared(alloc, part.clone()?))?;
+            readers.push(FoldedRows::over_shared(alloc, part.clone()?))?;
         }
         Ok(readers)
     }
@@ -135,7 +135,7 @@ impl FoldedReader {
     /// Readers of so many parts of a text, one after another. The parts are cut at line ends, share the text, and are about equal where no
     /// line is long. Where no part has a fault, what they give one after another is what the text stands for. The line that a fault names
     /// is counted from the beginning of its part.
-    pub fn parts(alloc: Global, text: Bytes, count: usize) -> Result<Vec<FoldedReader>, AllocError>
+    pub fn parts(alloc: Global, text: Bytes, count: usize) -> Result<Vec<FoldedRows>, AllocError>
         requires { 0 < count }
         ensures parts { IfOk result (λ readers.
             ReadsInParts (read_folded text) (map (λ reader. reader.rest) readers.items)) }
@@ -143,6 +143,6 @@ impl FoldedReader {
         ensures told { IfOk result (λ readers. All (λ reader. reader.told ≡ record { names = []; stacks = [] })
             readers.items) }
     {
-        FoldedReader::of_parts(alloc, &cut_at_lines(alloc, text, count)?)
+        FoldedRows::of_parts(alloc, &cut_at_lines(alloc, text, count)?)
     }
 }

@@ -1,50 +1,31 @@
-//! Folded text, read line by line.
+//! Folded text, read sample by sample.
 
 ghost use Rattle.std.specs.Prelude.{◌≡◌, ◌≢◌, ℕ, [], IsTrue};
-ghost use Rattle.stack_core.specs.Parts.{bytes_of};
 ghost use Rattle.stack_core.specs.Reading.{IsSourceLimited};
 ghost use Rattle.stack_core.specs.declared.endings.SourceEnd.TheVariants.{Stopped};
-ghost use Rattle.folded_lines.specs.Reading.{read_folded, begins_compressed};
+ghost use Rattle.folded_lines.specs.Reading.{read_folded};
 
-use crate::cursor::{Cursor, next_step};
-use crate::row_steps::next_row_step;
-use crate::telling::Telling;
-use bytes::Bytes;
-use stack_core::{
-    ReadFault, ReadKind, RowReader, RowStep, SampleReader, SourceBytes, SourceEnd, Step,
-};
+use crate::rows::FoldedRows;
+use stack_core::{NamingReader, SampleReader, Step};
 use std::alloc::{AllocError, Global};
 use std::marker::Model;
 
 /// Reads the samples of folded text: names joined by `;`, root first, a space or tab and a count, a sample
 /// a line, as the FlameGraph tools write it. Lines without a count are ignored and counted. The first fault
 /// ends the source, and its `at` is the number of its line, from 1. Contracts see what the reader still has
-/// to give, and whether it has come to the ending: compressed bytes are at it from the start.
-#[derive(Debug, Drop)]
+/// to give, and whether it has answered the ending.
+#[derive(Drop)]
 pub struct FoldedReader {
-    bytes: SourceBytes,
-    cursor: Cursor,
-    ended: Option<SourceEnd>,
-    telling: Telling,
+    naming: NamingReader<FoldedRows>,
 }
 
 impl Model for FoldedReader {
     ghost use Rattle.folded_lines.specs.State.{State};
+    ghost use Rattle.folded_lines.specs.checked.View.{reader_state};
 
     ghost Value = { State };
 
-    ghost use Rattle.folded_lines.specs.checked.View.{state_of, IsReader};
-
-    ghost view = { state_of };
-
-    ghost invariant = { IsReader };
-}
-
-/// Whether the bytes begin as gzip does.
-fn begins_compressed(bytes: &[u8]) -> bool
-    ensures { result ≡ begins_compressed bytes.now }
-{
-    bytes.first() == Some(&0x1f) && bytes.get(1) == Some(&0x8b)
+    ghost view = { reader_state };
 }
 
 impl FoldedReader {
@@ -55,39 +36,9 @@ impl FoldedReader {
         ensures told { result.told ≡ record { names = []; stacks = [] } }
         ensures unstopped { (after : ℕ) → (read_folded bytes.items).ending ≢ Stopped after }
     {
-        let telling = Telling::new(*bytes.allocator());
-        FoldedReader::of(SourceBytes::Own(bytes), telling)
-    }
-
-    /// A reader of folded text that others share, from its first line. It takes no memory.
-    pub fn over_shared(alloc: Global, bytes: Bytes) -> Self
-        ensures rest { result.rest ≡ read_folded bytes }
-        ensures limits { IsSourceLimited (read_folded bytes).samples }
-        ensures told { result.told ≡ record { names = []; stacks = [] } }
-        ensures unstopped { (after : ℕ) → (read_folded bytes).ending ≢ Stopped after }
-    {
-        FoldedReader::of(SourceBytes::Shared(bytes), Telling::new(alloc))
-    }
-
-    fn of(bytes: SourceBytes, telling: Telling) -> Self
-        requires names { telling.names ≡ [] }
-        requires heads { telling.heads ≡ [] }
-        requires stacks { telling.stacks ≡ 0 }
-        requires history { telling.history ≡ [] }
-        ensures rest { result.rest ≡ read_folded (bytes_of bytes) }
-        ensures limits { IsSourceLimited (read_folded (bytes_of bytes)).samples }
-        ensures told { result.told ≡ record { names = []; stacks = [] } }
-        ensures unstopped { (after : ℕ) → (read_folded (bytes_of bytes)).ending ≢ Stopped after }
-    {
-        let ended = begins_compressed(bytes.as_slice()).then_some(SourceEnd::Fault(ReadFault {
-            kind: ReadKind::Compressed,
-            at: 1,
-        }));
+        let alloc = *bytes.allocator();
         FoldedReader {
-            bytes,
-            cursor: Cursor::START,
-            ended,
-            telling,
+            naming: NamingReader::of(alloc, FoldedRows::over(bytes)),
         }
     }
 }
@@ -98,35 +49,6 @@ impl SampleReader for FoldedReader {
     ghost has_ended = { λ reader. IsTrue reader.has_ended };
 
     fn next(&mut self, alloc: Global) -> Result<Step, AllocError> {
-        if let Some(ending) = self.ended {
-            return Ok(Step::End(ending));
-        }
-        let (step, cursor) = next_step(alloc, self.bytes.as_slice(), self.cursor)?;
-        self.cursor = cursor;
-        if let Step::End(ending) = &step {
-            self.ended = Some(*ending);
-        }
-        Ok(step)
-    }
-}
-
-impl RowReader for FoldedReader {
-    ghost rest = { λ reader. reader.rest };
-
-    ghost told = { λ reader. reader.told };
-
-    ghost has_ended = { λ reader. IsTrue reader.has_ended };
-
-    fn next_row(&mut self, alloc: Global) -> Result<RowStep, AllocError> {
-        if let Some(ending) = self.ended {
-            return Ok(RowStep::End(ending));
-        }
-        let bytes = self.bytes.as_slice();
-        let (step, next) = next_row_step(alloc, bytes, self.cursor, &mut self.telling)?;
-        self.cursor = next;
-        if let RowStep::End(ending) = &step {
-            self.ended = Some(*ending);
-        }
-        Ok(step)
+        self.naming.next(alloc)
     }
 }

@@ -1,7 +1,8 @@
 //! What a reader of rows told, and which heads it knows again.
 
-ghost use Rattle.std.specs.Prelude.{◌≡◌, ◌≤◌, ◌<◌, ◌^◌, ◌++◌, [], None, length, slice_range, drop, IfOk, OnErr};
+ghost use Rattle.std.specs.Prelude.{◌≡◌, ◌≤◌, ◌<◌, ◌^◌, ◌++◌, [], None, length, slice_range, drop, IfOk, MatchOption, OnErr};
 ghost use Rattle.std.specs.List.{slice_index_or};
+ghost use Rattle.sample_tables.specs.Rows.{name_at};
 ghost use Rattle.stack_core.specs.Prefixes.{IsPrefixOf};
 ghost use Rattle.folded_lines.specs.Lines.{names_of};
 ghost use Rattle.folded_lines.specs.checked.Telling.{head_fault, told_of, IsTelling, TellsStack};
@@ -63,6 +64,18 @@ impl Telling {
             frames: Vec::new(alloc),
             stacks: 0,
             history: StackHistory::new(),
+        }
+    }
+
+    /// The name of this number, if there is one.
+    pub(crate) fn name(&self, number: usize) -> Option<&str>
+        ensures { MatchOption result (length self.now.names ≤ number)
+            (λ name. name.now ≡ name_at self.now.names number) }
+    {
+        if number < self.names.len() {
+            Some(self.names.name(number))
+        } else {
+            None
         }
     }
 

@@ -1,13 +1,13 @@
 -- counting the names of stacks, frame by frame
-use Rattle.std.proofs.Common.{◌≡◌, ℕ, ◌+◌, ◌-◌, ◌<◌, ◌≤◌, Bool, true, false, cond, ◌||◌, zero, suc, List, [], ◌∷◌, ◌++◌, Some, length, map, get_or, set, take, drop, sum_by, ltb, All, refl, sym, ap, subst, ◌∙◌, arith, ⊎_elim}
+use Rattle.std.proofs.Common.{◌≡◌, ℕ, ◌+◌, ◌-◌, ◌<◌, ◌≤◌, ◌^◌, Bool, true, false, cond, ◌&&◌, ◌||◌, zero, suc, List, [], ◌∷◌, ◌++◌, Some, length, map, get_or, set, take, drop, sum_by, ltb, All, refl, sym, ap, subst, ◌∙◌, arith, ⊎_elim}
 use Rattle.std.specs.List.{list_any, slice_get}
 use Rattle.std.specs.Str.{bytes_eq}
-use Rattle.std.proofs.lemmas.Bool.{cases_Bool, cases_eq, or_right, or_left, false_from_ne_true, le-ltb, lt-ltb, true≢false, and_left, and_right, and_from}
+use Rattle.std.proofs.lemmas.Bool.{cases_Bool, cases_eq, or_right, or_left, false_from_ne_true, le-ltb, lt-ltb, true≢false}
 use Rattle.std.proofs.lemmas.Slice.Eq.{bytes_eq-Decides}
 use Rattle.std.proofs.lemmas.List.{append-nil, drop_all, take_all, length-map, length-set, get_or-map, get_or-set_same, get_or-set_other, map_more, take-map}
 use Rattle.std.proofs.lemmas.List.Folds.{list_any-append}
 use Rattle.std.proofs.lemmas.List.Sums.{sum_by-append, sum_by-cons, sum_by-take-le}
-use Rattle.std.proofs.lemmas.Option.{get_or_from_slice_get, slice_get_within}
+use Rattle.std.proofs.lemmas.Option.{get_or_from_slice_get, slice_get-get_or, slice_get_within}
 use Rattle.sample_tables.specs.declared.samples.Sample.{Sample}
 use Rattle.sample_tables.specs.Rows.{name_at, named, row_at}
 use Rattle.merged_stacks.specs.Order.{AreRising}
@@ -16,7 +16,7 @@ use Rattle.merged_stacks.proofs.JoinedStacks.{names_distinct}
 use Rattle.merged_stacks.specs.Timeline.{Stack, total_weight}
 use Rattle.function_sums.specs.declared.counts.Count.{Count}
 use Rattle.function_sums.specs.FunctionSums.{stands_in, ends, total_of}
-use Rattle.function_sums.specs.checked.Counted.{counted, IsCount, AreCounts}
+use Rattle.function_sums.specs.checked.Counted.{counted, ended, HasRoom, IsCount, AreCounts}
 
 pub same_name : (a b : List ℕ) → bytes_eq a b ≡ true → a ≡ b
 same_name a b h = (bytes_eq-Decides a b).0 h
@@ -48,8 +48,8 @@ among-at name (x ∷ names) (suc i) h e = or_right (bytes_eq name x) (list_any (
 
 -- ---- one name, with one frame more
 
-count-other : (name m : List ℕ) (done : List Sample) (front : Stack) (weight stamp : ℕ) (count : Count) → IsCount name done front weight stamp count → bytes_eq name m ≡ false → IsCount name done (front ++ m ∷ []) weight stamp count
-count-other name m done front weight stamp count k h =
+count-other : (name m : List ℕ) (lasts done : List Sample) (front : Stack) (weight stamp : ℕ) (count : Count) → IsCount name lasts done front weight stamp count → bytes_eq name m ≡ false → IsCount name lasts done (front ++ m ∷ []) weight stamp count
+count-other name m lasts done front weight stamp count k h =
     let same = among-other name m front h in
     record {
       own = k.own;
@@ -61,22 +61,22 @@ count-other name m done front weight stamp count k h =
 abbrev counted_more : ℕ → ℕ → Count → Count
 counted_more weight stamp count = record { own = count.own; total = count.total + weight; stamp = stamp }
 
-count-again : (name m : List ℕ) (done : List Sample) (front : Stack) (weight stamp : ℕ) (count : Count) → IsCount name done front weight stamp count → bytes_eq name m ≡ true → IsCount name done (front ++ m ∷ []) weight stamp (counted weight stamp count)
-count-again name m done front weight stamp count k h = cases (stands_in name front) refl
+count-again : (name m : List ℕ) (lasts done : List Sample) (front : Stack) (weight stamp : ℕ) (count : Count) → IsCount name lasts done front weight stamp count → bytes_eq name m ≡ true → IsCount name lasts done (front ++ m ∷ []) weight stamp (counted weight stamp count)
+count-again name m lasts done front weight stamp count k h = cases (stands_in name front) refl
   where
     last : stands_in name (front ++ m ∷ []) ≡ true
     last = among-last name m front h
 
-    cases : (b : Bool) → stands_in name front ≡ b → IsCount name done (front ++ m ∷ []) weight stamp (counted weight stamp count)
+    cases : (b : Bool) → stands_in name front ≡ b → IsCount name lasts done (front ++ m ∷ []) weight stamp (counted weight stamp count)
     cases true e =
-        subst (IsCount name done (front ++ m ∷ []) weight stamp) (sym (ap (λ b. cond b (counted_more weight stamp count) count) (le-ltb count.stamp stamp (omega (arith, k.marked e))))) record {
+        subst (IsCount name lasts done (front ++ m ∷ []) weight stamp) (sym (ap (λ b. cond b (counted_more weight stamp count) count) (le-ltb count.stamp stamp (omega (arith, k.marked e))))) record {
           own = k.own;
           total = k.total ∙ ap (λ b. total_of name done + cond b weight 0) (e ∙ sym last);
           marked = λ _. k.marked e;
           unmarked = λ miss. absurd (true≢false (sym last ∙ miss));
         }
     cases false e =
-        subst (IsCount name done (front ++ m ∷ []) weight stamp) (sym (ap (λ b. cond b (counted_more weight stamp count) count) (lt-ltb count.stamp stamp (k.unmarked e)))) record {
+        subst (IsCount name lasts done (front ++ m ∷ []) weight stamp) (sym (ap (λ b. cond b (counted_more weight stamp count) count) (lt-ltb count.stamp stamp (k.unmarked e)))) record {
           own = k.own;
           total = omega (arith, k.total, ap (λ b. cond b weight 0) e, ap (λ b. cond b weight 0) last);
           marked = λ _. refl;
@@ -89,9 +89,9 @@ count-again name m done front weight stamp count k h = cases (stands_in name fro
 apart : (names : List (List ℕ)) → AreRising names → (i n : ℕ) → i < length names → n < length names → (i ≡ n → ⊥) → bytes_eq (name_at names i) (name_at names n) ≡ false
 apart names rising i n li ln ne = false_from_ne_true _ (λ hit. ne (names_distinct names rising i n li ln (same_name (name_at names i) (name_at names n) hit)))
 
-pub frame_more : (names : List (List ℕ)) (counts after : List Count) (done : List Sample) (front : Stack) (weight stamp n : ℕ) → AreCounts names counts done front weight stamp → AreRising names → n < length names
-    → ((d : Count) → after ≡ set counts n (counted weight stamp (get_or counts n d))) → AreCounts names after done (front ++ name_at names n ∷ []) weight stamp
-frame_more names counts after done front weight stamp n are rising within put = record {
+pub frame_more : (names : List (List ℕ)) (counts after : List Count) (lasts done : List Sample) (front : Stack) (weight stamp n : ℕ) → AreCounts names counts lasts done front weight stamp → AreRising names → n < length names
+    → ((d : Count) → after ≡ set counts n (counted weight stamp (get_or counts n d))) → AreCounts names after lasts done (front ++ name_at names n ∷ []) weight stamp
+frame_more names counts after lasts done front weight stamp n are rising within put = record {
   many = ap length (put none) ∙ (length-set counts n _ ∙ are.many);
   each = λ i d lt. ⊎_elim (λ e. here i d e) (λ ne. beside i d lt ne) (cases_eq i n);
 }
@@ -99,18 +99,18 @@ frame_more names counts after done front weight stamp n are rising within put = 
     m : List ℕ
     m = name_at names n
 
-    here : (i : ℕ) (d : Count) → i ≡ n → IsCount (name_at names i) done (front ++ m ∷ []) weight stamp (get_or after i d)
+    here : (i : ℕ) (d : Count) → i ≡ n → IsCount (name_at names i) lasts done (front ++ m ∷ []) weight stamp (get_or after i d)
     here i d e =
         let count = get_or counts n d in
         let now : get_or after n d ≡ counted weight stamp count = ap (λ (all : List Count). get_or all n d) (put d) ∙ get_or-set_same counts n (counted weight stamp count) d (omega (arith, within, are.many)) in
-        subst (λ k. IsCount (name_at names k) done (front ++ m ∷ []) weight stamp (get_or after k d)) (sym e)
-        (subst (IsCount m done (front ++ m ∷ []) weight stamp) (sym now) (count-again m m done front weight stamp count (are.each n d within) (is_same m m refl)))
+        subst (λ k. IsCount (name_at names k) lasts done (front ++ m ∷ []) weight stamp (get_or after k d)) (sym e)
+        (subst (IsCount m lasts done (front ++ m ∷ []) weight stamp) (sym now) (count-again m m lasts done front weight stamp count (are.each n d within) (is_same m m refl)))
 
-    beside : (i : ℕ) (d : Count) → i < length names → (i ≡ n → ⊥) → IsCount (name_at names i) done (front ++ m ∷ []) weight stamp (get_or after i d)
+    beside : (i : ℕ) (d : Count) → i < length names → (i ≡ n → ⊥) → IsCount (name_at names i) lasts done (front ++ m ∷ []) weight stamp (get_or after i d)
     beside i d lt ne =
         let now : get_or after i d ≡ get_or counts i d = ap (λ (all : List Count). get_or all i d) (put d) ∙ get_or-set_other counts n i _ d ne in
-        subst (IsCount (name_at names i) done (front ++ m ∷ []) weight stamp) (sym now)
-        (count-other (name_at names i) m done front weight stamp (get_or counts i d) (are.each i d lt) (apart names rising i n lt within ne))
+        subst (IsCount (name_at names i) lasts done (front ++ m ∷ []) weight stamp) (sym now)
+        (count-other (name_at names i) m lasts done front weight stamp (get_or counts i d) (are.each i d lt) (apart names rising i n lt within ne))
 
 -- ---- a stack whose frames were all counted
 
@@ -127,8 +127,42 @@ tested-push g done s =
     let f = λ (sample : Sample). cond (g sample.stack) sample.weight 0 in
     omega (arith, sum_by-append f done (s ∷ []), sum_by-cons f s [])
 
+-- before the first frame no name stands in the stack
+none_more : (name : List ℕ) (weight : ℕ) → cond (stands_in name []) weight 0 ≡ 0
+none_more name weight = refl
+
+-- a stack more has room, also where some of its frames were counted
+pub all_room : (names : List (List ℕ)) (counts : List Count) (lasts done : List Sample) (weight stamp : ℕ) → AreCounts names counts lasts done [] 0 stamp → total_weight lasts + weight < 2 ^ 64 → total_weight done + weight < 2 ^ 64
+    → All (HasRoom weight stamp) counts
+all_room names counts lasts done weight stamp are last small k d lt =
+    let name = name_at names k in
+    let count = are.each k d (omega (arith, lt, are.many)) in (
+      omega (arith, count.own, tested-le (ends name) lasts, last),
+      (λ _. omega (arith, count.total, none_more name 0, tested-le (stands_in name) done, small)),
+    )
+
+pub room_more : (counts after : List Count) (weight stamp n : ℕ) → n < length counts → All (HasRoom weight stamp) counts → ((d : Count) → after ≡ set counts n (counted weight stamp (get_or counts n d))) → All (HasRoom weight stamp) after
+room_more counts after weight stamp n within room put k d lt = ⊎_elim here beside (cases_eq k n)
+  where
+    count : Count
+    count = get_or counts n none
+
+    one : (b : Bool) → ltb count.stamp stamp ≡ b → HasRoom weight stamp (cond b (counted_more weight stamp count) count)
+    one true e = ((room n none within).0, (λ below. absurd (omega (arith, below))))
+    one false e = room n none within
+
+    here : k ≡ n → HasRoom weight stamp (get_or after k d)
+    here e =
+        let now : get_or after n d ≡ counted weight stamp count = ap (λ (all : List Count). get_or all n d) (put none) ∙ get_or-set_same counts n (counted weight stamp count) d within in
+        subst (λ k. HasRoom weight stamp (get_or after k d)) (sym e) (subst (HasRoom weight stamp) (sym now) (one (ltb count.stamp stamp) refl))
+
+    beside : (k ≡ n → ⊥) → HasRoom weight stamp (get_or after k d)
+    beside ne =
+        let now : get_or after k d ≡ get_or counts k d = ap (λ (all : List Count). get_or all k d) (put none) ∙ get_or-set_other counts n k _ d ne in
+        subst (HasRoom weight stamp) (sym now) (room k d (omega (arith, lt, ap length (put none), length-set counts n (counted weight stamp count))))
+
 -- the weight of one stack more has room
-stack_room : (stacks : List Sample) (at : ℕ) (s : Sample) → take (at + 1) stacks ≡ take at stacks ++ s ∷ [] → total_weight (take at stacks) + s.weight ≤ total_weight stacks
+pub stack_room : (stacks : List Sample) (at : ℕ) (s : Sample) → take (at + 1) stacks ≡ take at stacks ++ s ∷ [] → total_weight (take at stacks) + s.weight ≤ total_weight stacks
 stack_room stacks at s more =
     let weight = λ (sample : Sample). sample.weight in
     omega (arith, sum_by-take-le weight stacks (at + 1), ap (sum_by weight) more, sum_by-append weight (take at stacks) (s ∷ []), sum_by-cons weight s [])
@@ -152,70 +186,57 @@ last_name names ranks last e =
     sym (ap (λ n. name_at (map (name_at names) ranks) (n - 1)) (length-map ranks (name_at names)) ∙ get_or-map (name_at names) ranks (length ranks - 1) 0 [] (slice_get_within ranks (length ranks - 1) last e)
     ∙ ap (name_at names) (get_or_from_slice_get ranks (length ranks - 1) last 0 e))
 
-pub total_room : (names : List (List ℕ)) (counts : List Count) (stacks : List Sample) (at : ℕ) (s : Sample) (front : Stack) (stamp limit : ℕ) → take (at + 1) stacks ≡ take at stacks ++ s ∷ [] → total_weight stacks < limit →
-    AreCounts names counts (take at stacks) front s.weight stamp → All (λ count. count.stamp < stamp → count.total + s.weight < limit) counts
-total_room names counts stacks at s front stamp limit more small are k d lt below =
-    let name = name_at names k in
-    let count = are.each k d (omega (arith, lt, are.many)) in
-    let away : stands_in name front ≡ false = false_from_ne_true (stands_in name front) (λ hit. absurd (omega (arith, below, count.marked hit))) in
-    omega (arith, count.total, ap (λ b. cond b s.weight 0) away, tested-le (stands_in name) (take at stacks), stack_room stacks at s more, small)
-
-pub own_room : (names : List (List ℕ)) (counts : List Count) (stacks : List Sample) (at : ℕ) (s : Sample) (front : Stack) (stamp limit : ℕ) → take (at + 1) stacks ≡ take at stacks ++ s ∷ [] → total_weight stacks < limit →
-    AreCounts names counts (take at stacks) front s.weight stamp → (k : ℕ) (d : Count) → k < length names → (get_or counts k d).own + s.weight < limit
-own_room names counts stacks at s front stamp limit more small are k d lt =
-    let count = are.each k d lt in
-    omega (arith, count.own, tested-le (ends (name_at names k)) (take at stacks), stack_room stacks at s more, small)
-
 abbrev pub with_own : ℕ → Count → Count
 with_own weight count = record { own = count.own + weight; total = count.total; stamp = count.stamp }
 
--- before the first frame no name stands in the stack
-none_more : (name : List ℕ) (weight : ℕ) → cond (stands_in name []) weight 0 ≡ 0
-none_more name weight = refl
-
-count-done : (name : List ℕ) (done : List Sample) (s : Sample) (stamp : ℕ) (count after : Count) → IsCount name done s.stack s.weight stamp count → after.own ≡ count.own + cond (ends name s.stack) s.weight 0 → after.total ≡ count.total → after.stamp ≡ count.stamp →
-    IsCount name (done ++ s ∷ []) [] 0 (stamp + 1) after
-count-done name done s stamp count after k own total same = record {
-  own = omega (arith, own, k.own, tested-push (ends name) done s);
+count-done : (name : List ℕ) (lasts done : List Sample) (ending s : Sample) (stamp : ℕ) (count after : Count) → IsCount name lasts done s.stack s.weight stamp count → ending.weight ≡ s.weight
+    → after.own ≡ count.own + cond (ends name ending.stack) s.weight 0 → after.total ≡ count.total → after.stamp ≡ count.stamp → IsCount name (lasts ++ ending ∷ []) (done ++ s ∷ []) [] 0 (stamp + 1) after
+count-done name lasts done ending s stamp count after k weighs own total same = record {
+  own = omega (arith, own, k.own, tested-push (ends name) lasts ending, ap (λ w. cond (ends name ending.stack) w 0) weighs);
   total = omega (arith, total, k.total, tested-push (stands_in name) done s, none_more name 0);
   marked = λ hit. absurd (true≢false (sym hit));
   unmarked = λ _. ⊎_elim (λ hit. omega (arith, same, k.marked hit)) (λ miss. omega (arith, same, k.unmarked miss)) (cases_Bool (stands_in name s.stack));
 }
 
-module _ (names : List (List ℕ)) (counts : List Count) (done : List Sample) (s : Sample) (stamp : ℕ) (are : AreCounts names counts done s.stack s.weight stamp) where
-  pub stack_empty : length s.stack ≡ 0 → AreCounts names counts (done ++ s ∷ []) [] 0 (stamp + 1)
+module _ (names : List (List ℕ)) (counts : List Count) (lasts done : List Sample) (ending s : Sample) (stamp : ℕ) (are : AreCounts names counts lasts done s.stack s.weight stamp) (weighs : ending.weight ≡ s.weight) where
+  pub stack_empty : ((name : List ℕ) → ends name ending.stack ≡ false) → AreCounts names counts (lasts ++ ending ∷ []) (done ++ s ∷ []) [] 0 (stamp + 1)
   stack_empty none = record {
     many = are.many;
-    each = λ i d lt. count-done (name_at names i) done s stamp (get_or counts i d) (get_or counts i d) (are.each i d lt)
-        (omega (arith, ap (λ b. cond b s.weight 0) (and_left (ltb 0 (length s.stack)) (bytes_eq (name_at names i) (name_at s.stack (length s.stack - 1))) (le-ltb 0 (length s.stack) (omega (arith, none)))))) refl refl;
+    each = λ i d lt. count-done (name_at names i) lasts done ending s stamp (get_or counts i d) (get_or counts i d) (are.each i d lt) weighs
+        (omega (arith, ap (λ b. cond b s.weight 0) (none (name_at names i)))) refl refl;
   }
 
-  pub stack_ended : (after : List Count) (last : ℕ) → AreRising names → last < length names → name_at names last ≡ name_at s.stack (length s.stack - 1) → 0 < length s.stack →
-      after ≡ set counts last (with_own s.weight (get_or counts last none)) → AreCounts names after (done ++ s ∷ []) [] 0 (stamp + 1)
-  stack_ended after last rising within read long put = record {
+  pub stack_ended : (after : List Count) (last : ℕ) → AreRising names → last < length names → ((name : List ℕ) → ends name ending.stack ≡ bytes_eq name (name_at names last)) →
+      after ≡ set counts last (with_own s.weight (get_or counts last none)) → AreCounts names after (lasts ++ ending ∷ []) (done ++ s ∷ []) [] 0 (stamp + 1)
+  stack_ended after last rising within read put = record {
     many = ap length put ∙ (length-set counts last _ ∙ are.many);
     each = λ i d lt. ⊎_elim (λ e. here i d e) (λ ne. beside i d lt ne) (cases_eq i last);
   }
     where
-      end : List ℕ
-      end = name_at s.stack (length s.stack - 1)
-
-      here : (i : ℕ) (d : Count) → i ≡ last → IsCount (name_at names i) (done ++ s ∷ []) [] 0 (stamp + 1) (get_or after i d)
+      here : (i : ℕ) (d : Count) → i ≡ last → IsCount (name_at names i) (lasts ++ ending ∷ []) (done ++ s ∷ []) [] 0 (stamp + 1) (get_or after i d)
       here i d e =
           let count = get_or counts last none in
           let now : get_or after last d ≡ with_own s.weight count = ap (λ (all : List Count). get_or all last d) put ∙ get_or-set_same counts last (with_own s.weight count) d (omega (arith, within, are.many)) in
-          let hit : ends (name_at names last) s.stack ≡ true = and_from (ltb 0 (length s.stack)) (bytes_eq (name_at names last) end) (lt-ltb 0 (length s.stack) long) (is_same (name_at names last) end read) in
-          subst (λ k. IsCount (name_at names k) (done ++ s ∷ []) [] 0 (stamp + 1) (get_or after k d)) (sym e)
-          (subst (IsCount (name_at names last) (done ++ s ∷ []) [] 0 (stamp + 1)) (sym now)
-          (count-done (name_at names last) done s stamp count (with_own s.weight count) (are.each last none within) (omega (arith, ap (λ b. cond b s.weight 0) hit)) refl refl))
+          let hit : ends (name_at names last) ending.stack ≡ true = read (name_at names last) ∙ is_same (name_at names last) (name_at names last) refl in
+          subst (λ k. IsCount (name_at names k) (lasts ++ ending ∷ []) (done ++ s ∷ []) [] 0 (stamp + 1) (get_or after k d)) (sym e)
+          (subst (IsCount (name_at names last) (lasts ++ ending ∷ []) (done ++ s ∷ []) [] 0 (stamp + 1)) (sym now)
+          (count-done (name_at names last) lasts done ending s stamp count (with_own s.weight count) (are.each last none within) weighs (omega (arith, ap (λ b. cond b s.weight 0) hit)) refl refl))
 
-      beside : (i : ℕ) (d : Count) → i < length names → (i ≡ last → ⊥) → IsCount (name_at names i) (done ++ s ∷ []) [] 0 (stamp + 1) (get_or after i d)
+      beside : (i : ℕ) (d : Count) → i < length names → (i ≡ last → ⊥) → IsCount (name_at names i) (lasts ++ ending ∷ []) (done ++ s ∷ []) [] 0 (stamp + 1) (get_or after i d)
       beside i d lt ne =
           let now : get_or after i d ≡ get_or counts i d = ap (λ (all : List Count). get_or all i d) put ∙ get_or-set_other counts last i _ d ne in
-          let other : bytes_eq (name_at names i) end ≡ false = ap (bytes_eq (name_at names i)) (sym read) ∙ apart names rising i last lt within ne in
-          let miss : ends (name_at names i) s.stack ≡ false = and_right (ltb 0 (length s.stack)) (bytes_eq (name_at names i) end) other in
-          subst (IsCount (name_at names i) (done ++ s ∷ []) [] 0 (stamp + 1)) (sym now)
-          (count-done (name_at names i) done s stamp (get_or counts i d) (get_or counts i d) (are.each i d lt) (omega (arith, ap (λ b. cond b s.weight 0) miss)) refl refl)
+          let miss : ends (name_at names i) ending.stack ≡ false = read (name_at names i) ∙ apart names rising i last lt within ne in
+          subst (IsCount (name_at names i) (lasts ++ ending ∷ []) (done ++ s ∷ []) [] 0 (stamp + 1)) (sym now)
+          (count-done (name_at names i) lasts done ending s stamp (get_or counts i d) (get_or counts i d) (are.each i d lt) weighs (omega (arith, ap (λ b. cond b s.weight 0) miss)) refl refl)
+
+-- a stack ends in the name of its last rank, where it has one
+pub ended_by : (names : List (List ℕ)) (ranks : List ℕ) (name : List ℕ) → ends name (map (name_at names) ranks) ≡ ended names (slice_get ranks (length ranks - 1)) name
+ended_by names [] name = refl
+ended_by names (rank ∷ rest) name =
+    let ranks = rank ∷ rest in
+    let last = get_or ranks (length ranks - 1) 0 in
+    let read = slice_get-get_or ranks (length ranks - 1) 0 (omega arith) in
+    (λ i. lt-ltb 0 (length (map (name_at names) ranks)) (omega (arith, length-map ranks (name_at names))) i && bytes_eq name (sym (last_name names ranks last read) i)) ∙ ap (λ it. ended names it name) (sym read)
 
 -- counts that were lent whole, with what was written to them
 pub lent_back : (old new : List Count) (n : ℕ) → length old ≤ length new → length new ≤ n → take n (new ++ drop (length new) old) ≡ new
@@ -223,10 +244,10 @@ lent_back old new n all fits =
     ap (λ rest. take n (new ++ rest)) (drop_all (length new) old all) ∙ (ap (take n) (append-nil new) ∙ take_all n new fits)
 
 -- nothing was counted yet
-pub nothing_counted : (names : List (List ℕ)) (counts : List Count) → length counts ≡ length names → ((i : ℕ) (d : Count) → i < length counts → get_or counts i d ≡ none) → AreCounts names counts [] [] 0 1
+pub nothing_counted : (names : List (List ℕ)) (counts : List Count) → length counts ≡ length names → ((i : ℕ) (d : Count) → i < length counts → get_or counts i d ≡ none) → AreCounts names counts [] [] [] 0 1
 nothing_counted names counts many is = record {
   many = many;
-  each = λ i d lt. subst (IsCount (name_at names i) [] [] 0 1) (sym (is i d (omega (arith, lt, many)))) record {
+  each = λ i d lt. subst (IsCount (name_at names i) [] [] [] 0 1) (sym (is i d (omega (arith, lt, many)))) record {
     own = refl;
     total = refl;
     marked = λ hit. absurd (true≢false (sym hit));
@@ -235,8 +256,8 @@ nothing_counted names counts many is = record {
 }
 
 -- a stack of which no frame was counted yet
-pub stack_begins : (names : List (List ℕ)) (counts : List Count) (done : List Sample) (weight stamp : ℕ) → AreCounts names counts done [] 0 stamp → AreCounts names counts done [] weight stamp
-stack_begins names counts done weight stamp are = record {
+pub stack_begins : (names : List (List ℕ)) (counts : List Count) (lasts done : List Sample) (weight stamp : ℕ) → AreCounts names counts lasts done [] 0 stamp → AreCounts names counts lasts done [] weight stamp
+stack_begins names counts lasts done weight stamp are = record {
   many = are.many;
   each = λ i d lt. (let k = are.each i d lt in record { own = k.own; total = k.total; marked = k.marked; unmarked = k.unmarked });
 }

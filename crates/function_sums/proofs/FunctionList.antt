@@ -1,4 +1,4 @@
--- the list of the functions is their table, and that of the changes is theirs
+-- the list of the functions is their table, that of callers or callees is theirs, and that of the changes is theirs
 use Rattle.std.proofs.Common.{◌≡◌, ◌⊎◌, inl, inr, ⊎_elim, ℕ, ◌+◌, ◌<◌, Bool, true, false, cond, List, [], ◌∷◌, ◌++◌, length, refl, ap, arith}
 use Rattle.std.specs.Prelude.{nat_lt}
 use Rattle.std.specs.List.{flat_map}
@@ -15,6 +15,9 @@ use Rattle.flame_layout.proofs.Sums.{SameSums, same_tested}
 use Rattle.function_sums.specs.declared.changes.FunctionChange.{FunctionChange}
 use Rattle.function_sums.specs.declared.sums.FunctionSum.{FunctionSum}
 use Rattle.run_options.specs.declared.orders.FunctionOrder.{FunctionOrder as Order}
+use Rattle.function_sums.specs.Calls.{call_of, calls_of, with_beside, AreCalls}
+use Rattle.function_sums.specs.declared.call_sides.CallSide.{CallSide}
+use Rattle.run_options.specs.declared.orders.FunctionOrder.TheVariants.{Total}
 use Rattle.function_sums.specs.FunctionChanges.{change_of, size_of, change_cmp, AreFunctionChanges}
 use Rattle.function_sums.specs.FunctionSums.{stands_in, ends, own_of, total_of, sums_of, weight_of, sum_cmp, AreFunctionSums}
 use Rattle.function_sums.specs.FunctionList.{names_in, functions_of, changes_of}
@@ -103,6 +106,18 @@ one_table by samples = tables.one_table (sum_cmp by) (sum_total by) named (sums_
 
 pub listed_alone : (by : Order) (samples : List Sample) (sums : List FunctionSum) → AreFunctionSums by samples sums → sums ≡ functions_of by samples
 listed_alone by samples sums are = one_table by samples sums (functions_of by samples) are (listed by samples)
+
+-- ---- callers and callees
+
+pub calls_listed : (side : CallSide) (name : List ℕ) (samples : List Sample) → AreCalls side name samples (calls_of side name samples)
+unfolding calls_of
+calls_listed side name samples =
+    let beside = with_beside side name samples in
+    tables.listed (sum_cmp Total) (sum_total Total) named (call_of side name samples) (λ other. total_of other beside) (one_name Total) (λ other. refl) (names_in beside) (λ other. weighs other beside) (λ other. weighed other beside)
+
+pub calls_alone : (side : CallSide) (name : List ℕ) (samples : List Sample) (calls : List FunctionSum) → AreCalls side name samples calls → calls ≡ calls_of side name samples
+calls_alone side name samples calls are =
+    tables.one_table (sum_cmp Total) (sum_total Total) named (call_of side name samples) (λ other. total_of other (with_beside side name samples)) calls (calls_of side name samples) are (calls_listed side name samples)
 
 -- ---- samples with the same sums
 

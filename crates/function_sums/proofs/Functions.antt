@@ -22,14 +22,13 @@ use Rattle.sample_tables.specs.declared.samples.Sample.{Sample}
 use Rattle.sample_tables.specs.Rows.{name_at}
 use Rattle.merged_stacks.specs.Order.{AreRising}
 use Rattle.merged_stacks.proofs.JoinedStacks.{names_distinct}
-use Rattle.flame_layout.specs.Paths.{SameOwn}
-use Rattle.flame_layout.proofs.Sums.{same_tested, same_sums}
+use Rattle.function_sums.specs.Tables.{IsTable}
 use Rattle.function_sums.specs.declared.changes.FunctionChange.{FunctionChange}
 use Rattle.function_sums.specs.declared.sums.FunctionSum.{FunctionSum}
 use Rattle.run_options.specs.declared.orders.FunctionOrder.{FunctionOrder as Order}
 use Rattle.function_sums.specs.FunctionChanges.{size_of, change_cmp}
-use Rattle.function_sums.specs.FunctionSums.{stands_in, ends, own_of, total_of, sums_of, weight_of, sum_cmp, AreFunctionSums}
-use Rattle.function_sums.specs.checked.Counted.{has_weight, names_with_weight}
+use Rattle.function_sums.specs.FunctionSums.{own_of, total_of, weight_of, sum_cmp}
+use Rattle.function_sums.specs.checked.Counted.{has_weight, names_with_weight, sums_by}
 use Rattle.function_sums.specs.checked.Rows.{Row, row_sum}
 use Rattle.function_sums.proofs.NamesWithWeight.{each_weighs, stays, filter-apart}
 use Rattle.function_sums.proofs.OneTable.{told_alike}
@@ -70,9 +69,9 @@ in_order by a b ka kb apart up = cases (sum_cmp by (row_sum b) (row_sum a)) refl
         absurd (true≢false (sym ((bytes_eq-Decides a.1.now b.1.now).1 (sym names)) ∙ apart))
     cases Greater e = (sum_total by).antisymm (row_sum a) (row_sum b) ∙ ap ordering_reverse e
 
-names_back : (samples : List Sample) (names : List (List ℕ)) → map (λ (sum : FunctionSum). sum.name) (map (sums_of samples) names) ≡ names
-names_back samples [] = refl
-names_back samples (name ∷ names) = ap (λ all. name ∷ all) (names_back samples names)
+names_back : (lasts samples : List Sample) (names : List (List ℕ)) → map (λ (sum : FunctionSum). sum.name) (map (sums_by lasts samples) names) ≡ names
+names_back lasts samples [] = refl
+names_back lasts samples (name ∷ names) = ap (λ all. name ∷ all) (names_back lasts samples names)
 
 abbrev no_sum : FunctionSum
 no_sum = record { name = []; own = 0; total = 0 }
@@ -89,23 +88,23 @@ ordered by sorted apart keys up row =
     let names : bytes_eq a.1.now b.1.now ≡ false = (λ i. same (sym at i) (sym after i)) ∙ apart_from_distinct same (map row_sum sorted) k (k + 1) no_sum apart (omega arith) lt in
     (λ i. sum_cmp by (at i) (after i)) ∙ in_order by a b (keys k row (omega (arith, next))) (keys (k + 1) row next) names (up k row (omega arith) next))
 
-module _ (by : Order) (stacks : List Sample) (names : List (List ℕ)) (rising : AreRising names) (weightless : (name : List ℕ) → list_any (bytes_eq name) names ≡ false → total_of name stacks ≡ 0)
-    (rows sorted : List Row) (sums : map row_sum rows ≡ map (sums_of stacks) (names_with_weight stacks names)) (keys : All (λ row. row.0.0 ≡ weight_of by (row_sum row)) rows) (perm : IsPermutation rows sorted)
+module _ (by : Order) (lasts stacks : List Sample) (names : List (List ℕ)) (rising : AreRising names) (weightless : (name : List ℕ) → list_any (bytes_eq name) names ≡ false → total_of name stacks ≡ 0)
+    (rows sorted : List Row) (sums : map row_sum rows ≡ map (sums_by lasts stacks) (names_with_weight stacks names)) (keys : All (λ row. row.0.0 ≡ weight_of by (row_sum row)) rows) (perm : IsPermutation rows sorted)
     (up : (k : ℕ) (d : Row) → 0 ≤ k → k + 1 < length sorted → is_lt (row_cmp (get_or sorted (k + 1) d) (get_or sorted k d)) ≡ false) where
   abbrev kept : List (List ℕ)
   kept = names_with_weight stacks names
 
-  moved : IsPermutation (map (sums_of stacks) kept) (map row_sum sorted)
+  moved : IsPermutation (map (sums_by lasts stacks) kept) (map row_sum sorted)
   moved = subst (λ (all : List FunctionSum). IsPermutation all (map row_sum sorted)) sums (IsPermutation-map row_sum rows sorted perm)
 
   named : IsPermutation kept (map (λ (sum : FunctionSum). sum.name) (map row_sum sorted))
-  named = subst (λ (all : List (List ℕ)). IsPermutation all (map (λ (sum : FunctionSum). sum.name) (map row_sum sorted))) (names_back stacks kept) (IsPermutation-map (λ (sum : FunctionSum). sum.name) _ _ moved)
+  named = subst (λ (all : List (List ℕ)). IsPermutation all (map (λ (sum : FunctionSum). sum.name) (map row_sum sorted))) (names_back lasts stacks kept) (IsPermutation-map (λ (sum : FunctionSum). sum.name) _ _ moved)
 
-  once : IsDistinct same (map (sums_of stacks) kept)
-  once = filter-apart same (sums_of stacks) (has_weight stacks) names (IsDistinct-from_apart same (map (sums_of stacks) names) (λ i j d below within.
-      let long = length-map names (sums_of stacks) in
-      let one = get_or-map (sums_of stacks) names i [] d (omega (arith, below, within, long)) in
-      let other = get_or-map (sums_of stacks) names j [] d (omega (arith, within, long)) in
+  once : IsDistinct same (map (sums_by lasts stacks) kept)
+  once = filter-apart same (sums_by lasts stacks) (has_weight stacks) names (IsDistinct-from_apart same (map (sums_by lasts stacks) names) (λ i j d below within.
+      let long = length-map names (sums_by lasts stacks) in
+      let one = get_or-map (sums_by lasts stacks) names i [] d (omega (arith, below, within, long)) in
+      let other = get_or-map (sums_by lasts stacks) names j [] d (omega (arith, within, long)) in
       (λ k. same (one k) (other k)) ∙ false_from_ne_true _ (λ hit. absurd (omega (arith, below, names_distinct names rising i j (omega (arith, below, within, long)) (omega (arith, within, long)) ((bytes_eq-Decides (name_at names i) (name_at names j)).0 hit))))))
 
   in_table : (name : List ℕ) → Contains (map (λ (sum : FunctionSum). sum.name) (map row_sum sorted)) name ↔ (0 < total_of name stacks)
@@ -123,25 +122,18 @@ module _ (by : Order) (stacks : List Sample) (names : List (List ℕ)) (rising :
 
   in_rows : (xs : List Row) → sorted ≡ xs → IsStrictlySortedBy (sum_cmp by) (map row_sum sorted)
   in_rows [] e = sorted_from_all_adjacent (sum_total by) (map row_sum sorted) no_sum (λ k lt. absurd (omega (arith, lt, length-map sorted row_sum, ap length e)))
-  in_rows (row ∷ rest) e = ordered by sorted (IsDistinct-IsPermutation same same-flips (map (sums_of stacks) kept) (map row_sum sorted) moved once) (All-permutation (λ (one : Row). one.0.0 ≡ weight_of by (row_sum one)) rows sorted perm keys) up row
+  in_rows (row ∷ rest) e = ordered by sorted (IsDistinct-IsPermutation same same-flips (map (sums_by lasts stacks) kept) (map row_sum sorted) moved once) (All-permutation (λ (one : Row). one.0.0 ≡ weight_of by (row_sum one)) rows sorted perm keys) up row
 
-  table_of_stacks : AreFunctionSums by stacks (map row_sum sorted)
+  table_of_stacks : IsTable (sum_cmp by) (λ sum. sum.name) (sums_by lasts stacks) (λ name. total_of name stacks) (map row_sum sorted)
   table_of_stacks = record {
-    each = All-permutation (λ (sum : FunctionSum). sum ≡ sums_of stacks sum.name) (map (sums_of stacks) kept) (map row_sum sorted) moved (All-map (λ (sum : FunctionSum). sum ≡ sums_of stacks sum.name) (sums_of stacks) kept (λ k d lt. refl));
+    each = All-permutation (λ (sum : FunctionSum). sum ≡ sums_by lasts stacks sum.name) (map (sums_by lasts stacks) kept) (map row_sum sorted) moved (All-map (λ (sum : FunctionSum). sum ≡ sums_by lasts stacks sum.name) (sums_by lasts stacks) kept (λ k d lt. refl));
     all = in_table;
     ordered = in_rows sorted refl;
   }
 
   -- and so it is the table of all samples with the same sums
-  pub table_of : (samples : List Sample) → SameOwn samples stacks → AreFunctionSums by samples (map row_sum sorted)
-  table_of samples alike =
-      told_alike (sum_cmp by) (λ (sum : FunctionSum). sum.name) (sums_of stacks) (sums_of samples) (λ name. total_of name stacks) (λ name. total_of name samples) (map row_sum sorted) (λ name. sym (sums_are name)) (λ name. sym (total_is name)) table_of_stacks
-    where
-      own_is : (name : List ℕ) → own_of name samples ≡ own_of name stacks
-      own_is name = same_tested (ends name) (length samples) samples stacks (omega arith) (same_sums samples stacks alike)
-
-      total_is : (name : List ℕ) → total_of name samples ≡ total_of name stacks
-      total_is name = same_tested (stands_in name) (length samples) samples stacks (omega arith) (same_sums samples stacks alike)
-
-      sums_are : (name : List ℕ) → sums_of samples name ≡ sums_of stacks name
-      sums_are name i = record { name = name; own = own_is name i; total = total_is name i }
+  pub table_of : (endings samples : List Sample) → ((name : List ℕ) → own_of name endings ≡ own_of name lasts) → ((name : List ℕ) → total_of name samples ≡ total_of name stacks)
+      → IsTable (sum_cmp by) (λ sum. sum.name) (sums_by endings samples) (λ name. total_of name samples) (map row_sum sorted)
+  table_of endings samples own_is total_is =
+      told_alike (sum_cmp by) (λ (sum : FunctionSum). sum.name) (sums_by lasts stacks) (sums_by endings samples) (λ name. total_of name stacks) (λ name. total_of name samples) (map row_sum sorted)
+      (λ name i. record { name = name; own = sym (own_is name) i; total = sym (total_is name) i }) (λ name. sym (total_is name)) table_of_stacks

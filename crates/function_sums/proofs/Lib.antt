@@ -1,8 +1,11 @@
 pub mod ChangedTable
 pub mod Counting
+pub mod CutSamples
+pub mod FoundCalls
 pub mod FoundWeights
 pub mod FunctionList
 pub mod Functions
 pub mod NamesWithWeight
 pub mod OneTable
+pub mod SharedTotal
 mod WorkedRows

@@ -33,7 +33,7 @@ each-among P x (y ∷ ys) h (inl e) = subst P (sym e) h.0
 each-among P x (y ∷ ys) h (inr m) = each-among P x ys h.1 m
 
 module _ {K : Type 0} (R : K → K → Ordering) (o : IsTotalOrder R) where
-  never : (x : K) → R x x ≡ Less → ⊥
+  pub never : (x : K) → R x x ≡ Less → ⊥
   never x e = true≢false (ap is_lt (sym e ∙ tied_itself o x))
 
   same_sorted : (xs ys : List K) → IsStrictlySortedBy R xs → IsStrictlySortedBy R ys → ((x : K) → Among x xs → Among x ys) → ((x : K) → Among x ys → Among x xs) → xs ≡ ys

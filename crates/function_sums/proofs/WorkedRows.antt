@@ -1,4 +1,4 @@
--- worked examples of the weights by function and of their changes: recursion counts once, and a sample without frames or weight counts nowhere
+-- worked examples of the weights by function, of their changes, and of callers and callees: recursion counts once, and a sample without frames or weight counts nowhere
 use Rattle.std.proofs.Common.{◌≡◌, ℕ, List, [], ◌∷◌, codes, refl}
 use Rattle.std.specs.declared.cmp.Ordering.TheVariants.{Less}
 use Rattle.sample_tables.specs.declared.samples.Sample.{Sample}
@@ -6,6 +6,8 @@ use Rattle.run_options.specs.declared.orders.FunctionOrder.TheVariants.{Own, Tot
 use Rattle.function_sums.specs.declared.changes.Change.{Change}
 use Rattle.function_sums.specs.declared.changes.FunctionChange.{FunctionChange}
 use Rattle.function_sums.specs.declared.sums.FunctionSum.{FunctionSum}
+use Rattle.function_sums.specs.Calls.{calls_of}
+use Rattle.function_sums.specs.declared.call_sides.CallSide.TheVariants.{Callers, Callees}
 use Rattle.function_sums.specs.FunctionList.{changes_of, functions_of}
 use Rattle.function_sums.specs.FunctionSums.{own_of, total_of, sums_of, sum_cmp}
 
@@ -75,3 +77,35 @@ changes_by_total : changes_of Total old new
     ≡ change (codes "f") (from 3 5) (from 3 5) ∷ change (codes "h") (from 0 2) (from 0 2) ∷ change (codes "m") (from 5 1) (from 8 6) ∷ change (codes "g") (from 4 4) (from 4 4) ∷ []
 unfolding changes_of
 changes_by_total = refl
+
+-- ---- callers and callees
+
+-- f calls g twice in one stack, and is called by it; a function that calls itself is beside itself; what ends in a call has own weight
+abbrev calls : List Sample
+calls =
+    record { stack = codes "f" ∷ codes "g" ∷ codes "f" ∷ codes "g" ∷ []; weight = 1 } ∷
+    record { stack = codes "m" ∷ codes "f" ∷ codes "f" ∷ []; weight = 2 } ∷
+    record { stack = codes "m" ∷ codes "g" ∷ codes "h" ∷ []; weight = 4 } ∷
+    record { stack = codes "m" ∷ codes "f" ∷ []; weight = 0 } ∷
+    record { stack = codes "g" ∷ []; weight = 8 } ∷ []
+
+-- the root of a stack has no caller, and m calls f in a sample with weight alone
+callers_of_f : calls_of Callers (codes "f") calls ≡ sum (codes "f") 2 2 ∷ sum (codes "m") 0 2 ∷ sum (codes "g") 0 1 ∷ []
+unfolding calls_of
+callers_of_f = refl
+
+callees_of_f : calls_of Callees (codes "f") calls ≡ sum (codes "f") 2 2 ∷ sum (codes "g") 1 1 ∷ []
+unfolding calls_of
+callees_of_f = refl
+
+callers_of_g : calls_of Callers (codes "g") calls ≡ sum (codes "m") 0 4 ∷ sum (codes "f") 1 1 ∷ []
+unfolding calls_of
+callers_of_g = refl
+
+callees_of_g : calls_of Callees (codes "g") calls ≡ sum (codes "h") 4 4 ∷ sum (codes "f") 0 1 ∷ []
+unfolding calls_of
+callees_of_g = refl
+
+nobody_calls_z : calls_of Callers (codes "z") calls ≡ []
+unfolding calls_of
+nobody_calls_z = refl

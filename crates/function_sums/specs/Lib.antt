@@ -1,3 +1,4 @@
+pub mod Calls
 pub mod FunctionChanges
 pub mod FunctionList
 pub mod FunctionSums

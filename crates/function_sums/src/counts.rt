@@ -1,13 +1,11 @@
 //! What was counted of each name, by its rank.
 
-ghost use Rattle.std.specs.Prelude.{◌≡◌, ◌+◌, ◌<◌, ◌^◌, [], All, length, take, set, slice_index_or};
-ghost use Rattle.sample_tables.specs.Rows.{row_at};
+ghost use Rattle.std.specs.Prelude.{◌≡◌, ◌+◌, ◌<◌, ◌^◌, ◌++◌, [], ◌∷◌, ℕ, List, All, IfSome, length, map, set, slice_index_or};
+ghost use Rattle.sample_tables.specs.declared.samples.Sample.{Sample};
+ghost use Rattle.sample_tables.specs.Rows.{name_at};
 ghost use Rattle.merged_stacks.specs.Order.{AreRising};
-ghost use Rattle.merged_stacks.specs.RankedStacks.{ranked_samples, NamesEachRank};
-ghost use Rattle.merged_stacks.specs.Timeline.{total_weight};
-ghost use Rattle.function_sums.specs.checked.Counted.{counted, AreCounts};
-
-use merged_stacks::RankedStacks;
+ghost use Rattle.function_sums.specs.FunctionSums.{ends};
+ghost use Rattle.function_sums.specs.checked.Counted.{counted, ended, AreCounts, HasRoom};
 
 /// What was counted of a name.
 #[derive(Clone, Copy, Debug)]
@@ -20,23 +18,29 @@ pub(crate) struct Count {
     pub(crate) stamp: usize,
 }
 
-/// Counts the names of a stack.
-pub(crate) fn count_stack(counts: &mut [Count], stacks: &RankedStacks<'_>, at: usize)
-    requires at { at < length stacks.now.rows }
-    requires small { at + 1 < 2 ^ 64 }
-    requires total { total_weight (ranked_samples stacks.now) < 2 ^ 64 }
-    requires rising { AreRising stacks.now.names }
-    requires known { NamesEachRank stacks.now }
-    requires counted { AreCounts stacks.now.names counts.old (take at (ranked_samples stacks.now)) [] 0 (at + 1) }
-    ensures { AreCounts stacks.now.names counts.new (take (at + 1) (ranked_samples stacks.now)) [] 0 (at + 1 + 1) }
+/// Counts the names of a stack, and the one in which it ends.
+pub(crate) fn count_stack(
+    counts: &mut [Count],
+    ranks: &[u32],
+    last: Option<u32>,
+    weight: u64,
+    stamp: usize,
+)
+    requires known { All (λ rank. rank < length counts.old) ranks.now }
+    requires last { IfSome last (λ rank. rank < length counts.old) }
+    requires room { All (HasRoom weight stamp) counts.old }
+    ensures { (names : List (List ℕ)) (lasts done : List Sample) (ending : Sample) → AreRising names
+        → AreCounts names counts.old lasts done [] 0 stamp
+        → ending.weight ≡ weight
+        → ((name : List ℕ) → ends name ending.stack ≡ ended names last name)
+        → AreCounts names counts.new (lasts ++ ending ∷ [])
+        (done ++ record { stack = map (name_at names) ranks.now; weight = weight } ∷ []) [] 0 (stamp + 1) }
 {
-    let weight = stacks.weight(at);
-    let ranks = stacks.ranks(at);
     for rank in ranks {
-        count_frame(counts, *rank as usize, weight, at + 1);
+        count_frame(counts, *rank as usize, weight, stamp);
     }
-    if let Some(last) = ranks.last() {
-        counts[*last as usize].own += weight;
+    if let Some(last) = last {
+        counts[last as usize].own += weight;
     }
 }
 

@@ -1,13 +1,17 @@
 //! What the definitions of the tables mean.
 
-ghost use Rattle.std.specs.Prelude.{◌≡◌, List};
+ghost use Rattle.std.specs.Prelude.{◌≡◌, ◌≤◌, ◌+◌, ◌*◌, ℕ, List, All, filter, length, sum_by};
+ghost use Rattle.std.specs.Str.{bytes_eq};
 ghost use Rattle.sample_tables.specs.declared.samples.Sample.{Sample};
 ghost use Rattle.function_sums.specs.declared.changes.FunctionChange.{FunctionChange};
 ghost use Rattle.function_sums.specs.declared.sums.FunctionSum.{FunctionSum};
 ghost use Rattle.run_options.specs.declared.orders.FunctionOrder.{FunctionOrder as Order};
+ghost use Rattle.function_sums.specs.declared.call_sides.CallSide.{CallSide};
+ghost use Rattle.function_sums.specs.declared.call_sides.CallSide.TheVariants.{Callees};
+ghost use Rattle.function_sums.specs.Calls.{calls_of, times_shared, AreCalls};
 ghost use Rattle.function_sums.specs.FunctionChanges.{AreFunctionChanges};
 ghost use Rattle.function_sums.specs.FunctionList.{changes_of, functions_of};
-ghost use Rattle.function_sums.specs.FunctionSums.{AreFunctionSums};
+ghost use Rattle.function_sums.specs.FunctionSums.{own_of, total_of, AreFunctionSums};
 
 /// Samples have one table in each order: its definition leaves no choice.
 pub fn tables_are_one()
@@ -21,6 +25,28 @@ pub fn functions_are_listed()
         → AreFunctionSums by samples (functions_of by samples) }
     ensures alone { (by : Order) (samples : List Sample) (sums : List FunctionSum)
         → AreFunctionSums by samples sums → sums ≡ functions_of by samples }
+{}
+
+/// The list of the callers, or of the callees, is their table, and no other list is.
+pub fn calls_are_listed()
+    ensures listed { (side : CallSide) (name : List ℕ) (samples : List Sample)
+        → AreCalls side name samples (calls_of side name samples) }
+    ensures alone { (side : CallSide) (name : List ℕ) (samples : List Sample) (calls : List FunctionSum)
+        → AreCalls side name samples calls → calls ≡ calls_of side name samples }
+{}
+
+/// A function's own weight and the totals of its callees are the weights of the samples, each as often
+/// as it has such callees, and once more where it ends in the function. Where the function stands in no
+/// stack twice they are its total.
+pub fn callees_share_the_total()
+    ensures often { (name : List ℕ) (samples : List Sample) (calls : List FunctionSum)
+        → AreCalls Callees name samples calls
+        → own_of name samples + sum_by (λ sum. sum.total) calls
+        ≡ sum_by (λ sample. times_shared name calls sample.stack * sample.weight) samples }
+    ensures once { (name : List ℕ) (samples : List Sample) (calls : List FunctionSum)
+        → AreCalls Callees name samples calls
+        → All (λ sample. length (filter (bytes_eq name) sample.stack) ≤ 1) samples
+        → own_of name samples + sum_by (λ sum. sum.total) calls ≡ total_of name samples }
 {}
 
 /// The list of the changes is their table, and no other list is.

@@ -2,8 +2,8 @@
 
 ghost use Rattle.std.specs.Prelude.{◌≡◌, ◌≤◌, ◌<◌, ℕ, [], List, All, IfOk, length, map};
 ghost use Rattle.sample_tables.specs.declared.samples.Sample.{Sample};
-ghost use Rattle.function_sums.specs.FunctionSums.{sums_of, weight_of};
-ghost use Rattle.function_sums.specs.checked.Counted.{AreCounts, names_with_weight};
+ghost use Rattle.function_sums.specs.FunctionSums.{weight_of};
+ghost use Rattle.function_sums.specs.checked.Counted.{AreCounts, names_with_weight, sums_by};
 ghost use Rattle.function_sums.specs.checked.Rows.{row_sum};
 
 use crate::Order;
@@ -27,9 +27,10 @@ pub(crate) fn rows<'a>(
 ) -> Result<Vec<Row<'a>>, AllocError>
     requires { length counts.now ≡ length stacks.now.names }
     ensures keys { IfOk result (λ rows. All (λ row. row.0.0 ≡ weight_of by (row_sum row)) rows.items) }
-    ensures sums { IfOk result (λ rows. (samples : List Sample) (stamp : ℕ)
-        → AreCounts stacks.now.names counts.now samples [] 0 stamp
-        → map row_sum rows.items ≡ map (sums_of samples) (names_with_weight samples stacks.now.names)) }
+    ensures sums { IfOk result (λ rows. (lasts samples : List Sample) (stamp : ℕ)
+        → AreCounts stacks.now.names counts.now lasts samples [] 0 stamp
+        → map row_sum rows.items
+        ≡ map (sums_by lasts samples) (names_with_weight samples stacks.now.names)) }
 {
     let mut rows = Vec::with_capacity(alloc, counts.len())?;
     for rank in 0..counts.len() {

@@ -1,15 +1,18 @@
-//! What functions weigh on either side, by their names.
+//! What functions weigh, by their names, also on either side.
 
 ghost use Rattle.std.specs.Prelude.{◌≡◌, IfOk, List};
 ghost use Rattle.sample_tables.specs.declared.samples.Sample.{Sample};
+ghost use Rattle.flame_layout.specs.Paths.{SameOwn};
 ghost use Rattle.run_options.specs.declared.orders.FunctionOrder.{FunctionOrder as Order};
 ghost use Rattle.function_sums.specs.FunctionChanges.{change_of, size_of};
-ghost use Rattle.function_sums.specs.FunctionSums.{AreFunctionSums};
+ghost use Rattle.function_sums.specs.FunctionSums.{sums_of, AreFunctionSums};
 ghost use Rattle.function_sums.specs.checked.Sides.{AreSides, FindsWeights, found, weights_of};
 
 use crate::Order;
 use crate::changes::{Change, FunctionChange};
 use crate::sums::FunctionSum;
+use crate::tables::function_sums;
+use merged_stacks::MergedStacks;
 use stack_core::Text;
 use std::alloc::{AllocError, Global};
 use std::collections::BTreeMap;
@@ -77,6 +80,25 @@ impl<'a> Sides<'a> {
             },
         })
     }
+}
+
+/// The sums of one function, which are 0 where no sample has it.
+pub fn named_sum(
+    alloc: Global,
+    merged: &MergedStacks,
+    name: &str,
+) -> Result<FunctionSum, AllocError>
+    ensures { IfOk result (λ sum. (samples : List Sample) → SameOwn samples merged.now
+        → sum ≡ sums_of samples name.now) }
+{
+    let sums = function_sums(alloc, merged, Order::Own)?;
+    let named = by_name(alloc, &sums)?;
+    let weights = weights_at(&named, name);
+    Ok(FunctionSum {
+        name: Text::from_str(alloc, name)?,
+        own: weights.own,
+        total: weights.total,
+    })
 }
 
 /// What a function weighs on a side. One that is not there weighs nothing.

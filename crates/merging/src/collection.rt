@@ -96,6 +96,14 @@ impl Gathered {
         self.sources.order()
     }
 
+    /// After how many samples more there is a snapshot, if there are any.
+    pub fn every(&self) -> Option<u64>
+        ensures every { result ≡ self.now.every }
+        ensures positive { IfSome self.now.every (λ every. 1 ≤ every) }
+    {
+        self.sink.every()
+    }
+
     /// The names of all frames.
     pub fn table(&self) -> &FrameTable
         ensures names { result.now ≡ self.now.names }

@@ -101,6 +101,14 @@ impl TreeSink {
         &self.snapshots
     }
 
+    /// After how many pairs more there is a snapshot, if there are any.
+    pub(crate) fn every(&self) -> Option<u64>
+        ensures every { result ≡ self.now.every }
+        ensures positive { IfSome self.now.every (λ every. 1 ≤ every) }
+    {
+        self.tally.every
+    }
+
     /// For contracts alone: what was merged of the pairs that were taken.
     pub(crate) fn recall_merged(&self)
         ensures sums { HasSumsOf self.now.names self.now.tree (samples_of_pairs self.now.taken) }

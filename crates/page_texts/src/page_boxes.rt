@@ -1,7 +1,7 @@
 //! What a page shows of a box.
 ghost use Rattle.std.specs.Prelude.{◌≡◌, ℕ, Bool, true, false};
 
-use flame_layout::{ComparedBox, DrawnBox, DrawnPair, FlameBox, SpanBox};
+use flame_layout::{DrawnBox, DrawnPair, FlameBox, SpanBox};
 
 /// A box that a page can show.
 pub trait PageBox: FlameBox {
@@ -49,20 +49,6 @@ impl<'a> PageBox for DrawnBox<'a> {
         ensures { result ≡ 0 }
     {
         0
-    }
-}
-
-impl PageBox for ComparedBox {
-    ghost other = { λ compared. compared.before };
-
-    ghost compared = { true };
-
-    fn is_compared() -> bool {
-        true
-    }
-
-    fn other(&self) -> u64 {
-        self.before
     }
 }
 

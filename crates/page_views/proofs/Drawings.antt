@@ -1,6 +1,10 @@
 -- What the drawings of a page stand for.
-use Rattle.std.proofs.Common.{◌≡◌, ◌<◌, ◌+◌, ◌++◌, ℕ, List, [], ◌∷◌, false, length, map, get_or, take, true, None, Some, Option, refl, ap, sym, subst, ◌∙◌}
+use Rattle.std.proofs.Common.{◌≡◌, ◌<◌, ◌+◌, ◌++◌, ℕ, List, [], ◌∷◌, false, length, map, get_or, take, true, None, Some, Option, refl, ap, sym, subst, ◌∙◌, arith}
+use Rattle.std.specs.List.{range_with_len}
 use Rattle.std.proofs.lemmas.List.{get_or-map, map_more, map_push}
+use Rattle.std.proofs.lemmas.List.FromFn.{map-range_with_len_more}
+use Rattle.stack_core.specs.Interleaving.{counts_at}
+use Rattle.call_tree.specs.CallTree.{Tree, total_weight as tree_total}
 use Rattle.sample_tables.specs.declared.samples.Sample.{Sample}
 use Rattle.merged_stacks.specs.Timeline.{total_weight}
 use Rattle.flame_layout.specs.declared.boxes.DrawnBox.{DrawnBox}
@@ -9,18 +13,37 @@ use Rattle.flame_layout.specs.Boxes.{compared_of, span_of}
 use Rattle.flame_layout.specs.declared.boxes.SpanBox.{SpanBox}
 use Rattle.flame_layout.specs.Graph.{graph_of}
 use Rattle.flame_layout.specs.Paths.{SameOwn, tree_samples}
-use Rattle.merging.specs.Snapshots.{snapshot_samples, IsSnapshot, AreSnapshots}
+use Rattle.flame_layout.proofs.GraphBoxes.{tree_weight}
+use Rattle.merging.specs.Snapshots.{snapshot_counts, snapshot_samples, IsSnapshot, AreSnapshots}
+use Rattle.merging.proofs.CountLemmas.{get_or-source_counts}
 use Rattle.merging.specs.declared.snapshots.Snapshot.{Snapshot}
-use Rattle.source_views.specs.Filling.{filled}
-use Rattle.source_views.specs.Texts.{all_counts, places_of}
-use Rattle.source_views.proofs.TextLemmas.{filled_counts}
+use Rattle.page_views.specs.checked.Filling.{filled}
+use Rattle.source_views.specs.Texts.{all_counts}
+use Rattle.source_views.proofs.TextLemmas.{same_weight}
 use Rattle.page_texts.specs.Page.{Moment, PageBox, PageDrawing}
 use Rattle.page_texts.specs.Drawn.{shown}
 use Rattle.page_views.specs.checked.DrawnProfiles.{IsDrawnOf, profile_drawing}
-use Rattle.page_views.specs.checked.DrawnRuns.{drawing_in}
+use Rattle.page_views.specs.checked.DrawnRuns.{drawing_in, places_of}
 use Rattle.page_views.specs.declared.drawn_profiles.DrawnProfile.{DrawnProfile}
 use Rattle.page_views.specs.declared.drawn_runs.DrawnSnapshot.{DrawnSnapshot}
 use Rattle.page_views.specs.Pages.{compared_drawing, least_of, plain_drawing, snapshot_drawing}
+
+-- counts filled up are those of all sources
+pub filled_counts : (sources m : ℕ) (order : List ℕ) → filled sources (snapshot_counts m order) ≡ map (counts_at m order) (range_with_len 0 sources)
+filled_counts sources m order = λ i. map (λ source. get_or-source_counts (take m order) source i) (range_with_len 0 sources)
+
+pub filled_more : (sources : ℕ) (counts : List ℕ) → filled (sources + 1) counts ≡ filled sources counts ++ get_or counts sources 0 ∷ []
+filled_more sources counts = map-range_with_len_more (λ source. get_or counts source 0) 0 sources sources (omega arith)
+
+-- a tree's total is the weight of the samples whose sums it has
+pub drawn_weight : (names : List (List ℕ)) (tree : Tree) (samples : List Sample) → SameOwn samples (tree_samples names tree) → tree_total tree [] ≡ total_weight samples
+drawn_weight names tree samples same = sym (tree_weight names tree) ∙ sym (same_weight samples (tree_samples names tree) same)
+
+-- the own sums of a tree and a table that are lent
+pub lent_stacks : (names table : List (List ℕ)) (tree lent : Tree) (samples : List Sample) → table ≡ names → lent ≡ tree
+    → SameOwn samples (tree_samples names tree) → SameOwn samples (tree_samples table lent)
+lent_stacks names table tree lent samples named same stacks =
+    subst (λ tree. SameOwn samples (tree_samples table tree)) (sym same) (subst (λ names. SameOwn samples (tree_samples names tree)) (sym named) stacks)
 
 pub plain_boxes : (boxes : List DrawnBox) → map (shown span_of (λ box. 0)) boxes ≡ map (λ span. record { span = span; other = 0 }) (map span_of boxes)
 plain_boxes [] = refl

@@ -1,2 +1,1 @@
 pub mod Drawings
-pub mod GraphPages

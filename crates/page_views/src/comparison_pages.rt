@@ -1,16 +1,15 @@
 //! Pages of a comparison: the flame graphs of two profiles, each beside the other.
-ghost use Rattle.std.specs.Prelude.{◌≡◌, ◌≢◌, ◌<◌, ◌^◌, OnOk, OnErr, IsErrOf};
-ghost use Rattle.std.specs.Io.KnownBytes.{Appends};
-ghost use Rattle.byte_io.specs.Calls.{one_more};
-ghost use Rattle.byte_io.specs.Pieces.{AppendsFront};
+ghost use Rattle.std.specs.Prelude.{◌<◌, ◌^◌};
 ghost use Rattle.merged_stacks.specs.Timeline.{total_weight};
+ghost use Rattle.opened_sources.specs.Failures.{Flushes, Sends};
 ghost use Rattle.page_texts.specs.Document.{document_text};
 ghost use Rattle.page_views.specs.Pages.{comparison_page, heading_of};
 
 use crate::drawn_profiles::{draw_profiles, pair_profiles, profile_drawings};
 use crate::headings::Heading;
-use byte_io::{Outlet, PieceFault};
-use page_texts::send_page;
+use crate::plain_pages::send_whole_page;
+use byte_io::Outlet;
+use opened_sources::Failure;
 use stack_core::SourceList;
 use std::alloc::Global;
 
@@ -22,21 +21,16 @@ pub fn send_comparison_page<W: Outlet>(
     after: &SourceList,
     heading: &Heading<'_>,
     out: &mut W,
-) -> Result<(), PieceFault>
+) -> Result<(), Failure>
     requires before { total_weight before.now.samples < 2 ^ 64 }
     requires after { total_weight after.now.samples < 2 ^ 64 }
-    ensures ok { OnOk result (Appends (W.contents out.old) (W.contents out.new)
-        (document_text (comparison_page (heading_of heading.now) before.now.samples after.now.samples))) }
-    ensures flushed { OnOk result (W.is_flushed out.new) }
-    ensures front { OnErr result (AppendsFront
-        (document_text (comparison_page (heading_of heading.now) before.now.samples after.now.samples))
-        (W.contents out.old) (W.contents out.new)) }
-    ensures output { IsErrOf result PieceFault.Output
-        → W.failures out.new ≡ one_more (W.failures out.old) }
-    ensures unfailed { result ≢ Err PieceFault.Output → W.failures out.new ≡ W.failures out.old }
+    ensures sent { Sends (document_text (comparison_page (heading_of heading.now) before.now.samples after.now.samples))
+        (W.contents out.old) (W.contents out.new) result }
+    ensures flushed { Flushes (W.is_flushed out.new) (W.failures out.old) (W.failures out.new)
+        result }
 {
     let stacks = pair_profiles(alloc, before, after)?;
     let drawn = draw_profiles(alloc, &stacks, before, after)?;
     let drawings = profile_drawings(alloc, &drawn, heading)?;
-    send_page(alloc, &heading.page("compare", &drawings), out)
+    send_whole_page(alloc, &heading.page("compare", &drawings), out)
 }

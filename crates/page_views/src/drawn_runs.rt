@@ -8,18 +8,16 @@ ghost use Rattle.flame_layout.specs.Paths.{SameOwn, tree_samples};
 ghost use Rattle.merged_stacks.specs.Timeline.{samples_of, total_weight};
 ghost use Rattle.merging.specs.Snapshots.{snapshot_places};
 ghost use Rattle.merging.specs.Sums.{IsDrawable};
-ghost use Rattle.source_views.specs.Filling.{filled};
-ghost use Rattle.source_views.specs.Texts.{places_of};
 ghost use Rattle.page_texts.specs.Drawn.{drawing_of, moment_of};
 ghost use Rattle.page_views.specs.Pages.{plain_drawing, snapshot_drawing};
-ghost use Rattle.page_views.specs.checked.DrawnRuns.{drawing_in, drawings_in, drawings_of};
+ghost use Rattle.page_views.specs.checked.DrawnRuns.{drawing_in, drawings_in, drawings_of, places_of};
+ghost use Rattle.page_views.specs.checked.Filling.{filled};
 
 use crate::headings::Heading;
 use call_tree::{CallTree, FrameTable};
 use flame_layout::{DrawnBox, draw_tree};
 use merging::Gathered;
 use page_texts::{Drawing, Moment};
-use source_views::filled_counts;
 use std::alloc::{AllocError, Global};
 
 // The graph of a run, and those of its snapshots.
@@ -85,6 +83,17 @@ fn draw_snapshot(
         counts,
         graph: draw_graph(alloc, &snapshot.tree, run.table())?,
     })
+}
+
+// A count for each source, 0 where there is none.
+fn filled_counts(alloc: Global, counts: &[u64], sources: usize) -> Result<Vec<u64>, AllocError>
+    ensures { IfOk result (λ filling. filling.items ≡ filled sources counts.now) }
+{
+    let mut filling = Vec::with_capacity(alloc, sources)?;
+    for source in 0..sources {
+        filling.push(counts.get(source).copied().unwrap_or(0))?;
+    }
+    Ok(filling)
 }
 
 // The boxes of a tree's graph.

@@ -5,6 +5,7 @@ pub mod FileLemmas
 pub mod FrontLemmas
 pub mod FrameLemmas
 pub mod FrameNameLemmas
+mod NamingLemmas
 pub mod NumberLemmas
 pub mod SampleLemmas
 pub mod RestLemmas

@@ -13,7 +13,7 @@ use Rattle.run_options.specs.declared.choices.Pick.{Pick}
 use Rattle.run_options.specs.declared.choices.Naming.{Naming}
 use Rattle.stack_core.specs.Parts.{bytes_of}
 use Rattle.profile_tables.specs.declared.part.Part.{Part}
-use Rattle.profile_tables.specs.declared.reader.PprofReader.TheInside.{Inside}
+use Rattle.profile_tables.specs.declared.row_reader.PprofRows.TheInside.{Inside}
 use Rattle.profile_messages.specs.declared.types.SampleType.{SampleType}
 use Rattle.profile_messages.specs.Offsets.{found_at}
 use Rattle.profile_messages.specs.SampleTypes.{chosen_type}

@@ -13,14 +13,15 @@ mod naming;
 mod outline;
 mod part;
 mod reader;
+mod row_reader;
 mod row_steps;
 mod samples;
-mod stacks;
 mod steps;
 mod tables;
 mod tellers;
 
 pub use profile_messages::{SampleType, SampleTypes, TableFault, sample_types};
 pub use reader::PprofReader;
+pub use row_reader::PprofRows;
 pub use run_options::{Naming, Pick};
 pub use tables::Tables;

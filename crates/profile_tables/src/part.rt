@@ -4,15 +4,13 @@ ghost use Rattle.std.specs.Prelude.{◌≡◌, ◌≤◌, ◌+◌, Some, length,
 ghost use Rattle.std.specs.Arc.{arc_value};
 ghost use Rattle.stack_core.specs.Prefixes.{IsPrefixOf};
 ghost use Rattle.stack_core.specs.RowReading.{IsLastStep};
-ghost use Rattle.profile_tables.specs.checked.Rests.{IsNext};
 ghost use Rattle.profile_tables.specs.checked.RowSteps.{IsNextRow};
 ghost use Rattle.profile_tables.specs.checked.View.{told_by, IsTellerOf};
 
 use crate::outline::{Outline, Stretch};
 use crate::row_steps::step_by_rows;
-use crate::steps::next_step;
 use crate::tellers::Teller;
-use stack_core::{RowStep, Step, WEIGHT_LIMIT};
+use stack_core::{RowStep, WEIGHT_LIMIT};
 use std::alloc::{AllocError, Global};
 use std::sync::Arc;
 
@@ -35,23 +33,8 @@ impl Part {
         Ok(Part { outline, past })
     }
 
-    /// The next sample, where those before `next` were given, or the ending. Those of the part among them have this total weight.
-    pub(crate) fn next_step(
-        &self,
-        alloc: Global,
-        file: &[u8],
-        next: usize,
-        total: u64,
-    ) -> Result<Step, AllocError>
-        requires { total ≤ WEIGHT_LIMIT }
-        ensures { IfOk result (IsNext file.now (arc_value self.now.outline) self.now.past next total) }
-    {
-        let past = self.past;
-        let left = Stretch { next, past };
-        next_step(alloc, file, &*self.outline, left, total)
-    }
-
-    /// The same by rows, where the teller is made with the first sample. Want of memory then leaves none.
+    /// The next sample by rows, where those before `next` were given, or the ending. Those of the part among them have this total weight.
+    /// The teller is made with the first sample. Want of memory then leaves none.
     pub(crate) fn next_row(
         &self,
         alloc: Global,

@@ -1,7 +1,6 @@
-//! A pprof profile, read sample by sample, or by rows of numbers.
+//! A pprof profile, read sample by sample.
 
 ghost use Rattle.std.specs.Prelude.{◌≡◌, ◌≢◌, ◌<◌, ◌^◌, ℕ, length, IfOk, OnErr, IsOk, IsTrue};
-ghost use Rattle.stack_core.specs.Parts.{bytes_of};
 ghost use Rattle.stack_core.specs.Reading.{Steps, IsEnd, IsWithinLimits, IsSourceLimited};
 ghost use Rattle.stack_core.specs.declared.endings.SourceEnd.TheVariants.{Stopped};
 ghost use Rattle.profile_tables.specs.Samples.{read_pprof};
@@ -9,38 +8,19 @@ ghost use Rattle.profile_messages.specs.SampleTypes.{chosen_type};
 ghost use Rattle.profile_tables.specs.SeenTables.{LendsType};
 ghost use Rattle.profile_tables.specs.State.{nothing_told, told_type, HasRead};
 
-mod parts;
-mod rows;
-
-use crate::part::Part;
-use crate::steps::open;
-use crate::tellers::Teller;
-use bytes::Bytes;
+use crate::row_reader::PprofRows;
 use profile_messages::SampleType;
 use run_options::{Naming, Pick};
-use stack_core::{SampleReader, SourceBytes, SourceEnd, Step};
+use stack_core::{RowReader, RowSamples, SampleReader, Step};
 use std::alloc::{AllocError, Global};
 use std::marker::Model;
 
 /// Reads the samples of a pprof profile that is not compressed. Contracts see what it still has to give, and whether it has answered
 /// the ending.
-///
-/// It keeps the file, or shares it, and of its tables no more than a few times the file's size: each name once, however many frames have it. The
-/// frames of a sample are counted before they are made.
-#[derive(Debug, Drop)]
+#[derive(Drop)]
 pub struct PprofReader {
-    bytes: SourceBytes,
-    pick: Pick,
-    naming: Naming,
-    /// None before the tables were read.
-    part: Option<Part>,
-    /// The samples before this one were given, or are those of other parts.
-    given: usize,
-    /// The weights together of those that were given.
-    total: u64,
-    ended: Option<SourceEnd>,
-    /// None before the first row was asked for.
-    teller: Option<Teller>,
+    rows: PprofRows,
+    samples: RowSamples,
 }
 
 impl Model for PprofReader {
@@ -48,15 +28,15 @@ impl Model for PprofReader {
 
     ghost Value = { State };
 
-    ghost use Rattle.profile_tables.specs.checked.View.{state_of, IsReader};
+    ghost use Rattle.profile_tables.specs.checked.View.{reader_state, NamesRows};
 
-    ghost view = { state_of };
+    ghost view = { reader_state };
 
-    ghost invariant = { IsReader };
+    ghost invariant = { NamesRows };
 }
 
 impl PprofReader {
-    /// A reader of a file's bytes. It takes no memory: the first `next` or `next_row` reads the tables.
+    /// A reader of a file's bytes. It takes no memory: the first `next` reads the tables.
     pub fn over(bytes: Vec<u8>, pick: Pick, naming: Naming) -> Self
         ensures rest { result.rest ≡ read_pprof bytes.items pick naming }
         ensures told { result.told ≡ nothing_told }
@@ -65,44 +45,18 @@ impl PprofReader {
         ensures unstopped { (after : ℕ)
             → (read_pprof bytes.items pick naming).ending ≢ Stopped after }
     {
-        PprofReader::unread(SourceBytes::Own(bytes), pick, naming)
-    }
-
-    /// A reader of a file's bytes that others share. It takes no memory either.
-    pub fn over_shared(bytes: Bytes, pick: Pick, naming: Naming) -> Self
-        ensures rest { result.rest ≡ read_pprof bytes pick naming }
-        ensures told { result.told ≡ nothing_told }
-        ensures chosen_type { result.chosen_type ≡ chosen_type bytes pick }
-        ensures limits { IsSourceLimited (read_pprof bytes pick naming).samples }
-        ensures unstopped { (after : ℕ) → (read_pprof bytes pick naming).ending ≢ Stopped after }
-    {
-        PprofReader::unread(SourceBytes::Shared(bytes), pick, naming)
-    }
-
-    fn unread(bytes: SourceBytes, pick: Pick, naming: Naming) -> Self
-        ensures rest { result.rest ≡ read_pprof (bytes_of bytes) pick naming }
-        ensures told { result.told ≡ nothing_told }
-        ensures chosen_type { result.chosen_type ≡ chosen_type (bytes_of bytes) pick }
-    {
+        let samples = RowSamples::new(*bytes.allocator());
         PprofReader {
-            bytes,
-            pick,
-            naming,
-            part: None,
-            given: 0,
-            total: 0,
-            ended: None,
-            teller: None,
+            rows: PprofRows::over(bytes, pick, naming),
+            samples,
         }
     }
-}
 
-impl PprofReader {
     /// The sample type of the chosen value. None before the tables were read, and where the file has no sample.
     pub fn chosen_type(&self) -> Option<&SampleType>
         ensures { LendsType (told_type self.now) result }
     {
-        self.part.as_ref()?.outline.chosen_type.as_ref()
+        self.rows.chosen_type()
     }
 }
 
@@ -122,26 +76,10 @@ impl SampleReader for PprofReader {
         ensures chosen_type { self.new.chosen_type ≡ self.old.chosen_type }
         ensures tables { IfOk result (HasRead self.new) }
     {
-        if let Some(ending) = self.ended {
-            return Ok(Step::End(ending));
+        if self.samples.is_idle() {
+            let step = self.rows.next_row(alloc)?;
+            self.samples.take(step);
         }
-        let file = self.bytes.as_slice();
-        if let Some(fault) = open(alloc, &mut self.part, file, &self.pick, self.naming)? {
-            let ending = SourceEnd::Fault(fault);
-            self.ended = Some(ending);
-            return Ok(Step::End(ending));
-        }
-        let Some(part) = &self.part else {
-            unreachable!();
-        };
-        let step = part.next_step(alloc, file, self.given, self.total)?;
-        match &step {
-            Step::Sample(sample) => {
-                self.given += 1;
-                self.total += sample.weight;
-            }
-            Step::End(ending) => self.ended = Some(*ending),
-        }
-        Ok(step)
+        self.samples.give(alloc, &self.rows)
     }
 }

@@ -1,14 +1,31 @@
 //! The samples of a profile.
 
-ghost use Rattle.std.specs.Prelude.{◌≡◌, ◌≤◌, IfOk, slice_index, unwrap_or};
+ghost use Rattle.std.specs.Prelude.{◌≡◌, ◌≤◌, ◌-◌, ◌^◌, true, false, min, length, is_none, IfOk, MatchOption, slice_index, unwrap_or};
+ghost use Rattle.std.specs.List.{list_any};
+ghost use Rattle.profile_tables.specs.Samples.{frames_of_ids};
+ghost use Rattle.profile_tables.specs.checked.Frames.{frames_at};
 ghost use Rattle.profile_tables.specs.checked.SeenOutline.{seen_outline};
-ghost use Rattle.profile_tables.specs.checked.Outcome.{IsChecked, IsOutcome};
+ghost use Rattle.profile_tables.specs.checked.Outcome.{IsChecked};
 
+use crate::frames::Frames;
 use crate::outline::Outline;
-use crate::stacks::{frame_count, stack_of};
 use profile_messages::numbers_of;
-use stack_core::{FRAME_LIMIT, Names, ReadKind, Sample, WEIGHT_LIMIT};
+use stack_core::{FRAME_LIMIT, ReadKind, WEIGHT_LIMIT};
 use std::alloc::{AllocError, Global};
+
+/// How many frames locations have together, 2^64-1 at most, and None where one of the ids is no location's.
+fn frame_count(frames: &Frames, ids: &[u64]) -> Option<usize>
+    ensures { MatchOption result
+        (list_any (λ id. is_none (frames_at frames.now id)) ids.now ≡ true)
+        (λ count. (list_any (λ id. is_none (frames_at frames.now id)) ids.now ≡ false)
+        × (count ≡ min (length (frames_of_ids (frames_at frames.now) ids.now)) (2 ^ 64 - 1))) }
+{
+    let mut count = 0usize;
+    for id in ids {
+        count = count.saturating_add(frames.of(*id)?.len());
+    }
+    Some(count)
+}
 
 /// The chosen value of a sample, of these values, seen as its 64 bits.
 fn weight_among(chosen: Option<usize>, values: &[u64]) -> u64
@@ -65,26 +82,4 @@ pub(crate) fn checked_sample(
         depth,
         weight,
     }))
-}
-
-/// The sample of a message, behind samples of this total weight, or what is wrong with it.
-pub(crate) fn read_sample(
-    alloc: Global,
-    outline: &Outline,
-    total: u64,
-    sample: &[u8],
-) -> Result<Result<Sample, ReadKind>, AllocError>
-    requires { total ≤ WEIGHT_LIMIT }
-    ensures { IfOk result (IsOutcome (seen_outline outline.now) total sample.now) }
-{
-    match checked_sample(alloc, outline, total, sample)? {
-        Ok(checked) => {
-            let stack = stack_of(alloc, &outline.frames, &checked.ids, checked.depth)?;
-            Ok(Ok(Sample {
-                stack: Names::of(stack),
-                weight: checked.weight,
-            }))
-        }
-        Err(kind) => Ok(Err(kind)),
-    }
 }

@@ -1,15 +1,14 @@
-//! The steps of a reader.
+//! The tables of a file, read before its first sample.
 
-ghost use Rattle.std.specs.Prelude.{◌≡◌, ◌≤◌, IfOk, OnErr};
-ghost use Rattle.profile_tables.specs.checked.Rests.{IsStart, IsNext};
+ghost use Rattle.std.specs.Prelude.{◌≡◌, IfOk, OnErr};
+ghost use Rattle.profile_tables.specs.checked.Rests.{IsStart};
 ghost use Rattle.profile_tables.specs.checked.View.{IsOpened};
 
-use crate::outline::{Outline, Stretch, outline_of};
+use crate::outline::outline_of;
 use crate::part::Part;
-use crate::samples::read_sample;
-use profile_messages::{TableFault, content_at};
+use profile_messages::TableFault;
 use run_options::{Naming, Pick};
-use stack_core::{ReadFault, SourceEnd, Step, WEIGHT_LIMIT};
+use stack_core::ReadFault;
 use std::alloc::{AllocError, Global};
 
 /// What reading the tables of a file gives.
@@ -58,28 +57,5 @@ pub(crate) fn open(
             Ok(None)
         }
         Start::Fault(fault) => Ok(Some(fault)),
-    }
-}
-
-/// The next of the samples that are left, behind samples of this total weight, or the ending.
-pub(crate) fn next_step(
-    alloc: Global,
-    file: &[u8],
-    outline: &Outline,
-    left: Stretch,
-    total: u64,
-) -> Result<Step, AllocError>
-    requires { total ≤ WEIGHT_LIMIT }
-    ensures { IfOk result (IsNext file.now outline.now left.past left.next total) }
-{
-    let Some(at) = outline.place(left) else {
-        return Ok(Step::End(SourceEnd::Clean { ignored: 0 }));
-    };
-    match read_sample(alloc, outline, total, content_at(file, at))? {
-        Ok(sample) => Ok(Step::Sample(sample)),
-        Err(kind) => {
-            let at = at as u64;
-            Ok(Step::End(SourceEnd::Fault(ReadFault { kind, at })))
-        }
     }
 }

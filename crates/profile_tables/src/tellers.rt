@@ -1,7 +1,8 @@
 //! What tells the stacks of a profile: each name once, and a stack that was told before by its number.
 
-ghost use Rattle.std.specs.Prelude.{◌≡◌, ◌<◌, ◌≤◌, ◌+◌, ◌-◌, ◌^◌, ℕ, List, [], length, false, is_none, IfOk, IfSome, OnOk, OnErr};
+ghost use Rattle.std.specs.Prelude.{◌≡◌, ◌<◌, ◌≤◌, ◌+◌, ◌-◌, ◌^◌, ℕ, List, [], length, false, is_none, IfOk, IfSome, MatchOption, OnOk, OnErr};
 ghost use Rattle.std.specs.List.{list_any};
+ghost use Rattle.sample_tables.specs.Rows.{name_at};
 ghost use Rattle.sample_tables.specs.declared.samples.TheConstants.{FRAME_LIMIT};
 ghost use Rattle.stack_core.specs.Prefixes.{IsPrefixOf};
 ghost use Rattle.profile_tables.specs.declared.frames.Frames.{Frames};
@@ -80,6 +81,19 @@ impl Teller {
             count: 0,
             told: StackHistory::new(),
         })
+    }
+
+    /// The name of this number, if there is one.
+    pub(crate) fn name(&self, number: usize) -> Option<&str>
+        ensures { MatchOption result (length (told_of self.now).names ≤ number)
+            (λ name. name.now ≡ name_at (told_of self.now).names number) }
+    {
+        let names = &self.numbers.table;
+        if number < names.len() {
+            Some(names.name(number))
+        } else {
+            None
+        }
     }
 
     /// Looks for the stacks of the next samples, whose tags have these offsets, before they are asked for.

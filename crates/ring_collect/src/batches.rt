@@ -2,11 +2,11 @@
 
 ghost use Rattle.std.specs.Prelude.{◌≡◌};
 
-use run_options::{LARGEST_RING, RingSize};
+use run_options::RingSize;
 use stack_core::{Listed, RingRecord};
 
-/// The most records of a batch.
-const LARGEST_BATCH: u32 = 4_096;
+/// How many records the batches of a full ring have, if its size does not ask for more.
+const GATHERED: u32 = 4_096;
 
 /// An item of a ring: a record, or several in their order. No close is among several.
 #[derive(Drop)]
@@ -32,12 +32,11 @@ impl Handover {
         Handover { ring, limit: 1 }
     }
 
-    /// In batches. A ring holds at most as many records as the largest ring does of single ones, so what is under way takes no more memory
-    /// than there.
+    /// In batches, so that the threads of a small ring meet seldom, and few records are under way. A ring of more has them one by one.
     pub fn in_batches(ring: RingSize) -> Self
         ensures { result.ring ≡ ring }
     {
-        let limit = (LARGEST_RING / ring.get()).clamp(1, LARGEST_BATCH);
+        let limit = (GATHERED / ring.get()).max(1);
         Handover {
             ring,
             limit: limit as usize,

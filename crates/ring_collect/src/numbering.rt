@@ -166,4 +166,12 @@ impl<R: SampleReader> RowReader for NumberingReader<R> {
             Step::End(ending) => Ok(RowStep::End(ending)),
         }
     }
+
+    fn name(&self, number: usize) -> Option<&str> {
+        if number < self.names.len() {
+            Some(self.names.name(number))
+        } else {
+            None
+        }
+    }
 }

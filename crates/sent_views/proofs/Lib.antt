@@ -1,5 +1,4 @@
 pub mod PageLemmas
 mod PictureLemmas
-pub mod SnapshotLines
 mod WorkedPages
 mod WorkedPictures

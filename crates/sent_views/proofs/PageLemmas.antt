@@ -62,8 +62,3 @@ orderless_page heading Pairs lists order every orderless = refl
 orderless_page heading (PairBoxes width) lists order every orderless = refl
 orderless_page heading (Top top) lists order every orderless = refl
 orderless_page heading (Diff table) lists order every orderless = refl
-
--- the page of a graph with its snapshots is the one that a plan for a graph asks for
-pub gathered_page : (plan : Plan) (facts : RunFacts) (page : PageForm) (lists : List (List Sample)) (order : List ℕ) (every : Option ℕ) (width : ℕ) → plan.view ≡ Graph width
-    → document_text (snapshots_page (asked_heading plan facts page lists) lists order every) ≡ page_text plan facts page lists order every
-gathered_page plan facts page lists order every width is = ap (λ (view : View). headed_text (asked_heading plan facts page lists) view lists order every) (sym is)

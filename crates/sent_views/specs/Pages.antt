@@ -4,6 +4,10 @@ use Rattle.std.specs.List.{join_by, range_with_len}
 use Rattle.sample_tables.specs.declared.samples.Sample.{Sample}
 use Rattle.stack_core.specs.Interleaving.{list_of}
 use Rattle.merged_stacks.specs.Timeline.{total_weight}
+use Rattle.merging.specs.Sums.{all_samples}
+use Rattle.function_sums.specs.declared.call_sides.CallSide.{CallSide}
+use Rattle.function_sums.specs.declared.call_sides.CallSide.TheVariants.{Callers, Callees}
+use Rattle.command_line.specs.declared.plans.CallTable.{CallTable}
 use Rattle.command_line.specs.declared.plans.Form.{Form}
 use Rattle.command_line.specs.declared.plans.Form.TheVariants as form
 use Rattle.command_line.specs.declared.plans.PageForm.{PageForm}
@@ -20,7 +24,7 @@ use Rattle.source_lists.specs.Types.{type_or_none}
 use Rattle.sent_views.specs.Facts.{told_whole}
 use Rattle.sent_views.specs.Pictures.{PictureFrame, common_unit, framed_text, units_with_weight}
 use Rattle.sent_views.specs.declared.run_facts.RunFacts.{RunFacts}
-use Rattle.source_views.specs.Texts.{told_text, view_text}
+use Rattle.source_views.specs.Texts.{calls_text, told_text, view_text}
 
 -- a source of a page, with the sample type of its weights
 abbrev pub source_at : List (List ℕ) → List SampleType → List (List Sample) → ℕ → PageSource
@@ -78,12 +82,18 @@ picture_text plan facts picture lists = framed_text (asked_frame plan facts pict
 abbrev pub asked_text : Plan → RunFacts → List (List Sample) → List ℕ → Option ℕ → List ℕ
 asked_text plan facts lists order every = told_text (told_whole plan facts) plan.view lists order every
 
+-- the text of a function and its callers, or its callees
+abbrev pub called_text : CallSide → CallTable → Plan → RunFacts → List (List Sample) → List ℕ
+called_text side table plan facts lists = calls_text (told_whole plan facts) side table (all_samples lists)
+
 abbrev pub text_in : Form → Plan → RunFacts → List (List Sample) → List ℕ → Option ℕ → List ℕ
 text_in form.Text plan facts lists order every = asked_text plan facts lists order every
 text_in (form.Page page) plan facts lists order every = page_text plan facts page lists order every
 text_in (form.Picture picture) plan facts lists order every = picture_text plan facts picture lists
 text_in form.Types plan facts lists order every = asked_text plan facts lists order every
+text_in (form.Callers table) plan facts lists order every = called_text Callers table plan facts lists
+text_in (form.Callees table) plan facts lists order every = called_text Callees table plan facts lists
 
--- the text that a plan asks for: its page, its picture, or that of its view
+-- the text that a plan asks for: its page, its picture, the calls of a function, or the text of its view
 abbrev pub shown_text : Plan → RunFacts → List (List Sample) → List ℕ → Option ℕ → List ℕ
 shown_text plan facts lists order every = text_in plan.form plan facts lists order every

@@ -5,11 +5,9 @@ mod headings;
 mod run_facts;
 mod sent_pages;
 mod sent_pictures;
-mod sent_snapshots;
-mod sent_views;
+mod sent_texts;
 
 pub use run_facts::RunFacts;
-pub use sent_pages::{send_asked_page, send_graph_with_snapshots};
+pub use sent_pages::send_asked_page;
 pub use sent_pictures::{AskedPicture, send_asked_picture};
-pub use sent_snapshots::send_snapshots;
-pub use sent_views::{send_asked_view, send_text};
+pub use sent_texts::{AskedCalls, send_asked_calls, send_asked_view};

@@ -15,14 +15,14 @@ ghost use Rattle.opened_sources.specs.Failures.{Flushes, Sends};
 
 use crate::headings::{common_unit, described_sources, title_of};
 use crate::run_facts::RunFacts;
-use crate::sent_views::{send_long_text, send_plain_view};
+use crate::sent_texts::send_plain_view;
 use byte_io::Outlet;
 use command_line::{PictureForm, Plan, View};
 use flame_layout::{Width, draw_merged, draw_paired};
 use merged_stacks::PairedStacks;
 use opened_sources::Failure;
 use source_lists::SourceLists;
-use source_views::{lend_chart, merge_in_threads};
+use source_views::{InThreads, Workers, lend_chart, send_long_text};
 use stack_core::SourceList;
 use std::alloc::Global;
 use std::thread::Threads;
@@ -115,7 +115,7 @@ fn send_framed<T: Threads, W: Outlet>(
             send_compared(rt, alloc, &lists[0], &lists[1], &picture, out)
         }
         View::Fold | View::Pairs | View::Top(_) | View::Diff(_) => {
-            send_plain_view(rt, alloc, sources, view, None, out)
+            send_plain_view(&InThreads { rt }, alloc, sources, view, out)
         }
     }
 }
@@ -136,7 +136,7 @@ fn send_graph<T: Threads, W: Outlet>(
 {
     // The own weights add up to the total, which has 64 bits.
     let _total = picture.total;
-    let merged = merge_in_threads(rt, alloc, sources)?;
+    let merged = InThreads { rt }.merge(alloc, sources)?;
     let boxes = draw_merged(alloc, &merged)?;
     send_long_text(rt, alloc, &graph_svg(alloc, picture, &boxes)?, out)
 }

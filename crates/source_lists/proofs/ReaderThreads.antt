@@ -7,18 +7,20 @@ use Rattle.std.proofs.MapsCrossing as maps
 use Rattle.std.proofs.Crossing as crossing
 use Rattle.bytes.proofs.Crosses.{block-send, block-sync, seen_owns-keyless}
 use Rattle.bytes.specs.contracts.block.Seen as seen
+use Rattle.stack_core.specs.contracts.row_samples.RowSamples as samples
+use Rattle.stack_core.specs.contracts.row_samples.RowSamples.TheInside as samples_inside
 use Rattle.stack_core.specs.contracts.source_bytes.SourceBytes as source_bytes
 use Rattle.call_tree.specs.contracts.frame_table.FrameTable as table
 use Rattle.call_tree.specs.contracts.spellings.SpellingCache as cache
 use Rattle.call_tree.specs.contracts.histories.StackHistory as history
 use Rattle.folded_lines.specs.contracts.telling.Telling as telling
-use Rattle.folded_lines.specs.contracts.reader.FoldedReader as folded
-use Rattle.folded_lines.specs.contracts.reader.FoldedReader.TheInside as folded_inside
+use Rattle.folded_lines.specs.contracts.rows.FoldedRows as folded
+use Rattle.folded_lines.specs.contracts.rows.FoldedRows.TheInside as folded_inside
 use Rattle.profile_tables.specs.contracts.outline.Outline as outline
 use Rattle.profile_tables.specs.contracts.part.Part as part
 use Rattle.profile_tables.specs.contracts.tellers.Teller as teller
-use Rattle.profile_tables.specs.contracts.reader.PprofReader as pprof
-use Rattle.profile_tables.specs.contracts.reader.PprofReader.TheInside as pprof_inside
+use Rattle.profile_tables.specs.contracts.row_reader.PprofRows as pprof
+use Rattle.profile_tables.specs.contracts.row_reader.PprofRows.TheInside as pprof_inside
 use Rattle.sample_tables.specs.contracts.values.Names as names
 use Rattle.run_options.specs.contracts.filters.Filter as filter
 use Rattle.source_lists.specs.contracts.source_reader.SourceReader as source
@@ -76,6 +78,15 @@ names_send = search (sendable, crosses) depth 30
 
 pub filter_send : IsSend (filter.the_field).row
 filter_send = search (sendable, names_send) depth 30
+
+samples_fields_send : AllSend (shape samples_inside.the_type).fields
+samples_fields_send = (search (sendable, crosses) depth 60, (search (sendable, crosses) depth 90 fits 30000, tt))
+
+samples_inside_send : IsSend samples_inside.the_row
+samples_inside_send = recorded_send _ _ _ (samples_inside.the_type).to_one (struct_send (shape samples_inside.the_type) samples_fields_send)
+
+pub samples_send : IsSend samples.the_row
+samples_send = search (view_send, samples_inside_send)
 
 pub source_send : IsSend (source.the_field).row
 source_send = search (sendable, folded_send, pprof_send) depth 30

@@ -13,8 +13,8 @@ ghost use Rattle.source_lists.specs.checked.Readers.{reader_rest, reader_told};
 use crate::inputs::{Content, Input};
 use crate::source_reader::SourceReader;
 use bytes::Bytes;
-use folded_lines::FoldedReader;
-use profile_tables::PprofReader;
+use folded_lines::FoldedRows;
+use profile_tables::PprofRows;
 use run_options::Options;
 use std::alloc::{AllocError, Global};
 
@@ -69,9 +69,9 @@ fn text_readers(alloc: Global, parts: &[Bytes]) -> Result<Vec<SourceReader>, All
     match parts {
         [text] => {
             let count = reader_count(text.len());
-            of_texts(alloc, FoldedReader::parts(alloc, text.clone()?, count)?)
+            of_texts(alloc, FoldedRows::parts(alloc, text.clone()?, count)?)
         }
-        _ => of_texts(alloc, FoldedReader::of_parts(alloc, parts)?),
+        _ => of_texts(alloc, FoldedRows::of_parts(alloc, parts)?),
     }
 }
 
@@ -87,11 +87,11 @@ fn profile_readers(
         All (λ reader. reader_told reader ≡ record { names = []; stacks = [] }) readers.items) }
 {
     let count = reader_count(bytes.len());
-    let parts = PprofReader::parts(alloc, bytes.clone()?, &options.pick, options.naming, count)?;
+    let parts = PprofRows::parts(alloc, bytes.clone()?, &options.pick, options.naming, count)?;
     of_profiles(alloc, parts)
 }
 
-fn of_texts(alloc: Global, texts: Vec<FoldedReader>) -> Result<Vec<SourceReader>, AllocError>
+fn of_texts(alloc: Global, texts: Vec<FoldedRows>) -> Result<Vec<SourceReader>, AllocError>
     requires { All (λ reader. reader.told ≡ record { names = []; stacks = [] }) texts.items }
     ensures rests { IfOk result (λ readers.
         map reader_rest readers.items ≡ map (λ reader. reader.rest) texts.items) }
@@ -105,7 +105,7 @@ fn of_texts(alloc: Global, texts: Vec<FoldedReader>) -> Result<Vec<SourceReader>
     Ok(readers)
 }
 
-fn of_profiles(alloc: Global, profiles: Vec<PprofReader>) -> Result<Vec<SourceReader>, AllocError>
+fn of_profiles(alloc: Global, profiles: Vec<PprofRows>) -> Result<Vec<SourceReader>, AllocError>
     requires { All (λ reader. reader.told ≡ nothing_told) profiles.items }
     ensures rests { IfOk result (λ readers.
         map reader_rest readers.items ≡ map (λ reader. reader.rest) profiles.items) }

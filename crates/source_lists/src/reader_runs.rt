@@ -11,7 +11,7 @@ use crate::source_reader::SourceReader;
 use crate::unkept_samples::UnkeptSamples;
 use ring_collect::{CollectFault, Collected, collect, collect_rows};
 use run_options::RingSize;
-use stack_core::{Gate, RowSink};
+use stack_core::{Gate, NamingReader, RowSink};
 use std::alloc::Global;
 use std::sync::{Arc, Wait};
 use std::thread::Threads;
@@ -49,7 +49,7 @@ pub(crate) fn run_filtered<
 >(
     rt: &T,
     alloc: Global,
-    readers: Vec<FilteredReader<SourceReader>>,
+    readers: Vec<FilteredReader<NamingReader<SourceReader>>>,
     ring: RingSize,
     gate: Arc<G>,
 ) -> Result<Collected, CollectFault>

@@ -7,17 +7,17 @@ ghost use Rattle.source_lists.specs.Sources.{whole_rest};
 
 use crate::inputs::{Content, Input};
 use bytes::Bytes;
-use folded_lines::FoldedReader;
-use profile_tables::PprofReader;
+use folded_lines::FoldedRows;
+use profile_tables::PprofRows;
 use run_options::Options;
-use stack_core::{RowReader, RowStep, SampleReader, Step};
+use stack_core::{RowReader, RowStep};
 use std::alloc::{AllocError, Global};
 
 /// The reader of a source.
 #[derive(Drop)]
 pub(crate) enum SourceReader {
-    Folded(FoldedReader),
-    Pprof(PprofReader),
+    Folded(FoldedRows),
+    Pprof(PprofRows),
 }
 
 impl SourceReader {
@@ -37,11 +37,11 @@ impl SourceReader {
         match input.into_content() {
             Content::Text(parts) => {
                 let text = whole_text(alloc, parts)?;
-                Ok(SourceReader::Folded(FoldedReader::over_shared(alloc, text)))
+                Ok(SourceReader::Folded(FoldedRows::over_shared(alloc, text)))
             }
             Content::Profile(bytes) => {
                 let pick = options.pick.copy(alloc)?;
-                let reader = PprofReader::over_shared(bytes, pick, options.naming);
+                let reader = PprofRows::over_shared(bytes, pick, options.naming);
                 Ok(SourceReader::Pprof(reader))
             }
         }
@@ -69,21 +69,6 @@ fn joined_text(alloc: Global, parts: Vec<Bytes>) -> Result<Bytes, AllocError>
     Ok(Bytes::from_vec(text)?)
 }
 
-impl SampleReader for SourceReader {
-    ghost use Rattle.source_lists.specs.checked.Readers.{reader_rest, HasEnded};
-
-    ghost rest = { reader_rest };
-
-    ghost has_ended = { HasEnded };
-
-    fn next(&mut self, alloc: Global) -> Result<Step, AllocError> {
-        match self {
-            SourceReader::Folded(reader) => reader.next(alloc),
-            SourceReader::Pprof(reader) => reader.next(alloc),
-        }
-    }
-}
-
 impl RowReader for SourceReader {
     ghost use Rattle.source_lists.specs.checked.Readers.{reader_rest, reader_told, HasEnded};
 
@@ -97,6 +82,13 @@ impl RowReader for SourceReader {
         match self {
             SourceReader::Folded(reader) => reader.next_row(alloc),
             SourceReader::Pprof(reader) => reader.next_row(alloc),
+        }
+    }
+
+    fn name(&self, number: usize) -> Option<&str> {
+        match self {
+            SourceReader::Folded(reader) => reader.name(number),
+            SourceReader::Pprof(reader) => reader.name(number),
         }
     }
 }

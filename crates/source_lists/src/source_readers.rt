@@ -3,12 +3,13 @@
 ghost use Rattle.std.specs.Prelude.{◌≡◌, [], All, IfOk, map};
 ghost use Rattle.stack_core.specs.Reading.{IsSourceLimited};
 ghost use Rattle.source_lists.specs.Sources.{asked_rests, whole_rests};
-ghost use Rattle.source_lists.specs.checked.Readers.{filtered_rest, reader_rest, reader_told};
+ghost use Rattle.source_lists.specs.checked.Readers.{filtered_rest, naming_rest, reader_rest, reader_told};
 
 use crate::filtered_reader::{FilteredReader, filter_all};
 use crate::inputs::Input;
 use crate::source_reader::SourceReader;
 use run_options::Options;
+use stack_core::NamingReader;
 use std::alloc::{AllocError, Global};
 
 /// A reader for each source, which has told nothing.
@@ -31,17 +32,33 @@ pub(crate) fn readers_of(
     Ok(readers)
 }
 
+/// Readers of the samples of readers of rows that told nothing.
+fn naming_readers(
+    alloc: Global,
+    readers: Vec<SourceReader>,
+) -> Result<Vec<NamingReader<SourceReader>>, AllocError>
+    requires { All (λ reader. reader_told reader ≡ record { names = []; stacks = [] }) readers.items }
+    ensures { IfOk result (λ all.
+        map naming_rest all.items ≡ map reader_rest readers.items) }
+{
+    let mut all = Vec::with_capacity(alloc, readers.len())?;
+    for reader in readers {
+        all.push(NamingReader::of(alloc, reader))?;
+    }
+    Ok(all)
+}
+
 /// A reader for each source that gives what the filter keeps.
 pub(crate) fn filtered_readers_of(
     alloc: Global,
     inputs: Vec<Input>,
     options: &Options,
-) -> Result<Vec<FilteredReader<SourceReader>>, AllocError>
+) -> Result<Vec<FilteredReader<NamingReader<SourceReader>>>, AllocError>
     ensures rests { IfOk result (λ readers.
         map filtered_rest readers.items ≡ asked_rests options.now inputs.items) }
     ensures limits { IfOk result (λ readers.
         All (λ rest. IsSourceLimited rest.samples) (asked_rests options.now inputs.items)) }
 {
-    let readers = readers_of(alloc, inputs, options)?;
+    let readers = naming_readers(alloc, readers_of(alloc, inputs, options)?)?;
     filter_all(alloc, readers, &options.filter)
 }

@@ -46,7 +46,7 @@ same_top : (top : TopTable) (xs ys : List Sample) → SameSums xs ys → top_tex
 same_top top xs ys same =
     let functions = same_functions top.by xs ys same in
     let weight = same_weights xs ys same in
-    λ i. cond top.is_json (functions_line None (weight i) (take top.rows (functions i))) (table_text None (weight i) (take top.rows (functions i)))
+    λ i. cond top.is_json (functions_line None None (weight i) (take top.rows (functions i))) (table_text None (weight i) (take top.rows (functions i)))
 
 same_diff : (table : TopTable) (old new before after : List Sample) → SameSums old before → SameSums new after → diff_text table old new ≡ diff_text table before after
 same_diff table old new before after first second =

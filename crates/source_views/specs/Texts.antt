@@ -12,11 +12,13 @@ use Rattle.view_texts.specs.Json.{boxes_line, snapshot_line, pair_boxes_line}
 use Rattle.view_texts.specs.Pairs.{pairs_text}
 use Rattle.merging.specs.Snapshots.{snapshot_samples, snapshot_places}
 use Rattle.merging.specs.Sums.{all_samples}
+use Rattle.sum_texts.specs.CallTexts.{calls_line, calls_table}
 use Rattle.sum_texts.specs.DiffTexts.{diff_table, diff_line}
 use Rattle.sum_texts.specs.TopTexts.{top_table, top_line}
+use Rattle.function_sums.specs.declared.call_sides.CallSide.{CallSide}
+use Rattle.command_line.specs.declared.plans.CallTable.{CallTable}
 use Rattle.command_line.specs.declared.plans.TopTable.{TopTable}
 use Rattle.command_line.specs.declared.plans.View.{View}
-use Rattle.merging.specs.declared.snapshots.Snapshot.{Snapshot}
 use Rattle.command_line.specs.declared.plans.View.TheVariants.{Fold, Graph, Chart, Pairs, PairBoxes, Top, Diff}
 
 -- the flame graph of samples
@@ -35,9 +37,6 @@ snapshot_line_at width order lists m =
 
 abbrev pub snapshot_lines : ℕ → List (List Sample) → List ℕ → List ℕ → List ℕ
 snapshot_lines width lists order places = flat_map (snapshot_line_at width order lists) places
-
-abbrev pub places_of : List Snapshot → List ℕ
-places_of snapshots = map (λ snapshot. snapshot.at) snapshots
 
 -- a line for each snapshot, and then the flame graph of all samples
 abbrev pub graph_text : ℕ → List (List Sample) → List ℕ → Option ℕ → List ℕ
@@ -64,6 +63,11 @@ top_text all top samples =
 abbrev pub diff_text : TopTable → List Sample → List Sample → List ℕ
 diff_text table before after =
     if table.is_json then diff_line table.by table.rows before after else diff_table table.by table.rows before after
+
+-- a function and its callers, or its callees: their table, or their line of JSON. `all` is that of `top_text`
+abbrev pub calls_text : Option ℕ → CallSide → CallTable → List Sample → List ℕ
+calls_text all side table samples =
+    if table.is_json then calls_line all side table.name table.rows samples else calls_table all side table.name table.rows samples
 
 abbrev pub view_text : View → List (List Sample) → List ℕ → Option ℕ → List ℕ
 view_text Fold lists order every = fold_text (all_samples lists)

@@ -2,40 +2,21 @@
 ghost use Rattle.std.specs.Prelude.{◌≡◌, IfOk};
 ghost use Rattle.flame_layout.specs.Chart.{chart_of};
 ghost use Rattle.flame_layout.specs.Graph.{graph_of};
-ghost use Rattle.flame_layout.specs.Paths.{SameOwn};
 ghost use Rattle.merged_stacks.specs.Timeline.{samples_of, timeline};
 ghost use Rattle.merging.specs.Sums.{all_samples};
 
-use flame_layout::{Chart, MergedStacks, SpanBox, chart_boxes, merged_boxes};
+use crate::workers::{Alone, Workers};
+use flame_layout::{Chart, SpanBox, chart_boxes, merged_boxes};
 use source_lists::SourceLists;
 use std::alloc::{AllocError, Global};
-use std::thread::Threads;
 
 // The flame graph of all samples.
 pub(crate) fn draw_graph(alloc: Global, sources: &SourceLists) -> Result<Vec<SpanBox>, AllocError>
     ensures { IfOk result (λ boxes.
         boxes.items ≡ graph_of (all_samples (samples_of sources.now.lists))) }
 {
-    let merged = merge(alloc, sources)?;
+    let merged = Alone.merge(alloc, sources)?;
     merged_boxes(alloc, &merged)
-}
-
-/// The stacks of all samples, each once.
-pub fn merge(alloc: Global, sources: &SourceLists) -> Result<MergedStacks, AllocError>
-    ensures { IfOk result (SameOwn (all_samples (samples_of sources.now.lists))) }
-{
-    MergedStacks::of(alloc, sources.lists())
-}
-
-/// The same, sorted in a few threads where there are many.
-pub fn merge_in_threads(
-    rt: &impl Threads,
-    alloc: Global,
-    sources: &SourceLists,
-) -> Result<MergedStacks, AllocError>
-    ensures { IfOk result (SameOwn (all_samples (samples_of sources.now.lists))) }
-{
-    MergedStacks::of_in_threads(rt, alloc, sources.lists())
 }
 
 // The flame chart of the sources one after another.

@@ -1,4 +1,4 @@
-//! The texts of `graph_texts`, of boxes whose names are lent.
+//! The lines of a flame graph and of a flame chart.
 ghost use Rattle.std.specs.Prelude.{◌≡◌, ◌+◌, ◌<◌, ◌^◌, length, map};
 ghost use Rattle.std.specs.List.{concat};
 ghost use Rattle.flame_layout.specs.Boxes.{span_of};
@@ -13,8 +13,8 @@ use flame_layout::{Chart, DrawnBox, Width};
 use source_lists::SourceLists;
 use view_texts::{JsonLine, Scale, drawn_chart_line, drawn_line};
 
-/// The line of the chart.
-pub fn drawn_chart<'a, 'n>(
+// The line of the chart.
+pub(crate) fn drawn_chart<'a, 'n>(
     sources: &SourceLists,
     chart: &'a Chart<'n>,
     width: Width,
@@ -28,8 +28,8 @@ pub fn drawn_chart<'a, 'n>(
     drawn_chart_line("chart", chart, Scale { total, width })
 }
 
-/// The line of the graph alone.
-pub fn drawn_graph<'a>(
+// The line of the graph alone.
+pub(crate) fn drawn_graph<'a>(
     sources: &SourceLists,
     boxes: &'a [DrawnBox<'a>],
     width: Width,

@@ -5,7 +5,7 @@ ghost use Rattle.function_sums.specs.FunctionSums.{AreFunctionSums};
 ghost use Rattle.merged_stacks.specs.Timeline.{samples_of, total_weight};
 ghost use Rattle.merging.specs.Sums.{all_samples};
 
-use crate::drawings::merge;
+use crate::workers::Workers;
 use function_sums::{FunctionChange, FunctionSum, function_changes, function_sums};
 use merged_stacks::MergedStacks;
 use run_options::FunctionOrder;
@@ -14,8 +14,9 @@ use stack_core::SourceList;
 use std::alloc::{AllocError, Global};
 use std::slice;
 
-/// The weights of the functions of all samples, the heaviest first.
-pub fn weigh_functions(
+// The weights of the functions of all samples, the heaviest first.
+pub(crate) fn weigh_functions<H: Workers>(
+    workers: &H,
     alloc: Global,
     sources: &SourceLists,
     by: FunctionOrder,
@@ -23,12 +24,12 @@ pub fn weigh_functions(
     ensures { IfOk result (λ sums.
         AreFunctionSums by (all_samples (samples_of sources.now.lists)) sums.items) }
 {
-    let merged = merge(alloc, sources)?;
+    let merged = workers.merge(alloc, sources)?;
     function_sums(alloc, &merged, by)
 }
 
-/// How the functions of one list change to those of another, the greatest change first.
-pub fn change_functions(
+// How the functions of one list change to those of another, the greatest change first.
+pub(crate) fn change_functions(
     alloc: Global,
     before: &SourceList,
     after: &SourceList,

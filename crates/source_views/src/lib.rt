@@ -1,19 +1,22 @@
-//! What is seen of the sources of a run: boxes and texts.
+//! What is seen of the sources of a run: boxes, and the text of each view, appended or sent.
 #![tactic(auto)]
 
+mod call_texts;
 mod drawings;
 mod drawn_texts;
 mod functions;
-mod graph_texts;
 pub mod laws;
+mod long_texts;
+mod snapshot_texts;
 mod view_set;
 mod view_text;
 mod whole_run;
+mod workers;
 
-pub use drawings::{lend_chart, merge, merge_in_threads};
-pub use drawn_texts::{drawn_chart, drawn_graph};
-pub use functions::{change_functions, weigh_functions};
-pub use graph_texts::{SnapshotLines, filled_counts};
+pub use call_texts::send_calls;
+pub use drawings::lend_chart;
+pub use long_texts::{LongText, OneOf};
 pub use view_set::Views;
-pub use view_text::render;
+pub use view_text::{AskedText, render, send_view};
 pub use whole_run::views;
+pub use workers::{Alone, InThreads, Workers, send_long_text, send_text};

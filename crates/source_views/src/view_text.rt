@@ -1,27 +1,42 @@
-//! The text of a view of what was collected.
-ghost use Rattle.std.specs.Prelude.{◌≡◌, ◌++◌, ◌<◌, ◌^◌, None, OnOk, OnErr, length};
+//! The text of a view of what was collected, sent while it is made, or appended.
+ghost use Rattle.std.specs.Prelude.{◌≡◌, ◌≤◌, ◌<◌, ◌^◌, ◌++◌, IfSome, OnOk, OnErr, is_ok, length};
 ghost use Rattle.merged_stacks.specs.Timeline.{samples_of, total_weight};
 ghost use Rattle.view_texts.specs.Fold.{fold_text};
 ghost use Rattle.view_texts.specs.Pairs.{pairs_text};
 ghost use Rattle.merging.specs.Sums.{all_samples};
 ghost use Rattle.command_line.specs.Plans.{IsComparison};
-ghost use Rattle.source_views.specs.Texts.{diff_text, view_text, pair_boxes_text, top_text};
+ghost use Rattle.source_views.specs.Texts.{chart_text, diff_text, graph_text, graph_line, pair_boxes_text, told_text, top_text, view_text};
+ghost use Rattle.opened_sources.specs.Failures.{Flushes, Sends};
 ghost use Rattle.stack_core.specs.Interleaving.{list_of};
 
-use crate::drawings::merge;
+use crate::drawings::lend_chart;
+use crate::drawn_texts::{drawn_chart, drawn_graph};
 use crate::functions::{change_functions, weigh_functions};
-use crate::graph_texts::{chart_line, graph_text};
+use crate::long_texts::OneOf;
+use crate::snapshot_texts::send_snapshots;
 use crate::view_set::Views;
-use byte_io::append_pieces;
+use crate::workers::{Alone, Workers, send_text};
+use byte_io::{CountedWriter, Outlet, truncate_on_error};
 use command_line::{TopTable, View};
-use flame_layout::{Width, draw_paired};
+use flame_layout::{Width, draw_merged, draw_paired};
 use function_sums::Change;
-use merged_stacks::PairedStacks;
+use opened_sources::Failure;
 use source_lists::SourceLists;
 use stack_core::SourceList;
 use std::alloc::{AllocError, Global};
-use sum_texts::{ChangeLine, ChangeTable, append_sum_line, append_sum_table};
+use std::mem;
+use sum_texts::{ChangeLine, ChangeTable, SumLine, SumTable};
 use view_texts::{FoldedText, PairedText, Scale, drawn_comparison_line};
+
+/// What is asked of a text.
+#[derive(Clone, Copy)]
+pub struct AskedText {
+    pub view: View,
+    /// After how many samples more a graph has a snapshot.
+    pub every: Option<u64>,
+    /// What all samples weigh, where a table of functions is to tell it.
+    pub whole: Option<u64>,
+}
 
 /// Appends the whole text of a view: folded lines, two-column lines, lines of JSON, or a table. An `Err` changes
 /// nothing. The views of a comparison are of exactly two sources.
@@ -32,133 +47,235 @@ pub fn render(alloc: Global, views: &Views, view: View, out: &mut Vec<u8>) -> Re
     ensures err { OnErr result (out.new.items ≡ out.old.items) }
 {
     let gathered = views.gathered();
-    let sources = gathered.sources();
-    match view {
-        View::Fold => append_fold(alloc, out, sources),
-        View::Graph(width) => {
-            append_pieces(alloc, &graph_text(gathered, views.graph(), width), out)
-        }
-        View::Chart(width) => {
-            append_pieces(alloc, &chart_line(sources, views.chart(), width), out)
-        }
-        View::Pairs => append_pairs(alloc, out, sources),
-        View::PairBoxes(width) => append_pair_boxes(alloc, out, sources, width),
-        View::Top(top) => append_top(alloc, out, sources, top),
-        View::Diff(table) => append_diff(alloc, out, sources, table),
+    let asked = AskedText {
+        view,
+        every: gathered.every(),
+        whole: None,
+    };
+    let before = out.len();
+    let mut outlet = CountedWriter::new(mem::replace(out, Vec::new(alloc)));
+    let sent = send_view(&Alone, alloc, gathered.sources(), &asked, &mut outlet);
+    *out = outlet.into_inner();
+    truncate_on_error(out, before, allocated(&sent))
+}
+
+// A text that goes into memory fails for want of it alone.
+fn allocated(sent: &Result<(), Failure>) -> Result<(), AllocError>
+    ensures { is_ok result ≡ is_ok sent.now }
+{
+    match sent {
+        Ok(()) => Ok(()),
+        Err(_) => Err(AllocError),
     }
 }
 
-// Appends the fold text of all samples.
-fn append_fold(alloc: Global, out: &mut Vec<u8>, sources: &SourceLists) -> Result<(), AllocError>
-    ensures ok { OnOk result (out.new.items ≡ out.old.items
-        ++ fold_text (all_samples (samples_of sources.now.lists))) }
-    ensures err { OnErr result (out.new.items ≡ out.old.items) }
-{
-    let merged = merge(alloc, sources)?;
-    append_pieces(alloc, &FoldedText::of(&merged), out)
-}
-
-// Appends the two-column text of the first two sources.
-fn append_pairs(alloc: Global, out: &mut Vec<u8>, sources: &SourceLists) -> Result<(), AllocError>
-    requires { length sources.now.lists ≡ 2 }
-    ensures ok { OnOk result (out.new.items ≡ out.old.items
-        ++ pairs_text (list_of (samples_of sources.now.lists) 0)
-        (list_of (samples_of sources.now.lists) 1)) }
-    ensures err { OnErr result (out.new.items ≡ out.old.items) }
-{
-    let lists = sources.lists();
-    let stacks = PairedStacks::of(alloc, &lists[0], &lists[1])?;
-    append_pieces(alloc, &PairedText::of(&stacks), out)
-}
-
-// Appends the flame graph of the second source, with the weights of the first.
-fn append_pair_boxes(
+/// Sends the text of a view, and draws no more than that view needs. Each snapshot of a graph is drawn when the one
+/// before it is out.
+pub fn send_view<H: Workers, W: Outlet>(
+    workers: &H,
     alloc: Global,
-    out: &mut Vec<u8>,
+    sources: &SourceLists,
+    asked: &AskedText,
+    out: &mut W,
+) -> Result<(), Failure>
+    requires pairs { IsComparison asked.now.view → length sources.now.lists ≡ 2 }
+    requires every { IfSome asked.now.every (λ every. 1 ≤ every) }
+    ensures sent { Sends (told_text asked.now.whole asked.now.view (samples_of sources.now.lists) sources.now.order asked.now.every)
+        (W.contents out.old) (W.contents out.new) result }
+    ensures flushed { Flushes (W.is_flushed out.new) (W.failures out.old) (W.failures out.new)
+        result }
+{
+    match asked.view {
+        View::Fold => send_fold(workers, alloc, sources, out),
+        View::Graph(width) => send_graphs(workers, alloc, sources, width, asked.every, out),
+        View::Chart(width) => send_chart(workers, alloc, sources, width, out),
+        View::Pairs => send_pairs(workers, alloc, sources, out),
+        View::PairBoxes(width) => {
+            let lists = sources.lists();
+            send_compared(workers, alloc, &lists[0], &lists[1], width, out)
+        }
+        View::Top(top) => send_top(workers, alloc, sources, top, asked.whole, out),
+        View::Diff(table) => send_diff(alloc, sources, table, out),
+    }
+}
+
+// Sends the fold text of all samples.
+fn send_fold<H: Workers, W: Outlet>(
+    workers: &H,
+    alloc: Global,
+    sources: &SourceLists,
+    out: &mut W,
+) -> Result<(), Failure>
+    ensures sent { Sends (fold_text (all_samples (samples_of sources.now.lists)))
+        (W.contents out.old) (W.contents out.new) result }
+    ensures flushed { Flushes (W.is_flushed out.new) (W.failures out.old) (W.failures out.new)
+        result }
+{
+    let merged = workers.merge(alloc, sources)?;
+    workers.send(alloc, &OneOf::First(FoldedText::of(&merged)), out)
+}
+
+// Sends the lines of the snapshots of a graph, where they are asked for, and then the graph's own.
+fn send_graphs<H: Workers, W: Outlet>(
+    workers: &H,
+    alloc: Global,
     sources: &SourceLists,
     width: Width,
-) -> Result<(), AllocError>
-    requires { length sources.now.lists ≡ 2 }
-    ensures ok { OnOk result (out.new.items ≡ out.old.items
-        ++ pair_boxes_text width (list_of (samples_of sources.now.lists) 0)
-        (list_of (samples_of sources.now.lists) 1)) }
-    ensures err { OnErr result (out.new.items ≡ out.old.items) }
+    every: Option<u64>,
+    out: &mut W,
+) -> Result<(), Failure>
+    requires { IfSome every (λ every. 1 ≤ every) }
+    ensures sent { Sends (graph_text width (samples_of sources.now.lists) sources.now.order every)
+        (W.contents out.old) (W.contents out.new) result }
+    ensures flushed { Flushes (W.is_flushed out.new) (W.failures out.old) (W.failures out.new)
+        result }
 {
-    let lists = sources.lists();
-    append_compared(alloc, out, &lists[0], &lists[1], width)
+    match every {
+        Some(every) => send_snapshots(workers, alloc, sources, width, every, out),
+        None => send_graph(workers, alloc, sources, width, out),
+    }
 }
 
-// Appends the flame graph of the second profile, with the weights of the first.
-fn append_compared(
+// Sends the line of the graph alone.
+fn send_graph<H: Workers, W: Outlet>(
+    workers: &H,
     alloc: Global,
-    out: &mut Vec<u8>,
+    sources: &SourceLists,
+    width: Width,
+    out: &mut W,
+) -> Result<(), Failure>
+    ensures sent { Sends (graph_line width (all_samples (samples_of sources.now.lists)))
+        (W.contents out.old) (W.contents out.new) result }
+    ensures flushed { Flushes (W.is_flushed out.new) (W.failures out.old) (W.failures out.new)
+        result }
+{
+    let merged = workers.merge(alloc, sources)?;
+    let boxes = draw_merged(alloc, &merged)?;
+    let line = drawn_graph(sources, &boxes, width);
+    workers.send(alloc, &OneOf::Second(OneOf::First(line)), out)
+}
+
+// Sends the line of the chart.
+fn send_chart<H: Workers, W: Outlet>(
+    workers: &H,
+    alloc: Global,
+    sources: &SourceLists,
+    width: Width,
+    out: &mut W,
+) -> Result<(), Failure>
+    ensures sent { Sends (chart_text width (samples_of sources.now.lists))
+        (W.contents out.old) (W.contents out.new) result }
+    ensures flushed { Flushes (W.is_flushed out.new) (W.failures out.old) (W.failures out.new)
+        result }
+{
+    let boxes = lend_chart(alloc, sources)?;
+    let line = drawn_chart(sources, &boxes, width);
+    workers.send(
+        alloc,
+        &OneOf::Second(OneOf::Second(OneOf::First(line))),
+        out,
+    )
+}
+
+// Sends the two-column text of the first two sources.
+fn send_pairs<H: Workers, W: Outlet>(
+    workers: &H,
+    alloc: Global,
+    sources: &SourceLists,
+    out: &mut W,
+) -> Result<(), Failure>
+    requires { length sources.now.lists ≡ 2 }
+    ensures sent { Sends (pairs_text (list_of (samples_of sources.now.lists) 0)
+        (list_of (samples_of sources.now.lists) 1)) (W.contents out.old) (W.contents out.new) result }
+    ensures flushed { Flushes (W.is_flushed out.new) (W.failures out.old) (W.failures out.new)
+        result }
+{
+    let lists = sources.lists();
+    let stacks = workers.pair(alloc, &lists[0], &lists[1])?;
+    send_text(alloc, &PairedText::of(&stacks), out)
+}
+
+// Sends the flame graph of the second profile, with the weights of the first.
+fn send_compared<H: Workers, W: Outlet>(
+    workers: &H,
+    alloc: Global,
     before: &SourceList,
     after: &SourceList,
     width: Width,
-) -> Result<(), AllocError>
+    out: &mut W,
+) -> Result<(), Failure>
     requires before { total_weight before.now.samples < 2 ^ 64 }
     requires after { total_weight after.now.samples < 2 ^ 64 }
-    ensures ok { OnOk result (out.new.items ≡ out.old.items
-        ++ pair_boxes_text width before.now.samples after.now.samples) }
-    ensures err { OnErr result (out.new.items ≡ out.old.items) }
+    ensures sent { Sends (pair_boxes_text width before.now.samples after.now.samples)
+        (W.contents out.old) (W.contents out.new) result }
+    ensures flushed { Flushes (W.is_flushed out.new) (W.failures out.old) (W.failures out.new)
+        result }
 {
-    let stacks = PairedStacks::of(alloc, before, after)?;
+    let stacks = workers.pair(alloc, before, after)?;
     let boxes = draw_paired(alloc, &stacks, before, after)?;
     let total = after.total() as u64;
     let line = drawn_comparison_line(before.total() as u64, &boxes, Scale { total, width });
-    append_pieces(alloc, &line, out)
+    workers.send(
+        alloc,
+        &OneOf::Second(OneOf::Second(OneOf::Second(line))),
+        out,
+    )
 }
 
-// Appends the heaviest functions, as a table or as a line of JSON.
-fn append_top(
+// Sends the heaviest functions, as a table or as a line of JSON.
+fn send_top<H: Workers, W: Outlet>(
+    workers: &H,
     alloc: Global,
-    out: &mut Vec<u8>,
     sources: &SourceLists,
     top: TopTable,
-) -> Result<(), AllocError>
-    ensures ok { OnOk result (out.new.items ≡ out.old.items
-        ++ top_text None top (all_samples (samples_of sources.now.lists))) }
-    ensures err { OnErr result (out.new.items ≡ out.old.items) }
+    all: Option<u64>,
+    out: &mut W,
+) -> Result<(), Failure>
+    ensures sent { Sends (top_text all top (all_samples (samples_of sources.now.lists)))
+        (W.contents out.old) (W.contents out.new) result }
+    ensures flushed { Flushes (W.is_flushed out.new) (W.failures out.old) (W.failures out.new)
+        result }
 {
-    let sums = weigh_functions(alloc, sources, top.by)?;
+    let sums = weigh_functions(workers, alloc, sources, top.by)?;
     let whole = sources.total();
     if top.is_json {
-        append_sum_line(alloc, out, &sums, top.rows, whole, None)
+        send_text(alloc, &SumLine::of(&sums, top.rows, whole, all), out)
     } else {
-        append_sum_table(alloc, out, &sums, top.rows, whole, None)
+        send_text(alloc, &SumTable::of(&sums, top.rows, whole, all), out)
     }
 }
 
-// Appends the greatest changes from the first source to the second.
-fn append_diff(
+// Sends the greatest changes from the first source to the second.
+fn send_diff<W: Outlet>(
     alloc: Global,
-    out: &mut Vec<u8>,
     sources: &SourceLists,
     table: TopTable,
-) -> Result<(), AllocError>
+    out: &mut W,
+) -> Result<(), Failure>
     requires { length sources.now.lists ≡ 2 }
-    ensures ok { OnOk result (out.new.items ≡ out.old.items
-        ++ diff_text table (list_of (samples_of sources.now.lists) 0)
-        (list_of (samples_of sources.now.lists) 1)) }
-    ensures err { OnErr result (out.new.items ≡ out.old.items) }
+    ensures sent { Sends (diff_text table (list_of (samples_of sources.now.lists) 0)
+        (list_of (samples_of sources.now.lists) 1)) (W.contents out.old) (W.contents out.new) result }
+    ensures flushed { Flushes (W.is_flushed out.new) (W.failures out.old) (W.failures out.new)
+        result }
 {
     let lists = sources.lists();
-    append_changes(alloc, out, &lists[0], &lists[1], table)
+    send_changes(alloc, &lists[0], &lists[1], table, out)
 }
 
-// Appends the greatest changes from one profile to another, as a table or as a line of JSON.
-fn append_changes(
+// Sends the greatest changes from one profile to another, as a table or as a line of JSON.
+fn send_changes<W: Outlet>(
     alloc: Global,
-    out: &mut Vec<u8>,
     before: &SourceList,
     after: &SourceList,
     table: TopTable,
-) -> Result<(), AllocError>
+    out: &mut W,
+) -> Result<(), Failure>
     requires before { total_weight before.now.samples < 2 ^ 64 }
     requires after { total_weight after.now.samples < 2 ^ 64 }
-    ensures ok { OnOk result (out.new.items ≡ out.old.items
-        ++ diff_text table before.now.samples after.now.samples) }
-    ensures err { OnErr result (out.new.items ≡ out.old.items) }
+    ensures sent { Sends (diff_text table before.now.samples after.now.samples)
+        (W.contents out.old) (W.contents out.new) result }
+    ensures flushed { Flushes (W.is_flushed out.new) (W.failures out.old) (W.failures out.new)
+        result }
 {
     let changes = change_functions(alloc, before, after, table.by)?;
     let whole = Change {
@@ -166,8 +283,8 @@ fn append_changes(
         after: after.total() as u64,
     };
     if table.is_json {
-        append_pieces(alloc, &ChangeLine::of(&changes, table.rows, whole), out)
+        send_text(alloc, &ChangeLine::of(&changes, table.rows, whole), out)
     } else {
-        append_pieces(alloc, &ChangeTable::of(&changes, table.rows), out)
+        send_text(alloc, &ChangeTable::of(&changes, table.rows), out)
     }
 }

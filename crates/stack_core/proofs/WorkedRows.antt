@@ -1,5 +1,10 @@
-use Rattle.std.proofs.Common.{◌≡◌, [], ◌∷◌, length, None, refl}
+use Rattle.std.proofs.Common.{◌≡◌, ℕ, List, [], ◌∷◌, length, None, true, false, refl}
 use Rattle.stack_core.specs.Ledgers.{LedgerState, with_again, with_row, with_sample}
+use Rattle.stack_core.specs.Reading.{Rest}
+use Rattle.stack_core.specs.RowSamples.{Nothing, OneRow, Ending, given_by, is_at_end, is_idle, left_with, stacks_with}
+use Rattle.stack_core.specs.declared.endings.SourceEnd.TheVariants.{Clean}
+use Rattle.stack_core.specs.declared.readers.RowStep.{RowStep}
+use Rattle.stack_core.specs.declared.readers.RowStep.TheVariants.{New, Again, End}
 use Rattle.sample_tables.specs.Rows.{name_at, row_at, sample_at, entry_at}
 use Rattle.sample_tables.specs.Samples.{total_weight}
 
@@ -33,3 +38,22 @@ samples_taken =
 
 pub world_and_ledger : (length samples_taken.samples ≡ 2) × (total_weight samples_taken.samples ≡ 4) × ((row_at samples_taken.rows 1).frames ≡ 1 ∷ [])
 world_and_ledger = (refl, refl, refl)
+
+-- a reader of rows tells the stack of `b` and `a`, tells it again with another weight, and ends
+abbrev both : List (List ℕ)
+both = (97 ∷ []) ∷ (98 ∷ []) ∷ []
+
+abbrev told_now : RowStep
+told_now = New ((98 ∷ []) ∷ []) (1 ∷ 0 ∷ []) 2
+
+pub steps_given : (stacks_with ((0 ∷ []) ∷ []) told_now ≡ (0 ∷ []) ∷ (1 ∷ 0 ∷ []) ∷ []) × (given_by ((0 ∷ []) ∷ []) told_now ≡ OneRow (record { frames = 1 ∷ 0 ∷ []; weight = 2 }))
+    × (given_by ((0 ∷ []) ∷ (1 ∷ 0 ∷ []) ∷ []) (Again 1 7) ≡ OneRow (record { frames = 1 ∷ 0 ∷ []; weight = 7 })) × (given_by [] (End (Clean 3)) ≡ Ending (Clean 3))
+steps_given = (refl, refl, refl, refl)
+
+abbrev left : Rest
+left = record { samples = []; ending = Clean 3 }
+
+-- with the sample that is awaited one is left, and nothing behind the ending
+pub left_with_one : (left_with both (OneRow (record { frames = 1 ∷ 0 ∷ []; weight = 7 })) left ≡ record { samples = record { stack = (98 ∷ []) ∷ (97 ∷ []) ∷ []; weight = 7 } ∷ []; ending = Clean 3 })
+    × (left_with both Nothing left ≡ left) × (left_with both (Ending (Clean 3)) left ≡ left) × (is_idle Nothing ≡ true) × (is_at_end (Ending (Clean 3)) ≡ true) × (is_at_end Nothing ≡ false)
+left_with_one = (refl, refl, refl, refl, refl, refl)

@@ -7,6 +7,7 @@ pub mod Prefixes
 pub mod Reading
 pub mod Records
 pub mod RowReading
+pub mod RowSamples
 pub mod Schedule
 pub mod Told
 pub mod checked

@@ -1,10 +1,10 @@
 //! What gives the samples of a source, one after another.
 
-ghost use Rattle.std.specs.Prelude.{◌≡◌, ◌<◌, ◌^◌, length, IfOk, OnOk, OnErr, IsOk};
+ghost use Rattle.std.specs.Prelude.{◌≡◌, ◌<◌, ◌≤◌, ◌^◌, length, IfOk, OnOk, OnErr, IsOk, MatchOption};
 ghost use Rattle.stack_core.specs.Prefixes.{IsPrefixOf};
 ghost use Rattle.stack_core.specs.Reading.{Steps, IsEnd, IsWithinLimits, Rest};
 ghost use Rattle.stack_core.specs.RowReading.{StepsByRows, IsLastStep, IsLimitedStep};
-ghost use Rattle.sample_tables.specs.Rows.{ToldRows};
+ghost use Rattle.sample_tables.specs.Rows.{ToldRows, name_at};
 
 use crate::endings::SourceEnd;
 use sample_tables::{Listed, Sample, Text};
@@ -64,7 +64,7 @@ pub trait RowReader {
     /// The samples still to come, and the ending.
     ghost rest: { Self → Rest };
 
-    /// The names and stacks that were told. After want of memory there may be more names, which nothing has told.
+    /// The names and stacks that were told. After want of memory there may be more names, which no step gives, but `name`.
     ghost told: { Self → ToldRows };
 
     /// Holds where a call has answered the ending.
@@ -82,4 +82,9 @@ pub trait RowReader {
         ensures few { length (rest self.old).samples < 2 ^ 64 }
         ensures ended { IfOk result (λ step. IsLastStep step → has_ended self.new) }
         ensures repeats { has_ended self.old → IsOk result };
+
+    /// The name of this number, also where want of memory kept a step from giving it.
+    fn name(&self, number: usize) -> Option<&str>
+        ensures { MatchOption result (length (told self.now).names ≤ number)
+            (λ name. name.now ≡ name_at (told self.now).names number) };
 }

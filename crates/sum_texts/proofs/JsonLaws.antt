@@ -2,6 +2,7 @@
 use Rattle.std.proofs.Common.{ℕ, ◌^◌, ◌<◌, ◌≤◌, List, map, All, IfSome, Option, None, Some, rules, arith}
 use Rattle.std.specs.List.Sorted.{IsStrictlySortedBy}
 use Rattle.serde_json.specs.Data.{depth}
+use Rattle.function_sums.specs.declared.call_sides.CallSide.{CallSide}
 use Rattle.function_sums.specs.declared.changes.Change.{Change}
 use Rattle.function_sums.specs.declared.changes.FunctionChange.{FunctionChange}
 use Rattle.function_sums.specs.declared.sums.FunctionSum.{FunctionSum}
@@ -19,32 +20,32 @@ rising_function : (sum : FunctionSum) → HasRisingKeys (function_data sum)
 unfolding IsStrictlySortedBy
 rising_function sum = search rules
 
-rising_functions : (all : Option ℕ) (whole : ℕ) (sums : List FunctionSum) → HasRisingKeys (functions_data all whole sums)
+rising_functions : (side : Option CallSide) (all : Option ℕ) (whole : ℕ) (sums : List FunctionSum) → HasRisingKeys (functions_data side all whole sums)
 unfolding IsStrictlySortedBy
-rising_functions None whole sums =
+rising_functions side None whole sums =
     let items = rising_items function_data rising_function sums in
     search (rules, items)
-rising_functions (Some weight) whole sums =
+rising_functions side (Some weight) whole sums =
     let items = rising_items function_data rising_function sums in
     search (rules, items)
 
-whole_functions : (all : Option ℕ) (whole : ℕ) (sums : List FunctionSum) → whole < 2 ^ 64 → IfSome all (λ weight. weight < 2 ^ 64) → All HasBits sums → HasWholeNumbers (functions_data all whole sums)
-whole_functions all whole sums w bits h =
+whole_functions : (side : Option CallSide) (all : Option ℕ) (whole : ℕ) (sums : List FunctionSum) → whole < 2 ^ 64 → IfSome all (λ weight. weight < 2 ^ 64) → All HasBits sums → HasWholeNumbers (functions_data side all whole sums)
+whole_functions side all whole sums w bits h =
     let each = each_of HasBits (λ sum. HasWholeNumbers (function_data sum)) sums (λ sum bits. (tt, (bits.0, (bits.1, tt)))) h in
     by all bits (whole_items function_data sums each)
   where
-    by : (all : Option ℕ) → IfSome all (λ weight. weight < 2 ^ 64) → HasWholeNumbers (list_data (map function_data sums)) → HasWholeNumbers (functions_data all whole sums)
+    by : (all : Option ℕ) → IfSome all (λ weight. weight < 2 ^ 64) → HasWholeNumbers (list_data (map function_data sums)) → HasWholeNumbers (functions_data side all whole sums)
     by None bits items = (items, (w, (tt, tt)))
     by (Some weight) bits items = (items, (w, (tt, (bits, tt))))
 
-deep : (all : Option ℕ) (whole : ℕ) (sums : List FunctionSum) → depth (functions_data all whole sums) ≤ 3
-deep None whole sums = omega (arith, items_depth-le function_data 1 (λ sum. omega arith) sums)
-deep (Some weight) whole sums = omega (arith, items_depth-le function_data 1 (λ sum. omega arith) sums)
+deep : (side : Option CallSide) (all : Option ℕ) (whole : ℕ) (sums : List FunctionSum) → depth (functions_data side all whole sums) ≤ 3
+deep side None whole sums = omega (arith, items_depth-le function_data 1 (λ sum. omega arith) sums)
+deep side (Some weight) whole sums = omega (arith, items_depth-le function_data 1 (λ sum. omega arith) sums)
 
-pub read_back : (all : Option ℕ) (whole : ℕ) (sums : List FunctionSum) → whole < 2 ^ 64 → IfSome all (λ weight. weight < 2 ^ 64) → All HasBits sums → IsJsonLine (functions_line all whole sums) (functions_data all whole sums)
+pub read_back : (side : Option CallSide) (all : Option ℕ) (whole : ℕ) (sums : List FunctionSum) → whole < 2 ^ 64 → IfSome all (λ weight. weight < 2 ^ 64) → All HasBits sums → IsJsonLine (functions_line side all whole sums) (functions_data side all whole sums)
 unfolding functions_line
-read_back all whole sums w bits h =
-    line_of_value (functions_data all whole sums) (whole_functions all whole sums w bits h) (rising_functions all whole sums) (omega (arith, deep all whole sums))
+read_back side all whole sums w bits h =
+    line_of_value (functions_data side all whole sums) (whole_functions side all whole sums w bits h) (rising_functions side all whole sums) (omega (arith, deep side all whole sums))
 
 -- ---- changes
 

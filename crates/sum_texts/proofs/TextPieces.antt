@@ -5,12 +5,14 @@ use Rattle.std.proofs.lemmas.List.{length-map, get_or-map}
 use Rattle.json.specs.Print.{escape_byte}
 use Rattle.serde_json.specs.Data.{Data, string}
 use Rattle.serde_json.specs.Written.{compact_text}
+use Rattle.function_sums.specs.declared.call_sides.CallSide.{CallSide}
+use Rattle.function_sums.specs.declared.call_sides.CallSide.TheVariants.{Callers, Callees}
 use Rattle.function_sums.specs.declared.sums.FunctionSum.{FunctionSum}
 use Rattle.view_texts.specs.Json.{list_data}
 use Rattle.view_texts.proofs.JsonLists.{values_text, items_text-items_of}
 use Rattle.view_texts.proofs.TextPieces.{line_pieces-text, length-line_pieces}
 use Rattle.sum_texts.specs.FunctionJson.{function_data, functions_line}
-use Rattle.sum_texts.specs.Pieces.{table_pieces, functions_end, functions_tail, functions_pieces}
+use Rattle.sum_texts.specs.Pieces.{table_pieces, functions_end, functions_tail, functions_pieces, view_member}
 use Rattle.sum_texts.specs.FunctionTable.{Entries, headings, entries_of, lines_of, table_line, table_text}
 
 -- ---- the table
@@ -55,34 +57,39 @@ pub bracketed : (values : List Data) (after : List ℕ) → compact_text (list_d
 bracketed values after = ap (λ text. 91 ∷ (text ++ after)) (items_text-items_of false values) ∙ ap (λ text. 91 ∷ text) (append_assoc (values_text false values) (93 ∷ []) after)
 
 -- the members after the weight of the samples
-abbrev last_members : Option ℕ → List ℕ
-last_members None = codes ",\"view\":\"top\"}"
-last_members (Some all) = codes ",\"view\":\"top\",\"whole\":" ++ (decimal all ++ codes "}")
+abbrev last_members : Option CallSide → Option ℕ → List ℕ
+last_members side None = view_member side ++ codes "}"
+last_members side (Some all) = view_member side ++ (codes ",\"whole\":" ++ (decimal all ++ codes "}"))
 
-last-line : (all : Option ℕ) → last_members all ++ 10 ∷ [] ≡ codes ",\"view\":\"top\"" ++ functions_end all
-last-line None = refl
-last-line (Some all) = after_value (codes ",\"view\":\"top\",\"whole\":") (decimal all) (codes "}") (10 ∷ [])
+last-line : (side : Option CallSide) (all : Option ℕ) → last_members side all ++ 10 ∷ [] ≡ view_member side ++ functions_end all
+last-line side None = append_assoc (view_member side) (codes "}") (10 ∷ [])
+last-line side (Some all) =
+    append_assoc (view_member side) (codes ",\"whole\":" ++ (decimal all ++ codes "}")) (10 ∷ []) ∙ ap (λ text. view_member side ++ text) (after_value (codes ",\"whole\":") (decimal all) (codes "}") (10 ∷ []))
 
-line-ends : (all : Option ℕ) (whole : ℕ) (values : List Data) → (codes "{\"functions\":" ++ (compact_text (list_data values) ++ (codes ",\"total\":" ++ (decimal whole ++ last_members all)))) ++ 10 ∷ []
-    ≡ codes "{\"functions\":[" ++ (values_text false values ++ functions_tail all whole)
-line-ends all whole values =
-    after_value (codes "{\"functions\":") (compact_text (list_data values)) (codes ",\"total\":" ++ (decimal whole ++ last_members all)) (10 ∷ [])
-    ∙ ap (λ text. codes "{\"functions\":" ++ (compact_text (list_data values) ++ text)) (after_value (codes ",\"total\":") (decimal whole) (last_members all) (10 ∷ []))
-    ∙ ap (λ text. codes "{\"functions\":" ++ text) (bracketed values (codes ",\"total\":" ++ (decimal whole ++ (last_members all ++ 10 ∷ []))))
-    ∙ ap (λ text. codes "{\"functions\":[" ++ (values_text false values ++ (codes "],\"total\":" ++ (decimal whole ++ text)))) (last-line all)
+line-ends : (side : Option CallSide) (all : Option ℕ) (whole : ℕ) (values : List Data) → (codes "{\"functions\":" ++ (compact_text (list_data values) ++ (codes ",\"total\":" ++ (decimal whole ++ last_members side all)))) ++ 10 ∷ []
+    ≡ codes "{\"functions\":[" ++ (values_text false values ++ functions_tail side all whole)
+line-ends side all whole values =
+    after_value (codes "{\"functions\":") (compact_text (list_data values)) (codes ",\"total\":" ++ (decimal whole ++ last_members side all)) (10 ∷ [])
+    ∙ ap (λ text. codes "{\"functions\":" ++ (compact_text (list_data values) ++ text)) (after_value (codes ",\"total\":") (decimal whole) (last_members side all) (10 ∷ []))
+    ∙ ap (λ text. codes "{\"functions\":" ++ text) (bracketed values (codes ",\"total\":" ++ (decimal whole ++ (last_members side all ++ 10 ∷ []))))
+    ∙ ap (λ text. codes "{\"functions\":[" ++ (values_text false values ++ (codes "],\"total\":" ++ (decimal whole ++ text)))) (last-line side all)
 
-line-parts : (all : Option ℕ) (whole : ℕ) (sums : List FunctionSum) → functions_line all whole sums ≡ codes "{\"functions\":[" ++ (values_text false (map function_data sums) ++ functions_tail all whole)
+line-parts : (side : Option CallSide) (all : Option ℕ) (whole : ℕ) (sums : List FunctionSum) → functions_line side all whole sums ≡ codes "{\"functions\":[" ++ (values_text false (map function_data sums) ++ functions_tail side all whole)
 unfolding functions_line escape_byte
-line-parts None whole sums = line-ends None whole (map function_data sums)
-line-parts (Some all) whole sums = line-ends (Some all) whole (map function_data sums)
+line-parts None None whole sums = line-ends None None whole (map function_data sums)
+line-parts None (Some all) whole sums = line-ends None (Some all) whole (map function_data sums)
+line-parts (Some Callers) None whole sums = line-ends (Some Callers) None whole (map function_data sums)
+line-parts (Some Callers) (Some all) whole sums = line-ends (Some Callers) (Some all) whole (map function_data sums)
+line-parts (Some Callees) None whole sums = line-ends (Some Callees) None whole (map function_data sums)
+line-parts (Some Callees) (Some all) whole sums = line-ends (Some Callees) (Some all) whole (map function_data sums)
 
-pub functions-text : (all : Option ℕ) (whole : ℕ) (sums : List FunctionSum) → concat (functions_pieces all whole sums) ≡ functions_line all whole sums
-functions-text all whole sums =
-    line_pieces-text (codes "{\"functions\":[") (functions_tail all whole) (map function_data sums) ∙ sym (line-parts all whole sums)
+pub functions-text : (side : Option CallSide) (all : Option ℕ) (whole : ℕ) (sums : List FunctionSum) → concat (functions_pieces side all whole sums) ≡ functions_line side all whole sums
+functions-text side all whole sums =
+    line_pieces-text (codes "{\"functions\":[") (functions_tail side all whole) (map function_data sums) ∙ sym (line-parts side all whole sums)
 
-pub length-functions_pieces : (all : Option ℕ) (whole : ℕ) (sums : List FunctionSum) → length (functions_pieces all whole sums) ≡ length sums + 2
-length-functions_pieces all whole sums =
-    length-line_pieces (codes "{\"functions\":[") (functions_tail all whole) (map function_data sums) ∙ ap (λ n. n + 2) (length-map sums function_data)
+pub length-functions_pieces : (side : Option CallSide) (all : Option ℕ) (whole : ℕ) (sums : List FunctionSum) → length (functions_pieces side all whole sums) ≡ length sums + 2
+length-functions_pieces side all whole sums =
+    length-line_pieces (codes "{\"functions\":[") (functions_tail side all whole) (map function_data sums) ∙ ap (λ n. n + 2) (length-map sums function_data)
 
 -- ---- a function in JSON
 

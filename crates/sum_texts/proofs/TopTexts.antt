@@ -1,5 +1,5 @@
 -- The texts of a list are those of the samples of which it is the table.
-use Rattle.std.proofs.Common.{◌≡◌, ℕ, List, Option, take, sym}
+use Rattle.std.proofs.Common.{◌≡◌, ℕ, List, Option, None, take, sym}
 use Rattle.sample_tables.specs.Samples.{total_weight}
 use Rattle.sample_tables.specs.declared.samples.Sample.{Sample}
 use Rattle.run_options.specs.declared.orders.FunctionOrder.{FunctionOrder as Order}
@@ -14,5 +14,5 @@ module _ (all : Option ℕ) (rows whole : ℕ) (sums : List FunctionSum) (by : O
   pub table_of_samples : table_text all whole (take rows sums) ≡ top_table all by rows samples
   table_of_samples = λ i. table_text all (sym weight i) (take rows (listed_alone by samples sums are i))
 
-  pub line_of_samples : functions_line all whole (take rows sums) ≡ top_line all by rows samples
-  line_of_samples = λ i. functions_line all (sym weight i) (take rows (listed_alone by samples sums are i))
+  pub line_of_samples : functions_line None all whole (take rows sums) ≡ top_line all by rows samples
+  line_of_samples = λ i. functions_line None all (sym weight i) (take rows (listed_alone by samples sums are i))

@@ -2,9 +2,13 @@
 use Rattle.std.proofs.Common.{◌≡◌, ℕ, List, [], ◌∷◌, ◌++◌, None, Some, codes, refl}
 use Rattle.std.specs.Fmt.{digits}
 use Rattle.json.specs.Print.{escape_byte}
+use Rattle.sample_tables.specs.declared.samples.Sample.{Sample}
+use Rattle.function_sums.specs.Calls.{calls_of}
+use Rattle.function_sums.specs.declared.call_sides.CallSide.TheVariants.{Callers, Callees}
 use Rattle.function_sums.specs.declared.changes.Change.{Change}
 use Rattle.function_sums.specs.declared.changes.FunctionChange.{FunctionChange}
 use Rattle.function_sums.specs.declared.sums.FunctionSum.{FunctionSum}
+use Rattle.sum_texts.specs.CallTexts.{calls_table}
 use Rattle.sum_texts.specs.ChangeJson.{changes_line}
 use Rattle.sum_texts.specs.ChangeTable.{changes_table, signed}
 use Rattle.sum_texts.specs.FunctionJson.{functions_line}
@@ -39,15 +43,41 @@ kept_of_nothing : table_text (Some 0) 0 (sum (codes "a") 0 0 ∷ [])
 unfolding table_text digits
 kept_of_nothing = refl
 
-line : functions_line None 8 (sum (codes "read") 7 7 ∷ sum (codes "main") 1 8 ∷ [])
+line : functions_line None None 8 (sum (codes "read") 7 7 ∷ sum (codes "main") 1 8 ∷ [])
     ≡ codes "{\"functions\":[{\"name\":\"read\",\"own\":7,\"total\":7},{\"name\":\"main\",\"own\":1,\"total\":8}],\"total\":8,\"view\":\"top\"}\n"
 unfolding functions_line escape_byte digits
 line = refl
 
-kept_line : functions_line (Some 32) 8 (sum (codes "main") 1 8 ∷ [])
+kept_line : functions_line None (Some 32) 8 (sum (codes "main") 1 8 ∷ [])
     ≡ codes "{\"functions\":[{\"name\":\"main\",\"own\":1,\"total\":8}],\"total\":8,\"view\":\"top\",\"whole\":32}\n"
 unfolding functions_line escape_byte digits
 kept_line = refl
+
+-- the callers of a function, behind it
+callers_line : functions_line (Some Callers) None 8 (sum (codes "read") 7 8 ∷ sum (codes "main") 1 5 ∷ [])
+    ≡ codes "{\"functions\":[{\"name\":\"read\",\"own\":7,\"total\":8},{\"name\":\"main\",\"own\":1,\"total\":5}],\"total\":8,\"view\":\"callers\"}\n"
+unfolding functions_line escape_byte digits
+callers_line = refl
+
+-- the table of callees has the function first, and parts of its total
+abbrev samples : List Sample
+samples =
+    record { stack = codes "main" ∷ codes "read" ∷ codes "copy" ∷ []; weight = 3 } ∷
+    record { stack = codes "main" ∷ codes "read" ∷ []; weight = 5 } ∷
+    record { stack = codes "main" ∷ []; weight = 9 } ∷ []
+
+callees_table : calls_table None Callees (codes "read") 10 samples
+    ≡ codes "own    own%  total   total%  name\n"
+    ++ (codes "  5  62.50%      8  100.00%  read\n"
+    ++ codes "  3  37.50%      3   37.50%  copy\n")
+unfolding calls_of table_text digits
+callees_table = refl
+
+callers_of_nobody : calls_table None Callers (codes "nobody") 10 samples
+    ≡ codes "own   own%  total  total%  name\n"
+    ++ codes "  0  0.00%      0   0.00%  nobody\n"
+unfolding calls_of table_text digits
+callers_of_nobody = refl
 
 -- ---- changes
 

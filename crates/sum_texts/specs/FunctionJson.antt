@@ -2,6 +2,8 @@
 use Rattle.std.specs.Prelude.{ℕ, List, map, codes, Option, None, Some}
 use Rattle.serde_json.specs.Data.{Data, Members, string, object, no_members, member}
 use Rattle.view_texts.specs.Json.{whole_number, list_data, json_line}
+use Rattle.function_sums.specs.declared.call_sides.CallSide.{CallSide}
+use Rattle.function_sums.specs.declared.call_sides.CallSide.TheVariants.{Callers, Callees}
 use Rattle.function_sums.specs.declared.sums.FunctionSum.{FunctionSum}
 
 -- a function with its weights
@@ -18,14 +20,20 @@ abbrev pub whole_member : Option ℕ → Members
 whole_member None = no_members
 whole_member (Some all) = member (codes "whole") (whole_number all) no_members
 
--- the functions, the weight of the samples, and that of all samples
-abbrev pub functions_data : Option ℕ → ℕ → List FunctionSum → Data
-functions_data all whole sums =
+-- which functions these are: those of some samples, or the callers or the callees of one
+abbrev pub view_word : Option CallSide → List ℕ
+view_word None = codes "top"
+view_word (Some Callers) = codes "callers"
+view_word (Some Callees) = codes "callees"
+
+-- the functions, the weight of which their weights are parts, and that of all samples
+abbrev pub functions_data : Option CallSide → Option ℕ → ℕ → List FunctionSum → Data
+functions_data side all whole sums =
     object
     (member (codes "functions") (list_data (map function_data sums))
     (member (codes "total") (whole_number whole)
-    (member (codes "view") (string (codes "top"))
+    (member (codes "view") (string (view_word side))
     (whole_member all))))
 
-unfoldable pub functions_line : Option ℕ → ℕ → List FunctionSum → List ℕ
-functions_line all whole sums = json_line (functions_data all whole sums)
+unfoldable pub functions_line : Option CallSide → Option ℕ → ℕ → List FunctionSum → List ℕ
+functions_line side all whole sums = json_line (functions_data side all whole sums)

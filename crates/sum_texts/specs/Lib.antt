@@ -1,4 +1,5 @@
 -- The definitions that the contracts of sum_texts cite.
+pub mod CallTexts
 pub mod ChangeJson
 pub mod ChangeTable
 pub mod DiffTexts

@@ -1,5 +1,7 @@
 -- The pieces of the texts, of which each text is made.
 use Rattle.std.specs.Prelude.{ℕ, List, ◌∷◌, ◌++◌, map, codes, decimal, Option, None, Some}
+use Rattle.function_sums.specs.declared.call_sides.CallSide.{CallSide}
+use Rattle.function_sums.specs.declared.call_sides.CallSide.TheVariants.{Callers, Callees}
 use Rattle.function_sums.specs.declared.changes.FunctionChange.{FunctionChange}
 use Rattle.function_sums.specs.declared.sums.FunctionSum.{FunctionSum}
 use Rattle.view_texts.specs.Pieces.{line_pieces}
@@ -19,13 +21,18 @@ abbrev pub functions_end : Option ℕ → List ℕ
 functions_end None = codes "}\n"
 functions_end (Some all) = codes ",\"whole\":" ++ (decimal all ++ codes "}\n")
 
-abbrev pub functions_tail : Option ℕ → ℕ → List ℕ
-functions_tail all whole = codes "],\"total\":" ++ (decimal whole ++ (codes ",\"view\":\"top\"" ++ functions_end all))
+abbrev pub view_member : Option CallSide → List ℕ
+view_member None = codes ",\"view\":\"top\""
+view_member (Some Callers) = codes ",\"view\":\"callers\""
+view_member (Some Callees) = codes ",\"view\":\"callees\""
+
+abbrev pub functions_tail : Option CallSide → Option ℕ → ℕ → List ℕ
+functions_tail side all whole = codes "],\"total\":" ++ (decimal whole ++ (view_member side ++ functions_end all))
 
 -- what stands before the functions, each function, and what stands after them
-abbrev pub functions_pieces : Option ℕ → ℕ → List FunctionSum → List (List ℕ)
-functions_pieces all whole sums =
-    line_pieces (codes "{\"functions\":[") (map function_data sums) (functions_tail all whole)
+abbrev pub functions_pieces : Option CallSide → Option ℕ → ℕ → List FunctionSum → List (List ℕ)
+functions_pieces side all whole sums =
+    line_pieces (codes "{\"functions\":[") (map function_data sums) (functions_tail side all whole)
 
 -- the same of changes
 abbrev pub change_table_pieces : List FunctionChange → List (List ℕ)

@@ -1,5 +1,5 @@
 -- The texts of the heaviest functions of some samples.
-use Rattle.std.specs.Prelude.{ℕ, List, take, Option}
+use Rattle.std.specs.Prelude.{ℕ, List, take, Option, None}
 use Rattle.sample_tables.specs.Samples.{total_weight}
 use Rattle.sample_tables.specs.declared.samples.Sample.{Sample}
 use Rattle.function_sums.specs.FunctionList.{functions_of}
@@ -18,4 +18,4 @@ top_table all by rows samples = table_text all (total_weight samples) (top_funct
 
 -- and their line of JSON
 abbrev pub top_line : Option ℕ → Order → ℕ → List Sample → List ℕ
-top_line all by rows samples = functions_line all (total_weight samples) (top_functions by rows samples)
+top_line all by rows samples = functions_line None all (total_weight samples) (top_functions by rows samples)

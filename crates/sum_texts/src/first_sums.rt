@@ -1,6 +1,7 @@
 //! The first functions of a list.
 
-ghost use Rattle.std.specs.Prelude.{◌≡◌, ◌+◌, ◌<◌, ◌^◌, length, take};
+ghost use Rattle.std.specs.Prelude.{◌≡◌, ◌+◌, ◌<◌, ◌^◌, ◌∷◌, List, length, take};
+ghost use Rattle.function_sums.specs.declared.sums.FunctionSum.{FunctionSum};
 
 use function_sums::{FunctionChange, FunctionSum};
 
@@ -20,4 +21,15 @@ pub(crate) fn first_changes(changes: &[FunctionChange], rows: u64) -> &[Function
 {
     let count = changes.len().min(rows as usize);
     &changes[..count]
+}
+
+// The total of the first function, where there is one.
+pub(crate) fn total_of_first(sums: &[FunctionSum]) -> u64
+    ensures { (function : FunctionSum) (others : List FunctionSum) → sums.now ≡ function ∷ others
+        → result ≡ function.total }
+{
+    match sums.first() {
+        Some(sum) => sum.total,
+        None => 0,
+    }
 }

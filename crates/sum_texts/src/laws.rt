@@ -2,6 +2,7 @@
 
 ghost use Rattle.std.specs.Prelude.{ℕ, ◌<◌, ◌^◌, List, All, IfSome, Option};
 ghost use Rattle.view_texts.specs.JsonLaws.{IsJsonLine};
+ghost use Rattle.function_sums.specs.declared.call_sides.CallSide.{CallSide};
 ghost use Rattle.function_sums.specs.declared.changes.FunctionChange.{FunctionChange};
 ghost use Rattle.function_sums.specs.declared.sums.FunctionSum.{FunctionSum};
 ghost use Rattle.sum_texts.specs.ChangeJson.{changes_data, changes_line};
@@ -12,10 +13,10 @@ pub use weight_texts::laws::percentages_are_rounded;
 /// The line of JSON is the text of one value, which reads back from it, and a line feed that is its
 /// only one. The keys of each object rise. It holds where the numbers have 64 bits.
 pub fn function_lines_read_back()
-    ensures { (all : Option ℕ) (whole : ℕ) (sums : List FunctionSum) → whole < 2 ^ 64
+    ensures { (side : Option CallSide) (all : Option ℕ) (whole : ℕ) (sums : List FunctionSum) → whole < 2 ^ 64
         → IfSome all (λ weight. weight < 2 ^ 64)
         → All (λ sum. (sum.own < 2 ^ 64) × (sum.total < 2 ^ 64)) sums
-        → IsJsonLine (functions_line all whole sums) (functions_data all whole sums) }
+        → IsJsonLine (functions_line side all whole sums) (functions_data side all whole sums) }
 {}
 
 /// The same of the line of JSON of changes.

@@ -1,6 +1,6 @@
 //! The line of JSON of functions.
 
-ghost use Rattle.std.specs.Prelude.{◌≡◌, ◌++◌, ◌<◌, ◌^◌, List, length, take, OnOk, OnErr};
+ghost use Rattle.std.specs.Prelude.{◌≡◌, ◌++◌, ◌<◌, ◌^◌, ℕ, ◌∷◌, List, None, Some, length, take, OnOk, OnErr};
 ghost use Rattle.std.specs.Io.{StartsWith};
 ghost use Rattle.std.specs.List.{concat};
 ghost use Rattle.serde_json.specs.Written.{comma_if, compact_text};
@@ -8,20 +8,23 @@ ghost use Rattle.sample_tables.specs.Samples.{total_weight};
 ghost use Rattle.sample_tables.specs.declared.samples.Sample.{Sample};
 ghost use Rattle.function_sums.specs.FunctionSums.{AreFunctionSums};
 ghost use Rattle.run_options.specs.declared.orders.FunctionOrder.{FunctionOrder as Order};
+ghost use Rattle.function_sums.specs.declared.sums.FunctionSum.{FunctionSum};
+ghost use Rattle.sum_texts.specs.CallTexts.{calls_line, first_calls};
 ghost use Rattle.sum_texts.specs.FunctionJson.{function_data, functions_line};
-ghost use Rattle.sum_texts.specs.Pieces.{functions_end, functions_pieces, functions_tail};
+ghost use Rattle.sum_texts.specs.Pieces.{functions_end, functions_pieces, functions_tail, view_member};
 ghost use Rattle.sum_texts.specs.TopTexts.{top_line};
 
-use crate::first_sums::first_sums;
+use crate::first_sums::{first_sums, total_of_first};
 use crate::json_parts::{append_number, append_quoted, comma_if};
 use byte_io::{Pieces, append_pieces};
-use function_sums::FunctionSum;
+use function_sums::{CallSide, FunctionSum};
 use std::alloc::{AllocError, Global};
 
 /// The line of JSON of functions, as `append_sum_line` appends it. What stands before the functions,
 /// each function, and what stands after them is a piece.
 #[derive(Clone, Copy)]
 pub struct SumLine<'a> {
+    side: Option<CallSide>,
     all: Option<u64>,
     whole: u64,
     sums: &'a [FunctionSum],
@@ -32,19 +35,59 @@ impl<'a> SumLine<'a> {
     /// of the samples, and `all` what they weigh with those that a filter leaves out, where that is told.
     pub fn of(sums: &'a [FunctionSum], rows: u64, whole: u64, all: Option<u64>) -> SumLine<'a>
         ensures text { concat (⟦<SumLine<'a> as Pieces>⟧.pieces result)
-            ≡ functions_line all whole (take rows sums.now) }
+            ≡ functions_line None all whole (take rows sums.now) }
         ensures top { (by : Order) (samples : List Sample) → AreFunctionSums by samples sums.now
             → total_weight samples ≡ whole
             → concat (⟦<SumLine<'a> as Pieces>⟧.pieces result) ≡ top_line all by rows samples }
         ensures few { length (⟦<SumLine<'a> as Pieces>⟧.pieces result) < 2 ^ 64 }
     {
+        SumLine::listed(None, sums, rows, whole, all)
+    }
+
+    /// The line of a function and the first of its callers or its callees, as `first_calls` lists them:
+    /// the function comes first, and its total is the whole.
+    pub fn of_calls(sums: &'a [FunctionSum], side: CallSide, all: Option<u64>) -> SumLine<'a>
+        ensures text { (function : FunctionSum) (calls : List FunctionSum) → sums.now ≡ function ∷ calls
+            → concat (⟦<SumLine<'a> as Pieces>⟧.pieces result)
+            ≡ functions_line (Some side) all function.total sums.now }
+        ensures calls { (name : List ℕ) (rows : ℕ) (samples : List Sample)
+            → sums.now ≡ first_calls side name rows samples
+            → concat (⟦<SumLine<'a> as Pieces>⟧.pieces result)
+            ≡ calls_line all side name rows samples }
+        ensures few { length (⟦<SumLine<'a> as Pieces>⟧.pieces result) < 2 ^ 64 }
+    {
+        SumLine::listed(
+            Some(side),
+            sums,
+            sums.len() as u64,
+            total_of_first(sums),
+            all,
+        )
+    }
+
+    fn listed(
+        side: Option<CallSide>,
+        sums: &'a [FunctionSum],
+        rows: u64,
+        whole: u64,
+        all: Option<u64>,
+    ) -> SumLine<'a>
+        ensures text { concat (⟦<SumLine<'a> as Pieces>⟧.pieces result)
+            ≡ functions_line side all whole (take rows sums.now) }
+        ensures few { length (⟦<SumLine<'a> as Pieces>⟧.pieces result) < 2 ^ 64 }
+    {
         let sums = first_sums(sums, rows);
-        SumLine { all, whole, sums }
+        SumLine {
+            side,
+            all,
+            whole,
+            sums,
+        }
     }
 }
 
 impl Pieces for SumLine<'_> {
-    ghost pieces = { λ line. functions_pieces line.all line.whole line.sums.now };
+    ghost pieces = { λ line. functions_pieces line.side line.all line.whole line.sums.now };
 
     fn count(&self) -> usize {
         self.sums.len() + 2
@@ -57,7 +100,7 @@ impl Pieces for SumLine<'_> {
             let place = at - 1;
             append_function(alloc, out, place > 0, &self.sums[place])
         } else {
-            append_tail(out, self.all, self.whole)
+            append_tail(out, self.side, self.all, self.whole)
         }
     }
 }
@@ -73,7 +116,7 @@ pub fn append_sum_line(
     all: Option<u64>,
 ) -> Result<(), AllocError>
     ensures ok { OnOk result
-        (out.new.items ≡ out.old.items ++ functions_line all whole (take rows sums.now)) }
+        (out.new.items ≡ out.old.items ++ functions_line None all whole (take rows sums.now)) }
     ensures top { OnOk result ((by : Order) (samples : List Sample)
         → AreFunctionSums by samples sums.now → total_weight samples ≡ whole
         → out.new.items ≡ out.old.items ++ top_line all by rows samples) }
@@ -111,13 +154,29 @@ fn append_members(alloc: Global, out: &mut Vec<u8>, sum: &FunctionSum) -> Result
 }
 
 // Appends what stands after the functions, or its front.
-fn append_tail(out: &mut Vec<u8>, all: Option<u64>, whole: u64) -> Result<(), AllocError>
-    ensures ok { OnOk result (out.new.items ≡ out.old.items ++ functions_tail all whole) }
+fn append_tail(
+    out: &mut Vec<u8>,
+    side: Option<CallSide>,
+    all: Option<u64>,
+    whole: u64,
+) -> Result<(), AllocError>
+    ensures ok { OnOk result (out.new.items ≡ out.old.items ++ functions_tail side all whole) }
     ensures front { StartsWith out.new.items out.old.items }
 {
     append_number(out, b"],\"total\":", whole)?;
-    out.extend_from_slice(b",\"view\":\"top\"")?;
+    out.extend_from_slice(view_member(side))?;
     append_end(out, all)
+}
+
+// Which functions these are.
+fn view_member(side: Option<CallSide>) -> &'static [u8]
+    ensures { result.now ≡ view_member side }
+{
+    match side {
+        None => b",\"view\":\"top\"",
+        Some(CallSide::Callers) => b",\"view\":\"callers\"",
+        Some(CallSide::Callees) => b",\"view\":\"callees\"",
+    }
 }
 
 // Appends the weight of all samples, where it is told, and the end of the line, or a front of that.

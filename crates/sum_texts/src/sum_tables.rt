@@ -1,20 +1,23 @@
 //! The table of functions.
 
-ghost use Rattle.std.specs.Prelude.{◌≡◌, ◌++◌, ◌<◌, ◌^◌, List, codes, length, option_map, take, OnOk, OnErr};
+ghost use Rattle.std.specs.Prelude.{◌≡◌, ◌++◌, ◌<◌, ◌^◌, ℕ, ◌∷◌, List, codes, length, option_map, take, OnOk, OnErr};
 ghost use Rattle.std.specs.Io.{StartsWith};
 ghost use Rattle.std.specs.List.{concat};
 ghost use Rattle.sample_tables.specs.Samples.{total_weight};
 ghost use Rattle.sample_tables.specs.declared.samples.Sample.{Sample};
 ghost use Rattle.function_sums.specs.FunctionSums.{AreFunctionSums};
+ghost use Rattle.function_sums.specs.declared.call_sides.CallSide.{CallSide};
+ghost use Rattle.function_sums.specs.declared.sums.FunctionSum.{FunctionSum};
 ghost use Rattle.run_options.specs.declared.orders.FunctionOrder.{FunctionOrder as Order};
 ghost use Rattle.weight_texts.specs.Shares.{hundredths, percent_text};
+ghost use Rattle.sum_texts.specs.CallTexts.{calls_table, first_calls};
 ghost use Rattle.sum_texts.specs.Pieces.{table_pieces};
 ghost use Rattle.sum_texts.specs.FunctionTable.{Entries, at_right_if, headings, entries_of, table_line, table_text};
 ghost use Rattle.sum_texts.specs.TopTexts.{top_table};
 ghost use Rattle.sum_texts.specs.checked.Widths.{widths_in, widths_of};
 
 use crate::entries::{append_percent, append_text, append_weight};
-use crate::first_sums::first_sums;
+use crate::first_sums::{first_sums, total_of_first};
 use crate::widths::Widths;
 use byte_io::{Pieces, append_pieces};
 use function_sums::FunctionSum;
@@ -49,6 +52,20 @@ impl<'a> SumTable<'a> {
             sums,
             widths: Widths::of(all, whole, sums),
         }
+    }
+
+    /// The table of a function and the first of its callers or its callees, as `first_calls` lists them:
+    /// the function comes first, and its total is the whole.
+    pub fn of_calls(sums: &'a [FunctionSum], all: Option<u64>) -> SumTable<'a>
+        ensures text { (function : FunctionSum) (calls : List FunctionSum) → sums.now ≡ function ∷ calls
+            → concat (⟦<SumTable<'a> as Pieces>⟧.pieces result) ≡ table_text all function.total sums.now }
+        ensures calls { (side : CallSide) (name : List ℕ) (rows : ℕ) (samples : List Sample)
+            → sums.now ≡ first_calls side name rows samples
+            → concat (⟦<SumTable<'a> as Pieces>⟧.pieces result)
+            ≡ calls_table all side name rows samples }
+        ensures few { length (⟦<SumTable<'a> as Pieces>⟧.pieces result) < 2 ^ 64 }
+    {
+        SumTable::of(sums, sums.len() as u64, total_of_first(sums), all)
     }
 }
 

@@ -1,4 +1,6 @@
 //! Runs of `views`, and of the sink below it.
+mod faults;
+mod formats;
 mod gates;
 mod readings;
 mod refusals;

@@ -9,7 +9,7 @@ ghost use Rattle.view_texts.specs.Json.{box_data, compared_box_data};
 
 use crate::box_writers::BoxWriter;
 use crate::json_pieces::append_number;
-use flame_layout::{DrawnBox, DrawnPair, FlameBox, SpanBox};
+use flame_layout::{DrawnBox, DrawnPair, FlameBox};
 use std::alloc::{AllocError, Global};
 
 /// A box of a line of JSON, which is an object there.
@@ -33,21 +33,6 @@ pub trait JsonBox {
             ≡ text.old.items ++ compact_text (object_of writer.old.total writer.old.width self.now)) }
         ensures front { StartsWith text.new.items text.old.items }
         ensures scale { writer.new ≡ writer.old };
-}
-
-impl JsonBox for SpanBox {
-    ghost object_of = { box_data };
-
-    ghost end = { λ span. span.start + span.weight };
-
-    fn append_with(
-        &self,
-        alloc: Global,
-        text: &mut Vec<u8>,
-        writer: &mut BoxWriter,
-    ) -> Result<(), AllocError> {
-        writer.append_members(alloc, text, b'{', self)
-    }
 }
 
 impl<'a> JsonBox for DrawnBox<'a> {

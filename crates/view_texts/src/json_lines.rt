@@ -10,27 +10,10 @@ use crate::json_line::JsonLine;
 use crate::line_kinds::LineKind;
 use crate::scales::Scale;
 use byte_io::Pieces;
-use flame_layout::{Chart, DrawnBox, DrawnPair, SpanBox};
+use flame_layout::{Chart, DrawnBox, DrawnPair};
 
-/// The line of a picture: the name of its view, as `graph` or `chart`, and its boxes in their order, in an image of that scale.
-pub fn picture_line<'a>(
-    view: &'a str,
-    boxes: &'a [SpanBox],
-    scale: Scale,
-) -> JsonLine<'a, &'a [SpanBox]>
-    requires within { All (λ span. span.start + span.weight ≤ scale.total) boxes.now }
-    requires positive { 0 < length boxes.now → 0 < scale.total }
-    ensures text { concat (⟦<JsonLine<'a, &'a [SpanBox]> as Pieces>⟧.pieces result)
-        ≡ boxes_line view.now scale.total scale.width boxes.now }
-    ensures count { length (⟦<JsonLine<'a, &'a [SpanBox]> as Pieces>⟧.pieces result)
-        ≡ length boxes.now + 2 }
-    ensures few { length (⟦<JsonLine<'a, &'a [SpanBox]> as Pieces>⟧.pieces result) < 2 ^ 64 }
-{
-    let _count = boxes.len();
-    JsonLine::of(LineKind::Picture, view, &[], boxes, scale)
-}
-
-/// The line of `picture_line`, of boxes whose names are lent.
+/// The line of a picture: the name of its view, as `graph` or `chart`, and its boxes in their order, in an image of that scale. The names
+/// are lent.
 pub fn drawn_line<'a>(
     view: &'a str,
     boxes: &'a [DrawnBox<'a>],
@@ -49,7 +32,7 @@ pub fn drawn_line<'a>(
     JsonLine::of(kind, view, &[], boxes, scale)
 }
 
-/// The line of `picture_line`, of the boxes of a chart.
+/// The same of the boxes of a chart.
 pub fn drawn_chart_line<'a, 'n>(
     view: &'a str,
     chart: &'a Chart<'n>,

@@ -23,9 +23,7 @@ pub use box_writers::BoxWriter;
 pub use byte_io::truncate_on_error;
 pub use json_boxes::JsonBox;
 pub use json_line::JsonLine;
-pub use json_lines::{
-    drawn_chart_line, drawn_comparison_line, drawn_line, drawn_snapshot_line, picture_line,
-};
+pub use json_lines::{drawn_chart_line, drawn_comparison_line, drawn_line, drawn_snapshot_line};
 pub use merged_lines::FoldedText;
 pub use scales::Scale;
 pub use stack_pairs::PairedText;

@@ -1,5 +1,6 @@
 //! Worked examples.
 mod boxes;
+mod of_call_texts;
 mod of_change_texts;
 mod of_sum_texts;
 mod of_svg_texts;

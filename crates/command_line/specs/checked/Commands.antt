@@ -2,7 +2,7 @@
 use Rattle.std.specs.Prelude.{codes}
 use Rattle.clap.specs.Simple.{Shape}
 use Rattle.clap.specs.Walk.{Rule}
-use Rattle.command_line.specs.CommandLine.{any_files, boxes_flag, by_option, chart_command, compare_command, diff_command, every_option, focus_option, fold_command, format_option, graph_command, hide_option, json_flag, least_option, lines_flag, one_file, page_flag, quiet_flag, ring_option, root_below_flag, rows_option, svg_flag, title_option, top_command, type_option, types_command, width_option}
+use Rattle.command_line.specs.CommandLine.{any_files, boxes_flag, by_option, callees_command, callers_command, chart_command, compare_command, diff_command, every_option, focus_option, fold_command, format_option, graph_command, hide_option, json_flag, least_option, lines_flag, one_value, page_flag, quiet_flag, ring_option, root_below_flag, rows_option, svg_flag, title_option, top_command, type_option, types_command, width_option}
 use Rattle.command_line.specs.declared.argument_lists.Argument.{Argument}
 use Rattle.command_line.specs.declared.argument_lists.Argument.TheVariants as argument
 use Rattle.command_line.specs.declared.commands.Subcommand.{Subcommand}
@@ -27,10 +27,11 @@ rule_at argument.Svg = svg_flag
 rule_at argument.Title = title_option
 rule_at argument.RootBelow = root_below_flag
 rule_at argument.Least = least_option
+rule_at argument.Function = one_value (codes "function")
 rule_at argument.Files = any_files (codes "file")
-rule_at argument.Before = one_file (codes "before")
-rule_at argument.After = one_file (codes "after")
-rule_at argument.Profile = one_file (codes "file")
+rule_at argument.Before = one_value (codes "before")
+rule_at argument.After = one_value (codes "after")
+rule_at argument.Profile = one_value (codes "file")
 
 abbrev pub shape_at : Subcommand → Shape
 shape_at subcommand.Fold = fold_command
@@ -39,4 +40,6 @@ shape_at subcommand.Chart = chart_command
 shape_at subcommand.Compare = compare_command
 shape_at subcommand.Top = top_command
 shape_at subcommand.Diff = diff_command
+shape_at subcommand.Callers = callers_command
+shape_at subcommand.Callees = callees_command
 shape_at subcommand.Types = types_command

@@ -1,4 +1,5 @@
 //! Worked command lines.
+mod calls;
 mod diff;
 mod examples;
 mod faults;

@@ -54,14 +54,6 @@ impl Files for NotingFiles {
     fn prefetch(&mut self, _alloc: Global, paths: &[String]) {
         let _ = self.note_all(paths);
     }
-
-    fn is_input_terminal(&self) -> bool {
-        false
-    }
-
-    fn is_error_terminal(&self) -> bool {
-        false
-    }
 }
 
 /// A run, and what it is to ask for and to say.

@@ -1,10 +1,8 @@
 -- The walk over the samples from the last to the first, as the code that draws a chart makes it.
-use Rattle.std.specs.Prelude.{ℕ, ◌+◌, ◌-◌, ◌≡◌, ◌<◌, ◌≤◌, List, [], ◌∷◌, map, length, reverse, drop, Some}
+use Rattle.std.specs.Prelude.{ℕ, ◌+◌, ◌-◌, ◌≡◌, ◌≤◌, List, [], ◌∷◌, map, length, reverse, drop, Some}
 use Rattle.std.specs.List.{range_with_len, enumerate_from}
 use Rattle.sample_tables.specs.declared.samples.Sample.{Sample}
-use Rattle.sample_tables.specs.Rows.{sample_at}
 use Rattle.flame_layout.specs.declared.boxes.SpanBox.{SpanBox}
-use Rattle.flame_layout.specs.declared.walks.OpenRun.{OpenRun}
 use Rattle.merged_stacks.specs.Timeline.{Stack, total_weight}
 use Rattle.flame_layout.specs.Chart.{names_shared, box_name, run_at, own_weight, boxes_after}
 
@@ -49,25 +47,17 @@ boxes_of_runs start runs = map (box_of_run start) (enumerate_from 0 runs)
 abbrev pub new_run : Stack → ℕ → ℕ → Run
 new_run stack end depth = record { name = box_name depth stack; end = end; own = 0 }
 
--- a run as contracts see one that borrows its name
-abbrev pub seen : OpenRun → Run
-seen run = record { name = run.name.now; end = run.end; own = run.own }
-
 -- the names of the runs below the root: the stack at the front
-abbrev pub names_of : List OpenRun → Stack
-names_of runs = map (λ run. run.name.now) (drop 1 runs)
+abbrev pub names_of : List Run → Stack
+names_of runs = map (λ run. run.name) (drop 1 runs)
 
 -- the state of the walk once these samples were walked, whose first has a stack within the limit
-pub record IsWalk (start : ℕ) (runs : List OpenRun) (boxes : List SpanBox) (samples : List Sample) : Type 0 where
-  pub going : map seen runs ≡ runs_at_front start samples
+pub record IsWalk (start : ℕ) (runs : List Run) (boxes : List SpanBox) (samples : List Sample) : Type 0 where
+  pub going : runs ≡ runs_at_front start samples
   pub closed : boxes ≡ reverse (boxes_behind start samples)
   pub few : length runs ≤ 4097
 
 -- how many of the runs go on under a sample with the stack
-abbrev pub shared_runs_of : Stack → List OpenRun → ℕ
+abbrev pub shared_runs_of : Stack → List Run → ℕ
 shared_runs_of stack [] = 0
 shared_runs_of stack (run ∷ runs) = names_shared stack (names_of (run ∷ runs)) + 1
-
--- the runs are those of a sample of the list
-abbrev pub IsFront : List Sample → List OpenRun → ℕ → Type 0
-IsFront samples runs at = (at < length samples) × (names_of runs ≡ (sample_at samples at).stack) × (0 < length runs)

@@ -6,8 +6,8 @@ use Rattle.stack_core.specs.declared.readers.RowStep.TheVariants as step
 use Rattle.sample_tables.specs.Rows.{ToldRows, stack_at}
 use Rattle.stack_core.specs.RowReading.{sample_by}
 use Rattle.folded_lines.specs.Lines.{names_of, read_line}
-use Rattle.folded_lines.specs.declared.lines.Line.{Line}
-use Rattle.folded_lines.specs.declared.lines.Line.TheVariants as line
+use Rattle.folded_lines.specs.Line.{Line}
+use Rattle.folded_lines.specs.Line as line
 use Rattle.folded_lines.specs.declared.row_lines.Count.{Count}
 use Rattle.folded_lines.specs.declared.row_lines.Count.TheVariants as count
 use Rattle.folded_lines.specs.declared.row_lines.RowLine.{RowLine}

@@ -2,15 +2,13 @@
 use Rattle.std.specs.Prelude.{◌≡◌, ◌≤◌, ℕ, ◌+◌, nat_lt, if◌then◌else◌, List, [], ◌∷◌, length, drop}
 use Rattle.stack_core.specs.Reading.{Rest}
 use Rattle.sample_tables.specs.Samples.{IsLimited}
-use Rattle.stack_core.specs.declared.readers.Step.{Step}
-use Rattle.stack_core.specs.declared.readers.Step.TheVariants as step
 use Rattle.sample_tables.specs.declared.samples.TheConstants.{WEIGHT_LIMIT}
 use Rattle.sample_tables.specs.declared.samples.Sample.{Sample as StackSample}
 use Rattle.stack_core.specs.declared.endings.ReadKind.TheVariants.{TotalTooLarge}
 use Rattle.stack_core.specs.declared.endings.SourceEnd.{SourceEnd}
 use Rattle.stack_core.specs.declared.endings.SourceEnd.TheVariants as ends
-use Rattle.folded_lines.specs.declared.lines.Line.{Line}
-use Rattle.folded_lines.specs.declared.lines.Line.TheVariants.{Ignored, Fault, Sample}
+use Rattle.folded_lines.specs.Line.{Line}
+use Rattle.folded_lines.specs.Line.{Ignored, Fault, Sample}
 use Rattle.folded_lines.specs.declared.cursor.Cursor.{Cursor}
 use Rattle.folded_lines.specs.Lines.{text_lines, read_line}
 
@@ -68,8 +66,3 @@ abbrev pub IsWithin : ℕ → Line → Type 0
 IsWithin total Ignored = Unit {0}
 IsWithin total (Fault kind) = Unit {0}
 IsWithin total (Sample sample) = IsLimited sample × (total + sample.weight ≤ WEIGHT_LIMIT)
-
--- what is left before a step, by what is left after it
-abbrev pub IsLeftBefore : Rest → Step → Rest → Type 0
-IsLeftBefore before (step.Sample sample) after = before ≡ followed_by sample after
-IsLeftBefore before (step.End ending) after = before ≡ ended ending

@@ -12,7 +12,7 @@ fn append_sum(text: &mut String, sum: &FunctionSum) -> Result<(), AllocError> {
     write!(text, "({} {} {})", sum.name.get(), sum.own, sum.total)
 }
 
-fn append_sums(text: &mut String, sums: &[FunctionSum]) -> Result<(), AllocError> {
+pub(super) fn append_sums(text: &mut String, sums: &[FunctionSum]) -> Result<(), AllocError> {
     for sum in sums {
         append_sum(text, sum)?;
     }
@@ -31,7 +31,7 @@ pub(super) fn append_functions(
 }
 
 /// A stack without frames, a name that calls itself, one that stands twice, and a stack that weighs nothing.
-const EXAMPLE: Lines<'static> = &[
+pub(super) const EXAMPLE: Lines<'static> = &[
     (&["main", "f", "g"], 3),
     (&["main", "f", "f"], 2),
     (&["main"], 1),
@@ -77,6 +77,8 @@ fn no_functions(rt: HostRuntime) -> Result<(), Fail> {
 #[test]
 fn laws_take_nothing() {
     function_sums::laws::functions_are_listed();
+    function_sums::laws::calls_are_listed();
+    function_sums::laws::callees_share_the_total();
     function_sums::laws::changes_are_listed();
     function_sums::laws::tables_are_one();
 }

@@ -6,9 +6,10 @@ use super::of_flame_layout::drawn::{append_drawn_chart, append_drawn_edges, appe
 use super::of_flame_layout::merged::append_graph;
 use super::of_flame_layout::trees::append_placed_graph;
 use super::of_flame_layout::{append_chart, append_placed_chart, pixels};
+use super::of_function_calls::append_calls;
 use super::of_function_sums::append_functions;
 use super::sources::{Lines, assert_light, assert_light_list, lists_of};
-use function_sums::Order;
+use function_sums::{CallSide, Order};
 use merged_stacks::MergedStacks;
 use stack_core::SourceList;
 use std::alloc::AllocError;
@@ -44,6 +45,8 @@ pub enum OfMerged {
     /// The edges of these in a picture of this total and this width.
     DrawnEdges(u64, u32),
     Functions(Order),
+    /// A function, and its callers or its callees.
+    Calls(&'static str, CallSide),
 }
 
 /// What is told of two sources.
@@ -84,6 +87,7 @@ fn append_merged(
             append_drawn_edges(rt.alloc(), text, merged, *total, pixels(rt, *width))
         }
         OfMerged::Functions(order) => append_functions(rt.alloc(), text, merged, *order),
+        OfMerged::Calls(name, side) => append_calls(rt.alloc(), text, merged, (name, *side)),
     }
 }
 

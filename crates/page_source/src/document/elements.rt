@@ -26,7 +26,9 @@ pub(crate) const TEXT: &str = r##"</style>
 <output id="matched" for="find by"></output>
 </form>
 <button type="button" id="back" title="Back (Escape)">Back</button>
+<button type="button" id="callers" title="What calls the focused function, and what it calls (c)">Callers</button>
 <label><input type="checkbox" id="below"> Root below</label>
+<label id="heavy-label" title="The heaviest of what a function calls stands first" hidden><input type="checkbox" id="heavy"> Left heavy</label>
 <label><input type="checkbox" id="listed" checked> Lists</label>
 <label id="snapshot-label" hidden>Snapshot <input type="range" id="snapshot" min="0" step="1"></label>
 <label id="before-label" hidden><input type="checkbox" id="before"> Show before</label>
@@ -42,6 +44,9 @@ pub(crate) const TEXT: &str = r##"</style>
 <dt>Arrow keys</dt><dd>to the caller, to what it calls, to the neighbours</dd>
 <dt>Home, End</dt><dd>to the first and the last box of the row</dd>
 <dt>Enter, click</dt><dd>zoom to the box; of two taps the first names it</dd>
+<dt>+, -, wheel, pinch</dt><dd>in a chart, closer and further away</dd>
+<dt>&lt;, &gt;, drag</dt><dd>in a chart, to what was before and after</dd>
+<dt>c, click on a name in the table</dt><dd>what calls the function, and what it calls</dd>
 <dt>Escape</dt><dd>back</dd>
 <dt>/</dt><dd>search; then Enter and Shift+Enter for the next and the previous match</dd>
 </dl>
@@ -50,6 +55,7 @@ pub(crate) const TEXT: &str = r##"</style>
 <main hidden>
 <section id="stage" aria-label="Picture">
 <div id="lanes" role="group" aria-label="Sources" hidden></div>
+<div id="axis" aria-hidden="true" hidden></div>
 <div id="picture" tabindex="0" role="tree" aria-label="Boxes" aria-describedby="status">
 <div id="room"><canvas id="canvas" aria-hidden="true"></canvas>
 <div id="ring-0" class="ring" role="treeitem" hidden></div><div id="ring-1" class="ring" role="treeitem" hidden></div></div>

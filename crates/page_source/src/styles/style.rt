@@ -78,7 +78,10 @@ top: 0;
 unicode-bidi: isolate;
 white-space: nowrap;
 }
+#axis { color: var(--quiet); flex: none; font: 12px/12px ui-monospace, monospace; height: 16px; overflow: hidden; position: relative; }
+#axis span { border-left: 1px solid; height: 12px; padding-left: 3px; position: absolute; white-space: nowrap; }
 #picture { cursor: default; flex: 1; min-height: 6rem; overflow-x: hidden; overflow-y: auto; position: relative; }
+#picture.map { touch-action: pan-y; }
 #room { min-height: 100%; position: relative; }
 #canvas { display: block; left: 0; position: sticky; top: 0; }
 .ring { outline: 1px solid var(--ink); outline-offset: -1px; pointer-events: none; position: absolute; }

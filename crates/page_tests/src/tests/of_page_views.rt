@@ -6,7 +6,8 @@ mod data;
 
 use super::of_page_source::is_page;
 use super::texts::holds;
-use byte_io::{CountedWriter, PieceFault};
+use byte_io::CountedWriter;
+use opened_sources::Failure;
 use page_views::{Heading, send_chart_page, send_comparison_page, send_graph_page};
 use run_options::{Filter, Format, Naming, Options, Pick, RingSize};
 use source_lists::{Gating, Input, Source, SourceLists, read};
@@ -96,7 +97,7 @@ fn send_comparison(
     alloc: Global,
     lists: &[SourceList],
     out: &mut CountedWriter<Vec<u8>>,
-) -> Result<(), PieceFault> {
+) -> Result<(), Failure> {
     if lists.len() != 2 {
         return Ok(());
     }
@@ -112,7 +113,7 @@ fn send(
     sent: &Sent,
     sources: &SourceLists,
     out: &mut CountedWriter<Vec<u8>>,
-) -> Result<(), PieceFault> {
+) -> Result<(), Failure> {
     match sent {
         Sent::Graph => send_graph_page(alloc, sources, &HEADING, out),
         Sent::Chart => send_chart_page(alloc, sources, &HEADING, out),
@@ -120,7 +121,7 @@ fn send(
     }
 }
 
-fn page_sent(alloc: Global, sent: &Sent, sources: &SourceLists) -> Result<Vec<u8>, PieceFault> {
+fn page_sent(alloc: Global, sent: &Sent, sources: &SourceLists) -> Result<Vec<u8>, Failure> {
     let mut out = CountedWriter::new(Vec::new(alloc));
     send(alloc, sent, sources, &mut out)?;
     Ok(out.into_inner())

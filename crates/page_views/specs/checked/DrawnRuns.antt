@@ -3,6 +3,7 @@ use Rattle.std.specs.Prelude.{ℕ, List, [], ◌∷◌, ◌++◌, length, map, O
 use Rattle.sample_tables.specs.declared.samples.Sample.{Sample}
 use Rattle.merged_stacks.specs.Timeline.{total_weight}
 use Rattle.merging.specs.Snapshots.{snapshot_places}
+use Rattle.merging.specs.declared.snapshots.Snapshot.{Snapshot}
 use Rattle.merging.specs.Sums.{all_samples}
 use Rattle.flame_layout.specs.Boxes.{span_of}
 use Rattle.flame_layout.specs.Graph.{graph_of}
@@ -10,6 +11,10 @@ use Rattle.page_texts.specs.Page.{PageDrawing}
 use Rattle.page_views.specs.declared.drawn_runs.DrawnRun.{DrawnRun}
 use Rattle.page_views.specs.declared.drawn_runs.DrawnSnapshot.{DrawnSnapshot}
 use Rattle.page_views.specs.Pages.{plain_drawing, snapshot_drawing}
+
+-- after how many samples each snapshot was made
+abbrev pub places_of : List Snapshot → List ℕ
+places_of snapshots = map (λ snapshot. snapshot.at) snapshots
 
 abbrev pub drawing_in : Option ℕ → DrawnSnapshot → PageDrawing
 drawing_in least snapshot =

@@ -1,11 +1,7 @@
 -- The rest of a reader, in terms of what it goes by.
-use Rattle.std.specs.Prelude.{◌≡◌, ℕ, ◌+◌, ◌<◌, ◌≤◌, List, [], map, drop, take}
-use Rattle.sample_tables.specs.declared.samples.TheConstants.{WEIGHT_LIMIT}
-use Rattle.stack_core.specs.declared.readers.Step.{Step}
-use Rattle.stack_core.specs.declared.readers.Step.TheVariants as step
+use Rattle.std.specs.Prelude.{◌≡◌, ℕ, List, [], map, drop, take}
 use Rattle.stack_core.specs.declared.endings.SourceEnd.{SourceEnd}
 use Rattle.stack_core.specs.Reading.{Rest}
-use Rattle.sample_tables.specs.Samples.{IsLimited}
 use Rattle.run_options.specs.declared.choices.Pick.{Pick}
 use Rattle.run_options.specs.declared.choices.Naming.{Naming}
 use Rattle.profile_messages.specs.SampleTypes.{chosen_type}
@@ -14,7 +10,7 @@ use Rattle.profile_tables.specs.declared.outline.Outline.{Outline}
 use Rattle.profile_tables.specs.declared.steps.Start.{Start}
 use Rattle.profile_tables.specs.declared.steps.Start.TheVariants as start
 use Rattle.profile_messages.specs.Offsets.{found_at}
-use Rattle.profile_tables.specs.Samples.{read_samples, read_pprof, with_sample, no_samples}
+use Rattle.profile_tables.specs.Samples.{read_samples, read_pprof, no_samples}
 use Rattle.profile_tables.specs.checked.SeenOutline.{seen_outline}
 
 -- the rest of the samples before the one that is `past`, behind those before `next`. Those of them that were given have this total weight
@@ -30,10 +26,3 @@ IsStart file pick naming (start.Part part) =
     (rest_from file (arc_value part.outline) part.past 0 0 ≡ read_pprof file pick naming)
     × ((arc_value part.outline).chosen_type ≡ chosen_type file pick)
 IsStart file pick naming (start.Fault fault) = no_samples fault ≡ read_pprof file pick naming
-
--- the sample is the first of the rest, and stays within the limits; the ending is the rest's, which has no sample
-abbrev pub IsNext : List ℕ → Outline → ℕ → ℕ → ℕ → Step → Type 0
-IsNext file outline past next total (step.Sample sample) =
-    (rest_from file outline past next total ≡ with_sample sample (rest_from file outline past (next + 1) (total + sample.weight)))
-    × IsLimited sample × (total + sample.weight ≤ WEIGHT_LIMIT) × (next < past)
-IsNext file outline past next total (step.End ending) = rest_from file outline past next total ≡ ended ending

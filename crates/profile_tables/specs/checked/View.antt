@@ -1,5 +1,5 @@
 -- What a reader's fields stand for.
-use Rattle.std.specs.Prelude.{◌≡◌, ◌≤◌, ℕ, List, Option, Some, None, is_some, IsSome}
+use Rattle.std.specs.Prelude.{◌≡◌, ◌≤◌, ◌<◌, ◌^◌, ℕ, false, IsTrue, List, length, Option, Some, None, is_some, IsSome}
 use Rattle.sample_tables.specs.declared.samples.TheConstants.{WEIGHT_LIMIT}
 use Rattle.stack_core.specs.declared.endings.ReadFault.{ReadFault}
 use Rattle.stack_core.specs.declared.endings.SourceEnd.{SourceEnd}
@@ -9,9 +9,11 @@ use Rattle.run_options.specs.declared.choices.Naming.{Naming}
 use Rattle.profile_messages.specs.SampleTypes.{chosen_type}
 use Rattle.std.specs.Arc.{arc_value}
 use Rattle.stack_core.specs.Parts.{bytes_of}
+use Rattle.stack_core.specs.RowSamples.{Awaited, Nothing, OneRow, Ending, is_at_end, is_idle, left_with}
 use Rattle.profile_tables.specs.declared.outline.Outline.{Outline}
 use Rattle.profile_tables.specs.declared.part.Part.{Part}
-use Rattle.profile_tables.specs.declared.reader.PprofReader.TheInside.{Inside}
+use Rattle.profile_tables.specs.declared.reader.PprofReader.TheInside as reader
+use Rattle.profile_tables.specs.declared.row_reader.PprofRows.TheInside.{Inside}
 use Rattle.profile_tables.specs.Samples.{no_samples, read_pprof}
 use Rattle.profile_tables.specs.checked.Rests.{rest_from, ended}
 use Rattle.profile_tables.specs.checked.Tellers.{told_of, IsTeller}
@@ -79,3 +81,24 @@ pub record IsReader (a : Inside) : Type 0 where
   pub total : a.total ≤ WEIGHT_LIMIT
   pub teller : IsTellerOf (bytes_of a.bytes) a.part a.given a.teller
   pub chosen : IsTypeOf (bytes_of a.bytes) a.pick a.part
+
+-- a reader of samples, by the rows that it reads
+abbrev pub reader_state : reader.Inside → State
+reader_state inside = record {
+  rest = left_with inside.rows.told.names inside.samples.awaited inside.rows.rest;
+  told = inside.rows.told;
+  has_ended = is_at_end inside.samples.awaited;
+  chosen_type = inside.rows.chosen_type;
+  has_tables = inside.rows.has_tables;
+}
+
+-- where a sample is awaited the tables were read
+abbrev pub HasReadFor : Awaited → State → Type 0
+HasReadFor Nothing rows = Unit {0}
+HasReadFor (OneRow row) rows = IsTrue rows.has_tables
+HasReadFor (Ending ending) rows = Unit {0}
+
+pub record NamesRows (inside : reader.Inside) : Type 0 where
+  pub stacks : inside.rows.told.stacks ≡ inside.samples.stacks
+  pub few : is_idle inside.samples.awaited ≡ false → length (left_with inside.rows.told.names inside.samples.awaited inside.rows.rest).samples < 2 ^ 64
+  pub tables : HasReadFor inside.samples.awaited inside.rows

@@ -4,9 +4,9 @@ use super::cuts::append_whether_it_ends;
 use super::depth::append_depth;
 use super::lending::{OfTables, append_by_tables};
 use super::messages::{Part, joined};
-use super::told::{OfRows, append_rows, append_sample_and_rows};
+use super::told::{OfRows, append_rows};
 use super::types::append_types;
-use profile_tables::{Naming, Pick, PprofReader};
+use profile_tables::{Naming, Pick, PprofReader, PprofRows};
 use stack_core::{Sample, SampleReader, SourceEnd, Step, Text};
 use std::alloc::{AllocError, Global};
 use std::process::Abort;
@@ -44,6 +44,7 @@ pub(super) const BY_X: Choice<'static> = Choice {
 /// What is asked of a file.
 pub(super) enum Asked {
     Reader(OfReader),
+    Rows(OfRows),
     Tables(OfTables),
 }
 
@@ -53,10 +54,6 @@ pub(super) enum OfReader {
     Samples,
     /// Whether there is an ending.
     Ends,
-    /// What its rows tell.
-    Rows(OfRows),
-    /// A sample, and then the others and the ending by rows.
-    SampleAndRows,
     /// The frames of the first sample.
     Depth,
     /// The sample type, before the first sample and behind it.
@@ -66,13 +63,13 @@ pub(super) enum OfReader {
 pub(super) const SAMPLES: Asked = Asked::Reader(OfReader::Samples);
 
 /// The samples and the ending by rows.
-pub(super) const ROWS: Asked = Asked::Reader(OfReader::Rows(OfRows::Lines));
+pub(super) const ROWS: Asked = Asked::Rows(OfRows::Lines);
 
 /// The number of each sample's row.
-pub(super) const NUMBERS: Asked = Asked::Reader(OfReader::Rows(OfRows::Numbers));
+pub(super) const NUMBERS: Asked = Asked::Rows(OfRows::Numbers);
 
 /// How many names the rows tell.
-pub(super) const NEW_NAMES: Asked = Asked::Reader(OfReader::Rows(OfRows::NewNames));
+pub(super) const NEW_NAMES: Asked = Asked::Rows(OfRows::NewNames);
 
 /// The place of the value that tables have chosen.
 pub(super) const VALUE: Asked = Asked::Tables(OfTables::Value);
@@ -172,8 +169,6 @@ fn append_of_reader(
     match asked {
         OfReader::Samples => append_samples(alloc, reader, text),
         OfReader::Ends => append_whether_it_ends(alloc, reader, text),
-        OfReader::Rows(asked) => append_rows(alloc, reader, asked, text),
-        OfReader::SampleAndRows => append_sample_and_rows(alloc, reader, text),
         OfReader::Depth => append_depth(alloc, reader, text),
         OfReader::Types => append_types(alloc, reader, text),
     }
@@ -203,6 +198,22 @@ fn append_by_reader(
     append_of_reader(alloc, &mut reader_over(bytes, pick, naming), asked, text)
 }
 
+/// `PprofRows::over` without its clauses.
+fn rows_over(bytes: Vec<u8>, pick: Pick, naming: Naming) -> PprofRows {
+    PprofRows::over(bytes, pick, naming)
+}
+
+fn append_by_rows(
+    alloc: Global,
+    bytes: Vec<u8>,
+    pick: Pick,
+    naming: Naming,
+    asked: &OfRows,
+    text: &mut String,
+) -> Result<(), AllocError> {
+    append_rows(alloc, &mut rows_over(bytes, pick, naming), asked, text)
+}
+
 fn append_of_bytes(
     alloc: Global,
     bytes: Vec<u8>,
@@ -213,6 +224,7 @@ fn append_of_bytes(
 ) -> Result<(), AllocError> {
     match asked {
         Asked::Reader(asked) => append_by_reader(alloc, bytes, pick, naming, asked, text),
+        Asked::Rows(asked) => append_by_rows(alloc, bytes, pick, naming, asked, text),
         Asked::Tables(asked) => append_by_tables(alloc, bytes, pick, naming, asked, text),
     }
 }

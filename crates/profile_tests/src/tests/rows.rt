@@ -2,9 +2,7 @@
 
 use super::files::{BASE, SMALLEST, TWO_LINES};
 use super::messages::{Part, joined};
-use super::reading::{
-    Asked, LINES, NEW_NAMES, NUMBERS, OfReader, PLAIN, ROWS, SAMPLES, Telling, are_told, is_told,
-};
+use super::reading::{LINES, NEW_NAMES, NUMBERS, PLAIN, ROWS, SAMPLES, Telling, are_told, is_told};
 use std::alloc::AllocError;
 use std::process::Abort;
 use std::test::Fail;
@@ -101,19 +99,6 @@ fn many_are_one_row(rt: &(impl Abort + AllocGlobal)) -> Result<(), AllocError> {
 fn many_equal_samples(rt: HostRuntime) -> Result<(), Fail> {
     many_are_one_row(&rt)?;
     Ok(())
-}
-
-const BEHIND_A_SAMPLE: &[Telling<'static>] = &[(
-    SPELLED,
-    PLAIN,
-    Asked::Reader(OfReader::SampleAndRows),
-    "main 7\nmain 5\nmain 6\nmain 8\nclean",
-)];
-
-/// Samples that `next` gives are not told, and a row follows them.
-#[test]
-fn rows_behind_samples(rt: HostRuntime) -> Result<(), Fail> {
-    are_told(&rt, BEHIND_A_SAMPLE)
 }
 
 /// Samples of 500 locations, whose names are all new, and the strings.

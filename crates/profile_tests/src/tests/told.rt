@@ -1,7 +1,6 @@
 //! Rows as a caller keeps them.
 
-use super::reading::{Ended, append_ended, append_next, is_over};
-use profile_tables::PprofReader;
+use super::reading::{Ended, append_ended, is_over};
 use stack_core::{Listed, RowReader, RowStep, Text};
 use std::alloc::{AllocError, Global};
 
@@ -150,14 +149,4 @@ pub(super) fn append_rows<R: RowReader>(
         numbers: String::new(alloc),
     };
     told.append_all(alloc, reader, asked, text)
-}
-
-/// Appends a sample, and then the others by rows.
-pub(super) fn append_sample_and_rows(
-    alloc: Global,
-    reader: &mut PprofReader,
-    text: &mut String,
-) -> Result<(), AllocError> {
-    append_next(alloc, reader, text, &mut None)?;
-    append_rows(alloc, reader, &OfRows::Lines, text)
 }

@@ -5,7 +5,7 @@ mod rows;
 mod told;
 
 use super::texts::holds;
-use folded_lines::{FoldedReader, append_line, append_pair_line};
+use folded_lines::{FoldedReader, FoldedRows, append_line, append_pair_line};
 use rows::{Telling, tells_all};
 use stack_core::{Names, ReadFault, ReadKind, SampleReader, SourceEnd, Step};
 use std::alloc::{AllocError, Global};
@@ -16,6 +16,11 @@ use told::append_rows;
 /// `FoldedReader::over` without its clauses, so that what calls it is proved without them.
 fn reader_over(text: Vec<u8>) -> FoldedReader {
     FoldedReader::over(text)
+}
+
+/// The same of `FoldedRows::over`.
+fn rows_over(text: Vec<u8>) -> FoldedRows {
+    FoldedRows::over(text)
 }
 
 /// Appends the line of a sample, as `append_line` writes it, or keeps the ending.
@@ -67,21 +72,21 @@ enum By {
     Rows,
 }
 
+/// Appends what is read of a text. Where it makes a reader no `?` follows: at each of them the proof writes out the drop of a reader,
+/// field by field.
 fn append_by(
     alloc: Global,
     by: &By,
-    reader: &mut FoldedReader,
+    text: Vec<u8>,
     lines: &mut Vec<u8>,
     end: &mut Option<SourceEnd>,
 ) -> Result<(), AllocError> {
     match by {
-        By::Samples => append_samples(alloc, reader, lines, end),
-        By::Rows => append_rows(alloc, reader, lines, end),
+        By::Samples => append_samples(alloc, &mut reader_over(text), lines, end),
+        By::Rows => append_rows(alloc, &mut rows_over(text), lines, end),
     }
 }
 
-/// Appends what is read of a text. Where it makes a reader no `?` follows: at each of them the proof writes out the drop of a reader,
-/// field by field.
 fn append_read(
     alloc: Global,
     by: &By,
@@ -89,7 +94,7 @@ fn append_read(
     lines: &mut Vec<u8>,
     end: &mut Option<SourceEnd>,
 ) -> Result<(), AllocError> {
-    append_by(alloc, by, &mut reader_over(text.to_vec(alloc)?), lines, end)
+    append_by(alloc, by, text.to_vec(alloc)?, lines, end)
 }
 
 fn are_lines(rt: &impl Abort, found: &[u8], lines: &[u8]) {
@@ -256,21 +261,17 @@ enum Asked<'a> {
     Two(&'a [u8]),
 }
 
-fn answers(
-    alloc: Global,
-    reader: &mut FoldedReader,
-    asked: &Asked<'_>,
-) -> Result<bool, AllocError> {
+fn answers(alloc: Global, text: Vec<u8>, asked: &Asked<'_>) -> Result<bool, AllocError> {
     match asked {
-        Asked::Tellings(tellings) => tells_all(alloc, reader, tellings),
-        Asked::EndsThrice => ends_thrice(alloc, reader),
-        Asked::Two(lines) => two_are(alloc, reader, &mut Vec::new(alloc), lines),
+        Asked::Tellings(tellings) => tells_all(alloc, &mut rows_over(text), tellings),
+        Asked::EndsThrice => ends_thrice(alloc, &mut reader_over(text)),
+        Asked::Two(lines) => two_are(alloc, &mut reader_over(text), &mut Vec::new(alloc), lines),
     }
 }
 
 /// Whether a reader of a text answers so.
 fn text_answers(alloc: Global, text: &[u8], asked: &Asked<'_>) -> Result<bool, AllocError> {
-    answers(alloc, &mut reader_over(text.to_vec(alloc)?), asked)
+    answers(alloc, text.to_vec(alloc)?, asked)
 }
 
 const TWO: Asked<'static> = Asked::Two(b"main;parse 5\nmain 2\n");

@@ -1,6 +1,9 @@
 -- What a reader of either format still has to give.
 use Rattle.std.specs.Prelude.{IsTrue}
 use Rattle.stack_core.specs.Reading.{Rest}
+use Rattle.stack_core.specs.RowSamples.{left_with}
+use Rattle.stack_core.specs.declared.readers.RowReader as row_reader
+use Rattle.stack_core.specs.declared.row_samples.NamingReader.{NamingReader}
 use Rattle.sample_tables.specs.Rows.{ToldRows}
 use Rattle.run_options.specs.Filters.{kept_rest}
 use Rattle.source_lists.specs.declared.filtered_reader.FilteredReader.{FilteredReader}
@@ -21,6 +24,14 @@ abbrev pub HasEnded : SourceReader → Type 0
 HasEnded (Folded reader) = IsTrue reader.has_ended
 HasEnded (Pprof reader) = IsTrue reader.has_ended
 
+-- what contracts see of it
+abbrev pub rows : row_reader.Ghosts SourceReader
+rows = record { rest = reader_rest; told = reader_told; has_ended = HasEnded }
+
+-- what a reader of its samples still has to give
+abbrev pub naming_rest : NamingReader SourceReader rows → Rest
+naming_rest naming = left_with (reader_told naming.reader).names naming.samples.awaited (reader_rest naming.reader)
+
 -- what a reader that leaves samples out still has to give
-abbrev pub filtered_rest : FilteredReader SourceReader → Rest
-filtered_rest filtered = kept_rest filtered.filter (reader_rest filtered.reader)
+abbrev pub filtered_rest : FilteredReader (NamingReader SourceReader rows) → Rest
+filtered_rest filtered = kept_rest filtered.filter (naming_rest filtered.reader)

@@ -1,6 +1,7 @@
 //! Runs whose sources are read in different ways.
 ghost use Rattle.std.specs.Prelude.{◌≡◌, IfOk, None};
 
+use super::faults::NEGATIVE;
 use super::shown::{Given, is_read, see};
 use super::stated::{CLEAN, Listed};
 use crate::tests::holds;
@@ -112,6 +113,14 @@ const PICKINGS: &[Reading] = &[
         picked: Some("n"),
         lists: &[(&[], 1, CLEAN), (&[(&["f"], 5)], 1, CLEAN)],
         total: 5,
+        ..PICKED
+    },
+    // The second sample has 5 and -1.
+    Reading {
+        given: &[(Format::Pprof, NEGATIVE)],
+        picked: Some("n"),
+        lists: &[(&[(&["f"], 5)], 2, CLEAN)],
+        total: 10,
         ..PICKED
     },
 ];

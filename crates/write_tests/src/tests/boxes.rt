@@ -2,34 +2,11 @@
 
 ghost use Rattle.std.specs.Prelude.{◌+◌, ◌<◌, ◌≤◌, ◌^◌, All, IsTrue, length, sum_by};
 
-use flame_layout::{DrawnBox, DrawnPair, FlameBox, SpanBox};
-use stack_core::Text;
-use std::alloc::{AllocError, Global};
+use flame_layout::{DrawnBox, DrawnPair, FlameBox};
+use std::alloc::AllocError;
 
 /// Depth, name, start, weight and own weight of a box.
 pub(super) type Row<'a> = (u32, &'a str, u64, u64, u64);
-
-fn span_of(alloc: Global, row: &Row<'_>) -> Result<SpanBox, AllocError> {
-    let (depth, name, start, weight, own) = row;
-    Ok(SpanBox {
-        depth: *depth,
-        name: Text::from_str(alloc, name)?,
-        start: *start,
-        weight: *weight,
-        own: *own,
-    })
-}
-
-pub(super) fn add_boxes(
-    alloc: Global,
-    boxes: &mut Vec<SpanBox>,
-    rows: &[Row<'_>],
-) -> Result<(), AllocError> {
-    for row in rows {
-        boxes.push(span_of(alloc, row)?)?;
-    }
-    Ok(())
-}
 
 fn drawn_of<'a>(row: &Row<'a>) -> DrawnBox<'a> {
     let (depth, name, start, weight, own) = row;

@@ -9,7 +9,7 @@ use std::test::Fail;
 use sum_texts::{append_sum_line, append_sum_table};
 
 /// Names, own weights and totals of functions.
-type Rows<'a> = &'a [(&'a str, u64, u64)];
+pub(super) type Rows<'a> = &'a [(&'a str, u64, u64)];
 
 fn add_sum(
     alloc: Global,
@@ -33,7 +33,7 @@ fn add_sums(alloc: Global, sums: &mut Vec<FunctionSum>, rows: Rows<'_>) -> Resul
     Ok(())
 }
 
-fn sums_of(alloc: Global, rows: Rows<'_>) -> Result<Vec<FunctionSum>, AllocError> {
+pub(super) fn sums_of(alloc: Global, rows: Rows<'_>) -> Result<Vec<FunctionSum>, AllocError> {
     let mut sums = Vec::new(alloc);
     add_sums(alloc, &mut sums, rows)?;
     Ok(sums)

@@ -32,6 +32,14 @@ const USAGES: &[(&str, Wanted<'static>)] = &[
         Wanted::Help("\nUsage: flamecollect diff [OPTIONS] <BEFORE> <AFTER>\n"),
     ),
     (
+        "callers --help",
+        Wanted::Help("\nUsage: flamecollect callers [OPTIONS] <NAME> [FILE]...\n"),
+    ),
+    (
+        "callees --help",
+        Wanted::Help("\nUsage: flamecollect callees [OPTIONS] <NAME> [FILE]...\n"),
+    ),
+    (
         "types --help",
         Wanted::Help("\nUsage: flamecollect types <FILE>\n"),
     ),
@@ -54,6 +62,8 @@ const COMMANDS: &[(&str, Wanted<'static>)] = &[
     ("--help", Wanted::Help("\n  compare ")),
     ("--help", Wanted::Help("\n  top ")),
     ("--help", Wanted::Help("\n  diff ")),
+    ("--help", Wanted::Help("\n  callers ")),
+    ("--help", Wanted::Help("\n  callees ")),
     ("--help", Wanted::Help("\n  types ")),
 ];
 

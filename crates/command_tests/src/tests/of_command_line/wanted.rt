@@ -1,6 +1,6 @@
 //! What a test wants of a line's plan, or of the fault in its place.
 
-use command_line::{Form, Plan, TopTable, View};
+use command_line::{CallTable, Form, Plan, TopTable, View};
 use run_options::{Format, Naming, Options, Pick, Width};
 use stack_core::{Names, Text};
 
@@ -33,6 +33,15 @@ pub(crate) const NOTHING: Set<'static> = Set {
     every: None,
 };
 
+/// What is asked of the calls of a function.
+#[derive(Clone, Copy)]
+pub(crate) struct Calls<'a> {
+    pub(crate) name: &'a str,
+    pub(crate) are_callers: bool,
+    pub(crate) rows: u64,
+    pub(crate) is_json: bool,
+}
+
 /// What a test wants of a line.
 #[derive(Clone, Copy)]
 pub(crate) enum Wanted<'a> {
@@ -60,6 +69,8 @@ pub(crate) enum Wanted<'a> {
     Picture(Option<&'a str>, bool),
     /// The sample types of this file, with progress and no other option.
     Types(&'a str),
+    /// The callers of this function, or its callees, so many and as JSON or not, in place of a view.
+    Calls(Calls<'a>),
     /// Words that are refused, with a text that begins so, has this part, and tells how to get help.
     Refused(&'a str, &'a str),
     /// Help, which has this part.
@@ -134,7 +145,7 @@ fn is_page(form: &Form, title: Option<&str>, least: Option<u64>, is_below: bool)
         Form::Page(page) => {
             page.least == least && page.is_root_below == is_below && is_titled(&page.title, title)
         }
-        Form::Text | Form::Picture(_) | Form::Types => false,
+        Form::Text | Form::Picture(_) | Form::Types | Form::Callers(_) | Form::Callees(_) => false,
     }
 }
 
@@ -143,7 +154,7 @@ fn is_picture(form: &Form, title: Option<&str>, is_below: bool) -> bool {
         Form::Picture(picture) => {
             picture.is_root_below == is_below && is_titled(&picture.title, title)
         }
-        Form::Text | Form::Page(_) | Form::Types => false,
+        Form::Text | Form::Page(_) | Form::Types | Form::Callers(_) | Form::Callees(_) => false,
     }
 }
 
@@ -153,6 +164,19 @@ fn is_of_types(plan: &Plan, file: &str) -> bool {
         && plan.format == Some(Format::Pprof)
         && has_defaults(plan)
         && are(&plan.files, &[file])
+}
+
+fn are_calls(plan: &Plan, calls: &Calls<'_>) -> bool {
+    plan.view == View::Fold
+        && match &plan.form {
+            Form::Callers(table) => calls.are_callers && is_table(table, calls),
+            Form::Callees(table) => !calls.are_callers && is_table(table, calls),
+            Form::Text | Form::Page(_) | Form::Picture(_) | Form::Types => false,
+        }
+}
+
+fn is_table(table: &CallTable, calls: &Calls<'_>) -> bool {
+    table.name.get() == calls.name && table.rows == calls.rows && table.is_json == calls.is_json
 }
 
 /// Whether a plan has this.
@@ -172,6 +196,7 @@ pub(crate) fn has(plan: &Plan, wanted: &Wanted<'_>) -> bool {
         Wanted::PageBelow => is_page(&plan.form, None, None, true),
         Wanted::Picture(title, is_below) => is_picture(&plan.form, title, is_below),
         Wanted::Types(file) => is_of_types(plan, file),
+        Wanted::Calls(calls) => are_calls(plan, &calls),
         Wanted::Refused(..) | Wanted::Help(_) | Wanted::Version => false,
     }
 }

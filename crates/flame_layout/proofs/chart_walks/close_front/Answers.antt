@@ -1,11 +1,8 @@
-use Rattle.std.proofs.Common.{◌+◌, ◌≤◌, ◌++◌, ◌∙◌, sym, ap, arith, length, List, map, take, drop, reverse, subst, All}
+use Rattle.std.proofs.Common.{◌+◌, ◌≤◌, ◌++◌, ◌∙◌, sym, ap, arith, length, List, take, drop, reverse, subst, All}
 use Rattle.std.proofs.lemmas.List.{length-take-le}
 use Rattle.std.proofs.lemmas.Result.{on_ok_weaker}
-use Rattle.stack_core.specs.Ledgers.{ListState}
-use Rattle.flame_layout.specs.Chart.{names_shared}
 use Rattle.flame_layout.specs.declared.chart_walks.OpenEnd.{OpenEnd}
-use Rattle.flame_layout.specs.declared.walks.OpenRun.{OpenRun}
-use Rattle.flame_layout.specs.checked.Walk.{IsWalk, boxes_of_runs, seen}
+use Rattle.flame_layout.specs.checked.Walk.{IsWalk, Run, boxes_of_runs}
 use Rattle.flame_layout.specs.checked.ChartRuns.{RunsState, stack_at, stack_in}
 use Rattle.flame_layout.specs.checked.ChartWalks.{named_runs, runs_in}
 use Rattle.flame_layout.proofs.ChartFronts.{ends-begun, front-is, front-kept, front-runs}
@@ -13,54 +10,51 @@ use Rattle.flame_layout.proofs.NamedRuns.{named_runs-length, named_runs-kept}
 use Rattle.flame_layout.proofs.chart_walks.close_front.Goals as goal
 
 pub close_ends-requires-clause-few : goal.close_ends-requires-clause-few
-close_ends-requires-clause-few c =
+close_ends-requires-clause-few g c =
     let walk = c.args.walk.now in
     omega (arith, c.requires.walked.1.walked.few, ap length (front-runs walk c.in-Some.front c.in-Some.is), named_runs-length (stack_at walk.chart.lists c.in-Some.front) walk.ends.items)
 
 pub close_ends-requires-clause-begun : goal.close_ends-requires-clause-begun
-close_ends-requires-clause-begun c =
+close_ends-requires-clause-begun g c =
     let walk = c.args.walk.now in
     let front = c.in-Some.front in
     let is = front-is c.args.start walk front c.requires.walked.0 c.in-Some.is c.requires.walked.1 in
-    let walked = subst (λ (runs : List OpenRun). IsWalk c.args.start runs walk.chart.spans c.requires.walked.0) (front-runs walk front c.in-Some.is) c.requires.walked.1.walked in
+    let walked = subst (λ (runs : List Run). IsWalk c.args.start runs walk.chart.spans c.requires.walked.0) (front-runs walk front c.in-Some.is) c.requires.walked.1.walked in
     subst (λ n. All (λ (going : OpenEnd). n ≤ going.end) walk.ends.items) (sym is.begins) (ends-begun c.args.start (stack_at walk.chart.lists front) walk.ends.items walk.chart.spans c.requires.walked.0 walked)
 
 pub close_ends-requires-clause-kept : goal.close_ends-requires-clause-kept
-close_ends-requires-clause-kept c =
+close_ends-requires-clause-kept g c =
     let walk = c.args.walk.now in
     let is = front-is c.args.start walk c.in-Some.front c.requires.walked.0 c.in-Some.is c.requires.walked.1 in
-    omega (arith, c.shared_with-keep.ensures.wide, ap (λ (ls : List ListState). length (stack_at ls c.in-Some.front)) c.lists.ensures, is.deep)
+    omega (arith, c.shared_with-keep.ensures.wide, is.deep)
 
 pub returns-clause-spans : goal.returns-clause-spans
-returns-clause-spans c =
+returns-clause-spans g c =
     let walk = c.args.walk.now in
     let front = c.in-Some.front in
     let is = front-is c.args.start walk front c.requires.walked.0 c.in-Some.is c.requires.walked.1 in
-    let shared = c.shared_with-keep.ensures.is ∙ ap (λ (ls : List ListState). names_shared (stack_in ls c.args.list c.args.at) (stack_at ls front)) c.lists.ensures in
-    let kept = front-kept c.args.start walk front c.requires.walked.0 (stack_in walk.chart.lists c.args.list c.args.at) c.shared_with-keep.result c.in-Some.is c.requires.walked.1 shared in
+    let kept = front-kept c.args.start walk front c.requires.walked.0 (stack_in walk.chart.lists c.args.list c.args.at) c.shared_with-keep.result c.in-Some.is c.requires.walked.1 c.shared_with-keep.ensures.is in
     on_ok_weaker c.close_ends.result (λ e. ap (λ (s : RunsState). s.spans) e
-    ∙ (λ i. walk.chart.spans ++ reverse (drop (kept i) (boxes_of_runs (is.begins i) (map seen (sym (front-runs walk front c.in-Some.is) i)))))) c.close_ends.ensures.chart
+    ∙ (λ i. walk.chart.spans ++ reverse (drop (kept i) (boxes_of_runs (is.begins i) (sym (front-runs walk front c.in-Some.is) i))))) c.close_ends.ensures.chart
 
 pub returns-clause-count : goal.returns-clause-count
-returns-clause-count c =
+returns-clause-count g c =
     let walk = c.args.walk.now in
     let front = c.in-Some.front in
     let is = front-is c.args.start walk front c.requires.walked.0 c.in-Some.is c.requires.walked.1 in
-    let shared = c.shared_with-keep.ensures.is ∙ ap (λ (ls : List ListState). names_shared (stack_in ls c.args.list c.args.at) (stack_at ls front)) c.lists.ensures in
-    let kept = front-kept c.args.start walk front c.requires.walked.0 (stack_in walk.chart.lists c.args.list c.args.at) c.shared_with-keep.result c.in-Some.is c.requires.walked.1 shared in
-    let there : c.shared_with-keep.result + 1 ≤ length walk.ends.items = omega (arith, c.shared_with-keep.ensures.wide, ap (λ (ls : List ListState). length (stack_at ls front)) c.lists.ensures, is.deep) in
+    let kept = front-kept c.args.start walk front c.requires.walked.0 (stack_in walk.chart.lists c.args.list c.args.at) c.shared_with-keep.result c.in-Some.is c.requires.walked.1 c.shared_with-keep.ensures.is in
+    let there : c.shared_with-keep.result + 1 ≤ length walk.ends.items = omega (arith, c.shared_with-keep.ensures.wide, is.deep) in
     on_ok_weaker c.close_ends.result (λ e. ap length e ∙ (length-take-le (c.shared_with-keep.result + 1) walk.ends.items there ∙ kept)) c.close_ends.ensures.ends
 
 pub returns-clause-kept : goal.returns-clause-kept
-returns-clause-kept c =
+returns-clause-kept g c =
     let walk = c.args.walk.now in
     let front = c.in-Some.front in
     let stack = stack_in walk.chart.lists c.args.list c.args.at in
     let keep = c.shared_with-keep.result + 1 in
     let is = front-is c.args.start walk front c.requires.walked.0 c.in-Some.is c.requires.walked.1 in
-    let shared = c.shared_with-keep.ensures.is ∙ ap (λ (ls : List ListState). names_shared (stack_in ls c.args.list c.args.at) (stack_at ls front)) c.lists.ensures in
-    let kept = front-kept c.args.start walk front c.requires.walked.0 stack c.shared_with-keep.result c.in-Some.is c.requires.walked.1 shared in
-    let there : keep ≤ length walk.ends.items = omega (arith, c.shared_with-keep.ensures.wide, ap (λ (ls : List ListState). length (stack_at ls front)) c.lists.ensures, is.deep) in
+    let kept = front-kept c.args.start walk front c.requires.walked.0 stack c.shared_with-keep.result c.in-Some.is c.requires.walked.1 c.shared_with-keep.ensures.is in
+    let there : keep ≤ length walk.ends.items = omega (arith, c.shared_with-keep.ensures.wide, is.deep) in
     on_ok_weaker c.close_ends.result (λ e. ap (named_runs stack) e
-    ∙ (named_runs-kept stack (stack_at walk.chart.lists front) walk.ends.items keep (omega (arith, shared)) there
+    ∙ (named_runs-kept stack (stack_at walk.chart.lists front) walk.ends.items keep (omega (arith, c.shared_with-keep.ensures.is)) there
     ∙ (ap (take keep) (sym (front-runs walk front c.in-Some.is)) ∙ ap (λ n. take n (runs_in walk)) kept))) c.close_ends.ensures.ends

@@ -2,7 +2,7 @@ use Rattle.std.proofs.Common.{arith, rules, ◌≡◌, inl, inr, [], length, map
 use Rattle.std.specs.Vec.{vec_len}
 use Rattle.command_line.specs.CommandLine.{command_line}
 use Rattle.command_line.specs.Plans.{IsFaultAmong, fault_of, plan_of}
-use Rattle.flame_tool.proofs.RunEndings.{accepted_none, accepted_some, are_refused, asked_exactly, asked_faulty, asked_many, asked_page, asked_partly, asked_shown, asked_svg, asked_types, asked_types_faulty, asked_types_partly, asked_types_untouched, asked_untouched, asked_whole, asks_if_help, input_clean, input_front, input_text, none_asked, partly_by_plan, partly_help, some_asked, some_faultless}
+use Rattle.flame_tool.proofs.RunEndings.{accepted_none, accepted_some, are_refused, asked_callees, asked_callers, asked_exactly, asked_faulty, asked_many, asked_page, asked_partly, asked_shown, asked_svg, asked_types, asked_types_faulty, asked_types_partly, asked_types_untouched, asked_untouched, asked_whole, asks_if_help, input_clean, input_front, input_text, none_asked, partly_by_plan, partly_help, some_asked, some_faultless}
 use Rattle.flame_tool.proofs.UntouchedOutputs.{no_help, whatever_is_read, whatever_types_are_read}
 use Rattle.flame_tool.proofs.program.run.Goals as goal
 
@@ -29,6 +29,18 @@ returns-in-Ok-clause-shown_svg g c =
     let some : length c.args.words.items ≡ 0 → ⊥ = search rules in
     let planned : plan_of (map string_bytes c.args.words.items) ≡ Some c.in-Ok.plan = search rules in
     λ zero. inr (asked_svg (map string_bytes c.args.words.items) c.in-Ok.plan (g.F.Files.known_input c.args.files.now) (g.F.Files.known_file c.args.files.now) _ _ (some_asked string_bytes c.args.words.items c.in-Ok.plan some planned) (c.run_plan-in-Ok.ensures.shown zero))
+
+pub returns-in-Ok-clause-shown_callees : goal.returns-in-Ok-clause-shown_callees
+returns-in-Ok-clause-shown_callees g c =
+    let some : length c.args.words.items ≡ 0 → ⊥ = search rules in
+    let planned : plan_of (map string_bytes c.args.words.items) ≡ Some c.in-Ok.plan = search rules in
+    λ zero. inr (asked_callees (map string_bytes c.args.words.items) c.in-Ok.plan (g.F.Files.known_input c.args.files.now) (g.F.Files.known_file c.args.files.now) _ _ (some_asked string_bytes c.args.words.items c.in-Ok.plan some planned) (c.run_plan-in-Ok.ensures.shown zero))
+
+pub returns-in-Ok-clause-shown_callers : goal.returns-in-Ok-clause-shown_callers
+returns-in-Ok-clause-shown_callers g c =
+    let some : length c.args.words.items ≡ 0 → ⊥ = search rules in
+    let planned : plan_of (map string_bytes c.args.words.items) ≡ Some c.in-Ok.plan = search rules in
+    λ zero. inr (asked_callers (map string_bytes c.args.words.items) c.in-Ok.plan (g.F.Files.known_input c.args.files.now) (g.F.Files.known_file c.args.files.now) _ _ (some_asked string_bytes c.args.words.items c.in-Ok.plan some planned) (c.run_plan-in-Ok.ensures.shown zero))
 
 pub returns-clause-partly : goal.returns-clause-partly
 returns-clause-partly g c =
@@ -242,6 +254,18 @@ returns-then-is_empty-clause-shown_svg g c =
     let none : length c.args.words.items ≡ 0 = search rules in
     let asked = none_asked string_bytes c.args.words.items c.plan_without_words.result none c.plan_without_words.ensures.plan in
     λ zero. inr (asked_svg (map string_bytes c.args.words.items) c.plan_without_words.result (g.F.Files.known_input c.args.files.now) (g.F.Files.known_file c.args.files.now) _ _ asked (c.run_plan.ensures.shown zero))
+
+pub returns-then-is_empty-clause-shown_callees : goal.returns-then-is_empty-clause-shown_callees
+returns-then-is_empty-clause-shown_callees g c =
+    let none : length c.args.words.items ≡ 0 = search rules in
+    let asked = none_asked string_bytes c.args.words.items c.plan_without_words.result none c.plan_without_words.ensures.plan in
+    λ zero. inr (asked_callees (map string_bytes c.args.words.items) c.plan_without_words.result (g.F.Files.known_input c.args.files.now) (g.F.Files.known_file c.args.files.now) _ _ asked (c.run_plan.ensures.shown zero))
+
+pub returns-then-is_empty-clause-shown_callers : goal.returns-then-is_empty-clause-shown_callers
+returns-then-is_empty-clause-shown_callers g c =
+    let none : length c.args.words.items ≡ 0 = search rules in
+    let asked = none_asked string_bytes c.args.words.items c.plan_without_words.result none c.plan_without_words.ensures.plan in
+    λ zero. inr (asked_callers (map string_bytes c.args.words.items) c.plan_without_words.result (g.F.Files.known_input c.args.files.now) (g.F.Files.known_file c.args.files.now) _ _ asked (c.run_plan.ensures.shown zero))
 
 pub returns-in-Ok-clause-status : goal.returns-in-Ok-clause-status
 returns-in-Ok-clause-status g c = c.run_plan-in-Ok.ensures.status

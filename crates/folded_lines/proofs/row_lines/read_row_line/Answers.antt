@@ -1,5 +1,5 @@
 use Rattle.std.proofs.Common.{◌≡◌, IfOk, sym, ap, subst, ◌∙◌}
-use Rattle.folded_lines.specs.declared.lines.Line.{Line}
+use Rattle.folded_lines.specs.Line.{Line}
 use Rattle.folded_lines.specs.checked.Telling.{told_of}
 use Rattle.folded_lines.specs.checked.Scanning.{within_total}
 use Rattle.folded_lines.specs.checked.RowLines.{line_by, line_of_head}

@@ -2,7 +2,7 @@ use borrow.Author.Rules.{rules}
 use Rattle.std.proofs.Common.{◌≡◌, ◌≤◌, ℕ, ◌+◌, ◌-◌, List, [], ◌∷◌, length, take, drop, slice_range, sym, ap, subst, ◌∙◌, arith}
 use Rattle.std.proofs.lemmas.List.{length-append}
 use Rattle.bstr.specs.Text.{line_len, without_terminator}
-use Rattle.folded_lines.specs.declared.lines.Line.{Line}
+use Rattle.folded_lines.specs.Line.{Line}
 use Rattle.sample_tables.specs.Rows.{ToldRows}
 use Rattle.folded_lines.specs.declared.cursor.Cursor.{Cursor}
 use Rattle.folded_lines.specs.declared.row_lines.RowLine.{RowLine}

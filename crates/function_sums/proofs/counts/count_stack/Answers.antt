@@ -1,68 +1,54 @@
-use Rattle.std.proofs.Common.{ℕ, ◌+◌, ◌-◌, ◌<◌, ◌^◌, List, [], length, map, take, set, get_or, refl, sym, ap, subst, arith}
-use Rattle.std.proofs.lemmas.List.{take_all, map_more, length-map}
-use Rattle.std.proofs.lemmas.Option.{slice_get_within}
-use Rattle.sample_tables.specs.declared.samples.Sample.{Sample}
+use Rattle.std.proofs.Common.{◌<◌, length, map, take, set, get_or, refl, sym, ap, subst, ◌∙◌, arith, IfSome}
+use Rattle.std.proofs.lemmas.List.{take_all, map_more, length-set}
 use Rattle.sample_tables.specs.Rows.{name_at}
-use Rattle.merged_stacks.specs.RankedStacks.{ranked_samples}
-use Rattle.function_sums.specs.checked.Counted.{AreCounts}
-use Rattle.function_sums.proofs.Counting.{none, with_own, stack_more, ranks_below, last_below, last_name, total_room, own_room, frame_more, stack_empty, stack_ended}
+use Rattle.function_sums.specs.checked.Counted.{AreCounts, ended}
+use Rattle.function_sums.proofs.Counting.{none, with_own, frame_more, room_more, stack_begins, stack_empty, stack_ended}
 use Rattle.function_sums.proofs.counts.count_stack.Goals as goal
 
--- the stack, by its names
-abbrev by_name : List (List ℕ) → List ℕ → ℕ → Sample
-by_name names ranks weight = record { stack = map (name_at names) ranks; weight = weight }
+pub loop-rank-init : goal.loop-rank-init
+loop-rank-init c = record {
+  many = refl;
+  room = c.requires.room;
+  counted = λ names lasts done rising are. stack_begins names c.args.counts.now lasts done c.args.weight c.args.stamp are;
+}
 
-pub count_frame-requires-clause-room : goal.count_frame-requires-clause-room
-count_frame-requires-clause-room c k d lt below =
-    let names = c.args.stacks.now.names in
-    let ranks = c.ranks-ranks.result.now in
-    let weight = c.weight-weight.result in
-    let more = stack_more c.args.stacks.now c.args.at weight ranks c.requires.at c.weight-weight.ensures c.ranks-ranks.ensures in
-    omega (arith, total_room names c.loop-rank.counts (ranked_samples c.args.stacks.now) c.args.at (by_name names ranks weight) (map (name_at names) (take c.loop-rank.rank-index ranks)) (c.args.at + 1) (2 ^ 64) more c.requires.total c.loop-rank.invariant k d lt below)
+pub count_frame-requires : goal.count_frame-requires
+count_frame-requires c = record {
+  rank = omega (arith, c.requires.known c.loop-rank.rank-index 0 c.loop-rank-test.true, c.loop-rank.invariant.many);
+  room = λ k d lt. (c.loop-rank.invariant.room k d lt).1;
+}
 
 pub loop-rank-preserved : goal.loop-rank-preserved
 loop-rank-preserved c =
-    let names = c.args.stacks.now.names in
-    let ranks = c.ranks-ranks.result.now in
     let i = c.loop-rank.rank-index in
-    let done = take c.args.at (ranked_samples c.args.stacks.now) in
-    let below = ranks_below c.args.stacks.now c.args.at ranks c.requires.known c.requires.at c.ranks-ranks.ensures in
-    subst (λ front. AreCounts names c.count_frame.new.counts done front c.weight-weight.result (c.args.at + 1)) (sym (map_more (name_at names) ranks i 0 (omega arith)))
-    (frame_more names c.loop-rank.counts c.count_frame.new.counts done (map (name_at names) (take i ranks)) c.weight-weight.result (c.args.at + 1) (get_or ranks i 0) c.loop-rank.invariant c.requires.rising (below i 0 (omega arith)) c.count_frame.ensures)
-
-pub overflow_add-counts : goal.overflow_add-counts
-overflow_add-counts c =
-    let names = c.args.stacks.now.names in
-    let ranks = c.ranks-ranks.result.now in
-    let weight = c.weight-weight.result in
-    let more = stack_more c.args.stacks.now c.args.at weight ranks c.requires.at c.weight-weight.ensures c.ranks-ranks.ensures in
-    let below = ranks_below c.args.stacks.now c.args.at ranks c.requires.known c.requires.at c.ranks-ranks.ensures in
-    let within = last_below ranks (length names) c.in-Some.last.now below (sym c.in-Some.ensures.value) in
-    omega (arith, own_room names c.loop-rank.counts (ranked_samples c.args.stacks.now) c.args.at (by_name names ranks weight) (map (name_at names) (take c.loop-rank.rank-index ranks)) (c.args.at + 1) (2 ^ 64) more c.requires.total c.loop-rank.invariant c.in-Some.last.now none within)
+    let ranks = c.args.ranks.now in
+    let rank = get_or ranks i 0 in
+    let old = c.loop-rank.counts in
+    let below : rank < length old = omega (arith, c.requires.known i 0 c.loop-rank-test.true, c.loop-rank.invariant.many) in
+    record {
+      many = ap length (c.count_frame.ensures none) ∙ length-set old rank _ ∙ c.loop-rank.invariant.many;
+      room = room_more old c.count_frame.new.counts c.args.weight c.args.stamp rank below c.loop-rank.invariant.room c.count_frame.ensures;
+      counted = λ names lasts done rising are.
+          let before = c.loop-rank.invariant.counted names lasts done rising are in
+          subst (λ front. AreCounts names c.count_frame.new.counts lasts done front c.args.weight c.args.stamp) (sym (map_more (name_at names) ranks i 0 c.loop-rank-test.true))
+          (frame_more names old c.count_frame.new.counts lasts done (map (name_at names) (take i ranks)) c.args.weight c.args.stamp rank before rising (omega (arith, below, before.many)) c.count_frame.ensures);
+    }
 
 pub returns-in-Some : goal.returns-in-Some
-returns-in-Some c =
-    let names = c.args.stacks.now.names in
-    let ranks = c.ranks-ranks.result.now in
-    let weight = c.weight-weight.result in
-    let last = c.in-Some.last.now in
-    let done = take c.args.at (ranked_samples c.args.stacks.now) in
-    let read = sym c.in-Some.ensures.value in
-    let more = stack_more c.args.stacks.now c.args.at weight ranks c.requires.at c.weight-weight.ensures c.ranks-ranks.ensures in
-    let below = ranks_below c.args.stacks.now c.args.at ranks c.requires.known c.requires.at c.ranks-ranks.ensures in
-    let are = subst (λ front. AreCounts names c.loop-rank.counts done front weight (c.args.at + 1)) (ap (map (name_at names)) (take_all c.loop-rank.rank-index ranks (omega arith))) c.loop-rank.invariant in
-    let long : 0 < length (map (name_at names) ranks) = omega (arith, length-map ranks (name_at names), slice_get_within ranks (length ranks - 1) last read) in
-    let after = set c.loop-rank.counts last (with_own weight (get_or c.loop-rank.counts last none)) in
-    subst (λ all. AreCounts names after all [] 0 (c.args.at + 1 + 1)) (sym more)
-    (stack_ended names c.loop-rank.counts done (by_name names ranks weight) (c.args.at + 1) are after last c.requires.rising (last_below ranks (length names) last below read) (last_name names ranks last read) long refl)
+returns-in-Some c names lasts done ending rising are weighs ends_in =
+    let counts = c.loop-rank.counts in
+    let last = c.in-Some.last in
+    let before = c.loop-rank.invariant.counted names lasts done rising are in
+    let all = subst (λ front. AreCounts names counts lasts done front c.args.weight c.args.stamp) (ap (map (name_at names)) (take_all c.loop-rank.rank-index c.args.ranks.now (omega (arith, c.loop-rank-test.false)))) before in
+    stack_ended names counts lasts done ending (record { stack = map (name_at names) c.args.ranks.now; weight = c.args.weight }) c.args.stamp all weighs
+    (set counts last (with_own c.args.weight (get_or counts last none))) last rising
+    (omega (arith, subst (λ it. IfSome it (λ rank. rank < length c.args.counts.now)) c.in-Some.is c.requires.last, are.many))
+    (λ name. ends_in name ∙ ap (λ it. ended names it name) c.in-Some.is) refl
 
 pub returns-in_default : goal.returns-in_default
-returns-in_default c =
-    let names = c.args.stacks.now.names in
-    let ranks = c.ranks-ranks.result.now in
-    let weight = c.weight-weight.result in
-    let done = take c.args.at (ranked_samples c.args.stacks.now) in
-    let more = stack_more c.args.stacks.now c.args.at weight ranks c.requires.at c.weight-weight.ensures c.ranks-ranks.ensures in
-    let are = subst (λ front. AreCounts names c.loop-rank.counts done front weight (c.args.at + 1)) (ap (map (name_at names)) (take_all c.loop-rank.rank-index ranks (omega arith))) c.loop-rank.invariant in
-    subst (λ all. AreCounts names c.loop-rank.counts all [] 0 (c.args.at + 1 + 1)) (sym more)
-    (stack_empty names c.loop-rank.counts done (by_name names ranks weight) (c.args.at + 1) are (omega (arith, length-map ranks (name_at names), c.in_default.ensures.item)))
+returns-in_default c names lasts done ending rising are weighs ends_in =
+    let counts = c.loop-rank.counts in
+    let before = c.loop-rank.invariant.counted names lasts done rising are in
+    let all = subst (λ front. AreCounts names counts lasts done front c.args.weight c.args.stamp) (ap (map (name_at names)) (take_all c.loop-rank.rank-index c.args.ranks.now (omega (arith, c.loop-rank-test.false)))) before in
+    stack_empty names counts lasts done ending (record { stack = map (name_at names) c.args.ranks.now; weight = c.args.weight }) c.args.stamp all weighs
+    (λ name. ends_in name ∙ ap (λ it. ended names it name) c.in_default.is)

@@ -2,8 +2,8 @@ use Rattle.std.proofs.Common.{◌≡◌, ◌∙◌, ◌++◌, ◌∷◌, ◌<◌
 use Rattle.std.proofs.lemmas.List.{map_push, take_all}
 use Rattle.std.proofs.lemmas.List.Elements.{All-push}
 use Rattle.sample_tables.specs.Rows.{name_at}
-use Rattle.function_sums.specs.FunctionSums.{total_of, sums_of, weight_of}
-use Rattle.function_sums.specs.checked.Counted.{names_with_weight}
+use Rattle.function_sums.specs.FunctionSums.{total_of, weight_of}
+use Rattle.function_sums.specs.checked.Counted.{names_with_weight, sums_by}
 use Rattle.function_sums.specs.checked.Rows.{Row, row_sum}
 use Rattle.function_sums.proofs.Counting.{none}
 use Rattle.function_sums.proofs.NamesWithWeight.{with_weight-more, with_weight-same}
@@ -18,14 +18,14 @@ loop-rank-preserved c = elim c.if-count-gt0.branch [
       let all : c.if-count-gt0.rows.items ≡ c.loop-rank.rows.items ++ w.row.result ∷ [] = (λ i. (w.rows-is i).items) ∙ w.in_ok-push.ensures.items in
       record {
         keys = subst (λ (rows : List Row). All (λ row. row.0.0 ≡ weight_of c.args.by (row_sum row)) rows) (sym all) (All-push (λ (row : Row). row.0.0 ≡ weight_of c.args.by (row_sum row)) c.loop-rank.rows.items w.row.result c.loop-rank.invariant.keys w.row.ensures.key);
-        sums = λ samples stamp are.
+        sums = λ lasts samples stamp are.
             let within : rank < length names = omega (arith, are.many) in
             let count = are.each rank none within in
             let total : (get_or c.args.counts.now rank none).total ≡ total_of (name_at names rank) samples = omega (arith, count.total) in
-            let one : row_sum w.row.result ≡ sums_of samples (name_at names rank) = w.row.ensures.sum ∙ (λ i. record { name = w.name.ensures i; own = count.own i; total = total i }) in
+            let one : row_sum w.row.result ≡ sums_by lasts samples (name_at names rank) = w.row.ensures.sum ∙ (λ i. record { name = w.name.ensures i; own = count.own i; total = total i }) in
             let kept = with_weight-more samples names rank within (omega (arith, total, w.if-count-gt0.true)) in
-            ap (map row_sum) all ∙ map_push row_sum c.loop-rank.rows.items w.row.result ∙ (λ i. c.loop-rank.invariant.sums samples stamp are i ++ one i ∷ [])
-            ∙ sym (ap (map (sums_of samples)) kept ∙ map_push (sums_of samples) (names_with_weight samples (take rank names)) (name_at names rank));
+            ap (map row_sum) all ∙ map_push row_sum c.loop-rank.rows.items w.row.result ∙ (λ i. c.loop-rank.invariant.sums lasts samples stamp are i ++ one i ∷ [])
+            ∙ sym (ap (map (sums_by lasts samples)) kept ∙ map_push (sums_by lasts samples) (names_with_weight samples (take rank names)) (name_at names rank));
       }
   | else-count-gt0 w ↦
       let names = c.args.stacks.now.names in
@@ -33,13 +33,13 @@ loop-rank-preserved c = elim c.if-count-gt0.branch [
       let all : c.if-count-gt0.rows.items ≡ c.loop-rank.rows.items = λ i. (w.rows-is i).items in
       record {
         keys = subst (λ (rows : List Row). All (λ row. row.0.0 ≡ weight_of c.args.by (row_sum row)) rows) (sym all) c.loop-rank.invariant.keys;
-        sums = λ samples stamp are.
+        sums = λ lasts samples stamp are.
             let within : rank < length names = omega (arith, are.many) in
             let light : total_of (name_at names rank) samples ≡ 0 = omega (arith, (are.each rank none within).total, w.if-count-gt0.false) in
-            ap (map row_sum) all ∙ c.loop-rank.invariant.sums samples stamp are ∙ sym (ap (map (sums_of samples)) (with_weight-same samples names rank within light));
+            ap (map row_sum) all ∙ c.loop-rank.invariant.sums lasts samples stamp are ∙ sym (ap (map (sums_by lasts samples)) (with_weight-same samples names rank within light));
       }
 ]
 
 pub returns-clause-sums : goal.returns-clause-sums
-returns-clause-sums c samples stamp are =
-    c.loop-rank.invariant.sums samples stamp are ∙ ap (λ names. map (sums_of samples) (names_with_weight samples names)) (take_all c.loop-rank.rank c.args.stacks.now.names (omega (arith, are.many, c.loop-rank-test.false)))
+returns-clause-sums c lasts samples stamp are =
+    c.loop-rank.invariant.sums lasts samples stamp are ∙ ap (λ names. map (sums_by lasts samples) (names_with_weight samples names)) (take_all c.loop-rank.rank c.args.stacks.now.names (omega (arith, are.many, c.loop-rank-test.false)))

@@ -6,6 +6,8 @@ use Rattle.merged_stacks.specs.RankedStacks.{ranked_samples}
 use Rattle.merged_stacks.specs.Timeline.{total_weight}
 use Rattle.function_sums.specs.declared.counts.Count.{Count}
 use Rattle.function_sums.specs.checked.Counted.{AreCounts}
+use Rattle.function_sums.specs.checked.Cuts.{counted_of, lasts_of}
+use Rattle.function_sums.proofs.CutSamples.{counted-nil, lasts-nil}
 use Rattle.function_sums.proofs.Counting.{lent_back, none, nothing_counted}
 use Rattle.function_sums.proofs.tables.count_all.Goals as goal
 
@@ -15,11 +17,12 @@ loop-at-init c =
     let counts = c.in_ok-counts.counts.items in
     let filled = c.in_ok-counts.ensures.items_if_clones_equal (λ y e. e) in
     let long : length counts ≡ n = ap length filled ∙ length-replicate n none in
-    nothing_counted c.args.stacks.now.names counts (long ∙ c.name_count.ensures)
-    (λ i d lt. ap (λ (all : List Count). get_or all i d) filled ∙ get_or-replicate n i none d (omega (arith, lt, long)))
+    let nothing = nothing_counted c.args.stacks.now.names counts (long ∙ c.name_count.ensures) (λ i d lt. ap (λ (all : List Count). get_or all i d) filled ∙ get_or-replicate n i none d (omega (arith, lt, long))) in
+    subst (λ lasts. AreCounts c.args.stacks.now.names counts lasts (counted_of c.args.call []) [] 0 1) (sym (lasts-nil c.args.call))
+    (subst (λ all. AreCounts c.args.stacks.now.names counts [] all [] 0 1) (sym (counted-nil c.args.call)) nothing)
 
-pub count_stack-requires : goal.count_stack-requires
-count_stack-requires c =
+pub count_at-requires : goal.count_at-requires
+count_at-requires c =
     let ranking = c.args.stacks.now in
     let samples = ranked_samples ranking in
     record {
@@ -28,23 +31,23 @@ count_stack-requires c =
       total = subst (λ (all : List Sample). total_weight all < 2 ^ 64) (sym c.requires.samples) c.len-at-end.ensures.total;
       rising = c.requires.rising;
       known = c.requires.known;
-      counted = subst (λ (all : List Count). AreCounts ranking.names all (take c.loop-at.at samples) [] 0 (c.loop-at.at + 1)) (sym c.deref_mut.ensures.value) c.loop-at.invariant;
+      counted = subst (λ (all : List Count). AreCounts ranking.names all (lasts_of c.args.call (take c.loop-at.at samples)) (counted_of c.args.call (take c.loop-at.at samples)) [] 0 (c.loop-at.at + 1)) (sym c.deref_mut.ensures.value) c.loop-at.invariant;
     }
 
 pub loop-at-preserved : goal.loop-at-preserved
 loop-at-preserved c =
     let ranking = c.args.stacks.now in
     let old = c.loop-at.counts.items in
-    let new = c.count_stack.new.counts in
-    subst (λ (all : List Count). AreCounts ranking.names all (take (c.loop-at.at + 1) (ranked_samples ranking)) [] 0 (c.loop-at.at + 1 + 1))
-    (sym (lent_back old new c.loop-at.counts.len (omega (arith, c.count_stack.ensures.many, c.loop-at.invariant.many)) (omega (arith, c.loop-at.counts.ok.0, c.count_stack.ensures.many, c.loop-at.invariant.many))))
-    c.count_stack.ensures
+    let new = c.count_at.new.counts in
+    subst (λ (all : List Count). AreCounts ranking.names all (lasts_of c.args.call (take (c.loop-at.at + 1) (ranked_samples ranking))) (counted_of c.args.call (take (c.loop-at.at + 1) (ranked_samples ranking))) [] 0 (c.loop-at.at + 1 + 1))
+    (sym (lent_back old new c.loop-at.counts.len (omega (arith, c.in_ok-count_at.ensures.many, c.loop-at.invariant.many)) (omega (arith, c.loop-at.counts.ok.0, c.in_ok-count_at.ensures.many, c.loop-at.invariant.many))))
+    c.in_ok-count_at.ensures
 
 pub returns : goal.returns
 returns c =
     let ranking = c.args.stacks.now in (
       c.loop-at.at + 1,
-      subst (λ (all : List Sample). AreCounts ranking.names c.loop-at.counts.items all [] 0 (c.loop-at.at + 1))
+      subst (λ (all : List Sample). AreCounts ranking.names c.loop-at.counts.items (lasts_of c.args.call all) (counted_of c.args.call all) [] 0 (c.loop-at.at + 1))
           (take_all c.loop-at.at (ranked_samples ranking) (omega (arith, c.loop-at-test.false, c.len-at-end.ensures.count, ap length c.requires.samples)) ∙ c.requires.samples)
           c.loop-at.invariant,
     )

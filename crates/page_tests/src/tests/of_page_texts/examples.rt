@@ -3,9 +3,8 @@
 use crate::tests::of_page_source::is_page;
 use crate::tests::texts::{holds, is_text};
 use byte_io::{CountedWriter, PieceFault};
-use flame_layout::{ComparedBox, SpanBox};
+use flame_layout::{DrawnBox, DrawnPair};
 use page_texts::{Drawing, Moment, Page, PageBox, Source, append_page_data, send_page};
-use stack_core::Text;
 use std::alloc::{AllocError, Global};
 use std::process::Abort;
 use std::slice;
@@ -14,20 +13,20 @@ use std::test::Fail;
 // Depth, name, start, weight and own weight of a box.
 type Row<'a> = (u32, &'a str, u64, u64, u64);
 
-fn span_of(alloc: Global, row: &Row<'_>) -> Result<SpanBox, AllocError> {
-    let (depth, name, start, weight, own) = row;
-    Ok(SpanBox {
-        depth: *depth,
-        name: Text::from_str(alloc, name)?,
-        start: *start,
-        weight: *weight,
-        own: *own,
-    })
+fn box_of<'a>(row: &Row<'a>) -> DrawnBox<'a> {
+    let (depth, name, start, weight, own) = *row;
+    DrawnBox {
+        depth,
+        name,
+        start,
+        weight,
+        own,
+    }
 }
 
-fn add_boxes(alloc: Global, boxes: &mut Vec<SpanBox>, rows: &[Row<'_>]) -> Result<(), AllocError> {
+fn add_boxes<'a>(boxes: &mut Vec<DrawnBox<'a>>, rows: &[Row<'a>]) -> Result<(), AllocError> {
     for row in rows {
-        boxes.push(span_of(alloc, row)?)?;
+        boxes.push(box_of(row))?;
     }
     Ok(())
 }
@@ -86,7 +85,7 @@ const SMALL: &[Row<'static>] = &[ALL, MAIN, READ];
 
 fn append_small(alloc: Global, out: &mut Vec<u8>, case: &Case<'_>) -> Result<(), AllocError> {
     let mut boxes = Vec::new(alloc);
-    add_boxes(alloc, &mut boxes, SMALL)?;
+    add_boxes(&mut boxes, SMALL)?;
     append_data(alloc, out, &boxes, case)
 }
 
@@ -161,18 +160,15 @@ fn narrow_boxes_are_told(rt: HostRuntime) -> Result<(), Fail> {
     data_are(&rt, NARROW, wanted)
 }
 
-fn pair_of(alloc: Global, row: &Row<'_>, before: u64) -> Result<ComparedBox, AllocError> {
-    let span = span_of(alloc, row)?;
-    Ok(ComparedBox { span, before })
-}
-
-fn add_compared(
-    alloc: Global,
-    boxes: &mut Vec<ComparedBox>,
-    rows: &[(Row<'_>, u64)],
+fn add_compared<'a>(
+    boxes: &mut Vec<DrawnPair<'a>>,
+    rows: &[(Row<'a>, u64)],
 ) -> Result<(), AllocError> {
     for (row, before) in rows {
-        boxes.push(pair_of(alloc, row, *before)?)?;
+        boxes.push(DrawnPair {
+            drawn: box_of(row),
+            total_before: *before,
+        })?;
     }
     Ok(())
 }
@@ -193,7 +189,7 @@ const COMPARED: &Case<'static> = &Case {
 
 fn append_compared(alloc: Global, out: &mut Vec<u8>) -> Result<(), AllocError> {
     let mut boxes = Vec::new(alloc);
-    add_compared(alloc, &mut boxes, COMPARED_BOXES)?;
+    add_compared(&mut boxes, COMPARED_BOXES)?;
     append_data(alloc, out, &boxes, COMPARED)
 }
 
@@ -207,9 +203,9 @@ fn comparison_has_the_other_weights(rt: HostRuntime) -> Result<(), Fail> {
 }
 
 // Adds so many boxes of the same row.
-fn add_same(alloc: Global, boxes: &mut Vec<SpanBox>, count: usize) -> Result<(), AllocError> {
+fn add_same(boxes: &mut Vec<DrawnBox<'_>>, count: usize) -> Result<(), AllocError> {
     for _ in 0..count {
-        boxes.push(span_of(alloc, &(0, "all", 0, 1, 1))?)?;
+        boxes.push(box_of(&(0, "all", 0, 1, 1)))?;
     }
     Ok(())
 }
@@ -228,7 +224,7 @@ const LONG: &Case<'static> = &Case {
 // Appends the data of a page of more numbers than a part has.
 fn append_long(alloc: Global, out: &mut Vec<u8>) -> Result<(), AllocError> {
     let mut boxes = Vec::new(alloc);
-    add_same(alloc, &mut boxes, 2500)?;
+    add_same(&mut boxes, 2500)?;
     append_data(alloc, out, &boxes, LONG)
 }
 
@@ -257,14 +253,14 @@ const README: &Case<'static> = &Case {
 // Sends the page of the README.
 fn send_readme(
     alloc: Global,
-    boxes: &[SpanBox],
+    boxes: &[DrawnBox<'_>],
     out: &mut CountedWriter<Vec<u8>>,
 ) -> Result<(), PieceFault> {
     let drawing = drawing_of(boxes, README);
     send_page(alloc, &page_with(slice::from_ref(&drawing), README), out)
 }
 
-fn sent_readme(alloc: Global, boxes: &[SpanBox]) -> Result<Vec<u8>, PieceFault> {
+fn sent_readme(alloc: Global, boxes: &[DrawnBox<'_>]) -> Result<Vec<u8>, PieceFault> {
     let mut out = CountedWriter::new(Vec::new(alloc));
     send_readme(alloc, boxes, &mut out)?;
     Ok(out.into_inner())
@@ -278,17 +274,21 @@ fn is_of_the_readme(alloc: Global, data: &[u8], sent: &[u8]) -> Result<bool, All
     }
 }
 
-fn is_sent(rt: &(impl Abort + AllocGlobal), boxes: &[SpanBox], data: &[u8]) -> Result<(), Fail> {
+fn is_sent(
+    rt: &(impl Abort + AllocGlobal),
+    boxes: &[DrawnBox<'_>],
+    data: &[u8],
+) -> Result<(), Fail> {
     let sent = sent_readme(rt.alloc(), boxes)?;
     holds(rt, is_of_the_readme(rt.alloc(), data, &sent))
 }
 
 fn sends_its_data(
     rt: &(impl Abort + AllocGlobal),
-    boxes: &mut Vec<SpanBox>,
+    boxes: &mut Vec<DrawnBox<'_>>,
     data: &mut Vec<u8>,
 ) -> Result<(), Fail> {
-    add_boxes(rt.alloc(), boxes, &SMALL[..1])?;
+    add_boxes(boxes, &SMALL[..1])?;
     append_data(rt.alloc(), data, boxes, README)?;
     is_sent(rt, boxes, data)
 }

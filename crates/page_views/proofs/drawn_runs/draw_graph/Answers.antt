@@ -1,6 +1,6 @@
 use Rattle.std.proofs.Common.{◌≡◌, ◌∙◌, [], rules}
 use Rattle.call_tree.specs.CallTree.{total_weight}
-use Rattle.source_views.proofs.TextLemmas.{drawn_weight}
+use Rattle.page_views.proofs.Drawings.{drawn_weight}
 use Rattle.page_views.proofs.drawn_runs.draw_graph.Goals as goal
 
 pub returns-clause-total : goal.returns-clause-total

@@ -1,7 +1,7 @@
 use Rattle.std.proofs.Common.{◌++◌, ◌∷◌, [], None}
 use Rattle.merged_stacks.specs.Timeline.{samples_of}
 use Rattle.merging.specs.Sums.{all_samples}
-use Rattle.source_views.proofs.TextLemmas.{lent_stacks}
+use Rattle.page_views.proofs.Drawings.{lent_stacks}
 use Rattle.page_views.specs.Pages.{plain_drawing}
 use Rattle.page_views.proofs.drawn_runs.draw_run.Goals as goal
 

@@ -3,7 +3,7 @@ use Rattle.std.proofs.lemmas.List.{length-map}
 use Rattle.stack_core.specs.Ledgers.{ListState}
 use Rattle.flame_layout.specs.Boxes.{span_of}
 use Rattle.merged_stacks.specs.Timeline.{samples_of}
-use Rattle.source_views.specs.Filling.{filled}
+use Rattle.page_views.specs.checked.Filling.{filled}
 use Rattle.page_views.proofs.Drawings.{snapshot_drawn}
 use Rattle.page_views.proofs.drawn_runs.draw_snapshot.Goals as goal
 

@@ -2,7 +2,7 @@ use Rattle.std.proofs.Common.{◌∙◌, ◌<◌, ap, arith, length, map, rules}
 use Rattle.std.proofs.lemmas.List.{length-map}
 use Rattle.merging.specs.declared.snapshots.Snapshot.{Snapshot}
 use Rattle.merged_stacks.specs.Timeline.{samples_of}
-use Rattle.source_views.specs.Texts.{places_of}
+use Rattle.page_views.specs.checked.DrawnRuns.{places_of}
 use Rattle.page_views.specs.checked.DrawnRuns.{drawing_in}
 use Rattle.page_views.proofs.Drawings.{snapshots_more}
 use Rattle.page_views.proofs.drawn_runs.draw_snapshots.Goals as goal

@@ -1,7 +1,7 @@
 -- the snapshots so far
 use Rattle.std.proofs.Common.{◌≡◌, ℕ, Option, map, take}
 use Rattle.merged_stacks.specs.Timeline.{samples_of}
-use Rattle.source_views.specs.Texts.{places_of}
+use Rattle.page_views.specs.checked.DrawnRuns.{places_of}
 use Rattle.page_views.specs.Pages.{snapshot_drawing}
 use Rattle.page_views.specs.checked.DrawnRuns.{drawing_in}
 use Rattle.page_views.proofs.drawn_runs.draw_snapshots.Given as goal

@@ -3,7 +3,7 @@ use Rattle.call_tree.specs.CallTree.{total_weight}
 use Rattle.merged_stacks.specs.Timeline.{samples_of}
 use Rattle.merging.specs.Sums.{all_samples}
 use Rattle.merging.proofs.GatherLemmas.{timeline_weight}
-use Rattle.source_views.proofs.TextLemmas.{drawn_weight}
+use Rattle.page_views.proofs.Drawings.{drawn_weight}
 use Rattle.page_views.proofs.page_data.timeline_total.Goals as goal
 
 pub returns : goal.returns

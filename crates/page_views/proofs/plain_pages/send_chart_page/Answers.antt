@@ -1,24 +1,17 @@
 use Rattle.std.proofs.Common.{◌≡◌, ◌∙◌, List, ap, codes, map, subst}
-use Rattle.std.specs.Prelude.{OnOk, OnErr}
-use Rattle.std.specs.Io.KnownBytes.{Appends}
-use Rattle.byte_io.specs.Pieces.{AppendsFront}
 use Rattle.page_texts.specs.Document.{document_text}
 use Rattle.page_texts.specs.Page.{Page}
 use Rattle.stack_core.specs.Ledgers.{ListState}
 use Rattle.merged_stacks.specs.Timeline.{samples_of, timeline}
 use Rattle.flame_layout.specs.Boxes.{span_of}
 use Rattle.flame_layout.specs.Chart.{chart_of}
+use Rattle.opened_sources.specs.Failures.{Sends}
 use Rattle.page_views.specs.Pages.{heading_of, plain_page}
 use Rattle.page_views.proofs.plain_pages.send_chart_page.Goals as goal
 
-pub returns-clause-ok : goal.returns-clause-ok
-returns-clause-ok g c =
+pub returns-clause-sent : goal.returns-clause-sent
+returns-clause-sent g c =
     let boxes : map span_of c.deref.result.now ≡ chart_of (timeline (samples_of c.args.sources.now.lists)) = ap (map span_of) c.deref.ensures.value ∙ c.in_ok-boxes.ensures.chart
     ∙ ap (λ (lists : List ListState). chart_of (timeline (samples_of lists))) c.lists.ensures.lists in
-    subst (λ (page : Page). OnOk c.send_plain_page.result (Appends (g.W.Outlet.contents c.args.out.now) (g.W.Outlet.contents c.send_plain_page.new.out) (document_text page))) (λ i. plain_page (heading_of c.args.heading.now) (codes "chart") (c.total.ensures.timeline i) (boxes i)) c.send_plain_page.ensures.ok
-
-pub returns-clause-front : goal.returns-clause-front
-returns-clause-front g c =
-    let boxes : map span_of c.deref.result.now ≡ chart_of (timeline (samples_of c.args.sources.now.lists)) = ap (map span_of) c.deref.ensures.value ∙ c.in_ok-boxes.ensures.chart
-    ∙ ap (λ (lists : List ListState). chart_of (timeline (samples_of lists))) c.lists.ensures.lists in
-    subst (λ (page : Page). OnErr c.send_plain_page.result (AppendsFront (document_text page) (g.W.Outlet.contents c.args.out.now) (g.W.Outlet.contents c.send_plain_page.new.out))) (λ i. plain_page (heading_of c.args.heading.now) (codes "chart") (c.total.ensures.timeline i) (boxes i)) c.send_plain_page.ensures.front
+    subst (λ (page : Page). Sends (document_text page) (g.W.Outlet.contents c.args.out.now) (g.W.Outlet.contents c.send_plain_page.new.out) c.send_plain_page.result)
+    (λ i. plain_page (heading_of c.args.heading.now) (codes "chart") (c.total.ensures.timeline i) (boxes i)) c.send_plain_page.ensures.sent

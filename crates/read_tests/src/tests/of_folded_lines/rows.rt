@@ -2,7 +2,7 @@
 
 use super::{Asked, text_answers};
 use crate::tests::texts::holds;
-use folded_lines::FoldedReader;
+use folded_lines::FoldedRows;
 use stack_core::{RowReader, RowStep, SourceEnd, Text};
 use std::alloc::{AllocError, Global};
 use std::test::Fail;
@@ -64,7 +64,7 @@ fn tells(step: &RowStep, telling: &Telling<'_>) -> bool {
 
 fn tells_next(
     alloc: Global,
-    reader: &mut FoldedReader,
+    reader: &mut FoldedRows,
     telling: &Telling<'_>,
 ) -> Result<bool, AllocError> {
     let step = reader.next_row(alloc)?;
@@ -73,7 +73,7 @@ fn tells_next(
 
 pub(super) fn tells_all(
     alloc: Global,
-    reader: &mut FoldedReader,
+    reader: &mut FoldedRows,
     tellings: &[Telling<'_>],
 ) -> Result<bool, AllocError> {
     for telling in tellings {

@@ -1,6 +1,6 @@
 //! Rows as lines, each of what a reader told so far.
 
-use folded_lines::{FoldedReader, append_line};
+use folded_lines::{FoldedRows, append_line};
 use stack_core::{Listed, RowReader, RowStep, SourceEnd, Text};
 use std::alloc::{AllocError, Global};
 
@@ -108,7 +108,7 @@ impl Told {
     fn append_next(
         &mut self,
         alloc: Global,
-        reader: &mut FoldedReader,
+        reader: &mut FoldedRows,
         lines: &mut Vec<u8>,
         end: &mut Option<SourceEnd>,
     ) -> Result<(), AllocError> {
@@ -119,7 +119,7 @@ impl Told {
     fn append_all(
         &mut self,
         alloc: Global,
-        reader: &mut FoldedReader,
+        reader: &mut FoldedRows,
         lines: &mut Vec<u8>,
         end: &mut Option<SourceEnd>,
     ) -> Result<(), AllocError> {
@@ -136,7 +136,7 @@ impl Told {
 /// The same of a reader that told no row before.
 pub(super) fn append_rows(
     alloc: Global,
-    reader: &mut FoldedReader,
+    reader: &mut FoldedRows,
     lines: &mut Vec<u8>,
     end: &mut Option<SourceEnd>,
 ) -> Result<(), AllocError> {

@@ -1,38 +1,22 @@
 //! Lines of pictures.
 
-use crate::tests::boxes::{Row, add_boxes, add_drawn, add_pairs, are_within};
+use crate::tests::boxes::{Row, add_drawn, add_pairs, are_within};
 use crate::tests::texts::refuse;
 use byte_io::append_pieces;
-use flame_layout::{DrawnBox, DrawnPair, SpanBox, Width};
+use flame_layout::{DrawnBox, DrawnPair, Width};
 use std::alloc::{AllocError, Global};
-use view_texts::{Scale, drawn_comparison_line, drawn_line, drawn_snapshot_line, picture_line};
+use view_texts::{Scale, drawn_comparison_line, drawn_line, drawn_snapshot_line};
 
 /// What is written as a line.
 pub(super) enum Line<'a> {
-    /// A view and its boxes.
+    /// A view and the rows of its boxes.
     Boxes(&'a str, &'a [Row<'a>]),
-    /// The same with boxes whose names are lent.
+    /// A view and its boxes, as they are drawn.
     Drawn(&'a str, &'a [DrawnBox<'a>]),
     /// After how many samples a snapshot was taken, how many each source had given, and its boxes.
     Snapshot(u64, &'a [u64], &'a [Row<'a>]),
     /// What the first profile of a comparison weighs, and the boxes, each with what it weighs there.
     Pairs(u64, &'a [(Row<'a>, u64)]),
-}
-
-/// The boxes are added to none, as those of the other lines.
-fn append_boxes(
-    alloc: Global,
-    out: &mut Vec<u8>,
-    view: &str,
-    rows: &[Row<'_>],
-    scale: &Scale,
-    boxes: &mut Vec<SpanBox>,
-) -> Result<(), AllocError> {
-    add_boxes(alloc, boxes, rows)?;
-    if !are_within(boxes, scale.total) {
-        return refuse(out);
-    }
-    append_pieces(alloc, &picture_line(view, boxes, *scale), out)
 }
 
 fn append_drawn(
@@ -46,6 +30,19 @@ fn append_drawn(
         return refuse(out);
     }
     append_pieces(alloc, &drawn_line(view, boxes, *scale), out)
+}
+
+/// The boxes are added to none, as those of the other lines.
+fn append_boxes<'a>(
+    alloc: Global,
+    out: &mut Vec<u8>,
+    view: &str,
+    rows: &[Row<'a>],
+    scale: &Scale,
+    boxes: &mut Vec<DrawnBox<'a>>,
+) -> Result<(), AllocError> {
+    add_drawn(boxes, rows)?;
+    append_drawn(alloc, out, view, boxes, scale)
 }
 
 fn append_snapshot<'a>(

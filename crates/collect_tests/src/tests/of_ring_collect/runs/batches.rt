@@ -6,7 +6,7 @@ use super::lists::has_sample;
 use super::rows::count_of;
 use super::shared;
 use crate::tests::holds;
-use folded_lines::{FoldedReader, append_line};
+use folded_lines::{FoldedRows, append_line};
 use ring_collect::{CollectFault, Collected, RingSize, collect_rows};
 use stack_core::{Names, NoSink, OpenGate, SourceEnd, SourceList};
 use std::alloc::{AllocError, Global};
@@ -33,7 +33,7 @@ fn weight_of(i: usize) -> u8 {
 }
 
 /// A reader of so many folded lines.
-fn reader_of(alloc: Global, count: usize, alike: usize) -> Result<FoldedReader, AllocError>
+fn reader_of(alloc: Global, count: usize, alike: usize) -> Result<FoldedRows, AllocError>
     ensures { IfOk result (λ reader. reader.told ≡ record { names = []; stacks = [] }) }
 {
     let mut text = Vec::new(alloc);
@@ -42,10 +42,10 @@ fn reader_of(alloc: Global, count: usize, alike: usize) -> Result<FoldedReader, 
         let stack = Names::from_strs(alloc, &[name.as_str()])?;
         append_line(alloc, &mut text, stack.get(), u64::from(weight_of(i)))?;
     }
-    Ok(FoldedReader::over(text))
+    Ok(FoldedRows::over(text))
 }
 
-fn readers_of(alloc: Global, counts: Counts) -> Result<Vec<FoldedReader>, AllocError>
+fn readers_of(alloc: Global, counts: Counts) -> Result<Vec<FoldedRows>, AllocError>
     ensures few { IfOk result (λ readers. length readers.items ≤ 64) }
     ensures nothing_told { IfOk result (λ readers.
         All (λ reader. reader.told ≡ record { names = []; stacks = [] }) readers.items) }
@@ -123,7 +123,7 @@ const FEW: Counts = Counts {
     alike: 1,
 };
 
-/// A run whose longest source fills three batches is whole.
+/// A run whose longest source fills several batches is whole.
 pub(super) fn few_run_whole<T: Threads + Wait + Copy + Send + 'static>(
     rt: &T,
     alloc: Global,

@@ -169,6 +169,29 @@ impl Gate for StopsAtTwo {
     }
 }
 
+/// Notes how often it is asked for each of the first three samples of the first three sources, in four bits for each, and in the last
+/// four for any other.
+#[derive(Drop)]
+pub struct CountsCalls {
+    pub calls: Arc<AtomicU64>,
+}
+
+impl Gate for CountsCalls {
+    ghost may_stop = { λ _ _ _. ⊥ };
+
+    ghost may_go = { λ _ _ _. Unit {0} };
+
+    fn before(&self, source: u32, index: u64) -> Turn {
+        let place = if source < 3 && index < 3 {
+            3 * u64::from(source) + index
+        } else {
+            15
+        };
+        self.calls.fetch_add(1 << (4 * place), Ordering::SeqCst);
+        Turn::Go
+    }
+}
+
 /// Lets so many sources go once all asked.
 #[derive(Drop)]
 pub struct AllAsked {

@@ -1,12 +1,12 @@
 //! Gates that wait for one another, or for the sink, and gates that stop sources.
 
-use super::fakes::{AfterATake, AllAsked, CLEAN, Recorder, StopsAt, StopsAtTwo};
-use super::{EIGHT, Source, THREE, runs_alone_to, runs_to};
+use super::fakes::{AfterATake, AllAsked, CLEAN, CountsCalls, Recorder, StopsAt, StopsAtTwo};
+use super::{EIGHT, Source, THREE, runs_alone_to, runs_to, shared};
 use crate::tests::holds;
 use ring_collect::{CollectFault, RingSize};
 use stack_core::SourceEnd;
 use std::alloc::Global;
-use std::sync::atomic::AtomicU64;
+use std::sync::atomic::{AtomicU64, Ordering};
 use std::sync::{Arc, Wait};
 use std::test::Fail;
 use std::thread::Threads;
@@ -101,4 +101,26 @@ fn gate_stops_two_sources(rt: HostRuntime) -> Result<(), Fail> {
     let ring = RingSize::of(1).unwrap();
     let gate = stops_two_sources();
     holds(&rt, runs_alone_to(&rt, rt.alloc(), TWO_STOPPED, ring, gate))
+}
+
+const THREE_OF_THREE: &[Source] = &[((THREE, CLEAN, None), (THREE, CLEAN)); 3];
+
+/// The gate is asked once for each of the nine samples, and for no other.
+fn asks_once<T: Threads + Wait + Copy + Send + 'static>(
+    rt: &T,
+    alloc: Global,
+    ring: RingSize,
+) -> Result<bool, CollectFault> {
+    let calls = shared(alloc, AtomicU64::new(0))?;
+    let gate = CountsCalls {
+        calls: Arc::try_clone(&calls)?,
+    };
+    let is_whole = runs_alone_to(rt, alloc, THREE_OF_THREE, ring, gate)?;
+    Ok(is_whole && calls.load(Ordering::SeqCst) == 0x1_1111_1111)
+}
+
+#[test]
+fn gate_is_asked_once_for_each_sample(rt: HostRuntime) -> Result<(), Fail> {
+    holds(&rt, asks_once(&rt, rt.alloc(), RingSize::of(1).unwrap()))?;
+    holds(&rt, asks_once(&rt, rt.alloc(), RingSize::of(7).unwrap()))
 }

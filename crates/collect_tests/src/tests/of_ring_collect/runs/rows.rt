@@ -6,7 +6,7 @@ use super::fakes::CLEAN;
 use super::lists::is_list;
 use super::{EIGHT, THREE, name_of, shared};
 use crate::tests::holds;
-use folded_lines::{FoldedReader, append_line};
+use folded_lines::{FoldedRows, append_line};
 use ring_collect::{CollectFault, Collected, RingSize, collect_rows};
 use stack_core::{Names, NoSink, OpenGate};
 use std::alloc::{AllocError, Global};
@@ -48,16 +48,16 @@ fn append_lines(
 }
 
 /// A reader of folded lines of one frame and these weights.
-fn lines(alloc: Global, name: &str, weights: &[u8]) -> Result<FoldedReader, AllocError>
+fn lines(alloc: Global, name: &str, weights: &[u8]) -> Result<FoldedRows, AllocError>
     ensures { IfOk result (λ reader. reader.told ≡ record { names = []; stacks = [] }) }
 {
     let mut text = Vec::new(alloc);
     append_lines(alloc, &mut text, name, weights)?;
-    Ok(FoldedReader::over(text))
+    Ok(FoldedRows::over(text))
 }
 
 /// The readers of a run for the lists alone.
-fn two_readers(alloc: Global) -> Result<Vec<FoldedReader>, AllocError>
+fn two_readers(alloc: Global) -> Result<Vec<FoldedRows>, AllocError>
     ensures few { IfOk result (λ readers. length readers.items ≤ 64) }
     ensures nothing_told { IfOk result (λ readers.
         All (λ reader. reader.told ≡ record { names = []; stacks = [] }) readers.items) }

@@ -18,7 +18,7 @@ loop-index-init c =
     let lists = c.args.lists.now in
     let none : timeline (samples_of (drop (length lists) lists)) ≡ [] = ap (λ (ls : List ListState). timeline (samples_of ls)) (drop_all (length lists) lists (omega arith)) in
     record {
-      lists = c.new-walk.ensures.lists;
+      lists = c.new-walk.ensures.lists ∙ c.in_ok-lent.ensures;
       start = omega (arith, c.total_weight-start.ensures, ap total_weight none);
       walked = subst (λ (xs : List Sample). IsChartWalk c.total_weight-start.result c.new-walk.result xs) (sym none) (c.new-walk.ensures.walked c.total_weight-start.result);
     }
@@ -29,7 +29,7 @@ enter_samples-requires-clause-room c =
     let i = c.loop-index.index - 1 in
     let there = list-there lists i (omega arith) in
     let more = timeline_weight-drop lists i c.loop-index.index there.0 (omega arith) (omega arith) there.1 in
-    let same = ap (λ (ls : List ListState). total_weight (list_of (samples_of ls) i)) c.loop-index.invariant.lists in
+    let same = ap (λ (ls : List (List Sample)). total_weight (list_of ls i)) c.loop-index.invariant.lists in
     omega (arith, same, ap total_weight there.2, more, c.loop-index.invariant.start, timeline_weight-drop_le lists i)
 
 pub loop-index-preserved : goal.loop-index-preserved
@@ -40,8 +40,8 @@ loop-index-preserved c =
     let within : i < length lists = omega arith in
     let there = list-there lists i within in
     let more = timeline_weight-drop lists i c.loop-index.index there.0 next within there.1 in
-    let samples : list_of (samples_of c.loop-index.walk.chart.lists) i ≡ there.0.samples = ap (λ (ls : List ListState). list_of (samples_of ls) i) c.loop-index.invariant.lists ∙ there.2 in
-    let first : timeline (samples_of (drop i lists)) ≡ drawn (list_of (samples_of c.loop-index.walk.chart.lists) i) ++ timeline (samples_of (drop c.loop-index.index lists)) =
+    let samples : list_of c.loop-index.walk.chart.lists i ≡ there.0.samples = ap (λ (ls : List (List Sample)). list_of ls i) c.loop-index.invariant.lists ∙ there.2 in
+    let first : timeline (samples_of (drop i lists)) ≡ drawn (list_of c.loop-index.walk.chart.lists i) ++ timeline (samples_of (drop c.loop-index.index lists)) =
     timeline-drop lists i c.loop-index.index there.0 next within there.1 ∙ ap (λ xs. drawn xs ++ timeline (samples_of (drop c.loop-index.index lists))) (sym samples) in
     record {
       lists = c.in_ok-start.ensures.lists ∙ c.loop-index.invariant.lists;
@@ -51,7 +51,7 @@ loop-index-preserved c =
     }
 
 -- at the end all is walked, from 0 on
-walked_all : (lists : List ListState) (i start : ℕ) (walk : ChartWalk) → i ≤ 0 → start + total_weight (timeline (samples_of (drop i lists))) ≡ total_weight (timeline (samples_of lists))
+walked_all : {S : Type 0} (lists : List ListState) (i start : ℕ) (walk : ChartWalk S) → i ≤ 0 → start + total_weight (timeline (samples_of (drop i lists))) ≡ total_weight (timeline (samples_of lists))
     → IsChartWalk start walk (timeline (samples_of (drop i lists))) → IsChartWalk 0 walk (timeline (samples_of lists))
 walked_all lists i start walk low sum walked =
     let none : i ≡ 0 = omega arith in

@@ -5,7 +5,7 @@ use Rattle.flame_layout.proofs.chart.Chart.of.Given as goal
 
 abbrev pub invariant-loop-index : goal.invariant-loop-index
 invariant-loop-index l = record {
-  lists : l.walk.chart.lists ≡ l.lists;
+  lists : l.walk.chart.lists ≡ samples_of l.lists;
   start : l.start + total_weight (timeline (samples_of (drop l.index l.lists))) ≡ total_weight (timeline (samples_of l.lists));
   walked : IsChartWalk l.start l.walk (timeline (samples_of (drop l.index l.lists)));
 }

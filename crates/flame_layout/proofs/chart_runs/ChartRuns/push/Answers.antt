@@ -2,21 +2,21 @@ use Rattle.std.proofs.Common.{◌≡◌, ◌≤◌, ◌++◌, ◌∷◌, [], All
 use Rattle.std.proofs.lemmas.List.{map_push}
 use Rattle.std.proofs.lemmas.List.Elements.{All-same, All-push}
 use Rattle.flame_layout.specs.declared.chart_runs.ChartRun.{ChartRun}
-use Rattle.flame_layout.specs.checked.ChartRuns.{IsRun, IsThere, RunsState, span_from, span_of_run, stack_at}
+use Rattle.flame_layout.specs.checked.ChartRuns.{IsRun, IsThere, RunsState, samples_in, span_from, span_of_run, stack_at}
 use Rattle.flame_layout.proofs.KeptRuns.{runs_stay, spans_stay}
 use Rattle.flame_layout.proofs.chart_runs.ChartRuns.push.Goals as goal
 
 pub invariant_of-self : goal.invariant_of-self
-invariant_of-self c = subst (λ s. All (IsRun c.self.inside.lists.now s) c.self.inside.runs.items) (sym c.number_of.ensures.more.1) (runs_stay c.self.inside.lists.now c.self.inside.starts.items c.number_of.ensures.more.0 c.self.inside.runs.items c.self.invariant)
+invariant_of-self g c = subst (λ s. All (IsRun (samples_in g.S.StackRows.samples c.self.inside.lists.items) s) c.self.inside.runs.items) (sym c.number_of.ensures.more.1) (runs_stay (samples_in g.S.StackRows.samples c.self.inside.lists.items) c.self.inside.starts.items c.number_of.ensures.more.0 c.self.inside.runs.items c.self.invariant)
 
 pub invariant_of-self-in_err-push : goal.invariant_of-self-in_err-push
-invariant_of-self-in_err-push c =
-    All-same (IsRun c.self.inside.lists.now c.number_of.new.starts.items) c.push.new.self.items c.self.inside.runs.items c.in_err-push.ensures.items
-    (subst (λ s. All (IsRun c.self.inside.lists.now s) c.self.inside.runs.items) (sym c.number_of.ensures.more.1) (runs_stay c.self.inside.lists.now c.self.inside.starts.items c.number_of.ensures.more.0 c.self.inside.runs.items c.self.invariant))
+invariant_of-self-in_err-push g c =
+    All-same (IsRun (samples_in g.S.StackRows.samples c.self.inside.lists.items) c.number_of.new.starts.items) c.push.new.self.items c.self.inside.runs.items c.in_err-push.ensures.items
+    (subst (λ s. All (IsRun (samples_in g.S.StackRows.samples c.self.inside.lists.items) s) c.self.inside.runs.items) (sym c.number_of.ensures.more.1) (runs_stay (samples_in g.S.StackRows.samples c.self.inside.lists.items) c.self.inside.starts.items c.number_of.ensures.more.0 c.self.inside.runs.items c.self.invariant))
 
 pub invariant_of-self-2 : goal.invariant_of-self-2
-invariant_of-self-2 c =
-    let lists = c.self.inside.lists.now in
+invariant_of-self-2 g c =
+    let lists = samples_in g.S.StackRows.samples c.self.inside.lists.items in
     let starts = c.number_of.new.starts.items in
     let more = c.number_of.ensures.more in
     let run : ChartRun = record { first = c.in_ok-first.first; depth = c.args.depth; weight = c.args.weight; own = c.args.own } in
@@ -32,8 +32,8 @@ invariant_of-self-2 c =
     All-same (IsRun lists starts) c.push.new.self.items (c.self.inside.runs.items ++ run ∷ []) c.in_ok-push.ensures.items (All-push (IsRun lists starts) c.self.inside.runs.items run old new)
 
 pub returns : goal.returns
-returns c =
-    let lists = c.self.inside.lists.now in
+returns g c =
+    let lists = samples_in g.S.StackRows.samples c.self.inside.lists.items in
     let starts = c.number_of.new.starts.items in
     let more = c.number_of.ensures.more in
     let run : ChartRun = record { first = c.in_ok-first.first; depth = c.args.depth; weight = c.args.weight; own = c.args.own } in

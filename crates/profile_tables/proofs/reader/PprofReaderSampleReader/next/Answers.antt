@@ -1,77 +1,36 @@
-use Rattle.std.proofs.lemmas.Grind.{common_steps}
-use Rattle.std.proofs.Common.{ap, length, arith, rules}
-use Rattle.std.proofs.lemmas.Result.{IfOk-from_err}
-use Rattle.profile_tables.proofs.ReaderLemmas.{few-state}
+use Rattle.std.proofs.Common.{◌≡◌, List, ℕ, Result, Ok, Err, IfOk, OnErr, false, refl, rules, subst, sym}
+use Rattle.std.specs.declared.alloc.AllocError.{AllocError}
+use Rattle.std.proofs.lemmas.Result.{IfOk-weaker}
+use Rattle.stack_core.specs.Reading.{Rest, Steps}
+use Rattle.stack_core.specs.RowSamples.{Awaiting, is_idle, left_with}
+use Rattle.stack_core.specs.declared.readers.Step.{Step}
+use Rattle.profile_tables.specs.State.{State, HasRead}
+use Rattle.profile_tables.specs.checked.View.{HasReadFor, reader_state}
+use Rattle.profile_tables.proofs.NamingLemmas.{read_by, has_read, reads_on}
 use Rattle.profile_tables.proofs.reader.PprofReaderSampleReader.next.Goals as goal
+use Rattle.profile_tables.proofs.reader.PprofReaderSampleReader.next.Goals.{then-is_idle+in_ok-step, else-is_idle}
 
-pub returns-in-Some : goal.returns-in-Some
-returns-in-Some c = search rules
+-- behind a sample that is awaited the tables were read
+pub returns-clause-tables : goal.returns-clause-tables
+returns-clause-tables c =
+    let rows = c.if-is_idle.self-inside.rows in
+    let awaited = c.if-is_idle.self-inside.samples.awaited in
+    let asked : HasReadFor awaited rows = elim c.if-is_idle.branch [ then-is_idle+in_ok-step w ↦ search (rules, read_by) | else-is_idle w ↦ search rules ] in
+    let self : State = reader_state (record { rows = rows; samples = c.give.new.self }) in
+    IfOk-weaker c.give.result _ (HasRead self) (λ given steps. has_read awaited c.give.new.self.awaited rows.told.names rows self given (search rules) asked refl steps) c.give.ensures.step
 
-pub invariant_of-self : goal.invariant_of-self
-invariant_of-self c = search rules
+reads_after : (result : Result Step AllocError) (old new : Awaiting) (names : List (List ℕ)) (rows : State) → is_idle old.awaited ≡ false → HasReadFor old.awaited rows
+    → IfOk result (λ given. (rest : Rest) → Steps (left_with names old.awaited rest) given (left_with names new.awaited rest)) → OnErr result (new ≡ old) → HasReadFor new.awaited rows
+reads_after (Ok given) old new names rows busy read steps refused = reads_on old.awaited new.awaited names rows given busy read steps
+reads_after (Err fault) old new names rows busy read steps refused = subst (λ (samples : Awaiting). HasReadFor samples.awaited rows) (sym refused) read
 
-pub returns-in_err-fault : goal.returns-in_err-fault
-returns-in_err-fault c = record {
-  step = IfOk-from_err _ _ c.from_residual.ensures.0;
-  limits = IfOk-from_err _ _ c.from_residual.ensures.0;
-  refused = search rules;
-  few = few-state c.self.inside _ c.self.view_is (omega (arith, ap length c.as_slice-file.ensures));
-  ended = IfOk-from_err _ _ c.from_residual.ensures.0;
-  repeats = search rules;
-  chosen_type = search rules;
-  tables = IfOk-from_err _ _ c.from_residual.ensures.0;
-}
-
-pub invariant_of-self-in-Some-2 : goal.invariant_of-self-in-Some-2
-invariant_of-self-in-Some-2 c = search rules
-
-pub returns-in-Some-2 : goal.returns-in-Some-2
-returns-in-Some-2 c = search rules
-
-pub unreachable-requires : goal.unreachable-requires
-unreachable-requires c = search rules
-
-pub unreachable-unreachable : goal.unreachable-unreachable
-unreachable-unreachable c = search rules
-
-pub next_step-requires : goal.next_step-requires
-next_step-requires c = search rules
-
-pub invariant_of-self-in_err-step : goal.invariant_of-self-in_err-step
-invariant_of-self-in_err-step c = search rules
-
-pub returns-in_err-step : goal.returns-in_err-step
-returns-in_err-step c = record {
-  step = IfOk-from_err _ _ c.from_residual-in_err-step.ensures.0;
-  limits = IfOk-from_err _ _ c.from_residual-in_err-step.ensures.0;
-  refused = search rules;
-  few = few-state c.self.inside _ c.self.view_is (omega (arith, ap length c.as_slice-file.ensures));
-  ended = IfOk-from_err _ _ c.from_residual-in_err-step.ensures.0;
-  repeats = search rules;
-  chosen_type = search rules;
-  tables = IfOk-from_err _ _ c.from_residual-in_err-step.ensures.0;
-}
-
-pub overflow_add-self-in-Sample : goal.overflow_add-self-in-Sample
-overflow_add-self-in-Sample c = search rules
-
-pub invariant_of-self-in-Sample : goal.invariant_of-self-in-Sample
-invariant_of-self-in-Sample c = search rules
-
-pub invariant_of-self-in-End : goal.invariant_of-self-in-End
-invariant_of-self-in-End c = search rules
-
-pub returns : goal.returns
-returns c = record {
-  step = search rules;
-  limits = search rules;
-  refused = search rules;
-  few = few-state c.self.inside _ c.self.view_is (omega (arith, ap length c.as_slice-file.ensures));
-  ended = search rules;
-  repeats = search rules;
-  chosen_type = search rules;
-  tables = search rules;
-}
-
-pub overflow_add-self : goal.overflow_add-self
-overflow_add-self c = grind (arith, common_steps)
+pub invariant_of-self-2 : goal.invariant_of-self-2
+invariant_of-self-2 c =
+    let rows = c.if-is_idle.self-inside.rows in
+    let samples = c.if-is_idle.self-inside.samples in
+    let asked : HasReadFor samples.awaited rows = elim c.if-is_idle.branch [ then-is_idle+in_ok-step w ↦ search (rules, read_by) | else-is_idle w ↦ search rules ] in
+    record {
+      stacks = search rules;
+      few = search rules;
+      tables = reads_after c.give.result samples c.give.new.self rows.told.names rows (search rules) asked c.give.ensures.step c.give.ensures.refused;
+    }

@@ -1,0 +1,141 @@
+//! What `page/join` takes of page/listening.js. `checks/page_source --write` makes this file.
+
+pub(crate) const TEXT: &str = r##"const TYPING = 150;
+const WIDTH_STEP = 20;
+const LONGEST_CLICK = 4;
+function listenToSearch(viewer) {
+const find = input('find');
+const [by, order] = ['by', 'order'].map((id) => elementOf(id, HTMLSelectElement));
+let waiting = 0;
+const search = () => {
+clearTimeout(waiting);
+const { state } = viewer.view;
+if (find.value !== state.find || by.value !== state.by) viewer.change({ find: find.value, by: by.value }, false);
+};
+find.addEventListener('input', () => {
+clearTimeout(waiting);
+waiting = window.setTimeout(search, TYPING);
+});
+by.addEventListener('change', search);
+order.addEventListener('change', () => viewer.change({ order: order.value }, false));
+element('search').addEventListener('submit', (event) => {
+event.preventDefault();
+search();
+viewer.toMatch(true);
+});
+button('previous').addEventListener('click', () => viewer.toMatch(false));
+find.addEventListener('keydown', (event) => {
+const isPrevious = event.key === 'Enter' && event.shiftKey;
+const isCleared = event.key === 'Escape' && find.value !== '';
+if (!isPrevious && !isCleared) return;
+event.preventDefault();
+if (isCleared) find.value = '';
+search();
+if (isPrevious) viewer.toMatch(false);
+});
+}
+function listenToPrint(viewer) {
+const paper = element('paper');
+window.addEventListener('beforeprint', () => {
+const text = svgOf(viewer.stage.wholeScene(viewer.view, true), true);
+paper.replaceChildren(new DOMParser().parseFromString(text, 'image/svg+xml').documentElement);
+});
+window.addEventListener('afterprint', () => paper.replaceChildren());
+button('print').addEventListener('click', () => window.print());
+}
+function listenToTools(viewer) {
+const [below, snapshot, before, share, heavy] = ['below', 'snapshot', 'before', 'share', 'heavy'].map(input);
+button('back').addEventListener('click', () => viewer.goBack());
+below.addEventListener('change', () => viewer.change({ below: below.checked }, false));
+snapshot.addEventListener('input', () => viewer.turnTo({ drawing: Number(snapshot.value) }));
+before.addEventListener('change', () => viewer.turnTo({ drawing: before.checked ? 0 : 1 }));
+heavy.addEventListener('change', () => viewer.turnTo({ heavy: heavy.checked }));
+button('callers').addEventListener('click', () => viewer.showCallersOfFocus());
+share.addEventListener('change', () => viewer.change({ share: share.checked }, false));
+const scene = () => viewer.stage.wholeScene(viewer.view, false);
+button('save-svg').addEventListener('click', () => saveSvg(scene()));
+button('save-png').addEventListener('click', () => savePng(scene(), (text) => viewer.say(text)));
+}
+function listenToLists(viewer) {
+const divider = element('divider');
+const listed = input('listed');
+const widen = (width) => viewer.change({ lists: draggedWidth(width) }, false);
+let [dragged, begin] = [-1, 0];
+listed.addEventListener('change', () => viewer.change({ lists: listed.checked ? -1 : 0 }, false));
+divider.addEventListener('pointerdown', (event) => {
+divider.setPointerCapture(event.pointerId);
+[dragged, begin] = [listsWidth(), event.clientX];
+event.preventDefault();
+});
+divider.addEventListener('pointermove', (event) => {
+if (dragged >= 0) showLists(draggedWidth(dragged + begin - event.clientX) || 1);
+});
+divider.addEventListener('pointerup', (event) => {
+if (dragged >= 0 && event.clientX !== begin) widen(dragged + begin - event.clientX);
+dragged = -1;
+});
+divider.addEventListener('keydown', (event) => {
+const steps = event.key === 'ArrowLeft' ? 1 : event.key === 'ArrowRight' ? -1 : 0;
+if (steps === 0 || isForBrowser(event)) return;
+event.preventDefault();
+widen(listsWidth() + steps * WIDTH_STEP);
+});
+}
+function listenToPointer(viewer) {
+const { picture } = viewer.stage;
+let frame = 0;
+let pressed = null;
+picture.addEventListener('pointermove', (event) => viewer.hover(viewer.stage.placeUnder(viewer.view, event), event));
+picture.addEventListener('pointerleave', (event) => viewer.hover(null, event));
+picture.addEventListener('pointerdown', (event) => { pressed = event; });
+picture.addEventListener('click', (event) => {
+const moved = pressed ? Math.hypot(event.clientX - pressed.clientX, event.clientY - pressed.clientY) : 0;
+const place = viewer.stage.placeUnder(viewer.view, event);
+pressed = null;
+if (!place || isJoined(place) || moved > LONGEST_CLICK) return;
+const isNaming = event instanceof PointerEvent && event.pointerType === 'touch' && place.box !== viewer.view.state.focus;
+if (isNaming) viewer.focusOn(place.box);
+else viewer.zoomTo(place.box);
+});
+picture.addEventListener('scroll', () => {
+cancelAnimationFrame(frame);
+frame = requestAnimationFrame(() => viewer.refresh());
+});
+}
+function isForBrowser(event) {
+return event.ctrlKey || event.metaKey || event.altKey;
+}
+function listenToKeys(viewer) {
+viewer.stage.picture.addEventListener('keydown', (event) => {
+const { view } = viewer;
+if (view.drawing.count === 0 || isForBrowser(event)) return;
+if (event.key === 'Enter') viewer.zoomTo(view.state.focus);
+else if (event.key === 'c') viewer.showCallersOfFocus();
+else if (isMapKey(event.key)) moveByKey(viewer, event.key);
+else if (/^(Arrow|Home|End)/.test(event.key)) {
+const box = boxByKey(view, event.key);
+if (box >= 0) viewer.focusOn(box);
+} else return;
+event.preventDefault();
+});
+document.addEventListener('keydown', (event) => {
+const at = event.target instanceof Element ? event.target : document.body;
+if (event.key === 'Escape' && !event.defaultPrevented && !at.matches('select')) viewer.goBack();
+if (event.key !== '/' || at.matches('input[type="search"], select') || isForBrowser(event)) return;
+event.preventDefault();
+input('find').focus();
+});
+}
+function listen(viewer) {
+listenToSearch(viewer);
+listenToPrint(viewer);
+listenToTools(viewer);
+listenToLists(viewer);
+listenToPointer(viewer);
+listenToMap(viewer);
+listenToKeys(viewer);
+window.addEventListener('popstate', (event) => viewer.goTo(event));
+new ResizeObserver(() => viewer.refresh()).observe(viewer.stage.picture);
+viewer.stage.darkness.addEventListener('change', () => viewer.paint());
+}
+"##;

@@ -1,0 +1,219 @@
+//! What `page/join` takes of page/viewer.js, main.js. `checks/page_source --write` makes this file.
+
+pub(crate) const TEXT: &str = r##"const REST = 200;
+const DEAD_LINK = 'No box here has the path of this address, so all of them are shown.';
+function isOther(old, view) {
+const isSamePart = old.drawing === view.drawing && old.span.from === view.span.from && old.span.to === view.span.to && old.span.depth === view.span.depth;
+return !isSamePart || old.matches !== view.matches || old.isShare !== view.isShare;
+}
+function focusedFunction({ drawing, state }) {
+if (drawing.count === 0 || isRoot(drawing, state.focus)) return -1;
+const name = drawing.name[state.focus];
+return name === state.callers ? -1 : name;
+}
+class Viewer {
+constructor(page) {
+this.page = page;
+this.stage = new Stage(page);
+this.ring = new Ring(this.stage.picture);
+this.tip = new Tip();
+this.lanes = new LaneStrip(page, (source) => this.change({ ...UNZOOMED, source, focus: 0 }, true));
+this.functions = new FunctionTable(page, (name, isHere) => {
+const { drawing, callers } = this.view.state;
+if (name === callers) this.zoomTo(0);
+else this.showCallers(name, isHere ? drawing : 1 - drawing);
+});
+this.matching = nameMatcher(page.names);
+this.hovered = null;
+this.message = '';
+this.wished = null;
+this.made = '';
+[this.waiting, this.writing] = [0, 0];
+const { state, isDead } = linkedOf(page, wordsOf(location.hash));
+this.view = viewOf(page, this.matching, { ...state, focus: state.box }, null);
+this.showChange(null);
+this.beginStep(isDead);
+}
+statusText() {
+const { view, hovered, message } = this;
+if (hovered) return placeLine(view, hovered);
+return message || (view.drawing.count > 0 ? boxLine(view, view.state.focus) : '');
+}
+showStatus() {
+element('status').textContent = this.statusText();
+}
+say(text) {
+this.message = text;
+this.showStatus();
+}
+hover(place, event) {
+this.hovered = place;
+if (place) this.tip.show(this.view, place, event);
+else this.tip.hide();
+this.showStatus();
+}
+forget() {
+this.hovered = null;
+this.message = '';
+this.tip.hide();
+}
+paint() {
+this.lanes.show(this.view);
+this.stage.paint(this.view);
+this.showFocus();
+}
+showFocus() {
+this.ring.show(this.view);
+button('callers').disabled = focusedFunction(this.view) < 0;
+this.showStatus();
+}
+refresh() {
+if (this.stage.isStale()) this.paint();
+}
+look(state) {
+const old = this.view;
+this.view = viewOf(this.page, this.matching, state, old);
+this.showChange(old);
+}
+showChange(old) {
+const { page, stage, view } = this;
+const { picture } = stage;
+const { drawing, state } = view;
+this.forget();
+showTools(view);
+if (!old || old.state.lists !== state.lists) showLists(state.lists);
+if (!old || old.state.drawing !== state.drawing) showTop(page, page.drawing(state.drawing));
+if (!old || isOther(old, view)) this.showFunctionsSoon();
+this.lanes.show(view);
+stage.makeRoom(view);
+this.showFocus();
+if (state.below !== (old ? old.state.below : false)) picture.scrollTop = state.below ? picture.scrollHeight : 0;
+if (drawing.count > 0 && drawing.centre >= 0 && (!old || old.drawing !== drawing)) stage.centre(view, drawing.row[state.box]);
+else if (!old || old.state.box !== state.box || old.drawing !== drawing) this.revealFocus();
+stage.paint(view);
+}
+showFunctionsSoon() {
+clearTimeout(this.waiting);
+if (this.view.state.from < 0) afterPaint(() => this.showFunctions());
+else this.waiting = window.setTimeout(() => this.showFunctions(), REST);
+}
+showFunctions() {
+const { view, matching } = this;
+const { find, by } = view.state;
+this.functions.show(view, view.matches && matching(find, by));
+}
+lookAt(part) {
+const { state, drawing } = this.view;
+if (!isTimeline(this.page, drawing) || drawing.count === 0) return;
+const isWhole = part.from <= 0 && part.to >= drawing.total;
+this.look({ ...state, ...UNZOOMED, ...(isWhole ? {} : part) });
+clearTimeout(this.writing);
+this.writing = window.setTimeout(() => writeAddress(fragmentOf(this.page, this.view.state), false), REST);
+}
+change(changed, isStep) {
+clearTimeout(this.writing);
+this.look({ ...this.view.state, ...changed });
+const fragment = fragmentOf(this.page, this.view.state);
+if (isStep) this.made = fragment;
+writeAddress(fragment, isStep);
+}
+revealFocus() {
+const { drawing, state } = this.view;
+if (drawing.count > 0) this.stage.reveal(this.view, drawing.row[state.focus]);
+}
+zoomTo(box) {
+const { state } = this.view;
+if (box === state.box && state.source < 0 && state.from < 0) this.change({ focus: box }, false);
+else this.change({ ...UNZOOMED, box, focus: box }, true);
+}
+goBack() {
+const { view } = this;
+if (!isZoomed(view) && view.state.callers < 0) return;
+if (stepsMade() > 0) history.back();
+else this.change({ ...UNZOOMED, callers: -1, focus: 0 }, true);
+}
+showCallers(name, drawing) {
+if (name >= 0) this.change({ ...UNZOOMED, callers: name, drawing, focus: 0 }, true);
+}
+showCallersOfFocus() {
+this.showCallers(focusedFunction(this.view), this.view.state.drawing);
+}
+focusOn(box) {
+this.view = { ...this.view, state: { ...this.view.state, focus: box } };
+this.forget();
+this.revealFocus();
+this.refresh();
+this.showFocus();
+}
+turnTo(choice) {
+const { page, wished } = this;
+const { state, drawing } = this.view;
+const other = page.arranged({ ...state, ...choice });
+const isWished = wished && wished.drawing === drawing && wished.box === state.box;
+const zoomed = isWished ? wished.path : this.pathTo(state.box);
+const find = (path, from) => (other.count ? boxAt(page, other, path, drawing.start[from], isCaller(drawing, from)) : 0);
+const box = find(zoomed, state.box);
+const focus = state.focus === state.box ? box : find(this.pathTo(state.focus), state.focus);
+this.wished = { drawing: other, box, path: zoomed };
+this.change({ ...choice, box, focus }, false);
+}
+showBefore(box) {
+const { page, view } = this;
+const choice = { drawing: 0, callers: -1, heavy: view.state.heavy };
+const there = boxAt(page, page.arranged(choice), pathOf(page, page.drawing(0), box), -1, false);
+this.change({ ...UNZOOMED, ...choice, box: there, focus: there }, true);
+}
+pathTo(box) {
+const { drawing } = this.view;
+return drawing.count ? pathOf(this.page, drawing, box) : [];
+}
+toMatch(isForward) {
+const { drawing, matches, span, state } = this.view;
+if (!matches) return;
+const { focus, order } = state;
+const box = order === 'weight' ? neighbourByWeight(matches, drawing, focus, isForward) : neighbourMatch(matches, focus, isForward);
+if (box < 0) return;
+if (!isInSpan(drawing, box, span)) this.change({ ...UNZOOMED, focus: box }, true);
+this.focusOn(box);
+}
+arrive(words) {
+const { state, isDead } = linkedOf(this.page, words);
+const drawing = this.page.arranged(state);
+const { focus } = this.view.state;
+const isInside = this.view.drawing === drawing && focus >= state.box && focus < drawing.end[state.box];
+this.look({ ...state, focus: isInside ? focus : state.box });
+this.beginStep(isDead);
+}
+beginStep(isDead) {
+if (isDead) this.say(DEAD_LINK);
+this.made = fragmentOf(this.page, this.view.state);
+writeAddress(this.made, false);
+}
+goTo(event) {
+const { hash } = location;
+this.arrive(event.state ? wordsOfStep(hash, this.made, fragmentOf(this.page, this.view.state)) : wordsOf(hash));
+}
+}
+function show(page) {
+element('tools').hidden = false;
+inside(document, 'main').hidden = false;
+afterPaint(() => performance.mark('painted'));
+const viewer = new Viewer(page);
+if (page.view === 'compare') {
+new GoneList(page, (box) => viewer.showBefore(box));
+}
+listen(viewer);
+}
+function openPage() {
+let page;
+try {
+page = pageOf(JSON.parse(element('data').textContent || ''));
+} catch (fault) {
+const why = fault instanceof Error ? fault.message : '';
+element('summary').textContent = `The data of this page cannot be read: ${why}`;
+return;
+}
+show(page);
+}
+openPage();
+"##;

@@ -1,0 +1,88 @@
+//! The texts of the views of a plan, sent while they are made.
+ghost use Rattle.std.specs.Prelude.{◌≡◌, ◌≤◌, None, IfSome, length};
+ghost use Rattle.merged_stacks.specs.Timeline.{samples_of};
+ghost use Rattle.command_line.specs.Plans.{IsComparison};
+ghost use Rattle.source_views.specs.Texts.{told_text};
+ghost use Rattle.sent_views.specs.Pages.{asked_text, called_text};
+ghost use Rattle.opened_sources.specs.Failures.{Flushes, Sends};
+
+use crate::run_facts::{RunFacts, told_whole};
+use byte_io::Outlet;
+use command_line::{CallTable, Plan, View};
+use function_sums::CallSide;
+use opened_sources::Failure;
+use source_lists::SourceLists;
+use source_views::{AskedText, Workers, send_calls, send_view};
+use std::alloc::Global;
+
+/// Sends the text of a plan's view.
+pub fn send_asked_view<H: Workers, W: Outlet>(
+    workers: &H,
+    alloc: Global,
+    sources: &SourceLists,
+    plan: &Plan,
+    facts: &RunFacts,
+    out: &mut W,
+) -> Result<(), Failure>
+    requires pairs { IsComparison plan.now.view → length sources.now.lists ≡ 2 }
+    requires every { IfSome plan.now.options.every (λ every. 1 ≤ every) }
+    ensures sent { Sends (asked_text plan.now facts.now (samples_of sources.now.lists) sources.now.order plan.now.options.every)
+        (W.contents out.old) (W.contents out.new) result }
+    ensures flushed { Flushes (W.is_flushed out.new) (W.failures out.old) (W.failures out.new)
+        result }
+{
+    let asked = AskedText {
+        view: plan.view,
+        every: plan.options.every,
+        whole: told_whole(plan, facts),
+    };
+    send_view(workers, alloc, sources, &asked, out)
+}
+
+/// A function of a plan whose calls are sent.
+#[derive(Clone, Copy)]
+pub struct AskedCalls<'a> {
+    pub plan: &'a Plan,
+    pub facts: &'a RunFacts,
+    pub side: CallSide,
+    pub table: &'a CallTable,
+}
+
+/// Sends the text of the calls that a plan asks for.
+pub fn send_asked_calls<H: Workers, W: Outlet>(
+    workers: &H,
+    alloc: Global,
+    sources: &SourceLists,
+    asked: &AskedCalls<'_>,
+    out: &mut W,
+) -> Result<(), Failure>
+    ensures sent { Sends (called_text asked.now.side asked.now.table.now asked.now.plan.now asked.now.facts.now (samples_of sources.now.lists))
+        (W.contents out.old) (W.contents out.new) result }
+    ensures flushed { Flushes (W.is_flushed out.new) (W.failures out.old) (W.failures out.new)
+        result }
+{
+    let whole = told_whole(asked.plan, asked.facts);
+    send_calls(workers, alloc, sources, asked.side, asked.table, whole, out)
+}
+
+// Sends the text of a view without snapshots.
+pub(crate) fn send_plain_view<H: Workers, W: Outlet>(
+    workers: &H,
+    alloc: Global,
+    sources: &SourceLists,
+    view: View,
+    out: &mut W,
+) -> Result<(), Failure>
+    requires pairs { IsComparison view → length sources.now.lists ≡ 2 }
+    ensures sent { Sends (told_text None view (samples_of sources.now.lists) sources.now.order None)
+        (W.contents out.old) (W.contents out.new) result }
+    ensures flushed { Flushes (W.is_flushed out.new) (W.failures out.old) (W.failures out.new)
+        result }
+{
+    let asked = AskedText {
+        view,
+        every: None,
+        whole: None,
+    };
+    send_view(workers, alloc, sources, &asked, out)
+}

@@ -1,6 +1,0 @@
-use Rattle.std.proofs.Common.{◌≡◌}
-use Rattle.source_views.specs.Filling.{filled}
-use Rattle.source_views.proofs.graph_texts.filled_counts.Given as goal
-
-abbrev pub invariant-loop-source : goal.invariant-loop-source
-invariant-loop-source l = l.filling.items ≡ filled l.source l.counts

@@ -1,0 +1,14 @@
+use Rattle.std.proofs.Common.{subst, ap, map, ℕ, List, ◌∙◌}
+use Rattle.flame_layout.specs.Boxes.{span_of}
+use Rattle.merged_stacks.specs.Timeline.{samples_of}
+use Rattle.merging.specs.Sums.{all_samples}
+use Rattle.opened_sources.specs.Failures.{Sends}
+use Rattle.source_views.proofs.view_text.send_graph.Goals as goal
+
+pub returns-clause-sent : goal.returns-clause-sent
+returns-clause-sent g c = subst (λ (text : List ℕ). Sends text (g.W.Outlet.contents c.args.out.now) (g.W.Outlet.contents c.send.new.out) c.send.result) c.drawn_graph-line.ensures.text c.send.ensures.sent
+
+pub drawn_graph-line-requires : goal.drawn_graph-line-requires
+drawn_graph-line-requires g c = record {
+  boxes = ap (map span_of) c.deref.ensures.value ∙ c.in_ok-boxes.ensures.graph (all_samples (samples_of c.args.sources.now.lists)) c.in_ok-merged.ensures;
+}
