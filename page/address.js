@@ -1,6 +1,7 @@
 // What is looked at, in the fragment of the page's address, so that a link shows the same.
 
-import { boxAt, isCaller, isTimeline, pathOf } from './drawing.js';
+import { hasLanes } from './data.js';
+import { boxAt, isCaller, isTimeline, pathOf, timeOf } from './drawing.js';
 
 /**
  * @typedef {import('./data.js').Choice} Choice
@@ -46,7 +47,7 @@ function zoomWords(page, drawing, state) {
     const zoom = length > LONGEST_PATH ? '' : path.map(encoded).join('/');
     if (length > LONGEST_PATH || zoom.length > 3 * LONGEST_PATH) return [`box=${state.box}`];
     if (isCaller(drawing, state.box)) return [`up=${zoom}`];
-    return isTimeline(page, drawing) ? [`zoom=${zoom}`, `start=${drawing.start[state.box]}`] : [`zoom=${zoom}`];
+    return isTimeline(page, drawing) ? [`zoom=${zoom}`, `start=${timeOf(drawing, state.box)}`] : [`zoom=${zoom}`];
 }
 
 // The part of the fragment that names the function whose callers are looked at; a very long name by its number.
@@ -67,14 +68,16 @@ export function fragmentOf(page, state) {
     if (state.lists >= 0) words.push(`lists=${state.lists}`);
     if (state.share) words.push('share=1');
     if (state.heavy) words.push('heavy=1');
+    if (state.beside) words.push('beside=1');
+    if (state.packages) words.push('colours=package');
     return `#${words.join('&')}`;
 }
 
 // The part of a chart that the words name, of nothing -1.
-/** @type {(words: Words, total: number) => { from: number, to: number }} */
-function partOfWords(words, total) {
+/** @type {(words: Words, length: number) => { from: number, to: number }} */
+function partOfWords(words, length) {
     const [from, to] = ['from', 'to'].map((key) => (/^[0-9]{1,15}(\.[0-9]{1,3})?$/.test(words.get(key) || '') ? Number(words.get(key)) : -1));
-    return from >= 0 && to - from > 0.999 && to <= total ? { from, to } : { from: -1, to: -1 };
+    return from >= 0 && to - from > 0.999 && to <= length ? { from, to } : { from: -1, to: -1 };
 }
 
 // The number that a text is, where that is below the limit, else -1.
@@ -94,17 +97,18 @@ export function wordsOf(fragment) {
 }
 
 // The words of a step to which the browser's history goes. What was set without a step of its own stays as it is now: a search that was
-// typed, the order of its matches, the drawing, where the root is, the width of the lists, whether shares are compared, and whether heavy boxes
-// come first. `made` is the fragment that the step before began with.
+// typed, the order of its matches, the drawing, where the root is, the width of the lists, whether shares are compared, whether heavy boxes come
+// first, whether sources stand side by side, and what colours are by. `made` is the fragment that the step before began with.
 /** @type {(fragment: string, made: string, now: string) => Words} */
 export function wordsOfStep(fragment, made, now) {
     const words = wordsOf(fragment);
     const [wordsMade, wordsNow] = [wordsOf(made), wordsOf(now)];
-    for (const key of ['find', 'by', 'order', 'drawing', 'root', 'lists', 'share', 'heavy']) {
+    for (const key of ['find', 'by', 'order', 'drawing', 'root', 'lists', 'share', 'heavy', 'beside', 'colours']) {
         const kept = wordsNow.get(key);
         if (wordsMade.get(key) === kept) continue;
-        // A number of a box is one of its own drawing, in its order.
-        if (key === 'drawing' || key === 'heavy') words.delete('box');
+        // A number of a box is one of its own drawing, in its order, and a part is one of a timeline.
+        if (['drawing', 'heavy', 'beside'].includes(key)) words.delete('box');
+        if (key === 'beside') words.delete('from');
         if (kept === undefined) words.delete(key);
         else words.set(key, kept);
     }
@@ -127,7 +131,8 @@ function boxOfWords(page, drawing, words) {
 function choiceOfWords(page, words) {
     const number = wholeNumber(words.get('drawing'), page.drawingCount);
     const drawing = number >= 0 ? number : page.drawingCount - 1;
-    const choice = { drawing, callers: -1, heavy: page.view !== 'chart' && words.get('heavy') === '1' };
+    const heavy = page.view !== 'chart' && words.get('heavy') === '1';
+    const choice = { drawing, callers: -1, heavy, beside: hasLanes(page) && words.get('beside') === '1' };
     const name = words.get('callers');
     if (name === undefined && !words.has('function')) return { choice, isLost: false };
     const callers = name === undefined ? wholeNumber(words.get('function'), page.names.length) : page.names.indexOf(decoded(name));
@@ -148,13 +153,14 @@ export function linkedOf(page, words) {
         ...choice,
         source: source >= 0 && page.sources[source].weight > 0 ? source : -1,
         box: Math.max(0, box),
-        ...(isSourced ? partOfWords(words, drawing.total) : { from: -1, to: -1 }),
+        ...(isSourced ? partOfWords(words, drawing.length) : { from: -1, to: -1 }),
         find: decoded(words.get('find') || ''),
         by: by === 'name' || by === 'regexp' ? by : 'text',
         order: words.get('order') === 'weight' ? 'weight' : 'place',
         below: page.isBelow ? words.get('root') !== 'above' : words.get('root') === 'below',
         lists: wholeNumber(words.get('lists'), WIDEST_LISTS),
         share: page.view === 'compare' && words.get('share') === '1',
+        packages: page.view !== 'compare' && words.get('colours') === 'package',
     };
     return { state, isDead: box < 0 };
 }

@@ -1,4 +1,6 @@
-// Colours: by a hash of the name, or by the change between two profiles; light and dark.
+// Colours: by a hash of the name and its package, or by the change between two profiles; light and dark.
+
+import { packageOf } from './short.js';
 
 /**
  * @typedef {object} Colours
@@ -81,12 +83,19 @@ export function nameShade(name) {
     return Math.floor(spread / 65536) % (HUES * SHADES);
 }
 
+// The place of a name's colour by its package: with the hue that the package would have as a name, and as light as the name's own.
+/** @type {(name: string) => number} */
+export function packageShade(name) {
+    const hue = nameShade(packageOf(name)) % HUES;
+    return Math.floor(nameShade(name) / HUES) * HUES + hue;
+}
+
 // For the number of each name the place of its colour. A name is hashed when it is first seen.
-/** @type {(names: string[]) => (name: number) => number} */
-export function nameShades(names) {
+/** @type {(names: string[], shadeOf: (name: string) => number) => (name: number) => number} */
+export function nameShades(names, shadeOf) {
     const shades = new Int16Array(names.length).fill(-1);
     return (name) => {
-        if (shades[name] < 0) shades[name] = nameShade(names[name]);
+        if (shades[name] < 0) shades[name] = shadeOf(names[name]);
         return shades[name];
     };
 }

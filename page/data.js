@@ -1,9 +1,10 @@
 // What the document says.
 
+import { besideOf } from './beside.js';
 import { callersOf } from './callers.js';
 import { drawingOf } from './drawing.js';
 import { leftHeavy } from './heaviest.js';
-import { commonUnit } from './units.js';
+import { commonUnit, weighty } from './units.js';
 
 /**
  * @typedef {import('./drawing.js').Drawing} Drawing
@@ -32,9 +33,16 @@ import { commonUnit } from './units.js';
  */
 
 /**
- * What a reader looks at: a drawing, of it all or the callers and callees of a function by its name (-1 for none), and whether heavy boxes come first.
- * @typedef {{ drawing: number, callers: number, heavy: boolean }} Choice
+ * What a reader looks at: a drawing, of it all or the callers and callees of a function by its name (-1 for none), whether heavy boxes come first,
+ * and whether the sources of a chart stand side by side.
+ * @typedef {{ drawing: number, callers: number, heavy: boolean, beside: boolean }} Choice
  */
+
+// Whether there are sources that can stand side by side.
+/** @type {(page: Page) => boolean} */
+export function hasLanes(page) {
+    return page.view === 'chart' && weighty(page.sources).length > 1;
+}
 
 // Gives each drawing by its number. It is made when it is first asked for, and its columns are let go.
 /** @type {(columns: any[]) => (number: number) => Drawing} */
@@ -51,19 +59,21 @@ function drawingsOf(columns) {
 }
 
 // Gives the drawings that are chosen, and keeps the last of those that it makes.
-/** @type {(drawing: (number: number) => Drawing, isComparison: boolean, nameCount: number) => (choice: Choice) => Drawing} */
-function arranging(drawing, isComparison, nameCount) {
-    /** @type {Choice & { made: Drawing | null }} */
-    let last = { drawing: 0, callers: -1, heavy: false, made: null };
-    return (choice) => {
-        const { drawing: number, callers, heavy } = choice;
+/** @type {(drawing: (number: number) => Drawing, sources: Source[], isComparison: boolean, nameCount: number) => (choice: Choice) => Drawing} */
+function arranging(drawing, sources, isComparison, nameCount) {
+    /** @type {Drawing | null} */
+    let last = null;
+    let asked = '';
+    return ({ drawing: number, callers, heavy, beside }) => {
         const base = drawing(number);
-        if (callers < 0 && !heavy) return base;
-        if (last.made && last.drawing === number && last.callers === callers && last.heavy === heavy) return last.made;
+        if (callers < 0 && !heavy && !beside) return base;
+        const key = callers < 0 ? `${number} ${beside}` : `${number} callers ${callers}`;
+        if (last && asked === key) return last;
         const there = isComparison ? drawing(1 - number) : null;
-        const made = callers < 0 ? leftHeavy(base) : callersOf(base, there, callers, nameCount);
-        last = { drawing: number, callers, heavy, made };
-        return made;
+        const arranged = () => (beside ? besideOf(base, sources) : leftHeavy(base));
+        last = callers < 0 ? arranged() : callersOf(base, there, callers, nameCount);
+        asked = key;
+        return last;
     };
 }
 
@@ -91,6 +101,6 @@ export function pageOf(data) {
         isBelow: data.root_below === true,
         drawingCount: data.drawings.length,
         drawing,
-        arranged: arranging(drawing, data.view === 'compare', data.names.length),
+        arranged: arranging(drawing, sources, data.view === 'compare', data.names.length),
     };
 }

@@ -1,5 +1,6 @@
 // The boxes of a drawing in memory: the document's columns as typed arrays, and what follows from them.
 
+import { firstPlace } from './bisect.js';
 import { rowsOf } from './rows.js';
 
 /**
@@ -10,14 +11,17 @@ import { rowsOf } from './rows.js';
 /**
  * What can be looked at: a flame graph, a snapshot of one, a chart, or one of the two graphs of a comparison. A box is a number below `count`;
  * the columns have its depth, the number of its name, and its weights. `end` is the first box after it that does not stand on it. The callers and
- * callees of a function are a drawing, too, whose first box is the function: `depth` is how far a box is from it.
+ * callees of a function are a drawing, too, whose first box is the function: `depth` is how far a box is from it. So are the sources of a chart
+ * side by side, each a band, in which `start` is counted from where the source begins.
  * @typedef {object} Drawing
  * @property {number} number which of the page's drawings it is made of
  * @property {number} centre the name of the function whose callers and callees it has, -1 in others
  * @property {number} callees the first box that is no caller of the first one
  * @property {number | undefined} at how many samples were taken, in snapshots
  * @property {number[] | undefined} counts how many of them are of each source, in snapshots
+ * @property {Band[]} bands
  * @property {number} total
+ * @property {number} length how far its boxes go from 0 on: the total, or what the heaviest of its bands weighs
  * @property {number} least
  * @property {{ boxes: number, weight: number }} leftOut
  * @property {number} count
@@ -34,7 +38,12 @@ import { rowsOf } from './rows.js';
  * @property {Int32Array} end
  */
 
-/** @typedef {Pick<Drawing, 'number' | 'centre' | 'callees' | 'at' | 'counts' | 'total' | 'least' | 'leftOut'>} About */
+/**
+ * A source that stands beside others: its number, its weight, where it begins in the chart, its boxes, the root first, and its rows.
+ * @typedef {{ source: number, weight: number, start: number, first: number, end: number, row: number, rowCount: number }} Band
+ */
+
+/** @typedef {Omit<Drawing, keyof Columns | 'count' | 'rowCount' | 'rows' | 'parent' | 'end'>} About */
 /** @typedef {Pick<Drawing, 'depth' | 'row' | 'name' | 'start' | 'weight' | 'own' | 'other'>} Columns */
 
 /** @type {(count: number) => Int32Array} */
@@ -74,7 +83,7 @@ export function drawingWith(about, columns) {
 export function drawingOf(columns, number) {
     const { at, counts, total, least, left_out: leftOut } = columns;
     const depth = new Int32Array(columns.depth);
-    return drawingWith({ number, centre: -1, callees: 1, at, counts, total, least, leftOut }, {
+    return drawingWith({ number, centre: -1, callees: 1, bands: [], at, counts, total, length: total, least, leftOut }, {
         depth,
         row: depth,
         name: new Int32Array(columns.name),
@@ -97,6 +106,38 @@ export function isCaller(drawing, box) {
     return box > 0 && box < drawing.callees;
 }
 
+/** @type {(drawing: Drawing) => boolean} */
+export function isBeside(drawing) {
+    return drawing.bands.length > 0;
+}
+
+// The band that has a row.
+/** @type {(drawing: Drawing, row: number) => Band | undefined} */
+export function bandOf({ bands }, row) {
+    return bands[firstPlace(0, bands.length, (each) => bands[each].row > row) - 1];
+}
+
+// The source of which a box is the root, -1 where it is none's.
+/** @type {(drawing: Drawing, box: number) => number} */
+export function sourceOf(drawing, box) {
+    const band = isRoot(drawing, box) ? bandOf(drawing, drawing.row[box]) : undefined;
+    return band ? band.source : -1;
+}
+
+// What a box is called: the root of a source that stands beside others has its name.
+/** @type {(page: Page, drawing: Drawing, box: number) => string} */
+export function nameOf(page, drawing, box) {
+    const source = sourceOf(drawing, box);
+    return source < 0 ? page.names[drawing.name[box]] : page.sources[source].name;
+}
+
+// Where a box begins where all sources stand one after another.
+/** @type {(drawing: Drawing, box: number) => number} */
+export function timeOf(drawing, box) {
+    const band = bandOf(drawing, drawing.row[box]);
+    return drawing.start[box] + (band ? band.start : 0);
+}
+
 // Whether it goes by time.
 /** @type {(page: Page, drawing: Drawing) => boolean} */
 export function isTimeline(page, drawing) {
@@ -116,12 +157,22 @@ export function pathOf(page, drawing, box) {
     return path.reverse();
 }
 
-// The box of the path, or the last on the way to it. Of boxes with the same path, as charts have them, the one at that start is meant. The path is
+// The boxes of which a path may begin, and where they stand from 0 on: callers of a function, or others, or those of the source at that time.
+/** @type {(drawing: Drawing, time: number, isUp: boolean) => { first: number, end: number, zero: number }} */
+function beginningsOf(drawing, time, isUp) {
+    const { bands } = drawing;
+    const band = bands[Math.max(0, firstPlace(0, bands.length, (each) => bands[each].start > time) - 1)];
+    if (band) return { first: band.first + 1, end: band.end, zero: band.start };
+    return isUp ? { first: 1, end: drawing.callees, zero: 0 } : { first: drawing.callees, end: drawing.count, zero: 0 };
+}
+
+// The box of the path, or the last on the way to it. Of boxes with the same path, as charts have them, the one at that time is meant. The path is
 // one of callers of a function, or not.
-/** @type {(page: Page, drawing: Drawing, path: string[], start: number, isUp: boolean) => number} */
-export function boxAt(page, drawing, path, start, isUp) {
+/** @type {(page: Page, drawing: Drawing, path: string[], time: number, isUp: boolean) => number} */
+export function boxAt(page, drawing, path, time, isUp) {
     let found = 0;
-    let [first, end] = isUp ? [1, drawing.callees] : [drawing.callees, drawing.count];
+    let { first, end, zero } = beginningsOf(drawing, time, isUp);
+    const start = time - zero;
     for (const name of path) {
         let fallback = -1;
         let exact = -1;

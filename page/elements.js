@@ -52,6 +52,13 @@ export function nameButton(text, action) {
     return made;
 }
 
+// Has something said while the pointer or the focus is on an element, and nothing after that.
+/** @type {(on: HTMLElement, textOf: () => string, say: (text: string) => void) => void} */
+export function sayAbout(on, textOf, say) {
+    for (const kind of ['pointerenter', 'focusin']) on.addEventListener(kind, () => say(textOf()));
+    for (const kind of ['pointerleave', 'focusout']) on.addEventListener(kind, () => say(''));
+}
+
 /** @type {(list: HTMLElement, texts: string[]) => void} */
 export function showItems(list, texts) {
     list.replaceChildren(...texts.map((text) => withText('li', text)));

@@ -2,7 +2,7 @@
 
 import { firstPlace } from './bisect.js';
 import { boxLine } from './describe.js';
-import { endOf } from './drawing.js';
+import { bandOf, endOf, isRoot, sourceOf } from './drawing.js';
 import { element } from './elements.js';
 import { ROW_HEIGHT, rowTop } from './rows.js';
 import { edgesOf, inRow, isInSpan, spanOfRow } from './spans.js';
@@ -10,6 +10,7 @@ import { edgesOf, inRow, isInSpan, spanOfRow } from './spans.js';
 /**
  * @typedef {import('./drawing.js').Drawing} Drawing
  * @typedef {import('./spans.js').Span} Span
+ * @typedef {import('./view.js').State} State
  * @typedef {import('./view.js').View} View
  */
 
@@ -74,11 +75,27 @@ export class Ring {
         const row = drawing.row[state.focus];
         const [first, stop] = [drawing.rows.first[row], drawing.rows.first[row + 1]];
         ring.setAttribute('aria-label', text);
-        ring.setAttribute('aria-level', String(row + 1));
+        ring.setAttribute('aria-level', String(row - (bandOf(drawing, row)?.row || 0) + 1));
         ring.setAttribute('aria-setsize', String(stop - first));
         ring.setAttribute('aria-posinset', String(placeInRow(drawing, state.focus) - first + 1));
         ring.setAttribute('aria-selected', 'true');
     }
+}
+
+// The box that has the focus where that was asked for: what is zoomed, where the other is outside of it.
+/** @type {(drawing: Drawing, state: Pick<State, 'source' | 'box'>, asked: number) => number} */
+export function focusIn(drawing, { source, box }, asked) {
+    const inside = { first: box, end: box === 0 ? drawing.count : drawing.end[box] };
+    const { first, end } = drawing.bands.find((band) => band.source === source) || inside;
+    return asked >= first && asked < end ? asked : first;
+}
+
+// The name of the focused box, -1 where that is no function, or the one whose callers are looked at.
+/** @type {(view: View) => number} */
+export function focusedFunction({ drawing, state }) {
+    if (drawing.count === 0 || isRoot(drawing, state.focus)) return -1;
+    const name = drawing.name[state.focus];
+    return name === state.callers ? -1 : name;
 }
 
 // The box to which a key leads from the focused one, or -1.
@@ -90,6 +107,7 @@ export function boxByKey(view, key) {
     const { from, to } = inRow(drawing, row, span);
     /** @type {(at: number) => number} */
     const seen = (at) => (at >= from && at < to ? drawing.rows.order[at] : -1);
+    if (sourceOf(drawing, box) >= 0 && !/Up|Down/.test(key)) return rootBeside(view, key);
     const behind = state.below ? 'ArrowUp' : 'ArrowDown';
     if (key === 'ArrowUp' || key === 'ArrowDown') return boxBeside(drawing, box, span, key === behind ? row + 1 : row - 1);
     if (key === 'ArrowLeft') return seen(placeInRow(drawing, box) - 1);
@@ -97,6 +115,15 @@ export function boxByKey(view, key) {
     if (key === 'Home') return seen(from);
     if (key === 'End') return seen(to - 1);
     return -1;
+}
+
+// The root to which a key leads from that of a source that stands beside others, or -1.
+/** @type {(view: View, key: string) => number} */
+function rootBeside({ drawing, span, state }, key) {
+    const roots = drawing.bands.map(({ first }) => first).filter((each) => isInSpan(drawing, each, span));
+    const at = roots.indexOf(state.focus);
+    const wanted = { ArrowLeft: at - 1, ArrowRight: at + 1, Home: 0, End: roots.length - 1 }[key] ?? -1;
+    return roots[wanted] ?? -1;
 }
 
 // In the row before or behind that of a box the one on which it stands, or else the heaviest of those that stand on it and are seen, or -1.

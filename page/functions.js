@@ -1,9 +1,9 @@
 // The table of functions: the weights of each name in what is zoomed, of those that match.
 
 import { boxAt, comparedOf, pathOf, upTo } from './drawing.js';
-import { button, element, elementOf, inside, nameButton, withText } from './elements.js';
+import { button, element, elementOf, inside, nameButton, sayAbout, withText } from './elements.js';
 import { described, nameText, shortened } from './names.js';
-import { spanOf } from './spans.js';
+import { spanOf, zoomedWeight } from './spans.js';
 import { sumsOf } from './sums.js';
 import { changeText, differenceText, exactText, percentText, separated, weightText } from './units.js';
 import { isZoomed, wholeOf } from './view.js';
@@ -56,14 +56,16 @@ function headingText(view, isMatching) {
 }
 
 export class FunctionTable {
-    // `onChoose` is told the name that is clicked, and whether the drawing has it.
+    // `onChoose` is told the name that is clicked, and whether the drawing has it, and `say` the exact weights of what is pointed at.
     /**
      * @param {Page} page
      * @param {(name: number, isHere: boolean) => void} onChoose
+     * @param {(text: string) => void} say
      */
-    constructor(page, onChoose) {
+    constructor(page, onChoose, say) {
         this.page = page;
         this.onChoose = onChoose;
+        this.say = say;
         const section = element('functions');
         this.body = inside(section, 'tbody');
         this.more = button('functions-more');
@@ -99,7 +101,7 @@ export class FunctionTable {
         const isMarked = matching !== null && by === 'name';
         this.marked = callers >= 0 ? view.page.names[callers] : isMarked ? find : null;
         this.isShare = view.isShare;
-        this.whole = isZoomed(view) ? view.span.to - view.span.from : view.drawing.total;
+        this.whole = isZoomed(view) ? zoomedWeight(view.drawing, view.span.row, view.span) : view.drawing.total;
         this.rows = functionRows(view, isMarked ? null : matching);
         element('functions-title').textContent = headingText(view, matching !== null && !isMarked);
         this.showSorted();
@@ -172,6 +174,7 @@ export class FunctionTable {
         first.append(chosen);
         const row = document.createElement('tr');
         if (names[name] === this.marked) row.setAttribute('aria-current', 'true');
+        sayAbout(row, () => this.exactLine(name), this.say);
         row.append(first, ...(compared ? this.comparedCells(name) : [here.own, here.total].flatMap((sums) => this.weightCells(sums[name]))));
         return row;
     }
@@ -180,9 +183,19 @@ export class FunctionTable {
     /** @type {(weight: number) => HTMLTableCellElement[]} */
     weightCells(weight) {
         const { unit } = this.page;
-        const cells = [weightText(weight, unit), percentText(weight, this.whole)].map((text) => withText('td', text));
-        for (const cell of cells) cell.title = exactText(weight, unit);
-        return cells;
+        return [weightText(weight, unit), percentText(weight, this.whole)].map((text) => withText('td', text));
+    }
+
+    // What the line below the picture says of a function: its name and its exact weights.
+    /** @type {(name: number) => string} */
+    exactLine(name) {
+        const { here, compared } = this.rows;
+        /** @type {(weight: number) => string} */
+        const told = (weight) => exactText(weight, this.page.unit);
+        const { before, after } = this.bothOf(name);
+        const kind = this.kind.value === 'total' ? 'total' : 'own';
+        const weights = compared ? [`${kind} before ${told(before)}`, `after ${told(after)}`] : [`own ${told(here.own[name])}`, `total ${told(here.total[name])}`];
+        return [shortened(this.page.names[name], 300) || '(empty name)', ...weights].join(' · ');
     }
 
     // The weights before and after, and the change, as a weight and in percent.
@@ -194,10 +207,9 @@ export class FunctionTable {
         const compared = comparedOf(page, isShare, { before, after });
         const weights = [weightText(before, unit), weightText(after, unit), differenceText(before, after, unit)];
         const texts = isShare ? this.shareTexts(before, after) : weights;
-        const cells = [...texts, changeText(compared.before, compared.after)].map((text) => withText('td', text));
-        for (const cell of cells) cell.title = `before ${exactText(before, unit)}, after ${exactText(after, unit)}`;
-        return cells;
+        return [...texts, changeText(compared.before, compared.after)].map((text) => withText('td', text));
     }
+
     // The shares before and after, and how much larger the second is, all in percents of the wholes.
     /** @type {(before: number, after: number) => string[]} */
     shareTexts(before, after) {

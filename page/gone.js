@@ -1,8 +1,8 @@
 // The paths that only the profile before has.
 
 import { pathOf } from './drawing.js';
-import { button, element, nameButton, withText } from './elements.js';
-import { described, nameText } from './names.js';
+import { button, element, nameButton, sayAbout, withText } from './elements.js';
+import { described, nameText, shortened } from './names.js';
 import { exactText, percentText, separated, weightText } from './units.js';
 
 /**
@@ -34,10 +34,12 @@ export class GoneList {
     /**
      * @param {Page} page
      * @param {(box: number) => void} onChoose
+     * @param {(text: string) => void} say
      */
-    constructor(page, onChoose) {
+    constructor(page, onChoose, say) {
         this.page = page;
         this.onChoose = onChoose;
+        this.say = say;
         this.before = page.drawing(0);
         this.list = element('gone-list');
         this.more = button('gone-more');
@@ -54,7 +56,7 @@ export class GoneList {
         const { before, boxes, page } = this;
         if (boxes.length === 0) return 'Each path of the profile before is in the profile after.';
         const vanished = boxes.reduce((sum, box) => sum + before.weight[box], 0);
-        const much = `${exactText(vanished, page.unit)}, ${percentText(vanished, before.total)} of the profile before`;
+        const much = `${weightText(vanished, page.unit)}, ${percentText(vanished, before.total)} of the profile before`;
         const others = rest === 0 ? '' : ` ${separated(rest)} more went with ${boxes.length === 1 ? 'it' : 'them'}.`;
         return `${separated(boxes.length)} ${boxes.length === 1 ? 'path' : 'paths'}, together ${much}.${others}`;
     }
@@ -69,10 +71,19 @@ export class GoneList {
         const chosen = nameButton('', () => this.onChoose(box));
         const texts = [`${weightText(weight, page.unit)}  `, callers.join(''), nameText(page.names[before.name[box]])];
         chosen.append(...texts.map((text) => withText('span', text)));
-        chosen.title = `${exactText(weight, page.unit)}, own ${exactText(before.own[box], page.unit)}: ${described(path.join(' › '))}`;
+        chosen.title = described(path.join(' › '));
+        sayAbout(chosen, () => this.exactLine(box), this.say);
         const entry = document.createElement('li');
         entry.append(chosen);
         return entry;
+    }
+
+    // What the line below the picture says of a path: its last name, and its exact weights.
+    /** @type {(box: number) => string} */
+    exactLine(box) {
+        const { before, page } = this;
+        const [weight, own] = [before.weight[box], before.own[box]].map((each) => exactText(each, page.unit));
+        return [shortened(page.names[before.name[box]], 300) || '(empty name)', `before ${weight}`, `own ${own}`].join(' · ');
     }
 
     showMore() {

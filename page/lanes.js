@@ -1,11 +1,12 @@
 // The sources of a chart above it, each as wide as its part of the timeline, and the axis. A click zooms to a source.
 
 import { ticksOf } from './axis.js';
-import { isTimeline } from './drawing.js';
-import { element, nameButton, withText } from './elements.js';
+import { isBeside, isTimeline } from './drawing.js';
+import { element, nameButton, sayAbout, withText } from './elements.js';
 import { described, shortened } from './names.js';
+import { sourceText } from './notices.js';
 import { lanesOf } from './spans.js';
-import { exactText } from './units.js';
+import { exactText, weightText } from './units.js';
 
 /**
  * @typedef {import('./data.js').Page} Page
@@ -19,8 +20,9 @@ export class LaneStrip {
     /**
      * @param {Page} page
      * @param {(source: number) => void} onChoose
+     * @param {(text: string) => void} say
      */
-    constructor(page, onChoose) {
+    constructor(page, onChoose, say) {
         this.page = page;
         this.strip = element('lanes');
         this.axis = element('axis');
@@ -29,7 +31,8 @@ export class LaneStrip {
         if (page.view !== 'chart') return;
         for (const [number, source] of page.sources.entries()) {
             const lane = nameButton(shortened(source.name, 300), () => onChoose(number));
-            lane.title = `${described(source.name)}: ${exactText(source.weight, source.unit)}`;
+            lane.title = `${described(source.name)}: ${weightText(source.weight, source.unit)}`;
+            sayAbout(lane, () => sourceText(source, exactText), say);
             this.strip.append(lane);
             this.buttons.push(lane);
         }
@@ -37,8 +40,8 @@ export class LaneStrip {
 
     /** @type {(view: View) => void} */
     show(view) {
-        this.strip.hidden = !isTimeline(this.page, view.drawing);
-        this.axis.hidden = this.strip.hidden;
+        this.axis.hidden = !isTimeline(this.page, view.drawing);
+        this.strip.hidden = this.axis.hidden || isBeside(view.drawing);
         this.showAxis(view);
         const seen = new Map(lanesOf(this.page, view.drawing, view.span, this.strip.clientWidth).map((lane) => [lane.number, lane]));
         for (const [number, button] of this.buttons.entries()) {
@@ -54,7 +57,7 @@ export class LaneStrip {
 
     /** @type {(view: View) => void} */
     showAxis(view) {
-        const ticks = ticksOf(this.page, view.drawing, view.span, this.strip.clientWidth);
+        const ticks = ticksOf(this.page, view.drawing, view.span, this.axis.clientWidth);
         this.axis.replaceChildren(...ticks.map(({ left, text }) => {
             const tick = withText('span', text);
             tick.style.left = `${Math.round(left)}px`;

@@ -15,7 +15,7 @@ function show(page) {
     afterPaint(() => performance.mark('painted'));
     const viewer = new Viewer(page);
     if (page.view === 'compare') {
-        new GoneList(page, (box) => viewer.showBefore(box));
+        new GoneList(page, (box) => viewer.showBefore(box), viewer.pointAt);
     }
     listen(viewer);
 }

@@ -29,7 +29,7 @@ function isMap({ page, view }) {
 function widen(viewer, across, times) {
     const { left } = viewer.stage.picture.getBoundingClientRect();
     const { span, drawing } = viewer.view;
-    viewer.lookAt(widened(span, drawing.total, (across - left) / viewer.stage.picture.clientWidth, times));
+    viewer.lookAt(widened(span, drawing.length, (across - left) / viewer.stage.picture.clientWidth, times));
 }
 
 // Moves what is seen by so many pixels.
@@ -38,7 +38,7 @@ function drag(viewer, across, down) {
     const { span, drawing } = viewer.view;
     const { picture } = viewer.stage;
     picture.scrollTop += down;
-    if (across !== 0) viewer.lookAt(moved(span, drawing.total, across / picture.clientWidth));
+    if (across !== 0) viewer.lookAt(moved(span, drawing.length, across / picture.clientWidth));
 }
 
 /** @type {(key: string) => key is keyof typeof KEYS} */
@@ -51,7 +51,7 @@ export function moveByKey(viewer, key) {
     if (!isMap(viewer)) return;
     const { span, drawing } = viewer.view;
     const isMove = key === '<' || key === '>';
-    viewer.lookAt(isMove ? moved(span, drawing.total, KEYS[key]) : widened(span, drawing.total, 0.5, KEYS[key]));
+    viewer.lookAt(isMove ? moved(span, drawing.length, KEYS[key]) : widened(span, drawing.length, 0.5, KEYS[key]));
 }
 
 /** @type {(viewer: Viewer) => void} */

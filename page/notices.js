@@ -1,7 +1,7 @@
 // What is said of the page: how much there is, of what, and what has to be known of it.
 
 import { shortened, visible } from './names.js';
-import { changeText, exactText, percentText, separated, weightText, weighty } from './units.js';
+import { changeText, percentText, separated, weightText, weighty } from './units.js';
 
 /**
  * @typedef {import('./data.js').Page} Page
@@ -18,17 +18,17 @@ export function summaryText(page, drawing) {
     const boxes = `${separated(drawing.count)} ${drawing.count === 1 ? 'box' : 'boxes'}`;
     if (page.view === 'compare') {
         const [before, after] = page.sources.map((source) => source.weight);
-        const weights = `before ${exactText(before, page.unit)}, after ${exactText(after, page.unit)}${type}`;
+        const weights = `before ${weightText(before, page.unit)}, after ${weightText(after, page.unit)}${type}`;
         return `Comparison: ${weights}, ${changeText(before, after)}; ${boxes}`;
     }
     const kind = page.view === 'graph' ? 'Flame graph' : 'Flame chart';
-    return `${kind} of ${files}: ${exactText(drawing.total, page.unit)}${type}, ${boxes}`;
+    return `${kind} of ${files}: ${weightText(drawing.total, page.unit)}${type}, ${boxes}`;
 }
 
-/** @type {(source: Source) => string} */
-export function sourceText(source) {
+/** @type {(source: Source, tell: (weight: number, unit: string) => string) => string} */
+export function sourceText(source, tell) {
     const type = source.type === '' ? '' : ` of ${visible(source.type)}`;
-    return `${shortened(source.name, 300)}: ${exactText(source.weight, source.unit)}${type}`;
+    return `${shortened(source.name, 300)}: ${tell(source.weight, source.unit)}${type}`;
 }
 
 /** @type {(page: Page) => string} */
@@ -49,7 +49,7 @@ function filterNotice(page) {
     const share = percentText(page.kept, page.whole);
     const kept = share === '100%' ? 'more than 99.9%' : share;
     const whole = page.view === 'compare' ? 'the whole of both profiles' : 'the whole';
-    return `A filter keeps ${kept} of ${whole}: ${exactText(page.kept, page.unit)} of ${exactText(page.whole, page.unit)}.`;
+    return `A filter keeps ${kept} of ${whole}: ${weightText(page.kept, page.unit)} of ${weightText(page.whole, page.unit)}.`;
 }
 
 // How much of a drawing the page does not have, empty where it has all of it.
@@ -57,7 +57,7 @@ function filterNotice(page) {
 function leftOutNotice(page, drawing, of) {
     const { boxes, weight } = drawing.leftOut;
     if (boxes === 0) return '';
-    const many = `${separated(boxes)} ${boxes === 1 ? 'box' : 'boxes'} of together ${exactText(weight, page.unit)}`;
+    const many = `${separated(boxes)} ${boxes === 1 ? 'box' : 'boxes'} of together ${weightText(weight, page.unit)}`;
     return `Left out${of}: ${many}, each lighter than ${weightText(drawing.least, page.unit)}. Neither the search nor the lists count them.`;
 }
 

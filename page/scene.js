@@ -3,7 +3,7 @@
 import { ticksOf } from './axis.js';
 import { changeShade } from './colours.js';
 import { placeTitle } from './describe.js';
-import { bothWeights, comparedOf, isTimeline } from './drawing.js';
+import { bandOf, bothWeights, comparedOf, isBeside, isTimeline, sourceOf } from './drawing.js';
 import { PAD } from './lettering.js';
 import { isJoined, placesOf } from './places.js';
 import { ROW_HEIGHT, rowAt, rowTop } from './rows.js';
@@ -50,9 +50,8 @@ import { changeText } from './units.js';
  * @property {(titleOf: () => string, paint: () => void) => void} entitled
  */
 
-export const LANE_HEIGHT = 22;
-export const AXIS_HEIGHT = 16;
-
+const LANE_HEIGHT = 22;
+const AXIS_HEIGHT = 16;
 const TICK_HEIGHT = 12;
 
 // A text is as wide as this at least.
@@ -97,23 +96,34 @@ function paintPlace(painter, scene, place, top) {
     }
     const { fill, ink } = coloursFor(scene, box);
     painter.rectangle(begin, top, end - begin, ROW_HEIGHT - 1, fill);
-    if (right - left < TEXT_FROM) return;
+    if (right - left < TEXT_FROM || sourceOf(scene.drawing, box) >= 0) return;
     const text = scene.lettering.textFor(scene.drawing.name[box], addedText(scene, box), right - left);
     if (text) painter.text(left + PAD, top + ROW_HEIGHT / 2, text, ink);
+}
+
+// The name of a source that stands beside others, in the row of its root, which has nothing else: so there is room for it, however short the source.
+/** @type {(painter: Painter, scene: Scene, row: number, top: number) => void} */
+function paintSource(painter, scene, row, top) {
+    const band = bandOf(scene.drawing, row);
+    if (!band || band.row !== row) return;
+    const text = scene.sourceLettering.textFor(band.source, '', scene.width);
+    if (text) painter.text(PAD, top + ROW_HEIGHT / 2, text, coloursFor(scene, band.first).ink);
 }
 
 /** @type {(painter: Painter, scene: Scene, row: number) => void} */
 function paintRow(painter, scene, row) {
     const top = scene.lanes + rowTop(scene.rowCount, row, scene.below) - scene.top;
+    if (top >= scene.lanes + scene.height) return;
     for (const place of placesOf(scene.drawing, row, scene.span, scene.width)) {
         painter.entitled(() => placeTitle(scene, place), () => paintPlace(painter, scene, place, top));
     }
+    paintSource(painter, scene, row, top);
 }
 
 // Where one source of a chart ends and the next begins.
 /** @type {(painter: Painter, scene: Scene) => void} */
 function paintBoundaries(painter, scene) {
-    if (!isTimeline(scene.page, scene.drawing)) return;
+    if (!isTimeline(scene.page, scene.drawing) || isBeside(scene.drawing)) return;
     const { span, width, lanes } = scene;
     for (const source of scene.page.sources.slice(1)) {
         if (source.start <= span.from || source.start >= span.to) continue;
@@ -131,13 +141,21 @@ function paintLanes(painter, scene) {
     }
 }
 
-// The axis between the sources and the rows.
+// The axis over the rows.
 /** @type {(painter: Painter, scene: Scene) => void} */
 function paintAxis(painter, scene) {
+    const top = scene.lanes - AXIS_HEIGHT;
     for (const { left, text } of ticksOf(scene.page, scene.drawing, scene.span, scene.width)) {
-        painter.upright(left, LANE_HEIGHT, TICK_HEIGHT, scene.colours.line);
-        painter.text(left + PAD, LANE_HEIGHT + TICK_HEIGHT / 2, text, scene.colours.ink);
+        painter.upright(left, top, TICK_HEIGHT, scene.colours.line);
+        painter.text(left + PAD, top + TICK_HEIGHT / 2, text, scene.colours.ink);
     }
+}
+
+// How much room there is above the rows of a picture that is saved, for the sources and the axis of a chart.
+/** @type {(page: Page, drawing: Drawing) => number} */
+export function lanesHeight(page, drawing) {
+    if (!isTimeline(page, drawing)) return 0;
+    return isBeside(drawing) ? AXIS_HEIGHT : LANE_HEIGHT + AXIS_HEIGHT;
 }
 
 /** @type {(painter: Painter, scene: Scene) => void} */

@@ -1,5 +1,5 @@
-// Shorter forms of a name, by its characters alone. First goes where it stands in a file, then its package path, part by part, then what stands in
-// brackets, then what it is a part of. What is left is cut at its end, by whoever has too little room for that.
+// Shorter forms of a name and its package, by its characters alone. First goes where it stands in a file, then its package path, part by part, then
+// what stands in brackets, then what it is a part of. What is left is cut at its end, by whoever has too little room for that.
 
 /**
  * A part of a name. `after` is where the part before it ends.
@@ -13,6 +13,8 @@ const LONGEST_NAME = 5000;
 
 // ` (app.py:3)`, ` [clone .cold]`, ` /app.js:3:7`: where something stands, or which copy of it.
 const PLACE = / (?:\([^()]*\)|\[[^[\]]*\]|[^ ]+:[0-9]+)$/;
+// ` (app.py:3)`, ` (libc.so.6)`, ` /app.js:3:7`: a file, with numbers or without.
+const FILE = / (?:\(([^()]*?)((?::[0-9]+)*)\)|([^ ]+?)(?::[0-9]+)+)$/;
 // What no function is called by: numbers, closures, copies that compilers made, hashes. It stays with the part before.
 const NUMBERED = /^(?:[0-9]*|(?:func|gowrap|deferwrap)[0-9]+|cold|part|isra|constprop|llvm|\{.*|h[0-9a-f]{16})$/s;
 
@@ -55,18 +57,51 @@ function bare(name, mask, { begin, end }) {
     return name.slice(begin, bracket < 0 ? end : bracket).trimEnd();
 }
 
+// A name without where it stands, its parts, and those of them that functions are called by; or null where it has none.
+/** @type {(name: string) => { head: string, mask: string, parts: Part[], named: Part[] } | null} */
+function dissected(name) {
+    if (name.length > LONGEST_NAME) return null;
+    const head = name.replace(PLACE, '') || name;
+    const mask = masked(head);
+    if (mask === null) return null;
+    const parts = partsOf(mask);
+    return { head, mask, parts, named: parts.filter(({ begin, end }, number) => number === 0 || !NUMBERED.test(head.slice(begin, end))) };
+}
+
+// Some parts without brackets, with what stands between them.
+/** @type {(head: string, mask: string, parts: Part[]) => string} */
+function barely(head, mask, parts) {
+    return parts.map((part, number) => (number === 0 ? '' : head.slice(part.after, part.begin)) + bare(head, mask, part)).join('');
+}
+
 // The name, and its shorter forms, from the longest to the shortest.
 /** @type {(name: string) => string[]} */
 export function formsOf(name) {
-    if (name.length > LONGEST_NAME) return [name];
-    const head = name.replace(PLACE, '') || name;
-    const mask = masked(head);
-    if (mask === null) return [name];
-    const parts = partsOf(mask);
-    const named = parts.filter(({ begin, end }, number) => number === 0 || !NUMBERED.test(head.slice(begin, end)));
+    const found = dissected(name);
+    if (!found) return [name];
+    const { head, mask, parts, named } = found;
     /** @type {(first: Part) => string} */
-    const bareFrom = (first) => parts.slice(parts.indexOf(first))
-        .map((part) => (part === first ? '' : head.slice(part.after, part.begin)) + bare(head, mask, part)).join('');
+    const bareFrom = (first) => barely(head, mask, parts.slice(parts.indexOf(first)));
     const forms = [name, head, ...named.slice(1, -1).map(({ begin }) => head.slice(begin)), ...named.slice(-2).map(bareFrom)];
     return forms.filter((form, number) => number === 0 || (form !== '' && form !== forms[number - 1]));
+}
+
+// The file where a function stands, empty where its name has none.
+/** @type {(name: string) => string} */
+function fileOf(name) {
+    const [, inside = '', numbers = '', bareFile = ''] = FILE.exec(name) || [];
+    return bareFile || (numbers !== '' || /[/.]/.test(inside) ? inside : '');
+}
+
+// The package of a name: the file where it stands, else the parts before that by which the function is called, from behind a space on. Empty where
+// there is none.
+/** @type {(name: string) => string} */
+export function packageOf(name) {
+    const found = dissected(name);
+    if (!found) return '';
+    const { head, mask, parts, named } = found;
+    const last = parts.indexOf(named[named.length - 1]);
+    let first = last;
+    while (first > 0 && head[parts[first].after] !== ' ') first--;
+    return fileOf(name) || barely(head, mask, parts.slice(first, last));
 }

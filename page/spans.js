@@ -1,29 +1,35 @@
 // What is zoomed: the part of a drawing from one weight to another, which takes the whole width of the picture.
 
 import { firstPlace } from './bisect.js';
-import { endOf, isTimeline } from './drawing.js';
+import { bandOf, endOf, isBeside, isTimeline } from './drawing.js';
 
 /**
  * @typedef {import('./data.js').Page} Page
  * @typedef {import('./data.js').Source} Source
+ * @typedef {import('./drawing.js').Band} Band
  * @typedef {import('./drawing.js').Drawing} Drawing
  * @typedef {import('./view.js').State} State
  */
 
 /**
- * From one weight to another. What is above that depth is not zoomed: it is what leads there. `row` is that of what is zoomed.
+ * From one weight to another. What is above that depth is not zoomed: it is what leads there. `row` is that of what is zoomed, -1 where that is in all
+ * sources that stand side by side.
  * @typedef {{ from: number, to: number, depth: number, row: number }} Span
  */
 
 /** @type {(page: Page, drawing: Drawing, state: State) => Span} */
 export function spanOf(page, drawing, state) {
-    if (state.source >= 0) {
-        const source = page.sources[state.source];
-        return { from: source.start, to: source.start + source.weight, depth: 0, row: 0 };
+    const { source, box, from, to } = state;
+    const isAside = isBeside(drawing);
+    const band = drawing.bands.find((each) => each.source === source);
+    if (band) return { from: 0, to: band.weight, depth: 0, row: band.row };
+    if (source >= 0) {
+        const { start, weight } = page.sources[source];
+        return { from: start, to: start + weight, depth: 0, row: 0 };
     }
     if (drawing.count === 0) return { from: 0, to: 1, depth: 0, row: 0 };
-    if (state.from >= 0) return { from: state.from, to: state.to, depth: 0, row: 0 };
-    const { box } = state;
+    if (from >= 0) return { from, to, depth: 0, row: isAside ? -1 : 0 };
+    if (isAside && box === 0) return { from: 0, to: drawing.length, depth: 0, row: -1 };
     return { from: drawing.start[box], to: endOf(drawing, box), depth: drawing.depth[box], row: drawing.row[box] };
 }
 
@@ -49,9 +55,17 @@ export function moved({ from, to }, total, widths) {
     return partOf(from + widths * (to - from), to - from, total);
 }
 
-// What is seen of a row. Where callers stand above callees, what is zoomed of the ones leaves the others as they are.
+// The band in which something is zoomed.
+/** @type {(drawing: Drawing, span: Span) => Band | undefined} */
+function zoomedBand(drawing, span) {
+    return span.row < 0 ? undefined : bandOf(drawing, span.row);
+}
+
+// What is seen of a row. Where callers stand above callees, what is zoomed of the ones leaves the others as they are. Of sources that stand side by
+// side the same part is seen of each, and what is zoomed of one has its callers there alone.
 /** @type {(drawing: Drawing, row: number, span: Span) => Span} */
 export function spanOfRow(drawing, row, span) {
+    if (isBeside(drawing)) return span.depth === 0 || bandOf(drawing, row) === zoomedBand(drawing, span) ? span : { ...span, depth: 0 };
     if (drawing.centre < 0 || drawing.count === 0) return span;
     const centre = drawing.row[0];
     const isSameSide = (row - centre) * (span.row - centre) > 0;
@@ -71,6 +85,22 @@ export function weightInSpan(drawing, box, span) {
     return Math.max(0, Math.min(endOf(drawing, box), to) - Math.max(drawing.start[box], from));
 }
 
+// The boxes among which those stand that are zoomed: from one up to another.
+/** @type {(drawing: Drawing, span: Span) => { first: number, end: number }} */
+export function zoomedBoxes(drawing, span) {
+    return zoomedBand(drawing, span) || { first: 0, end: drawing.count };
+}
+
+// What all that is zoomed weighs, where a row has a part in it, else 0.
+/** @type {(drawing: Drawing, row: number, span: Span) => number} */
+export function zoomedWeight(drawing, row, span) {
+    const band = zoomedBand(drawing, span);
+    if (band && band !== bandOf(drawing, row)) return 0;
+    const { from, to } = spanOfRow(drawing, row, span);
+    if (band || !isBeside(drawing)) return to - from;
+    return drawing.bands.reduce((sum, { first }) => sum + weightInSpan(drawing, first, span), 0);
+}
+
 // Where the boxes of a row that are in the span stand in the order of the rows: from one place up to another.
 /** @type {(drawing: Drawing, row: number, span: Span) => { from: number, to: number }} */
 export function inRow(drawing, row, span) {
@@ -80,17 +110,20 @@ export function inRow(drawing, row, span) {
     return { from, to: firstPlace(from, first[row + 1], (at) => drawing.start[order[at]] >= seen.to) };
 }
 
-// The rows that have something in the span: from one up to another. They go up and down from the first box without a gap.
+// The rows from the first to the last that has something in the span, of a source that stands beside others where something is zoomed in it: from
+// one up to another.
 /** @type {(drawing: Drawing, span: Span) => { first: number, end: number }} */
 export function rowsInSpan(drawing, span) {
-    const centre = drawing.row[0] || 0;
     /** @type {(row: number) => boolean} */
     const isEmpty = (row) => {
         const { from, to } = inRow(drawing, row, span);
         return from === to;
     };
-    const above = firstPlace(0, centre, (each) => isEmpty(centre - 1 - each));
-    return { first: centre - above, end: firstPlace(centre, drawing.rowCount, isEmpty) };
+    const { row, rowCount } = zoomedBand(drawing, span) || { row: 0, rowCount: drawing.rowCount };
+    let [first, end] = [row, row + rowCount];
+    while (first < end && isEmpty(first)) first++;
+    while (end > first && isEmpty(end - 1)) end--;
+    return { first, end };
 }
 
 // The edges of what goes from one weight to another, cut to what is seen of its row.
@@ -102,10 +135,10 @@ export function edgesOf(from, to, span, width) {
     return { left, right };
 }
 
-// The sources of a chart that are seen, with their edges on the screen.
+// The sources of a chart that are seen one after another, with their edges on the screen.
 /** @type {(page: Page, drawing: Drawing, span: Span, width: number) => { source: Source, number: number, left: number, right: number }[]} */
 export function lanesOf(page, drawing, span, width) {
-    if (!isTimeline(page, drawing)) return [];
+    if (!isTimeline(page, drawing) || isBeside(drawing)) return [];
     return page.sources
         .map((source, number) => ({ source, number, ...edgesOf(source.start, source.start + source.weight, span, width) }))
         .filter(({ left, right }) => right > left);

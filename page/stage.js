@@ -1,13 +1,12 @@
 // The canvas: as large as the part of the picture that is seen, whatever the picture's height.
 
 import { paintOnCanvas } from './canvas.js';
-import { DARK, LIGHT, nameShades } from './colours.js';
-import { isTimeline } from './drawing.js';
+import { DARK, LIGHT, nameShade, nameShades, packageShade } from './colours.js';
 import { element, elementOf } from './elements.js';
 import { Lettering } from './lettering.js';
 import { placeOver, placesOf } from './places.js';
 import { ROW_HEIGHT, rowAt, rowTop } from './rows.js';
-import { AXIS_HEIGHT, LANE_HEIGHT } from './scene.js';
+import { lanesHeight } from './scene.js';
 import { formsOf } from './short.js';
 import { rowsInSpan } from './spans.js';
 
@@ -31,7 +30,8 @@ export class Stage {
         this.picture = element('picture');
         this.canvas = elementOf('canvas', HTMLCanvasElement);
         this.darkness = matchMedia('(prefers-color-scheme: dark)');
-        this.shadeOf = nameShades(page.names);
+        this.byName = nameShades(page.names, nameShade);
+        this.byPackage = nameShades(page.names, packageShade);
         this.lettering = new Lettering(page.names, formsOf);
         this.sourceLettering = new Lettering(page.sources.map((source) => source.name), (name) => [name]);
         // What is on the canvas.
@@ -46,7 +46,8 @@ export class Stage {
     /** @type {(view: View, part: Part, colours: Colours) => Scene} */
     scene(view, part, colours) {
         const { page, drawing, span, matches, state, isShare } = view;
-        const { shadeOf, lettering, sourceLettering } = this;
+        const { lettering, sourceLettering } = this;
+        const shadeOf = state.packages ? this.byPackage : this.byName;
         return { page, drawing, span, matches, isShare, below: state.below, ...part, colours, shadeOf, lettering, sourceLettering };
     }
 
@@ -55,7 +56,7 @@ export class Stage {
     wholeScene(view, isPaper) {
         const { first, end } = rowsInSpan(view.drawing, view.span);
         const height = Math.max(end - first, 1) * ROW_HEIGHT;
-        const lanes = isTimeline(this.page, view.drawing) ? LANE_HEIGHT + AXIS_HEIGHT : 0;
+        const lanes = lanesHeight(this.page, view.drawing);
         const top = view.state.below ? 0 : first * ROW_HEIGHT;
         const part = { width: this.picture.clientWidth, height, top, rowCount: end, lanes };
         return this.scene(view, part, this.darkness.matches && !isPaper ? DARK : LIGHT);

@@ -1,6 +1,6 @@
 // The own and the total weight of each function, in a part of a drawing.
 
-import { isInSpan, weightInSpan } from './spans.js';
+import { isInSpan, weightInSpan, zoomedBoxes } from './spans.js';
 
 /**
  * @typedef {import('./drawing.js').Drawing} Drawing
@@ -14,7 +14,7 @@ import { isInSpan, weightInSpan } from './spans.js';
 
 // How much of the samples that end in a box lies in the span. Where the span cuts the box, what was left out of the data may be in this too.
 /** @type {(drawing: Drawing, box: number, span: Span) => number} */
-function ownInSpan(drawing, box, span) {
+export function ownInSpan(drawing, box, span) {
     const own = drawing.own[box];
     let rest = weightInSpan(drawing, box, span);
     if (rest === drawing.weight[box]) return own;
@@ -30,7 +30,8 @@ export function sumsOf(drawing, nameCount, span) {
     const total = new Float64Array(nameCount);
     const covered = new Int32Array(nameCount);
     const top = Math.max(1, span.depth);
-    for (let box = 0; box < drawing.count; box++) {
+    const { first, end } = zoomedBoxes(drawing, span);
+    for (let box = first; box < end; box++) {
         if (drawing.depth[box] < top || !isInSpan(drawing, box, span)) continue;
         const name = drawing.name[box];
         own[name] += ownInSpan(drawing, box, span);

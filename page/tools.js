@@ -1,10 +1,11 @@
 // What stands above the picture: the title, what has to be said, and the tools as they have to stand.
 
-import { button, element, elementOf, input, inside, showItems } from './elements.js';
+import { hasLanes } from './data.js';
+import { button, element, elementOf, input, inside, sayAbout, showItems } from './elements.js';
 import { described, shortened } from './names.js';
 import { centreText, drawingText, noticesOf, sourceText, summaryText } from './notices.js';
 import { isEitherCase } from './search.js';
-import { percentText, separated } from './units.js';
+import { exactText, percentText, separated, weightText } from './units.js';
 import { isZoomed } from './view.js';
 
 /**
@@ -14,14 +15,19 @@ import { isZoomed } from './view.js';
  */
 
 // What stands above the tools: the title, how much there is, and what has to be said.
-/** @type {(page: Page, drawing: Drawing) => void} */
-export function showTop(page, drawing) {
+/** @type {(page: Page, drawing: Drawing, say: (text: string) => void) => void} */
+export function showTop(page, drawing, say) {
     document.title = shortened(page.title, 200);
     element('title').textContent = described(page.title);
     element('summary').textContent = summaryText(page, drawing);
     showItems(element('notices'), noticesOf(page, drawing));
+    element('matched').classList.toggle('filtered', page.isFiltered);
     element('sources').hidden = page.sources.length === 1;
-    showItems(inside(element('sources'), 'ul'), page.sources.map(sourceText));
+    const sources = inside(element('sources'), 'ul');
+    showItems(sources, page.sources.map((source) => sourceText(source, weightText)));
+    for (const [number, item] of [...sources.querySelectorAll('li')].entries()) {
+        sayAbout(item, () => sourceText(page.sources[number], exactText), say);
+    }
 }
 
 /** @type {(view: View) => string} */
@@ -52,7 +58,11 @@ export function showTools(view) {
     button('back').disabled = !isZoomed(view) && state.callers < 0;
     element('heavy-label').hidden = page.view === 'chart';
     input('heavy').checked = state.heavy;
-    input('heavy').disabled = state.callers >= 0;
+    element('beside-label').hidden = !hasLanes(page);
+    input('beside').checked = state.beside;
+    element('packages-label').hidden = page.view === 'compare';
+    input('packages').checked = state.packages;
+    for (const arranging of ['heavy', 'beside']) input(arranging).disabled = state.callers >= 0;
     input('below').checked = state.below;
     element('snapshot-label').hidden = page.view === 'compare' || page.drawingCount === 1;
     snapshot.max = String(page.drawingCount - 1);
@@ -62,5 +72,7 @@ export function showTools(view) {
     input('before').checked = state.drawing === 0;
     element('share-label').hidden = page.view !== 'compare';
     input('share').checked = state.share;
-    element('drawing-name').textContent = [name, centreText(page, drawing)].filter((text) => text !== '').join(' · ');
+    const called = element('drawing-name');
+    called.textContent = [name, centreText(page, drawing)].filter((text) => text !== '').join(' · ');
+    called.title = called.textContent;
 }

@@ -32,10 +32,12 @@ function stepFor(value, steps) {
     return steps.find(([step]) => value >= step * 0.9995) || steps[steps.length - 1];
 }
 
-/** @type {(value: number, steps: [size: number, sign: string][]) => string} */
-function inSteps(value, steps) {
-    const [size, sign] = stepFor(value, steps);
-    return `${threeDigits(value / size)} ${sign}`;
+// A weight of so large units in the step that it reaches. Whole numbers are divided, since no part of a second is one exactly.
+/** @type {(weight: number, unit: number, steps: [size: number, sign: string][]) => string} */
+function inSteps(weight, unit, steps) {
+    const [size, sign] = stepFor(weight * unit, steps);
+    const value = size >= unit ? weight / Math.round(size / unit) : weight * Math.round(unit / size);
+    return `${threeDigits(value)} ${sign}`;
 }
 
 // The sources that have weight: an empty one has no unit, and changes nothing.
@@ -68,8 +70,8 @@ export function unitStep(weight, unit) {
 // A weight as it is read at a glance: 1.23 ms, 4.5 MiB, 1,234.
 /** @type {(weight: number, unit: string | null) => string} */
 export function weightText(weight, unit) {
-    if (unit && Object.hasOwn(SECONDS, unit)) return inSteps(weight * SECONDS[unit], TIME_STEPS);
-    if (unit && Object.hasOwn(BYTES, unit)) return inSteps(weight * BYTES[unit], BYTE_STEPS);
+    if (unit && Object.hasOwn(SECONDS, unit)) return inSteps(weight, SECONDS[unit], TIME_STEPS);
+    if (unit && Object.hasOwn(BYTES, unit)) return inSteps(weight, BYTES[unit], BYTE_STEPS);
     const about = weight > Number.MAX_SAFE_INTEGER ? 'about ' : '';
     return about + separated(weight) + (unit && unit !== 'count' ? ` ${visible(unit)}` : '');
 }

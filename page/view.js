@@ -1,5 +1,6 @@
 // What is looked at.
 
+import { isBeside } from './drawing.js';
 import { matchesOf } from './search.js';
 import { spanOf } from './spans.js';
 
@@ -14,7 +15,8 @@ import { spanOf } from './spans.js';
  * What a reader chose: the drawing, what of it is zoomed (a source of a chart, or none, -1, and a box, or a part of a chart from one weight to
  * another, -1 without), the words of the search and how they are meant, whether the root is below, how wide the lists are (0 where they are closed,
  * -1 as they are at first), whether a comparison is of shares, the name of the function whose callers and callees are looked at (-1 without),
- * whether of a graph the heaviest boxes come first, and the focused box.
+ * whether of a graph the heaviest boxes come first, whether the sources of a chart stand side by side, whether boxes are coloured by package, and
+ * the focused box.
  * @typedef {object} State
  * @property {number} drawing
  * @property {number} source
@@ -29,6 +31,8 @@ import { spanOf } from './spans.js';
  * @property {boolean} share
  * @property {number} callers
  * @property {boolean} heavy
+ * @property {boolean} beside
+ * @property {boolean} packages
  * @property {number} focus
  */
 
@@ -76,7 +80,21 @@ export function isZoomed({ state }) {
 export function wholeOf(view) {
     if (view.state.callers < 0) return view;
     const { page, isShare } = view;
-    const state = { ...view.state, callers: -1, heavy: false, ...UNZOOMED, focus: 0 };
+    const state = { ...view.state, callers: -1, heavy: false, beside: false, ...UNZOOMED, focus: 0 };
     const drawing = page.drawing(state.drawing);
     return { page, state, drawing, span: spanOf(page, drawing, state), isShare, matches: null, isRefused: view.isRefused };
+}
+
+// Whether something else is zoomed, matches, or is compared.
+/** @type {(old: View, view: View) => boolean} */
+export function isOther(old, view) {
+    const isSamePart = old.drawing === view.drawing && old.span.from === view.span.from && old.span.to === view.span.to && old.span.depth === view.span.depth;
+    return !isSamePart || old.matches !== view.matches || old.isShare !== view.isShare;
+}
+
+// Whether something is zoomed that may stand in other rows.
+/** @type {(old: View, view: View) => boolean} */
+export function isElsewhere(old, { drawing, state }) {
+    const isOtherBand = isBeside(drawing) && old.state.source !== state.source;
+    return isOtherBand || old.state.box !== state.box || old.drawing !== drawing;
 }

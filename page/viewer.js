@@ -2,9 +2,9 @@
 
 import { fragmentOf, linkedOf, stepsMade, wordsOf, wordsOfStep, writeAddress } from './address.js';
 import { boxLine, placeLine } from './describe.js';
-import { boxAt, isCaller, isRoot, isTimeline, pathOf } from './drawing.js';
+import { boxAt, isCaller, isTimeline, pathOf, sourceOf, timeOf } from './drawing.js';
 import { afterPaint, button, element } from './elements.js';
-import { Ring } from './focus.js';
+import { Ring, focusIn, focusedFunction } from './focus.js';
 import { FunctionTable } from './functions.js';
 import { LaneStrip } from './lanes.js';
 import { showLists } from './lists.js';
@@ -13,11 +13,10 @@ import { isInSpan } from './spans.js';
 import { Stage } from './stage.js';
 import { Tip } from './tip.js';
 import { showTools, showTop } from './tools.js';
-import { UNZOOMED, isZoomed, viewOf } from './view.js';
+import { UNZOOMED, isElsewhere, isOther, isZoomed, viewOf } from './view.js';
 
 /**
  * @typedef {import('./address.js').Words} Words
- * @typedef {import('./data.js').Choice} Choice
  * @typedef {import('./data.js').Page} Page
  * @typedef {import('./drawing.js').Drawing} Drawing
  * @typedef {import('./places.js').Place} Place
@@ -29,21 +28,6 @@ import { UNZOOMED, isZoomed, viewOf } from './view.js';
 const REST = 200;
 const DEAD_LINK = 'No box here has the path of this address, so all of them are shown.';
 
-// Whether something else is zoomed, matches, or is compared.
-/** @type {(old: View, view: View) => boolean} */
-function isOther(old, view) {
-    const isSamePart = old.drawing === view.drawing && old.span.from === view.span.from && old.span.to === view.span.to && old.span.depth === view.span.depth;
-    return !isSamePart || old.matches !== view.matches || old.isShare !== view.isShare;
-}
-
-// The name of the focused box, -1 where that is no function, or the one whose callers are looked at.
-/** @type {(view: View) => number} */
-function focusedFunction({ drawing, state }) {
-    if (drawing.count === 0 || isRoot(drawing, state.focus)) return -1;
-    const name = drawing.name[state.focus];
-    return name === state.callers ? -1 : name;
-}
-
 export class Viewer {
     /** @param {Page} page */
     constructor(page) {
@@ -51,16 +35,22 @@ export class Viewer {
         this.stage = new Stage(page);
         this.ring = new Ring(this.stage.picture);
         this.tip = new Tip();
-        this.lanes = new LaneStrip(page, (source) => this.change({ ...UNZOOMED, source, focus: 0 }, true));
+        /** @type {(text: string) => void} */
+        this.pointAt = (text) => {
+            this.pointed = text;
+            this.showStatus();
+        };
+        this.lanes = new LaneStrip(page, (source) => this.change({ ...UNZOOMED, source, focus: 0 }, true), this.pointAt);
         this.functions = new FunctionTable(page, (name, isHere) => {
             const { drawing, callers } = this.view.state;
             if (name === callers) this.zoomTo(0);
             else this.showCallers(name, isHere ? drawing : 1 - drawing);
-        });
+        }, this.pointAt);
         this.matching = nameMatcher(page.names);
         /** @type {Place | null} */
         this.hovered = null;
-        // What has to be said until something else is looked at.
+        // What is said of what is pointed at outside of the picture, and what has to be said until something else is looked at.
+        this.pointed = '';
         this.message = '';
         // The path that was asked for, where the drawing has the first part of it only.
         /** @type {{ drawing: Drawing, box: number, path: string[] } | null} */
@@ -70,17 +60,17 @@ export class Viewer {
         // What waits until a part of a chart rests: the functions in it, and its address.
         [this.waiting, this.writing] = [0, 0];
         const { state, isDead } = linkedOf(page, wordsOf(location.hash));
-        this.view = viewOf(page, this.matching, { ...state, focus: state.box }, null);
+        this.view = viewOf(page, this.matching, { ...state, focus: focusIn(page.arranged(state), state, -1) }, null);
         this.showChange(null);
         this.beginStep(isDead);
     }
 
-    // What the line below the picture says: of the place under the pointer, else what has to be said, else of the focused box.
+    // What the line below the picture says: of what is under the pointer, else what has to be said, else of the focused box.
     /** @type {() => string} */
     statusText() {
-        const { view, hovered, message } = this;
+        const { view, hovered, pointed, message } = this;
         if (hovered) return placeLine(view, hovered);
-        return message || (view.drawing.count > 0 ? boxLine(view, view.state.focus) : '');
+        return pointed || message || (view.drawing.count > 0 ? boxLine(view, view.state.focus) : '');
     }
 
     showStatus() {
@@ -104,6 +94,7 @@ export class Viewer {
     // Nothing is said any more of what was looked at.
     forget() {
         this.hovered = null;
+        this.pointed = '';
         this.message = '';
         this.tip.hide();
     }
@@ -140,7 +131,7 @@ export class Viewer {
         this.forget();
         showTools(view);
         if (!old || old.state.lists !== state.lists) showLists(state.lists);
-        if (!old || old.state.drawing !== state.drawing) showTop(page, page.drawing(state.drawing));
+        if (!old || old.state.drawing !== state.drawing) showTop(page, page.drawing(state.drawing), this.pointAt);
         if (!old || isOther(old, view)) this.showFunctionsSoon();
         // Before anything is scrolled what stands above the picture has its room, and the ring stands where there is some.
         this.lanes.show(view);
@@ -148,7 +139,7 @@ export class Viewer {
         this.showFocus();
         if (state.below !== (old ? old.state.below : false)) picture.scrollTop = state.below ? picture.scrollHeight : 0;
         if (drawing.count > 0 && drawing.centre >= 0 && (!old || old.drawing !== drawing)) stage.centre(view, drawing.row[state.box]);
-        else if (!old || old.state.box !== state.box || old.drawing !== drawing) this.revealFocus();
+        else if (!old || isElsewhere(old, view)) this.revealFocus();
         stage.paint(view);
     }
 
@@ -170,7 +161,7 @@ export class Viewer {
     lookAt(part) {
         const { state, drawing } = this.view;
         if (!isTimeline(this.page, drawing) || drawing.count === 0) return;
-        const isWhole = part.from <= 0 && part.to >= drawing.total;
+        const isWhole = part.from <= 0 && part.to >= drawing.length;
         this.look({ ...state, ...UNZOOMED, ...(isWhole ? {} : part) });
         clearTimeout(this.writing);
         this.writing = window.setTimeout(() => writeAddress(fragmentOf(this.page, this.view.state), false), REST);
@@ -193,8 +184,10 @@ export class Viewer {
 
     /** @type {(box: number) => void} */
     zoomTo(box) {
-        const { state } = this.view;
-        if (box === state.box && state.source < 0 && state.from < 0) this.change({ focus: box }, false);
+        const { drawing, state } = this.view;
+        const source = sourceOf(drawing, box);
+        if (source >= 0) this.change({ ...UNZOOMED, source: source === state.source ? -1 : source, focus: box }, true);
+        else if (box === state.box && state.source < 0 && state.from < 0) this.change({ focus: box }, false);
         else this.change({ ...UNZOOMED, box, focus: box }, true);
     }
 
@@ -226,7 +219,7 @@ export class Viewer {
     }
 
     // The same path in another drawing, or in another order. A snapshot may have the first part of it only: the others show all of it again.
-    /** @type {(choice: Partial<Choice>) => void} */
+    /** @type {(choice: Partial<State>) => void} */
     turnTo(choice) {
         const { page, wished } = this;
         const { state, drawing } = this.view;
@@ -234,9 +227,10 @@ export class Viewer {
         const isWished = wished && wished.drawing === drawing && wished.box === state.box;
         const zoomed = isWished ? wished.path : this.pathTo(state.box);
         /** @type {(path: string[], box: number) => number} */
-        const find = (path, from) => (other.count ? boxAt(page, other, path, drawing.start[from], isCaller(drawing, from)) : 0);
+        const find = (path, from) => (other.count ? boxAt(page, other, path, timeOf(drawing, from), isCaller(drawing, from)) : 0);
         const box = find(zoomed, state.box);
-        const focus = state.focus === state.box ? box : find(this.pathTo(state.focus), state.focus);
+        const isOnBox = state.focus === state.box;
+        const focus = isOnBox ? focusIn(other, { source: state.source, box }, box) : find(this.pathTo(state.focus), state.focus);
         this.wished = { drawing: other, box, path: zoomed };
         this.change({ ...choice, box, focus }, false);
     }
@@ -245,7 +239,7 @@ export class Viewer {
     /** @type {(box: number) => void} */
     showBefore(box) {
         const { page, view } = this;
-        const choice = { drawing: 0, callers: -1, heavy: view.state.heavy };
+        const choice = { drawing: 0, callers: -1, heavy: view.state.heavy, beside: false };
         const there = boxAt(page, page.arranged(choice), pathOf(page, page.drawing(0), box), -1, false);
         this.change({ ...UNZOOMED, ...choice, box: there, focus: there }, true);
     }
@@ -274,8 +268,7 @@ export class Viewer {
         const { state, isDead } = linkedOf(this.page, words);
         const drawing = this.page.arranged(state);
         const { focus } = this.view.state;
-        const isInside = this.view.drawing === drawing && focus >= state.box && focus < drawing.end[state.box];
-        this.look({ ...state, focus: isInside ? focus : state.box });
+        this.look({ ...state, focus: focusIn(drawing, state, this.view.drawing === drawing ? focus : -1) });
         this.beginStep(isDead);
     }
 

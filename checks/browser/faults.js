@@ -57,6 +57,18 @@
         heavy_boxes_in_their_order() {
             bend.fragment = (fragment) => fragment.replace('&heavy=1', '');
         },
+        sources_one_after_another() {
+            bend.fragment = (fragment) => fragment.replace('&beside=1', '');
+        },
+        sources_with_the_next_name() {
+            bend.text = (text) => text.replace(/^part-(\d)/, (word, number) => `part-${Number(number) + 1}`);
+        },
+        saved_with_other_sources() {
+            bend.saved = (text) => text.replace('</g>\n</svg>', '<rect x="0" y="34" width="90" height="17" fill="#9aa0a8"/></g>\n</svg>');
+        },
+        packages_as_names() {
+            bend.fragment = (fragment) => fragment.replace('&colours=package', '');
+        },
         callers_of_another() {
             bend.fragment = (fragment) => fragment.replace(/callers=([^&]*)/, (word, name) => {
                 const { names } = JSON.parse(document.getElementById('data').textContent);

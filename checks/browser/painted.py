@@ -116,10 +116,32 @@ def arrangements(drawn: random.Random, watched: Watched) -> Iterator[list[Fault]
         yield watched.go(watched.view.at(find=''))
     if drawing.count > 1:
         yield watched.compare_saved()
+    if document.kind != 'compare':
+        yield watched.go(View(drawing.number, below=watched.setting.below, packages=True))
+        yield watched.compare_saved()
+    if document.kind == 'chart' and drawing.count > 1:
+        yield from sources_beside(drawn, watched)
     if drawing.count > 1 and document.kind != 'chart':
         yield watched.go(View(drawing.number, below=watched.setting.below, heavy=True))
         yield watched.click(drawn)
         yield watched.compare_tips(drawn, TIPS)
+
+
+def sources_beside(drawn: random.Random, watched: Watched) -> Iterator[list[Fault]]:
+    """Looks at the sources of a chart side by side: at all, and at a source, a part of each and boxes, some by clicks."""
+    document, view = watched.document, View(0, below=watched.setting.below, beside=True)
+    sources = [number for number, (_, begin, end) in enumerate(document.sources) if end > begin]
+    longest = max(end - begin for _, begin, end in document.sources)
+    boxes = [boxes_to_zoom(drawn, document, view) for _ in range(CALLERS)]
+    looks = [view, view.at(source=drawn.choice(sources)), view.at(part=part_of(drawn, longest)), *(view.at(box=box) for box in boxes)]
+    for look in looks:
+        drawing = document.drawing(view)
+        yield watched.go(look if drawing.depth[look.box] > 0 else look.at(box=0))
+        yield watched.scroll(drawn.random())
+        yield watched.compare_tips(drawn, TIPS)
+        yield watched.compare_saved()
+        yield watched.click(drawn)
+        yield watched.go(watched.view.at(find=drawn.choice(document.names)[:3], by='text'))
 
 
 def refuse(found: list[Fault], what: str) -> None:

@@ -1,6 +1,7 @@
 """Compares the ticks of an axis with what stands under them."""
 from __future__ import annotations
 
+import re
 from typing import Iterator, NamedTuple
 
 from painted_layout import Fault
@@ -26,6 +27,9 @@ def axis_faults(sight: Sight, ticks: list[Tick], width: float) -> Iterator[Fault
         return
     span = sight.span
     for tick in ticks:
+        if not re.fullmatch(r'[0-9,]+(\.[0-9]+)?', tick.text):
+            yield Fault('c', f'{tick.text!r} at {tick.left:.2f} is no number')
+            continue
         weight = float(tick.text.replace(',', ''))
         wanted = (weight - span.begin) * width / (span.end - span.begin)
         if abs(tick.left - wanted) > OFF:

@@ -73,6 +73,12 @@ def of_name(palette: Palette, name: str) -> Colour:
     return hsl(number % HUES * 360 / HUES, saturation, lightest + number // HUES * 4)
 
 
+def of_package(palette: Palette, package: str, name: str) -> Colour:
+    """The hue is that which the package would have as a name, and the step of lightness that of the name."""
+    saturation, lightest = palette.plain
+    return hsl(name_number(package) % HUES * 360 / HUES, saturation, lightest + name_number(name) // HUES * 4)
+
+
 def of_step(palette: Palette, step: int, is_more: bool) -> Colour:
     """The colour of a change by so many tenths of the larger weight: from grey to blue where it is less, and to red where it is more."""
     saturation, still, full = palette.changes

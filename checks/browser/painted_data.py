@@ -9,13 +9,15 @@ from dataclasses import dataclass, replace
 from typing import Any, Callable
 
 from painted_arranged import callers_of, left_heavy
+from painted_beside import Beside, beside
 from painted_drawing import Data, Drawing, Span
 
 
 @dataclass(frozen=True)
 class View:
     """What is looked at: a drawing, the zoomed box or source or a part of a chart, a search, where the root stands, whether shares are compared, the function whose
-    callers and callees are shown, and whether heavy boxes come first."""
+    callers and callees are shown, whether heavy boxes come first, whether the sources of a chart stand side by side, and whether colours
+    are by package."""
     drawing: int
     box: int = 0
     source: int = -1
@@ -26,6 +28,8 @@ class View:
     callers: str | None = None
     part: tuple[float, float] | None = None
     heavy: bool = False
+    beside: bool = False
+    packages: bool = False
 
     def at(self, **changed: Any) -> View:
         return replace(self, **changed)
@@ -39,8 +43,10 @@ class Document:
         self.title: str = data['title']
         self.opens_below: bool = data.get('root_below', False)
         self.names: list[str] = data['names']
+        # What the check looks at has one unit: plain numbers, or nanoseconds.
+        self.unit: str = data['sources'][0]['unit']
         self.drawings = [Drawing(columns, number) for number, columns in enumerate(data['drawings'])]
-        self.arranged: dict[tuple[int, str | None, bool], Drawing] = {}
+        self.arranged: dict[tuple[int, str | None, bool, bool], Drawing] = {}
         self.sources: list[tuple[str, int, int]] = []
         begin = 0
         for source in data['sources']:
@@ -49,7 +55,7 @@ class Document:
 
     def drawing(self, view: View) -> Drawing:
         """The drawing that is looked at, as it is arranged."""
-        key = (view.drawing, view.callers, view.heavy)
+        key = (view.drawing, view.callers, view.heavy, view.beside)
         if key not in self.arranged:
             self.arranged[key] = self.arrange(view)
         return self.arranged[key]
@@ -57,7 +63,7 @@ class Document:
     def arrange(self, view: View) -> Drawing:
         base = self.drawings[view.drawing]
         if view.callers is None:
-            return left_heavy(base) if view.heavy else base
+            return beside(base, self.sources) if view.beside else left_heavy(base) if view.heavy else base
         there = self.drawings[1 - view.drawing] if self.kind == 'compare' else None
         return callers_of(base, there, self.names.index(view.callers))
 
@@ -65,11 +71,14 @@ class Document:
         return self.kind == 'chart' and view.callers is None
 
     def name(self, drawing: Drawing, box: int) -> str:
-        return self.names[drawing.name[box]]
+        source = drawing.source_name(box)
+        return self.names[drawing.name[box]] if source is None else source
 
     def span(self, view: View) -> Span:
         """What is zoomed. A drawing without boxes has nothing to divide."""
         drawing = self.drawing(view)
+        if isinstance(drawing, Beside):
+            return drawing.span_of(view.source, view.part, view.box)
         if view.source >= 0:
             _, begin, end = self.sources[view.source]
             return Span(begin, end, 0, 0)

@@ -61,6 +61,10 @@ class Drawing:
         """Whether a box is of a function, and not of all samples."""
         return self.depth[box] > 0
 
+    def source_name(self, _box: int) -> str | None:
+        """The source that stands beside others and of which a box is the root."""
+        return None
+
     def is_caller(self, _box: int) -> bool:
         """Whether a box leads to a function whose callers are shown."""
         return False

@@ -59,10 +59,14 @@ FAULTS = [
     PutBack('a part of a chart begins elsewhere', 'a', 'parts_begin_elsewhere', chart_made),
     PutBack('numbers of an axis stand beside their ticks', 'c', 'numbers_beside_their_ticks', chart_made),
     PutBack('heavy boxes stand in their usual order', 'a', 'heavy_boxes_in_their_order'),
+    PutBack('sources stand one after another', 'a', 'sources_one_after_another', chart_made),
+    PutBack('a source that stands beside others has the name of the next', 'c', 'sources_with_the_next_name', chart_made),
+    PutBack('an SVG of what is zoomed in a source has the rows of others', 'b', 'saved_with_other_sources', chart_made),
     PutBack('callers are those of another function', 'c', 'callers_of_another'),
     PutBack('callers stand below what they call', 'c', 'callers_below_callees'),
     PutBack('what is joined has the colour of a box', 'd', 'joined_as_the_first'),
     PutBack('what is joined and matches in part has the colour of what is joined without a search', 'd', 'joined_matches_as_joined'),
+    PutBack('colours are by name where they are to be by package', 'd', 'packages_as_names', like_go),
     PutBack('colours are those of the box before', 'd', 'colours_of_the_box_before'),
     PutBack('matches have the colour of what does not match', 'd', 'matches_as_the_others'),
     PutBack('a row is left out', 'e', 'a_row_left_out'),
@@ -86,7 +90,12 @@ def looks(watched: Watched) -> Iterator[list[Fault]]:
     if watched.document.kind == 'chart':
         total = watched.document.drawings[0].total
         yield watched.go(watched.view.at(find='', part=(total // 5, total // 2)))
-        yield watched.go(watched.view.at(part=None))
+        yield watched.go(watched.view.at(part=None, beside=True))
+        yield watched.go(watched.view.at(source=len(watched.document.sources) - 1))
+        yield watched.compare_svg()
+        yield watched.go(watched.view.at(source=-1, beside=False))
+    if watched.document.kind != 'compare':
+        yield watched.go(watched.view.at(find='', packages=True))
     drawing = watched.document.drawing(watched.view)
     heaviest = max((box for box in range(drawing.count) if drawing.depth[box] == 2), key=lambda box: drawing.weight[box])
     yield watched.go(watched.view.at(find='', callers=watched.document.name(drawing, heaviest)))

@@ -28,7 +28,11 @@ class Labels:
     def __init__(self, sight: Sight, number: int, strip: Strip, middle: float, letter: float):
         self.sight, self.number, self.strip, self.middle, self.letter = sight, number, strip, middle, letter
 
-    def faults(self, boxes: list[Box]) -> Iterator[Fault]:
+    def faults(self, boxes: list[Box], width: float) -> Iterator[Fault]:
+        source = self.sight.drawing.source_name(self.sight.drawing.rows[self.number][0])
+        if source is not None:
+            yield from self.source_faults(words.visible(source), width)
+            return
         lefts = [box.left for box in boxes]
         labels: dict[int, str] = {}
         for text in self.strip.texts:
@@ -41,6 +45,23 @@ class Labels:
         for box in boxes:
             if box.width >= LABELLED:
                 yield from self.missing(box, labels.get(box.number))
+
+    def source_faults(self, name: str, width: float) -> Iterator[Fault]:
+        """The row of the root of a source that stands beside others has its name, from the left edge on, whatever is seen of the source."""
+        called = f'row {self.number}: the name {name[:60]!r} of a source'
+        if len(self.strip.texts) != 1:
+            yield Fault('c', f'{called} stands there {len(self.strip.texts)} times')
+        for text in self.strip.texts:
+            if not words.is_front(text.text, name):
+                yield Fault('c', f'{called} is {text.text!r}')
+            if abs(text.middle - self.middle) + abs(text.left - PAD) > 1 + TOUCH or text.left + (text.width or 0) > width:
+                yield Fault('c', f'{called} stands at {text.left:.2f}, {text.middle:.2f}')
+            if text.text != name and self.letter and is_plain(name) and len(name) * self.letter + SPARE < width:
+                yield Fault('e', f'{called} is only {text.text!r}')
+            if not is_same(text.ink, self.sight.ink(self.sight.drawing.rows[self.number][0])):
+                yield Fault('d', f'{called} is written in {text.ink}')
+            if any(order >= text.after for order, _ in self.strip.at(text.left)):
+                yield Fault('e', f'{called} is painted over')
 
     def wanted(self, box: Box) -> list[str]:
         """The labels that the box may have where nothing is cut, from the longest to the shortest: in a comparison the name with its change, and

@@ -22,11 +22,21 @@ class Fault(NamedTuple):
 
 
 class Layout(NamedTuple):
-    """The top of the first place for a row, how many there are, whether the root has the lowest, and whether lanes stand above."""
+    """The top of the first place for a row, how many there are, whether the root has the lowest, how high what stands above is, the sources and
+    the axis of a chart, and the first row of which anything is painted."""
     top: float
     rows: int
     below: bool
-    lanes: bool
+    above: int = 0
+    first: int = 0
+
+    @property
+    def lanes(self) -> int:
+        """Where the sources end and the axis begins."""
+        return max(0, self.above - AXIS)
+
+    def has(self, row: int) -> bool:
+        return self.first <= row < self.rows
 
     def top_of(self, row: int) -> float:
         return self.top + (self.rows - 1 - row if self.below else row) * ROW
@@ -82,13 +92,13 @@ class Sorted:
                 continue
             row = layout.row_at(rectangle.top + ROW / 2)
             is_of_row = abs(rectangle.top - layout.top_of(row)) < TOUCH and abs(rectangle.height - (ROW - 1)) < TOUCH
-            if 0 <= row < layout.rows and is_of_row:
+            if layout.has(row) and is_of_row:
                 self.strip(row).add(order, rectangle)
             else:
                 self.others.append(rectangle)
         for text in paint.texts:
             row = layout.row_at(text.middle)
-            (self.strip(row).texts if 0 <= row < layout.rows else self.texts).append(text)
+            (self.strip(row).texts if layout.has(row) else self.texts).append(text)
 
     def strip(self, row: int) -> Strip:
         return self.strips.setdefault(row, Strip())

@@ -10,6 +10,7 @@ from typing import Any, Iterator, NamedTuple
 import chromium
 from painted_axis import Tick, axis_faults
 from painted_colours import DARK, LIGHT, Palette
+from painted_beside import Beside
 from painted_compare import faults_of
 from painted_data import Document, View
 from painted_layout import AXIS, LANES, ROW, Fault, Layout
@@ -92,7 +93,8 @@ class Watched:
             parts.append(f'{"up" if drawing.is_caller(view.box) else "zoom"}={path}')
         if view.find:
             parts += [f'find={urllib.parse.quote(view.find, safe="")}', f'by={view.by}']
-        switches = [*(['share=1'] if view.share else []), *(['heavy=1'] if view.heavy else [])]
+        switches = [f'{name}=1' for name in ('share', 'heavy', 'beside') if getattr(view, name)]
+        switches += ['colours=package'] if view.packages else []
         return '#' + '&'.join([*parts, f'drawing={view.drawing}', *self.root_words(view.below), *switches])
 
     def root_words(self, below: bool) -> list[str]:
@@ -108,7 +110,7 @@ class Watched:
         return Sight(self.document, self.view, palette or self.setting.palette)
 
     def screen(self, seen: dict[str, Any]) -> Layout:
-        return Layout(-seen['scrolled'], len(self.document.drawing(self.view).rows), self.view.below, lanes=False)
+        return Layout(-seen['scrolled'], len(self.document.drawing(self.view).rows), self.view.below)
 
     def compare(self, seen: dict[str, Any]) -> list[Fault]:
         sight = self.sight()
@@ -135,8 +137,16 @@ class Watched:
         if not boxes:
             return []
         row, box = drawn.choice(boxes)
-        self.view = self.view.at(box=box.number, source=-1, part=None)
+        self.view = self.zoomed_to(box.number)
         return self.compare(self.after(f'recorder.click({json.dumps([box.middle, layout.top_of(row) + ROW / 2])})'))
+
+    def zoomed_to(self, box: int) -> View:
+        """What a click on a box shows. The root of a source that stands beside others shows all of that, and then all of all."""
+        drawing = self.document.drawing(self.view)
+        band = drawing.source_of(box) if isinstance(drawing, Beside) else None
+        if band is None:
+            return self.view.at(box=box, source=-1, part=None)
+        return self.view.at(box=0, source=-1 if band.source == self.view.source else band.source, part=None)
 
     def compare_saved(self) -> list[Fault]:
         """Compares the SVG, the PNG and the picture for paper, which is light."""
@@ -158,10 +168,10 @@ class Watched:
 
     def saved(self, paint: Paint, palette: Palette, where: str) -> list[Fault]:
         """A saved picture has all rows of what is zoomed, whatever is scrolled into view."""
-        lanes = LANES + AXIS if self.document.is_timeline(self.view) else 0
-        rows = round((paint.height - lanes) / ROW)
+        above = 0 if not self.document.is_timeline(self.view) else AXIS if self.view.beside else LANES + AXIS
+        rows = round((paint.height - above) / ROW)
         first, _ = self.rows_seen()
-        layout = Layout(lanes if self.view.below else lanes - first * ROW, first + rows, self.view.below, lanes > 0)
+        layout = Layout(above if self.view.below else above - first * ROW, first + rows, self.view.below, above, first)
         found = faults_of(self.sight(palette), paint, layout)
         if first + rows < self.rows_seen()[1]:
             found.append(Fault('e', f'has {rows} rows, and what is zoomed has those of {self.rows_seen()}'))

@@ -6,7 +6,8 @@ from __future__ import annotations
 import math
 from dataclasses import dataclass, field
 
-from painted_colours import Colour, Palette, colour, of_change, of_name
+import painted_words as words
+from painted_colours import Colour, Palette, colour, of_change, of_name, of_package
 from painted_data import Document, View, matches_of
 from painted_drawing import Box, Drawing, Span
 
@@ -84,7 +85,8 @@ class Sight:
             return [colour(self.palette.root)]
         name = drawing.name[box]
         if name not in self.of_names:
-            self.of_names[name] = of_name(self.palette, self.document.names[name])
+            text = self.document.names[name]
+            self.of_names[name] = of_package(self.palette, words.package(text), text) if self.view.packages else of_name(self.palette, text)
         return [self.of_names[name]]
 
     def ink(self, box: int) -> Colour:

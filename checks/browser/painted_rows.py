@@ -118,6 +118,6 @@ class Row:
         weight = sum(drawing.weight[box] for box in place.boxes)
         name = words.visible(document.name(drawing, place.boxes[0])[:100]) or words.EMPTY
         begin = name if len(place.boxes) == 1 else words.joined(len(place.boxes))
-        wanted = [begin, f'{weight:,}', words.percent(weight, drawing.total)]
+        wanted = [begin, words.weight(weight, document.unit), words.percent(weight, drawing.total)]
         if not (title.startswith(begin) and all(part in title for part in wanted)):
             yield self.fault('c', f'{self.called(place)} has the title {title[:200]!r}, and not {wanted}')

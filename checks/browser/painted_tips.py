@@ -63,18 +63,23 @@ def tip_faults(sight: Sight, pointed: Pointed, told: dict[str, Any]) -> Iterator
         if lines:
             yield Fault('f', f'{at}, where there is no box, the tip says {lines}')
         return
-    begin, parts = wanted(sight, pointed.boxes)
-    for what, text in (('tip', ' · '.join(lines)), ('status', told['status'])):
+    for what, text, is_exact in (('tip', ' · '.join(lines), False), ('status', told['status'], True)):
+        begin, parts = wanted(sight, pointed.boxes, is_exact)
         if not (text.startswith(begin) and all(part in text[len(begin):] for part in parts)):
             yield Fault('f', f'{at} is painted {begin!r} with {parts}, and the {what} says {text[:300]!r}')
 
 
-def wanted(sight: Sight, boxes: list[int]) -> tuple[str, list[str]]:
-    """How a tip and a status begin, and what they tell then: the weight, its part of the whole, and of one box, but for a caller, its own."""
+def wanted(sight: Sight, boxes: list[int], is_exact: bool) -> tuple[str, list[str]]:
+    """How a tip and a status begin, and what they tell then: the weight, its part of the whole, and of one box, but for a caller, its own. A status
+    has the exact numbers."""
     drawing = sight.drawing
+
+    def told(number: int) -> str:
+        return f'{number:,}' if is_exact else words.weight(number, sight.document.unit)
+
     weight = sum(drawing.weight[box] for box in boxes)
     name = words.visible(sight.document.name(drawing, boxes[0])[:100]) or words.EMPTY
-    parts = [f'{weight:,}', words.percent(weight, drawing.total)]
+    parts = [told(weight), words.percent(weight, drawing.total)]
     if len(boxes) > 1:
         return words.joined(len(boxes)), parts
-    return name, parts if drawing.is_caller(boxes[0]) else [*parts, f'{drawing.own[boxes[0]]:,}']
+    return name, parts if drawing.is_caller(boxes[0]) else [*parts, told(drawing.own[boxes[0]])]

@@ -6,6 +6,7 @@ import functools
 import itertools
 import re
 import unicodedata
+from typing import NamedTuple
 
 JOINERS = '\u200c\u200d'
 # These are no characters at all.
@@ -25,7 +26,7 @@ def visible(text: str) -> str:
     return ''.join(map(shown, text))
 
 
-def digits(number: float, most: int) -> str:
+def digits(number: float | decimal.Decimal, most: int) -> str:
     """The number rounded to so many digits, halves away from zero, without the zeros at the end."""
     value = decimal.Decimal(number)
     if value == 0:
@@ -36,9 +37,21 @@ def digits(number: float, most: int) -> str:
     return text.rstrip('0').rstrip('.') if '.' in text else text
 
 
-def whole(number: float) -> str:
+def whole(number: float | decimal.Decimal) -> str:
     """The number rounded to a whole one, with commas."""
     return f'{decimal.Decimal(number).quantize(decimal.Decimal(1), rounding=decimal.ROUND_HALF_UP):,f}'
+
+
+TIMES = (('s', 10 ** 9), ('ms', 10 ** 6), ('µs', 1000), ('ns', 1))
+
+
+def weight(number: int, unit: str) -> str:
+    """A weight at a glance: a plain number, or nanoseconds in the largest step that they reach, to three digits."""
+    if unit != 'nanoseconds':
+        return f'{number:,}'
+    sign, size = next((each for each in TIMES if number >= each[1] * 0.9995), TIMES[-1])
+    value = decimal.Decimal(number) / size
+    return f'{digits(value, 3) if value < 999.5 else whole(value)} {sign}'
 
 
 def percent(part: int, of: int) -> str:
@@ -81,25 +94,61 @@ def without_groups(text: str) -> str:
     return masked
 
 
-@functools.lru_cache(maxsize=100_000)
-def forms(name: str) -> tuple[str, ...]:
-    """What is shown of a name, and of what a box with less room may have of it, from the longest to the shortest: without where it stands in a
-    file, without one after another part of its path until two are left, these without brackets, and so the last alone. All that by characters
-    alone. Of what is no name of its own, such as a number, nothing is left alone."""
+class Parts(NamedTuple):
+    """A name without where it stands in a file: where each part begins, each without brackets, what stands between them, and which of them are
+    names of their own, unlike numbers."""
+    head: str
+    begins: list[int]
+    bare: list[str]
+    between: list[str]
+    own: list[int]
+
+    def written(self, first: int, beyond: int) -> str:
+        """Some parts without brackets."""
+        return ''.join(self.bare[first:first + 1] + [*itertools.chain(*zip(self.between[first:], self.bare[first + 1:beyond]))]) if first < beyond else ''
+
+
+def parts_of(name: str) -> Parts | None:
+    """The parts of a name, by its characters alone; None where its brackets do not match, or it is very long."""
     head = re.sub(r' (\([^()]*\)|\[[^][]*\]|[^ ]+:[0-9]+)\Z', '', name) or name
     masked = without_groups(head)
     if re.search(r'[][(){}<>]', masked) or len(name) > 5000:
-        return (visible(name),)
+        return None
     ends = [(found.start(), found.end()) for found in re.finditer(rf'::|[/.]| (?=.*({BRACKETED}|::|[/.]))', masked, re.DOTALL)]
     begins = [0, *(end for _, end in ends)]
     parts = [head[begin:end] for begin, end in zip(begins, [*(start for start, _ in ends), len(head)])]
     own = [at for at, part in enumerate(parts) if at == 0 or not NO_NAME.fullmatch(part)]
     bare = [re.sub(rf'^({BRACKETED}*[^{BRACKETED}]*).*', lambda kept: part[:len(kept[1])], masked[begin:begin + len(part)], flags=re.DOTALL).rstrip()
             for begin, part in zip(begins, parts)]
-    between = [head[start:end] for start, end in ends]
-    short = [bare[at] + ''.join(itertools.chain(*zip(between[at:], bare[at + 1:]))) for at in own[-2:]]
-    found = [name, head, *(head[begins[at]:] for at in own[1:-1]), *short]
+    return Parts(head, begins, bare, [head[start:end] for start, end in ends], own)
+
+
+@functools.lru_cache(maxsize=100_000)
+def forms(name: str) -> tuple[str, ...]:
+    """What is shown of a name, and of what a box with less room may have of it, from the longest to the shortest: without where it stands in a
+    file, without one after another part of its path until two are left, these without brackets, and so the last alone. All that by characters
+    alone. Of what is no name of its own, such as a number, nothing is left alone."""
+    parts = parts_of(name)
+    if parts is None:
+        return (visible(name),)
+    whole = [parts.head[parts.begins[at]:] for at in parts.own[1:-1]]
+    found = [name, parts.head, *whole, *(parts.written(at, len(parts.bare)) for at in parts.own[-2:])]
     return tuple(map(visible, [name, *(form for before, form in itertools.pairwise(found) if form not in ('', before))]))
+
+
+def package(name: str) -> str:
+    """The package of a name: the file where it stands; else what stands before the last part that is a name of its own, from behind a space on."""
+    parts = parts_of(name)
+    if parts is None:
+        return ''
+    if found := re.search(r' (?:\((?P<inside>[^()]*)\)|(?P<bare>[^ ]+:[0-9]+))\Z', name):
+        place = found['inside'] or found['bare'] or ''
+        file = re.sub(r'(:[0-9]+)+\Z', '', place)
+        if file and (file != place or '/' in file or '.' in file):
+            return file
+    last = parts.own[-1]
+    first = max([0, *(at for at in range(1, last + 1) if parts.between[at - 1] == ' ')])
+    return parts.written(first, last)
 
 
 def is_label(label: str, name: str) -> bool:

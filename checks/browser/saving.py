@@ -84,7 +84,7 @@ def saving_all_rows(check):
                                                              'other · 3, 75% of the whole, 100% of what is zoomed']], 'what is zoomed')
     check.show('compare', 'parse.folded', 'faster.folded')
     contains(titles(xml.etree.ElementTree.fromstring(saved(check, 'svg'))),
-             'parse · 31, 81.6% of the whole · before 50, after 31: −38%', 'titles of a comparison')
+             'parse · 31, 81.6% of the whole · before 50: −38%', 'titles of a comparison')
 
 
 def saving_large_pictures(check):

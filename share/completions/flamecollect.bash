@@ -7,21 +7,22 @@ _flamecollect() {
     case $before in
         --by) COMPREPLY=($(compgen -W 'own total' -- "$word")); return ;;
         --format) COMPREPLY=($(compgen -W 'folded pprof' -- "$word")); return ;;
-        --every|--focus|--hide|--least|--number|--ring|--title|--type|--width|-n) return ;;
+        --unit) COMPREPLY=($(compgen -W 'nanoseconds microseconds milliseconds seconds bytes samples' -- "$word")); return ;;
+        --every|--focus|--from|--hide|--least|--number|--ring|--title|--type|--width|-n) return ;;
     esac
     if [ "$COMP_CWORD" = 1 ]; then
         COMPREPLY=($(compgen -W 'fold graph chart compare top diff callers callees types help -h --help -V --version' -- "$word"))
         return
     fi
     case ${COMP_WORDS[1]} in
-        fold) options='--type --format --lines --quiet -h --help --focus --hide --ring' ;;
-        graph) options='--width --type --format --every --lines --quiet -h --help --focus --hide --ring --page --svg --title --root-below --least' ;;
-        chart) options='--width --type --format --lines --quiet -h --help --focus --hide --ring --page --svg --title --root-below --least' ;;
-        compare) options='--width --type --format --boxes --lines --quiet -h --help --focus --hide --ring --page --svg --title --root-below --least' ;;
-        top) options='-n --number --by --json --type --format --lines --quiet -h --help --focus --hide --ring' ;;
-        diff) options='-n --number --by --json --type --format --lines --quiet -h --help --focus --hide --ring' ;;
-        callers) options='-n --number --json --type --format --lines --quiet -h --help --focus --hide --ring' ;;
-        callees) options='-n --number --json --type --format --lines --quiet -h --help --focus --hide --ring' ;;
+        fold) options='--type --format --lines --quiet -h --help --focus --hide --from --ring' ;;
+        graph) options='--width --type --unit --format --every --lines --quiet -h --help --focus --hide --from --ring --page --svg --title --root-below --least' ;;
+        chart) options='--width --type --unit --format --lines --quiet -h --help --focus --hide --from --ring --page --svg --title --root-below --least' ;;
+        compare) options='--width --type --unit --format --boxes --lines --quiet -h --help --focus --hide --from --ring --page --svg --title --root-below --least' ;;
+        top) options='-n --number --by --json --exact --type --unit --format --lines --quiet -h --help --focus --hide --from --ring' ;;
+        diff) options='-n --number --by --json --exact --type --unit --format --lines --quiet -h --help --focus --hide --from --ring' ;;
+        callers) options='-n --number --json --exact --type --unit --format --lines --quiet -h --help --focus --hide --from --ring' ;;
+        callees) options='-n --number --json --exact --type --unit --format --lines --quiet -h --help --focus --hide --from --ring' ;;
         types) options='-h --help' ;;
         help) COMPREPLY=($(compgen -W 'fold graph chart compare top diff callers callees types' -- "$word")); return ;;
         *) return ;;

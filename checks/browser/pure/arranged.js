@@ -1,8 +1,9 @@
-// Tests of other arrangements of boxes: the callers and callees of a function, and heavy boxes first.
+// Tests of other arrangements of boxes: the callers and callees of a function, heavy boxes first, and the sources of a chart side by side.
 
-import { boxAt, isCaller, pathOf } from './page/drawing.js';
+import { boxAt, isCaller, nameOf, pathOf, timeOf } from './page/drawing.js';
 import { boxByKey } from './page/focus.js';
-import { inRow, isInSpan, rowsInSpan, spanOf, spanOfRow, weightInSpan } from './page/spans.js';
+import { inRow, isInSpan, lanesOf, rowsInSpan, spanOf, spanOfRow, weightInSpan, zoomedWeight } from './page/spans.js';
+import { sumsOf } from './page/sums.js';
 import { boxesOf, forPages, holds, onPath, same } from './random.js';
 
 // The samples of a drawing: of each box those that end in it, and those of which the rest is not drawn.
@@ -132,4 +133,105 @@ function heavy() {
     });
 }
 
-export const TESTS = { callers, sides, heavy };
+// Of each source with weight what is cut from a chart: for each unit of time the boxes over it, from the root up.
+function stacksOf(page, chart) {
+    const all = Array.from({ length: chart.total }, () => []);
+    for (const box of boxesOf(chart)) {
+        for (let unit = chart.start[box]; unit < chart.start[box] + chart.weight[box]; unit++) all[unit].push(box);
+    }
+    return page.sources.filter(({ weight }) => weight > 0).map(({ start, weight }) => all.slice(start, start + weight));
+}
+
+// Does something with the sources of random charts side by side, and their stacks.
+function forCharts(count, action) {
+    forPages(count, (page, random, what) => {
+        if (page.view !== 'chart') return;
+        const chart = page.drawing(0);
+        const drawing = page.arranged({ drawing: 0, callers: -1, heavy: false, beside: true });
+        action({ page, chart, drawing, random, sources: page.sources.filter(({ weight }) => weight > 0), stacks: stacksOf(page, chart) }, what);
+    });
+}
+
+// A source has each box that is over some of its time, from its first unit there on, and as heavy as it has units. Sources have rows of their own.
+function beside() {
+    forCharts(6, ({ page, chart, drawing, sources, stacks }, what) => {
+        const wanted = [];
+        let row = 0;
+        stacks.forEach((units, number) => {
+            const pieces = [...new Set(units.flat())].map((box) => {
+                const own = units.filter((stack) => stack.at(-1) === box).length;
+                const start = units.findIndex((stack) => stack.includes(box));
+                const name = chart.depth[box] === 0 ? sources[number].name : page.names[chart.name[box]];
+                return { box, name, depth: chart.depth[box], row: row + chart.depth[box], start, weight: units.filter((stack) => stack.includes(box)).length, own };
+            });
+            wanted.push(...pieces.sort((one, other) => one.start - other.start || one.depth - other.depth));
+            row += Math.max(...pieces.map(({ depth }) => depth)) + 1;
+        });
+        const { depth, row: rows, start, weight, own } = drawing;
+        const found = boxesOf(drawing).map((box) => ({
+            box: boxAt(page, chart, pathOf(page, drawing, box), timeOf(drawing, box), false), name: nameOf(page, drawing, box), depth: depth[box],
+            row: rows[box], start: start[box], weight: weight[box], own: own[box],
+        }));
+        same(found, wanted, what);
+        same([drawing.length, drawing.total], [Math.max(...stacks.map((units) => units.length)), chart.total], `${what}: how far they go`);
+        same(lanesOf(page, drawing, spanOf(page, drawing, { box: 0, source: -1, from: -1 }), 500), [], `${what}: none stand one after another`);
+    });
+}
+
+// What may be looked at of sources side by side: all, a source, a part of each, or a box.
+function randomLook(page, drawing, random) {
+    const nothing = { box: 0, source: -1, from: -1, to: -1 };
+    const from = random.below(drawing.length);
+    const box = random.below(drawing.count);
+    return random.choose([nothing, { ...nothing, source: random.choose([0, 2]) }, { ...nothing, from, to: from + 1 + random.below(drawing.length - from) },
+        ...(drawing.depth[box] > 0 ? [{ ...nothing, box }, { ...nothing, box }] : [])]);
+}
+
+// Does something with many looks at sources side by side.
+function forLooks(action) {
+    forCharts(4, (chart, what) => {
+        for (let round = 0; round < 8; round++) action({ ...chart, state: randomLook(chart.page, chart.drawing, chart.random) }, what);
+    });
+}
+
+// Of each source the same part is seen. What is zoomed of one, a box or all of it, has its weights, its rows and its functions there alone.
+function bands() {
+    let zoomed = 0;
+    forLooks(({ page, drawing, state, sources, stacks }, what) => {
+        const span = spanOf(page, drawing, state);
+        const ofBox = (box) => sources.findLast(({ start }) => timeOf(drawing, box) >= start);
+        const chosen = state.source >= 0 ? page.sources[state.source] : state.box > 0 ? ofBox(state.box) : null;
+        const about = `${what}, ${JSON.stringify(state)}`;
+        const isZoomed = (source) => chosen === null || source === chosen;
+        const unitsOf = ({ weight }) => Math.max(0, Math.min(weight, span.to) - span.from);
+        const all = sources.filter(isZoomed).reduce((sum, source) => sum + unitsOf(source), 0);
+        const seen = boxesOf(drawing).filter((box) => {
+            const inside = Math.min(drawing.start[box] + drawing.weight[box], span.to) - Math.max(drawing.start[box], span.from);
+            same([isInSpan(drawing, box, span), weightInSpan(drawing, box, span)], [inside > 0, Math.max(0, inside)], `${about}: ${box}`);
+            same(zoomedWeight(drawing, drawing.row[box], span), isZoomed(ofBox(box)) ? all : 0, `${about}: what is zoomed of the row of ${box}`);
+            const depth = state.box > 0 && ofBox(box) === chosen ? drawing.depth[state.box] : 0;
+            same(spanOfRow(drawing, drawing.row[box], span).depth, depth, `${about}: what leads there, beside ${box}`);
+            same(boxAt(page, drawing, pathOf(page, drawing, box), timeOf(drawing, box), false), drawing.depth[box] > 0 ? box : 0, `${about}: box of a path`);
+            return inside > 0;
+        });
+        const rows = seen.filter((box) => isZoomed(ofBox(box))).map((box) => drawing.row[box]);
+        same(rowsInSpan(drawing, span), { first: Math.min(...rows), end: Math.max(...rows) + 1 }, `${about}: rows`);
+        const wanted = page.names.map(() => [0, 0]);
+        stacks.forEach((units, number) => units.slice(span.from, span.to).forEach((stack) => {
+            const names = isZoomed(sources[number]) ? stack.slice(Math.max(1, span.depth)).map((box) => page.drawing(0).name[box]) : [];
+            for (const name of new Set(names)) wanted[name][1]++;
+            if (names.length > 0) wanted[names.at(-1)][0]++;
+        }));
+        const { own, total } = sumsOf(drawing, page.names.length, span);
+        page.names.forEach((text, name) => same([own[name], total[name]], wanted[name], `${about}: weights of ${text}`));
+        zoomed += Number(chosen !== null);
+        const roots = boxesOf(drawing).filter((box) => drawing.depth[box] === 0 && seen.includes(box));
+        roots.forEach((focus, at) => {
+            const led = ['ArrowLeft', 'ArrowRight', 'Home', 'End'].map((key) => boxByKey({ drawing, span, state: { focus, below: false } }, key));
+            same(led, [roots[at - 1] ?? -1, roots[at + 1] ?? -1, roots[0], roots.at(-1)], `${about}: keys from the root ${focus}`);
+        });
+    });
+    holds(zoomed > 3, `${zoomed} of the looks are at one source`);
+}
+
+export const TESTS = { callers, sides, heavy, beside, bands };

@@ -68,8 +68,11 @@ export function randomPage(random, view) {
     const drawings = [columnsOf(random, view === 'chart')];
     if (view === 'compare') drawings.push(columnsOf(random, false));
     if (view === 'compare') for (const each of drawings) each.other = othersOf(random, each);
-    const { total } = drawings[0];
-    const parts = view === 'chart' ? [Math.floor(total / 3), 0, total - Math.floor(total / 3)] : drawings.map((each) => each.total);
+    const { total, start } = drawings[0];
+    // A source may begin where a box does.
+    const third = Math.floor(total / 3);
+    const cut = (total % 2 ? randomOf(total).choose(start) : third) || third;
+    const parts = view === 'chart' ? [cut, 0, total - cut] : drawings.map((each) => each.total);
     const sources = parts.map((weight, number) => ({ name: `source${number}`, type: '', unit: '', weight }));
     const whole = parts.reduce((sum, each) => sum + each);
     const names = [...NAMES, 'nowhere'];

@@ -1,6 +1,6 @@
-// Tests of the shorter forms of names: of some languages by hand, and of any characters against a plain definition.
+// Tests of the shorter forms of names and of their packages: of some languages by hand, and of any characters against a plain definition.
 
-import { formsOf } from './page/short.js';
+import { formsOf, packageOf } from './page/short.js';
 import { holds, randomOf, same } from './random.js';
 
 // Names as profilers write them, each with its shorter forms.
@@ -42,6 +42,36 @@ const KNOWN = [
     ['[unknown]'], ['all'], [''], ['a.b', 'b'], ['__libc_start_main@@GLIBC_2.34'],
 ];
 
+// Names as profilers write them, each with its package.
+const PACKAGED = [
+    // Go
+    ['go/types.(*Checker).Files', 'go/types.(*Checker)'], ['net/http.HandlerFunc.ServeHTTP', 'net/http.HandlerFunc'],
+    ['net/http.HandlerFunc.ServeHTTP.func1', 'net/http.HandlerFunc'],
+    ['shop/search.(*Index).rank.func2.1', 'shop/search.(*Index)'], ['encoding/json.appendString[...]', 'encoding/json'], ['runtime.mallocgc', 'runtime'],
+    // C++
+    ['std::vector<int, std::allocator<int> >::push_back(int const&)', 'std::vector'], ['void std::sort<int*>(int*, int*)', 'std'],
+    ['(anonymous namespace)::Parser::next() const', '(anonymous namespace)::Parser'], ['main(int, char**)', ''], ['void f<int>(int)', ''],
+    ['void std::vector<int>::push_back(int const&)', 'std::vector'],
+    ['copy(char*) [clone .isra.0]', ''], ['std::ostream& operator<< <char>(std::ostream&)', ''], ['malloc (libc.so.6)', 'libc.so.6'],
+    ['a::f(int) (inlined)', 'a'],
+    // Rust
+    ['<alloc::vec::Vec<T> as core::iter::Extend<T>>::extend', '<alloc::vec::Vec<T> as core::iter::Extend<T>>'],
+    ['core::ptr::drop_in_place<alloc::string::String>', 'core::ptr'], ['tokio::task::raw::poll::h0123456789abcdef', 'tokio::task::raw'],
+    ['std::thread::spawn::{{closure}}', 'std::thread'],
+    // Java
+    ['java.util.concurrent.ThreadPoolExecutor$Worker.run', 'java.util.concurrent.ThreadPoolExecutor$Worker'],
+    ['java/util/HashMap.getNode', 'java/util/HashMap'], ['java.util.HashMap.getNode', 'java.util.HashMap'], ['org.shop.Cart.<init>', 'org.shop.Cart'],
+    // Python
+    ['parse (app/views.py:12)', 'app/views.py'], ['parse (app/views.py)', 'app/views.py'], ['parse (views:12)', 'views'],
+    ['<module> (site.py:3)', 'site.py'],
+    ['json.decoder.JSONDecoder.decode', 'json.decoder.JSONDecoder'],
+    // Node
+    ['Module._compile (node:internal/modules/cjs/loader:1105:14)', 'node:internal/modules/cjs/loader'],
+    ['LazyCompile:*parse /app/lib/parse.js:10:23', '/app/lib/parse.js'], ['(garbage collector)', ''],
+    // Of any
+    ['[unknown]', ''], ['all', ''], ['', ''], ['a.b', 'a'], ['__libc_start_main@@GLIBC_2.34', ''],
+];
+
 const PIECES = ['go', 'Files', 'é', '/', '.', '..', '::', ' ', '<int>', '<a::b>', '<', '>', '->', '(*T)', '(a, b)', '[...]', '{{closure}}', 'func1', '2',
     'part', ' (a/b.py:3)', ' [clone .cold]', ':12', 'h0123456789abcdef', '(', ']', '\n'];
 
@@ -75,22 +105,45 @@ const isGroup = (piece) => '([{<'.includes(piece[0]);
 const isSeparator = (piece) => ['/', '.', '::'].includes(piece);
 const isNumber = (text) => /^([0-9]*|(func|gowrap|deferwrap)[0-9]+|cold|part|isra|constprop|llvm|\{[^]*|h[0-9a-f]{16})$/.test(text);
 
-// The shorter forms of a name by their meaning: of the pieces of each part, all from it on; and without groups that no part begins with.
-function plainForms(name) {
-    const head = name.replace(/ (\([^()]*\)|\[[^\][]*\]|[^ ]+:[0-9]+)$/, '') || name;
+// The parts of a name without where it stands: of each its pieces, and what stands before it; or null where brackets do not match.
+function plainParts(head) {
     const pieces = piecesOf(head);
-    if (!pieces) return [name];
+    if (!pieces) return null;
     const parts = [{ before: '', pieces: [] }];
     pieces.forEach((piece, at) => {
         const isCut = isSeparator(piece) || (piece === ' ' && pieces.slice(at).some((each) => isSeparator(each) || isGroup(each)));
         if (isCut) parts.push({ before: piece, pieces: [] });
         else parts.at(-1).pieces.push(piece);
     });
-    const bareOf = (those) => {
-        const word = those.findIndex((piece) => !isGroup(piece));
-        const group = those.findIndex((piece, at) => word >= 0 && at > word && isGroup(piece));
-        return (group < 0 ? those : those.slice(0, group)).join('').trimEnd();
-    };
+    return parts;
+}
+
+// A part without what follows its first group, but for groups that it begins with.
+function bareOf(those) {
+    const word = those.findIndex((piece) => !isGroup(piece));
+    const group = those.findIndex((piece, at) => word >= 0 && at > word && isGroup(piece));
+    return (group < 0 ? those : those.slice(0, group)).join('').trimEnd();
+}
+
+const headOf = (name) => name.replace(/ (\([^()]*\)|\[[^\][]*\]|[^ ]+:[0-9]+)$/, '') || name;
+
+// The package of a name by its meaning: the file at its end, else what stands between the last space and the last part that is no number.
+function plainPackage(name) {
+    const parts = plainParts(headOf(name));
+    if (!parts) return '';
+    const [, place = ''] = name.match(/ (\([^()]*\)|[^ ]+:[0-9]+)$/) || [];
+    const file = place.replace(/^\((.*)\)$/s, '$1').replace(/(:[0-9]+)+$/, '');
+    if (place !== '' && (/[/.]/.test(file) || /:[0-9]+\)?$/.test(place)) && file !== '') return file;
+    const last = parts.findLastIndex(({ pieces }, at) => at === 0 || !isNumber(pieces.join('')));
+    const first = parts.findLastIndex(({ before }, at) => at <= last && (at === 0 || before === ' '));
+    return parts.slice(first, last).map(({ before, pieces }, at) => (at > 0 ? before : '') + bareOf(pieces)).join('');
+}
+
+// The shorter forms of a name by their meaning: of the pieces of each part, all from it on; and without groups that no part begins with.
+function plainForms(name) {
+    const head = headOf(name);
+    const parts = plainParts(head);
+    if (!parts) return [name];
     const written = (from, textOf) => parts.slice(from).map(({ before, pieces: those }, at) => (at > 0 ? before : '') + textOf(those)).join('');
     const named = parts.flatMap(({ pieces: those }, at) => (at === 0 || !isNumber(those.join('')) ? [at] : []));
     const whole = named.slice(1, -1).map((at) => written(at, (those) => those.join('')));
@@ -115,4 +168,18 @@ function short() {
     same(formsOf(long), [long], 'a very long name');
 }
 
-export const TESTS = { short };
+function packages() {
+    for (const [name, wanted] of PACKAGED) same(packageOf(name), wanted, `the package of ${name}`);
+    const random = randomOf(8);
+    let some = 0;
+    for (let round = 0; round < 5000; round++) {
+        const name = Array.from({ length: random.below(9) }, () => random.choose(PIECES)).join('');
+        const found = packageOf(name);
+        same(found, plainPackage(name), `the package of ${name}`);
+        some += Number(found !== '');
+    }
+    holds(some > 500, `${some} have a package`);
+    same(packageOf(`${'a.'.repeat(2500)}b`), '', 'a very long name');
+}
+
+export const TESTS = { short, packages };

@@ -2,7 +2,7 @@
 
 import { fragmentOf, linkedOf, wordsOf, wordsOfStep } from './page/address.js';
 import { ticksOf } from './page/axis.js';
-import { LIGHT, changeShade, nameShade } from './page/colours.js';
+import { LIGHT, changeShade, nameShade, packageShade } from './page/colours.js';
 import { FONT, Lettering, PAD } from './page/lettering.js';
 import { beginning, shortened, visible } from './page/names.js';
 import { formsOf } from './page/short.js';
@@ -52,7 +52,18 @@ const STEPS = {
     bytes: { B: 1, KiB: 2 ** 10, MiB: 2 ** 20, GiB: 2 ** 30, TiB: 2 ** 40 }, kilobytes: { KiB: 1, MiB: 2 ** 10, GiB: 2 ** 20, TiB: 2 ** 30 },
 };
 
+// Whole numbers of nanoseconds that end in a 5, where three digits are rounded up.
+function halves() {
+    const random = randomOf(9);
+    for (let round = 0; round < 500; round++) {
+        const [tens, power] = [10 * (100 + random.below(899)) + 5, 3 * (1 + random.below(2))];
+        const [begin, end] = [String((tens + 5) / 10), ['', '', '', 'µs', '', '', 'ms'][power]];
+        same(weightText((tens * 10 ** power) / 100, 'nanoseconds'), `${begin.slice(0, 2)}.${begin.slice(2)} ${end}`.replace('.0 ', ' '), `half of ${tens}`);
+    }
+}
+
 function units() {
+    halves();
     const random = randomOf(3);
     for (let round = 0; round < 2000; round++) {
         const weight = Math.floor(10 ** (random.next() * 14));
@@ -132,6 +143,10 @@ function colours() {
     for (let round = 0; round < 500; round++) {
         const name = randomText(random, 30).toWellFormed();
         same(nameShade(name), plainShade(name), `the shade of ${name}`);
+        // The hue is that of the package, and the step of lightness that of the name.
+        const packaged = `${name.replace(/\s/g, '')}.f${round}`;
+        const [own, its] = [plainShade(packaged), plainShade(packaged.slice(0, packaged.lastIndexOf('.')))];
+        same(packageShade(packaged), own - (own % 36) + (its % 36), `the shade of ${packaged} by its package`);
         const [before, after] = [random.below(50), random.below(50)];
         // Each tenth of the larger weight is a shade.
         let tenths = 0;
@@ -144,41 +159,52 @@ function colours() {
     same(new Set([...plain, ...changes, joined, joinedMatch, root, dim, match]).size, 134, 'all shades differ');
 }
 
+// A box that may be zoomed: the root of a source that stands beside others is none, since a source is zoomed as such.
+function boxBelow(drawing, random) {
+    const box = random.below(drawing.count);
+    return drawing.bands.some(({ first }) => first === box) ? 0 : box;
+}
+
 function address() {
     forPages(12, (page, random, what) => {
         same(linkedOf(page, wordsOf('#share=1')).state.share, page.view === 'compare', `${what}: shares are of comparisons`);
+        same(linkedOf(page, wordsOf('#colours=package')).state.packages, page.view !== 'compare', `${what}: comparisons have colours of changes`);
         same(linkedOf(page, wordsOf('#heavy=1')).state.heavy, page.view !== 'chart', `${what}: charts go by time`);
+        same(linkedOf(page, wordsOf('#beside=1')).state.beside, page.view === 'chart', `${what}: sources of charts stand side by side`);
         for (let round = 0; round < 20; round++) {
             const number = random.below(page.drawingCount);
             const heavy = page.view !== 'chart' && random.below(2) === 0;
             const called = random.below(2) ? random.below(page.names.length) : -1;
-            const callers = called >= 0 && page.arranged({ drawing: number, callers: called, heavy }).count > 0 ? called : -1;
+            const beside = page.view === 'chart' && random.below(2) === 0;
+            const callers = called >= 0 && page.arranged({ drawing: number, callers: called, heavy, beside }).count > 0 ? called : -1;
             const asked = linkedOf(page, wordsOf(`#callers=${encodeURIComponent(page.names[called] ?? 'nothing')}&drawing=${number}`));
             same([asked.state.callers, asked.isDead], [callers, callers < 0], `${what}: callers of ${page.names[called]}`);
-            const drawing = page.arranged({ drawing: number, callers, heavy });
+            const drawing = page.arranged({ drawing: number, callers, heavy, beside });
             const source = page.view === 'chart' && callers < 0 && random.below(4) === 0 ? random.choose([0, 2]) : -1;
             const find = random.choose(['', 'a', 'é&=#%', ' \u2028/']);
-            const isPart = page.view === 'chart' && callers < 0 && source < 0 && random.below(3) === 0 && drawing.total > 2;
-            const [from, to] = isPart ? [random.below(1000 * (drawing.total - 2)) / 1000, drawing.total - random.below(1000) / 1000] : [-1, -1];
+            const isPart = page.view === 'chart' && callers < 0 && source < 0 && random.below(3) === 0 && drawing.length > 2;
+            const [from, to] = isPart ? [random.below(1000 * (drawing.length - 2)) / 1000, drawing.length - random.below(1000) / 1000] : [-1, -1];
             const state = {
-                drawing: number, callers, heavy, source, box: source >= 0 || isPart ? 0 : random.below(drawing.count), from, to, find,
+                drawing: number, callers, heavy, beside, source, box: source >= 0 || isPart ? 0 : boxBelow(drawing, random), from, to, find,
                 by: find === '' ? 'text' : random.choose(['text', 'name', 'regexp']), order: random.choose(['place', 'weight']),
                 below: random.below(2) === 0,
                 lists: random.choose([-1, 0, 9999, random.below(2000)]), share: page.view === 'compare' && random.below(2) === 0,
+                packages: page.view !== 'compare' && random.below(2) === 0,
             };
             const fragment = fragmentOf(page, { ...state, focus: 0 });
             holds(/^#[\x21-\x7e]*$/.test(fragment), `${what}: ${fragment}`);
             same(linkedOf(page, wordsOf(fragment)), { state, isDead: false }, `${what}: ${fragment}`);
             const dead = fragment.replace(/(zoom|up)=([^&]*)/, '$1=$2/nothing');
             if (dead !== fragment) same(linkedOf(page, wordsOf(dead)), { state: { ...state, box: 0 }, isDead: true }, `${what}: ${dead}`);
-            const turned = { find: 'z', order: 'weight', below: !state.below, lists: 300, share: !state.share, heavy: !state.heavy };
+            const turned = { find: 'z', order: 'weight', below: !state.below, lists: 300, share: !state.share, heavy: !state.heavy, beside: !beside, packages: !state.packages };
             const other = fragmentOf(page, { ...state, ...turned, box: 0, source: -1, from: -1, to: -1, focus: 0 });
             const [made, now] = [wordsOf(fragment), wordsOf(other)];
-            const wanted = { zoom: 'main', find: 'q', drawing: '0', root: 'below' };
-            for (const key of ['find', 'by', 'order', 'drawing', 'root', 'lists', 'share', 'heavy']) {
+            const wanted = { zoom: 'main', from: '1', find: 'q', drawing: '0', root: 'below' };
+            for (const key of ['find', 'by', 'order', 'drawing', 'root', 'lists', 'share', 'heavy', 'beside', 'colours']) {
                 if (made.get(key) !== now.get(key)) wanted[key] = now.get(key);
             }
-            same([...wordsOfStep('#zoom=main&find=q&drawing=0&root=below', fragment, other)],
+            if (made.get('beside') !== now.get('beside')) delete wanted.from;
+            same([...wordsOfStep('#zoom=main&from=1&find=q&drawing=0&root=below', fragment, other)],
                  Object.entries(wanted).filter(([, value]) => value !== undefined), `${what}: a step back from ${other}, made as ${fragment}`);
         }
     });

@@ -1,38 +1,18 @@
 -- Names in a table: what a look-up finds, and what a new name leaves.
-use Rattle.std.proofs.Common.{◌≡◌, ℕ, ◌+◌, ◌-◌, ◌<◌, inl, inr, Bool, true, false, not, cond, ◌||◌, List, [], ◌∷◌, ◌++◌, length, map, get_or, slice_get, position, nat_lt, None, Some, refl, sym, ap, subst, ◌∙◌, arith, true≢false, if◌then◌else◌}
-use Rattle.std.specs.List.{list_any, position_or_len}
+use Rattle.std.proofs.Common.{◌≡◌, ℕ, ◌+◌, ◌-◌, ◌<◌, inl, inr, true, false, List, [], ◌∷◌, ◌++◌, length, get_or, slice_get, Some, refl, sym, ap, ◌∙◌, arith, true≢false, if◌then◌else◌}
+use Rattle.std.specs.List.{list_any}
 use Rattle.std.specs.Str.{bytes_eq}
-use Rattle.std.specs.Prelude.{String}
-use Rattle.std.specs.String.{string_bytes, string_eq}
-use Rattle.std.proofs.lemmas.List.Quantifiers.{position-Some}
 use Rattle.std.proofs.lemmas.List.Folds.{list_any_at}
 use Rattle.std.proofs.lemmas.Option.{slice_get-get_or}
 use Rattle.std.proofs.lemmas.Slice.Eq.{bytes_eq-Decides}
-use Rattle.std.proofs.lemmas.List.{length-map, length-append, map-append, get_or_append_left, get_or-append_right}
+use Rattle.std.proofs.lemmas.List.{length-append, get_or_append_left, get_or-append_right}
 use Rattle.call_tree.specs.FrameTable.{with_name, HasDistinctNames}
 use Rattle.call_tree.proofs.Steps.{last_or_before}
-
-module _ {A B : Type 0} (p : B → Bool) (f : A → B) where
-  pub list_any-map : (xs : List A) → list_any p (map f xs) ≡ list_any (λ x. p (f x)) xs
-  list_any-map [] = refl
-  list_any-map (x ∷ xs) = ap (λ b. p (f x) || b) (list_any-map xs)
-
-  pub position_or_len-map : (xs : List A) → position_or_len p (map f xs) ≡ position_or_len (λ x. p (f x)) xs
-  position_or_len-map [] = refl
-  position_or_len-map (x ∷ xs) = ap (λ n. cond (not (p (f x))) (1 + n) 0) (position_or_len-map xs)
-
-  pub position-map : (xs : List A) → position p (map f xs) ≡ position (λ x. p (f x)) xs
-  position-map xs = λ i. cond (nat_lt (position_or_len-map xs i) (length-map xs f i)) (Some (position_or_len-map xs i)) None
 
 -- `name` stands at place n
 pub record IsAt (names : List (List ℕ)) (name : List ℕ) (n : ℕ) : Type 0 where
   pub below : n < length names
   pub is : get_or names n [] ≡ name
-
-pub IsAt-position : (names : List (List ℕ)) (name : List ℕ) (n : ℕ) → position (bytes_eq name) names ≡ Some n → IsAt names name n
-IsAt-position names name n e =
-    let at = position-Some (bytes_eq name) names n [] e in
-    record { below = at.0; is = sym ((bytes_eq-Decides name (get_or names n [])).0 at.1) }
 
 pub slice_get-IsAt : (names : List (List ℕ)) (name : List ℕ) (n : ℕ) → IsAt names name n → slice_get names n ≡ Some name
 slice_get-IsAt names name n at = slice_get-get_or names n [] at.below ∙ ap Some at.is
@@ -77,13 +57,3 @@ HasDistinctNames_push names name distinct none i j li lj same =
         | inr bj ↦ distinct i j bi bj (sym (before i bi) ∙ same ∙ before j bj)
       ]
     ]
-
--- the strings of a table after one that they lack was inserted
-pub strings_inserted : {Z : Type 0} (keys new : List (String Z)) (owned : String Z) (name : List ℕ) → string_bytes owned ≡ name
-    → list_any (λ k. bytes_eq name (string_bytes k)) keys ≡ false
-    → new ≡ (if list_any (string_eq owned) keys then keys else keys ++ owned ∷ [])
-    → map string_bytes new ≡ map string_bytes keys ++ name ∷ []
-strings_inserted keys new owned name is none inserted =
-    let absent_key : list_any (string_eq owned) keys ≡ false = subst (λ n. list_any (λ k. bytes_eq n (string_bytes k)) keys ≡ false) (sym is) none in
-    ap (map string_bytes) (inserted ∙ ap (λ b. if b then keys else keys ++ owned ∷ []) absent_key)
-    ∙ map-append string_bytes keys (owned ∷ []) ∙ ap (λ n. map string_bytes keys ++ n ∷ []) is

@@ -1,14 +1,16 @@
 //! Frame names, each under a number of its own.
-ghost use Rattle.std.specs.Prelude.{◌≡◌, ◌↔◌, IsTrue, ℕ, ◌<◌, List, [], ◌∷◌, length, MatchOption, OnOk, OnErr, IfOk, map, slice_get, Some};
+ghost use Rattle.std.specs.Prelude.{◌≡◌, ◌↔◌, IsTrue, ℕ, ◌<◌, List, [], length, MatchOption, OnOk, OnErr, IfOk, map, nat_eq, slice_get, Some};
+ghost use Rattle.std.specs.BTreeMap.{get_by_text};
 ghost use Rattle.std.specs.List.{slice_index_or};
 ghost use Rattle.std.specs.String.{string_bytes};
+ghost use Rattle.indexmap.specs.IndexMap.{get};
 ghost use Rattle.call_tree.specs.FrameTable.{with_name, HasDistinctNames};
-ghost use Rattle.call_tree.specs.checked.NamePlaces.{hash_of_name};
+ghost use Rattle.call_tree.specs.checked.FoundNames.{hash_of_name, IsFound};
 
-use crate::name_places::{has_name, hash_of, make_room, take_place};
-use crate::places::Places;
+use crate::hashed_numbers::HashedNumbers;
 use std::alloc::{AllocError, Global};
 use std::collections::BTreeMap;
+use std::hash::{FoldHasher, Hasher};
 use std::marker::Model;
 
 /// Frame names, numbered from 0 in the order in which they were first asked for.
@@ -16,24 +18,26 @@ use std::marker::Model;
 pub struct FrameTable {
     alloc: Global,
     names: Vec<String>,
-    places: Places,
-    /// The numbers of names with hashes that collide.
+    /// The numbers of names by their hashes.
+    hashed: HashedNumbers,
+    /// Those of names whose hashes collide, or lead where many do.
     crowded: BTreeMap<String, usize>,
 }
 
 impl Model for FrameTable {
     ghost use Rattle.std.specs.BTreeMap.{get_by_text};
-    ghost use Rattle.std.specs.Prelude.{ℕ, List, map, vec_capacity};
+    ghost use Rattle.std.specs.Prelude.{ℕ, List, map, nat_eq};
+    ghost use Rattle.indexmap.specs.IndexMap.{get};
     ghost use Rattle.std.specs.String.{string_bytes};
     ghost use Rattle.call_tree.specs.FrameTable.{HasDistinctNames};
-    ghost use Rattle.call_tree.specs.checked.NamePlaces.{HasPlaces};
+    ghost use Rattle.call_tree.specs.checked.FoundNames.{AreFound};
 
     ghost Value = { List (List ℕ) };
 
     ghost view = { λ t. map string_bytes t.names.items };
 
     ghost invariant = { λ t. HasDistinctNames (map string_bytes t.names.items)
-        × HasPlaces (map string_bytes t.names.items) t.places.slots t.places.cells.items (vec_capacity t.places.cells) (get_by_text t.crowded) };
+        × AreFound (map string_bytes t.names.items) (get nat_eq t.hashed.numbers) (get_by_text t.crowded) };
 }
 
 impl FrameTable {
@@ -44,7 +48,7 @@ impl FrameTable {
         FrameTable {
             alloc,
             names: Vec::new(alloc),
-            places: Places::new(alloc),
+            hashed: HashedNumbers::new(alloc),
             crowded: BTreeMap::new(alloc),
         }
     }
@@ -63,15 +67,15 @@ impl FrameTable {
         }
         let owned = String::from_str(self.alloc, name)?;
         let number = self.len();
-        make_room(
+        enter(
             self.alloc,
-            self.names.as_slice(),
-            &mut self.places,
-            &self.crowded,
+            name,
+            hash,
+            number,
+            &mut self.hashed,
+            &mut self.crowded,
         )?;
-        let place = take_place(self.alloc, name, number, &self.places, &mut self.crowded)?;
         self.names.push(owned)?;
-        self.places.push(hash, place, number);
         Ok(number)
     }
 
@@ -83,17 +87,10 @@ impl FrameTable {
             (λ n. (n < length self.now) × (slice_index_or self.now n [] ≡ name.now)) }
     {
         let names = self.names.as_slice();
-        if let Ok(number) = self
-            .places
-            .walk(hash, |number| has_name(names, number, name))
-        {
+        if let Some(number) = checked(names, self.hashed.find(hash), name) {
             return Some(number);
         }
-        let number = *self.crowded.get(name)?;
-        if has_name(names, number, name) {
-            return Some(number);
-        }
-        None
+        checked(names, self.crowded.get(name).copied(), name)
     }
 
     /// The name of a number.
@@ -125,4 +122,57 @@ impl FrameTable {
     {
         let _names = &self.names;
     }
+}
+
+/// The hash of a name.
+fn hash_of(name: &str) -> u64
+    ensures { result ≡ hash_of_name name.now }
+{
+    let mut hasher = FoldHasher::default();
+    hasher.write(name.as_bytes());
+    hasher.finish()
+}
+
+/// Whether a name has this number.
+fn has_name(names: &[String], number: usize, name: &str) -> bool
+    ensures { IsTrue result ↔ ((number < length (map string_bytes names.now)) × (slice_index_or (map string_bytes names.now) number [] ≡ name.now)) }
+{
+    if number >= names.len() {
+        return false;
+    }
+    names[number].as_str() == name
+}
+
+/// A number, if it is the name's.
+fn checked(names: &[String], number: Option<usize>, name: &str) -> Option<usize>
+    ensures { MatchOption result
+        ((n : ℕ) → number ≡ Some n → n < length (map string_bytes names.now) → slice_index_or (map string_bytes names.now) n [] ≡ name.now → ⊥)
+        (λ n. (n < length (map string_bytes names.now)) × (slice_index_or (map string_bytes names.now) n [] ≡ name.now)) }
+{
+    let number = number?;
+    if has_name(names, number, name) {
+        return Some(number);
+    }
+    None
+}
+
+/// Keeps the number of a new name: by its hash, or beside those where the hash leads to many.
+fn enter(
+    alloc: Global,
+    name: &str,
+    hash: u64,
+    number: usize,
+    hashed: &mut HashedNumbers,
+    crowded: &mut BTreeMap<String, usize>,
+) -> Result<(), AllocError>
+    requires { hash ≡ hash_of_name name.now }
+    ensures found { OnOk result (IsFound (get nat_eq hashed.new.numbers) (get_by_text crowded.new) name.now number) }
+    ensures keeps { (other : List ℕ) (n : ℕ) → (other ≡ name.now → ⊥) → IsFound (get nat_eq hashed.old.numbers) (get_by_text crowded.old) other n
+        → IsFound (get nat_eq hashed.new.numbers) (get_by_text crowded.new) other n }
+{
+    if !hashed.enter(alloc, hash, number)? {
+        let owned = String::from_str(alloc, name)?;
+        crowded.insert(owned, number)?;
+    }
+    Ok(())
 }

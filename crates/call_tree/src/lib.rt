@@ -2,12 +2,12 @@
 #![tactic(auto)]
 
 mod frame_table;
+mod hashed_numbers;
 mod hints;
 mod histories;
 pub mod laws;
 mod links;
 mod listing;
-mod name_places;
 mod nodes;
 mod places;
 mod spelling_hash;

@@ -97,7 +97,7 @@ impl Links {
             Ok(number) => (number, false),
             Err(place) => {
                 let number = self.links.len();
-                self.places.push(hash, Some(place), number);
+                self.places.push(hash, place, number);
                 let _ = self.links.push(link);
                 (number, true)
             }
@@ -156,7 +156,7 @@ fn places_of(alloc: Global, links: &[Link], slots: usize) -> Result<Places, Allo
     for number in 0..links.len() {
         let hash = hash_of(links[number]);
         let place = places.end_of_walk(hash);
-        places.push(hash, Some(place), number);
+        places.push(hash, place, number);
     }
     Ok(places)
 }

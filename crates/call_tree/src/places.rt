@@ -1,6 +1,5 @@
 //! Places of numbers, which are found from the hashes of what the numbers stand for.
-ghost use Rattle.std.specs.Prelude.{◌≡◌, ℕ, true, false, ◌+◌, ◌*◌, ◌<◌, ◌≤◌, ◌^◌, [], length, MatchOption, IfOk, IfErr, OnErr, vec_len, vec_capacity, slice_index, IfSome};
-ghost use Rattle.std.specs.Option.{ForSome};
+ghost use Rattle.std.specs.Prelude.{◌≡◌, ℕ, true, false, ◌+◌, ◌*◌, ◌<◌, ◌≤◌, ◌^◌, [], length, MatchOption, IfOk, IfErr, OnErr, vec_len, vec_capacity, slice_index};
 ghost use Rattle.call_tree.specs.checked.Places.{home_of, below_of, IsPlaced, KeepsNumbers, IsFree, IsLonger, AreSound};
 
 use std::alloc::{AllocError, Global};
@@ -69,28 +68,6 @@ impl Places {
         self.slots + 2 * number + (bits % 2) as usize
     }
 
-    /// The empty place to which the walk of a hash comes in so many steps.
-    pub fn free_place(&self, hash: u64, limit: usize) -> Option<usize>
-        requires some { 0 < self.now.slots }
-        requires slots { self.now.slots ≤ length self.now.cells.items }
-        requires sound { AreSound self.now.slots self.now.cells.items (vec_capacity self.now.cells) }
-        ensures { MatchOption result (limit < length self.now.cells.items)
-            (λ place. IsFree self.now.cells.items self.now.slots hash place) }
-    {
-        let mut place = self.home(hash);
-        let mut bits = hash;
-        let mut steps = 0;
-        while let Some(number) = self.number_at(place) {
-            if steps == limit {
-                return None;
-            }
-            steps += 1;
-            place = self.below(number, bits);
-            bits /= 2;
-        }
-        Some(place)
-    }
-
     /// The empty place where the walk of a hash ends.
     pub fn end_of_walk(&self, hash: u64) -> usize
         requires some { 0 < self.now.slots }
@@ -98,9 +75,14 @@ impl Places {
         requires sound { AreSound self.now.slots self.now.cells.items (vec_capacity self.now.cells) }
         ensures { IsFree self.now.cells.items self.now.slots hash result }
     {
-        match self.free_place(hash, usize::MAX) {
-            Some(place) => place,
-            None => unreachable!(),
+        match self.walk(
+            hash,
+            |_|
+                ensures { result ≡ false }
+            { false },
+        ) {
+            Ok(_) => unreachable!(),
+            Err(place) => place,
         }
     }
 
@@ -151,21 +133,19 @@ impl Places {
         let _ = self.cells.push(0);
     }
 
-    /// Gives the next number its two cells, and puts it at an empty place, where there is one for it.
-    pub fn push(&mut self, hash: u64, place: Option<usize>, number: usize)
+    /// Gives the next number its two cells, and puts it at an empty place.
+    pub fn push(&mut self, hash: u64, place: usize, number: usize)
         requires next { length self.old.cells.items ≡ self.old.slots + 2 * number }
         requires room { number < self.old.slots }
         requires sound { AreSound self.old.slots self.old.cells.items (vec_capacity self.old.cells) }
-        requires free { ForSome place (IsFree self.old.cells.items self.old.slots hash) }
+        requires free { IsFree self.old.cells.items self.old.slots hash place }
         ensures slots { self.new.slots ≡ self.old.slots }
         ensures len { length self.new.cells.items ≡ self.new.slots + 2 * (number + 1) }
         ensures sound { AreSound self.new.slots self.new.cells.items (vec_capacity self.new.cells) }
         ensures keeps { KeepsNumbers self.old.cells.items self.new.cells.items }
-        ensures placed { IfSome place (λ _. IsPlaced self.new.cells.items self.new.slots hash number) }
+        ensures placed { IsPlaced self.new.cells.items self.new.slots hash number }
     {
         self.lengthen();
-        if let Some(place) = place {
-            self.cells[place] = (number + 1) as u32;
-        }
+        self.cells[place] = (number + 1) as u32;
     }
 }

@@ -1,4 +1,5 @@
 pub mod Building
+pub mod EarlyWords
 pub mod EnteredCommands
 pub mod PassedLevels
 pub mod PassedUses

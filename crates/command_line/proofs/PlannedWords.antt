@@ -1,11 +1,11 @@
 -- From what a parse ensures to what a plan does.
-use Rattle.std.proofs.Common.{◌≡◌, ◌∙◌, ◌≤◌, ◌&&◌, ◌||◌, inl, inr, ℕ, Bool, cond, true, false, true≢false, ne_eqb, arith, refl, sym, ap, subst, List, [], ◌∷◌, length, Option, Some, None, is_some, option_map, codes}
+use Rattle.std.proofs.Common.{◌≡◌, ◌∙◌, ◌≤◌, ◌&&◌, ◌||◌, inl, inr, ℕ, Bool, cond, true, false, true≢false, ne_eqb, arith, refl, sym, ap, subst, List, [], ◌∷◌, length, map, Option, Some, None, is_some, option_map, codes}
 use Rattle.std.specs.Prelude.{option_and_then, unwrap_or, IfSome, IsSomeAnd}
 use Rattle.std.specs.List.{find}
 use Rattle.std.specs.Str.{bytes_eq}
 use Rattle.std.specs.Str.Parse.{IsNumeral, digits_value, without_leading_plus}
 use Rattle.clap.specs.Faults.{fault_of as parsing_fault, is_simple_and_free}
-use Rattle.clap.specs.Kinds.{HasKind, Kinds, or_else}
+use Rattle.clap.specs.Kinds.{HasKind, IsAmong, Kinds, or_else}
 use Rattle.clap.specs.Simple.{App, HasMatchesOf, is_simple, subcommand_of, subcommand_rows_of}
 use Rattle.clap.specs.Takes.{takes as parses}
 use Rattle.clap.specs.Values.{kind_of}
@@ -15,8 +15,9 @@ use Rattle.clap.specs.declared.error.kind.ErrorKind.{ErrorKind}
 use Rattle.clap.specs.declared.error.kind.ErrorKind.TheVariants as kind
 use Rattle.clap.specs.declared.parser.matches.ArgMatches.{ArgMatches}
 use Rattle.command_line.specs.CommandLine.{command_line}
+use Rattle.command_line.specs.EarlyValues.{told_kind, told_kinds}
 use Rattle.command_line.specs.checked.Entries.{IsFaultOf, IsNumberAt, IsRead, compares}
-use Rattle.command_line.specs.Plans.{IsComparison, IsDrawn, IsFaultAmong, IsOfOneProfile, IsPage, IsPicture, IsRequest, call_table_of, command_plan, compared_view, entered_plan, entries_fault, fault_of, form_of, has_conflict, has_its_form, has_its_page, is_set, is_used, knows_format, knows_order, number_at, own_fault, page_of, picture_of, plan_with, table_of, text_form, types_plan, view_of, width_of}
+use Rattle.command_line.specs.Plans.{IsComparison, IsDrawn, IsFaultAmong, IsOfOneProfile, IsPage, IsPicture, IsRequest, call_table_of, command_plan, compared_view, entered_plan, entries_fault, fault_of, form_of, has_conflict, has_its_form, has_its_page, is_set, is_used, knows_format, knows_order, knows_unit, number_at, own_fault, page_of, picture_of, plan_with, table_of, text_form, types_plan, view_of, width_of}
 use Rattle.command_line.specs.declared.plans.Form.{Form}
 use Rattle.command_line.specs.declared.plans.Form.TheVariants as form
 use Rattle.command_line.specs.declared.arguments.TheConstants.{MOST_BETWEEN_SNAPSHOTS}
@@ -174,7 +175,7 @@ with_no_fault {A} kinds o x at = go (is_empty kinds) refl at
     go false is at = cc
 
 no_conflict : (entries : List Row) → entries_fault entries ≡ [] → has_conflict entries ≡ false
-no_conflict entries = go (knows_format entries && knows_order entries) (has_conflict entries) (has_its_page entries && has_its_form entries)
+no_conflict entries = go (knows_format entries && (knows_order entries && knows_unit entries)) (has_conflict entries) (has_its_page entries && has_its_form entries)
   where
     go : (known conflict formed : Bool) → cond known (cond conflict (kind.ArgumentConflict ∷ []) (cond formed [] (kind.MissingRequiredArgument ∷ []))) (kind.InvalidValue ∷ []) ≡ [] → conflict ≡ false
     go false conflict formed e = cc
@@ -237,20 +238,23 @@ refused_format entries unknown = rw unknown refl
 pub refused_order : (entries : List Row) → knows_format entries ≡ true → knows_order entries ≡ false → entries_fault entries ≡ kind.InvalidValue ∷ []
 refused_order entries known unknown = rw (known, unknown) refl
 
-pub refused_conflict : (entries : List Row) → knows_format entries ≡ true → knows_order entries ≡ true → has_conflict entries ≡ true
+pub refused_unit : (entries : List Row) → knows_format entries ≡ true → knows_order entries ≡ true → knows_unit entries ≡ false → entries_fault entries ≡ kind.InvalidValue ∷ []
+refused_unit entries format order unknown = rw (format, order, unknown) refl
+
+pub refused_conflict : (entries : List Row) → knows_format entries ≡ true → knows_order entries ≡ true → knows_unit entries ≡ true → has_conflict entries ≡ true
     → entries_fault entries ≡ kind.ArgumentConflict ∷ []
-refused_conflict entries format order conflict = rw (format, order, conflict) refl
+refused_conflict entries format order unit conflict = rw (format, order, unit, conflict) refl
 
-pub refused_page : (entries : List Row) → knows_format entries ≡ true → knows_order entries ≡ true → has_conflict entries ≡ false → has_its_page entries ≡ false
+pub refused_page : (entries : List Row) → knows_format entries ≡ true → knows_order entries ≡ true → knows_unit entries ≡ true → has_conflict entries ≡ false → has_its_page entries ≡ false
     → entries_fault entries ≡ kind.MissingRequiredArgument ∷ []
-refused_page entries format order alone page = rw (format, order, alone, page) refl
+refused_page entries format order unit alone page = rw (format, order, unit, alone, page) refl
 
-pub refused_form : (entries : List Row) → knows_format entries ≡ true → knows_order entries ≡ true → has_conflict entries ≡ false → has_its_page entries ≡ true → has_its_form entries ≡ false
+pub refused_form : (entries : List Row) → knows_format entries ≡ true → knows_order entries ≡ true → knows_unit entries ≡ true → has_conflict entries ≡ false → has_its_page entries ≡ true → has_its_form entries ≡ false
     → entries_fault entries ≡ kind.MissingRequiredArgument ∷ []
-refused_form entries format order alone page formed = rw (format, order, alone, page, formed) refl
+refused_form entries format order unit alone page formed = rw (format, order, unit, alone, page, formed) refl
 
-pub without_fault : (entries : List Row) → knows_format entries ≡ true → knows_order entries ≡ true → has_conflict entries ≡ false → has_its_page entries ≡ true → has_its_form entries ≡ true → entries_fault entries ≡ []
-without_fault entries format order alone page formed = rw (format, order, alone, page, formed) refl
+pub without_fault : (entries : List Row) → knows_format entries ≡ true → knows_order entries ≡ true → knows_unit entries ≡ true → has_conflict entries ≡ false → has_its_page entries ≡ true → has_its_form entries ≡ true → entries_fault entries ≡ []
+without_fault entries format order unit alone page formed = rw (format, order, unit, alone, page, formed) refl
 
 pub planned_command : (name : Text) (entries : List Row) (o : Option Plan) → entries_fault entries ≡ []
     → cond (bytes_eq name (codes "types")) (Some (types_plan entries)) (option_map (plan_with name entries) (view_of name entries)) ≡ o
@@ -261,12 +265,7 @@ planned_command name entries o none is = rw none is
 pub own_alone : (words : List Text) (entered : Option (Text × List Row)) → parsing_fault command_line words ≡ [] → entered ≡ subcommand_of command_line words
     → own_fault entered ≡ fault_of command_line words
 own_alone words entered none is =
-    ap own_fault is ∙ sym (ap (λ kinds. or_else kinds (own_fault (subcommand_of command_line words))) none)
-
-pub more_kinds : (kinds more : Kinds) (e : Error) → HasKind kinds e → HasKind (or_else kinds more) e
-more_kinds kinds more e (inl memory) = inl memory
-more_kinds [] more e (inr among) = absurd among
-more_kinds (k ∷ ks) more e (inr among) = inr among
+    ap own_fault is ∙ sym (ap (λ kinds. or_else (told_kinds words kinds) (own_fault (subcommand_of command_line words))) none)
 
 not_memory : (k : ErrorKind) → k ≡ kind.OutOfMemory → IsRequest k → ⊥
 not_memory k memory (inl help) =
@@ -276,14 +275,28 @@ not_memory k memory (inr version) =
     let no : kind.OutOfMemory ≡ kind.DisplayVersion = sym memory ∙ version in
     cc
 
-pub fault_among : (kinds : Kinds) (e : Error) (f : PlanFault) → HasKind kinds e → IsFaultOf (kind_of e) f → IsFaultAmong kinds f
-fault_among kinds e fault.OutOfMemory has is = tt
-fault_among kinds e (fault.Words text) (inl memory) is = absurd (is.1 memory)
-fault_among kinds e (fault.Words text) (inr among) is = (kind_of e, among, is.0)
-fault_among kinds e (fault.Help text) (inl memory) is = absurd (not_memory (kind_of e) memory is)
-fault_among kinds e (fault.Help text) (inr among) is = (kind_of e, among, is)
+-- what is told in place of help is told of no other kind
+told_memory : (words : List Text) (k : ErrorKind) → k ≡ kind.OutOfMemory → told_kind words k ≡ kind.OutOfMemory
+told_memory words k is = ap (told_kind words) is
 
-pub fault_of_memory : (e : Error) (f : PlanFault) → kind_of e ≡ kind.OutOfMemory → IsFaultOf (kind_of e) f → f ≡ fault.OutOfMemory
-fault_of_memory e fault.OutOfMemory memory is = refl
-fault_of_memory e (fault.Words text) memory is = absurd (is.1 memory)
-fault_of_memory e (fault.Help text) memory is = absurd (not_memory (kind_of e) memory is)
+among_told : (tell : ErrorKind → ErrorKind) (k : ErrorKind) (kinds : Kinds) → IsAmong k kinds → IsAmong (tell k) (map tell kinds)
+among_told tell k [] among = absurd among
+among_told tell k (x ∷ xs) (inl is) = inl (ap tell is)
+among_told tell k (x ∷ xs) (inr among) = inr (among_told tell k xs among)
+
+among_more : (k : ErrorKind) (kinds more : Kinds) → IsAmong k kinds → IsAmong k (or_else kinds more)
+among_more k [] more among = absurd among
+among_more k (x ∷ xs) more among = among
+
+pub fault_among : (words : List Text) (kinds more : Kinds) (e : Error) (f : PlanFault) → HasKind kinds e → IsFaultOf (told_kind words (kind_of e)) f
+    → IsFaultAmong (or_else (told_kinds words kinds) more) f
+fault_among words kinds more e fault.OutOfMemory has is = tt
+fault_among words kinds more e (fault.Words text) (inl memory) is = absurd (is.1 (told_memory words (kind_of e) memory))
+fault_among words kinds more e (fault.Words text) (inr among) is = (told_kind words (kind_of e), among_more _ _ more (among_told (told_kind words) (kind_of e) kinds among), is.0)
+fault_among words kinds more e (fault.Help text) (inl memory) is = absurd (not_memory _ (told_memory words (kind_of e) memory) is)
+fault_among words kinds more e (fault.Help text) (inr among) is = (told_kind words (kind_of e), among_more _ _ more (among_told (told_kind words) (kind_of e) kinds among), is)
+
+pub fault_of_memory : (words : List Text) (e : Error) (f : PlanFault) → kind_of e ≡ kind.OutOfMemory → IsFaultOf (told_kind words (kind_of e)) f → f ≡ fault.OutOfMemory
+fault_of_memory words e fault.OutOfMemory memory is = refl
+fault_of_memory words e (fault.Words text) memory is = absurd (is.1 (told_memory words (kind_of e) memory))
+fault_of_memory words e (fault.Help text) memory is = absurd (not_memory _ (told_memory words (kind_of e) memory) is)

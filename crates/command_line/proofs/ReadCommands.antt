@@ -213,6 +213,7 @@ record KnowsArguments (c : List Rule) : Type 0 where
   boxes : IsFlagRule (arg_by_id c (codes "boxes"))
   rows : IsNumberRule MOST_ROWS (arg_by_id c (codes "number"))
   json : IsFlagRule (arg_by_id c (codes "json"))
+  exact : IsFlagRule (arg_by_id c (codes "exact"))
   quiet : IsFlagRule (arg_by_id c (codes "quiet"))
   page : IsFlagRule (arg_by_id c (codes "page"))
   svg : IsFlagRule (arg_by_id c (codes "svg"))
@@ -244,6 +245,7 @@ module _ (s : Shape) (known : KnowsArguments s.rules) (once : s.args_override_se
     boxes = flag_at_id s.rules rows each_row (codes "boxes") known.boxes;
     rows = number_at_id s.rules rows each_row (codes "number") MOST_ROWS known.rows;
     json = flag_at_id s.rules rows each_row (codes "json") known.json;
+    exact = flag_at_id s.rules rows each_row (codes "exact") known.exact;
     quiet = flag_at_id s.rules rows each_row (codes "quiet") known.quiet;
     page = flag_at_id s.rules rows each_row (codes "page") known.page;
     svg = flag_at_id s.rules rows each_row (codes "svg") known.svg;
@@ -299,7 +301,7 @@ built_types = slice_index_or built_line.subs 8 no_shape
 
 fold_known : KnowsArguments built_fold.rules
 fold_known = record {
-  firsts = (refl, (refl, (refl, (refl, (refl, (refl, (refl, (refl, (refl, tt)))))))));
+  firsts = (refl, (refl, (refl, (refl, (refl, (refl, (refl, (refl, (refl, (refl, tt))))))))));
   width = tt;
   ring = refl;
   every = tt;
@@ -307,6 +309,7 @@ fold_known = record {
   boxes = tt;
   rows = tt;
   json = tt;
+  exact = tt;
   quiet = refl;
   page = tt;
   svg = tt;
@@ -316,7 +319,7 @@ fold_known = record {
 
 graph_known : KnowsArguments built_graph.rules
 graph_known = record {
-  firsts = (refl, (refl, (refl, (refl, (refl, (refl, (refl, (refl, (refl, (refl, (refl, (refl, (refl, (refl, (refl, (refl, tt))))))))))))))));
+  firsts = (refl, (refl, (refl, (refl, (refl, (refl, (refl, (refl, (refl, (refl, (refl, (refl, (refl, (refl, (refl, (refl, (refl, (refl, tt))))))))))))))))));
   width = refl;
   ring = refl;
   every = refl;
@@ -324,6 +327,7 @@ graph_known = record {
   boxes = tt;
   rows = tt;
   json = tt;
+  exact = tt;
   quiet = refl;
   page = refl;
   svg = refl;
@@ -333,7 +337,7 @@ graph_known = record {
 
 chart_known : KnowsArguments built_chart.rules
 chart_known = record {
-  firsts = (refl, (refl, (refl, (refl, (refl, (refl, (refl, (refl, (refl, (refl, (refl, (refl, (refl, (refl, (refl, tt)))))))))))))));
+  firsts = (refl, (refl, (refl, (refl, (refl, (refl, (refl, (refl, (refl, (refl, (refl, (refl, (refl, (refl, (refl, (refl, (refl, tt)))))))))))))))));
   width = refl;
   ring = refl;
   every = tt;
@@ -341,6 +345,7 @@ chart_known = record {
   boxes = tt;
   rows = tt;
   json = tt;
+  exact = tt;
   quiet = refl;
   page = refl;
   svg = refl;
@@ -350,7 +355,7 @@ chart_known = record {
 
 compare_known : KnowsArguments built_compare.rules
 compare_known = record {
-  firsts = (refl, (refl, (refl, (refl, (refl, (refl, (refl, (refl, (refl, (refl, (refl, (refl, (refl, (refl, (refl, (refl, (refl, tt)))))))))))))))));
+  firsts = (refl, (refl, (refl, (refl, (refl, (refl, (refl, (refl, (refl, (refl, (refl, (refl, (refl, (refl, (refl, (refl, (refl, (refl, (refl, tt)))))))))))))))))));
   width = refl;
   ring = refl;
   every = tt;
@@ -358,6 +363,7 @@ compare_known = record {
   boxes = refl;
   rows = tt;
   json = tt;
+  exact = tt;
   quiet = refl;
   page = refl;
   svg = refl;
@@ -367,7 +373,7 @@ compare_known = record {
 
 top_known : KnowsArguments built_top.rules
 top_known = record {
-  firsts = (refl, (refl, (refl, (refl, (refl, (refl, (refl, (refl, (refl, (refl, (refl, (refl, tt))))))))))));
+  firsts = (refl, (refl, (refl, (refl, (refl, (refl, (refl, (refl, (refl, (refl, (refl, (refl, (refl, (refl, (refl, tt)))))))))))))));
   width = tt;
   ring = refl;
   every = tt;
@@ -375,6 +381,7 @@ top_known = record {
   boxes = tt;
   rows = refl;
   json = refl;
+  exact = refl;
   quiet = refl;
   page = tt;
   svg = tt;
@@ -384,7 +391,7 @@ top_known = record {
 
 diff_known : KnowsArguments built_diff.rules
 diff_known = record {
-  firsts = (refl, (refl, (refl, (refl, (refl, (refl, (refl, (refl, (refl, (refl, (refl, (refl, (refl, tt)))))))))))));
+  firsts = (refl, (refl, (refl, (refl, (refl, (refl, (refl, (refl, (refl, (refl, (refl, (refl, (refl, (refl, (refl, (refl, tt))))))))))))))));
   width = tt;
   ring = refl;
   every = tt;
@@ -392,6 +399,7 @@ diff_known = record {
   boxes = tt;
   rows = refl;
   json = refl;
+  exact = refl;
   quiet = refl;
   page = tt;
   svg = tt;
@@ -401,7 +409,7 @@ diff_known = record {
 
 callers_known : KnowsArguments built_callers.rules
 callers_known = record {
-  firsts = (refl, (refl, (refl, (refl, (refl, (refl, (refl, (refl, (refl, (refl, (refl, (refl, tt))))))))))));
+  firsts = (refl, (refl, (refl, (refl, (refl, (refl, (refl, (refl, (refl, (refl, (refl, (refl, (refl, (refl, (refl, tt)))))))))))))));
   width = tt;
   ring = refl;
   every = tt;
@@ -409,6 +417,7 @@ callers_known = record {
   boxes = tt;
   rows = refl;
   json = refl;
+  exact = refl;
   quiet = refl;
   page = tt;
   svg = tt;
@@ -429,6 +438,7 @@ types_known = record {
   boxes = tt;
   rows = tt;
   json = tt;
+  exact = tt;
   quiet = tt;
   page = tt;
   svg = tt;

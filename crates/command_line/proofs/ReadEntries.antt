@@ -14,8 +14,9 @@ use Rattle.run_options.specs.declared.choices.Pick.TheVariants.{Preferred, Named
 use Rattle.command_line.specs.checked.Entries.{IsCountAt, IsFlagAt, IsNumberAt, entries_of}
 use Rattle.run_options.specs.Formats.{named_format}
 use Rattle.run_options.specs.Orders.{named_order}
+use Rattle.command_line.specs.Units.{named_unit}
 use Rattle.run_options.specs.declared.orders.FunctionOrder.TheVariants.{Own}
-use Rattle.command_line.specs.Plans.{asked_format, form_of, function_of, has_conflict, has_its_form, has_its_page, is_drawn, is_root_below, is_set, is_used, knows_format, knows_order, number_at, order_of, page_of, pick_of, picture_of, shows_boxes, text_form, title_of, values_at}
+use Rattle.command_line.specs.Plans.{asked_format, asked_unit, form_of, from_of, function_of, has_conflict, has_its_form, has_its_page, is_drawn, is_root_below, is_set, is_used, knows_format, knows_order, knows_unit, number_at, order_of, page_of, pick_of, picture_of, shows_boxes, text_form, title_of, values_at}
 use Rattle.command_line.specs.declared.plans.Form.TheVariants as form
 
 -- how `u32` reads a text
@@ -106,6 +107,15 @@ format_given m name is =
       ap (λ o. option_map_or (λ n. is_some (named_format n)) o true) read,
     )
 
+pub unit_given : (m : ArgMatches) (name : Option Text) → name ≡ first_value (found_of m) (codes "unit")
+    → (asked_unit (entries_of m) ≡ option_and_then named_unit name)
+    × (knows_unit (entries_of m) ≡ option_map_or (λ n. is_some (named_unit n)) name true)
+unit_given m name is =
+    let read = sym (first_value-rows (found_of m) (codes "unit")) ∙ sym is in (
+      ap (option_and_then named_unit) read,
+      ap (λ o. option_map_or (λ n. is_some (named_unit n)) o true) read,
+    )
+
 pub order_given : (m : ArgMatches) (name : Option Text) → name ≡ first_value (found_of m) (codes "by")
     → (order_of (entries_of m) ≡ unwrap_or (option_and_then named_order name) Own)
     × (knows_order (entries_of m) ≡ option_map_or (λ n. is_some (named_order n)) name true)
@@ -117,6 +127,9 @@ order_given m name is =
 
 pub title_given : (m : ArgMatches) (name : Option Text) → name ≡ first_value (found_of m) (codes "title") → title_of (entries_of m) ≡ name
 title_given m name is = sym (first_value-rows (found_of m) (codes "title")) ∙ sym is
+
+pub from_given : (m : ArgMatches) (name : Option Text) → name ≡ first_value (found_of m) (codes "from") → from_of (entries_of m) ≡ name
+from_given m name is = sym (first_value-rows (found_of m) (codes "from")) ∙ sym is
 
 pub function_given : (m : ArgMatches) (name : Option Text) → name ≡ first_value (found_of m) (codes "function") → function_of (entries_of m) ≡ unwrap_or name []
 function_given m name is = ap (λ o. unwrap_or o []) (sym (first_value-rows (found_of m) (codes "function")) ∙ sym is)

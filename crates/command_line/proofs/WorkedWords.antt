@@ -9,6 +9,7 @@ use Rattle.run_options.specs.declared.choices.Pick.TheVariants.{Preferred, Named
 use Rattle.command_line.specs.CommandLine.{command_line}
 use Rattle.run_options.specs.Filters.{everything}
 use Rattle.run_options.specs.Formats.{format_at}
+use Rattle.command_line.specs.EarlyValues.{refuses_before_help}
 use Rattle.command_line.specs.Plans.{fault_of, plan_of, takes}
 use Rattle.run_options.specs.declared.formats.Format.TheVariants.{Folded, Pprof}
 use Rattle.run_options.specs.declared.options.Options.{Options}
@@ -16,6 +17,7 @@ use Rattle.run_options.specs.declared.orders.FunctionOrder.TheVariants.{Own, Tot
 use Rattle.command_line.specs.declared.plans.Form.TheVariants as form
 use Rattle.command_line.specs.declared.plans.Plan.{Plan}
 use Rattle.command_line.specs.declared.plans.View.{View}
+use Rattle.command_line.specs.declared.units.WeightUnit.TheVariants.{Bytes, Seconds}
 use Rattle.command_line.specs.declared.plans.View.TheVariants.{Fold, Graph, Chart, Pairs, PairBoxes, Top, Diff}
 
 -- what `clap` says in `plan`'s clauses it says of this command line
@@ -26,7 +28,7 @@ abbrev defaults : Options
 defaults = record { ring = 1024; pick = Preferred; naming = Plain; filter = everything; every = None }
 
 abbrev plan_with : View → Options → List Text → Plan
-plan_with view options files = record { view = view; options = options; format = None; files = files; form = form.Text; is_quiet = false }
+plan_with view options files = record { view = view; options = options; from = None; format = None; files = files; form = form.Text; is_quiet = false; unit = None }
 
 graph_with_a_width : plan_of (codes "graph" ∷ codes "--width" ∷ codes "10" ∷ codes "x.folded" ∷ [])
     ≡ Some (plan_with (Graph 10) defaults (codes "x.folded" ∷ []))
@@ -55,20 +57,38 @@ pair_boxes : plan_of (codes "compare" ∷ codes "b" ∷ codes "--boxes" ∷ code
 unfolding clap_on_literals
 pair_boxes = refl
 
-top_alone : plan_of (codes "top" ∷ []) ≡ Some (plan_with (Top (record { by = Own; rows = 10; is_json = false })) defaults [])
+top_alone : plan_of (codes "top" ∷ []) ≡ Some (plan_with (Top (record { by = Own; rows = 10; is_json = false; is_exact = false })) defaults [])
 unfolding clap_on_literals
 top_alone = refl
 
 top_with_options : plan_of (codes "top" ∷ codes "-n" ∷ codes "3" ∷ codes "x" ∷ codes "--by=total" ∷ codes "--json" ∷ codes "--hide" ∷ codes "c" ∷ [])
-    ≡ Some (plan_with (Top (record { by = Total; rows = 3; is_json = true }))
+    ≡ Some (plan_with (Top (record { by = Total; rows = 3; is_json = true; is_exact = false }))
     (record defaults { filter = record { focus = []; hide = codes "c" ∷ [] } }) (codes "x" ∷ []))
 unfolding clap_on_literals
 top_with_options = refl
 
 top_of_a_number : plan_of (codes "top" ∷ codes "--number=1000000000" ∷ codes "--by" ∷ codes "own" ∷ [])
-    ≡ Some (plan_with (Top (record { by = Own; rows = 1000000000; is_json = false })) defaults [])
+    ≡ Some (plan_with (Top (record { by = Own; rows = 1000000000; is_json = false; is_exact = false })) defaults [])
 unfolding clap_on_literals
 top_of_a_number = refl
+
+exact_top_in_seconds : plan_of (codes "top" ∷ codes "--unit" ∷ codes "seconds" ∷ codes "--exact" ∷ [])
+    ≡ Some (record (plan_with (Top (record { by = Own; rows = 10; is_json = false; is_exact = true })) defaults []) { unit = Some Seconds })
+unfolding clap_on_literals
+exact_top_in_seconds = refl
+
+picture_in_bytes : plan_of (codes "graph" ∷ codes "--svg" ∷ codes "--unit=bytes" ∷ [])
+    ≡ Some (record (plan_with (Graph 1200) defaults []) { form = form.Picture (record { title = None; is_root_below = false }); unit = Some Bytes })
+unfolding clap_on_literals
+picture_in_bytes = refl
+
+no_such_unit : fault_of command_line (codes "top" ∷ codes "--unit" ∷ codes "ns" ∷ []) ≡ kind.InvalidValue ∷ []
+unfolding clap_on_literals
+no_such_unit = refl
+
+no_unit_of_fold : fault_of command_line (codes "fold" ∷ codes "--unit" ∷ codes "bytes" ∷ []) ≡ kind.UnknownArgument ∷ []
+unfolding clap_on_literals
+no_unit_of_fold = refl
 
 no_functions : fault_of command_line (codes "top" ∷ codes "-n" ∷ codes "0" ∷ []) ≡ kind.ValueValidation ∷ []
 unfolding clap_on_literals
@@ -90,12 +110,12 @@ no_order_of_fold : fault_of command_line (codes "fold" ∷ codes "--by" ∷ code
 unfolding clap_on_literals
 no_order_of_fold = refl
 
-diff_alone : plan_of (codes "diff" ∷ codes "b" ∷ codes "a" ∷ []) ≡ Some (plan_with (Diff (record { by = Own; rows = 10; is_json = false })) defaults (codes "b" ∷ codes "a" ∷ []))
+diff_alone : plan_of (codes "diff" ∷ codes "b" ∷ codes "a" ∷ []) ≡ Some (plan_with (Diff (record { by = Own; rows = 10; is_json = false; is_exact = false })) defaults (codes "b" ∷ codes "a" ∷ []))
 unfolding clap_on_literals
 diff_alone = refl
 
 diff_with_options : plan_of (codes "diff" ∷ codes "--json" ∷ codes "b" ∷ codes "-n" ∷ codes "3" ∷ codes "a" ∷ codes "--by" ∷ codes "total" ∷ codes "--focus" ∷ codes "f" ∷ [])
-    ≡ Some (plan_with (Diff (record { by = Total; rows = 3; is_json = true }))
+    ≡ Some (plan_with (Diff (record { by = Total; rows = 3; is_json = true; is_exact = false }))
     (record defaults { filter = record { focus = codes "f" ∷ []; hide = [] } }) (codes "b" ∷ codes "a" ∷ []))
 unfolding clap_on_literals
 diff_with_options = refl
@@ -109,13 +129,13 @@ unfolding clap_on_literals
 no_page_of_a_diff = refl
 
 callers_of_a_function : plan_of (codes "callers" ∷ codes "f g" ∷ [])
-    ≡ Some (record (plan_with Fold defaults []) { form = form.Callers (record { name = codes "f g"; rows = 10; is_json = false }) })
+    ≡ Some (record (plan_with Fold defaults []) { form = form.Callers (record { name = codes "f g"; rows = 10; is_json = false; is_exact = false }) })
 unfolding clap_on_literals
 callers_of_a_function = refl
 
 callees_with_options : plan_of (codes "callees" ∷ codes "--json" ∷ codes "f" ∷ codes "-n" ∷ codes "3" ∷ codes "x" ∷ codes "--hide" ∷ codes "c" ∷ codes "y" ∷ [])
     ≡ Some (record (plan_with Fold (record defaults { filter = record { focus = []; hide = codes "c" ∷ [] } }) (codes "x" ∷ codes "y" ∷ []))
-    { form = form.Callees (record { name = codes "f"; rows = 3; is_json = true }) })
+    { form = form.Callees (record { name = codes "f"; rows = 3; is_json = true; is_exact = false }) })
 unfolding clap_on_literals
 callees_with_options = refl
 
@@ -126,6 +146,28 @@ callers_of_none = refl
 no_order_of_callers : fault_of command_line (codes "callers" ∷ codes "--by" ∷ codes "own" ∷ codes "f" ∷ []) ≡ kind.UnknownArgument ∷ []
 unfolding clap_on_literals
 no_order_of_callers = refl
+
+graph_from_a_name : plan_of (codes "graph" ∷ codes "--from" ∷ codes "f g" ∷ codes "x" ∷ [])
+    ≡ Some (record (plan_with (Graph 1200) defaults (codes "x" ∷ [])) { from = Some (codes "f g") })
+unfolding clap_on_literals
+graph_from_a_name = refl
+
+diff_from_a_name : plan_of (codes "diff" ∷ codes "b" ∷ codes "a" ∷ codes "--from=f" ∷ [])
+    ≡ Some (record (plan_with (Diff (record { by = Own; rows = 10; is_json = false; is_exact = false })) defaults (codes "b" ∷ codes "a" ∷ [])) { from = Some (codes "f") })
+unfolding clap_on_literals
+diff_from_a_name = refl
+
+from_two_names : fault_of command_line (codes "fold" ∷ codes "--from" ∷ codes "f" ∷ codes "--from" ∷ codes "g" ∷ []) ≡ kind.ArgumentConflict ∷ []
+unfolding clap_on_literals
+from_two_names = refl
+
+from_no_name : fault_of command_line (codes "top" ∷ codes "--from=" ∷ []) ≡ kind.InvalidValue ∷ []
+unfolding clap_on_literals
+from_no_name = refl
+
+no_from_of_types : fault_of command_line (codes "types" ∷ codes "--from" ∷ codes "f" ∷ codes "x" ∷ []) ≡ kind.UnknownArgument ∷ []
+unfolding clap_on_literals
+no_from_of_types = refl
 
 quiet_fold : plan_of (codes "fold" ∷ codes "--quiet" ∷ []) ≡ Some (record (plan_with Fold defaults []) { is_quiet = true })
 unfolding clap_on_literals
@@ -298,11 +340,11 @@ unfolding clap_on_literals
 no_command = refl
 
 fold_help : fault_of command_line (codes "fold" ∷ codes "--help" ∷ []) ≡ kind.DisplayHelp ∷ []
-unfolding clap_on_literals
+unfolding clap_on_literals refuses_before_help
 fold_help = refl
 
 help_alone : fault_of command_line (codes "--help" ∷ []) ≡ kind.DisplayHelp ∷ []
-unfolding clap_on_literals
+unfolding clap_on_literals refuses_before_help
 help_alone = refl
 
 version_alone : fault_of command_line (codes "--version" ∷ []) ≡ kind.DisplayVersion ∷ []
@@ -318,3 +360,20 @@ cpu_prof = refl
 
 x_folded : format_at (codes "x.folded") ≡ Folded
 x_folded = refl
+
+-- what is refused before a wish for help is told, and what stands behind it is not looked at
+unknown_format_before_help : fault_of command_line (codes "graph" ∷ codes "--format" ∷ codes "svg" ∷ codes "--help" ∷ []) ≡ kind.InvalidValue ∷ []
+unfolding clap_on_literals refuses_before_help
+unknown_format_before_help = refl
+
+unknown_order_before_help : fault_of command_line (codes "top" ∷ codes "--by=name" ∷ codes "-h" ∷ []) ≡ kind.InvalidValue ∷ []
+unfolding clap_on_literals refuses_before_help
+unknown_order_before_help = refl
+
+unknown_format_behind_help : fault_of command_line (codes "graph" ∷ codes "--help" ∷ codes "--format" ∷ codes "svg" ∷ []) ≡ kind.DisplayHelp ∷ []
+unfolding clap_on_literals refuses_before_help
+unknown_format_behind_help = refl
+
+known_format_before_help : fault_of command_line (codes "graph" ∷ codes "--format" ∷ codes "pprof" ∷ codes "--help" ∷ []) ≡ kind.DisplayHelp ∷ []
+unfolding clap_on_literals refuses_before_help
+known_format_before_help = refl

@@ -46,6 +46,9 @@ focus_option = texts_option (codes "focus")
 abbrev pub hide_option : Rule
 hide_option = texts_option (codes "hide")
 
+abbrev pub from_option : Rule
+from_option = record (text_option (codes "from")) { parser = Some NonEmptyString }
+
 abbrev pub ring_option : Rule
 ring_option = number_option (codes "ring") LARGEST_RING
 
@@ -67,6 +70,13 @@ by_option = text_option (codes "by")
 
 abbrev pub json_flag : Rule
 json_flag = flag (codes "json")
+
+-- weights as plain digits, and the unit of weights that have none
+abbrev pub exact_flag : Rule
+exact_flag = flag (codes "exact")
+
+abbrev pub unit_option : Rule
+unit_option = text_option (codes "unit")
 
 abbrev pub quiet_flag : Rule
 quiet_flag = flag (codes "quiet")
@@ -93,37 +103,37 @@ command name arguments = record (new_shape name) { rules = arguments }
 
 abbrev pub fold_command : Shape
 fold_command = command (codes "fold") (type_option ∷ format_option ∷ focus_option ∷ hide_option
-    ∷ ring_option ∷ lines_flag ∷ quiet_flag ∷ any_files (codes "file") ∷ [])
+    ∷ from_option ∷ ring_option ∷ lines_flag ∷ quiet_flag ∷ any_files (codes "file") ∷ [])
 
 abbrev pub graph_command : Shape
-graph_command = command (codes "graph") (width_option ∷ type_option ∷ format_option
-    ∷ focus_option ∷ hide_option ∷ ring_option ∷ every_option ∷ lines_flag ∷ quiet_flag
+graph_command = command (codes "graph") (width_option ∷ type_option ∷ unit_option ∷ format_option
+    ∷ focus_option ∷ hide_option ∷ from_option ∷ ring_option ∷ every_option ∷ lines_flag ∷ quiet_flag
     ∷ page_flag ∷ svg_flag ∷ title_option ∷ root_below_flag ∷ least_option ∷ any_files (codes "file") ∷ [])
 
 abbrev pub chart_command : Shape
-chart_command = command (codes "chart") (width_option ∷ type_option ∷ format_option
-    ∷ focus_option ∷ hide_option ∷ ring_option ∷ lines_flag ∷ quiet_flag
+chart_command = command (codes "chart") (width_option ∷ type_option ∷ unit_option ∷ format_option
+    ∷ focus_option ∷ hide_option ∷ from_option ∷ ring_option ∷ lines_flag ∷ quiet_flag
     ∷ page_flag ∷ svg_flag ∷ title_option ∷ root_below_flag ∷ least_option ∷ any_files (codes "file") ∷ [])
 
 abbrev pub compare_command : Shape
-compare_command = command (codes "compare") (width_option ∷ type_option ∷ format_option
-    ∷ focus_option ∷ hide_option ∷ ring_option ∷ boxes_flag ∷ lines_flag ∷ quiet_flag
+compare_command = command (codes "compare") (width_option ∷ type_option ∷ unit_option ∷ format_option
+    ∷ focus_option ∷ hide_option ∷ from_option ∷ ring_option ∷ boxes_flag ∷ lines_flag ∷ quiet_flag
     ∷ page_flag ∷ svg_flag ∷ title_option ∷ root_below_flag ∷ least_option
     ∷ one_value (codes "before") ∷ one_value (codes "after") ∷ [])
 
 abbrev pub top_command : Shape
-top_command = command (codes "top") (rows_option ∷ by_option ∷ json_flag ∷ type_option ∷ format_option
-    ∷ focus_option ∷ hide_option ∷ ring_option ∷ lines_flag ∷ quiet_flag ∷ any_files (codes "file") ∷ [])
+top_command = command (codes "top") (rows_option ∷ by_option ∷ json_flag ∷ exact_flag ∷ type_option ∷ unit_option ∷ format_option
+    ∷ focus_option ∷ hide_option ∷ from_option ∷ ring_option ∷ lines_flag ∷ quiet_flag ∷ any_files (codes "file") ∷ [])
 
 abbrev pub diff_command : Shape
-diff_command = command (codes "diff") (rows_option ∷ by_option ∷ json_flag ∷ type_option ∷ format_option
-    ∷ focus_option ∷ hide_option ∷ ring_option ∷ lines_flag ∷ quiet_flag
+diff_command = command (codes "diff") (rows_option ∷ by_option ∷ json_flag ∷ exact_flag ∷ type_option ∷ unit_option ∷ format_option
+    ∷ focus_option ∷ hide_option ∷ from_option ∷ ring_option ∷ lines_flag ∷ quiet_flag
     ∷ one_value (codes "before") ∷ one_value (codes "after") ∷ [])
 
 -- the name comes before the files
 abbrev pub calls_command : Text → Shape
-calls_command name = command name (rows_option ∷ json_flag ∷ type_option ∷ format_option
-    ∷ focus_option ∷ hide_option ∷ ring_option ∷ lines_flag ∷ quiet_flag
+calls_command name = command name (rows_option ∷ json_flag ∷ exact_flag ∷ type_option ∷ unit_option ∷ format_option
+    ∷ focus_option ∷ hide_option ∷ from_option ∷ ring_option ∷ lines_flag ∷ quiet_flag
     ∷ one_value (codes "function") ∷ any_files (codes "file") ∷ [])
 
 abbrev pub callers_command : Shape

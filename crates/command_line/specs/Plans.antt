@@ -24,6 +24,8 @@ use Rattle.run_options.specs.declared.options.Options.{Options}
 use Rattle.run_options.specs.declared.orders.FunctionOrder.{FunctionOrder}
 use Rattle.run_options.specs.declared.orders.FunctionOrder.TheVariants.{Own}
 use Rattle.command_line.specs.CommandLine.{command_line}
+use Rattle.command_line.specs.EarlyValues.{told_kinds}
+use Rattle.command_line.specs.Units.{named_unit}
 use Rattle.command_line.specs.declared.plans.CallTable.{CallTable}
 use Rattle.command_line.specs.declared.plans.Form.{Form}
 use Rattle.command_line.specs.declared.plans.Form.TheVariants as form
@@ -33,6 +35,7 @@ use Rattle.command_line.specs.declared.plans.Plan.{Plan}
 use Rattle.command_line.specs.declared.plans.PlanFault.{PlanFault}
 use Rattle.command_line.specs.declared.plans.PlanFault.TheVariants as fault
 use Rattle.command_line.specs.declared.plans.TopTable.{TopTable}
+use Rattle.command_line.specs.declared.units.WeightUnit.{WeightUnit}
 use Rattle.command_line.specs.declared.plans.View.{View}
 use Rattle.command_line.specs.declared.plans.View.TheVariants.{Fold, Graph, Chart, Pairs, PairBoxes, Top, Diff}
 
@@ -78,6 +81,14 @@ abbrev pub knows_format : List Row → Bool
 knows_format entries =
     option_map_or (λ name. is_some (named_format name)) (first_of (codes "format") entries) true
 
+-- the unit of weights that have none, if the words set one; and what they set is a unit
+abbrev pub asked_unit : List Row → Option WeightUnit
+asked_unit entries = option_and_then named_unit (first_of (codes "unit") entries)
+
+abbrev pub knows_unit : List Row → Bool
+knows_unit entries =
+    option_map_or (λ name. is_some (named_unit name)) (first_of (codes "unit") entries) true
+
 abbrev pub options_of : List Row → Options
 options_of entries = record {
   ring = unwrap_or (number_at (codes "ring") entries) 1024;
@@ -86,6 +97,10 @@ options_of entries = record {
   filter = filter_of entries;
   every = number_at (codes "every") entries;
 }
+
+-- the name of the frame at which each stack begins, if the words set one
+abbrev pub from_of : List Row → Option Text
+from_of entries = first_of (codes "from") entries
 
 abbrev pub default_options : Options
 default_options = options_of []
@@ -121,6 +136,7 @@ table_of entries = record {
   by = order_of entries;
   rows = rows_of entries;
   is_json = is_set (codes "json") entries;
+  is_exact = is_set (codes "exact") entries;
 }
 
 -- a function, and how much is told of its calls
@@ -132,6 +148,7 @@ call_table_of entries = record {
   name = function_of entries;
   rows = rows_of entries;
   is_json = is_set (codes "json") entries;
+  is_exact = is_set (codes "exact") entries;
 }
 
 -- the two commands that tell the calls of a function show no view: the plan has that of `fold`
@@ -195,10 +212,12 @@ abbrev pub plan_with : Text → List Row → View → Plan
 plan_with name entries view = record {
   view = view;
   options = options_of entries;
+  from = from_of entries;
   format = asked_format entries;
   files = files_of entries;
   form = form_of name entries;
   is_quiet = is_set (codes "quiet") entries;
+  unit = asked_unit entries;
 }
 
 -- the plan of `types`: the file is a profile, whatever its name, and nothing is asked of its samples
@@ -206,17 +225,19 @@ abbrev pub types_plan : List Row → Plan
 types_plan entries = record {
   view = Fold;
   options = default_options;
+  from = None;
   format = Some Pprof;
   files = files_of entries;
   form = form.Types;
   is_quiet = false;
+  unit = None;
 }
 
--- the faults of entries that `clap` takes: a format or an order that there is not, else a picture beside what it excludes, else
+-- the faults of entries that `clap` takes: a format, an order or a unit that there is not, else a picture beside what it excludes, else
 -- what is said of a page or a picture where none is asked for
 abbrev pub entries_fault : List Row → Kinds
 entries_fault entries =
-    if knows_format entries && knows_order entries
+    if knows_format entries && (knows_order entries && knows_unit entries)
     then (if has_conflict entries then kind.ArgumentConflict ∷ []
     else (if has_its_page entries && has_its_form entries then [] else kind.MissingRequiredArgument ∷ []))
     else kind.InvalidValue ∷ []
@@ -294,9 +315,11 @@ abbrev pub takes : App → List Text → Bool
 takes line words = parses line words
     && is_empty (own_fault (subcommand_of line words))
 
--- the faults of words: those that `clap` finds, else those of the entries
+-- the faults of words: those that `clap` finds, else those of the entries; a value that is refused comes before help that is asked
+-- for behind it
 abbrev pub fault_of : App → List Text → Kinds
-fault_of line words = or_else (parsing_fault line words) (own_fault (subcommand_of line words))
+fault_of line words = or_else (told_kinds words (parsing_fault line words))
+    (own_fault (subcommand_of line words))
 
 -- the text that a fault is shown as
 abbrev pub fault_text : PlanFault → List ℕ

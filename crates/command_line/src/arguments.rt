@@ -1,7 +1,7 @@
 //! The kinds of arguments that commands have: options, flags and files.
 ghost use Rattle.std.specs.Prelude.{◌≡◌, codes};
 ghost use Rattle.clap.specs.Words.{rule_of};
-ghost use Rattle.command_line.specs.CommandLine.{any_files, flag, least_option, number_option, one_value, ring_option, rows_option, text_option, texts_option, title_option};
+ghost use Rattle.command_line.specs.CommandLine.{any_files, flag, from_option, least_option, number_option, one_value, ring_option, rows_option, text_option, texts_option, title_option};
 
 use clap::builder::ValueParser;
 use clap::{Arg, ArgAction, value_parser};
@@ -13,6 +13,9 @@ pub(crate) const MOST_BETWEEN_SNAPSHOTS: u32 = 1_000_000_000;
 
 // The most rows of a table.
 const MOST_ROWS: u32 = 1_000_000_000;
+
+// The heading of what is said of the samples that are shown.
+const FILTERS: &str = "Filters";
 
 // The heading of what is said of pages and of SVGs.
 const FORMS: &str = "Pages and SVGs";
@@ -46,7 +49,15 @@ pub(crate) fn filter_option<'a>(alloc: Global, name: &'a str, help: &'a str) -> 
     text_option(alloc, name, "NAME", help)
         .action(ArgAction::Append)
         .value_parser(ValueParser::NonEmptyString)
-        .help_heading("Filters")
+        .help_heading(FILTERS)
+}
+
+pub(crate) fn from_option<'a>(alloc: Global, help: &'a str) -> Arg<'a>
+    ensures { rule_of result ≡ from_option }
+{
+    text_option(alloc, "from", "NAME", help)
+        .value_parser(ValueParser::NonEmptyString)
+        .help_heading(FILTERS)
 }
 
 pub(crate) fn flag<'a>(alloc: Global, name: &'a str, help: &'a str) -> Arg<'a>

@@ -57,7 +57,7 @@ Example: flamecollect types cpu.pprof
 Compressed: gzip -dk cpu.pb.gz makes cpu.pb, whose types can be told";
 
 // The commands.
-enum Subcommand {
+pub(crate) enum Subcommand {
     Fold,
     Graph,
     Chart,
@@ -145,7 +145,7 @@ impl Subcommand {
     }
 
     // The command, as `clap` takes it.
-    fn built<'a>(&self, alloc: Global) -> Result<Command<'a>, AllocError>
+    pub(crate) fn built<'a>(&self, alloc: Global) -> Result<Command<'a>, AllocError>
         ensures { IfOk result (λ command. app_of command ≡ as_app (shape_at self.now)) }
     {
         let mut command = described(alloc, self.name(), self.about(), self.example());
@@ -165,6 +165,11 @@ pub(crate) fn command_line<'a>(alloc: Global) -> Result<Command<'a>, AllocError>
         line = with_command(alloc, line, command)?;
     }
     Ok(line)
+}
+
+// The command of that name, if there is one.
+pub(crate) fn command_named(name: &str) -> Option<&'static Subcommand> {
+    COMMANDS.iter().find(|command| command.name() == name)
 }
 
 // The line with a further command.

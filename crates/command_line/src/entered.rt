@@ -5,7 +5,7 @@ ghost use Rattle.command_line.specs.Plans.{IsFaultAmong, entered_plan, own_fault
 ghost use Rattle.command_line.specs.checked.Entries.{IsRead, entries_of};
 ghost use Rattle.command_line.specs.declared.plans.PlanFault.TheVariants.{OutOfMemory};
 
-use crate::entries::{default_options, files, format, options};
+use crate::entries::{default_options, files, format, from, options, unit};
 use crate::plans::{Form, Plan, PlanFault, View};
 use crate::refusals::check_entries;
 use crate::views::{form, view};
@@ -25,7 +25,7 @@ pub(crate) fn planned(alloc: Global, matches: &ArgMatches<'_>) -> Result<Plan, P
     let Some((name, entries)) = matches.subcommand() else {
         unreachable!()
     };
-    check_entries(alloc, entries)?;
+    check_entries(alloc, name, entries)?;
     if name == "types" {
         Ok(types_plan(alloc, entries)?)
     } else {
@@ -44,7 +44,9 @@ fn view_plan(alloc: Global, name: &str, entries: &ArgMatches<'_>) -> Result<Plan
         view: view(name, entries),
         format: format(entries),
         is_quiet: entries.get_flag("quiet"),
+        unit: unit(entries),
         form: form(alloc, name, entries)?,
+        from: from(alloc, entries)?,
         files: files(alloc, entries)?,
         options: options(alloc, entries)?,
     })
@@ -58,6 +60,8 @@ fn types_plan(alloc: Global, entries: &ArgMatches<'_>) -> Result<Plan, AllocErro
         view: View::Fold,
         format: Some(Format::Pprof),
         is_quiet: false,
+        from: None,
+        unit: None,
         form: Form::Types,
         files: files(alloc, entries)?,
         options: default_options(alloc),

@@ -1,11 +1,12 @@
 //! What the entries of a command ask for, beside the view.
 ghost use Rattle.std.specs.Prelude.{◌≡◌, ◌++◌, IfOk, OnOk, codes};
 ghost use Rattle.clap.specs.Walk.{texts};
-ghost use Rattle.command_line.specs.Plans.{asked_format, default_options, files_of, filter_of, naming_of, number_at, options_of, pick_of, values_at};
+ghost use Rattle.command_line.specs.Plans.{asked_format, asked_unit, default_options, files_of, filter_of, from_of, naming_of, number_at, options_of, pick_of, values_at};
 ghost use Rattle.command_line.specs.checked.Entries.{IsFlagAt, IsNumberAt, entries_of};
 ghost use Rattle.command_line.specs.declared.arguments.TheConstants.{MOST_BETWEEN_SNAPSHOTS};
 ghost use Rattle.run_options.specs.declared.ring_sizes.TheConstants.{LARGEST_RING};
 
+use crate::units::WeightUnit;
 use clap::ArgMatches;
 use run_options::{Filter, Format, Naming, Options, Pick, RingSize};
 use stack_core::{Names, Text};
@@ -95,12 +96,32 @@ fn every(entries: &ArgMatches<'_>) -> Option<u64>
     entries.get_one::<u32>("every").map(u64::from)
 }
 
+// The frame at which each stack begins, if the words set one.
+pub(crate) fn from(alloc: Global, entries: &ArgMatches<'_>) -> Result<Option<Text>, AllocError>
+    ensures { IfOk result (λ from. from ≡ from_of (entries_of entries.now)) }
+{
+    match entries.get_str("from") {
+        Some(name) => Ok(Some(Text::from_str(alloc, name)?)),
+        None => Ok(None),
+    }
+}
+
 // The format that the words set.
 pub(crate) fn format(entries: &ArgMatches<'_>) -> Option<Format>
     ensures { result ≡ asked_format (entries_of entries.now) }
 {
     match entries.get_str("format") {
         Some(name) => Format::named(name),
+        None => None,
+    }
+}
+
+// The unit that the words set.
+pub(crate) fn unit(entries: &ArgMatches<'_>) -> Option<WeightUnit>
+    ensures { result ≡ asked_unit (entries_of entries.now) }
+{
+    match entries.get_str("unit") {
+        Some(name) => WeightUnit::named(name),
         None => None,
     }
 }

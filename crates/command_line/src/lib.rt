@@ -4,12 +4,16 @@
 mod argument_lists;
 mod arguments;
 mod commands;
+mod early_values;
 mod entered;
 mod entries;
 mod plans;
 mod refusals;
+mod units;
+mod usages;
 mod views;
 mod words;
 
 pub use plans::{CallTable, Form, PageForm, PictureForm, Plan, PlanFault, TopTable, View};
+pub use units::WeightUnit;
 pub use words::{plan, plan_without_words};

@@ -2,6 +2,7 @@
 ghost use Rattle.std.specs.Prelude.{◌≡◌};
 ghost use Rattle.command_line.specs.declared.plans.PlanFault.TheVariants.{OutOfMemory};
 
+use crate::units::WeightUnit;
 use run_options::{Format, FunctionOrder, Options, Width};
 use stack_core::{Names, Text};
 use std::alloc::AllocError;
@@ -36,6 +37,8 @@ pub struct TopTable {
     pub rows: u64,
     /// It is written as a line of JSON.
     pub is_json: bool,
+    /// Its weights are plain digits, whatever their unit.
+    pub is_exact: bool,
 }
 
 /// What a run writes.
@@ -64,6 +67,8 @@ pub struct CallTable {
     pub rows: u64,
     /// It is written as a line of JSON.
     pub is_json: bool,
+    /// Its weights are plain digits, whatever their unit.
+    pub is_exact: bool,
 }
 
 /// A page for browsers.
@@ -91,6 +96,8 @@ pub struct PictureForm {
 pub struct Plan {
     pub view: View,
     pub options: Options,
+    /// The whole name of the frame at which each stack begins, if the words set one. Stacks without such a frame are left out.
+    pub from: Option<Text>,
     /// The format of every source. None leaves it to the name of each.
     pub format: Option<Format>,
     /// The paths of the sources, in order. None is the standard input.
@@ -99,6 +106,8 @@ pub struct Plan {
     pub form: Form,
     /// No progress is shown on a terminal.
     pub is_quiet: bool,
+    /// The unit of weights that have none of their own, if the words set one.
+    pub unit: Option<WeightUnit>,
 }
 
 /// Why words are no plan.

@@ -1,17 +1,20 @@
 //! Why words are refused, and the entries that `clap` takes and that mean nothing.
-ghost use Rattle.std.specs.Prelude.{◌≡◌, [], IfErr, IfOk, OnOk, codes, is_some};
+ghost use Rattle.std.specs.Prelude.{◌≡◌, [], IfErr, OnOk, codes, is_some, map, string_bytes};
 ghost use Rattle.clap.specs.declared.error.kind.ErrorKind.TheVariants.{InvalidValue};
 ghost use Rattle.clap.specs.Words.{kind_of};
-ghost use Rattle.command_line.specs.Plans.{IsFaultAmong, entries_fault, has_conflict, has_its_form, has_its_page, knows_format, knows_order};
+ghost use Rattle.command_line.specs.EarlyValues.{told_kind};
+ghost use Rattle.command_line.specs.Plans.{IsFaultAmong, entries_fault, has_conflict, has_its_form, has_its_page, knows_format, knows_order, knows_unit};
 ghost use Rattle.command_line.specs.checked.Entries.{IsFaultOf, IsFlagAt, entries_of};
 
-use crate::commands::command_line;
+use crate::early_values::{Choice, refused_before_help};
 use crate::plans::PlanFault;
+use crate::units::WeightUnit;
+use crate::usages::{completed, error_of};
 use crate::views::{is_drawn, is_root_below};
 use clap::error::ErrorKind;
 use clap::{ArgMatches, Error};
 use run_options::{Format, FunctionOrder};
-use std::alloc::{AllocError, Global};
+use std::alloc::Global;
 
 // What is said of a picture beside what it excludes.
 const SVG_AND_PAGE: &str = "the argument '--svg' cannot be used with '--page'";
@@ -25,8 +28,30 @@ const MISSING_PAGE: &str = "the following required arguments were not provided:\
 
 const MISSING_FORM: &str = "the following required arguments were not provided:\n  <--page|--svg>";
 
-// What the error is for the caller.
-pub(crate) fn refusal(alloc: Global, error: &Error) -> PlanFault
+// What the error of the parse of these words is for the caller. A value that `clap` takes and that is refused comes before the help
+// that is asked for behind it, as those do that `clap` refuses.
+pub(crate) fn parse_refusal(alloc: Global, words: &[String], error: &Error) -> PlanFault
+    ensures { IsFaultOf (told_kind (map string_bytes words.now) (kind_of error.now)) result }
+{
+    let name = command_name(words);
+    if error.kind() == ErrorKind::DisplayHelp {
+        if let Some((choice, given)) = refused_before_help(words) {
+            return refused_value(alloc, name, choice, given);
+        }
+    }
+    refusal(alloc, name, error)
+}
+
+// The first word, which is that of the command.
+fn command_name(words: &[String]) -> &str {
+    match words.first() {
+        Some(word) => word.as_str(),
+        None => "",
+    }
+}
+
+// What the error of the command is for the caller.
+fn refusal(alloc: Global, name: &str, error: &Error) -> PlanFault
     ensures { IsFaultOf (kind_of error.now) result }
 {
     let kind = error.kind();
@@ -36,14 +61,21 @@ pub(crate) fn refusal(alloc: Global, error: &Error) -> PlanFault
     let is_asked_for = kind == ErrorKind::DisplayHelp || kind == ErrorKind::DisplayVersion;
     match error.to_string(alloc) {
         Ok(text) if is_asked_for => PlanFault::Help(text),
-        Ok(text) => PlanFault::Words(text),
+        Ok(text) => match completed(alloc, name, kind, text) {
+            Ok(text) => PlanFault::Words(text),
+            Err(_) => PlanFault::OutOfMemory,
+        },
         Err(_) => PlanFault::OutOfMemory,
     }
 }
 
-// Refuses a format or an order of functions that there is not, a picture beside what it excludes, and
+// Refuses a format, an order of functions or a unit that there is not, a picture beside what it excludes, and
 // what is said of a page or a picture where none is asked for.
-pub(crate) fn check_entries(alloc: Global, entries: &ArgMatches<'_>) -> Result<(), PlanFault>
+pub(crate) fn check_entries(
+    alloc: Global,
+    name: &str,
+    entries: &ArgMatches<'_>,
+) -> Result<(), PlanFault>
     requires page { IsFlagAt (codes "page") (entries_of entries.now) }
     requires svg { IsFlagAt (codes "svg") (entries_of entries.now) }
     requires below { IsFlagAt (codes "root-below") (entries_of entries.now) }
@@ -52,20 +84,34 @@ pub(crate) fn check_entries(alloc: Global, entries: &ArgMatches<'_>) -> Result<(
 {
     if !knows_format(entries) {
         let given = entries.get_str("format").unwrap_or("");
-        return Err(refused_value(alloc, given, "--format <FORMAT>", "folded, pprof"));
+        return Err(refused_value(alloc, name, Choice::Format, given));
     }
     if !knows_order(entries) {
         let given = entries.get_str("by").unwrap_or("");
-        return Err(refused_value(alloc, given, "--by <WEIGHT>", "own, total"));
+        return Err(refused_value(alloc, name, Choice::Order, given));
+    }
+    if !knows_unit(entries) {
+        let given = entries.get_str("unit").unwrap_or("");
+        return Err(refused_value(alloc, name, Choice::Unit, given));
     }
     if let Some(conflict) = conflict(entries) {
-        return Err(refused(alloc, ErrorKind::ArgumentConflict, conflict));
+        return Err(refused(alloc, name, ErrorKind::ArgumentConflict, conflict));
     }
     if !has_its_page(entries) {
-        return Err(refused(alloc, ErrorKind::MissingRequiredArgument, MISSING_PAGE));
+        return Err(refused(
+            alloc,
+            name,
+            ErrorKind::MissingRequiredArgument,
+            MISSING_PAGE,
+        ));
     }
     if !has_its_form(entries) {
-        return Err(refused(alloc, ErrorKind::MissingRequiredArgument, MISSING_FORM));
+        return Err(refused(
+            alloc,
+            name,
+            ErrorKind::MissingRequiredArgument,
+            MISSING_FORM,
+        ));
     }
     Ok(())
 }
@@ -84,6 +130,15 @@ fn knows_order(entries: &ArgMatches<'_>) -> bool
 {
     match entries.get_str("by") {
         Some(name) => FunctionOrder::named(name).is_some(),
+        None => true,
+    }
+}
+
+fn knows_unit(entries: &ArgMatches<'_>) -> bool
+    ensures { result ≡ knows_unit (entries_of entries.now) }
+{
+    match entries.get_str("unit") {
+        Some(name) => WeightUnit::named(name).is_some(),
         None => true,
     }
 }
@@ -134,32 +189,25 @@ fn has_its_form(entries: &ArgMatches<'_>) -> bool
 }
 
 // The refusal of a value that the option can't have, with those that it can.
-fn refused_value(alloc: Global, given: &str, option: &str, possible: &str) -> PlanFault
+fn refused_value(alloc: Global, name: &str, choice: Choice, given: &str) -> PlanFault
     ensures { IsFaultOf InvalidValue result }
 {
+    let option = choice.shown();
+    let possible = choice.possible();
     match format!(in alloc;
         "invalid value '{given}' for '{option}'\n  [possible values: {possible}]"
     ) {
-        Ok(message) => refused(alloc, ErrorKind::InvalidValue, message.as_str()),
+        Ok(message) => refused(alloc, name, ErrorKind::InvalidValue, message.as_str()),
         Err(_) => PlanFault::OutOfMemory,
     }
 }
 
-// A refusal of that kind, with the text that `clap` makes of the message.
-fn refused(alloc: Global, kind: ErrorKind, message: &str) -> PlanFault
+// A refusal of that kind, with the text that `clap` makes of the message for the command.
+fn refused(alloc: Global, name: &str, kind: ErrorKind, message: &str) -> PlanFault
     ensures { IsFaultOf kind result }
 {
-    match refusing(alloc, kind, message) {
-        Ok(error) => refusal(alloc, &error),
+    match error_of(alloc, name, kind, message) {
+        Ok(error) => refusal(alloc, name, &error),
         Err(_) => PlanFault::OutOfMemory,
-    }
-}
-
-fn refusing(alloc: Global, kind: ErrorKind, message: &str) -> Result<Error, AllocError>
-    ensures { IfOk result (λ error. kind_of error ≡ kind) }
-{
-    match command_line(alloc) {
-        Ok(mut line) => line.error(kind, message),
-        Err(refused) => Err(refused),
     }
 }

@@ -78,12 +78,14 @@ fn width(entries: &ArgMatches<'_>) -> Width
 fn table(entries: &ArgMatches<'_>) -> TopTable
     requires rows { IsNumberAt (codes "number") MOST_ROWS (entries_of entries.now) }
     requires json { IsFlagAt (codes "json") (entries_of entries.now) }
+    requires exact { IsFlagAt (codes "exact") (entries_of entries.now) }
     ensures { result ≡ table_of (entries_of entries.now) }
 {
     TopTable {
         by: order(entries),
         rows: rows(entries),
         is_json: entries.get_flag("json"),
+        is_exact: entries.get_flag("exact"),
     }
 }
 
@@ -114,6 +116,7 @@ pub(crate) fn form(alloc: Global, name: &str, entries: &ArgMatches<'_>) -> Resul
     requires least { IsCountAt (codes "least") (entries_of entries.now) }
     requires rows { IsNumberAt (codes "number") MOST_ROWS (entries_of entries.now) }
     requires json { IsFlagAt (codes "json") (entries_of entries.now) }
+    requires exact { IsFlagAt (codes "exact") (entries_of entries.now) }
     ensures { IfOk result (λ form. form ≡ form_of name.now (entries_of entries.now)) }
 {
     if entries.get_flag("page") {
@@ -129,6 +132,7 @@ pub(crate) fn form(alloc: Global, name: &str, entries: &ArgMatches<'_>) -> Resul
 fn text_form(alloc: Global, name: &str, entries: &ArgMatches<'_>) -> Result<Form, AllocError>
     requires rows { IsNumberAt (codes "number") MOST_ROWS (entries_of entries.now) }
     requires json { IsFlagAt (codes "json") (entries_of entries.now) }
+    requires exact { IsFlagAt (codes "exact") (entries_of entries.now) }
     ensures { IfOk result (λ form. form ≡ text_form name.now (entries_of entries.now)) }
 {
     match name {
@@ -141,12 +145,14 @@ fn text_form(alloc: Global, name: &str, entries: &ArgMatches<'_>) -> Result<Form
 fn call_table(alloc: Global, entries: &ArgMatches<'_>) -> Result<CallTable, AllocError>
     requires rows { IsNumberAt (codes "number") MOST_ROWS (entries_of entries.now) }
     requires json { IsFlagAt (codes "json") (entries_of entries.now) }
+    requires exact { IsFlagAt (codes "exact") (entries_of entries.now) }
     ensures { IfOk result (λ table. table ≡ call_table_of (entries_of entries.now)) }
 {
     Ok(CallTable {
         name: Text::from_str(alloc, function(entries))?,
         rows: rows(entries),
         is_json: entries.get_flag("json"),
+        is_exact: entries.get_flag("exact"),
     })
 }
 

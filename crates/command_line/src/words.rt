@@ -8,7 +8,7 @@ use crate::commands::command_line;
 use crate::entered::planned;
 use crate::entries::default_options;
 use crate::plans::{Form, Plan, PlanFault, View};
-use crate::refusals::refusal;
+use crate::refusals::parse_refusal;
 use stack_core::Names;
 use std::alloc::Global;
 
@@ -37,7 +37,7 @@ pub fn plan(alloc: Global, words: &[String]) -> Result<Plan, PlanFault>
     let line = command_line(alloc)?;
     match line.try_get_matches_from(words) {
         Ok(matches) => planned(alloc, &matches),
-        Err(error) => Err(refusal(alloc, &error)),
+        Err(error) => Err(parse_refusal(alloc, words, &error)),
     }
 }
 
@@ -52,9 +52,11 @@ pub fn plan_without_words(alloc: Global) -> Plan
     Plan {
         view: View::Fold,
         options: default_options(alloc),
+        from: None,
         format: None,
         files: Names::of(Vec::new(alloc)),
         form: Form::Text,
         is_quiet: false,
+        unit: None,
     }
 }

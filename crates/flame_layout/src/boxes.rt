@@ -84,3 +84,12 @@ pub struct DrawnPair<'a> {
     /// As `before` in `ComparedBox`.
     pub total_before: u64,
 }
+
+/// A box of a picture, however its list keeps it.
+#[derive(Clone, Copy, Debug)]
+pub struct PictureBox<'a> {
+    /// The box.
+    pub drawn: DrawnBox<'a>,
+    /// In a comparison, the weight of its path in the other profile.
+    pub before: Option<u64>,
+}

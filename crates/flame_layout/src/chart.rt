@@ -1,6 +1,6 @@
-//! The boxes of a flame chart, in little memory.
+//! The boxes of a flame chart or of a flame graph, in little memory.
 
-ghost use Rattle.std.specs.Prelude.{◌≡◌, ℕ, ◌+◌, ◌<◌, ◌≤◌, ◌^◌, ◌↔◌, IfOk, IsTrue, All, length, map, slice_index_or};
+ghost use Rattle.std.specs.Prelude.{◌≡◌, ℕ, ◌+◌, ◌<◌, ◌≤◌, ◌^◌, ◌↔◌, IfOk, IsTrue, All, length, slice_index_or};
 ghost use Rattle.flame_layout.specs.declared.boxes.SpanBox.{SpanBox as Span};
 ghost use Rattle.merged_stacks.specs.Timeline.{samples_of, timeline, total_weight};
 ghost use Rattle.flame_layout.specs.Boxes.{span_of};
@@ -10,19 +10,19 @@ ghost use Rattle.flame_layout.specs.checked.ChartRuns.{samples_in};
 use crate::boxes::DrawnBox;
 use crate::chart_runs::ChartRuns;
 use crate::chart_walks::{ChartWalk, end, enter_samples};
-use merged_stacks::total_weight;
+use merged_stacks::{StackRows, total_weight};
 use stack_core::SourceList;
 use std::alloc::{AllocError, Global};
 use std::marker::Model;
 
-/// The boxes of a flame chart, those of `chart_boxes` in the same order. A box takes 24 bytes; its name and where it begins are told by
+/// The boxes of a flame chart or of a flame graph, listed by start, then depth. A box takes 24 bytes; its name and where it begins are told by
 /// the sample at which it begins, and the names are lent by the lists.
 #[derive(Debug, Drop)]
-pub struct Chart<'a> {
-    runs: ChartRuns<'a, SourceList>,
+pub struct Chart<'a, S: StackRows> {
+    pub(crate) runs: ChartRuns<'a, S>,
 }
 
-impl<'a> Model for Chart<'a> {
+impl<'a, S: StackRows> Model for Chart<'a, S> {
     ghost use Rattle.std.specs.Prelude.{List, reverse};
     ghost use Rattle.flame_layout.specs.declared.boxes.SpanBox.{SpanBox as Span};
 
@@ -31,8 +31,8 @@ impl<'a> Model for Chart<'a> {
     ghost view = { λ chart. reverse chart.runs.spans };
 }
 
-impl<'a> Chart<'a> {
-    /// The boxes of the flame chart of the lists, one after another.
+impl<'a> Chart<'a, SourceList> {
+    /// The boxes of the flame chart of the lists, those of `chart_boxes` in the same order.
     pub fn of(alloc: Global, lists: &'a [SourceList]) -> Result<Self, AllocError>
         requires { total_weight (timeline (samples_of lists.now)) < 2 ^ 64 }
         ensures chart { IfOk result (λ chart. chart ≡ chart_of (timeline (samples_of lists.now))) }
@@ -50,7 +50,9 @@ impl<'a> Chart<'a> {
         let runs = end(walk)?;
         Ok(Chart { runs })
     }
+}
 
+impl<'a, S: StackRows> Chart<'a, S> {
     /// How many boxes there are.
     pub fn len(&self) -> usize
         ensures count { result ≡ length self.now }
@@ -72,13 +74,6 @@ impl<'a> Chart<'a> {
         ensures { (d : Span) → slice_index_or self.now at d ≡ span_of result }
     {
         self.runs.get(self.len() - 1 - at)
-    }
-
-    /// All boxes, one after another.
-    pub(crate) fn drawn(&self, alloc: Global) -> Result<Vec<DrawnBox<'a>>, AllocError>
-        ensures { IfOk result (λ boxes. map span_of boxes.items ≡ self.now) }
-    {
-        self.runs.drawn(alloc)
     }
 }
 

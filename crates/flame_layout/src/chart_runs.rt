@@ -1,6 +1,6 @@
 //! The boxes of a chart by the samples at which they begin.
 
-ghost use Rattle.std.specs.Prelude.{◌≡◌, ℕ, ◌<◌, ◌≤◌, ◌^◌, ◌++◌, ◌∷◌, [], List, IfOk, OnOk, length, map, reverse, slice_index_or};
+ghost use Rattle.std.specs.Prelude.{◌≡◌, ℕ, ◌<◌, ◌≤◌, ◌^◌, ◌++◌, ◌∷◌, [], List, IfOk, OnOk, length, slice_index_or};
 ghost use Rattle.flame_layout.specs.declared.boxes.SpanBox.{SpanBox as Span};
 ghost use Rattle.flame_layout.specs.declared.chart_runs.RunStart.{RunStart as Start};
 ghost use Rattle.stack_core.specs.Interleaving.{list_of};
@@ -97,17 +97,6 @@ impl<'a, S: StackRows> ChartRuns<'a, S> {
             weight: run.weight,
             own: run.own,
         }
-    }
-
-    /// The boxes from the first on, one after another.
-    pub(crate) fn drawn(&self, alloc: Global) -> Result<Vec<DrawnBox<'a>>, AllocError>
-        ensures { IfOk result (λ boxes. map span_of boxes.items ≡ reverse self.now.spans) }
-    {
-        let mut boxes = Vec::with_capacity(alloc, self.len())?;
-        for at in (0..self.len()).rev() {
-            boxes.push(self.get(at))?;
-        }
-        Ok(boxes)
     }
 
     /// Appends a box that begins there. A place past the 2^32nd is refused as memory is.

@@ -1,11 +1,10 @@
 //! The flame chart.
 
-ghost use Rattle.std.specs.Prelude.{◌≡◌, ◌+◌, ◌<◌, ◌≤◌, ◌^◌, IfOk, All, map, length};
-ghost use Rattle.flame_layout.specs.Boxes.{span_of};
+ghost use Rattle.std.specs.Prelude.{◌≡◌, ◌+◌, ◌<◌, ◌≤◌, ◌^◌, IfOk, All, length};
 ghost use Rattle.merged_stacks.specs.Timeline.{samples_of, timeline, total_weight};
 ghost use Rattle.flame_layout.specs.Chart.{chart_of};
 
-use crate::boxes::{DrawnBox, SpanBox};
+use crate::boxes::SpanBox;
 use crate::chart::Chart;
 use crate::chart_walks::{ChartWalk, end, enter};
 use crate::flame_boxes::span_boxes;
@@ -26,26 +25,8 @@ pub fn chart_boxes(alloc: Global, lists: &[SourceList]) -> Result<Vec<SpanBox>, 
     ensures positive { IfOk result (λ boxes. 0 < length boxes.items
         → 0 < total_weight (timeline (samples_of lists.now))) }
 {
-    let drawn = draw_chart(alloc, lists)?;
-    span_boxes(alloc, &drawn)
-}
-
-/// The boxes of `chart_boxes`, with names that the lists lend.
-pub fn draw_chart<'a>(
-    alloc: Global,
-    lists: &'a [SourceList],
-) -> Result<Vec<DrawnBox<'a>>, AllocError>
-    requires { total_weight (timeline (samples_of lists.now)) < 2 ^ 64 }
-    ensures chart { IfOk result (λ boxes.
-        map span_of boxes.items ≡ chart_of (timeline (samples_of lists.now))) }
-    ensures within { IfOk result (λ boxes.
-        All (λ drawn. drawn.start + drawn.weight ≤ total_weight (timeline (samples_of lists.now)))
-        boxes.items) }
-    ensures positive { IfOk result (λ boxes. 0 < length boxes.items
-        → 0 < total_weight (timeline (samples_of lists.now))) }
-{
     let chart = Chart::of(alloc, lists)?;
-    chart.drawn(alloc)
+    span_boxes(alloc, &&chart)
 }
 
 /// The boxes of the flame chart of samples that weigh `total`. Those of weight 0 are not left out.
@@ -53,9 +34,9 @@ pub(crate) fn draw_all<'a, S: StackRows>(
     alloc: Global,
     list: &'a S,
     total: u64,
-) -> Result<Vec<DrawnBox<'a>>, AllocError>
+) -> Result<Chart<'a, S>, AllocError>
     requires { total_weight (S.samples list.now) ≡ total }
-    ensures { IfOk result (λ boxes. map span_of boxes.items ≡ chart_of (S.samples list.now)) }
+    ensures { IfOk result (λ chart. chart ≡ chart_of (S.samples list.now)) }
 {
     let mut walk = ChartWalk::over(alloc, list)?;
     let mut start = total;
@@ -64,5 +45,5 @@ pub(crate) fn draw_all<'a, S: StackRows>(
         start -= list.weight(at);
     }
     let runs = end(walk)?;
-    runs.drawn(alloc)
+    Ok(Chart { runs })
 }

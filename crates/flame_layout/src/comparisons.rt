@@ -8,8 +8,9 @@ ghost use Rattle.flame_layout.specs.Comparison.{comparison_of, compared_boxes_of
 ghost use Rattle.flame_layout.specs.checked.Paired.{names_now, next_path, paired_boxes, paired_row, paired_rows};
 
 use crate::boxes::{DrawnBox, DrawnPair, PairRow};
+use crate::chart::Chart;
 use crate::charts::draw_all;
-use merged_stacks::{PairedSide, PairedStacks, Side};
+use merged_stacks::{PairedSide, PairedStacks, Side, StackRows};
 use stack_core::{Names, SourceList};
 use std::alloc::{AllocError, Global};
 
@@ -87,19 +88,20 @@ pub fn draw_paired<'a>(
 }
 
 /// The boxes of the second side that weigh, each with the weight of that of the first side.
-fn pair_boxes<'a>(
+fn pair_boxes<'a, L: StackRows, R: StackRows>(
     alloc: Global,
-    before: &[DrawnBox<'_>],
-    after: &[DrawnBox<'a>],
+    before: &Chart<'_, L>,
+    after: &Chart<'a, R>,
 ) -> Result<Vec<DrawnPair<'a>>, AllocError>
-    ensures { IfOk result (λ boxes.
-        map compared_of boxes.items ≡ paired_boxes (map span_of before.now) (map span_of after.now)) }
+    ensures { IfOk result (λ boxes. map compared_of boxes.items ≡ paired_boxes before.now after.now) }
 {
     let mut boxes = Vec::new(alloc);
-    for (left, right) in before.iter().zip(after) {
+    for at in 0..before.len().min(after.len()) {
+        let left = before.get(at);
+        let right = after.get(at);
         if right.weight > 0 {
             boxes.push(DrawnPair {
-                drawn: *right,
+                drawn: right,
                 total_before: left.weight,
             })?;
         }
@@ -108,19 +110,19 @@ fn pair_boxes<'a>(
 }
 
 /// The rows of the boxes of both sides. The boxes stand in step, since both sides have the same stacks.
-fn pair_rows(
+fn pair_rows<L: StackRows, R: StackRows>(
     alloc: Global,
-    before: &[DrawnBox<'_>],
-    after: &[DrawnBox<'_>],
+    before: &Chart<'_, L>,
+    after: &Chart<'_, R>,
 ) -> Result<Vec<PairRow>, AllocError>
-    ensures { IfOk result (λ rows.
-        rows.items ≡ paired_rows [] (map span_of before.now) (map span_of after.now)) }
+    ensures { IfOk result (λ rows. rows.items ≡ paired_rows [] before.now after.now) }
 {
     let mut rows = Vec::new(alloc);
     let mut path = Vec::new(alloc);
-    for (left, right) in before.iter().zip(after) {
-        step_path(&mut path, left)?;
-        rows.push(row(alloc, &path, left, right)?)?;
+    for at in 0..before.len().min(after.len()) {
+        let left = before.get(at);
+        step_path(&mut path, &left)?;
+        rows.push(row(alloc, &path, &left, &after.get(at))?)?;
     }
     Ok(rows)
 }

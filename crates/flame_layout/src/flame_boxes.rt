@@ -1,118 +1,111 @@
-//! What all boxes of a picture have, whether a name is borrowed or a box's own.
+//! Lists of boxes, however they are kept.
 
-ghost use Rattle.std.specs.Prelude.{◌≡◌, IfOk, map};
-ghost use Rattle.flame_layout.specs.declared.boxes.SpanBox.{SpanBox as Span};
-ghost use Rattle.flame_layout.specs.Boxes.{span_of};
+ghost use Rattle.std.specs.Prelude.{◌≡◌, ℕ, ◌<◌, ◌^◌, List, length, map, slice_index_or, IfOk};
+ghost use Rattle.flame_layout.specs.Boxes.{SeenBox, compared_of, paired_box, plain_box, seen_of, span_of};
 
-use crate::boxes::{DrawnBox, DrawnPair, SpanBox};
+use crate::boxes::{DrawnBox, DrawnPair, PictureBox, SpanBox};
+use crate::chart::Chart;
+use merged_stacks::StackRows;
 use stack_core::Text;
 use std::alloc::{AllocError, Global};
 
-/// A box before it is placed. Contracts see it as a `SpanBox`.
-pub trait FlameBox {
-    /// The box.
-    ghost span: { Self → Span };
+/// The boxes of a picture in their order. They need not be in memory one after another.
+pub trait FlameBoxes {
+    /// The boxes.
+    ghost boxes: { Self → List SeenBox };
 
-    /// How many names the run's samples have in common here. The root box has 0.
-    fn depth(&self) -> u32
-        ensures { result ≡ (span self.now).depth };
+    /// How many there are.
+    fn count(&self) -> usize
+        ensures is { result ≡ length (boxes self.now) }
+        ensures few { length (boxes self.now) < 2 ^ 63 };
 
-    /// The last of these names, and `all` for the root box.
-    fn name(&self) -> &str
-        ensures { result.now ≡ (span self.now).name };
-
-    /// The sum of the weights before the run.
-    fn start(&self) -> u64
-        ensures { result ≡ (span self.now).start };
-
-    /// The sum of the weights of the run.
-    fn weight(&self) -> u64
-        ensures { result ≡ (span self.now).weight };
-
-    /// The sum of the weights of those samples of the run that end in this frame.
-    fn own(&self) -> u64
-        ensures { result ≡ (span self.now).own };
+    /// The box at a place.
+    fn get(&self, place: usize) -> PictureBox<'_>
+        requires { place < length (boxes self.now) }
+        ensures { (other : SeenBox) → seen_of result ≡ slice_index_or (boxes self.now) place other };
 }
 
-impl FlameBox for SpanBox {
-    ghost span = { λ span. span };
+impl<'a, 'n, S: StackRows> FlameBoxes for &'a Chart<'n, S> {
+    ghost boxes = { λ chart. map plain_box chart.now };
 
-    fn depth(&self) -> u32 {
-        self.depth
+    fn count(&self) -> usize {
+        self.len()
     }
 
-    fn name(&self) -> &str {
-        self.name.get()
-    }
-
-    fn start(&self) -> u64 {
-        self.start
-    }
-
-    fn weight(&self) -> u64 {
-        self.weight
-    }
-
-    fn own(&self) -> u64 {
-        self.own
+    fn get(&self, place: usize) -> PictureBox<'_> {
+        PictureBox {
+            drawn: (**self).get(place),
+            before: None,
+        }
     }
 }
 
-impl<'a> FlameBox for DrawnBox<'a> {
-    ghost span = { span_of };
+impl<'a, 'n> FlameBoxes for &'a [DrawnBox<'n>] {
+    ghost boxes = { λ boxes. map (λ drawn. plain_box (span_of drawn)) boxes.now };
 
-    fn depth(&self) -> u32 {
-        self.depth
+    fn count(&self) -> usize {
+        (**self).len()
     }
 
-    fn name(&self) -> &str {
-        self.name
-    }
-
-    fn start(&self) -> u64 {
-        self.start
-    }
-
-    fn weight(&self) -> u64 {
-        self.weight
-    }
-
-    fn own(&self) -> u64 {
-        self.own
+    fn get(&self, place: usize) -> PictureBox<'_> {
+        PictureBox {
+            drawn: self[place],
+            before: None,
+        }
     }
 }
 
-impl<'a> FlameBox for DrawnPair<'a> {
-    ghost span = { λ pair. span_of pair.drawn };
+impl<'a, 'n> FlameBoxes for &'a [DrawnPair<'n>] {
+    ghost boxes = { λ boxes. map (λ pair. paired_box (compared_of pair)) boxes.now };
 
-    fn depth(&self) -> u32 {
-        self.drawn.depth
+    fn count(&self) -> usize {
+        (**self).len()
     }
 
-    fn name(&self) -> &str {
-        self.drawn.name
+    fn get(&self, place: usize) -> PictureBox<'_> {
+        let pair = &self[place];
+        PictureBox {
+            drawn: pair.drawn,
+            before: Some(pair.total_before),
+        }
+    }
+}
+
+impl<'a> FlameBoxes for &'a [SpanBox] {
+    ghost boxes = { λ boxes. map plain_box boxes.now };
+
+    fn count(&self) -> usize {
+        (**self).len()
     }
 
-    fn start(&self) -> u64 {
-        self.drawn.start
+    fn get(&self, place: usize) -> PictureBox<'_> {
+        PictureBox {
+            drawn: lent_box(&self[place]),
+            before: None,
+        }
     }
+}
 
-    fn weight(&self) -> u64 {
-        self.drawn.weight
-    }
-
-    fn own(&self) -> u64 {
-        self.drawn.own
+/// The box with its name lent.
+pub(crate) fn lent_box(span: &SpanBox) -> DrawnBox<'_>
+    ensures { span_of result ≡ span.now }
+{
+    DrawnBox {
+        depth: span.depth,
+        name: span.name.get(),
+        start: span.start,
+        weight: span.weight,
+        own: span.own,
     }
 }
 
 /// The boxes with names of their own.
-pub(crate) fn span_boxes(alloc: Global, drawn: &[DrawnBox<'_>]) -> Result<Vec<SpanBox>, AllocError>
-    ensures { IfOk result (λ boxes. boxes.items ≡ map span_of drawn.now) }
+pub(crate) fn span_boxes<L: FlameBoxes>(alloc: Global, list: &L) -> Result<Vec<SpanBox>, AllocError>
+    ensures { IfOk result (λ boxes. boxes.items ≡ map (λ seen. seen.span) (L.boxes list.now)) }
 {
     let mut boxes = Vec::new(alloc);
-    for one in drawn {
-        boxes.push(span_box(alloc, one)?)?;
+    for place in 0..list.count() {
+        boxes.push(span_box(alloc, &list.get(place).drawn)?)?;
     }
     Ok(boxes)
 }

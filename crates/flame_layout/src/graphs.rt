@@ -12,6 +12,7 @@ ghost use Rattle.flame_layout.specs.checked.Listed.{listed_box, listed_boxes};
 ghost use Rattle.flame_layout.specs.Paths.{SameOwn, tree_samples};
 
 use crate::boxes::{DrawnBox, SpanBox};
+use crate::chart::Chart;
 use crate::chart_walks::{ChartWalk, end, enter_samples};
 use crate::flame_boxes::span_boxes;
 use call_tree::{CallTree, FrameTable, Visit};
@@ -36,7 +37,7 @@ pub fn graph_boxes(
         → 0 < total_weight tree.now []) }
 {
     let drawn = draw_tree(alloc, tree, table)?;
-    span_boxes(alloc, &drawn)
+    span_boxes(alloc, &drawn.as_slice())
 }
 
 /// The boxes of `graph_boxes`, with names that the table lends.
@@ -70,20 +71,20 @@ pub fn merged_boxes(alloc: Global, merged: &MergedStacks) -> Result<Vec<SpanBox>
     ensures positive { IfOk result (λ boxes. 0 < length boxes.items
         → 0 < total_of_samples merged.now) }
 {
-    let drawn = draw_merged(alloc, merged)?;
-    span_boxes(alloc, &drawn)
+    let chart = draw_merged(alloc, merged)?;
+    span_boxes(alloc, &&chart)
 }
 
 /// The boxes of `merged_boxes`, with names that the merged stacks lend.
 pub fn draw_merged<'a>(
     alloc: Global,
     merged: &'a MergedStacks,
-) -> Result<Vec<DrawnBox<'a>>, AllocError>
-    ensures graph { IfOk result (λ boxes. (samples : List Sample)
-        → SameOwn samples merged.now → map span_of boxes.items ≡ graph_of samples) }
-    ensures within { IfOk result (λ boxes.
-        All (λ drawn. drawn.start + drawn.weight ≤ total_of_samples merged.now) boxes.items) }
-    ensures positive { IfOk result (λ boxes. 0 < length boxes.items
+) -> Result<Chart<'a, MergedStacks>, AllocError>
+    ensures graph { IfOk result (λ chart. (samples : List Sample)
+        → SameOwn samples merged.now → chart ≡ graph_of samples) }
+    ensures within { IfOk result (λ chart.
+        All (λ span. span.start + span.weight ≤ total_of_samples merged.now) chart) }
+    ensures positive { IfOk result (λ chart. 0 < length chart
         → 0 < total_of_samples merged.now) }
 {
     // The stacks are in order and weigh: the count tells it.
@@ -98,20 +99,19 @@ pub fn draw_ordered<'a, S: StackRows>(
     alloc: Global,
     stacks: &'a S,
     total: u64,
-) -> Result<Vec<DrawnBox<'a>>, AllocError>
+) -> Result<Chart<'a, S>, AllocError>
     requires in_order { IsTrue (are_in_order (weighed (S.samples stacks.now))) }
     requires positive { All (λ sample. 0 < sample.weight) (S.samples stacks.now) }
     requires total { total_of_samples (S.samples stacks.now) ≡ total }
-    ensures graph { IfOk result (λ boxes. (samples : List Sample)
-        → SameOwn samples (S.samples stacks.now) → map span_of boxes.items ≡ graph_of samples) }
-    ensures within { IfOk result (λ boxes.
-        All (λ drawn. drawn.start + drawn.weight ≤ total) boxes.items) }
-    ensures positive { IfOk result (λ boxes. 0 < length boxes.items → 0 < total) }
+    ensures graph { IfOk result (λ chart. (samples : List Sample)
+        → SameOwn samples (S.samples stacks.now) → chart ≡ graph_of samples) }
+    ensures within { IfOk result (λ chart. All (λ span. span.start + span.weight ≤ total) chart) }
+    ensures positive { IfOk result (λ chart. 0 < length chart → 0 < total) }
 {
     let mut walk = ChartWalk::over(alloc, stacks)?;
     enter_samples(&mut walk, total, 0)?;
     let runs = end(walk)?;
-    runs.drawn(alloc)
+    Ok(Chart { runs })
 }
 
 /// The boxes of the visits of a listing.

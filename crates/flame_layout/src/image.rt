@@ -1,10 +1,11 @@
 //! Edges in an image.
 
 ghost use Rattle.std.specs.Prelude.{◌≡◌, ℕ, ◌+◌, ◌*◌, ◌/◌, ◌≤◌, ◌<◌, All, IfOk, map, length};
+ghost use Rattle.flame_layout.specs.Boxes.{span_of};
 ghost use Rattle.flame_layout.specs.Edges.{placed_at, left_edge, right_edge};
 
-use crate::boxes::{PlacedBox, SpanBox};
-use crate::flame_boxes::FlameBox;
+use crate::boxes::{DrawnBox, PlacedBox, SpanBox};
+use crate::flame_boxes::lent_box;
 use run_options::Width;
 use std::alloc::{AllocError, Global};
 
@@ -28,14 +29,14 @@ pub fn place(
 }
 
 /// The edges of one box: where it begins and where it ends.
-pub fn edges<B: FlameBox>(span: &B, total: u64, width: Width) -> (u32, u32)
-    requires within { (B.span span.now).start + (B.span span.now).weight ≤ total }
+pub fn edges(drawn: &DrawnBox<'_>, total: u64, width: Width) -> (u32, u32)
+    requires within { drawn.now.start + drawn.now.weight ≤ total }
     requires positive { 0 < total }
-    ensures { result ≡ (left_edge total width (B.span span.now), right_edge total width (B.span span.now)) }
+    ensures { result ≡ (left_edge total width (span_of drawn.now), right_edge total width (span_of drawn.now)) }
 {
     (
-        edge(span.start(), total, width),
-        edge(span.start() + span.weight(), total, width),
+        edge(drawn.start, total, width),
+        edge(drawn.start + drawn.weight, total, width),
     )
 }
 
@@ -44,7 +45,7 @@ fn placed_box(span: SpanBox, total: u64, width: Width) -> PlacedBox
     requires positive { 0 < total }
     ensures { result ≡ placed_at total width span }
 {
-    let (left, right) = edges(&span, total, width);
+    let (left, right) = edges(&lent_box(&span), total, width);
     let SpanBox {
         depth,
         name,

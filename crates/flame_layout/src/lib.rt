@@ -14,11 +14,11 @@ mod image;
 pub mod laws;
 mod shared_names;
 
-pub use boxes::{ComparedBox, DrawnBox, DrawnPair, PairRow, PlacedBox, SpanBox};
+pub use boxes::{ComparedBox, DrawnBox, DrawnPair, PairRow, PictureBox, PlacedBox, SpanBox};
 pub use chart::Chart;
-pub use charts::{chart_boxes, draw_chart};
+pub use charts::chart_boxes;
 pub use comparisons::{compare, draw_paired};
-pub use flame_boxes::FlameBox;
+pub use flame_boxes::FlameBoxes;
 pub use graphs::{draw_merged, draw_ordered, draw_tree, graph_boxes, merged_boxes};
 pub use image::{edges, place};
 pub use merged_stacks::{MergedStacks, total_weight};

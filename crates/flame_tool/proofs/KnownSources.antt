@@ -1,7 +1,7 @@
 -- What is collected of sources whose bytes are known, where no gate stops them, is what their bytes stand for.
 use Rattle.std.proofs.Common.{◌≡◌, ◌≢◌, ℕ, List, [], ◌∷◌, map, Option, Some, None, Result, Ok, Err, IfSome, IfErr, OnOk, ap, sym, ◌∙◌, subst, refl, true, false, ◌||◌, All}
 use Rattle.std.proofs.lemmas.Bool.{true≢false, false≢true}
-use Rattle.std.proofs.lemmas.List.Elements.{All-nil, All-cons}
+use Rattle.std.proofs.lemmas.List.Elements.{All-nil, All-cons, All-map}
 use Rattle.std.proofs.lemmas.List.Folds.{Any-from_list_any}
 use Rattle.std.specs.Prelude.{Bool, option_and_then, option_map, unwrap_or}
 use Rattle.std.specs.List.{list_any, AllZip}
@@ -24,6 +24,7 @@ use Rattle.run_options.specs.declared.options.Options.{Options}
 use Rattle.ring_collect.specs.Collection.{AreWhole, seen_as_rest}
 use Rattle.merged_stacks.specs.Timeline.{samples_of}
 use Rattle.command_line.specs.declared.plans.Plan.{Plan}
+use Rattle.source_lists.specs.FromNames.{rest_from, rests_from}
 use Rattle.source_lists.specs.Sources.{asked_rest, asked_rests, read_bytes}
 use Rattle.opened_sources.specs.Opening.{AreLoaded, IsLoaded, IsLoadedInput}
 use Rattle.sent_views.specs.declared.run_facts.RunFacts.{RunFacts}
@@ -120,9 +121,14 @@ if_mapped f None other some = tt
 if_mapped f (Some x) None some = absurd some
 if_mapped f (Some x) (Some y) some = tt
 
+under_map : {A B : Type 0} (Q : Type 0) (f : A → B) (one : Option A) → IfSome one (λ _. Q) → IfSome (option_map f one) (λ _. Q)
+under_map Q f None some = tt
+under_map Q f (Some x) some = some
+
 pub facts_are_known : (plan : Plan) (input : Option (List ℕ)) (files : List ℕ → Option (List ℕ)) → IfSome (known_rests plan input files) (λ _. IsKnown (known_facts plan input files))
 facts_are_known plan input files =
-    if_mapped (facts_of plan.options) (known_rests plan input files) (bytes_of plan.format plan.files input files) (of_paths plan.files)
+    under_map (IsKnown (known_facts plan input files)) (rests_from plan.from) (rests_at plan.options plan.format plan.files input files)
+    (if_mapped (facts_of plan.options) (rests_at plan.options plan.format plan.files input files) (bytes_of plan.format plan.files input files) (of_paths plan.files))
   where
     of_paths : (paths : List (List ℕ)) → IfSome (rests_at plan.options plan.format paths input files) (λ _. IsKnown (bytes_of plan.format paths input files))
     of_paths [] = elim input as (λ known. IfSome (rests_at plan.options plan.format [] known files) (λ _. IsKnown (bytes_of plan.format [] known files))) [
@@ -162,6 +168,18 @@ clean_rests options (source ∷ sources) faultless =
     All-cons (λ (rest : Rest). IsClean rest.ending) rest (asked_rests options sources)
     (clean_ending rest.ending (unstopped source.0 source.1 options.pick options.naming) both.0) (clean_rests options sources both.1)
 
+faults_from : (name : List ℕ) (rests : List Rest) → list_any (λ (rest : Rest). ends_in_fault rest.ending) (map (rest_from name) rests) ≡ list_any (λ (rest : Rest). ends_in_fault rest.ending) rests
+faults_from name [] = refl
+faults_from name (rest ∷ rests) = ap (λ more. ends_in_fault rest.ending || more) (faults_from name rests)
+
+-- where stacks begin changes no ending
+clean_from : (from : Option (List ℕ)) (options : Options) (sources : List (Format × List ℕ)) → list_any (λ (rest : Rest). ends_in_fault rest.ending) (rests_from from (asked_rests options sources)) ≡ false
+    → All (λ (rest : Rest). IsClean rest.ending) (rests_from from (asked_rests options sources))
+clean_from None options sources faultless = clean_rests options sources faultless
+clean_from (Some name) options sources faultless =
+    All-map (λ (rest : Rest). IsClean rest.ending) (rest_from name) (asked_rests options sources)
+    (clean_rests options sources (sym (faults_from name (asked_rests options sources)) ∙ faultless))
+
 faulty_rests : (rests : List Rest) → list_any (λ (rest : Rest). ends_in_fault rest.ending) rests ≡ true → HasFault rests
 faulty_rests rests faulty =
     let found = Any-from_list_any (λ (rest : Rest). ends_in_fault rest.ending) rests faulty in
@@ -182,12 +200,12 @@ faults_of_rests (list ∷ lists) = ap (λ more. ends_in_fault list.ending || mor
 -- a plan's sources were loaded and collected whole
 pub record AreCollected (plan : Plan) (input : Option (List ℕ)) (files : List ℕ → Option (List ℕ)) (sources : List (Format × List ℕ)) (lists : List ListState) (order : List ℕ) (every : Option ℕ) : Type 0 where
   pub loaded : AreLoaded plan.format input files plan.files sources
-  pub whole : AreWhole (asked_rests plan.options sources) lists
+  pub whole : AreWhole (rests_from plan.from (asked_rests plan.options sources)) lists
   pub ordered : IsInterleaving order (samples_of lists)
   pub every_is : every ≡ plan.options.every
 
 pub collected_of : (plan : Plan) (input : Option (List ℕ)) (files : List ℕ → Option (List ℕ)) (paths : List (List ℕ)) (sources : List (Format × List ℕ)) (lists : List ListState) (order : List ℕ) (every : Option ℕ)
-    → paths ≡ plan.files → AreLoaded plan.format input files paths sources → AreWhole (asked_rests plan.options sources) lists → IsInterleaving order (samples_of lists) → every ≡ plan.options.every
+    → paths ≡ plan.files → AreLoaded plan.format input files paths sources → AreWhole (rests_from plan.from (asked_rests plan.options sources)) lists → IsInterleaving order (samples_of lists) → every ≡ plan.options.every
     → AreCollected plan input files sources lists order every
 collected_of plan input files paths sources lists order every same loaded whole ordered every_is =
     record { loaded = subst (λ paths. AreLoaded plan.format input files paths sources) same loaded; whole = whole; ordered = ordered; every_is = every_is }
@@ -196,29 +214,32 @@ module _ (plan : Plan) (input : Option (List ℕ)) (files : List ℕ → Option 
   abbrev facts : RunFacts
   facts = facts_of plan.options sources
 
+  abbrev wanted : List Rest
+  wanted = rests_from plan.from (asked_rests plan.options sources)
+
   abbrev text : List ℕ
   text = shown_text plan facts (samples_of lists) order every
 
-  same_samples : samples_of lists ≡ lists_of (asked_rests plan.options sources)
+  same_samples : samples_of lists ≡ lists_of wanted
   same_samples = samples_of_rests lists ∙ ap lists_of collected.whole
 
-  same_faults : has_fault lists ≡ list_any (λ (rest : Rest). ends_in_fault rest.ending) (asked_rests plan.options sources)
+  same_faults : has_fault lists ≡ list_any (λ (rest : Rest). ends_in_fault rest.ending) wanted
   same_faults = faults_of_rests lists ∙ ap (λ rests. list_any (λ (rest : Rest). ends_in_fault rest.ending) rests) collected.whole
 
-  is_text : has_fault lists ≡ false → IsTextOf plan facts (asked_rests plan.options sources) text
+  is_text : has_fault lists ≡ false → IsTextOf plan facts wanted text
   is_text faultless = record {
-    clean = clean_rests plan.options sources (sym same_faults ∙ faultless);
+    clean = clean_from plan.from plan.options sources (sym same_faults ∙ faultless);
     order = order;
     ordered = subst (λ (samples : List (List Sample)). IsInterleaving order samples) same_samples collected.ordered;
     text_is = λ i. shown_text plan facts (same_samples i) order (collected.every_is i);
   }
 
   -- what holds of the sources that were collected holds of those that are known
-  if_known : (P : List Rest → Type 0) → P (asked_rests plan.options sources) → IfSome (known_rests plan input files) P
+  if_known : (P : List Rest → Type 0) → P wanted → IfSome (known_rests plan input files) P
   if_known P holds =
-      elim (known_rests plan input files) as (λ known. IfSome known (λ rests. asked_rests plan.options sources ≡ rests) → IfSome known P) [
+      elim (rests_at plan.options plan.format plan.files input files) as (λ known. IfSome known (λ rests. asked_rests plan.options sources ≡ rests) → IfSome (option_map (rests_from plan.from) known) P) [
         | None ↦ λ _. tt
-        | Some rests ↦ λ same. subst P same holds
+        | Some rests ↦ λ same. subst (λ rests. P (rests_from plan.from rests)) same holds
       ] (loaded_rests plan.options plan.format input files plan.files sources collected.loaded)
 
   -- what holds of the facts of the sources holds of those that are known
@@ -231,7 +252,7 @@ module _ (plan : Plan) (input : Option (List ℕ)) (files : List ℕ → Option 
 
   pub ok_shown : {T E : Type 0} (result : Result T E) (old new : Option (List ℕ)) → OnOk result (has_fault lists ≡ false) → OnOk result (Appends old new text)
       → OnOk result (IfSome (known_rests plan input files) (Shows plan (known_facts plan input files) old new))
-  ok_shown (Ok done) old new faultless appends = if_known (Shows plan (known_facts plan input files) old new) (λ _. if_facts (λ facts. (text : List ℕ) × IsTextOf plan facts (asked_rests plan.options sources) text × Appends old new text) (text, is_text faultless, appends))
+  ok_shown (Ok done) old new faultless appends = if_known (Shows plan (known_facts plan input files) old new) (λ _. if_facts (λ facts. (text : List ℕ) × IsTextOf plan facts wanted text × Appends old new text) (text, is_text faultless, appends))
   ok_shown (Err error) old new faultless appends = tt
 
   -- the same of a text that is said in other words
@@ -239,15 +260,15 @@ module _ (plan : Plan) (input : Option (List ℕ)) (files : List ℕ → Option 
       → OnOk result (IfSome (known_rests plan input files) (Shows plan (known_facts plan input files) old new))
   ok_shown_as result old new other same faultless appends = ok_shown result old new faultless (subst (λ said. OnOk result (Appends old new said)) same appends)
 
-  not_shown : (old new : Option (List ℕ)) (failure : Failure) → FailsToShow lists text old new failure → Fails plan (known_facts plan input files) old new failure (asked_rests plan.options sources)
+  not_shown : (old new : Option (List ℕ)) (failure : Failure) → FailsToShow lists text old new failure → Fails plan (known_facts plan input files) old new failure wanted
   not_shown old new TooManyFiles fails = tt
   not_shown old new (Unreadable source) fails = tt
   not_shown old new (TooLarge source) fails = tt
   not_shown old new OutOfMemory fails = tt
   not_shown old new NoThread fails = tt
   not_shown old new (Unfinished source) fails = tt
-  not_shown old new Faults fails = faulty_rests (asked_rests plan.options sources) (sym same_faults ∙ fails.0)
-  not_shown old new (Output fault) fails = λ _. if_facts (λ facts. (text : List ℕ) × IsTextOf plan facts (asked_rests plan.options sources) text × AppendsFront text old new) (text, is_text fails.0, fails.1)
+  not_shown old new Faults fails = faulty_rests wanted (sym same_faults ∙ fails.0)
+  not_shown old new (Output fault) fails = λ _. if_facts (λ facts. (text : List ℕ) × IsTextOf plan facts wanted text × AppendsFront text old new) (text, is_text fails.0, fails.1)
 
   pub err_shown : {T : Type 0} (result : Result T Failure) (old new : Option (List ℕ)) → IfErr result (FailsToShow lists text old new)
       → IfErr result (λ failure. IfSome (known_rests plan input files) (Fails plan (known_facts plan input files) old new failure))

@@ -1,7 +1,9 @@
 mod ExitStatuses
 mod KnownSources
 mod RunEndings
+mod StepWords
 mod TypeEndings
 mod UntouchedOutputs
 mod WorkedRequests
 mod WorkedRows
+mod WorkedSteps

@@ -1,5 +1,5 @@
 -- How a run ends, by its words and by its plan.
-use Rattle.std.proofs.Common.{◌≡◌, ◌≢◌, ◌≤◌, ◌<◌, ◌⊎◌, inl, inr, ℕ, List, [], ◌∷◌, map, length, Option, Some, None, IfSome, cond, false, ap, sym, ◌∙◌, subst, refl, arith, take, append-nil}
+use Rattle.std.proofs.Common.{◌≡◌, ◌≢◌, ◌≤◌, ◌<◌, ◌⊎◌, inl, inr, ℕ, List, [], ◌∷◌, map, length, Option, Some, None, IfSome, cond, true, ap, sym, ◌∙◌, subst, refl, arith, take, append-nil}
 use Rattle.std.specs.Prelude.{IsSomeAnd}
 use Rattle.std.specs.Io.KnownBytes.{Appends, Keeps}
 use Rattle.clap.specs.Walk.{Text}
@@ -7,7 +7,7 @@ use Rattle.stack_core.specs.Reading.{Rest}
 use Rattle.sample_tables.specs.declared.samples.Sample.{Sample}
 use Rattle.command_line.specs.CommandLine.{command_line}
 use Rattle.folded_lines.specs.Reading.{read_folded}
-use Rattle.run_options.specs.Filters.{everything, is_everything, kept_rest}
+use Rattle.run_options.specs.Filters.{everything, kept_rest}
 use Rattle.run_options.proofs.FilterLemmas.{all_is_kept}
 use Rattle.function_sums.specs.declared.call_sides.CallSide.{CallSide}
 use Rattle.function_sums.specs.declared.call_sides.CallSide.TheVariants.{Callers, Callees}
@@ -21,19 +21,19 @@ use Rattle.command_line.specs.declared.plans.Form.TheVariants as form
 use Rattle.command_line.specs.declared.plans.Plan.{Plan}
 use Rattle.command_line.specs.declared.plans.View.{View}
 use Rattle.command_line.specs.declared.plans.View.TheVariants.{Fold, Graph, Chart, Pairs, PairBoxes, Top, Diff}
-use Rattle.command_line.specs.declared.plans.TopTable.{TopTable}
-use Rattle.sent_views.specs.Facts.{told_whole}
+use Rattle.sum_texts.specs.Told.{Told}
 use Rattle.sent_views.specs.declared.run_facts.RunFacts.{RunFacts}
 use Rattle.flame_tool.specs.KnownFacts.{known_facts}
 use Rattle.flame_tool.proofs.KnownSources.{IsKnown, facts_are_known}
+use Rattle.flame_tool.specs.checked.Telling.{form_tells, view_tells}
 use Rattle.flame_tool.specs.Requests.{AreRefused, AsksForHelp, asked_faults, asked_plan, known_rests}
 use Rattle.command_line.specs.declared.plans.CallTable.{CallTable}
 use Rattle.command_line.specs.declared.plans.PageForm.{PageForm}
 use Rattle.command_line.specs.declared.plans.PictureForm.{PictureForm}
-use Rattle.sent_views.specs.Pages.{asked_heading, called_text, page_text, picture_text, shown_text, text_in}
+use Rattle.sent_views.specs.Pages.{asked_heading, called_text, page_text, picture_text, shown_text, text_in, told_in}
 use Rattle.sent_views.proofs.PageLemmas.{orderless_page}
-use Rattle.source_views.specs.Texts.{IsOrderless, calls_text, told_text, top_text, view_text}
-use Rattle.flame_tool.specs.Runs.{lists_of, text_of, GainsFront, IsClean, Shows, ShowsFront, ShowsSamples, FailsUntouched, HasFault, TellsNoWhole}
+use Rattle.source_views.specs.Texts.{IsOrderless, told_text, view_text}
+use Rattle.flame_tool.specs.Runs.{lists_of, text_of, GainsFront, IsClean, Shows, ShowsFront, ShowsSamples, FailsUntouched, HasFault, IsOfSamples}
 use Rattle.flame_tool.specs.TypeRuns.{known_profile, HasTableFault, ShowsTypes, ShowsTypesFront}
 use Rattle.flame_tool.specs.checked.Failures.{Fails, IsHelp, IsWords, KeepsOutput}
 use Rattle.opened_sources.specs.Failures.{status_of}
@@ -66,20 +66,25 @@ module _ (plan : Plan) (told : Option RunFacts) (known : Option (List Rest)) (ol
 
 -- ---- a text without snapshots
 
-module _ (plan : Plan) (facts : RunFacts) (lists : List (List Sample)) (order : List ℕ) (every : Option ℕ) where
-  -- a text that says nothing of what a filter left out
-  plainly : (view : View) → IsOrderless view every → TellsNoWhole plan.options.filter view → told_text (told_whole plan facts) view lists order every ≡ view_text view lists [] None
-  plainly Fold orderless tells = refl
-  plainly (Graph width) orderless tells = ap (view_text (Graph width) lists order) orderless
-  plainly (Chart width) orderless tells = refl
-  plainly Pairs orderless tells = refl
-  plainly (PairBoxes width) orderless tells = refl
-  plainly (Top top) orderless tells = ap (λ kept. top_text (cond kept None (Some facts.whole)) top (all_samples lists)) tells
-  plainly (Diff table) orderless tells = refl
+module _ (told : Told) (lists : List (List Sample)) (order : List ℕ) (every : Option ℕ) where
+  orderless : (view : View) → IsOrderless view every → told_text told view lists order every ≡ told_text told view lists [] None
+  orderless Fold is = refl
+  orderless (Graph width) is = ap (view_text (Graph width) lists order) is
+  orderless (Chart width) is = refl
+  orderless Pairs is = refl
+  orderless (PairBoxes width) is = refl
+  orderless (Top top) is = refl
+  orderless (Diff table) is = refl
 
-  -- one that says what all samples weigh
-  with_all : (view : View) (top : TopTable) → view ≡ Top top → is_everything plan.options.filter ≡ false → told_text (told_whole plan facts) view lists order every ≡ top_text (Some facts.whole) top (all_samples lists)
-  with_all view top is filtered = λ i. told_text (cond (filtered i) None (Some facts.whole)) (is i) lists order every
+-- a text that says nothing but what the samples are
+plainly : (told : Told) (lists : List (List Sample)) (view : View) → IsOfSamples view → told_text told view lists [] None ≡ view_text view lists [] None
+plainly told lists Fold tells = refl
+plainly told lists (Graph width) tells = refl
+plainly told lists (Chart width) tells = refl
+plainly told lists Pairs tells = refl
+plainly told lists (PairBoxes width) tells = refl
+plainly told lists (Top top) tells = absurd tells
+plainly told lists (Diff table) tells = absurd tells
 
 -- what was shown, of facts that are known
 module _ (plan : Plan) (old new : Option (List ℕ)) where
@@ -90,23 +95,23 @@ module _ (plan : Plan) (old new : Option (List ℕ)) where
       let shown = shows (subst ShowsSamples (sym is) samples) in
       subst (Appends old new) (shown.1.text_is ∙ ap (λ (form : Form). text_in form plan facts (lists_of rests) shown.1.order plan.options.every) is ∙ same shown.1.order) shown.2
 
-  pub exactly : (told : Option RunFacts) (known : Option (List Rest)) → IfSome known (λ _. IsKnown told) → IfSome known (Shows plan told old new)
-      → plan.form ≡ form.Text → IsOrderless plan.view plan.options.every → TellsNoWhole plan.options.filter plan.view
-      → IfSome known (λ rests. Appends old new (view_text plan.view (lists_of rests) [] None))
-  exactly told None some shows as_text orderless tells = tt
-  exactly None (Some rests) some shows as_text orderless tells = absurd some
-  exactly (Some facts) (Some rests) some shows as_text orderless tells =
-      of_shown form.Text facts rests (view_text plan.view (lists_of rests) [] None) as_text tt
-      (λ order. plainly plan facts (lists_of rests) order plan.options.every plan.view orderless tells) shows
+  pub with_facts : (told : Option RunFacts) (known : Option (List Rest)) → IfSome known (Shows plan told old new)
+      → plan.form ≡ form.Text → IsOrderless plan.view plan.options.every
+      → IfSome told (λ facts. IfSome known (λ rests. Appends old new (told_text (told_in plan facts (lists_of rests)) plan.view (lists_of rests) [] None)))
+  with_facts None known shows as_text is = tt
+  with_facts (Some facts) None shows as_text is = tt
+  with_facts (Some facts) (Some rests) shows as_text is =
+      let told = told_in plan facts (lists_of rests) in
+      of_shown form.Text facts rests (told_text told plan.view (lists_of rests) [] None) as_text tt
+      (λ order. orderless told (lists_of rests) order plan.options.every plan.view is) shows
 
-  pub with_whole : (told : Option RunFacts) (known : Option (List Rest)) → IfSome known (Shows plan told old new)
-      → (top : TopTable) → plan.form ≡ form.Text → plan.view ≡ Top top → is_everything plan.options.filter ≡ false
-      → IfSome told (λ facts. IfSome known (λ rests. Appends old new (top_text (Some facts.whole) top (all_samples (lists_of rests)))))
-  with_whole None known shows top as_text is filtered = tt
-  with_whole (Some facts) None shows top as_text is filtered = tt
-  with_whole (Some facts) (Some rests) shows top as_text is filtered =
-      of_shown form.Text facts rests (top_text (Some facts.whole) top (all_samples (lists_of rests))) as_text tt
-      (λ order. with_all plan facts (lists_of rests) order plan.options.every plan.view top is filtered) shows
+  pub exactly : (told : Option RunFacts) (known : Option (List Rest)) → IfSome known (λ _. IsKnown told) → IfSome known (Shows plan told old new)
+      → plan.form ≡ form.Text → IsOrderless plan.view plan.options.every → IsOfSamples plan.view
+      → IfSome known (λ rests. Appends old new (view_text plan.view (lists_of rests) [] None))
+  exactly told None some shows as_text is tells = tt
+  exactly None (Some rests) some shows as_text is tells = absurd some
+  exactly (Some facts) (Some rests) some shows as_text is tells =
+      subst (Appends old new) (plainly (told_in plan facts (lists_of rests)) (lists_of rests) plan.view tells) (with_facts (Some facts) (Some rests) shows as_text is)
 
   pub page_exactly : (told : Option RunFacts) (known : Option (List Rest)) → IfSome known (Shows plan told old new)
       → (page : PageForm) → plan.form ≡ form.Page page → IsOrderless plan.view plan.options.every
@@ -134,22 +139,30 @@ module _ (plan : Plan) (old new : Option (List ℕ)) where
   calls_exactly side written table samples told_as (Some facts) (Some rests) shows as_calls =
       of_shown (written table) facts rests (called_text side table plan facts (lists_of rests)) as_calls samples (told_as facts (lists_of rests)) shows
 
--- pages and pictures alone tell the types
+-- what tells no types is the same whatever they are
 pub same_shown : (plan : Plan) (one other : RunFacts) (lists : List (List Sample)) (order : List ℕ) (every : Option ℕ) → one.whole ≡ other.whole
-    → ((page : PageForm) → plan.form ≡ form.Page page → one.types ≡ other.types) → ((picture : PictureForm) → plan.form ≡ form.Picture picture → one.types ≡ other.types)
-    → shown_text plan one lists order every ≡ shown_text plan other lists order every
-same_shown plan one other lists order every weighed typed pictured = go plan.form refl
+    → (form_tells plan.form plan.view ≡ true → one.types ≡ other.types) → shown_text plan one lists order every ≡ shown_text plan other lists order every
+same_shown plan one other lists order every weighed typed = go plan.form typed
   where
-    told : told_text (told_whole plan one) plan.view lists order every ≡ told_text (told_whole plan other) plan.view lists order every
-    told = ap (λ whole. told_text (cond (is_everything plan.options.filter) None (Some whole)) plan.view lists order every) weighed
+    with_types : one.types ≡ other.types → (text : RunFacts → List ℕ) → text one ≡ text other
+    with_types same text = λ i. text (record { whole = weighed i; types = same i })
 
-    go : (written : Form) → plan.form ≡ written → text_in written plan one lists order every ≡ text_in written plan other lists order every
-    go form.Text is = told
-    go (form.Page page) is = λ i. page_text plan (record { whole = weighed i; types = typed page is i }) page lists order every
-    go (form.Picture picture) is = λ i. picture_text plan (record { whole = weighed i; types = pictured picture is i }) picture lists
-    go form.Types is = told
-    go (form.Callers table) is = ap (λ whole. calls_text (cond (is_everything plan.options.filter) None (Some whole)) Callers table (all_samples lists)) weighed
-    go (form.Callees table) is = ap (λ whole. calls_text (cond (is_everything plan.options.filter) None (Some whole)) Callees table (all_samples lists)) weighed
+    viewed : (view : View) → (view_tells view ≡ true → one.types ≡ other.types) → told_text (told_in plan one lists) view lists order every ≡ told_text (told_in plan other lists) view lists order every
+    viewed Fold typed = refl
+    viewed (Graph width) typed = refl
+    viewed (Chart width) typed = refl
+    viewed Pairs typed = refl
+    viewed (PairBoxes width) typed = refl
+    viewed (Top top) typed = with_types (typed refl) (λ facts. told_text (told_in plan facts lists) (Top top) lists order every)
+    viewed (Diff table) typed = with_types (typed refl) (λ facts. told_text (told_in plan facts lists) (Diff table) lists order every)
+
+    go : (written : Form) → (form_tells written plan.view ≡ true → one.types ≡ other.types) → text_in written plan one lists order every ≡ text_in written plan other lists order every
+    go form.Text typed = viewed plan.view typed
+    go (form.Page page) typed = with_types (typed refl) (λ facts. page_text plan facts page lists order every)
+    go (form.Picture picture) typed = with_types (typed refl) (λ facts. picture_text plan facts picture lists)
+    go form.Types typed = viewed plan.view typed
+    go (form.Callers table) typed = with_types (typed refl) (λ facts. called_text Callers table plan facts lists)
+    go (form.Callees table) typed = with_types (typed refl) (λ facts. called_text Callees table plan facts lists)
 
 -- ---- without words
 
@@ -200,6 +213,14 @@ module _ (input : Option (List ℕ)) (files : List ℕ → Option (List ℕ)) (o
 
 -- ---- words
 
+module _ {A : Type 0} (bytes : A → Text) {words words' : List A} where
+  -- what is said of the words as they are lent
+  pub among_words : (fault : PlanFault) → words ≡ words' → IsFaultAmong (fault_of command_line (map bytes words)) fault → IsFaultAmong (fault_of command_line (map bytes words')) fault
+  among_words fault same among = subst (λ words. IsFaultAmong (fault_of command_line (map bytes words)) fault) same among
+
+  pub faultless_words : words ≡ words' → fault_of command_line (map bytes words) ≡ [] → fault_of command_line (map bytes words') ≡ []
+  faultless_words same none = subst (λ words. fault_of command_line (map bytes words) ≡ []) same none
+
 words_have : (words : List Text) (plan : Plan) (P : Plan → Type 0) → asked_plan words ≡ Some plan → P plan → IsSomeAnd (asked_plan words) P
 words_have words plan P asked holds = subst (λ asked. IsSomeAnd asked P) (sym asked) holds
 
@@ -212,18 +233,18 @@ partly_asked words plan P asked (inr holds) = inr (inr (words_have words plan P 
 
 module _ (words : List Text) (plan : Plan) (input : Option (List ℕ)) (files : List ℕ → Option (List ℕ)) (old new : Option (List ℕ)) (asked : asked_plan words ≡ Some plan)
     (shows : IfSome (known_rests plan input files) (Shows plan (known_facts plan input files) old new)) where
-  pub asked_exactly : IsSomeAnd (asked_plan words) (λ plan. plan.form ≡ form.Text → IsOrderless plan.view plan.options.every → TellsNoWhole plan.options.filter plan.view
+  pub asked_exactly : IsSomeAnd (asked_plan words) (λ plan. plan.form ≡ form.Text → IsOrderless plan.view plan.options.every → IsOfSamples plan.view
       → IfSome (known_rests plan input files) (λ rests. Appends old new (view_text plan.view (lists_of rests) [] None)))
   asked_exactly =
-      words_have words plan (λ plan. plan.form ≡ form.Text → IsOrderless plan.view plan.options.every → TellsNoWhole plan.options.filter plan.view → IfSome (known_rests plan input files) (λ rests. Appends old new (view_text plan.view (lists_of rests) [] None)))
+      words_have words plan (λ plan. plan.form ≡ form.Text → IsOrderless plan.view plan.options.every → IsOfSamples plan.view → IfSome (known_rests plan input files) (λ rests. Appends old new (view_text plan.view (lists_of rests) [] None)))
       asked (exactly plan old new (known_facts plan input files) (known_rests plan input files) (facts_are_known plan input files) shows)
 
-  pub asked_whole : IsSomeAnd (asked_plan words) (λ plan. (top : TopTable) → plan.form ≡ form.Text → plan.view ≡ Top top → is_everything plan.options.filter ≡ false
-      → IfSome (known_facts plan input files) (λ facts. IfSome (known_rests plan input files) (λ rests. Appends old new (top_text (Some facts.whole) top (all_samples (lists_of rests))))))
-  asked_whole =
-      words_have words plan (λ plan. (top : TopTable) → plan.form ≡ form.Text → plan.view ≡ Top top → is_everything plan.options.filter ≡ false
-      → IfSome (known_facts plan input files) (λ facts. IfSome (known_rests plan input files) (λ rests. Appends old new (top_text (Some facts.whole) top (all_samples (lists_of rests))))))
-      asked (with_whole plan old new (known_facts plan input files) (known_rests plan input files) shows)
+  pub asked_with_facts : IsSomeAnd (asked_plan words) (λ plan. plan.form ≡ form.Text → IsOrderless plan.view plan.options.every
+      → IfSome (known_facts plan input files) (λ facts. IfSome (known_rests plan input files) (λ rests. Appends old new (told_text (told_in plan facts (lists_of rests)) plan.view (lists_of rests) [] None))))
+  asked_with_facts =
+      words_have words plan (λ plan. plan.form ≡ form.Text → IsOrderless plan.view plan.options.every
+      → IfSome (known_facts plan input files) (λ facts. IfSome (known_rests plan input files) (λ rests. Appends old new (told_text (told_in plan facts (lists_of rests)) plan.view (lists_of rests) [] None))))
+      asked (with_facts plan old new (known_facts plan input files) (known_rests plan input files) shows)
 
   pub asked_page : IsSomeAnd (asked_plan words) (λ plan. (page : PageForm) → plan.form ≡ form.Page page → IsOrderless plan.view plan.options.every
       → IfSome (known_facts plan input files) (λ facts. IfSome (known_rests plan input files) (λ rests. Appends old new (page_text plan facts page (lists_of rests) [] None))))

@@ -1,6 +1,7 @@
 -- How a run ends that is asked for the sample types of a profile.
 use Rattle.std.proofs.Common.{◌≡◌, ◌∙◌, ◌⊎◌, inl, inr, ℕ, List, [], ◌∷◌, length, Option, Some, None, Result, Ok, Err, IfSome, IfErr, OnOk, ap, sym, subst, refl, arith, take, get_or, map, ◌<◌}
 use Rattle.std.specs.Prelude.{option_and_then, option_map, slice_get}
+use Rattle.std.proofs.lemmas.List.{get_or-map, length-map}
 use Rattle.std.specs.Io.KnownBytes.{Appends, Keeps}
 use Rattle.stack_core.specs.Reading.{Rest}
 use Rattle.run_options.specs.declared.choices.Pick.{Pick}
@@ -13,6 +14,7 @@ use Rattle.profile_messages.specs.SampleTypes.{all_types}
 use Rattle.profile_messages.specs.declared.types.SampleTypes.{SampleTypes}
 use Rattle.profile_tables.specs.Samples.{read_pprof, read_samples, tables_of}
 use Rattle.profile_tables.specs.Samples as pprof
+use Rattle.source_lists.specs.FromNames.{rest_from, rests_from}
 use Rattle.source_lists.specs.Sources.{asked_rest}
 use Rattle.command_line.specs.Plans.{IsOfOneProfile}
 use Rattle.command_line.specs.declared.plans.Form.TheVariants as form
@@ -46,6 +48,16 @@ fault_of_paths options input files [] one preferred faulty = absurd (omega arith
 fault_of_paths options input files (path ∷ []) one preferred faulty = fault_of_one options (files path) preferred faulty
 fault_of_paths options input files (path ∷ another ∷ more) one preferred faulty = absurd (omega arith)
 
+-- where stacks begin changes no ending
+fault_from : (from : Option (List ℕ)) (rests : List Rest) → HasFault rests → HasFault (rests_from from rests)
+fault_from None rests faulty = faulty
+fault_from (Some name) rests (i, rest, within, is, fault) =
+    (i, rest_from name rest, omega (arith, within, length-map rests (rest_from name)), get_or-map (rest_from name) rests i rest (rest_from name rest) within ∙ ap (rest_from name) is, fault)
+
+fault_shown : (from : Option (List ℕ)) (known : Option (List Rest)) → IfSome known HasFault → IfSome (option_map (rests_from from) known) HasFault
+fault_shown from None faulty = tt
+fault_shown from (Some rests) faulty = fault_from from rests faulty
+
 -- ---- a plan that asks for no samples
 
 module _ (plan : Plan) (told : Option RunFacts) (old new : Option (List ℕ)) (types : plan.form ≡ form.Types) where
@@ -74,8 +86,9 @@ module _ (plan : Plan) (told : Option RunFacts) (old new : Option (List ℕ)) (t
   unseen_fails input files NoThread one fails = unsaid (known_rests plan input files)
   unseen_fails input files (Unfinished source) one fails = unsaid (known_rests plan input files)
   unseen_fails input files Faults one fails =
-      subst (λ (asked : Option Format). IfSome (rests_at plan.options asked plan.files input files) HasFault) (sym one.1)
-      (fault_of_paths plan.options input files plan.files one.0 (ap (λ (options : Options). options.pick) one.2) fails)
+      fault_shown plan.from (rests_at plan.options plan.format plan.files input files)
+      (subst (λ (asked : Option Format). IfSome (rests_at plan.options asked plan.files input files) HasFault) (sym one.1)
+      (fault_of_paths plan.options input files plan.files one.0 (ap (λ (options : Options). options.pick) one.2) fails))
   unseen_fails input files (Output fault) one fails = unseen_front (known_rests plan input files)
 
   pub unseen_err : {T : Type 0} (input : Option (List ℕ)) (files : List ℕ → Option (List ℕ)) (result : Result T Failure) → IsOfOneProfile plan

@@ -40,6 +40,10 @@ whole_of_the_focus : whole_asked (codes "top" ∷ codes "--focus" ∷ codes "b" 
 unfolding clap_on_literals computing digits
 whole_of_the_focus = refl
 
+whole_from_a_name : whole_asked (codes "top" ∷ codes "--from" ∷ codes "b" ∷ codes "y" ∷ codes "x" ∷ []) None ≡ Some 7
+unfolding clap_on_literals computing digits
+whole_from_a_name = refl
+
 whole_of_everything : whole_asked (codes "top" ∷ codes "y" ∷ []) None ≡ None
 unfolding clap_on_literals computing digits
 whole_of_everything = refl
@@ -87,6 +91,19 @@ fold_of_the_rest = refl
 nothing_in_focus : text_asked (codes "fold" ∷ codes "--focus" ∷ codes "c" ∷ []) (Some (codes "a 1\n")) ≡ Some []
 unfolding clap_on_literals merged stacks_of sum_at computing digits
 nothing_in_focus = refl
+
+-- each stack begins at its first frame of a name, and samples without one are left out; a filter sees the whole stack
+fold_from_a_name : text_asked (codes "fold" ∷ codes "--from" ∷ codes "b" ∷ []) (Some (codes "a;b;c 2\nd;b;c 1\na 4\nb;b 3\n")) ≡ Some (codes "b;b 3\nb;c 3\n")
+unfolding clap_on_literals merged stacks_of sum_at computing digits
+fold_from_a_name = refl
+
+fold_from_in_focus : text_asked (codes "fold" ∷ codes "--from=b" ∷ codes "--focus=d" ∷ []) (Some (codes "a;b;c 2\nd;b;c 1\n")) ≡ Some (codes "b;c 1\n")
+unfolding clap_on_literals merged stacks_of sum_at computing digits
+fold_from_in_focus = refl
+
+compared_from_a_name : text_asked (codes "compare" ∷ codes "--from" ∷ codes "a" ∷ codes "x" ∷ codes "y" ∷ []) None ≡ Some (codes "a 1 2\n")
+unfolding clap_on_literals computing digits total_of own_of
+compared_from_a_name = refl
 
 -- nothing is known of a run where a file or the input is not known
 unknown_file : rests_asked (codes "fold" ∷ codes "x" ∷ codes "z" ∷ []) (Some (codes "a 1\n")) ≡ None

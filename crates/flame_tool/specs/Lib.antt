@@ -1,5 +1,6 @@
 -- The definitions that the contracts of flame_tool cite. Those of the crates below it are passed on.
 pub mod KnownFacts
+pub mod NextSteps
 pub mod Requests
 pub mod Runs
 pub mod TypeRuns
@@ -17,6 +18,7 @@ pub use Rattle.function_sums.specs.Tables
 pub use Rattle.merged_stacks.specs.Merged
 pub use Rattle.merging.specs.Gathered
 pub use Rattle.merging.specs.Snapshots
+pub use Rattle.source_lists.specs.FromNames
 pub use Rattle.source_lists.specs.Sources
 pub use Rattle.merging.specs.Sums
 pub use Rattle.merging.specs.TreeSinkState
@@ -33,9 +35,11 @@ pub use Rattle.source_views.specs.Texts
 pub use Rattle.source_views.specs.Views
 pub use Rattle.sum_texts.specs.ChangeJson
 pub use Rattle.sum_texts.specs.ChangeTable
+pub use Rattle.sum_texts.specs.Columns
 pub use Rattle.sum_texts.specs.DiffTexts
 pub use Rattle.sum_texts.specs.FunctionJson
 pub use Rattle.sum_texts.specs.FunctionTable
+pub use Rattle.sum_texts.specs.Told
 pub use Rattle.sum_texts.specs.TopTexts
 pub use Rattle.svg_texts.specs.Svg
 pub use Rattle.view_texts.specs.Fold

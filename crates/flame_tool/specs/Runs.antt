@@ -1,5 +1,5 @@
 -- What a run leaves on its output, and what that says of its sources.
-use Rattle.std.specs.Prelude.{◌≡◌, ◌≢◌, ℕ, List, Option, IfSome, true, take, map, All, Any}
+use Rattle.std.specs.Prelude.{◌≡◌, ◌≢◌, ℕ, List, Option, IfSome, take, map, All, Any}
 use Rattle.std.specs.Io.KnownBytes.{Appends, Keeps}
 use Rattle.byte_io.specs.Pieces.{AppendsFront}
 use Rattle.stack_core.specs.Interleaving.{IsInterleaving}
@@ -13,8 +13,6 @@ use Rattle.command_line.specs.declared.plans.Form.TheVariants as form
 use Rattle.command_line.specs.declared.plans.Plan.{Plan}
 use Rattle.command_line.specs.declared.plans.View.{View}
 use Rattle.command_line.specs.declared.plans.View.TheVariants.{Fold, Graph, Chart, Pairs, PairBoxes, Top, Diff}
-use Rattle.run_options.specs.Filters.{is_everything}
-use Rattle.run_options.specs.declared.filters.Filter.{Filter}
 use Rattle.view_texts.specs.Fold.{fold_text}
 use Rattle.sent_views.specs.Pages.{shown_text}
 use Rattle.sent_views.specs.declared.run_facts.RunFacts.{RunFacts}
@@ -70,15 +68,15 @@ abbrev pub ShowsFront : Plan → Option RunFacts → Option (List ℕ) → Optio
 ShowsFront plan known old new rests =
     ShowsSamples plan.form → IfSome known (λ facts. (text : List ℕ) × IsTextOf plan facts rests text × AppendsFront text old new)
 
--- the text of the view says nothing of samples that a filter leaves out
-abbrev pub TellsNoWhole : Filter → View → Type 0
-TellsNoWhole filter Fold = Unit {0}
-TellsNoWhole filter (Graph width) = Unit {0}
-TellsNoWhole filter (Chart width) = Unit {0}
-TellsNoWhole filter Pairs = Unit {0}
-TellsNoWhole filter (PairBoxes width) = Unit {0}
-TellsNoWhole filter (Top top) = is_everything filter ≡ true
-TellsNoWhole filter (Diff table) = Unit {0}
+-- the text of the view says nothing but what the samples are
+abbrev pub IsOfSamples : View → Type 0
+IsOfSamples Fold = Unit {0}
+IsOfSamples (Graph width) = Unit {0}
+IsOfSamples (Chart width) = Unit {0}
+IsOfSamples Pairs = Unit {0}
+IsOfSamples (PairBoxes width) = Unit {0}
+IsOfSamples (Top top) = ⊥
+IsOfSamples (Diff table) = ⊥
 
 -- a source was read up to a fault
 abbrev pub HasFault : List Rest → Type 0

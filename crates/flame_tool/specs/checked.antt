@@ -1,3 +1,4 @@
 -- Definitions that no public contract cites: not to be believed, but checked with the code that cites them.
 pub mod Failures
+pub mod Telling
 pub mod TypeFailures

@@ -5,9 +5,11 @@ ghost use Rattle.command_line.specs.Plans.{fault_text};
 ghost use Rattle.flame_tool.specs.Runs.{FailsUntouched};
 ghost use Rattle.flame_tool.specs.checked.Failures.{IsHelp, IsWords, exit_status};
 
+use crate::advice::Advice;
 use byte_io::{Outlet, PieceFault, send};
 use command_line::PlanFault;
 use opened_sources::{Failure, report_failure};
+use std::alloc::Global;
 
 // Says what is wrong with the words, or the help that they ask for.
 pub(crate) fn refuse<W: Outlet, E: Outlet>(fault: PlanFault, out: &mut W, err: &mut E) -> u8
@@ -45,13 +47,20 @@ pub(crate) fn refuse<W: Outlet, E: Outlet>(fault: PlanFault, out: &mut W, err: &
 }
 
 // Says why a run over these files failed, if it did, and answers its exit status.
-pub(crate) fn end_run<E: Outlet>(err: &mut E, files: &[String], shown: Result<(), Failure>) -> u8
+pub(crate) fn end_run<E: Outlet>(
+    alloc: Global,
+    err: &mut E,
+    advice: Advice<'_>,
+    files: &[String],
+    shown: Result<(), Failure>,
+) -> u8
     ensures { result ≡ exit_status shown }
 {
     match shown {
         Ok(()) => 0,
         Err(failure) => {
             report_failure(err, files, failure);
+            advice.tell_failure(alloc, err, files, failure);
             failure.status()
         }
     }

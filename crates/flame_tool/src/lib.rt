@@ -2,9 +2,12 @@
 //! collected and merged, laid out as boxes, and rendered as text.
 #![tactic(auto)]
 
+mod advice;
 mod exits;
+mod next_steps;
 mod program;
 mod progress;
+mod step_commands;
 mod types_run;
 mod views_run;
 
@@ -13,10 +16,11 @@ pub use byte_io::{
     Outlet, SOURCE_LIMIT, SendFault, load, send,
 };
 pub use command_line::{
-    CallTable, Form, PageForm, PictureForm, Plan, PlanFault, TopTable, View, plan,
+    CallTable, Form, PageForm, PictureForm, Plan, PlanFault, TopTable, View, WeightUnit, plan,
 };
 pub use merging::{Gathered, Snapshot, TreeSink};
-pub use opened_sources::SOURCE_COUNT;
+pub use next_steps::{Trouble, next_step};
+pub use opened_sources::{Failure, SOURCE_COUNT};
 pub use page_views::{Heading, PageView, Source as PageSource, render_page_data};
 pub use program::run;
 pub use ring_collect::CollectFault;
@@ -25,4 +29,4 @@ pub use run_options::{
 };
 pub use source_lists::Source;
 pub use source_views::{Views, laws, render, views};
-pub use stack_core::{Gate, OpenGate, SourceEnd, SourceList, Turn};
+pub use stack_core::{Gate, OpenGate, ReadKind, SourceEnd, SourceList, Turn};

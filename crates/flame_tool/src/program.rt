@@ -6,21 +6,18 @@ ghost use Rattle.command_line.specs.Plans.{IsComparison, IsOfOneProfile};
 ghost use Rattle.command_line.specs.declared.plans.CallTable.{CallTable};
 ghost use Rattle.command_line.specs.declared.plans.PageForm.{PageForm};
 ghost use Rattle.command_line.specs.declared.plans.PictureForm.{PictureForm};
-ghost use Rattle.command_line.specs.declared.plans.TopTable.{TopTable};
-ghost use Rattle.command_line.specs.declared.plans.View.{View};
 ghost use Rattle.function_sums.specs.declared.call_sides.CallSide.TheVariants.{Callers, Callees};
-ghost use Rattle.merging.specs.Sums.{all_samples};
-ghost use Rattle.run_options.specs.Filters.{is_everything};
 ghost use Rattle.flame_tool.specs.KnownFacts.{known_facts};
 ghost use Rattle.flame_tool.specs.Requests.{AreRefused, AsksForHelp, asked_faults, asked_plan, known_rests};
-ghost use Rattle.sent_views.specs.Pages.{called_text, page_text, picture_text};
-ghost use Rattle.source_views.specs.Texts.{IsOrderless, top_text, view_text};
-ghost use Rattle.flame_tool.specs.Runs.{IsClean, IsFault, text_of, lists_of, FailsUntouched, GainsFront, Shows, ShowsFront, ShowsSamples, HasFault, TellsNoWhole};
+ghost use Rattle.sent_views.specs.Pages.{called_text, page_text, picture_text, told_in};
+ghost use Rattle.source_views.specs.Texts.{IsOrderless, told_text, view_text};
+ghost use Rattle.flame_tool.specs.Runs.{IsClean, IsFault, text_of, lists_of, FailsUntouched, GainsFront, Shows, ShowsFront, ShowsSamples, HasFault, IsOfSamples};
 ghost use Rattle.flame_tool.specs.TypeRuns.{known_profile, HasTableFault, ShowsTypes, ShowsTypesFront};
 ghost use Rattle.flame_tool.specs.checked.TypeFailures.{FailsTypes};
 ghost use Rattle.flame_tool.specs.checked.Failures.{Fails, KeepsOutput};
 ghost use Rattle.opened_sources.specs.Failures.{Flushes};
 
+use crate::advice::Advice;
 use crate::exits::{end_run, refuse};
 use crate::types_run::show_types;
 use crate::views_run::show_views;
@@ -79,20 +76,20 @@ pub fn run<T: Threads + Wait + Copy + Send + 'static, F: Files, W: Outlet, E: Ou
     ensures shown_exactly { result ≡ 0 → AsksForHelp (map string_bytes words.items)
         ⊎ IsSomeAnd (asked_plan (map string_bytes words.items)) (λ plan.
         plan.form ≡ Form.Text → IsOrderless plan.view plan.options.every
-        → TellsNoWhole plan.options.filter plan.view
+        → IsOfSamples plan.view
         → IfSome (known_rests plan (F.known_input files.old) (F.known_file files.old)) (λ rests.
         Appends (W.contents out.old) (W.contents out.new)
         (view_text plan.view (lists_of rests) [] None))) }
 
-    // Of functions under a filter, the text also says what all samples weigh.
-    ensures shown_with_whole { result ≡ 0 → AsksForHelp (map string_bytes words.items)
+    // Of functions the text also says the type and the unit of the weights, and what all samples weigh
+    // where some are left out.
+    ensures shown_with_facts { result ≡ 0 → AsksForHelp (map string_bytes words.items)
         ⊎ IsSomeAnd (asked_plan (map string_bytes words.items)) (λ plan.
-        (top : TopTable) → plan.form ≡ Form.Text → plan.view ≡ View.Top top
-        → is_everything plan.options.filter ≡ false
+        plan.form ≡ Form.Text → IsOrderless plan.view plan.options.every
         → IfSome (known_facts plan (F.known_input files.old) (F.known_file files.old)) (λ facts.
         IfSome (known_rests plan (F.known_input files.old) (F.known_file files.old)) (λ rests.
         Appends (W.contents out.old) (W.contents out.new)
-        (top_text (Some facts.whole) top (all_samples (lists_of rests)))))) }
+        (told_text (told_in plan facts (lists_of rests)) plan.view (lists_of rests) [] None)))) }
 
     // Of a page without snapshots no order of the samples is left.
     ensures shown_page { result ≡ 0 → AsksForHelp (map string_bytes words.items)
@@ -188,10 +185,18 @@ pub fn run<T: Threads + Wait + Copy + Send + 'static, F: Files, W: Outlet, E: Ou
         (W.failures out.old) (W.failures out.new))) }
 {
     if words.is_empty() {
-        return run_plan(rt, alloc, plan_without_words(alloc), files, out, err);
+        return run_plan(
+            rt,
+            alloc,
+            plan_without_words(alloc),
+            files,
+            out,
+            err,
+            words.as_slice(),
+        );
     }
     match plan(alloc, words.as_slice()) {
-        Ok(plan) => run_plan(rt, alloc, plan, files, out, err),
+        Ok(plan) => run_plan(rt, alloc, plan, files, out, err, words.as_slice()),
         Err(fault) => refuse(fault, out, err),
     }
 }
@@ -204,6 +209,7 @@ fn run_plan<T: Threads + Wait + Copy + Send + 'static, F: Files, W: Outlet, E: O
     files: &mut F,
     out: &mut W,
     err: &mut E,
+    words: &[String],
 ) -> u8
     requires pairs { IsComparison plan.view → length plan.files ≡ 2 }
     requires every { IfSome plan.options.every (λ every. 1 ≤ every) }
@@ -245,8 +251,9 @@ fn run_plan<T: Threads + Wait + Copy + Send + 'static, F: Files, W: Outlet, E: O
     if plan.files.get().is_empty() && files.is_input_terminal() {
         report_awaited_input(err, plan.format.unwrap_or(Format::Folded));
     }
-    let shown = show_plan(rt, alloc, &plan, files, out, err);
-    end_run(err, plan.files.get(), shown)
+    let shown = show_plan(rt, alloc, &plan, files, out, err, words);
+    let advice = Advice::new(words, files.is_error_terminal());
+    end_run(alloc, err, advice, plan.files.get(), shown)
 }
 
 // Shows the samples of the sources, or the sample types of the one profile.
@@ -257,6 +264,7 @@ fn show_plan<T: Threads + Wait + Copy + Send + 'static, F: Files, W: Outlet, E: 
     files: &mut F,
     out: &mut W,
     err: &mut E,
+    words: &[String],
 ) -> Result<(), Failure>
     requires pairs { IsComparison plan.now.view → length plan.now.files ≡ 2 }
     requires every { IfSome plan.now.options.every (λ every. 1 ≤ every) }
@@ -283,9 +291,9 @@ fn show_plan<T: Threads + Wait + Copy + Send + 'static, F: Files, W: Outlet, E: 
         result }
 {
     match plan.form {
-        Form::Types => show_types(alloc, plan, files, out, err),
+        Form::Types => show_types(alloc, plan, files, out, err, words),
         Form::Text | Form::Page(_) | Form::Picture(_) | Form::Callers(_) | Form::Callees(_) => {
-            show_views(rt, alloc, plan, files, out, err)
+            show_views(rt, alloc, plan, files, out, err, words)
         }
     }
 }

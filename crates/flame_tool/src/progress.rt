@@ -3,10 +3,12 @@
 
 ghost use Rattle.std.specs.Prelude.{◌≡◌};
 
+use crate::advice::{Advice, trouble_with};
 use byte_io::{Outlet, send};
 use itoa::Buffer;
-use opened_sources::path_of;
-use stack_core::{Ledger, NoSink, RowSink};
+use opened_sources::{path_of, report_ending};
+use run_options::Filter;
+use stack_core::{Ledger, NoSink, RowSink, SourceList};
 use std::alloc::{AllocError, Global};
 
 /// After how many samples the line is written again, each time.
@@ -26,11 +28,20 @@ pub(crate) struct Progress<'a, E> {
     is_wanted: bool,
     is_shown: bool,
     err: &'a mut E,
+    words: &'a [String],
+    is_told: bool,
 }
 
 impl<'a, E: Outlet> Progress<'a, E> {
-    /// Of the sources of these files, or of the standard input where there is none. Nothing is read yet.
-    pub(crate) fn new(err: &'a mut E, files: &'a [String], is_wanted: bool) -> Progress<'a, E> {
+    /// Of the sources of these files, or of the standard input where there is none. Nothing is read yet. Of a run with these words it
+    /// is told what to do, where that is wanted.
+    pub(crate) fn new(
+        err: &'a mut E,
+        files: &'a [String],
+        is_wanted: bool,
+        words: &'a [String],
+        is_told: bool,
+    ) -> Progress<'a, E> {
         Progress {
             taken: NoSink::new(),
             samples: 0,
@@ -39,13 +50,21 @@ impl<'a, E: Outlet> Progress<'a, E> {
             is_wanted,
             is_shown: false,
             err,
+            words,
+            is_told,
         }
     }
 
-    /// Where messages go. The line is cleared before.
-    pub(crate) fn messages(&mut self) -> &mut E {
+    /// Says of each source, in order, how it ended, where there is something to say, and what to do then. The line is cleared before.
+    pub(crate) fn report_endings(&mut self, alloc: Global, lists: &[SourceList], filter: &Filter) {
         self.clear();
-        self.err
+        let advice = Advice::new(self.words, self.is_told);
+        for (source, list) in lists.iter().enumerate() {
+            report_ending(self.err, self.files, source, list.ending());
+            if let Some(trouble) = trouble_with(list, filter) {
+                advice.tell(alloc, self.err, self.files, source, trouble);
+            }
+        }
     }
 
     /// Counts a sample, and tells how many there are now and then.

@@ -6,6 +6,8 @@ ghost use Rattle.flame_tool.specs.checked.Failures.{KeepsOutput};
 ghost use Rattle.opened_sources.specs.Failures.{Flushes, Sends};
 ghost use Rattle.flame_tool.specs.checked.TypeFailures.{FailsTypes};
 
+use crate::advice::Advice;
+use crate::next_steps::Trouble;
 use byte_io::{Files, Outlet};
 use command_line::Plan;
 use opened_sources::{Failure, open_named, report_ending};
@@ -22,6 +24,7 @@ pub(crate) fn show_types<F: Files, W: Outlet, E: Outlet>(
     files: &mut F,
     out: &mut W,
     err: &mut E,
+    words: &[String],
 ) -> Result<(), Failure>
     requires one { length plan.now.files ≡ 1 }
     ensures ok { OnOk result (IfSome (known_profile plan.now (F.known_file files.old))
@@ -37,7 +40,8 @@ pub(crate) fn show_types<F: Files, W: Outlet, E: Outlet>(
 {
     let paths = plan.files.get();
     let source = open_named(alloc, files, 0, &paths[0], plan.format)?;
-    show_types_of(alloc, &source.bytes, paths, out, err)
+    let advice = Advice::new(words, files.is_error_terminal());
+    show_types_of(alloc, &source.bytes, paths, out, err, advice)
 }
 
 // The same of a profile's bytes.
@@ -47,6 +51,7 @@ fn show_types_of<W: Outlet, E: Outlet>(
     paths: &[String],
     out: &mut W,
     err: &mut E,
+    advice: Advice<'_>,
 ) -> Result<(), Failure>
     ensures ok { OnOk result (ShowsTypes (W.contents out.old) (W.contents out.new) profile.now) }
     ensures err { IfErr result (λ failure.
@@ -61,6 +66,7 @@ fn show_types_of<W: Outlet, E: Outlet>(
         Ok(types) => send_types(alloc, &types, out),
         Err(TableFault::Read(fault)) => {
             report_ending(err, paths, 0, &SourceEnd::Fault(fault));
+            advice.tell(alloc, err, paths, 0, Trouble::Fault(fault.kind));
             Err(Failure::Faults)
         }
         Err(TableFault::OutOfMemory) => Err(Failure::OutOfMemory),

@@ -3,8 +3,6 @@ ghost use Rattle.std.specs.Prelude.{◌≡◌, ◌≢◌, ◌≤◌, ◌<◌, �
 ghost use Rattle.std.specs.Io.KnownBytes.{Appends};
 ghost use Rattle.merged_stacks.specs.Timeline.{samples_of};
 ghost use Rattle.command_line.specs.Plans.{IsComparison};
-ghost use Rattle.command_line.specs.declared.plans.PageForm.{PageForm as AskedPage};
-ghost use Rattle.command_line.specs.declared.plans.PictureForm.{PictureForm as AskedPictureForm};
 ghost use Rattle.source_lists.specs.Types.{types_of};
 ghost use Rattle.flame_tool.specs.KnownFacts.{known_facts};
 ghost use Rattle.flame_tool.specs.Requests.{known_rests};
@@ -12,13 +10,14 @@ ghost use Rattle.sent_views.specs.Pages.{shown_text};
 ghost use Rattle.flame_tool.specs.Runs.{Shows};
 ghost use Rattle.opened_sources.specs.Opening.{AreLoaded};
 ghost use Rattle.flame_tool.specs.checked.Failures.{Fails, FailsToShow, KeepsOutput};
+ghost use Rattle.flame_tool.specs.checked.Telling.{form_tells, view_tells};
 ghost use Rattle.opened_sources.specs.Failures.{has_fault, Flushes};
 
 use crate::progress::Progress;
 use byte_io::{Files, Outlet};
-use command_line::{Form, Plan};
+use command_line::{Form, Plan, View};
 use function_sums::CallSide;
-use opened_sources::{Failure, any_fault, load_sources, report_endings};
+use opened_sources::{Failure, any_fault, load_sources};
 use profile_messages::SampleType;
 use sent_views::{
     AskedCalls, AskedPicture, RunFacts, send_asked_calls, send_asked_page, send_asked_picture,
@@ -39,6 +38,7 @@ pub(crate) fn show_views<T: Threads + Wait + Copy + Send + 'static, F: Files, W:
     files: &mut F,
     out: &mut W,
     err: &mut E,
+    words: &[String],
 ) -> Result<(), Failure>
     requires pairs { IsComparison plan.now.view → length plan.now.files ≡ 2 }
     requires every { IfSome plan.now.options.every (λ every. 1 ≤ every) }
@@ -58,8 +58,9 @@ pub(crate) fn show_views<T: Threads + Wait + Copy + Send + 'static, F: Files, W:
         result }
 {
     let inputs = load_sources(alloc, files, plan.files.get(), plan.format)?;
-    let is_shown = !plan.is_quiet && files.is_error_terminal();
-    let mut progress = Progress::new(err, plan.files.get(), is_shown);
+    let is_terminal = files.is_error_terminal();
+    let is_shown = !plan.is_quiet && is_terminal;
+    let mut progress = Progress::new(err, plan.files.get(), is_shown, words, is_terminal);
     let shown = show_sources(rt, alloc, plan, inputs, out, &mut progress);
     progress.clear();
     shown
@@ -95,7 +96,7 @@ fn show_sources<T: Threads + Wait + Copy + Send + 'static, W: Outlet, E: Outlet>
     let types = told_types(alloc, plan, &inputs)?;
     let gating = Gating::<OpenGate>::Open;
     let run = read(rt, alloc, inputs, &plan.options, gating, progress)?;
-    report_endings(progress.messages(), plan.files.get(), run.kept.lists());
+    progress.report_endings(alloc, run.kept.lists(), &plan.options.filter);
     let Some(whole) = run.whole_weight else {
         unreachable!()
     };
@@ -103,20 +104,37 @@ fn show_sources<T: Threads + Wait + Copy + Send + 'static, W: Outlet, E: Outlet>
         whole,
         types: Listed::of(types),
     };
-    send_lists(rt, alloc, run.kept, plan, &facts, out)
+    let shown = run.kept.beginning_at(alloc, &plan.from)?;
+    send_lists(rt, alloc, shown, plan, &facts, out)
 }
 
-// The sample types of the weights of sources, which pages and pictures alone tell.
+// The sample types of the weights of sources, where what is written tells them.
 fn told_types(alloc: Global, plan: &Plan, inputs: &[Input]) -> Result<Vec<SampleType>, AllocError>
-    ensures page { IfOk result (λ types. (page : AskedPage) → plan.now.form ≡ Form.Page page
-        → types.items ≡ types_of plan.now.options inputs.now) }
-    ensures picture { IfOk result (λ types. (picture : AskedPictureForm)
-        → plan.now.form ≡ Form.Picture picture
+    ensures { IfOk result (λ types. form_tells plan.now.form plan.now.view ≡ true
         → types.items ≡ types_of plan.now.options inputs.now) }
 {
-    match plan.form {
-        Form::Page(_) | Form::Picture(_) => chosen_types(alloc, inputs, &plan.options),
-        Form::Text | Form::Types | Form::Callers(_) | Form::Callees(_) => Ok(Vec::new(alloc)),
+    if form_tells(&plan.form, plan.view) {
+        chosen_types(alloc, inputs, &plan.options)
+    } else {
+        Ok(Vec::new(alloc))
+    }
+}
+
+fn form_tells(form: &Form, view: View) -> bool
+    ensures { result ≡ form_tells form.now view }
+{
+    match form {
+        Form::Text | Form::Types => view_tells(view),
+        Form::Page(_) | Form::Picture(_) | Form::Callers(_) | Form::Callees(_) => true,
+    }
+}
+
+fn view_tells(view: View) -> bool
+    ensures { result ≡ view_tells view }
+{
+    match view {
+        View::Top(_) | View::Diff(_) => true,
+        View::Fold | View::Graph(_) | View::Chart(_) | View::Pairs | View::PairBoxes(_) => false,
     }
 }
 

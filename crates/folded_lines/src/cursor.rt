@@ -3,7 +3,7 @@
 ghost use Rattle.std.specs.Prelude.{◌≡◌, ◌<◌, ◌≤◌, length, take};
 ghost use Rattle.bstr.specs.Text.{line_len, no_cr, without_terminator};
 
-use memchr::memchr;
+use bstr::ByteSlice;
 
 /// A place in a text, before one of its lines.
 #[derive(Clone, Copy, Debug)]
@@ -48,7 +48,7 @@ pub(crate) fn first_line(bytes: &[u8]) -> (&[u8], usize)
     ensures front { result.0.now ≡ take (length result.0.now) bytes.now }
     ensures short { length result.0.now ≤ length bytes.now }
 {
-    match memchr(b'\n', bytes) {
+    match bytes.find_byte(b'\n') {
         None => (bytes, bytes.len()),
         Some(at) => (without_cr(&bytes[..at]), at + 1),
     }

@@ -5,7 +5,7 @@ ghost use Rattle.std.specs.List.{slice_split};
 ghost use Rattle.folded_lines.specs.Lines.{is_semicolon};
 ghost use Rattle.folded_lines.specs.checked.Cutting.{without_trailing_semicolons};
 
-use memchr::memchr;
+use bstr::ByteSlice;
 
 pub(crate) fn without_trailing_semicolons(head: &[u8]) -> &[u8]
     ensures { result.now ≡ without_trailing_semicolons head.now }
@@ -25,7 +25,7 @@ pub(crate) fn first_name(text: &str) -> (&str, Option<&str>)
         ≡ result.0.now ∷ slice_split is_semicolon rest.now) }
     ensures shorter { IfSome result.1 (λ rest. length rest.now < length text.now) }
 {
-    match memchr(b';', text.as_bytes()) {
+    match text.as_bytes().find_byte(b';') {
         None => (text, None),
         Some(at) => (&text[..at], Some(&text[at + 1..])),
     }

@@ -8,8 +8,8 @@ ghost use Rattle.folded_lines.specs.TextParts.{IsWholeLines, AreCutAtLines};
 ghost use Rattle.folded_lines.specs.checked.Pieces.{text_of_cut};
 
 use crate::rows::FoldedRows;
+use bstr::ByteSlice;
 use bytes::Bytes;
-use memchr::memchr;
 use std::alloc::{AllocError, Global};
 use std::mem;
 
@@ -19,7 +19,7 @@ fn part_end(bytes: &[u8], len: usize) -> usize
     ensures within { result ≤ length bytes.now }
     ensures lines { IsWholeLines (take result bytes.now) }
 {
-    match memchr(b'\n', &bytes[len..]) {
+    match (&bytes[len..]).find_byte(b'\n') {
         Some(at) => len + at + 1,
         None => 0,
     }

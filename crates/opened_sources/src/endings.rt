@@ -2,16 +2,7 @@
 ghost use Rattle.std.specs.Prelude.{◌≡◌};
 ghost use Rattle.opened_sources.specs.Failures.{ends_in_fault, has_fault};
 
-use crate::messages::report_ending;
-use byte_io::Outlet;
 use stack_core::{SourceEnd, SourceList};
-
-/// Says of each source, in order, how it ended, where there is something to say.
-pub fn report_endings<E: Outlet>(err: &mut E, files: &[String], lists: &[SourceList]) {
-    for (source, list) in lists.iter().enumerate() {
-        report_ending(err, files, source, list.ending());
-    }
-}
 
 /// Whether a source ended in a fault.
 pub fn any_fault(lists: &[SourceList]) -> bool

@@ -8,7 +8,7 @@ mod loaded;
 mod messages;
 mod source_files;
 
-pub use endings::{any_fault, report_endings};
+pub use endings::any_fault;
 pub use failures::Failure;
 pub use loaded::load_sources;
 pub use messages::{path_of, report_awaited_input, report_ending, report_failure};

@@ -9,7 +9,7 @@ pub(crate) const HEAD: [&str; 4] = [
     document::elements::TEXT,
 ];
 
-pub(crate) const TAIL: [&str; 14] = [
+pub(crate) const TAIL: [&str; 8] = [
     document::data_end::TEXT,
     scripts::part_01::TEXT,
     scripts::part_02::TEXT,
@@ -17,11 +17,5 @@ pub(crate) const TAIL: [&str; 14] = [
     scripts::part_04::TEXT,
     scripts::part_05::TEXT,
     scripts::part_06::TEXT,
-    scripts::part_07::TEXT,
-    scripts::part_08::TEXT,
-    scripts::part_09::TEXT,
-    scripts::part_10::TEXT,
-    scripts::part_11::TEXT,
-    scripts::part_12::TEXT,
     document::end::TEXT,
 ];

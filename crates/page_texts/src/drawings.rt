@@ -4,7 +4,6 @@ ghost use Rattle.page_texts.specs.checked.Kept.{drawing_parts, moment_text, firs
 ghost use Rattle.page_texts.specs.checked.Parts.{parts_text};
 
 use crate::kept_boxes::{Column, KeptBoxes};
-use crate::page_boxes::PageBox;
 use crate::parts::{Part, push_column, push_literal, push_number, push_numbers};
 use std::alloc::AllocError;
 
@@ -19,9 +18,11 @@ pub struct Moment<'a> {
 
 /// A drawing of a page.
 #[derive(Clone, Copy, Debug)]
-pub struct Drawing<'a, B> {
+pub struct Drawing<'a, L> {
     /// Its boxes, by start and then by depth.
-    pub boxes: &'a [B],
+    pub boxes: L,
+    /// It is one of a comparison: its boxes have the weights of the other profile.
+    pub is_compared: bool,
     /// The least weight of a box that is kept. With 0 all are.
     pub least: u64,
     /// The sum of the weights of its samples.
@@ -31,17 +32,17 @@ pub struct Drawing<'a, B> {
 }
 
 // Adds the data of a drawing whose boxes were kept.
-pub(crate) fn push_drawing<'k, B: PageBox>(
+pub(crate) fn push_drawing<'k, L>(
     parts: &mut Vec<Part<'_, 'k>>,
-    drawing: &Drawing<'_, B>,
+    drawing: &Drawing<'_, L>,
     kept: &'k KeptBoxes,
 ) -> Result<(), AllocError>
     ensures { OnOk result (parts_text parts.new.items ≡ parts_text parts.old.items
-        ++ drawing_parts B.compared drawing.now kept.now) }
+        ++ drawing_parts drawing.now kept.now) }
 {
     push_moment(parts, drawing.moment)?;
     push_first(parts, kept, drawing.least)?;
-    push_other(parts, kept, B::is_compared())?;
+    push_other(parts, kept, drawing.is_compared)?;
     push_last(parts, kept, drawing.total)
 }
 

@@ -6,7 +6,6 @@ mod drawings;
 mod keeping;
 mod kept_boxes;
 pub mod laws;
-mod page_boxes;
 mod page_parts;
 mod pages;
 mod part_texts;
@@ -14,5 +13,4 @@ mod parts;
 mod script_safe;
 
 pub use drawings::{Drawing, Moment};
-pub use page_boxes::PageBox;
 pub use pages::{Page, Source, append_page_data, send_page};

@@ -9,22 +9,22 @@ ghost use Rattle.page_texts.specs.checked.SafeText.{safe_text};
 
 use crate::drawings::{Drawing, push_drawing};
 use crate::kept_boxes::{KeptBoxes, KeptDrawings};
-use crate::page_boxes::PageBox;
 use crate::pages::{Page, Source};
 use crate::parts::{Part, comma_if, push_literal, push_name, push_number, push_text};
 use call_tree::FrameTable;
+use flame_layout::FlameBoxes;
 use std::alloc::AllocError;
 
 // Adds the data of a page whose boxes were kept.
-pub(crate) fn push_page<'p, 'k, B: PageBox>(
+pub(crate) fn push_page<'p, 'k, L: FlameBoxes>(
     parts: &mut Vec<Part<'p, 'k>>,
-    page: &Page<'p, B>,
+    page: &Page<'p, L>,
     kept: &'k KeptDrawings,
 ) -> Result<(), AllocError>
     requires { AreKept
-        (map (drawing_of B.span B.other B.compared) page.now.drawings.now) kept.now }
+        (map (drawing_of L.boxes) page.now.drawings.now) kept.now }
     ensures { OnOk result (parts_text parts.new.items ≡ parts_text parts.old.items
-        ++ page_text (page_of B.span B.other B.compared page.now)) }
+        ++ page_text (page_of L.boxes page.now)) }
 {
     push_literal(parts, b"{\"drawings\":")?;
     push_drawings(parts, page.drawings, &kept.drawings)?;
@@ -38,16 +38,16 @@ pub(crate) fn push_page<'p, 'k, B: PageBox>(
 }
 
 // Adds the list of the drawings.
-fn push_drawings<'k, B: PageBox>(
+fn push_drawings<'k, L: FlameBoxes>(
     parts: &mut Vec<Part<'_, 'k>>,
-    drawings: &[Drawing<'_, B>],
+    drawings: &[Drawing<'_, L>],
     kept: &'k [KeptBoxes],
 ) -> Result<(), AllocError>
     requires { length drawings.now ≡ length kept.now }
     ensures { OnOk result ((names : List (List ℕ))
-        → AreAllKept names (map (drawing_of B.span B.other B.compared) drawings.now) kept.now
+        → AreAllKept names (map (drawing_of L.boxes) drawings.now) kept.now
         → parts_text parts.new.items ≡ parts_text parts.old.items ++ safe_text (list_data
-        (map (drawing_data names) (map (drawing_of B.span B.other B.compared) drawings.now)))) }
+        (map (drawing_data names) (map (drawing_of L.boxes) drawings.now)))) }
 {
     push_literal(parts, b"[")?;
     for at in 0..kept.len() {

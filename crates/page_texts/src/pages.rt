@@ -12,11 +12,11 @@ ghost use Rattle.page_texts.specs.checked.Parts.{parts_text};
 use crate::drawings::Drawing;
 use crate::keeping::keep_drawings;
 use crate::kept_boxes::KeptDrawings;
-use crate::page_boxes::PageBox;
 use crate::page_parts::push_page;
 use crate::part_texts::PartText;
 use crate::parts::push_literals;
 use byte_io::{Outlet, PieceFault, append_pieces, send_pieces};
+use flame_layout::FlameBoxes;
 use page_source::{head, tail};
 use std::alloc::{AllocError, Global};
 
@@ -35,9 +35,9 @@ pub struct Source<'a> {
 
 /// What a page shows.
 #[derive(Clone, Copy, Debug)]
-pub struct Page<'a, B> {
+pub struct Page<'a, L> {
     /// What can be looked at. The page opens with the last.
-    pub drawings: &'a [Drawing<'a, B>],
+    pub drawings: &'a [Drawing<'a, L>],
     /// The files, in the order of the command line.
     pub sources: &'a [Source<'a>],
     /// What the page is called.
@@ -52,16 +52,16 @@ pub struct Page<'a, B> {
 
 /// Sends a page: the document that a browser opens. No name and no title can be read as markup in it. It
 /// is sent while its text is made; at the first call that fails it ends, and leaves a front of the text.
-pub fn send_page<B: PageBox, W: Outlet>(
+pub fn send_page<L: FlameBoxes, W: Outlet>(
     alloc: Global,
-    page: &Page<'_, B>,
+    page: &Page<'_, L>,
     out: &mut W,
 ) -> Result<(), PieceFault>
     ensures ok { OnOk result (Appends (W.contents out.old) (W.contents out.new)
-        (document_text (page_of B.span B.other B.compared page.now))) }
+        (document_text (page_of L.boxes page.now))) }
     ensures flushed { OnOk result (W.is_flushed out.new) }
     ensures front { OnErr result
-        (AppendsFront (document_text (page_of B.span B.other B.compared page.now))
+        (AppendsFront (document_text (page_of L.boxes page.now))
         (W.contents out.old) (W.contents out.new)) }
 
     // As in `send_pieces`.
@@ -76,13 +76,13 @@ pub fn send_page<B: PageBox, W: Outlet>(
 
 /// Appends the data of a page, in which no name and no title can end the script element that it
 /// stands in. An `Err` changes nothing.
-pub fn append_page_data<B: PageBox>(
+pub fn append_page_data<L: FlameBoxes>(
     alloc: Global,
     out: &mut Vec<u8>,
-    page: &Page<'_, B>,
+    page: &Page<'_, L>,
 ) -> Result<(), AllocError>
     ensures ok { OnOk result (out.new.items
-        ≡ out.old.items ++ page_text (page_of B.span B.other B.compared page.now)) }
+        ≡ out.old.items ++ page_text (page_of L.boxes page.now)) }
     ensures err { OnErr result (out.new.items ≡ out.old.items) }
 {
     let kept = keep_drawings(alloc, page.drawings)?;
@@ -91,15 +91,15 @@ pub fn append_page_data<B: PageBox>(
 }
 
 // The text of the whole document, of boxes that were kept.
-fn document<'p, 'k, B: PageBox>(
+fn document<'p, 'k, L: FlameBoxes>(
     alloc: Global,
-    page: &Page<'p, B>,
+    page: &Page<'p, L>,
     kept: &'k KeptDrawings,
 ) -> Result<PartText<'p, 'k>, AllocError>
     requires { AreKept
-        (map (drawing_of B.span B.other B.compared) page.now.drawings.now) kept.now }
+        (map (drawing_of L.boxes) page.now.drawings.now) kept.now }
     ensures text { IfOk result (λ text. parts_text text.parts.items
-        ≡ document_text (page_of B.span B.other B.compared page.now)) }
+        ≡ document_text (page_of L.boxes page.now)) }
     ensures few { IfOk result (λ text. length text.parts.items < 2 ^ 64) }
 {
     let mut parts = Vec::new(alloc);
@@ -111,15 +111,15 @@ fn document<'p, 'k, B: PageBox>(
 }
 
 // The text of the data, of boxes that were kept.
-fn data<'p, 'k, B: PageBox>(
+fn data<'p, 'k, L: FlameBoxes>(
     alloc: Global,
-    page: &Page<'p, B>,
+    page: &Page<'p, L>,
     kept: &'k KeptDrawings,
 ) -> Result<PartText<'p, 'k>, AllocError>
     requires { AreKept
-        (map (drawing_of B.span B.other B.compared) page.now.drawings.now) kept.now }
+        (map (drawing_of L.boxes) page.now.drawings.now) kept.now }
     ensures text { IfOk result (λ text. parts_text text.parts.items
-        ≡ page_text (page_of B.span B.other B.compared page.now)) }
+        ≡ page_text (page_of L.boxes page.now)) }
     ensures few { IfOk result (λ text. length text.parts.items < 2 ^ 64) }
 {
     let mut parts = Vec::new(alloc);

@@ -9,7 +9,7 @@ use Rattle.sample_tables.specs.declared.samples.Sample.{Sample}
 use Rattle.merged_stacks.specs.Timeline.{total_weight}
 use Rattle.flame_layout.specs.declared.boxes.DrawnBox.{DrawnBox}
 use Rattle.flame_layout.specs.declared.boxes.DrawnPair.{DrawnPair}
-use Rattle.flame_layout.specs.Boxes.{compared_of, span_of}
+use Rattle.flame_layout.specs.Boxes.{compared_of, paired_box, plain_box, span_of}
 use Rattle.flame_layout.specs.declared.boxes.SpanBox.{SpanBox}
 use Rattle.flame_layout.specs.Graph.{graph_of}
 use Rattle.flame_layout.specs.Paths.{SameOwn, tree_samples}
@@ -21,7 +21,7 @@ use Rattle.page_views.specs.checked.Filling.{filled}
 use Rattle.source_views.specs.Texts.{all_counts}
 use Rattle.source_views.proofs.TextLemmas.{same_weight}
 use Rattle.page_texts.specs.Page.{Moment, PageBox, PageDrawing}
-use Rattle.page_texts.specs.Drawn.{shown}
+use Rattle.page_texts.specs.Drawn.{page_box}
 use Rattle.page_views.specs.checked.DrawnProfiles.{IsDrawnOf, profile_drawing}
 use Rattle.page_views.specs.checked.DrawnRuns.{drawing_in, places_of}
 use Rattle.page_views.specs.declared.drawn_profiles.DrawnProfile.{DrawnProfile}
@@ -45,18 +45,22 @@ pub lent_stacks : (names table : List (List ℕ)) (tree lent : Tree) (samples : 
 lent_stacks names table tree lent samples named same stacks =
     subst (λ tree. SameOwn samples (tree_samples table tree)) (sym same) (subst (λ names. SameOwn samples (tree_samples names tree)) (sym named) stacks)
 
-pub plain_boxes : (boxes : List DrawnBox) → map (shown span_of (λ box. 0)) boxes ≡ map (λ span. record { span = span; other = 0 }) (map span_of boxes)
+pub plain_boxes : (spans : List SpanBox) → map page_box (map plain_box spans) ≡ map (λ span. record { span = span; other = 0 }) spans
 plain_boxes [] = refl
-plain_boxes (box ∷ boxes) = ap (λ later. shown span_of (λ box. 0) box ∷ later) (plain_boxes boxes)
+plain_boxes (span ∷ spans) = ap (λ later. page_box (plain_box span) ∷ later) (plain_boxes spans)
+
+pub drawn_boxes : (boxes : List DrawnBox) → map page_box (map (λ drawn. plain_box (span_of drawn)) boxes) ≡ map (λ span. record { span = span; other = 0 }) (map span_of boxes)
+drawn_boxes [] = refl
+drawn_boxes (box ∷ boxes) = ap (λ later. page_box (plain_box (span_of box)) ∷ later) (drawn_boxes boxes)
 
 -- a drawing of other boxes that are the same
 pub with_boxes : (least : Option ℕ) (moment : Option Moment) (total : ℕ) (boxes : List PageBox) (spans : List SpanBox) → boxes ≡ map (λ span. record { span = span; other = 0 }) spans
     → record { moment = moment; is_compared = false; least = least_of least total; total = total; boxes = boxes } ≡ plain_drawing least moment total spans
 with_boxes least moment total boxes spans same = λ i. record { moment = moment; is_compared = false; least = least_of least total; total = total; boxes = same i }
 
-pub paired_boxes : (pairs : List DrawnPair) → map (shown (λ pair. (compared_of pair).span) (λ pair. pair.total_before)) pairs ≡ map (λ compared. record { span = compared.span; other = compared.before }) (map compared_of pairs)
+pub paired_boxes : (pairs : List DrawnPair) → map page_box (map (λ pair. paired_box (compared_of pair)) pairs) ≡ map (λ compared. record { span = compared.span; other = compared.before }) (map compared_of pairs)
 paired_boxes [] = refl
-paired_boxes (pair ∷ pairs) = ap (λ later. shown (λ (one : DrawnPair). (compared_of one).span) (λ one. one.total_before) pair ∷ later) (paired_boxes pairs)
+paired_boxes (pair ∷ pairs) = ap (λ later. page_box (paired_box (compared_of pair)) ∷ later) (paired_boxes pairs)
 
 -- a drawing of a profile whose boxes are these
 pub with_pairs : (least : Option ℕ) (profile : DrawnProfile) (boxes : List PageBox) → boxes ≡ map (λ compared. record { span = compared.span; other = compared.before }) (map compared_of profile.boxes.items)

@@ -1,11 +1,10 @@
 //! The flame graphs of two profiles, each with the weights of the other.
-ghost use Rattle.std.specs.Prelude.{◌≡◌, ◌<◌, ◌^◌, ◌∷◌, [], map, true, IfOk};
-ghost use Rattle.flame_layout.specs.Boxes.{compared_of};
+ghost use Rattle.std.specs.Prelude.{◌≡◌, ◌<◌, ◌^◌, ◌∷◌, [], map, IfOk};
 ghost use Rattle.flame_layout.specs.Comparison.{compared_boxes_of};
 ghost use Rattle.merged_stacks.specs.Paired.{paired_stacks};
 ghost use Rattle.merged_stacks.specs.Timeline.{total_weight};
 ghost use Rattle.page_texts.specs.Drawn.{drawing_of};
-ghost use Rattle.page_views.specs.checked.DrawnProfiles.{IsDrawnOf, profile_drawing};
+ghost use Rattle.page_views.specs.checked.DrawnProfiles.{IsDrawnOf, pair_list, profile_drawing};
 
 use crate::headings::Heading;
 use flame_layout::{DrawnPair, draw_paired};
@@ -100,9 +99,9 @@ pub(crate) fn profile_drawings<'a, 'n>(
     alloc: Global,
     drawn: &'a DrawnProfiles<'n>,
     heading: &Heading<'_>,
-) -> Result<Vec<Drawing<'a, DrawnPair<'n>>>, AllocError>
+) -> Result<Vec<Drawing<'a, &'a [DrawnPair<'n>]>>, AllocError>
     ensures { IfOk result (λ drawings.
-        map (drawing_of (λ pair. (compared_of pair).span) (λ pair. pair.total_before) true) drawings.items
+        map (drawing_of pair_list) drawings.items
         ≡ profile_drawing heading.now.least drawn.now.before
         ∷ profile_drawing heading.now.least drawn.now.after ∷ []) }
 {
@@ -116,9 +115,9 @@ pub(crate) fn profile_drawings<'a, 'n>(
 fn profile_drawing<'a, 'n>(
     profile: &'a DrawnProfile<'n>,
     heading: &Heading<'_>,
-) -> Drawing<'a, DrawnPair<'n>>
-    ensures { drawing_of (λ pair. (compared_of pair).span) (λ pair. pair.total_before) true result
+) -> Drawing<'a, &'a [DrawnPair<'n>]>
+    ensures { drawing_of pair_list result
         ≡ profile_drawing heading.now.least profile.now }
 {
-    heading.drawing(&profile.boxes, profile.total, None)
+    heading.drawing(profile.boxes.as_slice(), true, profile.total, None)
 }

@@ -1,5 +1,5 @@
 //! The graph of a run, with those of its snapshots.
-ghost use Rattle.std.specs.Prelude.{◌≡◌, ◌<◌, ℕ, List, length, map, false, Option, None, option_map, IfOk};
+ghost use Rattle.std.specs.Prelude.{◌≡◌, ◌<◌, ℕ, List, length, map, Option, None, option_map, IfOk};
 ghost use Rattle.std.specs.List.{slice_index_or};
 ghost use Rattle.sample_tables.specs.declared.samples.Sample.{Sample};
 ghost use Rattle.flame_layout.specs.Boxes.{span_of};
@@ -10,7 +10,7 @@ ghost use Rattle.merging.specs.Snapshots.{snapshot_places};
 ghost use Rattle.merging.specs.Sums.{IsDrawable};
 ghost use Rattle.page_texts.specs.Drawn.{drawing_of, moment_of};
 ghost use Rattle.page_views.specs.Pages.{plain_drawing, snapshot_drawing};
-ghost use Rattle.page_views.specs.checked.DrawnRuns.{drawing_in, drawings_in, drawings_of, places_of};
+ghost use Rattle.page_views.specs.checked.DrawnRuns.{drawing_in, drawings_in, drawings_of, drawn_list, places_of};
 ghost use Rattle.page_views.specs.checked.Filling.{filled};
 
 use crate::headings::Heading;
@@ -120,8 +120,8 @@ pub(crate) fn run_drawings<'a, 'n>(
     alloc: Global,
     run: &'a DrawnRun<'n>,
     heading: &Heading<'_>,
-) -> Result<Vec<Drawing<'a, DrawnBox<'n>>>, AllocError>
-    ensures { IfOk result (λ drawings. map (drawing_of span_of (λ _. 0) false) drawings.items
+) -> Result<Vec<Drawing<'a, &'a [DrawnBox<'n>]>>, AllocError>
+    ensures { IfOk result (λ drawings. map (drawing_of drawn_list) drawings.items
         ≡ drawings_in heading.now.least run.now) }
 {
     let mut drawings = snapshot_drawings(alloc, &run.snapshots, heading)?;
@@ -134,8 +134,8 @@ fn snapshot_drawings<'a, 'n>(
     alloc: Global,
     snapshots: &'a [DrawnSnapshot<'n>],
     heading: &Heading<'_>,
-) -> Result<Vec<Drawing<'a, DrawnBox<'n>>>, AllocError>
-    ensures { IfOk result (λ drawings. map (drawing_of span_of (λ _. 0) false) drawings.items
+) -> Result<Vec<Drawing<'a, &'a [DrawnBox<'n>]>>, AllocError>
+    ensures { IfOk result (λ drawings. map (drawing_of drawn_list) drawings.items
         ≡ map (drawing_in heading.now.least) snapshots.now) }
 {
     let mut drawings = Vec::new(alloc);
@@ -154,10 +154,10 @@ fn plain_drawing<'a, 'n>(
     graph: &'a DrawnGraph<'n>,
     moment: Option<Moment<'a>>,
     heading: &Heading<'_>,
-) -> Drawing<'a, DrawnBox<'n>>
-    ensures { drawing_of span_of (λ _. 0) false result
+) -> Drawing<'a, &'a [DrawnBox<'n>]>
+    ensures { drawing_of drawn_list result
         ≡ plain_drawing heading.now.least (option_map moment_of moment.entry) graph.now.total
         (map span_of graph.now.boxes.items) }
 {
-    heading.drawing(&graph.boxes, graph.total, moment)
+    heading.drawing(graph.boxes.as_slice(), false, graph.total, moment)
 }

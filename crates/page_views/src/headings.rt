@@ -1,9 +1,10 @@
 //! What all pages have beside their drawings.
 ghost use Rattle.std.specs.Prelude.{◌≡◌, map, option_map};
-ghost use Rattle.page_texts.specs.Drawn.{drawing_of, moment_of, page_of, shown};
+ghost use Rattle.page_texts.specs.Drawn.{drawing_of, moment_of, page_box, page_of};
 ghost use Rattle.page_views.specs.Pages.{heading_of, least_of, page_with};
 
-use page_texts::{Drawing, Moment, Page, PageBox, Source};
+use flame_layout::FlameBoxes;
+use page_texts::{Drawing, Moment, Page, Source};
 
 // Of how many parts of its width a drawing leaves out the narrower boxes: they are narrower than a pixel
 // where a drawing of 1,200 pixels is looked at a thousand times as wide.
@@ -27,22 +28,24 @@ pub struct Heading<'a> {
 
 impl Heading<'_> {
     // A drawing of boxes of samples with this total.
-    pub(crate) fn drawing<'b, B: PageBox>(
+    pub(crate) fn drawing<'b, L: FlameBoxes>(
         &self,
-        boxes: &'b [B],
+        boxes: L,
+        is_compared: bool,
         total: u64,
         moment: Option<Moment<'b>>,
-    ) -> Drawing<'b, B>
-        ensures { drawing_of B.span B.other B.compared result ≡ record {
+    ) -> Drawing<'b, L>
+        ensures { drawing_of L.boxes result ≡ record {
           moment = option_map moment_of moment.entry;
-          is_compared = B.compared;
+          is_compared = is_compared;
           least = least_of self.now.least total;
           total = total;
-          boxes = map (shown B.span B.other) boxes.now;
+          boxes = map page_box (L.boxes boxes);
         } }
     {
         Drawing {
             boxes,
+            is_compared,
             least: least_of(self.least, total),
             total,
             moment,
@@ -50,14 +53,14 @@ impl Heading<'_> {
     }
 
     // The page of these drawings.
-    pub(crate) fn page<'b, B: PageBox>(
+    pub(crate) fn page<'b, L: FlameBoxes>(
         &'b self,
         view: &'b str,
-        drawings: &'b [Drawing<'b, B>],
-    ) -> Page<'b, B>
-        ensures { page_of B.span B.other B.compared result
+        drawings: &'b [Drawing<'b, L>],
+    ) -> Page<'b, L>
+        ensures { page_of L.boxes result
             ≡ page_with (heading_of self.now) view.now
-            (map (drawing_of B.span B.other B.compared) drawings.now) }
+            (map (drawing_of L.boxes) drawings.now) }
     {
         Page {
             drawings,

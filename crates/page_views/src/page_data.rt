@@ -77,7 +77,7 @@ fn append_chart(
         ++ page_text (chart_page (heading_of heading.now) (samples_of views.now.lists))) }
     ensures err { OnErr result (out.new.items ≡ out.old.items) }
 {
-    let drawing = heading.drawing(views.chart(), timeline_total(views), None);
+    let drawing = heading.drawing(views.chart(), false, timeline_total(views), None);
     append_page_data(alloc, out, &heading.page("chart", &[drawing]))
 }
 

@@ -14,7 +14,7 @@ use Rattle.call_tree.specs.FrameTable.{HasDistinctNames}
 use Rattle.ring_collect.specs.NamesInOrder.{names_in_order}
 use Rattle.ring_collect.specs.checked.Settlement.{IsAllTold, AreListsOf}
 use Rattle.ring_collect.specs.checked.WholeRuns.{RunsWhole}
-use Rattle.ring_collect.specs.Collection.{Collects, AreWhole, seen_as_rest}
+use Rattle.ring_collect.specs.Collection.{Collects, CollectsRun, AreWhole, seen_as_rest}
 use Rattle.ring_collect.proofs.RoundLemmas.{slice_get_map}
 use Rattle.ring_collect.proofs.NameOrder.{names_in_order-distinct}
 use Rattle.ring_collect.proofs.RunLemmas.{at_index, past_the_end}
@@ -61,16 +61,16 @@ module _ {may_stop may_go : ℕ → ℕ → Type 0} {rests : List Rest} {ledgers
   are_of : AreOf runs.pairs (map (λ list. list.samples) lists)
   are_of = record { by_source = λ source. runs.of_lists.by_source source ∙ same_lists source }
 
-  pub in_order : IsInterleaving order (map (λ list. list.samples) lists)
+  in_order : IsInterleaving order (map (λ list. list.samples) lists)
   in_order = subst (λ o. IsInterleaving o (map (λ list. list.samples) lists)) (sym runs.ordered) (AreOf-IsInterleaving runs.pairs (map (λ list. list.samples) lists) are_of)
 
   pairs_are : interleaved order (map (λ list. list.samples) lists) ≡ runs.pairs
   pairs_are = ap (λ o. interleaved o (map (λ list. list.samples) lists)) runs.ordered ∙ AreOf-interleaved runs.pairs (map (λ list. list.samples) lists) are_of
 
-  pub gains_all : taken' ≡ taken ++ interleaved order (map (λ list. list.samples) lists)
+  gains_all : taken' ≡ taken ++ interleaved order (map (λ list. list.samples) lists)
   gains_all = runs.gained ∙ ap (λ pairs. taken ++ pairs) (sym pairs_are)
 
-  pub of_each_source : AreOf (interleaved order (map (λ list. list.samples) lists)) (map (λ list. list.samples) lists)
+  of_each_source : AreOf (interleaved order (map (λ list. list.samples) lists)) (map (λ list. list.samples) lists)
   of_each_source = subst (λ pairs. AreOf pairs (map (λ list. list.samples) lists)) (sym pairs_are) are_of
 
   as_many : length lists ≡ length rests
@@ -89,7 +89,7 @@ module _ {may_stop may_go : ℕ → ℕ → Type 0} {rests : List Rest} {ledgers
       let last = same_Some (Read list.ending) one.last close in
       told_under-IsCollected may_stop may_go source rest (seen_as_rest list) (told samples one.last) one.is_told (ap (λ xs. told xs one.last) same ∙ ap (told list.samples) (sym last))
 
-  pub collects : Collects may_stop may_go rests lists
+  collects : Collects may_stop may_go rests lists
   collects = record { count = as_many; each = collected }
 
   list_told : (source : ℕ) (list : ListState) → slice_get lists source ≡ Some list → list.told ≡ names_in_order list.samples
@@ -106,15 +106,15 @@ module _ {may_stop may_go : ℕ → ℕ → Type 0} {rests : List Rest} {ledgers
       sym (mapped_at (λ list. list.told) lists source list [] is) ∙ ap (λ ns. get_or ns source []) are.names ∙ mapped_at (λ ledger. ledger.told) ledgers source ledger.0 [] ledger.1
       ∙ one.in_order samples list.ending (ap (told samples) (sym last)) ∙ ap names_in_order same
 
-  pub told_in_order : All (λ list. list.told ≡ names_in_order list.samples) lists
+  told_in_order : All (λ list. list.told ≡ names_in_order list.samples) lists
   told_in_order = λ source d below.
       let list = at_index lists source below in
       subst (λ list. list.told ≡ names_in_order list.samples) (sym (get_or_from_slice_get lists source list.0 d list.1)) (list_told source list.0 list.1)
 
-  pub told_distinct : All (λ list. HasDistinctNames list.told) lists
+  told_distinct : All (λ list. HasDistinctNames list.told) lists
   told_distinct = λ source d below. subst HasDistinctNames (sym (told_in_order source d below)) (names_in_order-distinct (get_or lists source d).samples)
 
-  pub are_whole : ((source index : ℕ) → may_stop source index → ⊥) → AreWhole rests lists
+  are_whole : ((source index : ℕ) → may_stop source index → ⊥) → AreWhole rests lists
   are_whole never = same_by_index (map seen_as_rest lists) rests (length-map lists seen_as_rest ∙ as_many) at
     where
       at : (i : ℕ) (d : Rest) → i < length (map seen_as_rest lists) → get_or (map seen_as_rest lists) i d ≡ get_or rests i d
@@ -124,3 +124,14 @@ module _ {may_stop may_go : ℕ → ℕ → Type 0} {rests : List Rest} {ledgers
           let list = at_index lists i (omega arith) in
           let rest = at_index rests i (omega arith) in
           mapped_at seen_as_rest lists i list.0 d list.1 ∙ collected_whole may_stop may_go i rest.0 (seen_as_rest list.0) (never i) (collected i rest.0 list.0 rest.1 list.1) ∙ sym (get_or_from_slice_get rests i rest.0 d rest.1)
+
+  pub collects_run : CollectsRun may_stop may_go rests taken taken' lists order
+  collects_run = record {
+    lists = collects;
+    whole = are_whole;
+    told = told_in_order;
+    distinct = told_distinct;
+    order = in_order;
+    sink = gains_all;
+    by_source = of_each_source;
+  }

@@ -1,11 +1,16 @@
 -- What a run collected, and what a refusal leaves in the sink.
-use Rattle.std.specs.Prelude.{◌≡◌, ◌≤◌, ◌<◌, ◌++◌, ℕ, List, length, map, All, Some, slice_get}
+use Rattle.std.specs.Prelude.{◌≡◌, ◌≤◌, ◌<◌, ◌++◌, ◌⊎◌, ℕ, List, length, map, All, Some, slice_get, Result, IfOk, IsErrOf}
+use Rattle.call_tree.specs.FrameTable.{HasDistinctNames}
 use Rattle.stack_core.specs.Reading.{Rest}
 use Rattle.stack_core.specs.Ledgers.{ListState}
+use Rattle.stack_core.specs.NamesInOrder.{names_in_order}
 use Rattle.stack_core.specs.Prefixes.{IsPrefixOf}
-use Rattle.stack_core.specs.Interleaving.{AreOf, list_of, of_source}
+use Rattle.stack_core.specs.Interleaving.{AreOf, IsInterleaving, interleaved, list_of, of_source}
 use Rattle.sample_tables.specs.declared.samples.Sample.{Sample}
 use Rattle.stack_core.specs.Told.{GoesBelow, IsCollected}
+use Rattle.ring_collect.specs.declared.faults.CollectFault.{CollectFault}
+use Rattle.ring_collect.specs.declared.faults.CollectFault.TheVariants.{OutOfMemory, NoThread, Unfinished}
+use Rattle.ring_collect.specs.declared.runs.Collected.{Collected}
 
 -- the samples and the ending of a list
 abbrev pub seen_as_rest : ListState → Rest
@@ -46,3 +51,22 @@ pub record GainsOf (count : ℕ) (taken taken' : List (ℕ × Sample)) : Type 0 
 pub record Unfinishes (count source : ℕ) (taken taken' : List (ℕ × Sample)) : Type 0 where
   pub below : source < count
   pub gains : GainsOf count taken taken'
+
+-- what was collected of readers with these rests: a list for each, all of its rest, or its first samples where the gate stopped it; each
+-- list was told exactly the names of its samples, in the order in which they first appear, and none twice. The sink gained exactly the
+-- lists' samples, in the order of arrival
+pub record CollectsRun (may_stop may_go : ℕ → ℕ → Type 0) (rests : List Rest) (taken taken' : List (ℕ × Sample)) (found : List ListState) (arrival : List ℕ) : Type 0 where
+  pub lists : Collects may_stop may_go rests found
+  pub whole : ((source index : ℕ) → may_stop source index → ⊥) → AreWhole rests found
+  pub told : All (λ list. list.told ≡ names_in_order list.samples) found
+  pub distinct : All (λ list. HasDistinctNames list.told) found
+  pub order : IsInterleaving arrival (map (λ list. list.samples) found)
+  pub sink : taken' ≡ taken ++ interleaved arrival (map (λ list. list.samples) found)
+  pub by_source : AreOf (interleaved arrival (map (λ list. list.samples) found)) (map (λ list. list.samples) found)
+
+-- what a run answers of them. A refusal leaves in the sink a beginning of each source, at each sample of which the gate may go
+pub record AnswersRun (may_stop may_go : ℕ → ℕ → Type 0) (rests : List Rest) (taken taken' : List (ℕ × Sample)) (answer : Result Collected CollectFault) : Type 0 where
+  pub run : IfOk answer (λ run. CollectsRun may_stop may_go rests taken taken' run.lists.items run.order.items)
+  pub refused : IsErrOf answer OutOfMemory ⊎ IsErrOf answer NoThread → GainsFirst rests taken taken'
+  pub popped : IsErrOf answer OutOfMemory ⊎ IsErrOf answer NoThread → GainsAllowed may_go taken taken'
+  pub unfinished : (source : ℕ) → IsErrOf answer (Unfinished source) → Unfinishes (length rests) source taken taken'

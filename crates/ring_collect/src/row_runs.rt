@@ -1,11 +1,8 @@
 //! A whole run of readers of rows and a sink by rows.
 
-ghost use Rattle.std.specs.Prelude.{All, ◌≡◌, ◌≤◌, ◌++◌, ◌⊎◌, ℕ, [], IfOk, IsErrOf, length, map};
+ghost use Rattle.std.specs.Prelude.{All, ◌≡◌, ◌≤◌, [], length, map};
 ghost use Rattle.std.specs.Arc.{arc_value};
-ghost use Rattle.call_tree.specs.FrameTable.{HasDistinctNames};
-ghost use Rattle.ring_collect.specs.Collection.{Collects, AreWhole, GainsAllowed, GainsFirst, Unfinishes};
-ghost use Rattle.ring_collect.specs.NamesInOrder.{names_in_order};
-ghost use Rattle.stack_core.specs.Interleaving.{IsInterleaving, AreOf, interleaved};
+ghost use Rattle.ring_collect.specs.Collection.{AnswersRun};
 
 use crate::batches::Handover;
 use crate::faults::CollectFault;
@@ -40,37 +37,8 @@ pub fn collect_rows<
     requires few { length readers.items ≤ 64 }
     requires nothing_told { All (λ reader. R.told reader ≡ record { names = []; stacks = [] })
         readers.items }
-
-    // One list for each reader: its whole rest, or its first samples where the gate stopped it.
-    ensures lists { IfOk result (λ run.
-        Collects (G.may_stop (arc_value gate)) (G.may_go (arc_value gate))
-        (map R.rest readers.items) run.lists.items) }
-    ensures whole { ((source index : ℕ) → G.may_stop (arc_value gate) source index → ⊥)
-        → IfOk result (λ run. AreWhole (map R.rest readers.items) run.lists.items) }
-
-    // Each list was told exactly the names of its samples, in the order in which they first appear: none twice.
-    ensures told { IfOk result (λ run.
-        All (λ list. list.told ≡ names_in_order list.samples) run.lists.items) }
-    ensures distinct { IfOk result (λ run.
-        All (λ list. HasDistinctNames list.told) run.lists.items) }
-
-    // The sink gained exactly the lists' samples, in the order of arrival.
-    ensures order { IfOk result (λ run.
-        IsInterleaving run.order.items (map (λ list. list.samples) run.lists.items)) }
-    ensures sink { IfOk result (λ run.
-        S.taken sink.new ≡ S.taken sink.old ++ interleaved run.order.items
-        (map (λ list. list.samples) run.lists.items)) }
-    ensures by_source { IfOk result (λ run.
-        AreOf (interleaved run.order.items (map (λ list. list.samples) run.lists.items))
-        (map (λ list. list.samples) run.lists.items)) }
-
-    // What a refusal leaves in the sink: of each source a beginning, at each sample of which the gate may go.
-    ensures refused { IsErrOf result CollectFault.OutOfMemory ⊎ IsErrOf result CollectFault.NoThread
-        → GainsFirst (map R.rest readers.items) (S.taken sink.old) (S.taken sink.new) }
-    ensures popped { IsErrOf result CollectFault.OutOfMemory ⊎ IsErrOf result CollectFault.NoThread
-        → GainsAllowed (G.may_go (arc_value gate)) (S.taken sink.old) (S.taken sink.new) }
-    ensures unfinished { (source : ℕ) → IsErrOf result (CollectFault.Unfinished source)
-        → Unfinishes (length readers.items) source (S.taken sink.old) (S.taken sink.new) }
+    ensures answer { AnswersRun (G.may_stop (arc_value gate)) (G.may_go (arc_value gate))
+        (map R.rest readers.items) (S.taken sink.old) (S.taken sink.new) result }
     ensures setting { S.setting sink.new ≡ S.setting sink.old }
 {
     let handover = Handover::in_batches(ring);

@@ -19,7 +19,8 @@ use Rattle.page_texts.specs.Document.{document_text}
 use Rattle.page_views.specs.Pages.{PageHeading, snapshots_page}
 use Rattle.source_views.specs.Texts.{IsOrderless}
 use Rattle.sent_views.specs.declared.run_facts.RunFacts.{RunFacts}
-use Rattle.sent_views.specs.Pages.{asked_heading, default_title, headed_text, page_text, source_at}
+use Rattle.sent_views.specs.Pages.{asked_heading, default_title, headed_text, page_text, source_at, unit_or}
+use Rattle.command_line.specs.declared.units.WeightUnit.{WeightUnit}
 use Rattle.opened_sources.specs.Names.{source_name}
 
 -- texts joined are their bytes joined
@@ -37,21 +38,21 @@ no_title bytes [] none = refl
 no_title bytes (file ∷ files) none = absurd (omega arith)
 
 -- a source that is told by its parts
-pub told_source : (source : Source) (files : List (List ℕ)) (types : List SampleType) (lists : List (List Sample)) (at : ℕ)
-    → source.name.now ≡ source_name files at → source.type_name.now ≡ (type_or_none (slice_get types at)).name → source.unit.now ≡ (type_or_none (slice_get types at)).unit → source.weight ≡ total_weight (list_of lists at)
-    → source_of source ≡ source_at files types lists at
-told_source source files types lists at named typed counted weighed = λ i. record {
+pub told_source : (source : Source) (asked : Option WeightUnit) (files : List (List ℕ)) (types : List SampleType) (lists : List (List Sample)) (at : ℕ)
+    → source.name.now ≡ source_name files at → source.type_name.now ≡ (type_or_none (slice_get types at)).name → source.unit.now ≡ unit_or asked (type_or_none (slice_get types at)).unit → source.weight ≡ total_weight (list_of lists at)
+    → source_of source ≡ source_at asked files types lists at
+told_source source asked files types lists at named typed counted weighed = λ i. record {
   name = named i;
   type_name = typed i;
   unit = counted i;
   weight = weighed i;
 }
 
-pub told_more : (files : List (List ℕ)) (types : List SampleType) (lists : List (List Sample)) (at : ℕ) (told more : List Source) (source : Source) → more ≡ told ++ source ∷ []
-    → map source_of told ≡ map (source_at files types lists) (range_with_len 0 at) → source_of source ≡ source_at files types lists at
-    → map source_of more ≡ map (source_at files types lists) (range_with_len 0 (at + 1))
-told_more files types lists at told more source pushed so_far here =
-    ap (map source_of) pushed ∙ map_push source_of told source ∙ (λ i. so_far i ++ here i ∷ []) ∙ sym (map-range_with_len_more (source_at files types lists) 0 at at (omega arith))
+pub told_more : (asked : Option WeightUnit) (files : List (List ℕ)) (types : List SampleType) (lists : List (List Sample)) (at : ℕ) (told more : List Source) (source : Source) → more ≡ told ++ source ∷ []
+    → map source_of told ≡ map (source_at asked files types lists) (range_with_len 0 at) → source_of source ≡ source_at asked files types lists at
+    → map source_of more ≡ map (source_at asked files types lists) (range_with_len 0 (at + 1))
+told_more asked files types lists at told more source pushed so_far here =
+    ap (map source_of) pushed ∙ map_push source_of told source ∙ (λ i. so_far i ++ here i ∷ []) ∙ sym (map-range_with_len_more (source_at asked files types lists) 0 at at (omega arith))
 
 -- a page without snapshots is the same in whatever order the samples come
 pub orderless_page : (heading : PageHeading) (view : View) (lists : List (List Sample)) (order : List ℕ) (every : Option ℕ) → IsOrderless view every → headed_text heading view lists [] None ≡ headed_text heading view lists order every

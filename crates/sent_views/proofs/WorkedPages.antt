@@ -28,10 +28,10 @@ abbrev counting : SampleType
 counting = record { name = codes "cpu"; unit = codes "ns" }
 
 -- a source without a type has neither name nor unit
-sources_of_two_files : sources_of (codes "x" ∷ codes "y" ∷ []) (counting ∷ []) ((weighing 2 ∷ weighing 3 ∷ []) ∷ [] ∷ []) ≡ record { name = codes "x"; type_name = codes "cpu"; unit = codes "ns"; weight = 5 } ∷ named (codes "y") 0 ∷ []
+sources_of_two_files : sources_of None (codes "x" ∷ codes "y" ∷ []) (counting ∷ []) ((weighing 2 ∷ weighing 3 ∷ []) ∷ [] ∷ []) ≡ record { name = codes "x"; type_name = codes "cpu"; unit = codes "ns"; weight = 5 } ∷ named (codes "y") 0 ∷ []
 sources_of_two_files = refl
 
-source_of_the_input : sources_of [] [] ((weighing 2 ∷ []) ∷ []) ≡ named (codes "-") 2 ∷ []
+source_of_the_input : sources_of None [] [] ((weighing 2 ∷ []) ∷ []) ≡ named (codes "-") 2 ∷ []
 source_of_the_input = refl
 
 -- a title that the words set is taken as it is

@@ -1,5 +1,7 @@
 -- The page and the picture that a plan asks for, of the lists of its samples, and the text of a plan whatever its form.
-use Rattle.std.specs.Prelude.{ℕ, List, [], ◌∷◌, codes, length, map, Option, None, slice_get, unwrap_or}
+use Rattle.std.specs.Prelude.{ℕ, List, [], ◌∷◌, codes, length, map, Option, None, slice_get, unwrap_or, if◌then◌else◌}
+use Rattle.std.specs.Option.{option_map_or}
+use Rattle.std.specs.Str.{bytes_eq}
 use Rattle.std.specs.List.{join_by, range_with_len}
 use Rattle.sample_tables.specs.declared.samples.Sample.{Sample}
 use Rattle.stack_core.specs.Interleaving.{list_of}
@@ -15,6 +17,9 @@ use Rattle.command_line.specs.declared.plans.PictureForm.{PictureForm}
 use Rattle.command_line.specs.declared.plans.Plan.{Plan}
 use Rattle.command_line.specs.declared.plans.View.{View}
 use Rattle.command_line.specs.declared.plans.View.TheVariants.{Fold, Graph, Chart, Pairs, PairBoxes, Top, Diff}
+use Rattle.command_line.specs.Units.{unit_name}
+use Rattle.command_line.specs.declared.units.WeightUnit.{WeightUnit}
+use Rattle.sum_texts.specs.Told.{Told}
 use Rattle.page_texts.specs.Document.{document_text}
 use Rattle.page_texts.specs.Page.{PageSource}
 use Rattle.page_views.specs.Pages.{PageHeading, chart_page, comparison_page, snapshots_page}
@@ -22,22 +27,30 @@ use Rattle.opened_sources.specs.Names.{source_name}
 use Rattle.profile_messages.specs.declared.types.SampleType.{SampleType}
 use Rattle.source_lists.specs.Types.{type_or_none}
 use Rattle.sent_views.specs.Facts.{told_whole}
-use Rattle.sent_views.specs.Pictures.{PictureFrame, common_unit, framed_text, units_with_weight}
+use Rattle.sent_views.specs.Pictures.{PictureFrame, common_unit, framed_text, types_with_weight, units_with_weight}
 use Rattle.sent_views.specs.declared.run_facts.RunFacts.{RunFacts}
 use Rattle.source_views.specs.Texts.{calls_text, told_text, view_text}
 
+-- the unit of a source, or that which the words give to weights without one
+abbrev pub unit_or : Option WeightUnit → List ℕ → List ℕ
+unit_or asked unit = if bytes_eq unit [] then option_map_or unit_name asked [] else unit
+
 -- a source of a page, with the sample type of its weights
-abbrev pub source_at : List (List ℕ) → List SampleType → List (List Sample) → ℕ → PageSource
-source_at files types lists at = record {
+abbrev pub source_at : Option WeightUnit → List (List ℕ) → List SampleType → List (List Sample) → ℕ → PageSource
+source_at asked files types lists at = record {
   name = source_name files at;
   type_name = (type_or_none (slice_get types at)).name;
-  unit = (type_or_none (slice_get types at)).unit;
+  unit = unit_or asked (type_or_none (slice_get types at)).unit;
   weight = total_weight (list_of lists at);
 }
 
 -- a source for each list, in order
-abbrev pub sources_of : List (List ℕ) → List SampleType → List (List Sample) → List PageSource
-sources_of files types lists = map (source_at files types lists) (range_with_len 0 (length lists))
+abbrev pub sources_of : Option WeightUnit → List (List ℕ) → List SampleType → List (List Sample) → List PageSource
+sources_of asked files types lists = map (source_at asked files types lists) (range_with_len 0 (length lists))
+
+-- those of a plan
+abbrev pub asked_sources : Plan → RunFacts → List (List Sample) → List PageSource
+asked_sources plan facts lists = sources_of plan.unit plan.files facts.types lists
 
 -- what a page or a picture is called where the words say nothing
 abbrev pub default_title : List (List ℕ) → List ℕ
@@ -47,7 +60,7 @@ default_title (file ∷ files) = join_by (λ name. name) (codes ", ") (file ∷ 
 abbrev pub asked_heading : Plan → RunFacts → PageForm → List (List Sample) → PageHeading
 asked_heading plan facts page lists = record {
   title = unwrap_or page.title (default_title plan.files);
-  sources = sources_of plan.files facts.types lists;
+  sources = asked_sources plan facts lists;
   least = page.least;
   whole = facts.whole;
   is_root_below = page.is_root_below;
@@ -71,20 +84,28 @@ page_text plan facts page lists order every = headed_text (asked_heading plan fa
 abbrev pub asked_frame : Plan → RunFacts → PictureForm → List (List Sample) → PictureFrame
 asked_frame plan facts picture lists = record {
   title = unwrap_or picture.title (default_title plan.files);
-  unit = common_unit (units_with_weight (sources_of plan.files facts.types lists));
+  unit = common_unit (units_with_weight (asked_sources plan facts lists));
   is_root_below = picture.is_root_below;
 }
 
 abbrev pub picture_text : Plan → RunFacts → PictureForm → List (List Sample) → List ℕ
 picture_text plan facts picture lists = framed_text (asked_frame plan facts picture lists) plan.view lists
 
+-- what the texts of functions tell of the samples
+abbrev pub told_in : Plan → RunFacts → List (List Sample) → Told
+told_in plan facts lists = record {
+  whole = told_whole plan facts;
+  type_name = common_unit (types_with_weight (asked_sources plan facts lists));
+  unit = common_unit (units_with_weight (asked_sources plan facts lists));
+}
+
 -- the text of a plan's view
 abbrev pub asked_text : Plan → RunFacts → List (List Sample) → List ℕ → Option ℕ → List ℕ
-asked_text plan facts lists order every = told_text (told_whole plan facts) plan.view lists order every
+asked_text plan facts lists order every = told_text (told_in plan facts lists) plan.view lists order every
 
 -- the text of a function and its callers, or its callees
 abbrev pub called_text : CallSide → CallTable → Plan → RunFacts → List (List Sample) → List ℕ
-called_text side table plan facts lists = calls_text (told_whole plan facts) side table (all_samples lists)
+called_text side table plan facts lists = calls_text (told_in plan facts lists) side table (all_samples lists)
 
 abbrev pub text_in : Form → Plan → RunFacts → List (List Sample) → List ℕ → Option ℕ → List ℕ
 text_in form.Text plan facts lists order every = asked_text plan facts lists order every

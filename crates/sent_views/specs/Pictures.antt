@@ -15,10 +15,17 @@ use Rattle.page_texts.specs.Page.{PageSource}
 use Rattle.source_views.specs.Texts.{view_text}
 use Rattle.svg_texts.specs.Svg.{Picture, compared_svg, plain_svg}
 
--- the units of the sources that have weight, and the one that all of them have; where there is none, weights are plain numbers
-abbrev pub units_with_weight : List PageSource → List (List ℕ)
-units_with_weight sources = map (λ source. source.unit) (filter (λ source. nat_lt 0 source.weight) sources)
+-- what is said of each source that has weight: its unit, or its sample type
+abbrev pub said_with_weight : (PageSource → List ℕ) → List PageSource → List (List ℕ)
+said_with_weight said sources = map said (filter (λ source. nat_lt 0 source.weight) sources)
 
+abbrev pub units_with_weight : List PageSource → List (List ℕ)
+units_with_weight sources = said_with_weight (λ source. source.unit) sources
+
+abbrev pub types_with_weight : List PageSource → List (List ℕ)
+types_with_weight sources = said_with_weight (λ source. source.type_name) sources
+
+-- the one that all of them have; where there is no such unit, weights are plain numbers
 abbrev pub common_unit : List (List ℕ) → List ℕ
 common_unit [] = []
 common_unit (unit ∷ units) = if list_all (bytes_eq unit) units then unit else []

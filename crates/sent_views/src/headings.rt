@@ -3,9 +3,11 @@ ghost use Rattle.std.specs.Prelude.{◌≡◌, ◌<◌, ◌^◌, IfOk, map, slic
 ghost use Rattle.merged_stacks.specs.Timeline.{samples_of, total_weight};
 ghost use Rattle.page_texts.specs.Drawn.{source_of};
 ghost use Rattle.source_lists.specs.Types.{type_or_none};
-ghost use Rattle.sent_views.specs.Pages.{default_title, sources_of};
-ghost use Rattle.sent_views.specs.Pictures.{common_unit, units_with_weight};
+ghost use Rattle.sent_views.specs.Pages.{default_title, sources_of, unit_or};
+ghost use Rattle.sent_views.specs.Pictures.{common_unit, said_with_weight};
+ghost use Rattle.sent_views.specs.checked.Saying.{said_in};
 
+use command_line::WeightUnit;
 use opened_sources::path_of;
 use page_views::Source;
 use profile_messages::SampleType;
@@ -44,16 +46,17 @@ fn joined_names(alloc: Global, files: &[String]) -> Result<String, AllocError>
 pub(crate) fn described_sources<'a>(
     alloc: Global,
     files: &'a [String],
+    unit: Option<WeightUnit>,
     types: &'a [SampleType],
     sources: &SourceLists,
 ) -> Result<Vec<Source<'a>>, AllocError>
     ensures { IfOk result (λ described. map source_of described.items
-        ≡ sources_of (map string_bytes files.now) types.now (samples_of sources.now.lists)) }
+        ≡ sources_of unit (map string_bytes files.now) types.now (samples_of sources.now.lists)) }
 {
     let lists = sources.lists();
     let mut described = Vec::with_capacity(alloc, lists.len())?;
     for at in 0..lists.len() {
-        described.push(described_source(path_of(files, at), types, at, &lists[at]))?;
+        described.push(described_source(path_of(files, at), unit, types, at, &lists[at]))?;
     }
     Ok(described)
 }
@@ -61,6 +64,7 @@ pub(crate) fn described_sources<'a>(
 // A source, with its own of the types.
 fn described_source<'a>(
     name: &'a str,
+    asked: Option<WeightUnit>,
     types: &'a [SampleType],
     at: usize,
     list: &SourceList,
@@ -70,7 +74,7 @@ fn described_source<'a>(
     ensures type_name { result.type_name.now
         ≡ (type_or_none (slice_get types.now at)).name }
     ensures unit { result.unit.now
-        ≡ (type_or_none (slice_get types.now at)).unit }
+        ≡ unit_or asked (type_or_none (slice_get types.now at)).unit }
     ensures weight { result.weight ≡ total_weight list.now.samples }
 {
     let (type_name, unit) = match types.get(at) {
@@ -80,21 +84,51 @@ fn described_source<'a>(
     Source {
         name,
         type_name,
-        unit,
+        unit: unit_or(asked, unit),
         weight: list.total() as u64,
     }
 }
 
-// The one unit of the sources that have weight. It is empty where they have none, or different ones.
-pub(crate) fn common_unit<'a>(sources: &[Source<'a>]) -> &'a str
-    ensures { result.now ≡ common_unit (units_with_weight (map source_of sources.now)) }
+// The unit of a source, or that which the words give to weights without one.
+fn unit_or<'a>(asked: Option<WeightUnit>, unit: &'a str) -> &'a str
+    ensures { result.now ≡ unit_or asked unit.now }
+{
+    match asked {
+        Some(other) if unit.is_empty() => other.name(),
+        _ => unit,
+    }
+}
+
+// What is said of a source.
+#[derive(Clone, Copy, Debug)]
+pub(crate) enum Said {
+    Unit,
+    TypeName,
+}
+
+impl Said {
+    fn of<'a>(self, source: &Source<'a>) -> &'a str
+        ensures { result.now ≡ said_in self (source_of source.now) }
+    {
+        match self {
+            Said::Unit => source.unit,
+            Said::TypeName => source.type_name,
+        }
+    }
+}
+
+// The one unit, or sample type, of the sources that have weight. It is empty where they have none, or
+// different ones.
+pub(crate) fn common<'a>(sources: &[Source<'a>], said: Said) -> &'a str
+    ensures { result.now ≡ common_unit (said_with_weight (said_in said) (map source_of sources.now)) }
 {
     let mut common = None;
     for source in sources {
         if source.weight > 0 {
+            let text = said.of(source);
             match common {
-                None => common = Some(source.unit),
-                Some(unit) if unit == source.unit => {}
+                None => common = Some(text),
+                Some(known) if known == text => {}
                 Some(_) => return "",
             }
         }

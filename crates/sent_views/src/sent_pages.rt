@@ -40,7 +40,7 @@ pub fn send_asked_page<W: Outlet>(
 {
     let files = plan.files.get();
     let title = title_of(alloc, &page.title, files)?;
-    let described = described_sources(alloc, files, facts.types.get(), &sources)?;
+    let described = described_sources(alloc, files, plan.unit, facts.types.get(), &sources)?;
     let heading = heading_with(&title, &described, facts, page);
     send_headed(alloc, sources, plan, &heading, out)
 }

@@ -13,7 +13,7 @@ ghost use Rattle.sent_views.specs.Pictures.{framed_text, picture_in};
 ghost use Rattle.sent_views.specs.checked.Frames.{frame_of};
 ghost use Rattle.opened_sources.specs.Failures.{Flushes, Sends};
 
-use crate::headings::{common_unit, described_sources, title_of};
+use crate::headings::{Said, common, described_sources, title_of};
 use crate::run_facts::RunFacts;
 use crate::sent_texts::send_plain_view;
 use byte_io::Outlet;
@@ -26,7 +26,7 @@ use source_views::{InThreads, Workers, lend_chart, send_long_text};
 use stack_core::SourceList;
 use std::alloc::Global;
 use std::thread::Threads;
-use svg_texts::{Picture, chart_svg, comparison_svg, graph_svg};
+use svg_texts::{Picture, Svg};
 
 /// A picture that a plan asks for.
 #[derive(Clone, Copy)]
@@ -76,10 +76,11 @@ pub fn send_asked_picture<T: Threads, W: Outlet>(
 {
     let files = asked.plan.files.get();
     let title = title_of(alloc, &asked.form.title, files)?;
-    let described = described_sources(alloc, files, asked.facts.types.get(), sources)?;
+    let types = asked.facts.types.get();
+    let described = described_sources(alloc, files, asked.plan.unit, types, sources)?;
     let frame = Frame {
         title: &title,
-        unit: common_unit(&described),
+        unit: common(&described, Said::Unit),
         is_root_below: asked.form.is_root_below,
     };
     send_framed(rt, alloc, sources, asked.plan.view, &frame, out)
@@ -137,8 +138,9 @@ fn send_graph<T: Threads, W: Outlet>(
     // The own weights add up to the total, which has 64 bits.
     let _total = picture.total;
     let merged = InThreads { rt }.merge(alloc, sources)?;
-    let boxes = draw_merged(alloc, &merged)?;
-    send_long_text(rt, alloc, &graph_svg(alloc, picture, &boxes)?, out)
+    let chart = draw_merged(alloc, &merged)?;
+    let svg = Svg::of(alloc, picture, &chart)?;
+    send_long_text(rt, alloc, &svg, out)
 }
 
 // Sends the picture of the chart.
@@ -157,8 +159,9 @@ fn send_chart<T: Threads, W: Outlet>(
 {
     // As in `send_graph`.
     let _total = picture.total;
-    let boxes = lend_chart(alloc, sources)?;
-    send_long_text(rt, alloc, &chart_svg(alloc, picture, &boxes)?, out)
+    let chart = lend_chart(alloc, sources)?;
+    let svg = Svg::of(alloc, picture, &chart)?;
+    send_long_text(rt, alloc, &svg, out)
 }
 
 // Sends the picture of the second profile, with the weights of the first.
@@ -180,5 +183,6 @@ fn send_compared<T: Threads, W: Outlet>(
 {
     let stacks = PairedStacks::of_in_threads(rt, alloc, before, after)?;
     let boxes = draw_paired(alloc, &stacks, before, after)?;
-    send_long_text(rt, alloc, &comparison_svg(alloc, picture, &boxes)?, out)
+    let svg = Svg::of(alloc, picture, boxes.as_slice())?;
+    send_long_text(rt, alloc, &svg, out)
 }

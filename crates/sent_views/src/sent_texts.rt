@@ -2,11 +2,13 @@
 ghost use Rattle.std.specs.Prelude.{◌≡◌, ◌≤◌, None, IfSome, length};
 ghost use Rattle.merged_stacks.specs.Timeline.{samples_of};
 ghost use Rattle.command_line.specs.Plans.{IsComparison};
+ghost use Rattle.sum_texts.specs.Told.{nothing_told};
 ghost use Rattle.source_views.specs.Texts.{told_text};
 ghost use Rattle.sent_views.specs.Pages.{asked_text, called_text};
 ghost use Rattle.opened_sources.specs.Failures.{Flushes, Sends};
 
-use crate::run_facts::{RunFacts, told_whole};
+use crate::headings::described_sources;
+use crate::run_facts::{RunFacts, telling};
 use byte_io::Outlet;
 use command_line::{CallTable, Plan, View};
 use function_sums::CallSide;
@@ -14,6 +16,7 @@ use opened_sources::Failure;
 use source_lists::SourceLists;
 use source_views::{AskedText, Workers, send_calls, send_view};
 use std::alloc::Global;
+use sum_texts::Telling;
 
 /// Sends the text of a plan's view.
 pub fn send_asked_view<H: Workers, W: Outlet>(
@@ -31,10 +34,12 @@ pub fn send_asked_view<H: Workers, W: Outlet>(
     ensures flushed { Flushes (W.is_flushed out.new) (W.failures out.old) (W.failures out.new)
         result }
 {
+    let (files, types) = (plan.files.get(), facts.types.get());
+    let described = described_sources(alloc, files, plan.unit, types, sources)?;
     let asked = AskedText {
         view: plan.view,
         every: plan.options.every,
-        whole: told_whole(plan, facts),
+        telling: telling(plan, facts, &described),
     };
     send_view(workers, alloc, sources, &asked, out)
 }
@@ -61,8 +66,19 @@ pub fn send_asked_calls<H: Workers, W: Outlet>(
     ensures flushed { Flushes (W.is_flushed out.new) (W.failures out.old) (W.failures out.new)
         result }
 {
-    let whole = told_whole(asked.plan, asked.facts);
-    send_calls(workers, alloc, sources, asked.side, asked.table, whole, out)
+    let (plan, facts) = (asked.plan, asked.facts);
+    let (files, types) = (plan.files.get(), facts.types.get());
+    let described = described_sources(alloc, files, plan.unit, types, sources)?;
+    let telling = telling(plan, facts, &described);
+    send_calls(
+        workers,
+        alloc,
+        sources,
+        asked.side,
+        asked.table,
+        &telling,
+        out,
+    )
 }
 
 // Sends the text of a view without snapshots.
@@ -74,7 +90,7 @@ pub(crate) fn send_plain_view<H: Workers, W: Outlet>(
     out: &mut W,
 ) -> Result<(), Failure>
     requires pairs { IsComparison view → length sources.now.lists ≡ 2 }
-    ensures sent { Sends (told_text None view (samples_of sources.now.lists) sources.now.order None)
+    ensures sent { Sends (told_text nothing_told view (samples_of sources.now.lists) sources.now.order None)
         (W.contents out.old) (W.contents out.new) result }
     ensures flushed { Flushes (W.is_flushed out.new) (W.failures out.old) (W.failures out.new)
         result }
@@ -82,7 +98,7 @@ pub(crate) fn send_plain_view<H: Workers, W: Outlet>(
     let asked = AskedText {
         view,
         every: None,
-        whole: None,
+        telling: Telling::nothing(),
     };
     send_view(workers, alloc, sources, &asked, out)
 }

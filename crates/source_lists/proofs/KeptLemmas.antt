@@ -1,11 +1,13 @@
--- What a filter keeps of lists, by the numbers of names and stacks.
+-- What is kept of lists, by the numbers of names and stacks.
 use Rattle.std.proofs.Common.{◌≡◌, ◌∙◌, ◌<◌, ◌≤◌, ◌+◌, ◌||◌, ◌&&◌, ℕ, zero, suc, Bool, true, false, cond, not, refl, sym, ap, subst, arith, List, [], ◌∷◌, ◌++◌, length, take, map, get_or, All}
 use Rattle.std.specs.List.{filter, list_any}
 use Rattle.std.specs.Prelude.{Option, Some, None, nat_eq}
 use Rattle.std.proofs.lemmas.Bool.Decides.{nat_tests}
 use Rattle.std.proofs.lemmas.List.{map_push, get_or-map, take_all, take_more, length-map, map-append}
-use Rattle.std.proofs.lemmas.List.Elements.{All-head, All-tail, All-map, filter-append, filter_more}
+use Rattle.std.proofs.lemmas.List.Elements.{All-filter, All-head, All-tail, All-map, filter-append, filter_more}
+use Rattle.std.proofs.lemmas.List.Filters.{sum_by-filter_both}
 use Rattle.std.proofs.lemmas.Simd.{map-map}
+use Rattle.sample_tables.specs.Samples.{IsLimited}
 use Rattle.sample_tables.specs.declared.samples.Sample.{Sample}
 use Rattle.sample_tables.specs.Rows.{AreNamed, Row, name_at, named, row_at, row_by, sample_at, stack_at}
 use Rattle.stack_core.specs.Interleaving.{AreOf, IsInterleaving, count_of, interleaved, list_of, of_source, sources_of}
@@ -15,13 +17,13 @@ use Rattle.stack_core.specs.declared.endings.Close.{Close}
 use Rattle.stack_core.specs.declared.endings.Close.TheVariants.{NoMemory, Read}
 use Rattle.stack_core.specs.declared.endings.SourceEnd.{SourceEnd}
 use Rattle.stack_core.proofs.InterleavingLemmas.{AreOf-IsInterleaving, IsInterleaving-AreOf}
-use Rattle.run_options.specs.Filters.{has_match, has_text, is_everything, is_none, keeps, kept_rest, kept_samples}
-use Rattle.run_options.proofs.FilterLemmas.{all_is_kept, limited_kept}
+use Rattle.run_options.specs.Filters.{has_match, has_text, is_everything, is_none, keeps, kept_rest}
+use Rattle.run_options.proofs.FilterLemmas.{all_is_kept}
 use Rattle.run_options.specs.declared.filters.Filter.{Filter}
 use Rattle.merged_stacks.specs.Timeline.{samples_of}
 use Rattle.ring_collect.specs.Collection.{seen_as_rest}
 use Rattle.source_lists.specs.Lists.{AreLimited}
-use Rattle.source_lists.specs.checked.KeptStacks.{all_are_kept, are_kept, are_matched, is_marked}
+use Rattle.source_lists.specs.checked.KeptStacks.{all_are_passing, are_matched, are_passing, is_marked, passing_rest, passing_samples}
 use Rattle.source_lists.proofs.OrderLemmas.{length-interleaved, no_pair, pair_at}
 
 -- ---- names and stacks
@@ -79,45 +81,45 @@ taken_again list i n w h within same weight =
     ∙ ap (λ (sample : Sample). record { stack = sample.stack; weight = (sample_at list.samples i).weight }) (sym is)
 
 -- one sample more
-pub kept_more : (asked : Filter) (samples : List Sample) (i : ℕ) → i < length samples
-    → kept_samples asked (take i samples) ++ kept_samples asked (sample_at samples i ∷ []) ≡ kept_samples asked (take (i + 1) samples)
-kept_more asked samples i within =
-    sym (filter-append (λ (sample : Sample). keeps asked sample.stack) (take i samples) (sample_at samples i ∷ []))
-    ∙ ap (kept_samples asked) (sym (take_more samples i (record { stack = []; weight = 0 }) within))
+pub kept_more : (passes : List (List ℕ) → Bool) (samples : List Sample) (i : ℕ) → i < length samples
+    → passing_samples passes (take i samples) ++ passing_samples passes (sample_at samples i ∷ []) ≡ passing_samples passes (take (i + 1) samples)
+kept_more passes samples i within =
+    sym (filter-append (λ (sample : Sample). passes sample.stack) (take i samples) (sample_at samples i ∷ []))
+    ∙ ap (passing_samples passes) (sym (take_more samples i (record { stack = []; weight = 0 }) within))
 
 -- ---- the order
 
 -- the pairs whose sample is kept
-abbrev kept_pairs : Filter → List (ℕ × Sample) → List (ℕ × Sample)
-kept_pairs asked pairs = filter (λ pair. keeps asked pair.1.stack) pairs
+abbrev kept_pairs : (List (List ℕ) → Bool) → List (ℕ × Sample) → List (ℕ × Sample)
+kept_pairs passes pairs = filter (λ pair. passes pair.1.stack) pairs
 
 -- their sources
-abbrev pub kept_sources : Filter → List (ℕ × Sample) → List ℕ
-kept_sources asked pairs = sources_of (kept_pairs asked pairs)
+abbrev pub kept_sources : (List (List ℕ) → Bool) → List (ℕ × Sample) → List ℕ
+kept_sources passes pairs = sources_of (kept_pairs passes pairs)
 
 sources_of_one : (b : Bool) (pair : ℕ × Sample) → sources_of (cond b (pair ∷ []) []) ≡ cond b (pair.0 ∷ []) []
 sources_of_one true pair = refl
 sources_of_one false pair = refl
 
 -- one more came, which is left where it is kept
-pub kept_order_more : (asked : Filter) (lists : List (List Sample)) (order left : List ℕ) (p source at : ℕ) (b : Bool) → IsInterleaving order lists → p < length order → source ≡ get_or order p 0
-    → at ≡ count_of source (take p order) → at < length (list_of lists source) → b ≡ keeps asked (sample_at (list_of lists source) at).stack → left ≡ kept_sources asked (take p (interleaved order lists))
-    → left ++ cond b (source ∷ []) [] ≡ kept_sources asked (take (p + 1) (interleaved order lists))
-kept_order_more asked lists order left p source at b ordered within is counted in_list kept left_is =
+pub kept_order_more : (passes : List (List ℕ) → Bool) (lists : List (List Sample)) (order left : List ℕ) (p source at : ℕ) (b : Bool) → IsInterleaving order lists → p < length order → source ≡ get_or order p 0
+    → at ≡ count_of source (take p order) → at < length (list_of lists source) → b ≡ passes (sample_at (list_of lists source) at).stack → left ≡ kept_sources passes (take p (interleaved order lists))
+    → left ++ cond b (source ∷ []) [] ≡ kept_sources passes (take (p + 1) (interleaved order lists))
+kept_order_more passes lists order left p source at b ordered within is counted in_list kept left_is =
     let pairs = interleaved order lists in
-    let passes : ℕ × Sample → Bool = λ pair. keeps asked pair.1.stack in
+    let of_pair : ℕ × Sample → Bool = λ pair. passes pair.1.stack in
     let here = pair_at lists order p source at ordered within is counted in_list in
     sym
-    (ap sources_of (filter_more passes pairs p no_pair (omega (arith, within, length-interleaved lists order ordered)))
-    ∙ (map-append (λ (pair : ℕ × Sample). pair.0) (filter passes (take p pairs)) (cond (passes (get_or pairs p no_pair)) (get_or pairs p no_pair ∷ []) [])
-    ∙ ((λ j. sym left_is j ++ sources_of (cond (passes (here j)) (here j ∷ []) []))
-    ∙ (ap (λ more. left ++ more) (sources_of_one (keeps asked (sample_at (list_of lists source) at).stack) (source, sample_at (list_of lists source) at))
+    (ap sources_of (filter_more of_pair pairs p no_pair (omega (arith, within, length-interleaved lists order ordered)))
+    ∙ (map-append (λ (pair : ℕ × Sample). pair.0) (filter of_pair (take p pairs)) (cond (of_pair (get_or pairs p no_pair)) (get_or pairs p no_pair ∷ []) [])
+    ∙ ((λ j. sym left_is j ++ sources_of (cond (of_pair (here j)) (here j ∷ []) []))
+    ∙ (ap (λ more. left ++ more) (sources_of_one (passes (sample_at (list_of lists source) at).stack) (source, sample_at (list_of lists source) at))
     ∙ ap (λ b. left ++ cond b (source ∷ []) []) (sym kept)))))
 
-list_of_kept : (asked : Filter) (lists : List (List Sample)) (source : ℕ) → list_of (map (kept_samples asked) lists) source ≡ kept_samples asked (list_of lists source)
-list_of_kept asked [] source = refl
-list_of_kept asked (list ∷ lists) zero = refl
-list_of_kept asked (list ∷ lists) (suc source) = list_of_kept asked lists source
+list_of_kept : (passes : List (List ℕ) → Bool) (lists : List (List Sample)) (source : ℕ) → list_of (map (passing_samples passes) lists) source ≡ passing_samples passes (list_of lists source)
+list_of_kept passes [] source = refl
+list_of_kept passes (list ∷ lists) zero = refl
+list_of_kept passes (list ∷ lists) (suc source) = list_of_kept passes lists source
 
 -- two tests of one item, in either order
 swapped : {X : Type 0} (a b : Bool) (x : X) (xs : List X) → cond a (cond b (x ∷ xs) xs) xs ≡ cond b (cond a (x ∷ xs) xs) xs
@@ -148,38 +150,38 @@ map-filter f p (x ∷ xs) =
     map-cond f (p (f x)) x (filter (λ x. p (f x)) xs)
     ∙ (λ i. cond (p (f x)) (f x ∷ map-filter f p xs i) (map-filter f p xs i))
 
-kept_of_source : (asked : Filter) (source : ℕ) (pairs : List (ℕ × Sample)) → of_source source (kept_pairs asked pairs) ≡ kept_samples asked (of_source source pairs)
-kept_of_source asked source pairs =
+kept_of_source : (passes : List (List ℕ) → Bool) (source : ℕ) (pairs : List (ℕ × Sample)) → of_source source (kept_pairs passes pairs) ≡ passing_samples passes (of_source source pairs)
+kept_of_source passes source pairs =
     let is_of : ℕ × Sample → Bool = λ pair. nat_eq pair.0 source in
-    ap (map (λ (pair : ℕ × Sample). pair.1)) (filter-filter is_of (λ pair. keeps asked pair.1.stack) pairs)
-    ∙ map-filter (λ (pair : ℕ × Sample). pair.1) (λ (sample : Sample). keeps asked sample.stack) (filter is_of pairs)
+    ap (map (λ (pair : ℕ × Sample). pair.1)) (filter-filter is_of (λ pair. passes pair.1.stack) pairs)
+    ∙ map-filter (λ (pair : ℕ × Sample). pair.1) (λ (sample : Sample). passes sample.stack) (filter is_of pairs)
 
-kept_are_of : (asked : Filter) (lists : List (List Sample)) (order : List ℕ) → IsInterleaving order lists → AreOf (kept_pairs asked (interleaved order lists)) (map (kept_samples asked) lists)
-kept_are_of asked lists order ordered = record {
+kept_are_of : (passes : List (List ℕ) → Bool) (lists : List (List Sample)) (order : List ℕ) → IsInterleaving order lists → AreOf (kept_pairs passes (interleaved order lists)) (map (passing_samples passes) lists)
+kept_are_of passes lists order ordered = record {
   by_source = λ source.
-      kept_of_source asked source (interleaved order lists)
-      ∙ (ap (kept_samples asked) ((IsInterleaving-AreOf order lists ordered).by_source source) ∙ sym (list_of_kept asked lists source));
+      kept_of_source passes source (interleaved order lists)
+      ∙ (ap (passing_samples passes) ((IsInterleaving-AreOf order lists ordered).by_source source) ∙ sym (list_of_kept passes lists source));
 }
 
 -- the order of all that are kept
-pub kept_order_all : (asked : Filter) (lists : List (List Sample)) (order left : List ℕ) (p : ℕ) → IsInterleaving order lists → length order ≤ p → left ≡ kept_sources asked (take p (interleaved order lists))
-    → IsInterleaving left (map (kept_samples asked) lists)
-kept_order_all asked lists order left p ordered past left_is =
-    let is : left ≡ kept_sources asked (interleaved order lists) =
-    left_is ∙ ap (kept_sources asked) (take_all p (interleaved order lists) (omega (arith, past, length-interleaved lists order ordered))) in
-    let lists_left = map (kept_samples asked) lists in
+pub kept_order_all : (passes : List (List ℕ) → Bool) (lists : List (List Sample)) (order left : List ℕ) (p : ℕ) → IsInterleaving order lists → length order ≤ p → left ≡ kept_sources passes (take p (interleaved order lists))
+    → IsInterleaving left (map (passing_samples passes) lists)
+kept_order_all passes lists order left p ordered past left_is =
+    let is : left ≡ kept_sources passes (interleaved order lists) =
+    left_is ∙ ap (kept_sources passes) (take_all p (interleaved order lists) (omega (arith, past, length-interleaved lists order ordered))) in
+    let lists_left = map (passing_samples passes) lists in
     subst (λ (order : List ℕ). IsInterleaving order lists_left) (sym is)
-    (AreOf-IsInterleaving (kept_pairs asked (interleaved order lists)) lists_left (kept_are_of asked lists order ordered))
+    (AreOf-IsInterleaving (kept_pairs passes (interleaved order lists)) lists_left (kept_are_of passes lists order ordered))
 
 -- ---- lists and their marks
 
-pub marks_at : {X : Type 0} (items : X → List Bool) (asked : Filter) (lists : List ListState) (kept : List X) (k : ℕ) (marks : X) (list : ListState) → map items kept ≡ all_are_kept asked lists → k < length kept → k < length lists
-    → marks ≡ get_or kept k marks → list ≡ get_or lists k list → items marks ≡ are_kept asked list
-marks_at items asked lists kept k marks list flags in_kept in_lists marks_is list_is =
+pub marks_at : {X : Type 0} (items : X → List Bool) (passes : List (List ℕ) → Bool) (lists : List ListState) (kept : List X) (k : ℕ) (marks : X) (list : ListState) → map items kept ≡ all_are_passing passes lists → k < length kept → k < length lists
+    → marks ≡ get_or kept k marks → list ≡ get_or lists k list → items marks ≡ are_passing passes list
+marks_at items passes lists kept k marks list flags in_kept in_lists marks_is list_is =
     ap items marks_is
     ∙ (sym (get_or-map items kept k marks [] in_kept)
     ∙ (ap (λ l. get_or l k []) flags
-    ∙ (get_or-map (are_kept asked) lists k list [] in_lists ∙ ap (are_kept asked) (sym list_is))))
+    ∙ (get_or-map (are_passing passes) lists k list [] in_lists ∙ ap (are_passing passes) (sym list_is))))
 
 read_ending : SourceEnd → Option Close → SourceEnd
 read_ending other (Some (Read ending)) = ending
@@ -195,12 +197,21 @@ pub samples_of_rests : (lists : List ListState) (rests : List Rest) → map seen
 samples_of_rests lists rests same =
     sym (map-map (λ (rest : Rest). rest.samples) seen_as_rest lists) ∙ ap (map (λ (rest : Rest). rest.samples)) same
 
-pub samples_kept : (asked : Filter) (lists left : List ListState) → map seen_as_rest left ≡ map (kept_rest asked) (map seen_as_rest lists) → map (kept_samples asked) (samples_of lists) ≡ samples_of left
-samples_kept asked lists left same =
-    map-map (kept_samples asked) (λ (list : ListState). list.samples) lists
-    ∙ (sym (map-map (λ (rest : Rest). rest.samples) (λ list. kept_rest asked (seen_as_rest list)) lists)
-    ∙ (ap (map (λ (rest : Rest). rest.samples)) (sym (map-map (kept_rest asked) seen_as_rest lists))
-    ∙ sym (samples_of_rests left (map (kept_rest asked) (map seen_as_rest lists)) same)))
+pub samples_kept : (passes : List (List ℕ) → Bool) (lists left : List ListState) → map seen_as_rest left ≡ map (passing_rest passes) (map seen_as_rest lists) → map (passing_samples passes) (samples_of lists) ≡ samples_of left
+samples_kept passes lists left same =
+    map-map (passing_samples passes) (λ (list : ListState). list.samples) lists
+    ∙ (sym (map-map (λ (rest : Rest). rest.samples) (λ list. passing_rest passes (seen_as_rest list)) lists)
+    ∙ (ap (map (λ (rest : Rest). rest.samples)) (sym (map-map (passing_rest passes) seen_as_rest lists))
+    ∙ sym (samples_of_rests left (map (passing_rest passes) (map seen_as_rest lists)) same)))
+
+-- some of the samples of a source are within its limits
+limited_passing : (passes : List (List ℕ) → Bool) (samples : List Sample) → IsSourceLimited samples → IsSourceLimited (passing_samples passes samples)
+limited_passing passes samples limited =
+    let parted = sum_by-filter_both (λ (sample : Sample). passes sample.stack) (λ sample. not (passes sample.stack)) (λ _. refl) (λ sample. sample.weight) samples in
+    record {
+      each = All-filter (λ sample. passes sample.stack) IsLimited samples limited.each;
+      total = omega (arith, parted, limited.total);
+    }
 
 -- lists that were read as rests within the limits
 pub limited_lists : (lists : List ListState) (rests : List Rest) → map seen_as_rest lists ≡ rests → All (λ rest. IsSourceLimited rest.samples) rests → length rests ≤ 64 → AreLimited lists
@@ -211,13 +222,13 @@ limited_lists lists rests same limits few = record {
       (subst (λ (rests : List Rest). All (λ rest. IsSourceLimited rest.samples) rests) (sym same) limits k (seen_as_rest d) (omega (arith, within, length-map lists seen_as_rest)));
 }
 
-pub limited_kept_lists : (asked : Filter) (lists left : List ListState) → map seen_as_rest left ≡ map (kept_rest asked) (map seen_as_rest lists) → AreLimited lists → AreLimited left
-limited_kept_lists asked lists left same limits =
-    limited_lists left (map (kept_rest asked) (map seen_as_rest lists)) same
-    (All-map (λ (rest : Rest). IsSourceLimited rest.samples) (kept_rest asked) (map seen_as_rest lists)
-    (All-map (λ (rest : Rest). IsSourceLimited (kept_samples asked rest.samples)) seen_as_rest lists
-    (λ k d within. limited_kept asked _ (limits.each k d within))))
-    (omega (arith, limits.few, length-map (map seen_as_rest lists) (kept_rest asked), length-map lists seen_as_rest))
+pub limited_kept_lists : (passes : List (List ℕ) → Bool) (lists left : List ListState) → map seen_as_rest left ≡ map (passing_rest passes) (map seen_as_rest lists) → AreLimited lists → AreLimited left
+limited_kept_lists passes lists left same limits =
+    limited_lists left (map (passing_rest passes) (map seen_as_rest lists)) same
+    (All-map (λ (rest : Rest). IsSourceLimited rest.samples) (passing_rest passes) (map seen_as_rest lists)
+    (All-map (λ (rest : Rest). IsSourceLimited (passing_samples passes rest.samples)) seen_as_rest lists
+    (λ k d within. limited_passing passes _ (limits.each k d within))))
+    (omega (arith, limits.few, length-map (map seen_as_rest lists) (passing_rest passes), length-map lists seen_as_rest))
 
 -- where all is kept nothing changes
 pub kept_everything : (asked : Filter) → is_everything asked ≡ true → (rests : List Rest) → rests ≡ map (kept_rest asked) rests

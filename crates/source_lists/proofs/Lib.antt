@@ -1,4 +1,5 @@
 pub mod BackLemmas
+mod CutLemmas
 mod FaultLemmas
 mod FilteredSources
 pub mod JoinLemmas
@@ -7,3 +8,4 @@ pub mod ListLemmas
 pub mod OrderLemmas
 pub mod PartLemmas
 pub mod ReaderThreads
+mod WorkedFromNames

@@ -1,4 +1,5 @@
 -- The definitions that the contracts of source_lists cite.
+pub mod FromNames
 pub mod Lists
 pub mod Runs
 pub mod Sources

@@ -1,18 +1,20 @@
-//! What a filter keeps of lists that were collected.
+//! The samples of lists whose stacks are kept.
 
-ghost use Rattle.std.specs.Prelude.{◌≡◌, ◌<◌, ◌++◌, ◌∷◌, [], None, IfOk, OnOk, length, map};
+ghost use Rattle.std.specs.Prelude.{◌≡◌, ◌<◌, ◌++◌, ◌∷◌, [], ℕ, Bool, List, None, IfOk, OnOk, length, map};
 ghost use Rattle.sample_tables.specs.Rows.{sample_at};
 ghost use Rattle.ring_collect.specs.Collection.{seen_as_rest};
-ghost use Rattle.run_options.specs.Filters.{kept_rest, kept_samples};
-ghost use Rattle.run_options.specs.declared.filters.Filter.{Filter as Asked};
-ghost use Rattle.source_lists.specs.checked.KeptStacks.{all_are_kept, are_kept, begun};
+ghost use Rattle.source_lists.specs.checked.KeptStacks.{all_are_passing, are_passing, begun, passing_rest, passing_samples};
 
 use crate::kept_stacks::is_kept;
 use stack_core::{Close, Ledger, SourceList, Text};
 use std::alloc::{AllocError, Global};
 
 /// Tells an empty ledger the names of the list.
-fn tell_names(alloc: Global, ledger: &mut Ledger, list: &SourceList) -> Result<(), AllocError>
+pub(crate) fn tell_names(
+    alloc: Global,
+    ledger: &mut Ledger,
+    list: &SourceList,
+) -> Result<(), AllocError>
     requires { ledger.old ≡ begun [] [] }
     ensures { OnOk result (ledger.new ≡ begun list.now.told []) }
 {
@@ -23,7 +25,7 @@ fn tell_names(alloc: Global, ledger: &mut Ledger, list: &SourceList) -> Result<(
 }
 
 /// The numbers of a stack, as a ledger takes them.
-fn numbers_of(alloc: Global, stack: &[u32]) -> Result<Vec<usize>, AllocError>
+pub(crate) fn numbers_of(alloc: Global, stack: &[u32]) -> Result<Vec<usize>, AllocError>
     ensures { IfOk result (λ numbers. numbers.items ≡ stack.now) }
 {
     let mut numbers = Vec::with_capacity(alloc, stack.len())?;
@@ -68,9 +70,9 @@ fn take_if_kept(
     ensures open { OnOk result (ledger.new.close ≡ None) }
     ensures told { OnOk result (ledger.new.told ≡ list.now.told) }
     ensures stacks { OnOk result (ledger.new.stacks ≡ list.now.stacks) }
-    ensures samples { OnOk result ((asked : Asked) → kept.now ≡ are_kept asked list.now
+    ensures samples { OnOk result ((passes : List (List ℕ) → Bool) → kept.now ≡ are_passing passes list.now
         → ledger.new.samples ≡ ledger.old.samples
-        ++ kept_samples asked (sample_at list.now.samples at ∷ [])) }
+        ++ passing_samples passes (sample_at list.now.samples at ∷ [])) }
 {
     if is_kept(list, kept, at) {
         ledger.take_again(list.stack_number(at), list.weight(at))?;
@@ -80,8 +82,8 @@ fn take_if_kept(
 
 /// What is kept of a list.
 fn kept_list(alloc: Global, list: &SourceList, kept: &[bool]) -> Result<SourceList, AllocError>
-    ensures { IfOk result (λ left. (asked : Asked) → kept.now ≡ are_kept asked list.now
-        → seen_as_rest left ≡ kept_rest asked (seen_as_rest list.now)) }
+    ensures { IfOk result (λ left. (passes : List (List ℕ) → Bool) → kept.now ≡ are_passing passes list.now
+        → seen_as_rest left ≡ passing_rest passes (seen_as_rest list.now)) }
 {
     let mut ledger = ledger_of(alloc, list)?;
     for at in 0..list.len() {
@@ -98,9 +100,9 @@ pub(crate) fn kept_lists(
     kept: &[Vec<bool>],
 ) -> Result<Vec<SourceList>, AllocError>
     requires { length kept.now ≡ length lists.now }
-    ensures { IfOk result (λ left. (asked : Asked)
-        → map (λ marks. marks.items) kept.now ≡ all_are_kept asked lists.now
-        → map seen_as_rest left.items ≡ map (kept_rest asked) (map seen_as_rest lists.now)) }
+    ensures { IfOk result (λ left. (passes : List (List ℕ) → Bool)
+        → map (λ marks. marks.items) kept.now ≡ all_are_passing passes lists.now
+        → map seen_as_rest left.items ≡ map (passing_rest passes) (map seen_as_rest lists.now)) }
 {
     let count = lists.len();
     let mut left = Vec::with_capacity(alloc, count)?;

@@ -1,11 +1,9 @@
-//! The order of the samples that a filter keeps.
+//! The order of the samples whose stacks are kept.
 
-ghost use Rattle.std.specs.Prelude.{◌≡◌, IfOk, length, map};
+ghost use Rattle.std.specs.Prelude.{◌≡◌, ℕ, Bool, List, IfOk, length, map};
 ghost use Rattle.stack_core.specs.Interleaving.{IsInterleaving};
 ghost use Rattle.merged_stacks.specs.Timeline.{samples_of};
-ghost use Rattle.run_options.specs.Filters.{kept_samples};
-ghost use Rattle.run_options.specs.declared.filters.Filter.{Filter as Asked};
-ghost use Rattle.source_lists.specs.checked.KeptStacks.{all_are_kept};
+ghost use Rattle.source_lists.specs.checked.KeptStacks.{all_are_passing, passing_samples};
 
 use crate::kept_stacks::is_kept;
 use stack_core::SourceList;
@@ -20,9 +18,9 @@ pub(crate) fn kept_order(
 ) -> Result<Vec<u32>, AllocError>
     requires ordered { IsInterleaving order.now (samples_of lists.now) }
     requires count { length kept.now ≡ length lists.now }
-    ensures { IfOk result (λ left. (asked : Asked)
-        → map (λ marks. marks.items) kept.now ≡ all_are_kept asked lists.now
-        → IsInterleaving left.items (map (kept_samples asked) (samples_of lists.now))) }
+    ensures { IfOk result (λ left. (passes : List (List ℕ) → Bool)
+        → map (λ marks. marks.items) kept.now ≡ all_are_passing passes lists.now
+        → IsInterleaving left.items (map (passing_samples passes) (samples_of lists.now))) }
 {
     let mut came = vec![in alloc; 0usize; lists.len()]?;
     let mut left = Vec::new(alloc);

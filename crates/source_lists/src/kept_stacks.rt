@@ -1,11 +1,10 @@
 //! Which stacks of a list a filter keeps: each name is looked at once, and each stack once.
 
-ghost use Rattle.std.specs.Prelude.{◌≡◌, ◌<◌, ◌||◌, ◌&&◌, IfOk, length, map, not};
+ghost use Rattle.std.specs.Prelude.{◌≡◌, ◌<◌, ◌||◌, ◌&&◌, ℕ, Bool, List, IfOk, length, map, not};
 ghost use Rattle.std.specs.List.{list_any};
 ghost use Rattle.sample_tables.specs.Rows.{AreNamed, sample_at};
-ghost use Rattle.run_options.specs.Filters.{is_none, keeps};
-ghost use Rattle.run_options.specs.declared.filters.Filter.{Filter as Asked};
-ghost use Rattle.source_lists.specs.checked.KeptStacks.{all_are_kept, are_kept, are_matched, is_marked};
+ghost use Rattle.run_options.specs.Filters.{is_none};
+ghost use Rattle.source_lists.specs.checked.KeptStacks.{all_are_kept, are_kept, are_matched, are_passing, is_marked};
 
 use run_options::Filter;
 use stack_core::SourceList;
@@ -54,13 +53,13 @@ impl NameMarks {
 }
 
 /// Whether the mark of one of the numbers is set.
-fn has_mark(marks: &[bool], numbers: &[u32]) -> bool
+pub(crate) fn has_mark(marks: &[bool], numbers: &[u32]) -> bool
     ensures { result ≡ list_any (is_marked marks.now) numbers.now }
 {
     numbers.iter().any(|number| is_set(marks, *number as usize))
 }
 
-fn is_set(marks: &[bool], number: usize) -> bool
+pub(crate) fn is_set(marks: &[bool], number: usize) -> bool
     ensures { result ≡ is_marked marks.now number }
 {
     number < marks.len() && marks[number]
@@ -69,8 +68,8 @@ fn is_set(marks: &[bool], number: usize) -> bool
 /// Whether the sample at a place of the list has a stack that is kept.
 pub(crate) fn is_kept(list: &SourceList, kept: &[bool], at: usize) -> bool
     requires { at < length list.now.samples }
-    ensures kept { (asked : Asked) → kept.now ≡ are_kept asked list.now
-        → result ≡ keeps asked (sample_at list.now.samples at).stack }
+    ensures kept { (passes : List (List ℕ) → Bool) → kept.now ≡ are_passing passes list.now
+        → result ≡ passes (sample_at list.now.samples at).stack }
     ensures named { AreNamed list.now.told list.now.rows list.now.samples }
 {
     let count = list.len();

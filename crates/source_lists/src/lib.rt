@@ -1,6 +1,8 @@
 //! Sources, read into lists: a reader for each, what a filter keeps, and the order in which the samples came.
 #![tactic(auto)]
 
+mod cut_lists;
+mod cut_stacks;
 mod filtered_reader;
 mod gating;
 mod inputs;

@@ -1,5 +1,5 @@
 -- The views of the folds of sources are those of the sources.
-use Rattle.std.proofs.Common.{◌≡◌, ℕ, zero, suc, false, cond, take, List, [], ◌∷◌, map, None, All, codes, refl, sym}
+use Rattle.std.proofs.Common.{◌≡◌, ℕ, zero, suc, false, cond, length, take, List, [], ◌∷◌, map, None, All, codes, refl, sym}
 use Rattle.std.proofs.lemmas.List.Elements.{All-head, All-tail}
 use Rattle.stack_core.specs.Interleaving.{list_of}
 use Rattle.stack_core.specs.Reading.{IsSourceLimited}
@@ -20,7 +20,8 @@ use Rattle.function_sums.proofs.FunctionList.{same_changes, same_functions}
 use Rattle.sum_texts.specs.ChangeJson.{changes_line}
 use Rattle.sum_texts.specs.ChangeTable.{changes_table}
 use Rattle.sum_texts.specs.FunctionJson.{functions_line}
-use Rattle.sum_texts.specs.FunctionTable.{table_text}
+use Rattle.sum_texts.specs.FunctionTable.{functions_table}
+use Rattle.sum_texts.specs.Told.{nothing_told}
 use Rattle.command_line.specs.declared.plans.TopTable.{TopTable}
 use Rattle.command_line.specs.declared.plans.View.{View}
 use Rattle.command_line.specs.declared.plans.View.TheVariants.{Fold, Graph, Chart, Pairs, PairBoxes, Top, Diff}
@@ -42,18 +43,20 @@ same_at [] source foldable = λ q. refl
 same_at (list ∷ lists) zero foldable = λ q. sym (refolded-sums list (All-head IsFoldable list lists foldable) q)
 same_at (list ∷ lists) (suc source) foldable = same_at lists source (All-tail IsFoldable list lists foldable)
 
-same_top : (top : TopTable) (xs ys : List Sample) → SameSums xs ys → top_text None top xs ≡ top_text None top ys
+same_top : (top : TopTable) (xs ys : List Sample) → SameSums xs ys → top_text nothing_told top xs ≡ top_text nothing_told top ys
 same_top top xs ys same =
     let functions = same_functions top.by xs ys same in
     let weight = same_weights xs ys same in
-    λ i. cond top.is_json (functions_line None None (weight i) (take top.rows (functions i))) (table_text None (weight i) (take top.rows (functions i)))
+    λ i. cond top.is_json (functions_line None nothing_told (weight i) (take top.rows (functions i)))
+    (functions_table top.is_exact nothing_told (length (functions i)) (weight i) (take top.rows (functions i)))
 
-same_diff : (table : TopTable) (old new before after : List Sample) → SameSums old before → SameSums new after → diff_text table old new ≡ diff_text table before after
+same_diff : (table : TopTable) (old new before after : List Sample) → SameSums old before → SameSums new after → diff_text nothing_told table old new ≡ diff_text nothing_told table before after
 same_diff table old new before after first second =
     let changes = same_changes table.by old new before after first second in
     let olds = same_weights old before first in
     let news = same_weights new after second in
-    λ i. cond table.is_json (changes_line (olds i) (news i) (take table.rows (changes i))) (changes_table (take table.rows (changes i)))
+    λ i. cond table.is_json (changes_line [] (olds i) (news i) (take table.rows (changes i)))
+    (changes_table table.is_exact nothing_told (length (changes i)) (olds i) (news i) (take table.rows (changes i)))
 
 pub same_views : (view : View) (lists : List (List Sample)) → SeesSums view → All IsFoldable lists → view_text view (map refolded lists) [] None ≡ view_text view lists [] None
 same_views Fold lists sees foldable = same_folds (all_samples (map refolded lists)) (all_samples lists) (same_all lists foldable)

@@ -1,9 +1,10 @@
 -- The lines of snapshots one after another, as the samples come.
-use Rattle.std.proofs.Common.{◌≡◌, ◌∙◌, ◌+◌, ◌-◌, ◌<◌, ◌≤◌, ◌++◌, ◌∷◌, [], ℕ, suc, zero, List, append-nil, append_assoc, ap, arith, cond, get_or, length, refl, set, sym, subst, take, drop, take-append-drop}
+use Rattle.std.proofs.Common.{◌≡◌, ◌∙◌, ◌+◌, ◌-◌, ◌<◌, ◌≤◌, ◌++◌, ◌∷◌, [], ℕ, suc, zero, List, append-nil, append_assoc, ap, arith, cond, get_or, length, refl, set, sym, subst, take, drop, take-append-drop, map, All}
 use Rattle.std.proofs.Math.Seq.{take-append_seam}
 use Rattle.std.proofs.KnownBytes.{Appends-nil, Appends-trans}
 use Rattle.std.proofs.lemmas.Grind.{flat_map-append}
 use Rattle.std.proofs.lemmas.List.{ext_get_or, length-set, take_more}
+use Rattle.std.proofs.lemmas.List.Elements.{All-map}
 use Rattle.std.proofs.lemmas.List.FromFn.{get_or-map-range_with_len, length-map-range_with_len}
 use Rattle.std.specs.Io.KnownBytes.{Appends}
 use Rattle.std.specs.List.{flat_map}
@@ -12,6 +13,9 @@ use Rattle.byte_io.specs.Pieces.{AppendsFront}
 use Rattle.flame_layout.specs.Graph.{graph_of}
 use Rattle.flame_layout.specs.Paths.{SameOwn}
 use Rattle.flame_layout.specs.declared.boxes.SpanBox.{SpanBox}
+use Rattle.flame_layout.specs.Boxes.{SeenBox, plain_box, span_of}
+use Rattle.flame_layout.specs.declared.boxes.DrawnBox.{DrawnBox}
+use Rattle.flame_layout.proofs.DrawnBoxes.{drawn_within}
 use Rattle.flame_layout.proofs.MergedSums.{merged_own}
 use Rattle.merged_stacks.specs.Merged.{merged_samples}
 use Rattle.merged_stacks.specs.Timeline.{total_weight}
@@ -171,3 +175,13 @@ lines_front width every n m end growing lists order old mid new some next within
     ap (lines_upto width every lists order) (omega arith) ∙ later.1 ∙ ap (λ text. text ++ later.0) (sym (lines_more width every n m growing lists order some next same counted)) in
     subst (λ text. AppendsFront text old new) (sym whole)
     (front_more (lines_upto width every lists order n ++ due_line width every m growing) later.0 old new (front_after (lines_upto width every lists order n) (due_line width every m growing) old mid new sent gone))
+
+-- ---- boxes that were copied
+
+pub drawn_list : (boxes : List DrawnBox) → map (λ drawn. plain_box (span_of drawn)) boxes ≡ map plain_box (map span_of boxes)
+drawn_list [] = refl
+drawn_list (box ∷ boxes) = ap (λ more. plain_box (span_of box) ∷ more) (drawn_list boxes)
+
+pub drawn_boxes_within : (boxes : List DrawnBox) (spans : List SpanBox) (total : ℕ) → map span_of boxes ≡ spans → All (λ span. span.start + span.weight ≤ total) spans
+    → All (λ box. box.span.start + box.span.weight ≤ total) (map (λ drawn. plain_box (span_of drawn)) boxes)
+drawn_boxes_within boxes spans total same h = All-map (λ (box : SeenBox). box.span.start + box.span.weight ≤ total) (λ drawn. plain_box (span_of drawn)) boxes (drawn_within boxes spans total same h)

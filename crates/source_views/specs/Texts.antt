@@ -14,6 +14,7 @@ use Rattle.merging.specs.Snapshots.{snapshot_samples, snapshot_places}
 use Rattle.merging.specs.Sums.{all_samples}
 use Rattle.sum_texts.specs.CallTexts.{calls_line, calls_table}
 use Rattle.sum_texts.specs.DiffTexts.{diff_table, diff_line}
+use Rattle.sum_texts.specs.Told.{Told, nothing_told}
 use Rattle.sum_texts.specs.TopTexts.{top_table, top_line}
 use Rattle.function_sums.specs.declared.call_sides.CallSide.{CallSide}
 use Rattle.command_line.specs.declared.plans.CallTable.{CallTable}
@@ -53,21 +54,21 @@ abbrev pub pair_boxes_text : ℕ → List Sample → List Sample → List ℕ
 pair_boxes_text width before after =
     pair_boxes_line (total_weight before) (total_weight after) width (compared_boxes_of before after)
 
--- the heaviest functions: their table, or their line of JSON. Where `all` is given it is what these samples and those that a
--- filter leaves out weigh together, and the text says what part of it the functions are
-abbrev pub top_text : Option ℕ → TopTable → List Sample → List ℕ
-top_text all top samples =
-    if top.is_json then top_line all top.by top.rows samples else top_table all top.by top.rows samples
+-- the heaviest functions: their table, or their line of JSON. What is told of the samples, the text tells too: the type and the
+-- unit of their weights, and what part of the weight of all samples the functions are
+abbrev pub top_text : Told → TopTable → List Sample → List ℕ
+top_text told top samples =
+    if top.is_json then top_line told top.by top.rows samples else top_table top.is_exact told top.by top.rows samples
 
 -- the functions with the greatest changes from some samples to others: their table, or their line of JSON
-abbrev pub diff_text : TopTable → List Sample → List Sample → List ℕ
-diff_text table before after =
-    if table.is_json then diff_line table.by table.rows before after else diff_table table.by table.rows before after
+abbrev pub diff_text : Told → TopTable → List Sample → List Sample → List ℕ
+diff_text told table before after =
+    if table.is_json then diff_line told table.by table.rows before after else diff_table table.is_exact told table.by table.rows before after
 
--- a function and its callers, or its callees: their table, or their line of JSON. `all` is that of `top_text`
-abbrev pub calls_text : Option ℕ → CallSide → CallTable → List Sample → List ℕ
-calls_text all side table samples =
-    if table.is_json then calls_line all side table.name table.rows samples else calls_table all side table.name table.rows samples
+-- a function and its callers, or its callees: their table, or their line of JSON
+abbrev pub calls_text : Told → CallSide → CallTable → List Sample → List ℕ
+calls_text told side table samples =
+    if table.is_json then calls_line told side table.name table.rows samples else calls_table table.is_exact told side table.name table.rows samples
 
 abbrev pub view_text : View → List (List Sample) → List ℕ → Option ℕ → List ℕ
 view_text Fold lists order every = fold_text (all_samples lists)
@@ -75,18 +76,18 @@ view_text (Graph width) lists order every = graph_text width lists order every
 view_text (Chart width) lists order every = chart_text width lists
 view_text Pairs lists order every = pairs_text (list_of lists 0) (list_of lists 1)
 view_text (PairBoxes width) lists order every = pair_boxes_text width (list_of lists 0) (list_of lists 1)
-view_text (Top top) lists order every = top_text None top (all_samples lists)
-view_text (Diff table) lists order every = diff_text table (list_of lists 0) (list_of lists 1)
+view_text (Top top) lists order every = top_text nothing_told top (all_samples lists)
+view_text (Diff table) lists order every = diff_text nothing_told table (list_of lists 0) (list_of lists 1)
 
--- the same, where `all` may say what all samples weigh: the table of functions is the one text that tells it
-abbrev pub told_text : Option ℕ → View → List (List Sample) → List ℕ → Option ℕ → List ℕ
-told_text all Fold lists order every = view_text Fold lists order every
-told_text all (Graph width) lists order every = view_text (Graph width) lists order every
-told_text all (Chart width) lists order every = view_text (Chart width) lists order every
-told_text all Pairs lists order every = view_text Pairs lists order every
-told_text all (PairBoxes width) lists order every = view_text (PairBoxes width) lists order every
-told_text all (Top top) lists order every = top_text all top (all_samples lists)
-told_text all (Diff table) lists order every = view_text (Diff table) lists order every
+-- the same, where more may be told of the samples: the tables of functions are the texts that tell it
+abbrev pub told_text : Told → View → List (List Sample) → List ℕ → Option ℕ → List ℕ
+told_text told Fold lists order every = view_text Fold lists order every
+told_text told (Graph width) lists order every = view_text (Graph width) lists order every
+told_text told (Chart width) lists order every = view_text (Chart width) lists order every
+told_text told Pairs lists order every = view_text Pairs lists order every
+told_text told (PairBoxes width) lists order every = view_text (PairBoxes width) lists order every
+told_text told (Top top) lists order every = top_text told top (all_samples lists)
+told_text told (Diff table) lists order every = diff_text told table (list_of lists 0) (list_of lists 1)
 
 -- the text is the same in whatever order the samples come, since it has no snapshots
 abbrev pub IsOrderless : View → Option ℕ → Type 0

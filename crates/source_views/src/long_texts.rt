@@ -2,7 +2,9 @@
 ghost use Rattle.source_views.specs.LongTexts.{pieces_of_one};
 
 use byte_io::Pieces;
-use flame_layout::{Chart, DrawnBox, DrawnPair};
+use flame_layout::{Chart, DrawnPair};
+use merged_stacks::MergedStacks;
+use stack_core::SourceList;
 use std::alloc::{AllocError, Global};
 use view_texts::{FoldedText, JsonLine};
 
@@ -18,8 +20,8 @@ pub enum OneOf<A, B> {
 pub type LongText<'a, 'n> = OneOf<
     FoldedText<'a>,
     OneOf<
-        JsonLine<'a, &'a [DrawnBox<'a>]>,
-        OneOf<JsonLine<'a, &'a Chart<'n>>, JsonLine<'a, &'a [DrawnPair<'a>]>>,
+        JsonLine<'a, &'a Chart<'n, MergedStacks>>,
+        OneOf<JsonLine<'a, &'a Chart<'n, SourceList>>, JsonLine<'a, &'a [DrawnPair<'a>]>>,
     >,
 >;
 

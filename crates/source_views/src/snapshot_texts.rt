@@ -1,9 +1,8 @@
 //! The lines of a graph's snapshots, each sent before the next is drawn.
-ghost use Rattle.std.specs.Prelude.{◌≡◌, ◌≢◌, ◌≤◌, OnOk, OnErr, IsErrOf, Some, length, map};
+ghost use Rattle.std.specs.Prelude.{◌≡◌, ◌≢◌, ◌≤◌, OnOk, OnErr, IsErrOf, Some, length};
 ghost use Rattle.std.specs.Io.KnownBytes.{Appends};
 ghost use Rattle.byte_io.specs.Calls.{one_more};
 ghost use Rattle.byte_io.specs.Pieces.{AppendsFront};
-ghost use Rattle.flame_layout.specs.Boxes.{span_of};
 ghost use Rattle.flame_layout.specs.Graph.{graph_of};
 ghost use Rattle.merged_stacks.specs.Timeline.{samples_of};
 ghost use Rattle.merging.specs.Snapshots.{snapshot_places};
@@ -12,11 +11,12 @@ ghost use Rattle.opened_sources.specs.Failures.{Flushes, Sends};
 ghost use Rattle.source_views.specs.Texts.{graph_text, snapshot_lines};
 ghost use Rattle.source_views.specs.checked.Moments.{due_line, moment_line};
 
+use crate::drawings::copied;
 use crate::drawn_texts::drawn_graph;
 use crate::workers::Workers;
 use byte_io::{Outlet, PieceFault, send_pieces};
-use flame_layout::{DrawnBox, Width, draw_merged, draw_ordered};
-use merged_stacks::GrowingStacks;
+use flame_layout::{Chart, Width, draw_merged, draw_ordered};
+use merged_stacks::{GrowingStacks, MergedStacks};
 use opened_sources::Failure;
 use source_lists::SourceLists;
 use std::alloc::Global;
@@ -39,8 +39,8 @@ pub(crate) fn send_snapshots<H: Workers, W: Outlet>(
         result }
 {
     let merged = workers.merge(alloc, sources)?;
-    let boxes = draw_merged(alloc, &merged)?;
-    send_lines(alloc, sources, &boxes, width, every, out)?;
+    let chart = draw_merged(alloc, &merged)?;
+    send_lines(alloc, sources, &chart, width, every, out)?;
     Ok(())
 }
 
@@ -48,13 +48,13 @@ pub(crate) fn send_snapshots<H: Workers, W: Outlet>(
 fn send_lines<W: Outlet>(
     alloc: Global,
     sources: &SourceLists,
-    boxes: &[DrawnBox<'_>],
+    chart: &Chart<'_, MergedStacks>,
     width: Width,
     every: u64,
     out: &mut W,
 ) -> Result<(), PieceFault>
     requires every { 1 ≤ every }
-    requires boxes { map span_of boxes.now ≡ graph_of (all_samples (samples_of sources.now.lists)) }
+    requires boxes { chart.now ≡ graph_of (all_samples (samples_of sources.now.lists)) }
     ensures ok { OnOk result (Appends (W.contents out.old) (W.contents out.new)
         (graph_text width (samples_of sources.now.lists) sources.now.order (Some every))) }
     ensures flushed { OnOk result (W.is_flushed out.new) }
@@ -66,7 +66,7 @@ fn send_lines<W: Outlet>(
     ensures unfailed { result ≢ Err PieceFault.Output → W.failures out.new ≡ W.failures out.old }
 {
     send_moments(alloc, sources, width, every, out)?;
-    send_pieces(alloc, &drawn_graph(sources, boxes, width), out)
+    send_pieces(alloc, &drawn_graph(sources, chart, width), out)
 }
 
 // Sends the lines of the snapshots, going through the samples in the order in which they came.
@@ -142,8 +142,9 @@ fn send_moment<W: Outlet>(
     let moment = growing.merged(alloc)?;
     let total = moment.total();
     let stacks = moment.by_rank();
-    let boxes = draw_ordered(alloc, &stacks, total)?;
+    let chart = draw_ordered(alloc, &stacks, total)?;
+    let boxes = copied(alloc, &chart)?;
     let scale = Scale { total, width };
-    let line = drawn_snapshot_line(at, growing.counts(), &boxes, scale);
+    let line = drawn_snapshot_line(at, growing.counts(), boxes.as_slice(), scale);
     send_pieces(alloc, &line, out)
 }

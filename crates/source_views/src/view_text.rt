@@ -6,6 +6,7 @@ ghost use Rattle.view_texts.specs.Pairs.{pairs_text};
 ghost use Rattle.merging.specs.Sums.{all_samples};
 ghost use Rattle.command_line.specs.Plans.{IsComparison};
 ghost use Rattle.source_views.specs.Texts.{chart_text, diff_text, graph_text, graph_line, pair_boxes_text, told_text, top_text, view_text};
+ghost use Rattle.sum_texts.specs.Told.{told_of};
 ghost use Rattle.opened_sources.specs.Failures.{Flushes, Sends};
 ghost use Rattle.stack_core.specs.Interleaving.{list_of};
 
@@ -25,17 +26,17 @@ use source_lists::SourceLists;
 use stack_core::SourceList;
 use std::alloc::{AllocError, Global};
 use std::mem;
-use sum_texts::{ChangeLine, ChangeTable, SumLine, SumTable};
+use sum_texts::{ChangeLine, SumLine, Table, Telling};
 use view_texts::{FoldedText, PairedText, Scale, drawn_comparison_line};
 
 /// What is asked of a text.
 #[derive(Clone, Copy)]
-pub struct AskedText {
+pub struct AskedText<'a> {
     pub view: View,
     /// After how many samples more a graph has a snapshot.
     pub every: Option<u64>,
-    /// What all samples weigh, where a table of functions is to tell it.
-    pub whole: Option<u64>,
+    /// What a table of functions tells of the samples.
+    pub telling: Telling<'a>,
 }
 
 /// Appends the whole text of a view: folded lines, two-column lines, lines of JSON, or a table. An `Err` changes
@@ -50,7 +51,7 @@ pub fn render(alloc: Global, views: &Views, view: View, out: &mut Vec<u8>) -> Re
     let asked = AskedText {
         view,
         every: gathered.every(),
-        whole: None,
+        telling: Telling::nothing(),
     };
     let before = out.len();
     let mut outlet = CountedWriter::new(mem::replace(out, Vec::new(alloc)));
@@ -75,12 +76,12 @@ pub fn send_view<H: Workers, W: Outlet>(
     workers: &H,
     alloc: Global,
     sources: &SourceLists,
-    asked: &AskedText,
+    asked: &AskedText<'_>,
     out: &mut W,
 ) -> Result<(), Failure>
     requires pairs { IsComparison asked.now.view → length sources.now.lists ≡ 2 }
     requires every { IfSome asked.now.every (λ every. 1 ≤ every) }
-    ensures sent { Sends (told_text asked.now.whole asked.now.view (samples_of sources.now.lists) sources.now.order asked.now.every)
+    ensures sent { Sends (told_text (told_of asked.now.telling) asked.now.view (samples_of sources.now.lists) sources.now.order asked.now.every)
         (W.contents out.old) (W.contents out.new) result }
     ensures flushed { Flushes (W.is_flushed out.new) (W.failures out.old) (W.failures out.new)
         result }
@@ -94,8 +95,8 @@ pub fn send_view<H: Workers, W: Outlet>(
             let lists = sources.lists();
             send_compared(workers, alloc, &lists[0], &lists[1], width, out)
         }
-        View::Top(top) => send_top(workers, alloc, sources, top, asked.whole, out),
-        View::Diff(table) => send_diff(alloc, sources, table, out),
+        View::Top(top) => send_top(workers, alloc, sources, top, &asked.telling, out),
+        View::Diff(table) => send_diff(alloc, sources, table, &asked.telling, out),
     }
 }
 
@@ -150,8 +151,8 @@ fn send_graph<H: Workers, W: Outlet>(
         result }
 {
     let merged = workers.merge(alloc, sources)?;
-    let boxes = draw_merged(alloc, &merged)?;
-    let line = drawn_graph(sources, &boxes, width);
+    let chart = draw_merged(alloc, &merged)?;
+    let line = drawn_graph(sources, &chart, width);
     workers.send(alloc, &OneOf::Second(OneOf::First(line)), out)
 }
 
@@ -168,8 +169,8 @@ fn send_chart<H: Workers, W: Outlet>(
     ensures flushed { Flushes (W.is_flushed out.new) (W.failures out.old) (W.failures out.new)
         result }
 {
-    let boxes = lend_chart(alloc, sources)?;
-    let line = drawn_chart(sources, &boxes, width);
+    let chart = lend_chart(alloc, sources)?;
+    let line = drawn_chart(sources, &chart, width);
     workers.send(
         alloc,
         &OneOf::Second(OneOf::Second(OneOf::First(line))),
@@ -214,7 +215,8 @@ fn send_compared<H: Workers, W: Outlet>(
     let stacks = workers.pair(alloc, before, after)?;
     let boxes = draw_paired(alloc, &stacks, before, after)?;
     let total = after.total() as u64;
-    let line = drawn_comparison_line(before.total() as u64, &boxes, Scale { total, width });
+    let scale = Scale { total, width };
+    let line = drawn_comparison_line(before.total() as u64, boxes.as_slice(), scale);
     workers.send(
         alloc,
         &OneOf::Second(OneOf::Second(OneOf::Second(line))),
@@ -228,20 +230,27 @@ fn send_top<H: Workers, W: Outlet>(
     alloc: Global,
     sources: &SourceLists,
     top: TopTable,
-    all: Option<u64>,
+    telling: &Telling<'_>,
     out: &mut W,
 ) -> Result<(), Failure>
-    ensures sent { Sends (top_text all top (all_samples (samples_of sources.now.lists)))
+    ensures sent { Sends (top_text (told_of telling.now) top (all_samples (samples_of sources.now.lists)))
         (W.contents out.old) (W.contents out.new) result }
     ensures flushed { Flushes (W.is_flushed out.new) (W.failures out.old) (W.failures out.new)
         result }
 {
     let sums = weigh_functions(workers, alloc, sources, top.by)?;
     let whole = sources.total();
+    // The same, for as long as the sums are lent.
+    let telling = Telling {
+        whole: telling.whole,
+        type_name: telling.type_name,
+        unit: telling.unit,
+    };
     if top.is_json {
-        send_text(alloc, &SumLine::of(&sums, top.rows, whole, all), out)
+        send_text(alloc, &SumLine::of(&sums, top.rows, whole, &telling), out)
     } else {
-        send_text(alloc, &SumTable::of(&sums, top.rows, whole, all), out)
+        let table = Table::of_functions(alloc, &sums, top.rows, whole, &telling, top.is_exact)?;
+        send_text(alloc, &table, out)
     }
 }
 
@@ -250,16 +259,17 @@ fn send_diff<W: Outlet>(
     alloc: Global,
     sources: &SourceLists,
     table: TopTable,
+    telling: &Telling<'_>,
     out: &mut W,
 ) -> Result<(), Failure>
     requires { length sources.now.lists ≡ 2 }
-    ensures sent { Sends (diff_text table (list_of (samples_of sources.now.lists) 0)
+    ensures sent { Sends (diff_text (told_of telling.now) table (list_of (samples_of sources.now.lists) 0)
         (list_of (samples_of sources.now.lists) 1)) (W.contents out.old) (W.contents out.new) result }
     ensures flushed { Flushes (W.is_flushed out.new) (W.failures out.old) (W.failures out.new)
         result }
 {
     let lists = sources.lists();
-    send_changes(alloc, &lists[0], &lists[1], table, out)
+    send_changes(alloc, &lists[0], &lists[1], table, telling, out)
 }
 
 // Sends the greatest changes from one profile to another, as a table or as a line of JSON.
@@ -268,11 +278,12 @@ fn send_changes<W: Outlet>(
     before: &SourceList,
     after: &SourceList,
     table: TopTable,
+    telling: &Telling<'_>,
     out: &mut W,
 ) -> Result<(), Failure>
     requires before { total_weight before.now.samples < 2 ^ 64 }
     requires after { total_weight after.now.samples < 2 ^ 64 }
-    ensures sent { Sends (diff_text table before.now.samples after.now.samples)
+    ensures sent { Sends (diff_text (told_of telling.now) table before.now.samples after.now.samples)
         (W.contents out.old) (W.contents out.new) result }
     ensures flushed { Flushes (W.is_flushed out.new) (W.failures out.old) (W.failures out.new)
         result }
@@ -282,9 +293,24 @@ fn send_changes<W: Outlet>(
         before: before.total() as u64,
         after: after.total() as u64,
     };
+    // The same, for as long as the sums are lent.
+    let telling = Telling {
+        whole: telling.whole,
+        type_name: telling.type_name,
+        unit: telling.unit,
+    };
     if table.is_json {
-        send_text(alloc, &ChangeLine::of(&changes, table.rows, whole), out)
+        let line = ChangeLine::of(&changes, table.rows, whole, &telling);
+        send_text(alloc, &line, out)
     } else {
-        send_text(alloc, &ChangeTable::of(&changes, table.rows), out)
+        let table = Table::of_changes(
+            alloc,
+            &changes,
+            table.rows,
+            whole,
+            &telling,
+            table.is_exact,
+        )?;
+        send_text(alloc, &table, out)
     }
 }

@@ -1,6 +1,6 @@
 pub mod ChangePieces
 pub mod JsonLaws
-pub mod TableWidths
+pub mod TableLines
 pub mod TextPieces
 pub mod TopTexts
 mod WorkedTexts

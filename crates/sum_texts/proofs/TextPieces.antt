@@ -12,29 +12,21 @@ use Rattle.view_texts.specs.Json.{list_data}
 use Rattle.view_texts.proofs.JsonLists.{values_text, items_text-items_of}
 use Rattle.view_texts.proofs.TextPieces.{line_pieces-text, length-line_pieces}
 use Rattle.sum_texts.specs.FunctionJson.{function_data, functions_line}
-use Rattle.sum_texts.specs.Pieces.{table_pieces, functions_end, functions_tail, functions_pieces, view_member}
-use Rattle.sum_texts.specs.FunctionTable.{Entries, headings, entries_of, lines_of, table_line, table_text}
+use Rattle.sum_texts.specs.Columns.{Line, line_text, lines_text, widths}
+use Rattle.sum_texts.specs.Pieces.{table_pieces, functions_end, functions_tail, functions_pieces, unit_member, view_member}
+use Rattle.sum_texts.specs.Told.{Told}
 
 -- ---- the table
-
--- the line of a function
-abbrev pub row_line : List Entries → Option ℕ → ℕ → FunctionSum → List ℕ
-row_line lines all whole sum = table_line lines (entries_of all whole sum) sum.name
 
 pub lines-text : {Row : Type 0} (line : Row → List ℕ) (rows : List Row) → concat (map line rows) ≡ flat_map line rows
 lines-text line [] = refl
 lines-text line (row ∷ rows) = ap (λ text. line row ++ text) (lines-text line rows)
 
-pub table-text : (all : Option ℕ) (whole : ℕ) (sums : List FunctionSum) → concat (table_pieces all whole sums) ≡ table_text all whole sums
-unfolding table_text
-table-text all whole sums =
-    let lines = lines_of all whole sums in
-    ap (λ text. table_line lines (headings all) (codes "name") ++ text) (lines-text (row_line lines all whole) sums)
+pub table-text : (heading : List ℕ) (lines : List Line) → concat (table_pieces heading (widths lines) lines) ≡ heading ++ lines_text lines
+unfolding lines_text
+table-text heading lines = ap (λ text. heading ++ text) (lines-text (line_text (widths lines)) lines)
 
-pub length-table_pieces : (all : Option ℕ) (whole : ℕ) (sums : List FunctionSum) → length (table_pieces all whole sums) ≡ suc (length sums)
-length-table_pieces all whole sums = ap suc (length-map sums (row_line (lines_of all whole sums) all whole))
-
--- the piece of a row, after that of the headings
+-- the piece of a line, after what stands above them
 pub piece_of_row : {Row : Type 0} (first : List ℕ) (line : Row → List ℕ) (rows : List Row) (at place : ℕ) (row : Row) → at ≡ place + 1 → place < length rows → get_or (first ∷ map line rows) at [] ≡ line (get_or rows place row)
 piece_of_row first line rows at place row e within =
     ap (λ n. get_or (first ∷ map line rows) n []) (e ∙ suc_is place) ∙ get_or-map line rows place row [] within
@@ -42,10 +34,9 @@ piece_of_row first line rows at place row e within =
     suc_is : (n : ℕ) → n + 1 ≡ suc n
     suc_is n = omega arith
 
--- the piece of a function
-pub row_piece : (all : Option ℕ) (whole : ℕ) (sums : List FunctionSum) (at place : ℕ) (sum : FunctionSum) → at ≡ place + 1 → place < length sums
-    → get_or (table_pieces all whole sums) at [] ≡ row_line (lines_of all whole sums) all whole (get_or sums place sum)
-row_piece all whole sums = piece_of_row (table_line (lines_of all whole sums) (headings all) (codes "name")) (row_line (lines_of all whole sums) all whole) sums
+-- what stands above the lines is in two parts
+pub joined : (heading shown whole : List ℕ) (lines wanted : List Line) → heading ≡ shown ++ whole → lines ≡ wanted → heading ++ lines_text lines ≡ shown ++ (whole ++ lines_text wanted)
+joined heading shown whole lines wanted is are = (λ i. is i ++ lines_text (are i)) ∙ append_assoc shown whole (lines_text wanted)
 
 -- ---- the line of JSON
 
@@ -66,30 +57,36 @@ last-line side None = append_assoc (view_member side) (codes "}") (10 ∷ [])
 last-line side (Some all) =
     append_assoc (view_member side) (codes ",\"whole\":" ++ (decimal all ++ codes "}")) (10 ∷ []) ∙ ap (λ text. view_member side ++ text) (after_value (codes ",\"whole\":") (decimal all) (codes "}") (10 ∷ []))
 
-line-ends : (side : Option CallSide) (all : Option ℕ) (whole : ℕ) (values : List Data) → (codes "{\"functions\":" ++ (compact_text (list_data values) ++ (codes ",\"total\":" ++ (decimal whole ++ last_members side all)))) ++ 10 ∷ []
-    ≡ codes "{\"functions\":[" ++ (values_text false values ++ functions_tail side all whole)
-line-ends side all whole values =
-    after_value (codes "{\"functions\":") (compact_text (list_data values)) (codes ",\"total\":" ++ (decimal whole ++ last_members side all)) (10 ∷ [])
-    ∙ ap (λ text. codes "{\"functions\":" ++ (compact_text (list_data values) ++ text)) (after_value (codes ",\"total\":") (decimal whole) (last_members side all) (10 ∷ []))
-    ∙ ap (λ text. codes "{\"functions\":" ++ text) (bracketed values (codes ",\"total\":" ++ (decimal whole ++ (last_members side all ++ 10 ∷ []))))
-    ∙ ap (λ text. codes "{\"functions\":[" ++ (values_text false values ++ (codes "],\"total\":" ++ (decimal whole ++ text)))) (last-line side all)
+line-ends : (side : Option CallSide) (all : Option ℕ) (unit : List ℕ) (whole : ℕ) (values : List Data) → (codes "{\"functions\":" ++ (compact_text (list_data values) ++ (codes ",\"total\":" ++ (decimal whole ++ (codes ",\"unit\":" ++ (compact_text (string unit) ++ last_members side all)))))) ++ 10 ∷ []
+    ≡ codes "{\"functions\":[" ++ (values_text false values ++ (codes "],\"total\":" ++ (decimal whole ++ (unit_member unit ++ (view_member side ++ functions_end all)))))
+line-ends side all unit whole values =
+    let told = codes ",\"unit\":" ++ (compact_text (string unit) ++ last_members side all) in
+    let end = view_member side ++ functions_end all in
+    after_value (codes "{\"functions\":") (compact_text (list_data values)) (codes ",\"total\":" ++ (decimal whole ++ told)) (10 ∷ [])
+    ∙ ap (λ text. codes "{\"functions\":" ++ (compact_text (list_data values) ++ text)) (after_value (codes ",\"total\":") (decimal whole) told (10 ∷ []))
+    ∙ ap (λ text. codes "{\"functions\":" ++ (compact_text (list_data values) ++ (codes ",\"total\":" ++ (decimal whole ++ text))))
+    (after_value (codes ",\"unit\":") (compact_text (string unit)) (last_members side all) (10 ∷ []) ∙ ap (λ text. codes ",\"unit\":" ++ (compact_text (string unit) ++ text)) (last-line side all)
+    ∙ sym (append_assoc (codes ",\"unit\":") (compact_text (string unit)) end))
+    ∙ ap (λ text. codes "{\"functions\":" ++ text) (bracketed values (codes ",\"total\":" ++ (decimal whole ++ (unit_member unit ++ end))))
 
-line-parts : (side : Option CallSide) (all : Option ℕ) (whole : ℕ) (sums : List FunctionSum) → functions_line side all whole sums ≡ codes "{\"functions\":[" ++ (values_text false (map function_data sums) ++ functions_tail side all whole)
+line-parts : (side : Option CallSide) (all : Option ℕ) (type_name unit : List ℕ) (whole : ℕ) (sums : List FunctionSum)
+    → functions_line side (record { whole = all; type_name = type_name; unit = unit }) whole sums
+    ≡ codes "{\"functions\":[" ++ (values_text false (map function_data sums) ++ functions_tail side (record { whole = all; type_name = type_name; unit = unit }) whole)
 unfolding functions_line escape_byte
-line-parts None None whole sums = line-ends None None whole (map function_data sums)
-line-parts None (Some all) whole sums = line-ends None (Some all) whole (map function_data sums)
-line-parts (Some Callers) None whole sums = line-ends (Some Callers) None whole (map function_data sums)
-line-parts (Some Callers) (Some all) whole sums = line-ends (Some Callers) (Some all) whole (map function_data sums)
-line-parts (Some Callees) None whole sums = line-ends (Some Callees) None whole (map function_data sums)
-line-parts (Some Callees) (Some all) whole sums = line-ends (Some Callees) (Some all) whole (map function_data sums)
+line-parts None None type_name unit whole sums = line-ends None None unit whole (map function_data sums)
+line-parts None (Some all) type_name unit whole sums = line-ends None (Some all) unit whole (map function_data sums)
+line-parts (Some Callers) None type_name unit whole sums = line-ends (Some Callers) None unit whole (map function_data sums)
+line-parts (Some Callers) (Some all) type_name unit whole sums = line-ends (Some Callers) (Some all) unit whole (map function_data sums)
+line-parts (Some Callees) None type_name unit whole sums = line-ends (Some Callees) None unit whole (map function_data sums)
+line-parts (Some Callees) (Some all) type_name unit whole sums = line-ends (Some Callees) (Some all) unit whole (map function_data sums)
 
-pub functions-text : (side : Option CallSide) (all : Option ℕ) (whole : ℕ) (sums : List FunctionSum) → concat (functions_pieces side all whole sums) ≡ functions_line side all whole sums
-functions-text side all whole sums =
-    line_pieces-text (codes "{\"functions\":[") (functions_tail side all whole) (map function_data sums) ∙ sym (line-parts side all whole sums)
+pub functions-text : (side : Option CallSide) (told : Told) (whole : ℕ) (sums : List FunctionSum) → concat (functions_pieces side told whole sums) ≡ functions_line side told whole sums
+functions-text side told whole sums =
+    line_pieces-text (codes "{\"functions\":[") (functions_tail side told whole) (map function_data sums) ∙ sym (line-parts side told.whole told.type_name told.unit whole sums)
 
-pub length-functions_pieces : (side : Option CallSide) (all : Option ℕ) (whole : ℕ) (sums : List FunctionSum) → length (functions_pieces side all whole sums) ≡ length sums + 2
-length-functions_pieces side all whole sums =
-    length-line_pieces (codes "{\"functions\":[") (functions_tail side all whole) (map function_data sums) ∙ ap (λ n. n + 2) (length-map sums function_data)
+pub length-functions_pieces : (side : Option CallSide) (told : Told) (whole : ℕ) (sums : List FunctionSum) → length (functions_pieces side told whole sums) ≡ length sums + 2
+length-functions_pieces side told whole sums =
+    length-line_pieces (codes "{\"functions\":[") (functions_tail side told whole) (map function_data sums) ∙ ap (λ n. n + 2) (length-map sums function_data)
 
 -- ---- a function in JSON
 

@@ -15,15 +15,16 @@ change_data change =
     (member (codes "total_before") (whole_number change.total.before)
     no_members)))))
 
--- the functions, and the weight of the samples of each side
-abbrev pub changes_data : ℕ → ℕ → List FunctionChange → Data
-changes_data before after changes =
+-- the functions, the weight of the samples of each side, and the unit of all weights
+abbrev pub changes_data : List ℕ → ℕ → ℕ → List FunctionChange → Data
+changes_data unit before after changes =
     object
     (member (codes "functions") (list_data (map change_data changes))
     (member (codes "total_after") (whole_number after)
     (member (codes "total_before") (whole_number before)
+    (member (codes "unit") (string unit)
     (member (codes "view") (string (codes "diff"))
-    no_members))))
+    no_members)))))
 
-unfoldable pub changes_line : ℕ → ℕ → List FunctionChange → List ℕ
-changes_line before after changes = json_line (changes_data before after changes)
+unfoldable pub changes_line : List ℕ → ℕ → ℕ → List FunctionChange → List ℕ
+changes_line unit before after changes = json_line (changes_data unit before after changes)

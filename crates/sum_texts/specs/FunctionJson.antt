@@ -5,6 +5,7 @@ use Rattle.view_texts.specs.Json.{whole_number, list_data, json_line}
 use Rattle.function_sums.specs.declared.call_sides.CallSide.{CallSide}
 use Rattle.function_sums.specs.declared.call_sides.CallSide.TheVariants.{Callers, Callees}
 use Rattle.function_sums.specs.declared.sums.FunctionSum.{FunctionSum}
+use Rattle.sum_texts.specs.Told.{Told}
 
 -- a function with its weights
 abbrev pub function_data : FunctionSum → Data
@@ -26,14 +27,15 @@ view_word None = codes "top"
 view_word (Some Callers) = codes "callers"
 view_word (Some Callees) = codes "callees"
 
--- the functions, the weight of which their weights are parts, and that of all samples
-abbrev pub functions_data : Option CallSide → Option ℕ → ℕ → List FunctionSum → Data
-functions_data side all whole sums =
+-- the functions, the weight of which their weights are parts, their unit, and the weight of all samples
+abbrev pub functions_data : Option CallSide → Told → ℕ → List FunctionSum → Data
+functions_data side told whole sums =
     object
     (member (codes "functions") (list_data (map function_data sums))
     (member (codes "total") (whole_number whole)
+    (member (codes "unit") (string told.unit)
     (member (codes "view") (string (view_word side))
-    (whole_member all))))
+    (whole_member told.whole)))))
 
-unfoldable pub functions_line : Option CallSide → Option ℕ → ℕ → List FunctionSum → List ℕ
-functions_line side all whole sums = json_line (functions_data side all whole sums)
+unfoldable pub functions_line : Option CallSide → Told → ℕ → List FunctionSum → List ℕ
+functions_line side told whole sums = json_line (functions_data side told whole sums)

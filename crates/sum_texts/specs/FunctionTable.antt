@@ -1,66 +1,54 @@
--- The table of functions: a line of headings, and a line for each function.
-use Rattle.std.specs.Prelude.{ℕ, ◌-◌, max, List, [], ◌∷◌, ◌++◌, length, map, replicate, codes, decimal, Option, None, Some, option_map, unwrap_or}
-use Rattle.std.specs.List.{flat_map}
+-- The table of functions: what is shown, a line of headings, and a line for each function.
+use Rattle.std.specs.Prelude.{ℕ, ◌+◌, Bool, true, false, min, if◌then◌else◌, List, [], ◌∷◌, ◌++◌, length, codes, Option, None, Some, option_map}
+use Rattle.function_sums.specs.declared.call_sides.CallSide.{CallSide}
+use Rattle.function_sums.specs.declared.call_sides.CallSide.TheVariants.{Callers, Callees}
 use Rattle.function_sums.specs.declared.sums.FunctionSum.{FunctionSum}
 use Rattle.weight_texts.specs.Shares.{hundredths, percent_text}
+use Rattle.sum_texts.specs.Columns.{Line, lines_text}
+use Rattle.sum_texts.specs.Told.{Told, said, shown_of, whole_heading}
 
--- what a line has before the name; the last column is left out where it isn't known what all samples weigh
-pub record Entries : Type 0 where
-  pub own : List ℕ
-  pub own_percent : List ℕ
-  pub total : List ℕ
-  pub total_percent : List ℕ
-  pub whole_percent : Option (List ℕ)
+abbrev pub part_text : ℕ → ℕ → List ℕ
+part_text whole weight = percent_text (hundredths whole weight)
 
-abbrev pub headings : Option ℕ → Entries
-headings all = record {
-  own = codes "own";
-  own_percent = codes "own%";
-  total = codes "total";
-  total_percent = codes "total%";
-  whole_percent = option_map (λ _. codes "whole%") all;
+-- the third column is left out of a table of calls, and the last where it isn't known what all samples weigh
+abbrev pub headings : Bool → Option ℕ → Line
+headings is_running all = record {
+  entries = Some (codes "own") ∷ Some (codes "own%") ∷ (if is_running then Some (codes "sum%") else None)
+      ∷ Some (codes "total") ∷ Some (codes "total%") ∷ option_map (λ _. codes "whole%") all ∷ [];
+  name = codes "name";
 }
 
--- the weights of a function, what parts they are of the whole that is listed, and what part its total is of all samples
-abbrev pub entries_of : Option ℕ → ℕ → FunctionSum → Entries
-entries_of all whole sum = record {
-  own = decimal sum.own;
-  own_percent = percent_text (hundredths whole sum.own);
-  total = decimal sum.total;
-  total_percent = percent_text (hundredths whole sum.total);
-  whole_percent = option_map (λ weight. percent_text (hundredths weight sum.total)) all;
+-- the weights of a function, what parts they are of the whole that is listed, as are the own weights up to it, and what part its
+-- total is of all samples
+abbrev pub function_line : Bool → Told → ℕ → Option ℕ → FunctionSum → Line
+function_line is_exact told whole until sum = record {
+  entries = Some (said is_exact told.unit sum.own) ∷ Some (part_text whole sum.own) ∷ option_map (part_text whole) until
+      ∷ Some (said is_exact told.unit sum.total) ∷ Some (part_text whole sum.total) ∷ option_map (λ all. part_text all sum.total) told.whole ∷ [];
+  name = sum.name;
 }
 
--- the length of a column's longest entry
-abbrev pub widest : {Line : Type 0} → (Line → List ℕ) → List Line → ℕ
-widest column [] = 0
-widest column (line ∷ lines) = max (length (column line)) (widest column lines)
+-- the own weights up to a function, and no more than the whole
+abbrev pub up_to : ℕ → Option ℕ → FunctionSum → Option ℕ
+up_to whole before sum = option_map (λ weight. min (weight + sum.own) whole) before
 
--- an entry at the right of its column, and two spaces
-abbrev pub at_right : ℕ → List ℕ → List ℕ
-at_right width entry = replicate (width - length entry) 32 ++ (entry ++ 32 ∷ 32 ∷ [])
+-- a line for each function, behind functions of so much own weight
+abbrev pub function_lines : Bool → Told → ℕ → Option ℕ → List FunctionSum → List Line
+function_lines is_exact told whole before [] = []
+function_lines is_exact told whole before (sum ∷ sums) =
+    function_line is_exact told whole (up_to whole before sum) sum ∷ function_lines is_exact told whole (up_to whole before sum) sums
 
--- the same of a column that may be left out
-abbrev pub at_right_if : ℕ → Option (List ℕ) → List ℕ
-at_right_if width None = []
-at_right_if width (Some entry) = at_right width entry
+-- the table of some functions of so many
+unfoldable pub functions_table : Bool → Told → ℕ → ℕ → List FunctionSum → List ℕ
+functions_table is_exact told count whole sums =
+    shown_of (length sums) count (codes " functions") [] ++ (whole_heading is_exact told whole
+    ++ lines_text (headings true told.whole ∷ function_lines is_exact told whole (Some 0) sums))
 
--- a line of a table that has these lines
-abbrev pub table_line : List Entries → Entries → List ℕ → List ℕ
-table_line lines entries name =
-    at_right (widest (λ line. line.own) lines) entries.own
-    ++ (at_right (widest (λ line. line.own_percent) lines) entries.own_percent
-    ++ (at_right (widest (λ line. line.total) lines) entries.total
-    ++ (at_right (widest (λ line. line.total_percent) lines) entries.total_percent
-    ++ (at_right_if (widest (λ line. unwrap_or line.whole_percent []) lines) entries.whole_percent
-    ++ (name ++ 10 ∷ [])))))
+abbrev pub calls_word : CallSide → List ℕ
+calls_word Callers = codes " callers of "
+calls_word Callees = codes " callees of "
 
--- the lines of a table, without their names
-abbrev pub lines_of : Option ℕ → ℕ → List FunctionSum → List Entries
-lines_of all whole sums = headings all ∷ map (entries_of all whole) sums
-
--- the table, where `all` may say what all samples weigh, with those that a filter leaves out
-unfoldable pub table_text : Option ℕ → ℕ → List FunctionSum → List ℕ
-table_text all whole sums =
-    table_line (lines_of all whole sums) (headings all) (codes "name")
-    ++ flat_map (λ sum. table_line (lines_of all whole sums) (entries_of all whole sum) sum.name) sums
+-- the table of a function and some of its callers, or its callees, of so many
+unfoldable pub listed_table : Bool → Told → CallSide → ℕ → FunctionSum → List FunctionSum → List ℕ
+listed_table is_exact told side count function calls =
+    shown_of (length calls) count (calls_word side) function.name ++ (whole_heading is_exact told function.total
+    ++ lines_text (headings false told.whole ∷ function_lines is_exact told function.total None (function ∷ calls)))

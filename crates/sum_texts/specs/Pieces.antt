@@ -1,20 +1,20 @@
 -- The pieces of the texts, of which each text is made.
 use Rattle.std.specs.Prelude.{ℕ, List, ◌∷◌, ◌++◌, map, codes, decimal, Option, None, Some}
+use Rattle.serde_json.specs.Data.{string}
+use Rattle.serde_json.specs.Written.{compact_text}
 use Rattle.function_sums.specs.declared.call_sides.CallSide.{CallSide}
 use Rattle.function_sums.specs.declared.call_sides.CallSide.TheVariants.{Callers, Callees}
 use Rattle.function_sums.specs.declared.changes.FunctionChange.{FunctionChange}
 use Rattle.function_sums.specs.declared.sums.FunctionSum.{FunctionSum}
 use Rattle.view_texts.specs.Pieces.{line_pieces}
 use Rattle.sum_texts.specs.ChangeJson.{change_data}
-use Rattle.sum_texts.specs.ChangeTable.{function_line, heading_line}
+use Rattle.sum_texts.specs.Columns.{Line, line_text}
 use Rattle.sum_texts.specs.FunctionJson.{function_data}
-use Rattle.sum_texts.specs.FunctionTable.{headings, entries_of, lines_of, table_line}
+use Rattle.sum_texts.specs.Told.{Told}
 
--- the line of headings, and a line for each function
-abbrev pub table_pieces : Option ℕ → ℕ → List FunctionSum → List (List ℕ)
-table_pieces all whole sums =
-    table_line (lines_of all whole sums) (headings all) (codes "name")
-    ∷ map (λ sum. table_line (lines_of all whole sums) (entries_of all whole sum) sum.name) sums
+-- what stands above a table, and its lines in columns of these widths
+abbrev pub table_pieces : List ℕ → List ℕ → List Line → List (List ℕ)
+table_pieces heading widths lines = heading ∷ map (line_text widths) lines
 
 -- what stands after the functions in their line
 abbrev pub functions_end : Option ℕ → List ℕ
@@ -26,22 +26,23 @@ view_member None = codes ",\"view\":\"top\""
 view_member (Some Callers) = codes ",\"view\":\"callers\""
 view_member (Some Callees) = codes ",\"view\":\"callees\""
 
-abbrev pub functions_tail : Option CallSide → Option ℕ → ℕ → List ℕ
-functions_tail side all whole = codes "],\"total\":" ++ (decimal whole ++ (view_member side ++ functions_end all))
+abbrev pub unit_member : List ℕ → List ℕ
+unit_member unit = codes ",\"unit\":" ++ compact_text (string unit)
+
+abbrev pub functions_tail : Option CallSide → Told → ℕ → List ℕ
+functions_tail side told whole =
+    codes "],\"total\":" ++ (decimal whole ++ (unit_member told.unit ++ (view_member side ++ functions_end told.whole)))
 
 -- what stands before the functions, each function, and what stands after them
-abbrev pub functions_pieces : Option CallSide → Option ℕ → ℕ → List FunctionSum → List (List ℕ)
-functions_pieces side all whole sums =
-    line_pieces (codes "{\"functions\":[") (map function_data sums) (functions_tail side all whole)
+abbrev pub functions_pieces : Option CallSide → Told → ℕ → List FunctionSum → List (List ℕ)
+functions_pieces side told whole sums =
+    line_pieces (codes "{\"functions\":[") (map function_data sums) (functions_tail side told whole)
 
 -- the same of changes
-abbrev pub change_table_pieces : List FunctionChange → List (List ℕ)
-change_table_pieces changes = heading_line changes ∷ map (function_line changes) changes
+abbrev pub changes_tail : List ℕ → ℕ → ℕ → List ℕ
+changes_tail unit before after =
+    codes "],\"total_after\":" ++ (decimal after ++ (codes ",\"total_before\":" ++ (decimal before ++ (unit_member unit ++ codes ",\"view\":\"diff\"}\n"))))
 
-abbrev pub changes_tail : ℕ → ℕ → List ℕ
-changes_tail before after =
-    codes "],\"total_after\":" ++ (decimal after ++ (codes ",\"total_before\":" ++ (decimal before ++ codes ",\"view\":\"diff\"}\n")))
-
-abbrev pub changes_pieces : ℕ → ℕ → List FunctionChange → List (List ℕ)
-changes_pieces before after changes =
-    line_pieces (codes "{\"functions\":[") (map change_data changes) (changes_tail before after)
+abbrev pub changes_pieces : List ℕ → ℕ → ℕ → List FunctionChange → List (List ℕ)
+changes_pieces unit before after changes =
+    line_pieces (codes "{\"functions\":[") (map change_data changes) (changes_tail unit before after)

@@ -1,3 +1,2 @@
 -- Definitions that no public contract cites: not to be believed, but checked with the code that cites them.
-pub mod ChangeWidths
-pub mod Widths
+pub mod Entries

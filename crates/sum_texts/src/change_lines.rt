@@ -11,9 +11,11 @@ ghost use Rattle.run_options.specs.declared.orders.FunctionOrder.{FunctionOrder 
 ghost use Rattle.sum_texts.specs.ChangeJson.{change_data, changes_line};
 ghost use Rattle.sum_texts.specs.DiffTexts.{diff_line};
 ghost use Rattle.sum_texts.specs.Pieces.{changes_pieces, changes_tail};
+ghost use Rattle.sum_texts.specs.Told.{told_of};
 
 use crate::first_sums::first_changes;
 use crate::json_parts::{append_number, append_quoted, comma_if};
+use crate::telling::Telling;
 use byte_io::Pieces;
 use function_sums::{Change, FunctionChange};
 use std::alloc::{AllocError, Global};
@@ -22,6 +24,7 @@ use std::alloc::{AllocError, Global};
 /// them is a piece.
 #[derive(Clone, Copy)]
 pub struct ChangeLine<'a> {
+    unit: &'a str,
     whole: Change,
     changes: &'a [FunctionChange],
 }
@@ -29,22 +32,31 @@ pub struct ChangeLine<'a> {
 impl<'a> ChangeLine<'a> {
     /// The line of the first functions of a list, and of no more than so many. The whole is the weight of
     /// the samples of each side.
-    pub fn of(changes: &'a [FunctionChange], rows: u64, whole: Change) -> ChangeLine<'a>
+    pub fn of(
+        changes: &'a [FunctionChange],
+        rows: u64,
+        whole: Change,
+        telling: &Telling<'a>,
+    ) -> ChangeLine<'a>
         ensures text { concat (⟦<ChangeLine<'a> as Pieces>⟧.pieces result)
-            ≡ changes_line whole.before whole.after (take rows changes.now) }
+            ≡ changes_line (told_of telling.now).unit whole.before whole.after (take rows changes.now) }
         ensures diff { (by : Order) (before after : List Sample)
             → AreFunctionChanges by before after changes.now
             → total_weight before ≡ whole.before → total_weight after ≡ whole.after
-            → concat (⟦<ChangeLine<'a> as Pieces>⟧.pieces result) ≡ diff_line by rows before after }
+            → concat (⟦<ChangeLine<'a> as Pieces>⟧.pieces result) ≡ diff_line (told_of telling.now) by rows before after }
         ensures few { length (⟦<ChangeLine<'a> as Pieces>⟧.pieces result) < 2 ^ 64 }
     {
         let changes = first_changes(changes, rows);
-        ChangeLine { whole, changes }
+        ChangeLine {
+            unit: telling.unit,
+            whole,
+            changes,
+        }
     }
 }
 
 impl Pieces for ChangeLine<'_> {
-    ghost pieces = { λ line. changes_pieces line.whole.before line.whole.after line.changes.now };
+    ghost pieces = { λ line. changes_pieces line.unit.now line.whole.before line.whole.after line.changes.now };
 
     fn count(&self) -> usize {
         self.changes.len() + 2
@@ -57,7 +69,7 @@ impl Pieces for ChangeLine<'_> {
             let place = at - 1;
             append_function(alloc, out, place > 0, &self.changes[place])
         } else {
-            append_tail(out, self.whole)
+            append_tail(alloc, out, self.unit, self.whole)
         }
     }
 }
@@ -97,11 +109,18 @@ fn append_members(
 }
 
 // Appends what stands after the functions, or its front.
-fn append_tail(out: &mut Vec<u8>, whole: Change) -> Result<(), AllocError>
-    ensures ok { OnOk result (out.new.items ≡ out.old.items ++ changes_tail whole.before whole.after) }
+fn append_tail(
+    alloc: Global,
+    out: &mut Vec<u8>,
+    unit: &str,
+    whole: Change,
+) -> Result<(), AllocError>
+    ensures ok { OnOk result
+        (out.new.items ≡ out.old.items ++ changes_tail unit.now whole.before whole.after) }
     ensures front { StartsWith out.new.items out.old.items }
 {
     append_number(out, b"],\"total_after\":", whole.after)?;
     append_number(out, b",\"total_before\":", whole.before)?;
+    append_quoted(alloc, out, b",\"unit\":", unit)?;
     out.extend_from_slice(b",\"view\":\"diff\"}\n")
 }

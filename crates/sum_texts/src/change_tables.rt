@@ -1,86 +1,101 @@
 //! The table of changes.
 
-ghost use Rattle.std.specs.Prelude.{◌≡◌, ◌++◌, ◌<◌, ◌^◌, List, codes, length, take, OnOk};
-ghost use Rattle.std.specs.Io.{StartsWith};
+ghost use Rattle.std.specs.Prelude.{◌≡◌, ◌++◌, ◌<◌, ◌^◌, ◌∷◌, ℕ, Bool, List, length, map, take, IfOk, OnOk};
 ghost use Rattle.std.specs.List.{concat};
+ghost use Rattle.sample_tables.specs.Samples.{total_weight};
 ghost use Rattle.sample_tables.specs.declared.samples.Sample.{Sample};
 ghost use Rattle.function_sums.specs.FunctionChanges.{AreFunctionChanges};
 ghost use Rattle.run_options.specs.declared.orders.FunctionOrder.{FunctionOrder as Order};
-ghost use Rattle.sum_texts.specs.ChangeTable.{change_entries, changes_table, own_headings, total_headings};
+ghost use Rattle.sum_texts.specs.ChangeTable.{change_headings, change_line, changes_table};
 ghost use Rattle.sum_texts.specs.DiffTexts.{diff_table};
-ghost use Rattle.sum_texts.specs.Pieces.{change_table_pieces};
-ghost use Rattle.sum_texts.specs.checked.ChangeWidths.{columns_of, line_in};
+ghost use Rattle.sum_texts.specs.Told.{told_of};
+ghost use Rattle.sum_texts.specs.checked.Entries.{line_of};
 
-use crate::change_columns::{Columns, OWN, TOTAL};
+use crate::entries::Entry;
 use crate::first_sums::first_changes;
+use crate::headings::Shown;
+use crate::tables::{Line, Table};
+use crate::telling::Telling;
 use byte_io::Pieces;
-use function_sums::FunctionChange;
+use function_sums::{Change, FunctionChange};
 use std::alloc::{AllocError, Global};
 
-/// The table of changes: a line of headings, and a line for each function. A line is a piece.
-#[derive(Clone, Copy)]
-pub struct ChangeTable<'a> {
-    changes: &'a [FunctionChange],
-    columns: Columns,
-    ghost aligned: { columns ≡ columns_of changes.now },
-}
+// The headings of the columns.
+const HEADINGS: Line<'static> = Line {
+    entries: [
+        Some(Entry::Heading("own before")),
+        Some(Entry::Heading("after")),
+        Some(Entry::Heading("change")),
+        Some(Entry::Heading("total before")),
+        Some(Entry::Heading("after")),
+        Some(Entry::Heading("change")),
+    ],
+    name: "name",
+};
 
-impl<'a> ChangeTable<'a> {
-    /// The table of the first functions of a list, and of no more than so many.
-    pub fn of(changes: &'a [FunctionChange], rows: u64) -> ChangeTable<'a>
-        ensures text { concat (⟦<ChangeTable<'a> as Pieces>⟧.pieces result)
-            ≡ changes_table (take rows changes.now) }
+impl<'a> Table<'a> {
+    /// The table of the first functions of a list of changes, and of no more than so many. The whole is the
+    /// weight of the samples of each side.
+    pub fn of_changes(
+        alloc: Global,
+        changes: &'a [FunctionChange],
+        rows: u64,
+        whole: Change,
+        telling: &Telling<'a>,
+        is_exact: bool,
+    ) -> Result<Table<'a>, AllocError>
+        ensures text { IfOk result (λ table. concat (⟦<Table<'a> as Pieces>⟧.pieces table)
+            ≡ changes_table is_exact (told_of telling.now) (length changes.now) whole.before whole.after (take rows changes.now)) }
         ensures diff { (by : Order) (before after : List Sample)
             → AreFunctionChanges by before after changes.now
-            → concat (⟦<ChangeTable<'a> as Pieces>⟧.pieces result) ≡ diff_table by rows before after }
-        ensures few { length (⟦<ChangeTable<'a> as Pieces>⟧.pieces result) < 2 ^ 64 }
+            → total_weight before ≡ whole.before → total_weight after ≡ whole.after
+            → IfOk result (λ table. concat (⟦<Table<'a> as Pieces>⟧.pieces table)
+            ≡ diff_table is_exact (told_of telling.now) by rows before after) }
+        ensures few { IfOk result (λ table.
+            length (⟦<Table<'a> as Pieces>⟧.pieces table) < 2 ^ 64) }
     {
-        let changes = first_changes(changes, rows);
-        let columns = Columns::of(changes);
-        ChangeTable { changes, columns }
+        let first = first_changes(changes, rows);
+        let shown = Shown {
+            shown: first.len(),
+            count: changes.len(),
+            what: " functions",
+            name: "",
+        };
+        let heading = shown.of_sides(alloc, telling, is_exact, whole)?;
+        let lines = lines(alloc, first)?;
+        Table::of(alloc, telling, is_exact, heading, lines)
     }
 }
 
-impl Pieces for ChangeTable<'_> {
-    ghost pieces = { λ table. change_table_pieces table.changes.now };
-
-    fn count(&self) -> usize {
-        self.changes.len() + 1
-    }
-
-    fn append_piece(&self, _alloc: Global, at: usize, out: &mut Vec<u8>) -> Result<(), AllocError> {
-        if at == 0 {
-            append_headings(out, &self.columns)
-        } else {
-            append_row(out, &self.columns, &self.changes[at - 1])
-        }
-    }
-}
-
-// Appends the line of headings, or its front.
-fn append_headings(out: &mut Vec<u8>, columns: &Columns) -> Result<(), AllocError>
-    ensures ok { OnOk result (out.new.items
-        ≡ out.old.items ++ line_in columns.now own_headings total_headings (codes "name")) }
-    ensures front { StartsWith out.new.items out.old.items }
+// The line of headings, and a line for each function.
+fn lines<'a>(alloc: Global, changes: &'a [FunctionChange]) -> Result<Vec<Line<'a>>, AllocError>
+    ensures { IfOk result (λ lines. (is_exact : Bool) (unit : List ℕ)
+        → map (line_of is_exact unit) lines.items
+        ≡ change_headings ∷ map (change_line is_exact unit) changes.now) }
 {
-    columns.own.append_headings(out, OWN)?;
-    columns.total.append_headings(out, TOTAL)?;
-    out.extend_from_slice(b"name\n")
+    let mut lines = Vec::new(alloc);
+    lines.push(HEADINGS)?;
+    for change in changes {
+        lines.push(line(change))?;
+    }
+    Ok(lines)
 }
 
-// Appends the line of a function, or its front.
-fn append_row(
-    out: &mut Vec<u8>,
-    columns: &Columns,
-    change: &FunctionChange,
-) -> Result<(), AllocError>
-    ensures ok { OnOk result (out.new.items ≡ out.old.items ++ line_in columns.now
-        (change_entries change.now.own) (change_entries change.now.total) change.now.name) }
-    ensures front { StartsWith out.new.items out.old.items }
+// The line of a function.
+fn line<'a>(change: &'a FunctionChange) -> Line<'a>
+    ensures { (is_exact : Bool) (unit : List ℕ)
+        → line_of is_exact unit result ≡ change_line is_exact unit change.now }
 {
-    columns.own.append(out, change.own)?;
-    columns.total.append(out, change.total)?;
-    out.extend_from_slice(change.name.get().as_bytes())?;
-    out.push(b'\n')?;
-    Ok(())
+    let (own, total) = (change.own, change.total);
+    Line {
+        entries: [
+            Some(Entry::Weight(own.before)),
+            Some(Entry::Weight(own.after)),
+            Some(Entry::Change(own)),
+            Some(Entry::Weight(total.before)),
+            Some(Entry::Weight(total.after)),
+            Some(Entry::Change(total)),
+        ],
+        name: change.name.get(),
+    }
 }

@@ -14,6 +14,15 @@ pub(crate) fn first_sums(sums: &[FunctionSum], rows: u64) -> &[FunctionSum]
     &sums[..count]
 }
 
+// The one that stands first, and so many behind it.
+pub(crate) fn with_first(sums: &[FunctionSum], rows: u64) -> &[FunctionSum]
+    ensures first { result.now ≡ take (rows + 1) sums.now }
+    ensures few { length result.now + 2 < 2 ^ 64 }
+{
+    let count = sums.len().min((rows as usize).saturating_add(1));
+    &sums[..count]
+}
+
 // The same of changes.
 pub(crate) fn first_changes(changes: &[FunctionChange], rows: u64) -> &[FunctionChange]
     ensures first { result.now ≡ take rows changes.now }

@@ -7,22 +7,23 @@ ghost use Rattle.function_sums.specs.declared.changes.FunctionChange.{FunctionCh
 ghost use Rattle.function_sums.specs.declared.sums.FunctionSum.{FunctionSum};
 ghost use Rattle.sum_texts.specs.ChangeJson.{changes_data, changes_line};
 ghost use Rattle.sum_texts.specs.FunctionJson.{functions_data, functions_line};
+ghost use Rattle.sum_texts.specs.Told.{Told};
 
 pub use weight_texts::laws::percentages_are_rounded;
 
 /// The line of JSON is the text of one value, which reads back from it, and a line feed that is its
 /// only one. The keys of each object rise. It holds where the numbers have 64 bits.
 pub fn function_lines_read_back()
-    ensures { (side : Option CallSide) (all : Option ℕ) (whole : ℕ) (sums : List FunctionSum) → whole < 2 ^ 64
-        → IfSome all (λ weight. weight < 2 ^ 64)
+    ensures { (side : Option CallSide) (told : Told) (whole : ℕ) (sums : List FunctionSum) → whole < 2 ^ 64
+        → IfSome told.whole (λ weight. weight < 2 ^ 64)
         → All (λ sum. (sum.own < 2 ^ 64) × (sum.total < 2 ^ 64)) sums
-        → IsJsonLine (functions_line side all whole sums) (functions_data side all whole sums) }
+        → IsJsonLine (functions_line side told whole sums) (functions_data side told whole sums) }
 {}
 
 /// The same of the line of JSON of changes.
 pub fn change_lines_read_back()
-    ensures { (before after : ℕ) (changes : List FunctionChange) → before < 2 ^ 64 → after < 2 ^ 64
+    ensures { (unit : List ℕ) (before after : ℕ) (changes : List FunctionChange) → before < 2 ^ 64 → after < 2 ^ 64
         → All (λ change. (change.own.before < 2 ^ 64) × (change.own.after < 2 ^ 64)) changes
         → All (λ change. (change.total.before < 2 ^ 64) × (change.total.after < 2 ^ 64)) changes
-        → IsJsonLine (changes_line before after changes) (changes_data before after changes) }
+        → IsJsonLine (changes_line unit before after changes) (changes_data unit before after changes) }
 {}

@@ -1,18 +1,20 @@
 //! The texts of the weights by function, and of their changes: a table, and a line of JSON.
 #![tactic(auto)]
 
-mod change_columns;
 mod change_lines;
 mod change_tables;
 mod entries;
 mod first_sums;
+mod headings;
 mod json_parts;
 pub mod laws;
 mod sum_lines;
 mod sum_tables;
-mod widths;
+mod tables;
+mod telling;
 
 pub use change_lines::ChangeLine;
-pub use change_tables::ChangeTable;
 pub use sum_lines::{SumLine, append_sum_line};
-pub use sum_tables::{SumTable, append_sum_table};
+pub use sum_tables::append_sum_table;
+pub use tables::Table;
+pub use telling::Telling;

@@ -1,21 +1,24 @@
 //! The line of JSON of functions.
 
-ghost use Rattle.std.specs.Prelude.{◌≡◌, ◌++◌, ◌<◌, ◌^◌, ℕ, ◌∷◌, List, None, Some, length, take, OnOk, OnErr};
+ghost use Rattle.std.specs.Prelude.{◌≡◌, ◌++◌, ◌+◌, ◌<◌, ◌^◌, ℕ, ◌∷◌, List, None, Some, length, take, OnOk, OnErr};
 ghost use Rattle.std.specs.Io.{StartsWith};
 ghost use Rattle.std.specs.List.{concat};
 ghost use Rattle.serde_json.specs.Written.{comma_if, compact_text};
 ghost use Rattle.sample_tables.specs.Samples.{total_weight};
 ghost use Rattle.sample_tables.specs.declared.samples.Sample.{Sample};
-ghost use Rattle.function_sums.specs.FunctionSums.{AreFunctionSums};
+ghost use Rattle.function_sums.specs.FunctionSums.{AreFunctionSums, sums_of};
 ghost use Rattle.run_options.specs.declared.orders.FunctionOrder.{FunctionOrder as Order};
 ghost use Rattle.function_sums.specs.declared.sums.FunctionSum.{FunctionSum};
-ghost use Rattle.sum_texts.specs.CallTexts.{calls_line, first_calls};
+ghost use Rattle.function_sums.specs.Calls.{calls_of};
+ghost use Rattle.sum_texts.specs.CallTexts.{calls_line};
 ghost use Rattle.sum_texts.specs.FunctionJson.{function_data, functions_line};
 ghost use Rattle.sum_texts.specs.Pieces.{functions_end, functions_pieces, functions_tail, view_member};
+ghost use Rattle.sum_texts.specs.Told.{told_of};
 ghost use Rattle.sum_texts.specs.TopTexts.{top_line};
 
-use crate::first_sums::{first_sums, total_of_first};
+use crate::first_sums::{first_sums, total_of_first, with_first};
 use crate::json_parts::{append_number, append_quoted, comma_if};
+use crate::telling::Telling;
 use byte_io::{Pieces, append_pieces};
 use function_sums::{CallSide, FunctionSum};
 use std::alloc::{AllocError, Global};
@@ -25,61 +28,60 @@ use std::alloc::{AllocError, Global};
 #[derive(Clone, Copy)]
 pub struct SumLine<'a> {
     side: Option<CallSide>,
-    all: Option<u64>,
+    telling: Telling<'a>,
     whole: u64,
     sums: &'a [FunctionSum],
 }
 
 impl<'a> SumLine<'a> {
     /// The line of the first functions of a list, and of no more than so many. The whole is the weight
-    /// of the samples, and `all` what they weigh with those that a filter leaves out, where that is told.
-    pub fn of(sums: &'a [FunctionSum], rows: u64, whole: u64, all: Option<u64>) -> SumLine<'a>
+    /// of the samples.
+    pub fn of(sums: &'a [FunctionSum], rows: u64, whole: u64, telling: &Telling<'a>) -> SumLine<'a>
         ensures text { concat (⟦<SumLine<'a> as Pieces>⟧.pieces result)
-            ≡ functions_line None all whole (take rows sums.now) }
+            ≡ functions_line None (told_of telling.now) whole (take rows sums.now) }
         ensures top { (by : Order) (samples : List Sample) → AreFunctionSums by samples sums.now
             → total_weight samples ≡ whole
-            → concat (⟦<SumLine<'a> as Pieces>⟧.pieces result) ≡ top_line all by rows samples }
+            → concat (⟦<SumLine<'a> as Pieces>⟧.pieces result) ≡ top_line (told_of telling.now) by rows samples }
         ensures few { length (⟦<SumLine<'a> as Pieces>⟧.pieces result) < 2 ^ 64 }
     {
-        SumLine::listed(None, sums, rows, whole, all)
+        SumLine::listed(None, first_sums(sums, rows), whole, telling)
     }
 
-    /// The line of a function and the first of its callers or its callees, as `first_calls` lists them:
-    /// the function comes first, and its total is the whole.
-    pub fn of_calls(sums: &'a [FunctionSum], side: CallSide, all: Option<u64>) -> SumLine<'a>
+    /// The line of a function and the first of its callers or its callees, and of no more than so many,
+    /// where the list has the function first and all of them behind it. Its total is the whole.
+    pub fn of_calls(
+        sums: &'a [FunctionSum],
+        side: CallSide,
+        rows: u64,
+        telling: &Telling<'a>,
+    ) -> SumLine<'a>
         ensures text { (function : FunctionSum) (calls : List FunctionSum) → sums.now ≡ function ∷ calls
             → concat (⟦<SumLine<'a> as Pieces>⟧.pieces result)
-            ≡ functions_line (Some side) all function.total sums.now }
-        ensures calls { (name : List ℕ) (rows : ℕ) (samples : List Sample)
-            → sums.now ≡ first_calls side name rows samples
+            ≡ functions_line (Some side) (told_of telling.now) function.total (function ∷ take rows calls) }
+        ensures calls { (name : List ℕ) (samples : List Sample)
+            → sums.now ≡ sums_of samples name ∷ calls_of side name samples
             → concat (⟦<SumLine<'a> as Pieces>⟧.pieces result)
-            ≡ calls_line all side name rows samples }
+            ≡ calls_line (told_of telling.now) side name rows samples }
         ensures few { length (⟦<SumLine<'a> as Pieces>⟧.pieces result) < 2 ^ 64 }
     {
-        SumLine::listed(
-            Some(side),
-            sums,
-            sums.len() as u64,
-            total_of_first(sums),
-            all,
-        )
+        let shown = with_first(sums, rows);
+        SumLine::listed(Some(side), shown, total_of_first(sums), telling)
     }
 
     fn listed(
         side: Option<CallSide>,
         sums: &'a [FunctionSum],
-        rows: u64,
         whole: u64,
-        all: Option<u64>,
+        telling: &Telling<'a>,
     ) -> SumLine<'a>
+        requires { length sums.now + 2 < 2 ^ 64 }
         ensures text { concat (⟦<SumLine<'a> as Pieces>⟧.pieces result)
-            ≡ functions_line side all whole (take rows sums.now) }
+            ≡ functions_line side (told_of telling.now) whole sums.now }
         ensures few { length (⟦<SumLine<'a> as Pieces>⟧.pieces result) < 2 ^ 64 }
     {
-        let sums = first_sums(sums, rows);
         SumLine {
             side,
-            all,
+            telling: *telling,
             whole,
             sums,
         }
@@ -87,7 +89,7 @@ impl<'a> SumLine<'a> {
 }
 
 impl Pieces for SumLine<'_> {
-    ghost pieces = { λ line. functions_pieces line.side line.all line.whole line.sums.now };
+    ghost pieces = { λ line. functions_pieces line.side (told_of line.telling) line.whole line.sums.now };
 
     fn count(&self) -> usize {
         self.sums.len() + 2
@@ -100,7 +102,7 @@ impl Pieces for SumLine<'_> {
             let place = at - 1;
             append_function(alloc, out, place > 0, &self.sums[place])
         } else {
-            append_tail(out, self.side, self.all, self.whole)
+            append_tail(alloc, out, self.side, &self.telling, self.whole)
         }
     }
 }
@@ -113,16 +115,16 @@ pub fn append_sum_line(
     sums: &[FunctionSum],
     rows: u64,
     whole: u64,
-    all: Option<u64>,
+    telling: &Telling<'_>,
 ) -> Result<(), AllocError>
     ensures ok { OnOk result
-        (out.new.items ≡ out.old.items ++ functions_line None all whole (take rows sums.now)) }
+        (out.new.items ≡ out.old.items ++ functions_line None (told_of telling.now) whole (take rows sums.now)) }
     ensures top { OnOk result ((by : Order) (samples : List Sample)
         → AreFunctionSums by samples sums.now → total_weight samples ≡ whole
-        → out.new.items ≡ out.old.items ++ top_line all by rows samples) }
+        → out.new.items ≡ out.old.items ++ top_line (told_of telling.now) by rows samples) }
     ensures err { OnErr result (out.new.items ≡ out.old.items) }
 {
-    append_pieces(alloc, &SumLine::of(sums, rows, whole, all), out)
+    append_pieces(alloc, &SumLine::of(sums, rows, whole, telling), out)
 }
 
 // Appends a function, after a comma where another stands before it, or its front.
@@ -155,17 +157,20 @@ fn append_members(alloc: Global, out: &mut Vec<u8>, sum: &FunctionSum) -> Result
 
 // Appends what stands after the functions, or its front.
 fn append_tail(
+    alloc: Global,
     out: &mut Vec<u8>,
     side: Option<CallSide>,
-    all: Option<u64>,
+    telling: &Telling<'_>,
     whole: u64,
 ) -> Result<(), AllocError>
-    ensures ok { OnOk result (out.new.items ≡ out.old.items ++ functions_tail side all whole) }
+    ensures ok { OnOk result
+        (out.new.items ≡ out.old.items ++ functions_tail side (told_of telling.now) whole) }
     ensures front { StartsWith out.new.items out.old.items }
 {
     append_number(out, b"],\"total\":", whole)?;
+    append_quoted(alloc, out, b",\"unit\":", telling.unit)?;
     out.extend_from_slice(view_member(side))?;
-    append_end(out, all)
+    append_end(out, telling.whole)
 }
 
 // Which functions these are.

@@ -1,5 +1,5 @@
 -- The own weights of a chart's boxes add up to the weight of its samples: each sample ends in one box.
-use Rattle.std.proofs.Common.{◌≡◌, ℕ, zero, suc, ◌+◌, ◌-◌, ◌<◌, ◌≤◌, true, false, cond, eqb, zero-add, List, [], ◌∷◌, Some, length, map, refl, sym, ap, ◌∙◌, arith}
+use Rattle.std.proofs.Common.{◌≡◌, ℕ, zero, suc, ◌+◌, ◌-◌, ◌<◌, ◌≤◌, ◌^◌, true, false, cond, eqb, zero-add, List, [], ◌∷◌, Some, length, map, refl, sym, ap, ◌∙◌, arith}
 use Rattle.std.specs.List.{range_with_len, sum_by}
 use Rattle.std.proofs.lemmas.Bool.Decides.{nat_tests}
 use Rattle.std.proofs.lemmas.List.Sums.{sum_by-append, sum_by-cons}
@@ -8,7 +8,9 @@ use Rattle.sample_tables.specs.declared.samples.Sample.{Sample}
 use Rattle.merged_stacks.specs.Timeline.{Stack, drawn, total_weight}
 use Rattle.merged_stacks.proofs.Timelines.{total_weight-drawn}
 use Rattle.flame_layout.specs.declared.boxes.ComparedBox.{ComparedBox}
+use Rattle.flame_layout.specs.declared.boxes.DrawnPair.{DrawnPair}
 use Rattle.flame_layout.specs.declared.boxes.SpanBox.{SpanBox}
+use Rattle.flame_layout.specs.Boxes.{SeenBox, compared_of, paired_box, plain_box}
 use Rattle.flame_layout.specs.Chart.{names_shared, run_at, own_weight, box_at, boxes_from, boxes_after, chart_of}
 use Rattle.flame_layout.specs.Comparison.{compared_boxes_of}
 use Rattle.flame_layout.specs.Graph.{graph_of, sorted_by_stack}
@@ -125,3 +127,19 @@ graph-own samples = chart-own (sorted_by_stack (drawn samples)) ∙ (sorted-sum 
 
 pub comparison-own : (before after : List Sample) → sum_by (λ (compared : ComparedBox). compared.span.own) (compared_boxes_of before after) ≡ total_weight after
 comparison-own before after = sym (sum_by-map own (λ (compared : ComparedBox). compared.span) (compared_boxes_of before after)) ∙ (ap (sum_by own) (compared-spans before after) ∙ graph-own after)
+
+-- the own weights of a list of boxes have 64 bits where those of the boxes that it stands for do
+pub own_plain : (spans others : List SpanBox) (total : ℕ) → spans ≡ others → sum_by own others ≡ total → total < 2 ^ 64 → sum_by (λ (box : SeenBox). box.span.own) (map plain_box spans) < 2 ^ 64
+own_plain spans others total are adds fits = omega (arith, sum_by-map (λ (box : SeenBox). box.span.own) plain_box spans, ap (sum_by own) are, adds, fits)
+
+pub own_paired : (pairs : List DrawnPair) (boxes : List ComparedBox) (total : ℕ) → map compared_of pairs ≡ boxes → sum_by (λ (compared : ComparedBox). compared.span.own) boxes ≡ total → total < 2 ^ 64
+    → sum_by (λ (box : SeenBox). box.span.own) (map (λ pair. paired_box (compared_of pair)) pairs) < 2 ^ 64
+own_paired pairs boxes total are adds fits =
+    omega (
+      arith,
+      sum_by-map (λ (box : SeenBox). box.span.own) (λ pair. paired_box (compared_of pair)) pairs,
+      sum_by-map (λ (compared : ComparedBox). compared.span.own) compared_of pairs,
+      ap (sum_by (λ (compared : ComparedBox). compared.span.own)) are,
+      adds,
+      fits,
+    )

@@ -3,12 +3,13 @@ use Rattle.std.proofs.Common.{◌≡◌, ℕ, ◌+◌, ◌<◌, Bool, true, fals
 use Rattle.std.proofs.lemmas.List.{get_or-map, get_or_append_left, length-map}
 use Rattle.std.proofs.lemmas.List.Folds.{concat-append}
 use Rattle.std.specs.List.{concat, flat_map}
-use Rattle.svg_texts.specs.Svg.{Picture, SvgBox, is_drawn, drawn, box_line, heading, foot, svg_text}
+use Rattle.flame_layout.specs.Boxes.{SeenBox}
+use Rattle.svg_texts.specs.Svg.{Picture, is_drawn, drawn, box_line, heading, foot, svg_text}
 use Rattle.svg_texts.specs.checked.Pieces.{box_piece, svg_pieces, IsTally}
 use Rattle.svg_texts.specs.declared.frames.Tally.{Tally}
 
 -- the lines of the boxes that are drawn
-lines : (picture : Picture) (rows : ℕ) (boxes : List SvgBox) → concat (map (box_piece picture rows) boxes) ≡ flat_map (box_line picture rows) (drawn picture boxes)
+lines : (picture : Picture) (rows : ℕ) (boxes : List SeenBox) → concat (map (box_piece picture rows) boxes) ≡ flat_map (box_line picture rows) (drawn picture boxes)
 lines picture rows [] = refl
 lines picture rows (box ∷ boxes) = by (is_drawn picture box) (lines picture rows boxes)
   where
@@ -18,7 +19,7 @@ lines picture rows (box ∷ boxes) = by (is_drawn picture box) (lines picture ro
     by false later = later
 
 -- the text of a picture whose tally is known
-pub pieces_text : (picture : Picture) (tally : Tally) (boxes : List SvgBox) → IsTally picture boxes tally → concat (svg_pieces picture tally boxes) ≡ svg_text picture boxes
+pub pieces_text : (picture : Picture) (tally : Tally) (boxes : List SeenBox) → IsTally picture boxes tally → concat (svg_pieces picture tally boxes) ≡ svg_text picture boxes
 unfolding svg_text
 pieces_text picture tally boxes is =
     let pieces = map (box_piece picture tally.rows) boxes in
@@ -29,7 +30,7 @@ pieces_text picture tally boxes is =
     ∙ (λ i. heading picture (is.rows i) ++ (flat_map (box_line picture (is.rows i)) (drawn picture boxes) ++ foot picture (is.rows i) (is.left_boxes i) (is.left_weight i)))
 
 -- the piece of a box
-pub piece_of_box : (picture : Picture) (tally : Tally) (boxes : List SvgBox) (at place : ℕ) (one : SvgBox) → at ≡ place + 1 → place < length boxes → one ≡ get_or boxes place one
+pub piece_of_box : (picture : Picture) (tally : Tally) (boxes : List SeenBox) (at place : ℕ) (one : SeenBox) → at ≡ place + 1 → place < length boxes → one ≡ get_or boxes place one
     → get_or (svg_pieces picture tally boxes) at [] ≡ box_piece picture tally.rows one
 piece_of_box picture tally boxes at place one is there one_is =
     let piece = box_piece picture tally.rows in

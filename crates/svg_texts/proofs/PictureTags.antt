@@ -8,10 +8,11 @@ use Rattle.std.specs.Prelude.{codes, IsUtf8}
 use Rattle.std.specs.Str.{bytes_eq}
 use Rattle.weight_texts.specs.WeightTexts.{change_text}
 use Rattle.weight_texts.specs.Shares.{share_text}
+use Rattle.flame_layout.specs.Boxes.{SeenBox}
 use Rattle.svg_texts.specs.Fills.{root_fill, name_fill}
 use Rattle.svg_texts.specs.Labels.{room_on}
 use Rattle.svg_texts.specs.Shown.{shown}
-use Rattle.svg_texts.specs.Svg.{Picture, SvgBox, drawn, left_out, rows_of, height_of, left_of, right_of, top_of, is_drawn, weight_in, name_in_tip, weights_in_tip, tip, change_of, fill_with, fill_of, title_element, rect_element, text_tag, text_element, label_element, rectangle_of, written_on, box_line, svg_tag, paper_element, heading, narrower_boxes, told_left_out, own_weight, foot_text, foot, svg_text}
+use Rattle.svg_texts.specs.Svg.{Picture, drawn, left_out, rows_of, height_of, left_of, right_of, top_of, is_drawn, weight_in, name_in_tip, weights_in_tip, tip, change_of, fill_with, fill_of, title_element, rect_element, text_tag, text_element, label_element, rectangle_of, written_on, box_line, svg_tag, paper_element, heading, narrower_boxes, told_left_out, own_weight, foot_text, foot, svg_text}
 use Rattle.svg_texts.specs.SvgLaws.{is_inert, IsXmlText}
 use Rattle.svg_texts.specs.SvgTags.{tags, svg_tags, heading_tags, box_tags, label_tags, foot_tags, rectangles}
 use Rattle.svg_texts.proofs.Figures.{is_printed, is_inside, AreQuiet, quiet, quiet_inside, quiet-decimal, quiet-name, quiet-change}
@@ -21,7 +22,7 @@ use Rattle.svg_texts.proofs.Tags.{HasTags, is_closed, is_tag_rest, rest-more, ta
 -- ---- what is said
 
 -- that the text of a picture is read from names in UTF-8
-pub record AreNamed (picture : Picture) (boxes : List SvgBox) : Type 0 where
+pub record AreNamed (picture : Picture) (boxes : List SeenBox) : Type 0 where
   pub title : IsUtf8 picture.title
   pub unit : IsUtf8 picture.unit
   pub names : All (λ box. IsUtf8 box.span.name) boxes
@@ -40,7 +41,7 @@ said-weights picture weight (Some before) unit =
     (said-both (codes ", after ") _ (said-literal (codes ", after ") refl) (said-both (weight_in picture weight) _ (said-in picture weight unit)
     (said-both (codes ", ") (change_text before weight) (said-literal (codes ", ") refl) (said-change before weight)))))
 
-pub said-tip : {given : Type 0} (picture : Picture) (box : SvgBox) → (given → IsUtf8 picture.unit) → (given → IsUtf8 box.span.name) → IsSaid given (tip picture box)
+pub said-tip : {given : Type 0} (picture : Picture) (box : SeenBox) → (given → IsUtf8 picture.unit) → (given → IsUtf8 box.span.name) → IsSaid given (tip picture box)
 unfolding tip
 said-tip picture box unit name =
     let span = box.span in
@@ -49,7 +50,7 @@ said-tip picture box unit name =
     (said-both (share_text picture.total span.weight) _ (said-share picture.total span.weight)
     (said-both (codes ", own ") (weight_in picture span.own) (said-literal (codes ", own ") refl) (said-in picture span.own unit))))))
 
-pub said-written : {given : Type 0} (picture : Picture) (box : SvgBox) → (given → IsUtf8 box.span.name) → IsSaid given (written_on picture box)
+pub said-written : {given : Type 0} (picture : Picture) (box : SeenBox) → (given → IsUtf8 box.span.name) → IsSaid given (written_on picture box)
 said-written picture box name = said-label (room_on (right_of picture box - left_of picture box)) box.span.name (change_of box) name
 
 dot : {given : Type 0} → IsSaid given (32 ∷ 194 ∷ 183 ∷ 32 ∷ [])
@@ -130,7 +131,7 @@ text-tag left base = tag _ (part (codes "text x=\"") _ refl (number left _ (part
 text : {given : Type 0} (left base : ℕ) (shows : List ℕ) → IsSaid given shows → Marks given (text_element left base shows) (text_tag left base ∷ codes "</text>" ∷ [])
 text left base shows is = marks-both (text_tag left base) _ (text-tag left base) (marks-both shows (codes "</text>") (said shows is) (literal (codes "</text>") refl))
 
-quiet-fill : (box : SvgBox) → AreQuiet (fill_of box)
+quiet-fill : (box : SeenBox) → AreQuiet (fill_of box)
 quiet-fill box = by box.before
   where
     plain : (b : Bool) → AreQuiet (cond b root_fill (name_fill box.span.name))
@@ -164,7 +165,7 @@ label-element : {given : Type 0} (left base : ℕ) (shows : List ℕ) → IsSaid
 label-element left base [] is = literal [] refl
 label-element left base (byte ∷ rest) is = text left base (byte ∷ rest) is
 
-box-marks : {given : Type 0} (picture : Picture) (rows : ℕ) (box : SvgBox) → (given → IsUtf8 picture.unit) → (given → IsUtf8 box.span.name) → Marks given (box_line picture rows box) (box_tags picture rows box)
+box-marks : {given : Type 0} (picture : Picture) (rows : ℕ) (box : SeenBox) → (given → IsUtf8 picture.unit) → (given → IsUtf8 box.span.name) → Marks given (box_line picture rows box) (box_tags picture rows box)
 unfolding box_line
 box-marks picture rows box unit name =
     marks-both (codes "<g>") _ (literal (codes "<g>") refl) (marks-both (title_element (tip picture box)) _ (title (tip picture box) (said-tip picture box unit name))
@@ -172,11 +173,11 @@ box-marks picture rows box unit name =
     (marks-both (label_element (left_of picture box + 4) (top_of picture rows box + 13) (written_on picture box)) (codes "</g>\n")
     (label-element (left_of picture box + 4) (top_of picture rows box + 13) (written_on picture box) (said-written picture box name)) (literal (codes "</g>\n") refl))))
 
-boxes-marks : {given : Type 0} (picture : Picture) (rows : ℕ) (boxes : List SvgBox) → (given → IsUtf8 picture.unit) → (given → All (λ box. IsUtf8 box.span.name) boxes)
+boxes-marks : {given : Type 0} (picture : Picture) (rows : ℕ) (boxes : List SeenBox) → (given → IsUtf8 picture.unit) → (given → All (λ box. IsUtf8 box.span.name) boxes)
     → Marks given (flat_map (box_line picture rows) boxes) (flat_map (box_tags picture rows) boxes)
 boxes-marks picture rows [] unit names = literal [] refl
 boxes-marks {given = given} picture rows (box ∷ boxes) unit names =
-    let named : SvgBox → Type 0 = λ (each : SvgBox). IsUtf8 each.span.name in
+    let named : SeenBox → Type 0 = λ (each : SeenBox). IsUtf8 each.span.name in
     marks-both (box_line picture rows box) (flat_map (box_line picture rows) boxes) (box-marks picture rows box unit (λ all. All-head named box boxes (names all)))
     (boxes-marks picture rows boxes unit (λ all. All-tail named box boxes (names all)))
 
@@ -195,7 +196,7 @@ foot-marks picture rows count weight unit =
     marks-both (text_element 4 (height_of rows - 5) (foot_text picture count weight)) (codes "\n</svg>\n")
     (text 4 (height_of rows - 5) _ (said-foot picture count weight unit)) (literal (codes "\n</svg>\n") refl)
 
-svg-marks : (picture : Picture) (boxes : List SvgBox) → Marks (AreNamed picture boxes) (svg_text picture boxes) (svg_tags picture boxes)
+svg-marks : (picture : Picture) (boxes : List SeenBox) → Marks (AreNamed picture boxes) (svg_text picture boxes) (svg_tags picture boxes)
 unfolding svg_text
 svg-marks picture boxes =
     let rows = rows_of (drawn picture boxes) in
@@ -203,15 +204,15 @@ svg-marks picture boxes =
     let lines = flat_map (box_line picture rows) (drawn picture boxes) in
     let end = foot picture rows (length others) (own_weight others) in
     marks-both (heading picture rows) (lines ++ end) (heading-marks picture rows (λ named. named.title))
-    (marks-both lines end (boxes-marks picture rows (drawn picture boxes) (λ named. named.unit) (λ named. All-filter (is_drawn picture) (λ (box : SvgBox). IsUtf8 box.span.name) boxes named.names))
+    (marks-both lines end (boxes-marks picture rows (drawn picture boxes) (λ named. named.unit) (λ named. All-filter (is_drawn picture) (λ (box : SeenBox). IsUtf8 box.span.name) boxes named.names))
     (foot-marks picture rows (length others) (own_weight others) (λ named. named.unit)))
 
 -- ---- the laws
 
-pub text-tags : (picture : Picture) (boxes : List SvgBox) → tags (svg_text picture boxes) ≡ svg_tags picture boxes
+pub text-tags : (picture : Picture) (boxes : List SeenBox) → tags (svg_text picture boxes) ≡ svg_tags picture boxes
 text-tags picture boxes = (svg-marks picture boxes).tags.tags
 
-box-rectangle : (picture : Picture) (rows : ℕ) (box : SvgBox) → rectangles (box_tags picture rows box) ≡ rectangle_of picture rows box ∷ []
+box-rectangle : (picture : Picture) (rows : ℕ) (box : SeenBox) → rectangles (box_tags picture rows box) ≡ rectangle_of picture rows box ∷ []
 unfolding rect_element text_tag
 box-rectangle picture rows box = ap (λ others. rectangle_of picture rows box ∷ others) (by (written_on picture box))
   where
@@ -219,7 +220,7 @@ box-rectangle picture rows box = ap (λ others. rectangle_of picture rows box �
     by [] = refl
     by (byte ∷ rest) = refl
 
-box-rectangles : (picture : Picture) (rows : ℕ) (boxes : List SvgBox) → rectangles (flat_map (box_tags picture rows) boxes) ≡ map (rectangle_of picture rows) boxes
+box-rectangles : (picture : Picture) (rows : ℕ) (boxes : List SeenBox) → rectangles (flat_map (box_tags picture rows) boxes) ≡ map (rectangle_of picture rows) boxes
 box-rectangles picture rows [] = refl
 box-rectangles picture rows (box ∷ boxes) =
     filter-append (λ tag. bytes_eq (take 5 tag) (codes "<rect")) (box_tags picture rows box) (flat_map (box_tags picture rows) boxes)
@@ -233,7 +234,7 @@ heading-rectangles : (picture : Picture) (rows : ℕ) (more : List (List ℕ)) �
 unfolding svg_tag paper_element text_tag
 heading-rectangles picture rows more = refl
 
-pub text-rectangles : (picture : Picture) (boxes : List SvgBox)
+pub text-rectangles : (picture : Picture) (boxes : List SeenBox)
     → rectangles (tags (svg_text picture boxes)) ≡ paper_element picture.width (height_of (rows_of (drawn picture boxes))) ∷ map (rectangle_of picture (rows_of (drawn picture boxes))) (drawn picture boxes)
 text-rectangles picture boxes =
     let rows = rows_of (drawn picture boxes) in
@@ -242,15 +243,15 @@ text-rectangles picture boxes =
     ∙ ap (λ others. paper_element picture.width (height_of rows) ∷ others) (filter-append (λ tag. bytes_eq (take 5 tag) (codes "<rect")) lines (foot_tags rows)
     ∙ (ap₂ (λ s t. s ++ t) (box-rectangles picture rows (drawn picture boxes)) (foot-rectangles rows) ∙ append-nil _)))
 
-pub text-xml : (picture : Picture) (boxes : List SvgBox) → IsUtf8 picture.title → IsUtf8 picture.unit → All (λ box. IsUtf8 box.span.name) boxes → IsXmlText (svg_text picture boxes)
+pub text-xml : (picture : Picture) (boxes : List SeenBox) → IsUtf8 picture.title → IsUtf8 picture.unit → All (λ box. IsUtf8 box.span.name) boxes → IsXmlText (svg_text picture boxes)
 text-xml picture boxes title unit names =
     is_xml (svg_text picture boxes) ((svg-marks picture boxes).of_xml (record { title = title; unit = unit; names = names }))
 
 -- what is said has no markup, whatever the bytes of names are
-pub inert-tip : (picture : Picture) (box : SvgBox) → is_inert (tip picture box) ≡ true
+pub inert-tip : (picture : Picture) (box : SeenBox) → is_inert (tip picture box) ≡ true
 inert-tip picture box = (said-tip {given = ⊥} picture box (λ never. absurd never) (λ never. absurd never)).inert
 
-pub inert-written : (picture : Picture) (box : SvgBox) → is_inert (written_on picture box) ≡ true
+pub inert-written : (picture : Picture) (box : SeenBox) → is_inert (written_on picture box) ≡ true
 inert-written picture box = (said-written {given = ⊥} picture box (λ never. absurd never)).inert
 
 pub inert-foot : (picture : Picture) (count weight : ℕ) → is_inert (foot_text picture count weight) ≡ true

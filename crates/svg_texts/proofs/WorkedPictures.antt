@@ -6,17 +6,18 @@ use Rattle.std.specs.Str.{chars}
 use lib.Utf8.{encode}
 use Rattle.weight_texts.specs.Quotients.{quotient_text, decimals}
 use Rattle.weight_texts.specs.WeightTexts.{weight_text, change_text}
+use Rattle.flame_layout.specs.Boxes.{SeenBox}
 use Rattle.svg_texts.specs.Fills.{name_fill, change_fill}
 use Rattle.svg_texts.specs.Labels.{label}
 use Rattle.svg_texts.specs.Shown.{shown}
-use Rattle.svg_texts.specs.Svg.{SvgBox, svg_text, heading, foot, box_line, tip, svg_tag, paper_element, title_element, rect_element, text_tag}
+use Rattle.svg_texts.specs.Svg.{svg_text, heading, foot, box_line, tip, svg_tag, paper_element, title_element, rect_element, text_tag}
 
-abbrev box : ℕ → List ℕ → ℕ → ℕ → ℕ → Option ℕ → SvgBox
+abbrev box : ℕ → List ℕ → ℕ → ℕ → ℕ → Option ℕ → SeenBox
 box depth name start weight own before =
     record { span = record { depth = depth; name = name; start = start; weight = weight; own = own }; before = before }
 
 -- the flame graph of `main;parse 6`, `main;read<int> 3` and `main 1`
-abbrev graph-boxes : List SvgBox
+abbrev graph-boxes : List SeenBox
 graph-boxes =
     box 0 (codes "all") 0 10 0 None ∷ box 1 (codes "main") 0 10 1 None ∷ box 2 (codes "parse") 1 6 6 None ∷ box 2 (codes "read<int>") 7 3 3 None ∷ []
 
@@ -35,7 +36,7 @@ unfolding svg_text heading foot box_line tip label shown svg_tag paper_element t
 graph = refl
 
 -- that of `main;work 98`, `main;tiny 1` and `main 1`, with the root below: 1 of 100 has no pixel of its own
-abbrev root_below-boxes : List SvgBox
+abbrev root_below-boxes : List SeenBox
 root_below-boxes =
     box 0 (codes "all") 0 100 0 None ∷ box 1 (codes "main") 0 100 1 None ∷ box 2 (codes "tiny") 1 1 1 None ∷ box 2 (codes "work") 2 98 98 None ∷ []
 
@@ -53,7 +54,7 @@ unfolding svg_text heading foot box_line tip label shown svg_tag paper_element t
 root_below = refl
 
 -- a comparison: less than before, new, and as before
-abbrev comparison-boxes : List SvgBox
+abbrev comparison-boxes : List SeenBox
 comparison-boxes =
     box 0 (codes "all") 0 8 0 (Some 10) ∷ box 1 (codes "a") 0 3 3 (Some 8) ∷ box 1 (codes "b") 3 4 4 (Some 0) ∷ box 1 (codes "c") 7 1 1 (Some 1) ∷ []
 
@@ -72,7 +73,7 @@ unfolding svg_text heading foot box_line tip label shown svg_tag paper_element t
 comparison = refl
 
 -- an empty name, one with markup and a bell, wide letters that have room, and more than have
-abbrev hostile-boxes : List SvgBox
+abbrev hostile-boxes : List SeenBox
 hostile-boxes =
     box 0 (codes "all") 0 9 0 None ∷ box 1 [] 0 3 0 None ∷ box 2 (codes "a<b>&\"'" ++ 7 ∷ []) 0 3 3 None ∷ box 1 (encode_utf8_all (codes "日本語")) 3 3 3 None ∷ box 1 (encode_utf8_all (codes "日本語日本語")) 6 3 3 None ∷ []
 
@@ -92,7 +93,7 @@ unfolding svg_text heading foot box_line tip label shown svg_tag paper_element t
 hostile = refl
 
 -- no samples
-abbrev nothing-boxes : List SvgBox
+abbrev nothing-boxes : List SeenBox
 nothing-boxes =
     []
 

@@ -3,6 +3,7 @@ use Rattle.std.specs.Prelude.{ℕ, ◌+◌, ◌-◌, ◌*◌, max, Bool, ◌==�
 use Rattle.std.specs.List.{filter, flat_map}
 use Rattle.flame_layout.specs.declared.boxes.SpanBox.{SpanBox}
 use Rattle.flame_layout.specs.declared.boxes.ComparedBox.{ComparedBox}
+use Rattle.flame_layout.specs.Boxes.{SeenBox, paired_box, plain_box}
 use Rattle.flame_layout.specs.Edges.{left_edge, right_edge}
 use Rattle.weight_texts.specs.WeightTexts.{weight_text, change_text}
 use Rattle.weight_texts.specs.Shares.{share_text}
@@ -18,31 +19,26 @@ pub record Picture : Type 0 where
   pub width : ℕ
   pub root_below : Bool
 
--- a box, and in a comparison the weight of its path before
-pub record SvgBox : Type 0 where
-  pub span : SpanBox
-  pub before : Option ℕ
-
 -- ---- which boxes are drawn, and where
 
-abbrev pub left_of : Picture → SvgBox → ℕ
+abbrev pub left_of : Picture → SeenBox → ℕ
 left_of picture box = left_edge picture.total picture.width box.span
 
-abbrev pub right_of : Picture → SvgBox → ℕ
+abbrev pub right_of : Picture → SeenBox → ℕ
 right_of picture box = right_edge picture.total picture.width box.span
 
 -- the edges differ
-abbrev pub is_drawn : Picture → SvgBox → Bool
+abbrev pub is_drawn : Picture → SeenBox → Bool
 is_drawn picture box = not (left_of picture box == right_of picture box)
 
-abbrev pub drawn : Picture → List SvgBox → List SvgBox
+abbrev pub drawn : Picture → List SeenBox → List SeenBox
 drawn picture boxes = filter (is_drawn picture) boxes
 
-abbrev pub left_out : Picture → List SvgBox → List SvgBox
+abbrev pub left_out : Picture → List SeenBox → List SeenBox
 left_out picture boxes = filter (λ box. not (is_drawn picture box)) boxes
 
 -- how many rows some boxes take
-abbrev pub rows_of : List SvgBox → ℕ
+abbrev pub rows_of : List SeenBox → ℕ
 rows_of [] = 0
 rows_of (box ∷ rest) = max (box.span.depth + 1) (rows_of rest)
 
@@ -50,7 +46,7 @@ rows_of (box ∷ rest) = max (box.span.depth + 1) (rows_of rest)
 abbrev pub height_of : ℕ → ℕ
 height_of rows = 18 * (rows + 2)
 
-abbrev pub top_of : Picture → ℕ → SvgBox → ℕ
+abbrev pub top_of : Picture → ℕ → SeenBox → ℕ
 top_of picture rows box = if picture.root_below then 18 * (rows - box.span.depth) else 18 * (box.span.depth + 1)
 
 -- ---- what is said of a box
@@ -68,7 +64,7 @@ weights_in_tip picture weight (Some before) =
     codes "before " ++ (weight_in picture before ++ (codes ", after " ++ (weight_in picture weight ++ (codes ", " ++ change_text before weight))))
 
 -- what is shown of a box while it is pointed at
-unfoldable pub tip : Picture → SvgBox → List ℕ
+unfoldable pub tip : Picture → SeenBox → List ℕ
 tip picture box =
     name_in_tip box.span.name
     ++ (codes ": " ++ (weights_in_tip picture box.span.weight box.before
@@ -76,7 +72,7 @@ tip picture box =
     ++ (codes ", own " ++ weight_in picture box.span.own)))))
 
 -- its path's weights before and after, where it is one of a comparison
-abbrev pub change_of : SvgBox → Option (ℕ × ℕ)
+abbrev pub change_of : SeenBox → Option (ℕ × ℕ)
 change_of box = option_map (λ before. (before, box.span.weight)) box.before
 
 abbrev pub plain_fill : SpanBox → List ℕ
@@ -86,7 +82,7 @@ abbrev pub fill_with : SpanBox → Option ℕ → List ℕ
 fill_with span None = plain_fill span
 fill_with span (Some before) = change_fill before span.weight
 
-abbrev pub fill_of : SvgBox → List ℕ
+abbrev pub fill_of : SeenBox → List ℕ
 fill_of box = fill_with box.span box.before
 
 -- ---- the elements
@@ -110,15 +106,15 @@ abbrev pub label_element : ℕ → ℕ → List ℕ → List ℕ
 label_element left base [] = []
 label_element left base (byte ∷ rest) = text_element left base (byte ∷ rest)
 
-abbrev pub rectangle_of : Picture → ℕ → SvgBox → List ℕ
+abbrev pub rectangle_of : Picture → ℕ → SeenBox → List ℕ
 rectangle_of picture rows box = rect_element (left_of picture box) (top_of picture rows box) (right_of picture box - left_of picture box) (fill_of box)
 
 -- what stands on the rectangle
-abbrev pub written_on : Picture → SvgBox → List ℕ
+abbrev pub written_on : Picture → SeenBox → List ℕ
 written_on picture box = label (room_on (right_of picture box - left_of picture box)) box.span.name (change_of box)
 
 -- the line of a box
-unfoldable pub box_line : Picture → ℕ → SvgBox → List ℕ
+unfoldable pub box_line : Picture → ℕ → SeenBox → List ℕ
 box_line picture rows box =
     codes "<g>"
     ++ (title_element (tip picture box)
@@ -154,7 +150,7 @@ told_left_out picture count weight =
     else (32 ∷ 194 ∷ 183 ∷ 32 ∷ []) ++ (decimal count ++ (narrower_boxes count
     ++ (codes " left out, in which " ++ (weight_in picture weight ++ codes " ends"))))
 
-abbrev pub own_weight : List SvgBox → ℕ
+abbrev pub own_weight : List SeenBox → ℕ
 own_weight boxes = sum_by (λ box. box.span.own) boxes
 
 -- the total, and what is left out
@@ -164,7 +160,7 @@ foot_text picture count weight = codes "total " ++ (weight_in picture picture.to
 unfoldable pub foot : Picture → ℕ → ℕ → ℕ → List ℕ
 foot picture rows count weight = text_element 4 (height_of rows - 5) (foot_text picture count weight) ++ codes "\n</svg>\n"
 
-unfoldable pub svg_text : Picture → List SvgBox → List ℕ
+unfoldable pub svg_text : Picture → List SeenBox → List ℕ
 svg_text picture boxes =
     let rows = rows_of (drawn picture boxes) in
     let others = left_out picture boxes in
@@ -172,14 +168,8 @@ svg_text picture boxes =
 
 -- ---- the pictures of one profile and of a comparison
 
-abbrev pub plain_box : SpanBox → SvgBox
-plain_box span = record { span = span; before = None }
-
-abbrev pub compared_box : ComparedBox → SvgBox
-compared_box compared = record { span = compared.span; before = Some compared.before }
-
 abbrev pub plain_svg : Picture → List SpanBox → List ℕ
 plain_svg picture boxes = svg_text picture (map plain_box boxes)
 
 abbrev pub compared_svg : Picture → List ComparedBox → List ℕ
-compared_svg picture boxes = svg_text picture (map compared_box boxes)
+compared_svg picture boxes = svg_text picture (map paired_box boxes)

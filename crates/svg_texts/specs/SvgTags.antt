@@ -2,7 +2,8 @@
 use Rattle.std.specs.Prelude.{ℕ, ◌+◌, ◌-◌, ◌==◌, List, [], ◌∷◌, ◌++◌, take, codes, if◌then◌else◌}
 use Rattle.std.specs.List.{filter, flat_map}
 use Rattle.std.specs.Str.{bytes_eq}
-use Rattle.svg_texts.specs.Svg.{Picture, SvgBox, drawn, rows_of, height_of, left_of, top_of, rectangle_of, written_on, text_tag, svg_tag, paper_element}
+use Rattle.flame_layout.specs.Boxes.{SeenBox}
+use Rattle.svg_texts.specs.Svg.{Picture, drawn, rows_of, height_of, left_of, top_of, rectangle_of, written_on, text_tag, svg_tag, paper_element}
 
 -- ---- of a text
 
@@ -27,7 +28,7 @@ abbrev pub label_tags : ℕ → ℕ → List ℕ → List (List ℕ)
 label_tags left base [] = []
 label_tags left base (byte ∷ rest) = text_tag left base ∷ codes "</text>" ∷ []
 
-abbrev pub box_tags : Picture → ℕ → SvgBox → List (List ℕ)
+abbrev pub box_tags : Picture → ℕ → SeenBox → List (List ℕ)
 box_tags picture rows box =
     codes "<g>" ∷ codes "<title>" ∷ codes "</title>" ∷ rectangle_of picture rows box
     ∷ (label_tags (left_of picture box + 4) (top_of picture rows box + 13) (written_on picture box) ++ codes "</g>" ∷ [])
@@ -39,7 +40,7 @@ heading_tags picture rows =
 abbrev pub foot_tags : ℕ → List (List ℕ)
 foot_tags rows = text_tag 4 (height_of rows - 5) ∷ codes "</text>" ∷ codes "</svg>" ∷ []
 
-abbrev pub svg_tags : Picture → List SvgBox → List (List ℕ)
+abbrev pub svg_tags : Picture → List SeenBox → List (List ℕ)
 svg_tags picture boxes =
     let rows = rows_of (drawn picture boxes) in
     heading_tags picture rows ++ (flat_map (box_tags picture rows) (drawn picture boxes) ++ foot_tags rows)

@@ -3,11 +3,12 @@ ghost use Rattle.std.specs.Prelude.{◌≡◌, ℕ, ◌+◌, ◌∷◌, true, Al
 ghost use Rattle.std.specs.Str.{IsUtf8};
 ghost use Rattle.sample_tables.specs.declared.samples.Sample.{Sample};
 ghost use Rattle.merged_stacks.specs.Timeline.{total_weight};
+ghost use Rattle.flame_layout.specs.Boxes.{SeenBox};
 ghost use Rattle.flame_layout.specs.Chart.{chart_of};
 ghost use Rattle.flame_layout.specs.Comparison.{compared_boxes_of};
 ghost use Rattle.flame_layout.specs.Graph.{graph_of};
 ghost use Rattle.svg_texts.specs.Shown.{shown, xml_text};
-ghost use Rattle.svg_texts.specs.Svg.{Picture, SvgBox, drawn, foot_text, height_of, left_out, own_weight, paper_element, rectangle_of, rows_of, svg_text, tip, written_on};
+ghost use Rattle.svg_texts.specs.Svg.{Picture, drawn, foot_text, height_of, left_out, own_weight, paper_element, rectangle_of, rows_of, svg_text, tip, written_on};
 ghost use Rattle.svg_texts.specs.SvgLaws.{IsXmlText, is_inert};
 ghost use Rattle.svg_texts.specs.SvgTags.{rectangles, svg_tags, tags};
 
@@ -29,8 +30,8 @@ pub fn own_weights_add_up()
 pub fn names_are_no_markup()
     ensures texts { (characters : List ℕ) → is_inert (xml_text characters) ≡ true }
     ensures shown { (text : List ℕ) → is_inert (shown text) ≡ true }
-    ensures tips { (picture : Picture) (box : SvgBox) → is_inert (tip picture box) ≡ true }
-    ensures labels { (picture : Picture) (box : SvgBox) → is_inert (written_on picture box) ≡ true }
+    ensures tips { (picture : Picture) (box : SeenBox) → is_inert (tip picture box) ≡ true }
+    ensures labels { (picture : Picture) (box : SeenBox) → is_inert (written_on picture box) ≡ true }
     ensures feet { (picture : Picture) (count weight : ℕ)
         → is_inert (foot_text picture count weight) ≡ true }
 {}
@@ -38,9 +39,9 @@ pub fn names_are_no_markup()
 /// All tags of a picture are those that its definition writes out: of the heading, of each box that is drawn, in order,
 /// and of the foot. Its rectangles are the paper and then one for each box that is drawn, at its edges.
 pub fn tags_are_of_drawn_boxes()
-    ensures tags { (picture : Picture) (boxes : List SvgBox)
+    ensures tags { (picture : Picture) (boxes : List SeenBox)
         → tags (svg_text picture boxes) ≡ svg_tags picture boxes }
-    ensures rectangles { (picture : Picture) (boxes : List SvgBox)
+    ensures rectangles { (picture : Picture) (boxes : List SeenBox)
         → rectangles (tags (svg_text picture boxes))
         ≡ paper_element picture.width (height_of (rows_of (drawn picture boxes)))
         ∷ map (rectangle_of picture (rows_of (drawn picture boxes))) (drawn picture boxes) }
@@ -49,15 +50,15 @@ pub fn tags_are_of_drawn_boxes()
 /// Where the title, the unit and all names are UTF-8, as every `str` is, so is the picture, and each of its characters
 /// is one that XML 1.0 has, and is seen or ends a line.
 pub fn characters_are_of_xml()
-    ensures { (picture : Picture) (boxes : List SvgBox) → IsUtf8 picture.title → IsUtf8 picture.unit
+    ensures { (picture : Picture) (boxes : List SeenBox) → IsUtf8 picture.title → IsUtf8 picture.unit
         → All (λ box. IsUtf8 box.span.name) boxes → IsXmlText (svg_text picture boxes) }
 {}
 
 /// What is told to be left out is all that is not drawn: the boxes that are drawn and those that are left out are as
 /// many as all, and their own weights add up to those of all.
 pub fn others_are_left_out()
-    ensures counts { (picture : Picture) (boxes : List SvgBox)
+    ensures counts { (picture : Picture) (boxes : List SeenBox)
         → length (drawn picture boxes) + length (left_out picture boxes) ≡ length boxes }
-    ensures weights { (picture : Picture) (boxes : List SvgBox)
+    ensures weights { (picture : Picture) (boxes : List SeenBox)
         → own_weight (drawn picture boxes) + own_weight (left_out picture boxes) ≡ own_weight boxes }
 {}

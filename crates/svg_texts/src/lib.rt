@@ -7,7 +7,6 @@ mod frames;
 mod labels;
 pub mod laws;
 mod numbers;
-mod picture_boxes;
 mod pictures;
 mod said_weights;
 mod shown_texts;
@@ -16,6 +15,5 @@ mod svg_boxes;
 mod svg_frames;
 mod tallies;
 
-pub use picture_boxes::{PictureBox, PictureBoxes};
 pub use pictures::Picture;
-pub use svg::{Svg, chart_svg, comparison_svg, graph_svg};
+pub use svg::Svg;

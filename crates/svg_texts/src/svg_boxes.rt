@@ -1,9 +1,9 @@
 //! The line of a box.
 ghost use Rattle.std.specs.Prelude.{◌≡◌, ℕ, ◌+◌, ◌≤◌, ◌<◌, ◌^◌, ◌++◌, codes, Option, OnOk};
 ghost use Rattle.std.specs.Io.{StartsWith};
-ghost use Rattle.flame_layout.specs.Boxes.{span_of};
+ghost use Rattle.flame_layout.specs.Boxes.{seen_of, span_of};
 ghost use Rattle.svg_texts.specs.Labels.{label};
-ghost use Rattle.svg_texts.specs.Drawn.{picture_of, svg_box_of};
+ghost use Rattle.svg_texts.specs.Drawn.{picture_of};
 ghost use Rattle.svg_texts.specs.Svg.{box_line, change_of, fill_of, label_element, left_of, name_in_tip, plain_fill, rect_element, right_of, tip, title_element, top_of, weights_in_tip};
 ghost use Rattle.svg_texts.specs.checked.Pieces.{box_piece};
 
@@ -12,10 +12,9 @@ use crate::fills::{append_change_fill, append_name_fill, append_root_fill};
 use crate::frames::Frame;
 use crate::labels::{append_label, room_on};
 use crate::numbers::append_number;
-use crate::picture_boxes::PictureBox;
 use crate::said_weights::append_weight_in;
 use crate::shown_texts::append_shown;
-use flame_layout::{DrawnBox, edges};
+use flame_layout::{DrawnBox, PictureBox, edges};
 use std::alloc::AllocError;
 use weight_texts::{append_change, append_share};
 
@@ -28,7 +27,7 @@ pub(crate) fn append_box(
     requires within { one.now.drawn.start + one.now.drawn.weight ≤ frame.now.picture.now.total }
     requires positive { 0 < frame.now.picture.now.total }
     ensures ok { OnOk result (out.new.items ≡ out.old.items
-        ++ box_piece (picture_of frame.now.picture.now) frame.now.tally.rows (svg_box_of one.now)) }
+        ++ box_piece (picture_of frame.now.picture.now) frame.now.tally.rows (seen_of one.now)) }
     ensures front { StartsWith out.new.items out.old.items }
 {
     let (left, right) = edges(&one.drawn, frame.picture.total, frame.picture.width);
@@ -46,10 +45,10 @@ fn append_box_line(
     one: &PictureBox<'_>,
     frame: &Frame<'_>,
 ) -> Result<(), AllocError>
-    requires left { left ≡ left_of (picture_of frame.now.picture.now) (svg_box_of one.now) }
-    requires right { right ≡ right_of (picture_of frame.now.picture.now) (svg_box_of one.now) }
+    requires left { left ≡ left_of (picture_of frame.now.picture.now) (seen_of one.now) }
+    requires right { right ≡ right_of (picture_of frame.now.picture.now) (seen_of one.now) }
     ensures ok { OnOk result (out.new.items ≡ out.old.items
-        ++ box_line (picture_of frame.now.picture.now) frame.now.tally.rows (svg_box_of one.now)) }
+        ++ box_line (picture_of frame.now.picture.now) frame.now.tally.rows (seen_of one.now)) }
     ensures front { StartsWith out.new.items out.old.items }
 {
     let (left, width) = (u64::from(left), u64::from(right.saturating_sub(left)));
@@ -83,7 +82,7 @@ fn append_tip_element(
     frame: &Frame<'_>,
 ) -> Result<(), AllocError>
     ensures ok { OnOk result (out.new.items ≡ out.old.items
-        ++ title_element (tip (picture_of frame.now.picture.now) (svg_box_of one.now))) }
+        ++ title_element (tip (picture_of frame.now.picture.now) (seen_of one.now))) }
     ensures front { StartsWith out.new.items out.old.items }
 {
     out.extend_from_slice(b"<title>")?;
@@ -93,7 +92,7 @@ fn append_tip_element(
 
 fn append_tip(out: &mut Vec<u8>, one: &PictureBox<'_>, frame: &Frame<'_>) -> Result<(), AllocError>
     ensures ok { OnOk result (out.new.items ≡ out.old.items
-        ++ tip (picture_of frame.now.picture.now) (svg_box_of one.now)) }
+        ++ tip (picture_of frame.now.picture.now) (seen_of one.now)) }
     ensures front { StartsWith out.new.items out.old.items }
 {
     append_name_in_tip(out, one.drawn.name)?;
@@ -144,7 +143,7 @@ fn append_rect_element(
     one: &PictureBox<'_>,
 ) -> Result<(), AllocError>
     ensures ok { OnOk result (out.new.items ≡ out.old.items
-        ++ rect_element left top width (fill_of (svg_box_of one.now))) }
+        ++ rect_element left top width (fill_of (seen_of one.now))) }
     ensures front { StartsWith out.new.items out.old.items }
 {
     append_number(out, b"<rect x=\"", left)?;
@@ -156,7 +155,7 @@ fn append_rect_element(
 // Appends what stands behind the width of a box: its height and its colour.
 fn append_fill_attribute(out: &mut Vec<u8>, one: &PictureBox<'_>) -> Result<(), AllocError>
     ensures ok { OnOk result (out.new.items ≡ out.old.items
-        ++ (codes "\" height=\"17\" fill=\"" ++ (fill_of (svg_box_of one.now) ++ codes "\"/>"))) }
+        ++ (codes "\" height=\"17\" fill=\"" ++ (fill_of (seen_of one.now) ++ codes "\"/>"))) }
     ensures front { StartsWith out.new.items out.old.items }
 {
     out.extend_from_slice(b"\" height=\"17\" fill=\"")?;
@@ -165,7 +164,7 @@ fn append_fill_attribute(out: &mut Vec<u8>, one: &PictureBox<'_>) -> Result<(), 
 }
 
 fn append_fill(out: &mut Vec<u8>, one: &PictureBox<'_>) -> Result<(), AllocError>
-    ensures ok { OnOk result (out.new.items ≡ out.old.items ++ fill_of (svg_box_of one.now)) }
+    ensures ok { OnOk result (out.new.items ≡ out.old.items ++ fill_of (seen_of one.now)) }
     ensures front { StartsWith out.new.items out.old.items }
 {
     match one.before {
@@ -194,7 +193,7 @@ fn append_label_element(
     one: &PictureBox<'_>,
 ) -> Result<(), AllocError>
     ensures ok { OnOk result (out.new.items ≡ out.old.items
-        ++ label_element left base (label room one.now.drawn.name.now (change_of (svg_box_of one.now)))) }
+        ++ label_element left base (label room one.now.drawn.name.now (change_of (seen_of one.now)))) }
     ensures front { StartsWith out.new.items out.old.items }
 {
     let start = out.len();
@@ -210,7 +209,7 @@ fn append_label_element(
 
 // The weights of a box's path before and after, in a comparison.
 fn change_of(one: &PictureBox<'_>) -> Option<(u64, u64)>
-    ensures { result ≡ change_of (svg_box_of one.now) }
+    ensures { result ≡ change_of (seen_of one.now) }
 {
     let before = one.before?;
     Some((before, one.drawn.weight))

@@ -1,16 +1,16 @@
 //! What a picture draws of its boxes, and what it leaves out.
 ghost use Rattle.std.specs.Prelude.{◌≡◌, ℕ, ◌+◌, ◌<◌, ◌≤◌, ◌^◌, All, IsTrue, length};
-ghost use Rattle.svg_texts.specs.Drawn.{svg_box_of, picture_of};
+ghost use Rattle.flame_layout.specs.Boxes.{seen_of};
+ghost use Rattle.svg_texts.specs.Drawn.{picture_of};
 ghost use Rattle.svg_texts.specs.Svg.{is_drawn, own_weight};
 ghost use Rattle.svg_texts.specs.checked.Pieces.{IsTally};
 
 use crate::frames::Tally;
-use crate::picture_boxes::{PictureBox, PictureBoxes};
 use crate::pictures::Picture;
-use flame_layout::edges;
+use flame_layout::{FlameBoxes, PictureBox, edges};
 
 // The tally of some boxes.
-pub(crate) fn tally_of<L: PictureBoxes>(picture: &Picture<'_>, boxes: &L) -> Tally
+pub(crate) fn tally_of<L: FlameBoxes>(picture: &Picture<'_>, boxes: &L) -> Tally
     requires within { All (λ box. box.span.start + box.span.weight ≤ picture.now.total) (L.boxes boxes.now) }
     requires positive { 0 < length (L.boxes boxes.now) → 0 < picture.now.total }
     requires own { own_weight (L.boxes boxes.now) < 2 ^ 64 }
@@ -39,7 +39,7 @@ pub(crate) fn tally_of<L: PictureBoxes>(picture: &Picture<'_>, boxes: &L) -> Tal
 fn is_drawn(picture: &Picture<'_>, one: &PictureBox<'_>) -> bool
     requires within { one.now.drawn.start + one.now.drawn.weight ≤ picture.now.total }
     requires positive { 0 < picture.now.total }
-    ensures { result ≡ is_drawn (picture_of picture.now) (svg_box_of one.now) }
+    ensures { result ≡ is_drawn (picture_of picture.now) (seen_of one.now) }
 {
     let (left, right) = edges(&one.drawn, picture.total, picture.width);
     left != right

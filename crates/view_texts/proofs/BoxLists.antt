@@ -1,13 +1,22 @@
--- Boxes that end within a total.
-use Rattle.std.proofs.Common.{ℕ, ◌<◌, ◌≤◌, List, length, map, get_or, All, subst, arith}
-use Rattle.std.proofs.lemmas.List.{get_or-map, length-map}
-use Rattle.std.proofs.lemmas.List.Elements.{All-map}
+-- The values of lists of boxes.
+use Rattle.std.proofs.Common.{◌≡◌, ℕ, List, [], ◌∷◌, map, ap, refl, ◌∙◌}
+use Rattle.flame_layout.specs.Boxes.{SeenBox, paired_box, plain_box}
+use Rattle.flame_layout.specs.declared.boxes.ComparedBox.{ComparedBox}
+use Rattle.flame_layout.specs.declared.boxes.SpanBox.{SpanBox}
+use Rattle.view_texts.specs.Json.{box_data, compared_box_data}
+use Rattle.view_texts.specs.Lines.{seen_data}
 
--- all ends are within
-pub all_within : {B : Type 0} (end : B → ℕ) (boxes : List B) (total : ℕ) → All (λ box. end box ≤ total) boxes → All (λ n. n ≤ total) (map end boxes)
-all_within end boxes total h = All-map (λ (n : ℕ). n ≤ total) end boxes h
+module _ (total width : ℕ) where
+  plain : (spans : List SpanBox) → map (seen_data total width) (map plain_box spans) ≡ map (box_data total width) spans
+  plain [] = refl
+  plain (span ∷ spans) = ap (λ more. box_data total width span ∷ more) (plain spans)
 
--- so is that of each
-pub one_within : {B : Type 0} (end : B → ℕ) (boxes : List B) (total place : ℕ) (box : B) → All (λ n. n ≤ total) (map end boxes) → place < length boxes → end (get_or boxes place box) ≤ total
-one_within end boxes total place box h there =
-    subst (λ (n : ℕ). n ≤ total) (get_or-map end boxes place box (end box) there) (h place (end box) (omega (arith, there, length-map boxes end)))
+  pub plain_data : (boxes : List SeenBox) (spans : List SpanBox) → boxes ≡ map plain_box spans → map (seen_data total width) boxes ≡ map (box_data total width) spans
+  plain_data boxes spans are = ap (map (seen_data total width)) are ∙ plain spans
+
+  paired : (compared : List ComparedBox) → map (seen_data total width) (map paired_box compared) ≡ map (compared_box_data total width) compared
+  paired [] = refl
+  paired (one ∷ more) = ap (λ rest. compared_box_data total width one ∷ rest) (paired more)
+
+  pub paired_data : (boxes : List SeenBox) (compared : List ComparedBox) → boxes ≡ map paired_box compared → map (seen_data total width) boxes ≡ map (compared_box_data total width) compared
+  paired_data boxes compared are = ap (map (seen_data total width)) are ∙ paired compared

@@ -1,10 +1,20 @@
 -- A line of JSON by its kind, and its parts.
-use Rattle.std.specs.Prelude.{ℕ, true, List, [], ◌∷◌, ◌++◌, map, codes, decimal}
+use Rattle.std.specs.Prelude.{ℕ, true, List, [], ◌∷◌, ◌++◌, map, codes, decimal, Option, None, Some}
 use Rattle.serde_json.specs.Data.{Data, object, Members, member}
 use Rattle.serde_json.specs.Written.{compact_text, members_text}
-use Rattle.view_texts.specs.Json.{whole_number, list_data, view_members, json_line}
+use Rattle.flame_layout.specs.Boxes.{SeenBox}
+use Rattle.flame_layout.specs.declared.boxes.SpanBox.{SpanBox}
+use Rattle.view_texts.specs.Json.{whole_number, list_data, box_data, compared_box_data, view_members, json_line}
 use Rattle.view_texts.specs.declared.line_kinds.LineKind.{LineKind}
 use Rattle.view_texts.specs.declared.line_kinds.LineKind.TheVariants.{Picture, Snapshot, Comparison}
+
+abbrev pub data_with : ℕ → ℕ → SpanBox → Option ℕ → Data
+data_with total width span None = box_data total width span
+data_with total width span (Some before) = compared_box_data total width (record { span = span; before = before })
+
+-- the value of a box, in an image of the width whose boxes span the total
+abbrev pub seen_data : ℕ → ℕ → SeenBox → Data
+seen_data total width box = data_with total width box.span box.before
 
 -- what stands before the boxes
 abbrev pub head_of : LineKind → List ℕ

@@ -13,7 +13,7 @@ use crate::json_pieces::append_quoted;
 use crate::plain_texts::is_plain;
 use crate::put_pieces::{put_number, put_piece};
 use crate::scales::Scale;
-use flame_layout::{FlameBox, edges};
+use flame_layout::{DrawnBox, edges};
 use std::alloc::{AllocError, Global};
 
 // What a box has behind its own weight stays at the end of the bytes: where it ends in the image, where it
@@ -47,19 +47,19 @@ impl BoxBuffer {
 }
 
 // Makes the buffer ready for a box.
-pub(crate) fn turn_to<B: FlameBox>(buffer: &mut BoxBuffer, span: &B, scale: &Scale)
-    requires within { (B.span span.now).start + (B.span span.now).weight ≤ scale.now.total }
+pub(crate) fn turn_to(buffer: &mut BoxBuffer, drawn: &DrawnBox<'_>, scale: &Scale)
+    requires within { drawn.now.start + drawn.now.weight ≤ scale.now.total }
     requires positive { 0 < scale.now.total }
     requires ready { IsBoxBuffer scale.now.total scale.now.width buffer.old }
     ensures ready { IsBoxBuffer scale.now.total scale.now.width buffer.new }
-    ensures start { buffer.new.start ≡ (B.span span.now).start }
-    ensures weight { buffer.new.weight ≡ (B.span span.now).weight }
+    ensures start { buffer.new.start ≡ drawn.now.start }
+    ensures weight { buffer.new.weight ≡ drawn.now.weight }
 {
-    let (start, weight) = (span.start(), span.weight());
+    let (start, weight) = (drawn.start, drawn.weight);
     if start == buffer.start && weight == buffer.weight {
         return;
     }
-    let (left, right) = edges(span, scale.total, scale.width);
+    let (left, right) = edges(drawn, scale.total, scale.width);
     buffer.tail = put_edges(&mut buffer.bytes, 448, right, start, weight);
     buffer.left = left;
     buffer.start = start;
@@ -67,30 +67,30 @@ pub(crate) fn turn_to<B: FlameBox>(buffer: &mut BoxBuffer, span: &B, scale: &Sca
 }
 
 // Appends a byte and the members of the box that the buffer is ready for, and the bracket after them.
-pub(crate) fn append_ready<B: FlameBox>(
+pub(crate) fn append_ready(
     buffer: &mut BoxBuffer,
     alloc: Global,
     text: &mut Vec<u8>,
     opening: u8,
-    span: &B,
+    drawn: &DrawnBox<'_>,
 ) -> Result<(), AllocError>
     requires low { 359 ≤ buffer.old.tail }
     requires high { buffer.old.tail ≤ 448 }
     ensures ok { OnOk result (text.new.items ≡ text.old.items
-        ++ (before_name opening (B.span span.now).depth buffer.old.left
-        ++ (compact_text (string (B.span span.now).name)
-        ++ (own_text (B.span span.now).own ++ drop buffer.old.tail buffer.old.bytes)))) }
+        ++ (before_name opening drawn.now.depth buffer.old.left
+        ++ (compact_text (string drawn.now.name.now)
+        ++ (own_text drawn.now.own ++ drop buffer.old.tail buffer.old.bytes)))) }
     ensures front { StartsWith text.new.items text.old.items }
     ensures kept { drop buffer.old.tail buffer.new.bytes ≡ drop buffer.old.tail buffer.old.bytes }
     ensures same { buffer.new ≡ record buffer.old { bytes = buffer.new.bytes } }
 {
-    if is_short_and_plain(span.name()) {
-        let at = put_front(&mut buffer.bytes, buffer.tail, opening, span, buffer.left);
+    if is_short_and_plain(drawn.name) {
+        let at = put_front(&mut buffer.bytes, buffer.tail, opening, drawn, buffer.left);
         return text.extend_from_slice(&buffer.bytes[at..]);
     }
-    append_before_name(text, opening, span.depth(), buffer.left)?;
-    append_quoted(alloc, text, span.name())?;
-    let at = put_own(&mut buffer.bytes, buffer.tail, span.own());
+    append_before_name(text, opening, drawn.depth, buffer.left)?;
+    append_quoted(alloc, text, drawn.name)?;
+    let at = put_own(&mut buffer.bytes, buffer.tail, drawn.own);
     text.extend_from_slice(&buffer.bytes[at..])
 }
 
@@ -119,26 +119,26 @@ fn append_before_name(
 
 // Puts a byte and what stands before the edges of a box with a plain name of up to 256 bytes before what
 // stands from `tail` on, and answers where it begins.
-fn put_front<B: FlameBox>(
+fn put_front(
     bytes: &mut [u8; 448],
     tail: usize,
     opening: u8,
-    span: &B,
+    drawn: &DrawnBox<'_>,
     left: u32,
 ) -> usize
     requires low { 359 ≤ tail }
     requires high { tail ≤ 448 }
-    requires short { length (B.span span.now).name ≤ 256 }
-    requires plain { All IsPlainByte (B.span span.now).name }
-    ensures text { drop result bytes.new ≡ before_name opening (B.span span.now).depth left
-        ++ (compact_text (string (B.span span.now).name)
-        ++ (own_text (B.span span.now).own ++ drop tail bytes.old)) }
+    requires short { length drawn.now.name.now ≤ 256 }
+    requires plain { All IsPlainByte drawn.now.name.now }
+    ensures text { drop result bytes.new ≡ before_name opening drawn.now.depth left
+        ++ (compact_text (string drawn.now.name.now)
+        ++ (own_text drawn.now.own ++ drop tail bytes.old)) }
     ensures kept { drop tail bytes.new ≡ drop tail bytes.old }
     ensures within { result ≤ tail }
 {
-    let at = put_number(bytes, tail, b",\"own\":", span.own());
-    let at = put_quoted(bytes, at, span.name().as_bytes());
-    put_before_name(bytes, at, opening, span.depth(), left)
+    let at = put_number(bytes, tail, b",\"own\":", drawn.own);
+    let at = put_quoted(bytes, at, drawn.name.as_bytes());
+    put_before_name(bytes, at, opening, drawn.depth, left)
 }
 
 // Puts the own weight of a box before what stands from `tail` on, and answers where it begins.

@@ -3,19 +3,20 @@
 ghost use Rattle.std.specs.Prelude.{◌≡◌, ◌+◌, ◌<◌, ◌≤◌, ◌∷◌, ◌++◌, false, OnOk};
 ghost use Rattle.std.specs.Io.{StartsWith};
 ghost use Rattle.serde_json.specs.Written.{members_text};
+ghost use Rattle.flame_layout.specs.Boxes.{span_of};
 ghost use Rattle.flame_layout.specs.Edges.{placed_at};
 ghost use Rattle.view_texts.specs.Json.{box_members};
 
 use crate::box_buffers::{BoxBuffer, append_ready, turn_to};
 use crate::scales::Scale;
-use flame_layout::FlameBox;
+use flame_layout::DrawnBox;
 use std::alloc::{AllocError, Global};
 use std::marker::Model;
 
-/// Writes the boxes of an image. It keeps the text of the last box, of which the next one may have a part in
-/// common. Contracts see the scale of the image.
+// Writes the boxes of an image. It keeps the text of the last box, of which the next one may have a part in
+// common. Contracts see the scale of the image.
 #[derive(Drop)]
-pub struct BoxWriter {
+pub(crate) struct BoxWriter {
     scale: Scale,
     buffer: BoxBuffer,
 }
@@ -34,8 +35,8 @@ impl Model for BoxWriter {
 }
 
 impl BoxWriter {
-    /// A writer for the boxes of an image.
-    pub fn of(scale: Scale) -> BoxWriter
+    // A writer for the boxes of an image.
+    pub(crate) fn of(scale: Scale) -> BoxWriter
         ensures { result ≡ scale }
     {
         BoxWriter {
@@ -45,22 +46,22 @@ impl BoxWriter {
     }
 
     // Appends a byte, the members of a box, and the bracket after them.
-    pub(crate) fn append_members<B: FlameBox>(
+    pub(crate) fn append_members(
         &mut self,
         alloc: Global,
         text: &mut Vec<u8>,
         opening: u8,
-        span: &B,
+        drawn: &DrawnBox<'_>,
     ) -> Result<(), AllocError>
-        requires within { (B.span span.now).start + (B.span span.now).weight ≤ self.old.total }
+        requires within { drawn.now.start + drawn.now.weight ≤ self.old.total }
         requires positive { 0 < self.old.total }
         ensures ok { OnOk result (text.new.items ≡ text.old.items ++ opening ∷ members_text false
-            (box_members (placed_at self.old.total self.old.width (B.span span.now)))) }
+            (box_members (placed_at self.old.total self.old.width (span_of drawn.now)))) }
         ensures front { StartsWith text.new.items text.old.items }
         ensures scale { self.new ≡ self.old }
     {
         let scale = self.scale;
-        turn_to(&mut self.buffer, span, &scale);
-        append_ready(&mut self.buffer, alloc, text, opening, span)
+        turn_to(&mut self.buffer, drawn, &scale);
+        append_ready(&mut self.buffer, alloc, text, opening, drawn)
     }
 }

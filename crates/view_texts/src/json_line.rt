@@ -1,32 +1,33 @@
 //! A line of JSON, piece by piece.
 
-ghost use Rattle.std.specs.Prelude.{◌≡◌, ◌+◌, ◌<◌, ◌≤◌, ◌^◌, ◌++◌, [], false, All, length, slice_index_or, slice_range, OnOk};
+ghost use Rattle.std.specs.Prelude.{◌≡◌, ◌+◌, ◌<◌, ◌≤◌, ◌^◌, ◌++◌, [], false, All, length, map, slice_index_or, slice_range, OnOk};
 ghost use Rattle.std.specs.Io.{StartsWith};
 ghost use Rattle.std.specs.List.{concat};
-ghost use Rattle.view_texts.specs.Lines.{head_of, counts_of, tail_of, ending_of, line_text};
+ghost use Rattle.view_texts.specs.Lines.{head_of, counts_of, seen_data, tail_of, ending_of, line_text};
 ghost use Rattle.view_texts.specs.Pieces.{line_pieces, value_pieces};
 
-use crate::box_lists::JsonBoxes;
 use crate::box_writers::BoxWriter;
+use crate::json_boxes::append_box;
 use crate::json_pieces::{append_comma, append_number, append_numbers, append_text};
 use crate::line_kinds::LineKind;
 use crate::scales::Scale;
 use byte_io::Pieces;
+use flame_layout::FlameBoxes;
 use std::alloc::{AllocError, Global};
 
 /// A line of JSON with boxes. What stands before them, each box, and what stands after them is a piece.
 #[derive(Drop)]
-pub struct JsonLine<'a, L: JsonBoxes> {
+pub struct JsonLine<'a, L: FlameBoxes> {
     kind: LineKind,
     view: &'a str,
     counts: &'a [u64],
     boxes: L,
     scale: Scale,
-    ghost within: { All (λ end. end ≤ scale.total) (L.ends boxes) },
-    ghost positive: { 0 < L.count boxes → 0 < scale.total },
+    ghost within: { All (λ box. box.span.start + box.span.weight ≤ scale.total) (L.boxes boxes) },
+    ghost positive: { 0 < length (L.boxes boxes) → 0 < scale.total },
 }
 
-impl<'a, L: JsonBoxes> JsonLine<'a, L> {
+impl<'a, L: FlameBoxes> JsonLine<'a, L> {
     // The line of these boxes, in an image of that scale. Counts are those of a snapshot.
     pub(crate) fn of(
         kind: LineKind,
@@ -35,13 +36,13 @@ impl<'a, L: JsonBoxes> JsonLine<'a, L> {
         boxes: L,
         scale: Scale,
     ) -> JsonLine<'a, L>
-        requires within { All (λ end. end ≤ scale.total) (L.ends boxes) }
-        requires positive { 0 < L.count boxes → 0 < scale.total }
+        requires within { All (λ box. box.span.start + box.span.weight ≤ scale.total) (L.boxes boxes) }
+        requires positive { 0 < length (L.boxes boxes) → 0 < scale.total }
         ensures text { concat (⟦<JsonLine<'a, L> as Pieces>⟧.pieces result)
             ≡ line_text kind counts.now view.now scale.total scale.width
-            (L.objects scale.total scale.width boxes) }
+            (map (seen_data scale.total scale.width) (L.boxes boxes)) }
         ensures count { length (⟦<JsonLine<'a, L> as Pieces>⟧.pieces result)
-            ≡ L.count boxes + 2 }
+            ≡ length (L.boxes boxes) + 2 }
     {
         JsonLine {
             kind,
@@ -53,9 +54,9 @@ impl<'a, L: JsonBoxes> JsonLine<'a, L> {
     }
 }
 
-impl<L: JsonBoxes> Pieces for JsonLine<'_, L> {
+impl<L: FlameBoxes> Pieces for JsonLine<'_, L> {
     ghost pieces = { λ line. line_pieces (head_of line.kind)
-        (L.objects line.scale.total line.scale.width line.boxes)
+        (map (seen_data line.scale.total line.scale.width) (L.boxes line.boxes))
         (tail_of line.kind line.counts.now line.view.now line.scale.total line.scale.width) };
 
     fn count(&self) -> usize {
@@ -101,7 +102,7 @@ fn end_of_some(at: usize, last: usize) -> usize
 }
 
 // Appends the boxes from a place on, each after a comma where another stands before it.
-fn append_items<L: JsonBoxes>(
+fn append_items<L: FlameBoxes>(
     alloc: Global,
     out: &mut Vec<u8>,
     boxes: &L,
@@ -110,11 +111,11 @@ fn append_items<L: JsonBoxes>(
     scale: &Scale,
 ) -> Result<(), AllocError>
     requires from { from ≤ end }
-    requires end { end ≤ L.count boxes.now }
-    requires within { All (λ end. end ≤ scale.now.total) (L.ends boxes.now) }
+    requires end { end ≤ length (L.boxes boxes.now) }
+    requires within { All (λ box. box.span.start + box.span.weight ≤ scale.now.total) (L.boxes boxes.now) }
     requires positive { 0 < scale.now.total }
     ensures ok { OnOk result (out.new.items ≡ out.old.items ++ concat (slice_range
-        (value_pieces false (L.objects scale.now.total scale.now.width boxes.now)) from end)) }
+        (value_pieces false (map (seen_data scale.now.total scale.now.width) (L.boxes boxes.now))) from end)) }
     ensures front { StartsWith out.new.items out.old.items }
 {
     let mut writer = BoxWriter::of(*scale);
@@ -125,23 +126,23 @@ fn append_items<L: JsonBoxes>(
 }
 
 // Appends the box at a place, after a comma where another stands before it.
-fn append_item<L: JsonBoxes>(
+fn append_item<L: FlameBoxes>(
     alloc: Global,
     out: &mut Vec<u8>,
     boxes: &L,
     place: usize,
     writer: &mut BoxWriter,
 ) -> Result<(), AllocError>
-    requires there { place < L.count boxes.now }
-    requires within { All (λ end. end ≤ writer.old.total) (L.ends boxes.now) }
+    requires there { place < length (L.boxes boxes.now) }
+    requires within { All (λ box. box.span.start + box.span.weight ≤ writer.old.total) (L.boxes boxes.now) }
     requires positive { 0 < writer.old.total }
     ensures ok { OnOk result (out.new.items ≡ out.old.items ++ slice_index_or
-        (value_pieces false (L.objects writer.old.total writer.old.width boxes.now)) place []) }
+        (value_pieces false (map (seen_data writer.old.total writer.old.width) (L.boxes boxes.now))) place []) }
     ensures front { StartsWith out.new.items out.old.items }
     ensures scale { writer.new ≡ writer.old }
 {
     append_comma(out, place > 0)?;
-    boxes.append_box(alloc, out, place, writer)
+    append_box(alloc, out, &boxes.get(place), writer)
 }
 
 // Appends what stands before the boxes.

@@ -3,7 +3,6 @@
 #![tactic(auto)]
 
 mod box_buffers;
-mod box_lists;
 mod box_writers;
 mod json_boxes;
 mod json_line;
@@ -18,12 +17,9 @@ mod scales;
 mod stack_pairs;
 mod type_lines;
 
-pub use box_lists::JsonBoxes;
-pub use box_writers::BoxWriter;
 pub use byte_io::truncate_on_error;
-pub use json_boxes::JsonBox;
 pub use json_line::JsonLine;
-pub use json_lines::{drawn_chart_line, drawn_comparison_line, drawn_line, drawn_snapshot_line};
+pub use json_lines::{drawn_comparison_line, drawn_line, drawn_snapshot_line};
 pub use merged_lines::FoldedText;
 pub use scales::Scale;
 pub use stack_pairs::PairedText;

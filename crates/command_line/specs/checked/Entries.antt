@@ -48,6 +48,7 @@ pub record IsRead (name : Text) (entries : List Row) : Type 0 where
   pub boxes : IsFlagAt (codes "boxes") entries
   pub rows : IsNumberAt (codes "number") MOST_ROWS entries
   pub json : IsFlagAt (codes "json") entries
+  pub exact : IsFlagAt (codes "exact") entries
   pub quiet : IsFlagAt (codes "quiet") entries
   pub page : IsFlagAt (codes "page") entries
   pub svg : IsFlagAt (codes "svg") entries

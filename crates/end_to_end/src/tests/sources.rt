@@ -6,7 +6,7 @@ use merging::Gathered;
 use ring_collect::CollectFault;
 use run_options::{Filter, Format, Naming, Options, Pick, RingSize};
 use source_lists::{Gating, Input, Run, Source, read};
-use stack_core::{Names, NoSink, OpenGate, SourceList};
+use stack_core::{Names, NoSink, OpenGate, SourceList, Text};
 use std::alloc::{AllocError, Global};
 use std::sync::Wait;
 use std::test::Fail;
@@ -102,6 +102,37 @@ fn keeps_two_of_five<T: Threads + Wait + Copy + Send + 'static>(
 ) -> Result<bool, CollectFault> {
     let run = read_text(rt, alloc, b"a;b 2\nc 5\na;b 1\nd;a 4\nc;e 8\n", options)?;
     Ok(is_kept_of_a(&run))
+}
+
+fn has_two_from_b(list: &SourceList) -> bool {
+    list.len() == 2
+        && list.weight(0) == 2
+        && list.depth(0) == 1
+        && list.name(0, 0) == "b"
+        && list.weight(1) == 4
+        && list.depth(1) == 3
+        && list.name(1, 0) == "b"
+        && list.name(1, 2) == "b"
+}
+
+/// Whether the stacks of four samples, of which two have a frame `b`, begin there.
+fn begins_at_b<T: Threads + Wait + Copy + Send + 'static>(
+    rt: &T,
+    alloc: Global,
+    options: &Options,
+) -> Result<bool, CollectFault> {
+    let run = read_text(rt, alloc, b"a;b 2\nc 5\nd;b;c;b 4\na;bb 8\n", options)?;
+    let name = Some(Text::from_str(alloc, "b")?);
+    let cut = run.kept.beginning_at(alloc, &name)?;
+    let lists = cut.lists();
+    Ok(lists.len() == 1 && cut.order().len() == 2 && cut.total() == 6 && has_two_from_b(&lists[0]))
+}
+
+#[test]
+fn begins_at_a_name(rt: HostRuntime) -> Result<(), Fail> {
+    let filter = Filter::everything(rt.alloc());
+    let options = options_of(RingSize::of(8).unwrap(), filter);
+    holds(&rt, begins_at_b(&rt, rt.alloc(), &options))
 }
 
 #[test]

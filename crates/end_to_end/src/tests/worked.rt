@@ -59,6 +59,7 @@ pub(super) const COMPARISON_BOXES: &str = "{\"before\":4,\"boxes\":[\
 
 /// Their functions, by the change of their own weight.
 pub(super) const CHANGES: &str = "\
+Showing 3 of 3 functions, total 4 before, 3 after
 own before  after  change  total before  after  change  name
          3      1      -2             3      1      -2  a
          0      2      +2             0      2      +2  c
@@ -68,23 +69,24 @@ own before  after  change  total before  after  change  name
 /// The function of the greatest change of its total.
 pub(super) const GREATEST_CHANGE: &str = "{\"functions\":[\
     {\"name\":\"a\",\"own_after\":1,\"own_before\":3,\"total_after\":1,\"total_before\":3}],\
-    \"total_after\":3,\"total_before\":4,\"view\":\"diff\"}\n";
+    \"total_after\":3,\"total_before\":4,\"unit\":\"\",\"view\":\"diff\"}\n";
 
 /// A name that calls itself, one that stands twice, a stack without frames, and one without weight.
 pub(super) const CALLS: &[u8] = b"main;f;g 3\nmain;f;f 2\nmain 1\nmain;h 2\nz 0\n 4\nf;g;f;g 1\n";
 
 /// Its functions, by their own weight.
-pub(super) const FUNCTIONS: &str = "own    own%  total  total%  name
-  4  30.77%      4  30.77%  g
-  2  15.38%      6  46.15%  f
-  2  15.38%      2  15.38%  h
-  1   7.69%      8  61.54%  main
+pub(super) const FUNCTIONS: &str = "Showing 4 of 4 functions, total 13
+own    own%    sum%  total  total%  name
+  4  30.77%  30.77%      4  30.77%  g
+  2  15.38%  46.15%      6  46.15%  f
+  2  15.38%  61.54%      2  15.38%  h
+  1   7.69%  69.23%      8  61.54%  main
 ";
 
 /// Its two functions with the greatest totals.
 pub(super) const GREATEST_TOTALS: &str = "{\"functions\":[\
     {\"name\":\"main\",\"own\":1,\"total\":8},\
-    {\"name\":\"f\",\"own\":2,\"total\":6}],\"total\":13,\"view\":\"top\"}\n";
+    {\"name\":\"f\",\"own\":2,\"total\":6}],\"total\":13,\"unit\":\"\",\"view\":\"top\"}\n";
 
 /// Five samples of one source.
 pub(super) const FIVE_LINES: &[u8] = b"a 1\na;b 1\nc 2\na 1\nd 1\n";

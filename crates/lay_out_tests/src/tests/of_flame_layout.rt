@@ -11,7 +11,7 @@ pub(super) mod trees;
 
 use super::sources::Lines;
 use super::told::{OfChart, Telling, Told, are_told};
-use flame_layout::{FlameBox, PlacedBox, Width, chart_boxes, place};
+use flame_layout::{DrawnBox, FlameBoxes, PlacedBox, Width, chart_boxes, place};
 use merged_stacks::total_weight;
 use stack_core::SourceList;
 use std::alloc::{AllocError, Global};
@@ -31,25 +31,18 @@ fn append_fields(
 }
 
 /// The same of a box that is not placed.
-fn append_span<B: FlameBox>(text: &mut String, one: &B) -> Result<(), AllocError> {
-    append_fields(
-        text,
-        one.depth(),
-        one.name(),
-        one.start(),
-        one.weight(),
-        one.own(),
-    )
+fn append_span(text: &mut String, one: &DrawnBox<'_>) -> Result<(), AllocError> {
+    append_fields(text, one.depth, one.name, one.start, one.weight, one.own)
 }
 
-fn append_box<B: FlameBox>(text: &mut String, one: &B) -> Result<(), AllocError> {
+fn append_box(text: &mut String, one: &DrawnBox<'_>) -> Result<(), AllocError> {
     append_span(text, one)?;
     text.push_str(")")
 }
 
-fn append_boxes<B: FlameBox>(text: &mut String, boxes: &[B]) -> Result<(), AllocError> {
-    for one in boxes {
-        append_box(text, one)?;
+fn append_boxes<L: FlameBoxes>(text: &mut String, boxes: &L) -> Result<(), AllocError> {
+    for place in 0..boxes.count() {
+        append_box(text, &boxes.get(place).drawn)?;
     }
     Ok(())
 }
@@ -91,7 +84,7 @@ pub(super) fn append_chart(
     requires { total_weight (timeline (samples_of lists.now)) < 2 ^ 64 }
 {
     let boxes = chart_boxes(alloc, lists)?;
-    append_boxes(text, &boxes)
+    append_boxes(text, &boxes.as_slice())
 }
 
 pub(super) fn append_placed_chart(

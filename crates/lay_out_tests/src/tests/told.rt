@@ -2,7 +2,7 @@
 
 use super::of_flame_layout::charts::append_compact_chart;
 use super::of_flame_layout::comparisons::{append_compared_boxes, append_rows};
-use super::of_flame_layout::drawn::{append_drawn_chart, append_drawn_edges, append_drawn_graph};
+use super::of_flame_layout::drawn::{append_drawn_edges, append_drawn_graph};
 use super::of_flame_layout::merged::append_graph;
 use super::of_flame_layout::trees::append_placed_graph;
 use super::of_flame_layout::{append_chart, append_placed_chart, pixels};
@@ -30,8 +30,6 @@ pub enum OfChart {
     Boxes,
     /// The same, in an image of this width.
     Placed(u32),
-    /// The boxes, with names that the lists lend.
-    Drawn,
     /// The same boxes, kept in little memory.
     Compact,
 }
@@ -69,7 +67,6 @@ fn append_of_chart(
         OfChart::Placed(width) => {
             append_placed_chart(rt.alloc(), text, lists, pixels(rt, *width))
         }
-        OfChart::Drawn => append_drawn_chart(rt.alloc(), text, lists),
         OfChart::Compact => append_compact_chart(rt.alloc(), text, lists),
     }
 }

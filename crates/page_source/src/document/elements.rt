@@ -29,11 +29,12 @@ pub(crate) const TEXT: &str = r##"</style>
 <button type="button" id="callers" title="What calls the focused function, and what it calls (c)">Callers</button>
 <label><input type="checkbox" id="below"> Root below</label>
 <label id="heavy-label" title="The heaviest of what a function calls stands first" hidden><input type="checkbox" id="heavy"> Left heavy</label>
+<label id="beside-label" title="Each source from 0 on, in rows of its own" hidden><input type="checkbox" id="beside"> Side by side</label>
+<label id="packages-label" title="What has the same name before the last separator has the same hue" hidden><input type="checkbox" id="packages"> Colours by package</label>
 <label><input type="checkbox" id="listed" checked> Lists</label>
 <label id="snapshot-label" hidden>Snapshot <input type="range" id="snapshot" min="0" step="1"></label>
 <label id="before-label" hidden><input type="checkbox" id="before"> Show before</label>
 <label id="share-label" title="Compare shares of each profile, and not weights" hidden><input type="checkbox" id="share"> Shares</label>
-<output id="drawing-name"></output>
 <span class="group">
 <button type="button" id="save-svg">Save SVG</button>
 <button type="button" id="save-png">Save PNG</button>
@@ -51,6 +52,7 @@ pub(crate) const TEXT: &str = r##"</style>
 <dt>/</dt><dd>search; then Enter and Shift+Enter for the next and the previous match</dd>
 </dl>
 </details>
+<output id="drawing-name"></output>
 </div>
 <main hidden>
 <section id="stage" aria-label="Picture">

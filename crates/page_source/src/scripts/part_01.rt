@@ -1,7 +1,23 @@
-//! What `page/join` takes of page/rows.js, drawing.js, heaviest.js, callers.js.
-//! `checks/page_source --write` makes this file.
+//! What `page/join` takes of page/bisect.js, rows.js, drawing.js, spans.js, sums.js, beside.js,
+//! heaviest.js, callers.js, names.js. `checks/page_source --write` makes this file.
 
-pub(crate) const TEXT: &str = r##"const ROW_HEIGHT = 18;
+pub(crate) const TEXT: &str = r##"function firstPlace(low, high, holds) {
+while (low < high) {
+const middle = (low + high) >>> 1;
+if (holds(middle)) high = middle;
+else low = middle + 1;
+}
+return low;
+}
+function nextPlace(low, high, holds) {
+let step = 1;
+while (low + step < high && !holds(low + step)) {
+low += step;
+step *= 2;
+}
+return firstPlace(low, Math.min(low + step, high), holds);
+}
+const ROW_HEIGHT = 18;
 function rowsOf(depths, rowCount, boxes) {
 const first = new Int32Array(rowCount + 1);
 for (const box of boxes) first[depths[box] + 1]++;
@@ -44,7 +60,7 @@ return { ...about, ...columns, count: depth.length, rowCount, rows, ...nestingOf
 function drawingOf(columns, number) {
 const { at, counts, total, least, left_out: leftOut } = columns;
 const depth = new Int32Array(columns.depth);
-return drawingWith({ number, centre: -1, callees: 1, at, counts, total, least, leftOut }, {
+return drawingWith({ number, centre: -1, callees: 1, bands: [], at, counts, total, length: total, least, leftOut }, {
 depth,
 row: depth,
 name: new Int32Array(columns.name),
@@ -60,6 +76,24 @@ return drawing.depth[box] === 0 && drawing.centre < 0;
 function isCaller(drawing, box) {
 return box > 0 && box < drawing.callees;
 }
+function isBeside(drawing) {
+return drawing.bands.length > 0;
+}
+function bandOf({ bands }, row) {
+return bands[firstPlace(0, bands.length, (each) => bands[each].row > row) - 1];
+}
+function sourceOf(drawing, box) {
+const band = isRoot(drawing, box) ? bandOf(drawing, drawing.row[box]) : undefined;
+return band ? band.source : -1;
+}
+function nameOf(page, drawing, box) {
+const source = sourceOf(drawing, box);
+return source < 0 ? page.names[drawing.name[box]] : page.sources[source].name;
+}
+function timeOf(drawing, box) {
+const band = bandOf(drawing, drawing.row[box]);
+return drawing.start[box] + (band ? band.start : 0);
+}
 function isTimeline(page, drawing) {
 return page.view === 'chart' && drawing.centre < 0;
 }
@@ -71,9 +105,16 @@ const path = [];
 for (let each = box; each >= 0 && drawing.depth[each] > 0; each = drawing.parent[each]) path.push(page.names[drawing.name[each]]);
 return path.reverse();
 }
-function boxAt(page, drawing, path, start, isUp) {
+function beginningsOf(drawing, time, isUp) {
+const { bands } = drawing;
+const band = bands[Math.max(0, firstPlace(0, bands.length, (each) => bands[each].start > time) - 1)];
+if (band) return { first: band.first + 1, end: band.end, zero: band.start };
+return isUp ? { first: 1, end: drawing.callees, zero: 0 } : { first: drawing.callees, end: drawing.count, zero: 0 };
+}
+function boxAt(page, drawing, path, time, isUp) {
 let found = 0;
-let [first, end] = isUp ? [1, drawing.callees] : [drawing.callees, drawing.count];
+let { first, end, zero } = beginningsOf(drawing, time, isUp);
+const start = time - zero;
 for (const name of path) {
 let fallback = -1;
 let exact = -1;
@@ -98,6 +139,160 @@ function bothWeights(drawing, box) {
 const here = drawing.weight[box];
 const there = drawing.other ? drawing.other[box] : here;
 return drawing.number === 0 ? { before: here, after: there } : { before: there, after: here };
+}
+function spanOf(page, drawing, state) {
+const { source, box, from, to } = state;
+const isAside = isBeside(drawing);
+const band = drawing.bands.find((each) => each.source === source);
+if (band) return { from: 0, to: band.weight, depth: 0, row: band.row };
+if (source >= 0) {
+const { start, weight } = page.sources[source];
+return { from: start, to: start + weight, depth: 0, row: 0 };
+}
+if (drawing.count === 0) return { from: 0, to: 1, depth: 0, row: 0 };
+if (from >= 0) return { from, to, depth: 0, row: isAside ? -1 : 0 };
+if (isAside && box === 0) return { from: 0, to: drawing.length, depth: 0, row: -1 };
+return { from: drawing.start[box], to: endOf(drawing, box), depth: drawing.depth[box], row: drawing.row[box] };
+}
+function partOf(from, width, total) {
+const wide = Math.min(total, Math.max(1, width));
+const begin = Math.min(total - wide, Math.max(0, from));
+const digits = total < 1e9 ? 1000 : 1;
+return { from: Math.round(begin * digits) / digits, to: Math.round((begin + wide) * digits) / digits };
+}
+function widened({ from, to }, total, place, times) {
+const width = Math.min(total, Math.max(1, (to - from) * times));
+return partOf(from + place * (to - from - width), width, total);
+}
+function moved({ from, to }, total, widths) {
+return partOf(from + widths * (to - from), to - from, total);
+}
+function zoomedBand(drawing, span) {
+return span.row < 0 ? undefined : bandOf(drawing, span.row);
+}
+function spanOfRow(drawing, row, span) {
+if (isBeside(drawing)) return span.depth === 0 || bandOf(drawing, row) === zoomedBand(drawing, span) ? span : { ...span, depth: 0 };
+if (drawing.centre < 0 || drawing.count === 0) return span;
+const centre = drawing.row[0];
+const isSameSide = (row - centre) * (span.row - centre) > 0;
+return isSameSide ? span : { from: 0, to: drawing.weight[0], depth: 0, row: centre };
+}
+function isInSpan(drawing, box, span) {
+const { from, to } = spanOfRow(drawing, drawing.row[box], span);
+return drawing.start[box] < to && endOf(drawing, box) > from;
+}
+function weightInSpan(drawing, box, span) {
+const { from, to } = spanOfRow(drawing, drawing.row[box], span);
+return Math.max(0, Math.min(endOf(drawing, box), to) - Math.max(drawing.start[box], from));
+}
+function zoomedBoxes(drawing, span) {
+return zoomedBand(drawing, span) || { first: 0, end: drawing.count };
+}
+function zoomedWeight(drawing, row, span) {
+const band = zoomedBand(drawing, span);
+if (band && band !== bandOf(drawing, row)) return 0;
+const { from, to } = spanOfRow(drawing, row, span);
+if (band || !isBeside(drawing)) return to - from;
+return drawing.bands.reduce((sum, { first }) => sum + weightInSpan(drawing, first, span), 0);
+}
+function inRow(drawing, row, span) {
+const { first, order } = drawing.rows;
+const seen = spanOfRow(drawing, row, span);
+const from = firstPlace(first[row], first[row + 1], (at) => endOf(drawing, order[at]) > seen.from);
+return { from, to: firstPlace(from, first[row + 1], (at) => drawing.start[order[at]] >= seen.to) };
+}
+function rowsInSpan(drawing, span) {
+const isEmpty = (row) => {
+const { from, to } = inRow(drawing, row, span);
+return from === to;
+};
+const { row, rowCount } = zoomedBand(drawing, span) || { row: 0, rowCount: drawing.rowCount };
+let [first, end] = [row, row + rowCount];
+while (first < end && isEmpty(first)) first++;
+while (end > first && isEmpty(end - 1)) end--;
+return { first, end };
+}
+function edgesOf(from, to, span, width) {
+const scale = width / (span.to - span.from);
+const left = Math.min(width, Math.max(0, (from - span.from) * scale));
+const right = Math.max(0, Math.min(width, (to - span.from) * scale));
+return { left, right };
+}
+function lanesOf(page, drawing, span, width) {
+if (!isTimeline(page, drawing) || isBeside(drawing)) return [];
+return page.sources
+.map((source, number) => ({ source, number, ...edgesOf(source.start, source.start + source.weight, span, width) }))
+.filter(({ left, right }) => right > left);
+}
+function ownInSpan(drawing, box, span) {
+const own = drawing.own[box];
+let rest = weightInSpan(drawing, box, span);
+if (rest === drawing.weight[box]) return own;
+for (let each = box + 1; each < drawing.end[box]; each = drawing.end[each]) rest -= weightInSpan(drawing, each, span);
+return Math.min(own, rest);
+}
+function sumsOf(drawing, nameCount, span) {
+const own = new Float64Array(nameCount);
+const total = new Float64Array(nameCount);
+const covered = new Int32Array(nameCount);
+const top = Math.max(1, span.depth);
+const { first, end } = zoomedBoxes(drawing, span);
+for (let box = first; box < end; box++) {
+if (drawing.depth[box] < top || !isInSpan(drawing, box, span)) continue;
+const name = drawing.name[box];
+own[name] += ownInSpan(drawing, box, span);
+if (box < covered[name]) continue;
+covered[name] = drawing.end[box];
+total[name] += weightInSpan(drawing, box, span);
+}
+return { own, total };
+}
+function boxesIn(chart, { from, to }) {
+const first = firstPlace(0, chart.count, (box) => chart.start[box] >= from);
+const boxes = [];
+for (let box = first - 1; box >= 0; box = chart.parent[box]) {
+if (endOf(chart, box) > from) boxes.unshift(box);
+}
+for (let box = first; box < chart.count && chart.start[box] < to; box++) boxes.push(box);
+return boxes;
+}
+function addPieces(pieces, chart, boxes, span, row) {
+let rowCount = 0;
+for (const box of boxes) {
+const depth = chart.depth[box];
+pieces.depth.push(depth);
+pieces.row.push(row + depth);
+pieces.name.push(chart.name[box]);
+pieces.start.push(Math.max(0, chart.start[box] - span.from));
+pieces.weight.push(weightInSpan(chart, box, span));
+pieces.own.push(ownInSpan(chart, box, span));
+rowCount = Math.max(rowCount, depth + 1);
+}
+return rowCount;
+}
+function besideOf(chart, sources) {
+const pieces = { depth: [], row: [], name: [], start: [], weight: [], own: [] };
+const bands = [];
+let row = 0;
+for (const [source, { start, weight }] of sources.entries()) {
+const span = { from: start, to: start + weight, depth: 0, row: 0 };
+const boxes = weight > 0 ? boxesIn(chart, span) : [];
+if (boxes.length === 0) continue;
+const first = pieces.depth.length;
+const rowCount = addPieces(pieces, chart, boxes, span, row);
+bands.push({ source, weight, start, first, end: first + boxes.length, row, rowCount });
+row += rowCount;
+}
+const length = bands.reduce((most, { weight }) => Math.max(most, weight), 0);
+return drawingWith({ ...chart, bands, length }, {
+depth: new Int32Array(pieces.depth),
+row: new Int32Array(pieces.row),
+name: new Int32Array(pieces.name),
+start: new Float64Array(pieces.start),
+weight: new Float64Array(pieces.weight),
+own: new Float64Array(pieces.own),
+other: null,
+});
 }
 function heaviestFirst(parent, weight) {
 const count = parent.length;
@@ -233,5 +428,30 @@ weight: new Float64Array(joined(callers.weight, callees.weight)),
 own: new Float64Array(joined(callers.own, callees.own)),
 other: isCompared ? new Float64Array(joined(callers.other || [], callees.other || [])) : null,
 });
+}
+const UNSEEN = /[\u0000-\u001f\u007f-\u009f\u00ad\u061c\u180e\u200b\u200e\u200f\u2028-\u202e\u2060-\u206f\ufeff\ufff9-\ufffb\ufffe\uffff]/g;
+function hexadecimal(character) {
+return `[U+${character.charCodeAt(0).toString(16).toUpperCase().padStart(4, '0')}]`;
+}
+function visible(text) {
+return text.replace(UNSEEN, hexadecimal);
+}
+function beginning(text, most) {
+if (text.length <= most) return text;
+const last = text.charCodeAt(most - 1);
+return text.slice(0, last >= 0xd800 && last < 0xdc00 ? most - 1 : most);
+}
+function shortened(text, most) {
+const first = beginning(text, most);
+return visible(first) + (first.length < text.length ? '\u2026' : '');
+}
+function described(text) {
+const most = 1500;
+if (text === '') return '(empty name)';
+if (text.length <= most) return visible(text);
+return `${shortened(text, most)} (${text.length.toLocaleString('en')} characters)`;
+}
+function nameText(text) {
+return shortened(text, 200) || '(empty name)';
 }
 "##;

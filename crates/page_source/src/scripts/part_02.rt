@@ -1,33 +1,8 @@
-//! What `page/join` takes of page/names.js, units.js, data.js, elements.js, gone.js, bisect.js.
-//! `checks/page_source --write` makes this file.
+//! What `page/join` takes of page/units.js, data.js, elements.js, gone.js, places.js, describe.js,
+//! focus.js, lists.js. `checks/page_source --write` makes this file.
 
 pub(crate) const TEXT: &str =
-    r##"const UNSEEN = /[\u0000-\u001f\u007f-\u009f\u00ad\u061c\u180e\u200b\u200e\u200f\u2028-\u202e\u2060-\u206f\ufeff\ufff9-\ufffb\ufffe\uffff]/g;
-function hexadecimal(character) {
-return `[U+${character.charCodeAt(0).toString(16).toUpperCase().padStart(4, '0')}]`;
-}
-function visible(text) {
-return text.replace(UNSEEN, hexadecimal);
-}
-function beginning(text, most) {
-if (text.length <= most) return text;
-const last = text.charCodeAt(most - 1);
-return text.slice(0, last >= 0xd800 && last < 0xdc00 ? most - 1 : most);
-}
-function shortened(text, most) {
-const first = beginning(text, most);
-return visible(first) + (first.length < text.length ? '\u2026' : '');
-}
-function described(text) {
-const most = 1500;
-if (text === '') return '(empty name)';
-if (text.length <= most) return visible(text);
-return `${shortened(text, most)} (${text.length.toLocaleString('en')} characters)`;
-}
-function nameText(text) {
-return shortened(text, 200) || '(empty name)';
-}
-const SECONDS = { nanoseconds: 1e-9, microseconds: 1e-6, milliseconds: 1e-3, seconds: 1 };
+    r##"const SECONDS = { nanoseconds: 1e-9, microseconds: 1e-6, milliseconds: 1e-3, seconds: 1 };
 const BYTES = { bytes: 1, kilobytes: 1024, megabytes: 1024 ** 2, gigabytes: 1024 ** 3 };
 const TIME_STEPS = [[1, 's'], [1e-3, 'ms'], [1e-6, '\u00b5s'], [1e-9, 'ns']];
 const BYTE_STEPS = [[1024 ** 4, 'TiB'], [1024 ** 3, 'GiB'], [1024 ** 2, 'MiB'], [1024, 'KiB'], [1, 'B']];
@@ -43,9 +18,10 @@ return WHOLE.format(number);
 function stepFor(value, steps) {
 return steps.find(([step]) => value >= step * 0.9995) || steps[steps.length - 1];
 }
-function inSteps(value, steps) {
-const [size, sign] = stepFor(value, steps);
-return `${threeDigits(value / size)} ${sign}`;
+function inSteps(weight, unit, steps) {
+const [size, sign] = stepFor(weight * unit, steps);
+const value = size >= unit ? weight / Math.round(size / unit) : weight * Math.round(unit / size);
+return `${threeDigits(value)} ${sign}`;
 }
 function weighty(sources) {
 return sources.filter((source) => source.weight > 0);
@@ -63,8 +39,8 @@ return { size: Math.round(size / sizes[unit]), sign };
 return { size: 1, sign: unit && unit !== 'count' ? visible(unit) : '' };
 }
 function weightText(weight, unit) {
-if (unit && Object.hasOwn(SECONDS, unit)) return inSteps(weight * SECONDS[unit], TIME_STEPS);
-if (unit && Object.hasOwn(BYTES, unit)) return inSteps(weight * BYTES[unit], BYTE_STEPS);
+if (unit && Object.hasOwn(SECONDS, unit)) return inSteps(weight, SECONDS[unit], TIME_STEPS);
+if (unit && Object.hasOwn(BYTES, unit)) return inSteps(weight, BYTES[unit], BYTE_STEPS);
 const about = weight > Number.MAX_SAFE_INTEGER ? 'about ' : '';
 return about + separated(weight) + (unit && unit !== 'count' ? ` ${visible(unit)}` : '');
 }
@@ -89,6 +65,9 @@ function differenceText(before, after, unit) {
 const sign = after > before ? '+' : after < before ? '\u2212' : '';
 return sign + weightText(Math.abs(after - before), unit);
 }
+function hasLanes(page) {
+return page.view === 'chart' && weighty(page.sources).length > 1;
+}
 function drawingsOf(columns) {
 const made = [];
 return (number) => {
@@ -99,17 +78,19 @@ columns[number] = null;
 return made[number];
 };
 }
-function arranging(drawing, isComparison, nameCount) {
-let last = { drawing: 0, callers: -1, heavy: false, made: null };
-return (choice) => {
-const { drawing: number, callers, heavy } = choice;
+function arranging(drawing, sources, isComparison, nameCount) {
+let last = null;
+let asked = '';
+return ({ drawing: number, callers, heavy, beside }) => {
 const base = drawing(number);
-if (callers < 0 && !heavy) return base;
-if (last.made && last.drawing === number && last.callers === callers && last.heavy === heavy) return last.made;
+if (callers < 0 && !heavy && !beside) return base;
+const key = callers < 0 ? `${number} ${beside}` : `${number} callers ${callers}`;
+if (last && asked === key) return last;
 const there = isComparison ? drawing(1 - number) : null;
-const made = callers < 0 ? leftHeavy(base) : callersOf(base, there, callers, nameCount);
-last = { drawing: number, callers, heavy, made };
-return made;
+const arranged = () => (beside ? besideOf(base, sources) : leftHeavy(base));
+last = callers < 0 ? arranged() : callersOf(base, there, callers, nameCount);
+asked = key;
+return last;
 };
 }
 function pageOf(data) {
@@ -132,7 +113,7 @@ isFiltered: data.whole > start + data.whole * 2 ** -50,
 isBelow: data.root_below === true,
 drawingCount: data.drawings.length,
 drawing,
-arranged: arranging(drawing, data.view === 'compare', data.names.length),
+arranged: arranging(drawing, sources, data.view === 'compare', data.names.length),
 };
 }
 function element(id) {
@@ -165,6 +146,10 @@ made.type = 'button';
 made.addEventListener('click', action);
 return made;
 }
+function sayAbout(on, textOf, say) {
+for (const kind of ['pointerenter', 'focusin']) on.addEventListener(kind, () => say(textOf()));
+for (const kind of ['pointerleave', 'focusout']) on.addEventListener(kind, () => say(''));
+}
 function showItems(list, texts) {
 list.replaceChildren(...texts.map((text) => withText('li', text)));
 }
@@ -192,9 +177,10 @@ box = drawing.end[box];
 return { boxes: boxes.sort((one, other) => drawing.weight[other] - drawing.weight[one] || one - other), rest };
 }
 class GoneList {
-constructor(page, onChoose) {
+constructor(page, onChoose, say) {
 this.page = page;
 this.onChoose = onChoose;
+this.say = say;
 this.before = page.drawing(0);
 this.list = element('gone-list');
 this.more = button('gone-more');
@@ -209,7 +195,7 @@ summary(rest) {
 const { before, boxes, page } = this;
 if (boxes.length === 0) return 'Each path of the profile before is in the profile after.';
 const vanished = boxes.reduce((sum, box) => sum + before.weight[box], 0);
-const much = `${exactText(vanished, page.unit)}, ${percentText(vanished, before.total)} of the profile before`;
+const much = `${weightText(vanished, page.unit)}, ${percentText(vanished, before.total)} of the profile before`;
 const others = rest === 0 ? '' : ` ${separated(rest)} more went with ${boxes.length === 1 ? 'it' : 'them'}.`;
 return `${separated(boxes.length)} ${boxes.length === 1 ? 'path' : 'paths'}, together ${much}.${others}`;
 }
@@ -221,10 +207,16 @@ const callers = path.slice(0, -1).map((name) => `${nameText(name)} \u203a `);
 const chosen = nameButton('', () => this.onChoose(box));
 const texts = [`${weightText(weight, page.unit)}  `, callers.join(''), nameText(page.names[before.name[box]])];
 chosen.append(...texts.map((text) => withText('span', text)));
-chosen.title = `${exactText(weight, page.unit)}, own ${exactText(before.own[box], page.unit)}: ${described(path.join(' \u203a '))}`;
+chosen.title = described(path.join(' \u203a '));
+sayAbout(chosen, () => this.exactLine(box), this.say);
 const entry = document.createElement('li');
 entry.append(chosen);
 return entry;
+}
+exactLine(box) {
+const { before, page } = this;
+const [weight, own] = [before.weight[box], before.own[box]].map((each) => exactText(each, page.unit));
+return [shortened(page.names[before.name[box]], 300) || '(empty name)', `before ${weight}`, `own ${own}`].join(' \u00b7 ');
 }
 showMore() {
 const { boxes, list, more } = this;
@@ -233,20 +225,229 @@ for (const box of boxes.slice(shown, shown + GONE_STEP)) list.append(this.item(b
 more.hidden = list.children.length >= boxes.length;
 }
 }
-function firstPlace(low, high, holds) {
-while (low < high) {
-const middle = (low + high) >>> 1;
-if (holds(middle)) high = middle;
-else low = middle + 1;
+const SHARP_FROM = 3;
+const NARROWEST = 0.3;
+function placesOf(drawing, row, span, width) {
+const { order } = drawing.rows;
+const { from, to } = inRow(drawing, row, span);
+const seen = spanOfRow(drawing, row, span);
+const scale = width / (seen.to - seen.from);
+const leftOf = (at) => Math.max(0, (drawing.start[order[at]] - seen.from) * scale);
+const rightOf = (at) => Math.min(width, (endOf(drawing, order[at]) - seen.from) * scale);
+const isNarrow = (at) => rightOf(at) - leftOf(at) < 1;
+const places = [];
+let painted = 0;
+for (let at = from, next = from; at < to; at = next) {
+const left = leftOf(at);
+next = at + 1;
+if (next < to && isNarrow(at)) {
+next = nextPlace(next, to, (each) => leftOf(each) >= Math.floor(left) + 1);
+if (!isNarrow(next - 1)) next--;
 }
-return low;
+const right = rightOf(next - 1);
+const edges = paintedEdges(left, right, painted);
+places.push({ at, count: next - at, box: order[at], left, right, ...edges });
+painted = edges.end;
 }
-function nextPlace(low, high, holds) {
-let step = 1;
-while (low + step < high && !holds(low + step)) {
-low += step;
-step *= 2;
+return places;
 }
-return firstPlace(low, Math.min(low + step, high), holds);
+function paintedEdges(left, right, before) {
+const pixelEnd = Math.floor(left) + 1;
+if (right - left < SHARP_FROM) {
+const begin = Math.max(before, Math.min(left, Math.max(right, pixelEnd) - NARROWEST));
+return { begin, end: Math.max(right, Math.min(begin + NARROWEST, pixelEnd)) };
+}
+const begin = Math.round(left);
+return { begin: begin < before ? pixelEnd : begin, end: Math.round(right) - 1 };
+}
+function placeOver(places, across) {
+const pixel = Math.floor(across);
+const at = firstPlace(0, places.length, (each) => places[each].end > across);
+if (at < places.length && places[at].begin < pixel + 1) return places[at];
+const before = places[at - 1];
+return before && Math.max(before.end, Math.round(before.right)) > pixel ? before : null;
+}
+function isJoined(place) {
+return place.count > 1;
+}
+function weighedTogether(drawing, place, weightOf) {
+let weight = 0;
+for (let at = place.at; at < place.at + place.count; at++) weight += weightOf(drawing.rows.order[at]);
+return weight;
+}
+function detailsOf(seen, box, tell) {
+const { page, drawing, span } = seen;
+const details = [weightDetail(seen, drawing.row[box], drawing.weight[box], weightInSpan(drawing, box, span), tell)];
+if (!isCaller(drawing, box)) details.push(`own ${tell(drawing.own[box], page.unit)}`);
+if (drawing.other) details.push(changeDetail(seen, box, tell));
+if (isTimeline(page, drawing)) details.push(timeDetail(page, drawing, box));
+return details;
+}
+function weightDetail({ page, drawing, span }, row, weight, inSpan, tell) {
+const whole = zoomedWeight(drawing, row, span);
+const what = drawing.centre >= 0 && spanOfRow(drawing, row, span).depth === 0 ? shortened(page.names[drawing.centre], 60) : 'what is zoomed';
+const zoomed = whole > 0 && whole < drawing.total ? `, ${percentText(inSpan, whole)} of ${what}` : '';
+return `${tell(weight, page.unit)}, ${sharesText(page, drawing, weight)}${zoomed}`;
+}
+function sharesText(page, drawing, weight) {
+const share = percentText(weight, drawing.total);
+if (!page.isFiltered) return `${share} of the whole`;
+const hasWhole = page.view !== 'compare' && drawing.at === undefined;
+return `${share} of what is kept${hasWhole ? `, ${percentText(weight, page.whole)} of the whole` : ''}`;
+}
+function changeDetail({ page, drawing, isShare }, box, tell) {
+const weights = bothWeights(drawing, box);
+const [when, weight] = drawing.number === 0 ? ['after', weights.after] : ['before', weights.before];
+const share = isShare ? `, ${percentText(weight, page.drawing(1 - drawing.number).total)} of its whole` : '';
+const { before, after } = comparedOf(page, isShare, weights);
+return `${when} ${tell(weight, page.unit)}${share}: ${changeText(before, after)}${isShare ? ' of its share' : ''}`;
+}
+function timeDetail(page, drawing, box) {
+const from = drawing.start[box];
+const to = endOf(drawing, box);
+const band = bandOf(drawing, drawing.row[box]);
+const names = page.sources
+.filter((source, number) => (band ? band.source === number : source.start < to && source.start + source.weight > from))
+.map((source) => shortened(source.name, 60));
+const shown = names.length > 3 ? `${names.slice(0, 3).join(', ')} and ${names.length - 3} more` : names.join(', ');
+return `from ${weightText(from, page.unit)} to ${weightText(to, page.unit)}, in ${shown}`;
+}
+function joinedDetails(seen, place, tell) {
+const { drawing, span } = seen;
+const weight = weighedTogether(drawing, place, (box) => drawing.weight[box]);
+const inSpan = weighedTogether(drawing, place, (box) => weightInSpan(drawing, box, span));
+const much = weightDetail(seen, drawing.row[place.box], weight, inSpan, tell);
+return [`${separated(place.count)} boxes, each narrower than a pixel`, `together ${much}`];
+}
+function boxLine(seen, box) {
+return [shortened(nameOf(seen.page, seen.drawing, box), 300) || '(empty name)', ...detailsOf(seen, box, exactText)].join(' \u00b7 ');
+}
+function placeDetails(seen, place) {
+if (isJoined(place)) return joinedDetails(seen, place, weightText);
+return [described(nameOf(seen.page, seen.drawing, place.box)), ...detailsOf(seen, place.box, weightText)];
+}
+function placeLine(seen, place) {
+return isJoined(place) ? joinedDetails(seen, place, exactText).join(' \u00b7 ') : boxLine(seen, place.box);
+}
+function placeTitle(seen, place) {
+const { page, drawing, span } = seen;
+const { box } = place;
+if (isJoined(place)) return joinedDetails(seen, place, weightText).join(' \u00b7 ');
+const much = weightDetail(seen, drawing.row[box], drawing.weight[box], weightInSpan(drawing, box, span), weightText);
+const title = [nameText(nameOf(page, drawing, box)), much];
+if (drawing.other) title.push(changeDetail(seen, box, weightText));
+return title.join(' \u00b7 ');
+}
+const NARROWEST_RING = 4;
+function placeInRow(drawing, box) {
+const { first, order } = drawing.rows;
+const row = drawing.row[box];
+return firstPlace(first[row], first[row + 1], (at) => order[at] >= box);
+}
+class Ring {
+constructor(picture) {
+this.picture = picture;
+this.rings = [element('ring-0'), element('ring-1')];
+this.used = 0;
+this.shown = '';
+}
+show(view) {
+const { picture, rings } = this;
+if (view.drawing.count === 0 || !isInSpan(view.drawing, view.state.focus, view.span)) {
+for (const ring of rings) ring.hidden = true;
+picture.removeAttribute('aria-activedescendant');
+return;
+}
+const text = boxLine(view, view.state.focus);
+if (text !== this.shown) {
+rings[this.used].hidden = true;
+this.used = 1 - this.used;
+this.shown = text;
+}
+const ring = rings[this.used];
+this.place(ring, view);
+this.label(ring, view, text);
+ring.hidden = false;
+picture.setAttribute('aria-activedescendant', ring.id);
+}
+place(ring, view) {
+const { drawing, span, state } = view;
+const { focus } = state;
+const row = drawing.row[focus];
+const seen = spanOfRow(drawing, row, span);
+const { left, right } = edgesOf(drawing.start[focus], endOf(drawing, focus), seen, this.picture.clientWidth);
+ring.style.left = `${left}px`;
+ring.style.width = `${Math.max(right - left, NARROWEST_RING)}px`;
+ring.style.top = `${rowTop(drawing.rowCount, row, state.below)}px`;
+ring.style.height = `${ROW_HEIGHT}px`;
+}
+label(ring, view, text) {
+const { drawing, state } = view;
+const row = drawing.row[state.focus];
+const [first, stop] = [drawing.rows.first[row], drawing.rows.first[row + 1]];
+ring.setAttribute('aria-label', text);
+ring.setAttribute('aria-level', String(row - (bandOf(drawing, row)?.row || 0) + 1));
+ring.setAttribute('aria-setsize', String(stop - first));
+ring.setAttribute('aria-posinset', String(placeInRow(drawing, state.focus) - first + 1));
+ring.setAttribute('aria-selected', 'true');
+}
+}
+function focusIn(drawing, { source, box }, asked) {
+const inside = { first: box, end: box === 0 ? drawing.count : drawing.end[box] };
+const { first, end } = drawing.bands.find((band) => band.source === source) || inside;
+return asked >= first && asked < end ? asked : first;
+}
+function focusedFunction({ drawing, state }) {
+if (drawing.count === 0 || isRoot(drawing, state.focus)) return -1;
+const name = drawing.name[state.focus];
+return name === state.callers ? -1 : name;
+}
+function boxByKey(view, key) {
+const { drawing, span, state } = view;
+const box = state.focus;
+const row = drawing.row[box];
+const { from, to } = inRow(drawing, row, span);
+const seen = (at) => (at >= from && at < to ? drawing.rows.order[at] : -1);
+if (sourceOf(drawing, box) >= 0 && !/Up|Down/.test(key)) return rootBeside(view, key);
+const behind = state.below ? 'ArrowUp' : 'ArrowDown';
+if (key === 'ArrowUp' || key === 'ArrowDown') return boxBeside(drawing, box, span, key === behind ? row + 1 : row - 1);
+if (key === 'ArrowLeft') return seen(placeInRow(drawing, box) - 1);
+if (key === 'ArrowRight') return seen(placeInRow(drawing, box) + 1);
+if (key === 'Home') return seen(from);
+if (key === 'End') return seen(to - 1);
+return -1;
+}
+function rootBeside({ drawing, span, state }, key) {
+const roots = drawing.bands.map(({ first }) => first).filter((each) => isInSpan(drawing, each, span));
+const at = roots.indexOf(state.focus);
+const wanted = { ArrowLeft: at - 1, ArrowRight: at + 1, Home: 0, End: roots.length - 1 }[key] ?? -1;
+return roots[wanted] ?? -1;
+}
+function boxBeside(drawing, box, span, row) {
+const on = drawing.parent[box];
+if (on >= 0 && drawing.row[on] === row) return on;
+let found = -1;
+for (let each = box + 1; each < drawing.end[box]; each = drawing.end[each]) {
+if (drawing.row[each] !== row || !isInSpan(drawing, each, span)) continue;
+if (found < 0 || drawing.weight[each] > drawing.weight[found]) found = each;
+}
+return found;
+}
+const CLOSED_BELOW = 120;
+function showLists(width) {
+const main = inside(document, 'main');
+const divider = element('divider');
+element('lists').hidden = width === 0;
+divider.hidden = width === 0;
+input('listed').checked = width !== 0;
+if (width > 0) main.style.setProperty('--lists', `${width}px`);
+else main.style.removeProperty('--lists');
+divider.setAttribute('aria-valuenow', String(listsWidth()));
+}
+function listsWidth() {
+return element('lists').offsetWidth;
+}
+function draggedWidth(dragged) {
+return dragged < CLOSED_BELOW ? 0 : Math.round(dragged);
 }
 "##;

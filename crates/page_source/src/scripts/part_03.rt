@@ -1,182 +1,497 @@
-//! What `page/join` takes of page/spans.js, places.js, describe.js.
-//! `checks/page_source --write` makes this file.
+//! What `page/join` takes of page/map.js, lettering.js, axis.js, short.js, colours.js, search.js,
+//! scene.js, canvas.js. `checks/page_source --write` makes this file.
 
-pub(crate) const TEXT: &str = r##"function spanOf(page, drawing, state) {
-if (state.source >= 0) {
-const source = page.sources[state.source];
-return { from: source.start, to: source.start + source.weight, depth: 0, row: 0 };
+pub(crate) const TEXT: &str = r##"const BY_WHEEL = 0.002;
+const BY_TOUCHPAD = 0.01;
+const WHEEL_UNITS = [1, 16, 400];
+const KEYS = { '+': 1 / 1.5, '=': 1 / 1.5, '-': 1.5, '<': -0.25, '>': 0.25 };
+const SHORTEST_DRAG = 4;
+function isMap({ page, view }) {
+return isTimeline(page, view.drawing) && view.drawing.count > 0;
 }
-if (drawing.count === 0) return { from: 0, to: 1, depth: 0, row: 0 };
-if (state.from >= 0) return { from: state.from, to: state.to, depth: 0, row: 0 };
-const { box } = state;
-return { from: drawing.start[box], to: endOf(drawing, box), depth: drawing.depth[box], row: drawing.row[box] };
+function widen(viewer, across, times) {
+const { left } = viewer.stage.picture.getBoundingClientRect();
+const { span, drawing } = viewer.view;
+viewer.lookAt(widened(span, drawing.length, (across - left) / viewer.stage.picture.clientWidth, times));
 }
-function partOf(from, width, total) {
-const wide = Math.min(total, Math.max(1, width));
-const begin = Math.min(total - wide, Math.max(0, from));
-const digits = total < 1e9 ? 1000 : 1;
-return { from: Math.round(begin * digits) / digits, to: Math.round((begin + wide) * digits) / digits };
+function drag(viewer, across, down) {
+const { span, drawing } = viewer.view;
+const { picture } = viewer.stage;
+picture.scrollTop += down;
+if (across !== 0) viewer.lookAt(moved(span, drawing.length, across / picture.clientWidth));
 }
-function widened({ from, to }, total, place, times) {
-const width = Math.min(total, Math.max(1, (to - from) * times));
-return partOf(from + place * (to - from - width), width, total);
+function isMapKey(key) {
+return Object.hasOwn(KEYS, key);
 }
-function moved({ from, to }, total, widths) {
-return partOf(from + widths * (to - from), to - from, total);
+function moveByKey(viewer, key) {
+if (!isMap(viewer)) return;
+const { span, drawing } = viewer.view;
+const isMove = key === '<' || key === '>';
+viewer.lookAt(isMove ? moved(span, drawing.length, KEYS[key]) : widened(span, drawing.length, 0.5, KEYS[key]));
 }
-function spanOfRow(drawing, row, span) {
-if (drawing.centre < 0 || drawing.count === 0) return span;
-const centre = drawing.row[0];
-const isSameSide = (row - centre) * (span.row - centre) > 0;
-return isSameSide ? span : { from: 0, to: drawing.weight[0], depth: 0, row: centre };
-}
-function isInSpan(drawing, box, span) {
-const { from, to } = spanOfRow(drawing, drawing.row[box], span);
-return drawing.start[box] < to && endOf(drawing, box) > from;
-}
-function weightInSpan(drawing, box, span) {
-const { from, to } = spanOfRow(drawing, drawing.row[box], span);
-return Math.max(0, Math.min(endOf(drawing, box), to) - Math.max(drawing.start[box], from));
-}
-function inRow(drawing, row, span) {
-const { first, order } = drawing.rows;
-const seen = spanOfRow(drawing, row, span);
-const from = firstPlace(first[row], first[row + 1], (at) => endOf(drawing, order[at]) > seen.from);
-return { from, to: firstPlace(from, first[row + 1], (at) => drawing.start[order[at]] >= seen.to) };
-}
-function rowsInSpan(drawing, span) {
-const centre = drawing.row[0] || 0;
-const isEmpty = (row) => {
-const { from, to } = inRow(drawing, row, span);
-return from === to;
+function listenToWheel(viewer) {
+const { picture } = viewer.stage;
+let [times, across, side, frame] = [1, 0, 0, 0];
+const look = () => {
+frame = 0;
+if (times !== 1) widen(viewer, across, times);
+if (side !== 0) drag(viewer, side, 0);
+[times, side] = [1, 0];
 };
-const above = firstPlace(0, centre, (each) => isEmpty(centre - 1 - each));
-return { first: centre - above, end: firstPlace(centre, drawing.rowCount, isEmpty) };
+picture.addEventListener('wheel', (event) => {
+if (!isMap(viewer)) return;
+event.preventDefault();
+const unit = WHEEL_UNITS[event.deltaMode];
+const [right, down] = event.shiftKey ? [event.deltaX + event.deltaY, 0] : [event.deltaX, event.deltaY];
+times *= Math.exp(down * unit * (event.ctrlKey ? BY_TOUCHPAD : BY_WHEEL));
+side += right * unit;
+across = event.clientX;
+if (frame === 0) frame = requestAnimationFrame(look);
+}, { passive: false });
 }
-function edgesOf(from, to, span, width) {
-const scale = width / (span.to - span.from);
-const left = Math.min(width, Math.max(0, (from - span.from) * scale));
-const right = Math.max(0, Math.min(width, (to - span.from) * scale));
-return { left, right };
+function handOf(points) {
+const [first, last] = [points[0], points[points.length - 1]];
+return { x: (first.x + last.x) / 2, y: (first.y + last.y) / 2, apart: Math.max(1, Math.abs(first.x - last.x)) };
 }
-function lanesOf(page, drawing, span, width) {
-if (!isTimeline(page, drawing)) return [];
-return page.sources
-.map((source, number) => ({ source, number, ...edgesOf(source.start, source.start + source.weight, span, width) }))
-.filter(({ left, right }) => right > left);
-}
-const SHARP_FROM = 3;
-const NARROWEST = 0.3;
-function placesOf(drawing, row, span, width) {
-const { order } = drawing.rows;
-const { from, to } = inRow(drawing, row, span);
-const seen = spanOfRow(drawing, row, span);
-const scale = width / (seen.to - seen.from);
-const leftOf = (at) => Math.max(0, (drawing.start[order[at]] - seen.from) * scale);
-const rightOf = (at) => Math.min(width, (endOf(drawing, order[at]) - seen.from) * scale);
-const isNarrow = (at) => rightOf(at) - leftOf(at) < 1;
-const places = [];
-let painted = 0;
-for (let at = from, next = from; at < to; at = next) {
-const left = leftOf(at);
-next = at + 1;
-if (next < to && isNarrow(at)) {
-next = nextPlace(next, to, (each) => leftOf(each) >= Math.floor(left) + 1);
-if (!isNarrow(next - 1)) next--;
-}
-const right = rightOf(next - 1);
-const edges = paintedEdges(left, right, painted);
-places.push({ at, count: next - at, box: order[at], left, right, ...edges });
-painted = edges.end;
-}
-return places;
-}
-function paintedEdges(left, right, before) {
-const pixelEnd = Math.floor(left) + 1;
-if (right - left < SHARP_FROM) {
-const begin = Math.max(before, Math.min(left, Math.max(right, pixelEnd) - NARROWEST));
-return { begin, end: Math.max(right, Math.min(begin + NARROWEST, pixelEnd)) };
-}
-const begin = Math.round(left);
-return { begin: begin < before ? pixelEnd : begin, end: Math.round(right) - 1 };
-}
-function placeOver(places, across) {
-const pixel = Math.floor(across);
-const at = firstPlace(0, places.length, (each) => places[each].end > across);
-if (at < places.length && places[at].begin < pixel + 1) return places[at];
-const before = places[at - 1];
-return before && Math.max(before.end, Math.round(before.right)) > pixel ? before : null;
-}
-function isJoined(place) {
-return place.count > 1;
-}
-function weighedTogether(drawing, place, weightOf) {
-let weight = 0;
-for (let at = place.at; at < place.at + place.count; at++) weight += weightOf(drawing.rows.order[at]);
-return weight;
-}
-function detailsOf(seen, box) {
-const { page, drawing, span } = seen;
-const details = [weightDetail(seen, drawing.row[box], drawing.weight[box], weightInSpan(drawing, box, span))];
-if (!isCaller(drawing, box)) details.push(`own ${exactText(drawing.own[box], page.unit)}`);
-if (drawing.other) details.push(changeDetail(seen, box));
-if (isTimeline(page, drawing)) details.push(timeDetail(page, drawing, box));
-return details;
-}
-function weightDetail({ page, drawing, span }, row, weight, inSpan) {
-const { from, to, depth } = spanOfRow(drawing, row, span);
-const what = drawing.centre >= 0 && depth === 0 ? shortened(page.names[drawing.centre], 60) : 'what is zoomed';
-const zoomed = to - from < drawing.total ? `, ${percentText(inSpan, to - from)} of ${what}` : '';
-return `${exactText(weight, page.unit)}, ${sharesText(page, drawing, weight)}${zoomed}`;
-}
-function sharesText(page, drawing, weight) {
-const share = percentText(weight, drawing.total);
-if (!page.isFiltered) return `${share} of the whole`;
-const hasWhole = page.view !== 'compare' && drawing.at === undefined;
-return `${share} of what is kept${hasWhole ? `, ${percentText(weight, page.whole)} of the whole` : ''}`;
-}
-function changeDetail({ page, drawing, isShare }, box) {
-const weights = bothWeights(drawing, box);
-const [before, after] = [weights.before, weights.after].map((weight, number) => {
-const share = isShare ? `, ${percentText(weight, page.drawing(number).total)} of its whole` : '';
-return `${exactText(weight, page.unit)}${share}`;
+function listenToDrags(viewer) {
+const { picture } = viewer.stage;
+const points = new Map();
+let isDragged = false;
+let frame = 0;
+let before = { x: 0, y: 0, apart: 1 };
+const look = () => {
+frame = 0;
+if (points.size === 0) return;
+const now = handOf([...points.values()]);
+if (points.size > 1) widen(viewer, now.x, before.apart / now.apart);
+drag(viewer, before.x - now.x, before.y - now.y);
+before = now;
+};
+picture.addEventListener('pointerdown', (event) => {
+if (!isMap(viewer) || event.button !== 0) return;
+points.set(event.pointerId, { x: event.clientX, y: event.clientY });
+before = handOf([...points.values()]);
+isDragged = points.size > 1;
 });
-const compared = comparedOf(page, isShare, weights);
-return `before ${before}, after ${after}: ${changeText(compared.before, compared.after)}${isShare ? ' of its share' : ''}`;
+picture.addEventListener('pointermove', (event) => {
+const point = points.get(event.pointerId);
+if (!point) return;
+const isShort = Math.hypot(event.clientX - before.x, event.clientY - before.y) < SHORTEST_DRAG;
+if (isShort && !isDragged) return;
+isDragged = true;
+picture.setPointerCapture(event.pointerId);
+points.set(event.pointerId, { x: event.clientX, y: event.clientY });
+if (frame === 0) frame = requestAnimationFrame(look);
+});
+for (const kind of ['pointerup', 'pointercancel']) {
+picture.addEventListener(kind, (event) => {
+if (event instanceof PointerEvent) points.delete(event.pointerId);
+if (points.size > 0) before = handOf([...points.values()]);
+});
 }
-function timeDetail(page, drawing, box) {
-const from = drawing.start[box];
-const to = endOf(drawing, box);
-const names = page.sources
-.filter((source) => source.start < to && source.start + source.weight > from)
-.map((source) => shortened(source.name, 60));
-const shown = names.length > 3 ? `${names.slice(0, 3).join(', ')} and ${names.length - 3} more` : names.join(', ');
-return `from ${weightText(from, page.unit)} to ${weightText(to, page.unit)}, in ${shown}`;
 }
-function joinedDetails(seen, place) {
-const { drawing, span } = seen;
-const weight = weighedTogether(drawing, place, (box) => drawing.weight[box]);
-const inSpan = weighedTogether(drawing, place, (box) => weightInSpan(drawing, box, span));
-const much = weightDetail(seen, drawing.row[place.box], weight, inSpan);
-return [`${separated(place.count)} boxes, each narrower than a pixel`, `together ${much}`];
+function listenToMap(viewer) {
+viewer.stage.picture.classList.toggle('map', viewer.page.view === 'chart');
+listenToWheel(viewer);
+listenToDrags(viewer);
 }
-function boxLine(seen, box) {
-return [shortened(seen.page.names[seen.drawing.name[box]], 300) || '(empty name)', ...detailsOf(seen, box)].join(' \u00b7 ');
+const FONT_FAMILY = 'ui-monospace, "DejaVu Sans Mono", Menlo, Consolas, monospace';
+const FONT = `12px ${FONT_FAMILY}`;
+const PAD = 4;
+const LONGEST = 1000;
+class Lettering {
+constructor(names, formsOf) {
+this.names = names;
+this.formsOf = formsOf;
+this.context = contextOf(document.createElement('canvas'));
+this.context.font = FONT;
+this.letter = this.context.measureText('0').width;
+this.shown = new Map();
 }
-function placeDetails(seen, place) {
-if (isJoined(place)) return joinedDetails(seen, place);
-return [described(seen.page.names[seen.drawing.name[place.box]]), ...detailsOf(seen, place.box)];
+textFor(name, added, width) {
+const room = width - 2 * PAD;
+if (room < 2 * this.letter) return '';
+const forms = this.shownOf(name);
+const chosen = firstPlace(0, forms.length, (form) => this.hasRoom(forms[form], room));
+if (chosen === forms.length) return this.cut(forms[chosen - 1], room);
+const { text } = forms[chosen];
+const whole = `${text} ${added}`;
+return chosen === 0 && added && this.fits(whole, room) ? whole : text;
 }
-function placeLine(seen, place) {
-return isJoined(place) ? joinedDetails(seen, place).join(' \u00b7 ') : boxLine(seen, place.box);
+shownOf(name) {
+const known = this.shown.get(name);
+if (known) return known;
+const shown = this.formsOf(this.names[name]).map((form) => {
+const text = visible(beginning(form, LONGEST));
+return { text, isPlain: /^[ -~]*$/.test(text), isCut: form.length > LONGEST };
+});
+this.shown.set(name, shown);
+return shown;
 }
-function placeTitle(seen, place) {
-const { page, drawing, span } = seen;
-const { box } = place;
-if (isJoined(place)) return joinedDetails(seen, place).join(' \u00b7 ');
-const much = weightDetail(seen, drawing.row[box], drawing.weight[box], weightInSpan(drawing, box, span));
-const title = [nameText(page.names[drawing.name[box]]), much];
-if (drawing.other) title.push(changeDetail(seen, box));
-return title.join(' \u00b7 ');
+hasRoom({ text, isPlain, isCut }, room) {
+return !isCut && (isPlain ? text.length <= Math.floor(room / this.letter) : this.fits(text, room));
+}
+fits(text, room) {
+return this.context.measureText(text).width <= room;
+}
+cut({ text, isPlain }, room) {
+const kept = isPlain ? text.slice(0, Math.floor(room / this.letter) - 1) : this.cutTo(text, room);
+return kept === '' ? '' : `${kept}\u2026`;
+}
+cutTo(text, room) {
+const characters = Array.from(text.slice(0, Math.ceil((4 * room) / this.letter)));
+const count = firstPlace(0, characters.length, (each) => !this.fits(`${characters.slice(0, each + 1).join('')}\u2026`, room));
+return characters.slice(0, count).join('');
+}
+}
+const LETTER = 7.5;
+const ROOM = 24;
+function roundStep(number) {
+const power = Math.floor(number / 3);
+const times = [1, 2, 5][number - 3 * power];
+return { step: power < 0 ? times / 10 ** -power : times * 10 ** power, digits: Math.max(0, -power) };
+}
+function tickText(number, digits, sign) {
+const text = number.toLocaleString('en', { minimumFractionDigits: digits, maximumFractionDigits: digits });
+return sign === '' ? text : `${text} ${sign}`;
+}
+function ticksOf(page, drawing, span, width) {
+if (!isTimeline(page, drawing) || drawing.count === 0 || width <= 0) return [];
+const { size, sign } = unitStep(span.to, page.unit);
+const scale = (size * width) / (span.to - span.from);
+const longest = (digits) => tickText(span.to / size, digits, sign).length * LETTER;
+let number = 3 * Math.floor(Math.log10(ROOM / scale));
+while (roundStep(number).step * scale < longest(roundStep(number).digits) + ROOM || roundStep(number).step * size < 1) number++;
+const { step, digits } = roundStep(number);
+const ticks = [];
+for (let each = Math.ceil(span.from / size / step); (each * step - span.from / size) * scale + longest(digits) <= width; each++) {
+ticks.push({ left: (each * step - span.from / size) * scale, text: tickText(each * step, digits, sign) });
+}
+return ticks;
+}
+const OPENING = '([{<';
+const CLOSING = ')]}>';
+const LONGEST_NAME = 5000;
+const PLACE = / (?:\([^()]*\)|\[[^[\]]*\]|[^ ]+:[0-9]+)$/;
+const FILE = / (?:\(([^()]*?)((?::[0-9]+)*)\)|([^ ]+?)(?::[0-9]+)+)$/;
+const NUMBERED = /^(?:[0-9]*|(?:func|gowrap|deferwrap)[0-9]+|cold|part|isra|constprop|llvm|\{.*|h[0-9a-f]{16})$/s;
+function masked(name) {
+const open = [];
+const mask = [];
+for (let at = 0; at < name.length; at++) {
+const isArrow = name[at] === '>' && /[-=]/.test(name[at - 1]);
+const closing = isArrow ? -1 : CLOSING.indexOf(name[at]);
+const opening = OPENING.indexOf(name[at]);
+if (opening >= 0) open.push(opening);
+mask.push(open.length > 0 ? OPENING[0] : name[at]);
+if (closing >= 0 && open.pop() !== closing) return null;
+}
+return open.length > 0 ? null : mask.join('');
+}
+function partsOf(mask) {
+const last = Math.max(...[OPENING[0], '/', '.', '::'].map((mark) => mask.lastIndexOf(mark)));
+const parts = [];
+let [after, begin] = [0, 0];
+for (const { 0: separator, index = 0 } of mask.matchAll(/::|[/. ]/g)) {
+if (separator === ' ' && index > last) break;
+parts.push({ after, begin, end: index });
+[after, begin] = [index, index + separator.length];
+}
+return [...parts, { after, begin, end: mask.length }];
+}
+function bare(name, mask, { begin, end }) {
+let word = begin;
+while (word < end && mask[word] === OPENING[0]) word++;
+const bracket = mask.slice(0, end).indexOf(OPENING[0], word);
+return name.slice(begin, bracket < 0 ? end : bracket).trimEnd();
+}
+function dissected(name) {
+if (name.length > LONGEST_NAME) return null;
+const head = name.replace(PLACE, '') || name;
+const mask = masked(head);
+if (mask === null) return null;
+const parts = partsOf(mask);
+return { head, mask, parts, named: parts.filter(({ begin, end }, number) => number === 0 || !NUMBERED.test(head.slice(begin, end))) };
+}
+function barely(head, mask, parts) {
+return parts.map((part, number) => (number === 0 ? '' : head.slice(part.after, part.begin)) + bare(head, mask, part)).join('');
+}
+function formsOf(name) {
+const found = dissected(name);
+if (!found) return [name];
+const { head, mask, parts, named } = found;
+const bareFrom = (first) => barely(head, mask, parts.slice(parts.indexOf(first)));
+const forms = [name, head, ...named.slice(1, -1).map(({ begin }) => head.slice(begin)), ...named.slice(-2).map(bareFrom)];
+return forms.filter((form, number) => number === 0 || (form !== '' && form !== forms[number - 1]));
+}
+function fileOf(name) {
+const [, inside = '', numbers = '', bareFile = ''] = FILE.exec(name) || [];
+return bareFile || (numbers !== '' || /[/.]/.test(inside) ? inside : '');
+}
+function packageOf(name) {
+const found = dissected(name);
+if (!found) return '';
+const { head, mask, parts, named } = found;
+const last = parts.indexOf(named[named.length - 1]);
+let first = last;
+while (first > 0 && head[parts[first].after] !== ' ') first--;
+return fileOf(name) || barely(head, mask, parts.slice(first, last));
+}
+const HUES = 36;
+const SHADES = 3;
+const CHANGES = 10;
+function plainFills(saturation, lightest, step) {
+const fills = [];
+for (let shade = 0; shade < SHADES; shade++) {
+for (let hue = 0; hue < HUES; hue++) {
+fills.push(`hsl(${(hue * 360) / HUES}, ${saturation}%, ${lightest + shade * step}%)`);
+}
+}
+return fills;
+}
+function changeFills(saturation, still, full) {
+const fills = [];
+for (let change = -CHANGES; change <= CHANGES; change++) {
+const much = Math.abs(change) / CHANGES;
+const hue = change < 0 ? 213 : 6;
+const used = change === 0 ? 0 : saturation * (0.35 + 0.65 * much);
+fills.push(`hsl(${hue}, ${used.toFixed(1)}%, ${(still + (full - still) * much).toFixed(1)}%)`);
+}
+return fills;
+}
+const LIGHT = {
+paper: '#fbfbf9', ink: '#1f2226', line: '#80868f', root: 'hsl(220, 8%, 82%)', dim: 'hsl(220, 8%, 90%)', dimInk: '#555b64',
+joined: '#9aa0a8', joinedMatch: '#a982bb', match: 'hsl(285, 48%, 45%)', matchInk: '#ffffff', plain: plainFills(48, 74, 4),
+changes: changeFills(74, 88, 68),
+};
+const DARK = {
+paper: '#1b1d20', ink: '#eef0f2', line: '#7c828b', root: 'hsl(220, 6%, 34%)', dim: 'hsl(220, 6%, 22%)', dimInk: '#a9afb8',
+joined: '#5d646e', joinedMatch: '#8c589d', match: 'hsl(285, 50%, 68%)', matchInk: '#17121a', plain: plainFills(26, 25, 4),
+changes: changeFills(52, 30, 38),
+};
+function changeOf(before, after) {
+return before === after ? 0 : (after - before) / Math.max(before, after);
+}
+function changeShade(before, after) {
+const change = changeOf(before, after);
+return Math.sign(change) * Math.ceil(Math.abs(change) * CHANGES) + CHANGES;
+}
+function nameShade(name) {
+let hash = 0;
+for (const byte of new TextEncoder().encode(name)) hash = (Math.imul(hash, 31) + byte) >>> 0;
+const spread = Math.imul(hash, 2654435769) >>> 0;
+return Math.floor(spread / 65536) % (HUES * SHADES);
+}
+function packageShade(name) {
+const hue = nameShade(packageOf(name)) % HUES;
+return Math.floor(nameShade(name) / HUES) * HUES + hue;
+}
+function nameShades(names, shadeOf) {
+const shades = new Int16Array(names.length).fill(-1);
+return (name) => {
+if (shades[name] < 0) shades[name] = shadeOf(names[name]);
+return shades[name];
+};
+}
+function isEitherCase(find, by) {
+return by === 'text' && find === find.toLowerCase();
+}
+function nameTest(find, by) {
+if (by === 'name') return (name) => name === find;
+const text = by === 'text' ? find.replace(/[\\^$.*+?()[\]{}|/]/g, '\\$&') : find;
+const flags = isEitherCase(find, by) ? 'iu' : 'u';
+try {
+const expression = new RegExp(text, flags);
+return (name) => expression.test(name);
+} catch {
+return null;
+}
+}
+function nameMatcher(names) {
+let asked = '';
+let matching = null;
+return (find, by) => {
+const key = `${by} ${find}`;
+if (key !== asked) {
+const test = nameTest(find, by);
+asked = key;
+matching = test && Uint8Array.from(names, (name) => Number(test(name)));
+}
+return matching;
+};
+}
+function matchesOf(drawing, matching) {
+const boxes = [];
+let weight = 0;
+let covered = 0;
+for (let box = 0; box < drawing.count; box++) {
+if (!matching[drawing.name[box]] || isRoot(drawing, box)) continue;
+boxes.push(box);
+if (box < covered) continue;
+covered = drawing.end[box];
+weight += drawing.weight[box];
+}
+return {
+boxes,
+weight,
+rows: rowsOf(drawing.row, drawing.rowCount, boxes),
+isMatch: (box) => !isRoot(drawing, box) && matching[drawing.name[box]] === 1,
+};
+}
+function matchesIn(matches, drawing, place) {
+const { first, order } = matches.rows;
+const row = drawing.row[place.box];
+const firstFrom = (box) => firstPlace(first[row], first[row + 1], (at) => order[at] >= box);
+return firstFrom(drawing.rows.order[place.at + place.count - 1] + 1) - firstFrom(place.box);
+}
+function neighbourMatch(matches, box, isForward) {
+const { boxes } = matches;
+if (boxes.length === 0) return -1;
+if (isForward) return boxes[firstPlace(0, boxes.length, (place) => boxes[place] > box) % boxes.length];
+const place = firstPlace(0, boxes.length, (each) => boxes[each] >= box);
+return boxes[(place + boxes.length - 1) % boxes.length];
+}
+function neighbourByWeight(matches, drawing, box, isForward) {
+const { boxes, isMatch } = matches;
+if (boxes.length === 0) return -1;
+const compare = (one, other) => drawing.weight[other] - drawing.weight[one] || one - other;
+const heaviest = boxes.slice().sort(compare);
+const at = isMatch(box) ? firstPlace(0, heaviest.length, (place) => compare(heaviest[place], box) >= 0) : isForward ? -1 : 0;
+return heaviest[(at + (isForward ? 1 : -1) + heaviest.length) % heaviest.length];
+}
+const LANE_HEIGHT = 22;
+const AXIS_HEIGHT = 16;
+const TICK_HEIGHT = 12;
+const TEXT_FROM = 20;
+function coloursFor(scene, box) {
+const { drawing, colours, span, matches } = scene;
+if (matches && matches.isMatch(box)) return { fill: colours.match, ink: colours.matchInk };
+if (matches || drawing.depth[box] < spanOfRow(drawing, drawing.row[box], span).depth) return { fill: colours.dim, ink: colours.dimInk };
+if (drawing.other) {
+const { before, after } = comparedOf(scene.page, scene.isShare, bothWeights(drawing, box));
+return { fill: colours.changes[changeShade(before, after)], ink: colours.ink };
+}
+if (drawing.depth[box] === 0) return { fill: colours.root, ink: colours.ink };
+return { fill: colours.plain[scene.shadeOf(drawing.name[box])], ink: colours.ink };
+}
+function joinedFill({ drawing, colours, matches }, place) {
+if (!matches) return colours.joined;
+const matching = matchesIn(matches, drawing, place);
+if (matching === 0) return colours.dim;
+return matching === place.count ? colours.match : colours.joinedMatch;
+}
+function addedText(scene, box) {
+if (!scene.drawing.other) return '';
+const { before, after } = comparedOf(scene.page, scene.isShare, bothWeights(scene.drawing, box));
+return changeText(before, after);
+}
+function paintPlace(painter, scene, place, top) {
+const { box, left, right, begin, end } = place;
+if (isJoined(place)) {
+painter.rectangle(begin, top, end - begin, ROW_HEIGHT - 1, joinedFill(scene, place));
+return;
+}
+const { fill, ink } = coloursFor(scene, box);
+painter.rectangle(begin, top, end - begin, ROW_HEIGHT - 1, fill);
+if (right - left < TEXT_FROM || sourceOf(scene.drawing, box) >= 0) return;
+const text = scene.lettering.textFor(scene.drawing.name[box], addedText(scene, box), right - left);
+if (text) painter.text(left + PAD, top + ROW_HEIGHT / 2, text, ink);
+}
+function paintSource(painter, scene, row, top) {
+const band = bandOf(scene.drawing, row);
+if (!band || band.row !== row) return;
+const text = scene.sourceLettering.textFor(band.source, '', scene.width);
+if (text) painter.text(PAD, top + ROW_HEIGHT / 2, text, coloursFor(scene, band.first).ink);
+}
+function paintRow(painter, scene, row) {
+const top = scene.lanes + rowTop(scene.rowCount, row, scene.below) - scene.top;
+if (top >= scene.lanes + scene.height) return;
+for (const place of placesOf(scene.drawing, row, scene.span, scene.width)) {
+painter.entitled(() => placeTitle(scene, place), () => paintPlace(painter, scene, place, top));
+}
+paintSource(painter, scene, row, top);
+}
+function paintBoundaries(painter, scene) {
+if (!isTimeline(scene.page, scene.drawing) || isBeside(scene.drawing)) return;
+const { span, width, lanes } = scene;
+for (const source of scene.page.sources.slice(1)) {
+if (source.start <= span.from || source.start >= span.to) continue;
+painter.upright(((source.start - span.from) * width) / (span.to - span.from), lanes, scene.height, scene.colours.line);
+}
+}
+function paintLanes(painter, scene) {
+for (const { number, left, right } of lanesOf(scene.page, scene.drawing, scene.span, scene.width)) {
+painter.rectangle(left, 0, Math.max(right - left - 1, 0.3), LANE_HEIGHT - 2, scene.colours.dim);
+const text = scene.sourceLettering.textFor(number, '', right - left);
+if (text) painter.text(left + PAD, LANE_HEIGHT / 2, text, scene.colours.ink);
+}
+}
+function paintAxis(painter, scene) {
+const top = scene.lanes - AXIS_HEIGHT;
+for (const { left, text } of ticksOf(scene.page, scene.drawing, scene.span, scene.width)) {
+painter.upright(left, top, TICK_HEIGHT, scene.colours.line);
+painter.text(left + PAD, top + TICK_HEIGHT / 2, text, scene.colours.ink);
+}
+}
+function lanesHeight(page, drawing) {
+if (!isTimeline(page, drawing)) return 0;
+return isBeside(drawing) ? AXIS_HEIGHT : LANE_HEIGHT + AXIS_HEIGHT;
+}
+function paintScene(painter, scene) {
+const { rowCount, below, top, lanes } = scene;
+painter.rectangle(0, 0, scene.width, lanes + scene.height, scene.colours.paper);
+if (lanes > 0) {
+paintLanes(painter, scene);
+paintAxis(painter, scene);
+}
+const rows = [rowAt(rowCount, top, below), rowAt(rowCount, top + scene.height, below)];
+const last = Math.min(rowCount - 1, Math.max(...rows));
+for (let row = Math.max(0, Math.min(...rows)); row <= last; row++) paintRow(painter, scene, row);
+paintBoundaries(painter, scene);
+}
+class CanvasPainter {
+constructor() {
+this.boxes = new Map();
+this.texts = [];
+this.lines = [];
+}
+rectangle(left, top, width, height, fill) {
+const sides = this.boxes.get(fill);
+if (sides) sides.push(left, top, width, height);
+else this.boxes.set(fill, [left, top, width, height]);
+}
+text(left, middle, text, ink) {
+this.texts.push({ left, middle, text, ink });
+}
+upright(left, top, height, colour) {
+this.lines.push({ left, top, height, colour });
+}
+entitled(titleOf, paint) {
+paint();
+}
+finish(context) {
+for (const [fill, sides] of this.boxes) {
+context.fillStyle = fill;
+for (let at = 0; at < sides.length; at += 4) context.fillRect(sides[at], sides[at + 1], sides[at + 2], sides[at + 3]);
+}
+context.font = FONT;
+context.textBaseline = 'middle';
+context.direction = 'ltr';
+for (const { left, middle, text, ink } of this.texts) {
+context.fillStyle = ink;
+context.fillText(text, left, middle);
+}
+for (const { left, top, height, colour } of this.lines) {
+context.fillStyle = colour;
+context.fillRect(Math.round(left), top, 1, height);
+}
+}
+}
+function paintOnCanvas(canvas, scene, dots) {
+const context = contextOf(canvas);
+context.setTransform(dots, 0, 0, dots, 0, 0);
+const painter = new CanvasPainter();
+paintScene(painter, scene);
+painter.finish(context);
 }
 "##;

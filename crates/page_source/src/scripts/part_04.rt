@@ -1,242 +1,415 @@
-//! What `page/join` takes of page/focus.js, lists.js, map.js, lettering.js.
+//! What `page/join` takes of page/notices.js, svg.js, saving.js, listening.js, address.js.
 //! `checks/page_source --write` makes this file.
 
-pub(crate) const TEXT: &str = r##"const NARROWEST_RING = 4;
-function placeInRow(drawing, box) {
-const { first, order } = drawing.rows;
-const row = drawing.row[box];
-return firstPlace(first[row], first[row + 1], (at) => order[at] >= box);
+pub(crate) const TEXT: &str = r##"function summaryText(page, drawing) {
+const files = page.sources.length === 1 ? '1 source' : `${page.sources.length} sources`;
+const types = [...new Set(weighty(page.sources).map((source) => source.type))];
+const type = types.length === 1 && types[0] !== '' ? ` of ${visible(types[0])}` : '';
+const boxes = `${separated(drawing.count)} ${drawing.count === 1 ? 'box' : 'boxes'}`;
+if (page.view === 'compare') {
+const [before, after] = page.sources.map((source) => source.weight);
+const weights = `before ${weightText(before, page.unit)}, after ${weightText(after, page.unit)}${type}`;
+return `Comparison: ${weights}, ${changeText(before, after)}; ${boxes}`;
 }
-class Ring {
-constructor(picture) {
-this.picture = picture;
-this.rings = [element('ring-0'), element('ring-1')];
-this.used = 0;
-this.shown = '';
+const kind = page.view === 'graph' ? 'Flame graph' : 'Flame chart';
+return `${kind} of ${files}: ${weightText(drawing.total, page.unit)}${type}, ${boxes}`;
 }
-show(view) {
-const { picture, rings } = this;
-if (view.drawing.count === 0 || !isInSpan(view.drawing, view.state.focus, view.span)) {
-for (const ring of rings) ring.hidden = true;
-picture.removeAttribute('aria-activedescendant');
+function sourceText(source, tell) {
+const type = source.type === '' ? '' : ` of ${visible(source.type)}`;
+return `${shortened(source.name, 300)}: ${tell(source.weight, source.unit)}${type}`;
+}
+function unitsNotice(page) {
+const told = weighty(page.sources).map(({ name, unit }) => `${shortened(name, 60)} in ${unit === '' ? 'plain numbers' : visible(unit)}`);
+const little = page.view === 'compare' ? 'comparing them' : 'their sum';
+return `The sources have different units, so ${little} means little: ${told.join(', ')}.`;
+}
+function typesNotice(page) {
+const told = weighty(page.sources).map(({ name, type }) => `${shortened(name, 60)} has ${type === '' ? 'none' : visible(type)}`);
+return `The sources have different types of samples: ${told.join(', ')}.`;
+}
+function filterNotice(page) {
+const share = percentText(page.kept, page.whole);
+const kept = share === '100%' ? 'more than 99.9%' : share;
+const whole = page.view === 'compare' ? 'the whole of both profiles' : 'the whole';
+return `A filter keeps ${kept} of ${whole}: ${weightText(page.kept, page.unit)} of ${weightText(page.whole, page.unit)}.`;
+}
+function leftOutNotice(page, drawing, of) {
+const { boxes, weight } = drawing.leftOut;
+if (boxes === 0) return '';
+const many = `${separated(boxes)} ${boxes === 1 ? 'box' : 'boxes'} of together ${weightText(weight, page.unit)}`;
+return `Left out${of}: ${many}, each lighter than ${weightText(drawing.least, page.unit)}. Neither the search nor the lists count them.`;
+}
+function leftOutNotices(page, drawing) {
+if (page.view !== 'compare') return [leftOutNotice(page, drawing, '')];
+return [leftOutNotice(page, page.drawing(0), ' of the profile before'), leftOutNotice(page, page.drawing(1), ' of the profile after')];
+}
+function noticesOf(page, drawing) {
+const notices = [];
+if (page.unit === null) notices.push(unitsNotice(page));
+else if (new Set(weighty(page.sources).map((source) => source.type)).size > 1) notices.push(typesNotice(page));
+if (page.isFiltered) notices.push(filterNotice(page));
+if (Math.max(page.kept, page.whole) > Number.MAX_SAFE_INTEGER) {
+const limit = separated(Number.MAX_SAFE_INTEGER);
+notices.push(`Weights above ${limit} are rounded here: JavaScript has no more digits. The data in the document is exact.`);
+}
+notices.push(...leftOutNotices(page, drawing).filter((notice) => notice !== ''));
+if (drawing.count === 0 && drawing.leftOut.boxes === 0) notices.push('No sample has weight, so there is nothing to draw.');
+return notices;
+}
+function centreText(page, drawing) {
+if (drawing.centre < 0) return '';
+const name = shortened(page.names[drawing.centre], 100) || '(empty name)';
+return drawing.count > 0 ? `callers and callees of ${name}` : `${name} is not here`;
+}
+function countsText(page, counts) {
+const most = 8;
+const told = page.sources.slice(0, most).map(({ name }, source) => `${separated(counts[source])} of ${shortened(name, 60)}`);
+const others = counts.slice(most).reduce((sum, count) => sum + count, 0);
+return told.join(', ') + (counts.length > most ? ` and ${separated(others)} of ${counts.length - most} more sources` : '');
+}
+function drawingText(page, drawing, number) {
+if (page.view === 'compare') return `${number === 0 ? 'before' : 'after'}: ${shortened(page.sources[number].name, 100)}`;
+if (page.drawingCount === 1) return '';
+if (drawing.at === undefined || !drawing.counts) return 'all samples';
+const first = drawing.at === 1 ? 'the first sample' : `the first ${separated(drawing.at)} samples`;
+return page.sources.length > 1 ? `${first}: ${countsText(page, drawing.counts)}` : first;
+}
+const ESCAPES = { '&': '&amp;', '<': '&lt;', '>': '&gt;', '"': '&quot;', "'": '&apos;' };
+function escapedText(text) {
+return text.replace(/[&<>"']/g, (character) => ESCAPES[character]);
+}
+function short(number) {
+return String(Math.round(number * 100) / 100);
+}
+class SvgPainter {
+constructor(isPaper) {
+this.isPaper = isPaper;
+this.parts = [];
+}
+rectangle(left, top, width, height, fill) {
+const area = `x="${short(left)}" y="${short(top)}" width="${short(width)}" height="${short(height)}"`;
+this.parts.push(`<rect ${area} fill="${fill}"/>`);
+}
+text(left, middle, text, ink) {
+this.parts.push(`<text x="${short(left)}" y="${short(middle + 4)}" fill="${ink}">${escapedText(text)}</text>`);
+}
+upright(left, top, height, colour) {
+this.rectangle(Math.round(left), top, 1, height, colour);
+}
+entitled(titleOf, paint) {
+if (!this.isPaper) this.parts.push(`<g><title>${escapedText(titleOf())}</title>`);
+paint();
+if (!this.isPaper) this.parts.push('</g>');
+}
+}
+function svgOf(scene, isPaper) {
+const { page, drawing, width } = scene;
+const height = scene.lanes + scene.height;
+const texts = [shortened(page.title, 1500), centreText(page, drawing), summaryText(page, drawing)];
+const painter = new SvgPainter(isPaper);
+paintScene(painter, scene);
+return [
+`<svg xmlns="http://www.w3.org/2000/svg" width="${width}" height="${height}" viewBox="0 0 ${width} ${height}">`,
+`<title>${escapedText(texts.filter((text) => text !== '').join(' \u00b7 '))}</title>`,
+`<g font-family="${escapedText(FONT_FAMILY)}" font-size="12" xml:space="preserve">`,
+...painter.parts,
+'</g>',
+'</svg>',
+].join('\n');
+}
+const LONGEST_SIDE = 16384;
+const LARGEST_AREA = 2 ** 28;
+function offer(blob, name) {
+const link = document.createElement('a');
+link.href = URL.createObjectURL(blob);
+link.download = name;
+link.click();
+setTimeout(() => URL.revokeObjectURL(link.href), 10000);
+}
+function fileName(title, ending) {
+const plain = title.slice(0, 80).replace(/[^A-Za-z0-9.-]+/g, '-').replace(/^[.-]+|[.-]+$/g, '');
+return `${plain || 'flamecollect'}.${ending}`;
+}
+function saveSvg(scene) {
+offer(new Blob([svgOf(scene, false)], { type: 'image/svg+xml' }), fileName(scene.page.title, 'svg'));
+}
+function dotsFor(width, height) {
+const fitting = [2, 1].find((dots) => Math.max(width, height) * dots <= LONGEST_SIDE && width * height * dots ** 2 <= LARGEST_AREA);
+return fitting || 0;
+}
+function savePng(scene, say) {
+const [width, height] = [scene.width, scene.lanes + scene.height];
+const refuse = () => say(`A PNG of ${separated(width)} by ${separated(height)} pixels is too large for this browser. An SVG is not.`);
+const dots = dotsFor(width, height);
+if (dots === 0) {
+refuse();
 return;
 }
-const text = boxLine(view, view.state.focus);
-if (text !== this.shown) {
-rings[this.used].hidden = true;
-this.used = 1 - this.used;
-this.shown = text;
+const canvas = document.createElement('canvas');
+[canvas.width, canvas.height] = [width * dots, height * dots];
+paintOnCanvas(canvas, scene, dots);
+canvas.toBlob((blob) => (blob ? offer(blob, fileName(scene.page.title, 'png')) : refuse()), 'image/png');
 }
-const ring = rings[this.used];
-this.place(ring, view);
-this.label(ring, view, text);
-ring.hidden = false;
-picture.setAttribute('aria-activedescendant', ring.id);
-}
-place(ring, view) {
-const { drawing, span, state } = view;
-const { focus } = state;
-const row = drawing.row[focus];
-const seen = spanOfRow(drawing, row, span);
-const { left, right } = edgesOf(drawing.start[focus], endOf(drawing, focus), seen, this.picture.clientWidth);
-ring.style.left = `${left}px`;
-ring.style.width = `${Math.max(right - left, NARROWEST_RING)}px`;
-ring.style.top = `${rowTop(drawing.rowCount, row, state.below)}px`;
-ring.style.height = `${ROW_HEIGHT}px`;
-}
-label(ring, view, text) {
-const { drawing, state } = view;
-const row = drawing.row[state.focus];
-const [first, stop] = [drawing.rows.first[row], drawing.rows.first[row + 1]];
-ring.setAttribute('aria-label', text);
-ring.setAttribute('aria-level', String(row + 1));
-ring.setAttribute('aria-setsize', String(stop - first));
-ring.setAttribute('aria-posinset', String(placeInRow(drawing, state.focus) - first + 1));
-ring.setAttribute('aria-selected', 'true');
-}
-}
-function boxByKey(view, key) {
-const { drawing, span, state } = view;
-const box = state.focus;
-const row = drawing.row[box];
-const { from, to } = inRow(drawing, row, span);
-const seen = (at) => (at >= from && at < to ? drawing.rows.order[at] : -1);
-const behind = state.below ? 'ArrowUp' : 'ArrowDown';
-if (key === 'ArrowUp' || key === 'ArrowDown') return boxBeside(drawing, box, span, key === behind ? row + 1 : row - 1);
-if (key === 'ArrowLeft') return seen(placeInRow(drawing, box) - 1);
-if (key === 'ArrowRight') return seen(placeInRow(drawing, box) + 1);
-if (key === 'Home') return seen(from);
-if (key === 'End') return seen(to - 1);
-return -1;
-}
-function boxBeside(drawing, box, span, row) {
-const on = drawing.parent[box];
-if (on >= 0 && drawing.row[on] === row) return on;
-let found = -1;
-for (let each = box + 1; each < drawing.end[box]; each = drawing.end[each]) {
-if (drawing.row[each] !== row || !isInSpan(drawing, each, span)) continue;
-if (found < 0 || drawing.weight[each] > drawing.weight[found]) found = each;
-}
-return found;
-}
-const CLOSED_BELOW = 120;
-function showLists(width) {
-const main = inside(document, 'main');
-const divider = element('divider');
-element('lists').hidden = width === 0;
-divider.hidden = width === 0;
-input('listed').checked = width !== 0;
-if (width > 0) main.style.setProperty('--lists', `${width}px`);
-else main.style.removeProperty('--lists');
-divider.setAttribute('aria-valuenow', String(listsWidth()));
-}
-function listsWidth() {
-return element('lists').offsetWidth;
-}
-function draggedWidth(dragged) {
-return dragged < CLOSED_BELOW ? 0 : Math.round(dragged);
-}
-const BY_WHEEL = 0.002;
-const BY_TOUCHPAD = 0.01;
-const WHEEL_UNITS = [1, 16, 400];
-const KEYS = { '+': 1 / 1.5, '=': 1 / 1.5, '-': 1.5, '<': -0.25, '>': 0.25 };
-const SHORTEST_DRAG = 4;
-function isMap({ page, view }) {
-return isTimeline(page, view.drawing) && view.drawing.count > 0;
-}
-function widen(viewer, across, times) {
-const { left } = viewer.stage.picture.getBoundingClientRect();
-const { span, drawing } = viewer.view;
-viewer.lookAt(widened(span, drawing.total, (across - left) / viewer.stage.picture.clientWidth, times));
-}
-function drag(viewer, across, down) {
-const { span, drawing } = viewer.view;
-const { picture } = viewer.stage;
-picture.scrollTop += down;
-if (across !== 0) viewer.lookAt(moved(span, drawing.total, across / picture.clientWidth));
-}
-function isMapKey(key) {
-return Object.hasOwn(KEYS, key);
-}
-function moveByKey(viewer, key) {
-if (!isMap(viewer)) return;
-const { span, drawing } = viewer.view;
-const isMove = key === '<' || key === '>';
-viewer.lookAt(isMove ? moved(span, drawing.total, KEYS[key]) : widened(span, drawing.total, 0.5, KEYS[key]));
-}
-function listenToWheel(viewer) {
-const { picture } = viewer.stage;
-let [times, across, side, frame] = [1, 0, 0, 0];
-const look = () => {
-frame = 0;
-if (times !== 1) widen(viewer, across, times);
-if (side !== 0) drag(viewer, side, 0);
-[times, side] = [1, 0];
+const TYPING = 150;
+const WIDTH_STEP = 20;
+const LONGEST_CLICK = 4;
+function listenToSearch(viewer) {
+const find = input('find');
+const [by, order] = ['by', 'order'].map((id) => elementOf(id, HTMLSelectElement));
+let waiting = 0;
+const search = () => {
+clearTimeout(waiting);
+const { state } = viewer.view;
+if (find.value !== state.find || by.value !== state.by) viewer.change({ find: find.value, by: by.value }, false);
 };
-picture.addEventListener('wheel', (event) => {
-if (!isMap(viewer)) return;
+find.addEventListener('input', () => {
+clearTimeout(waiting);
+waiting = window.setTimeout(search, TYPING);
+});
+by.addEventListener('change', search);
+order.addEventListener('change', () => viewer.change({ order: order.value }, false));
+element('search').addEventListener('submit', (event) => {
 event.preventDefault();
-const unit = WHEEL_UNITS[event.deltaMode];
-const [right, down] = event.shiftKey ? [event.deltaX + event.deltaY, 0] : [event.deltaX, event.deltaY];
-times *= Math.exp(down * unit * (event.ctrlKey ? BY_TOUCHPAD : BY_WHEEL));
-side += right * unit;
-across = event.clientX;
-if (frame === 0) frame = requestAnimationFrame(look);
-}, { passive: false });
+search();
+viewer.toMatch(true);
+});
+button('previous').addEventListener('click', () => viewer.toMatch(false));
+find.addEventListener('keydown', (event) => {
+const isPrevious = event.key === 'Enter' && event.shiftKey;
+const isCleared = event.key === 'Escape' && find.value !== '';
+if (!isPrevious && !isCleared) return;
+event.preventDefault();
+if (isCleared) find.value = '';
+search();
+if (isPrevious) viewer.toMatch(false);
+});
 }
-function handOf(points) {
-const [first, last] = [points[0], points[points.length - 1]];
-return { x: (first.x + last.x) / 2, y: (first.y + last.y) / 2, apart: Math.max(1, Math.abs(first.x - last.x)) };
+function listenToPrint(viewer) {
+const paper = element('paper');
+window.addEventListener('beforeprint', () => {
+const text = svgOf(viewer.stage.wholeScene(viewer.view, true), true);
+paper.replaceChildren(new DOMParser().parseFromString(text, 'image/svg+xml').documentElement);
+});
+window.addEventListener('afterprint', () => paper.replaceChildren());
+button('print').addEventListener('click', () => window.print());
 }
-function listenToDrags(viewer) {
+function listenToTools(viewer) {
+const [below, snapshot, before, share] = ['below', 'snapshot', 'before', 'share'].map(input);
+const [heavy, beside, packages] = ['heavy', 'beside', 'packages'].map(input);
+button('back').addEventListener('click', () => viewer.goBack());
+below.addEventListener('change', () => viewer.change({ below: below.checked }, false));
+snapshot.addEventListener('input', () => viewer.turnTo({ drawing: Number(snapshot.value) }));
+before.addEventListener('change', () => viewer.turnTo({ drawing: before.checked ? 0 : 1 }));
+heavy.addEventListener('change', () => viewer.turnTo({ heavy: heavy.checked }));
+beside.addEventListener('change', () => viewer.turnTo({ beside: beside.checked, from: -1, to: -1 }));
+button('callers').addEventListener('click', () => viewer.showCallersOfFocus());
+packages.addEventListener('change', () => viewer.change({ packages: packages.checked }, false));
+share.addEventListener('change', () => viewer.change({ share: share.checked }, false));
+const scene = () => viewer.stage.wholeScene(viewer.view, false);
+button('save-svg').addEventListener('click', () => saveSvg(scene()));
+button('save-png').addEventListener('click', () => savePng(scene(), (text) => viewer.say(text)));
+}
+function listenToLists(viewer) {
+const divider = element('divider');
+const listed = input('listed');
+const widen = (width) => viewer.change({ lists: draggedWidth(width) }, false);
+let [dragged, begin] = [-1, 0];
+listed.addEventListener('change', () => viewer.change({ lists: listed.checked ? -1 : 0 }, false));
+divider.addEventListener('pointerdown', (event) => {
+divider.setPointerCapture(event.pointerId);
+[dragged, begin] = [listsWidth(), event.clientX];
+event.preventDefault();
+});
+divider.addEventListener('pointermove', (event) => {
+if (dragged >= 0) showLists(draggedWidth(dragged + begin - event.clientX) || 1);
+});
+divider.addEventListener('pointerup', (event) => {
+if (dragged >= 0 && event.clientX !== begin) widen(dragged + begin - event.clientX);
+dragged = -1;
+});
+divider.addEventListener('keydown', (event) => {
+const steps = event.key === 'ArrowLeft' ? 1 : event.key === 'ArrowRight' ? -1 : 0;
+if (steps === 0 || isForBrowser(event)) return;
+event.preventDefault();
+widen(listsWidth() + steps * WIDTH_STEP);
+});
+}
+function listenToPointer(viewer) {
 const { picture } = viewer.stage;
-const points = new Map();
-let isDragged = false;
 let frame = 0;
-let before = { x: 0, y: 0, apart: 1 };
-const look = () => {
-frame = 0;
-if (points.size === 0) return;
-const now = handOf([...points.values()]);
-if (points.size > 1) widen(viewer, now.x, before.apart / now.apart);
-drag(viewer, before.x - now.x, before.y - now.y);
-before = now;
+let pressed = null;
+picture.addEventListener('pointermove', (event) => viewer.hover(viewer.stage.placeUnder(viewer.view, event), event));
+picture.addEventListener('pointerleave', (event) => viewer.hover(null, event));
+picture.addEventListener('pointerdown', (event) => { pressed = event; });
+picture.addEventListener('click', (event) => {
+const moved = pressed ? Math.hypot(event.clientX - pressed.clientX, event.clientY - pressed.clientY) : 0;
+const place = viewer.stage.placeUnder(viewer.view, event);
+pressed = null;
+if (!place || isJoined(place) || moved > LONGEST_CLICK) return;
+const isNaming = event instanceof PointerEvent && event.pointerType === 'touch' && place.box !== viewer.view.state.focus;
+if (isNaming) viewer.focusOn(place.box);
+else viewer.zoomTo(place.box);
+});
+picture.addEventListener('scroll', () => {
+cancelAnimationFrame(frame);
+frame = requestAnimationFrame(() => viewer.refresh());
+});
+}
+function isForBrowser(event) {
+return event.ctrlKey || event.metaKey || event.altKey;
+}
+function listenToKeys(viewer) {
+viewer.stage.picture.addEventListener('keydown', (event) => {
+const { view } = viewer;
+if (view.drawing.count === 0 || isForBrowser(event)) return;
+if (event.key === 'Enter') viewer.zoomTo(view.state.focus);
+else if (event.key === 'c') viewer.showCallersOfFocus();
+else if (isMapKey(event.key)) moveByKey(viewer, event.key);
+else if (/^(Arrow|Home|End)/.test(event.key)) {
+const box = boxByKey(view, event.key);
+if (box >= 0) viewer.focusOn(box);
+} else return;
+event.preventDefault();
+});
+document.addEventListener('keydown', (event) => {
+const at = event.target instanceof Element ? event.target : document.body;
+if (event.key === 'Escape' && !event.defaultPrevented && !at.matches('select')) viewer.goBack();
+if (event.key !== '/' || at.matches('input[type="search"], select') || isForBrowser(event)) return;
+event.preventDefault();
+input('find').focus();
+});
+}
+function listen(viewer) {
+listenToSearch(viewer);
+listenToPrint(viewer);
+listenToTools(viewer);
+listenToLists(viewer);
+listenToPointer(viewer);
+listenToMap(viewer);
+listenToKeys(viewer);
+window.addEventListener('popstate', (event) => viewer.goTo(event));
+new ResizeObserver(() => viewer.refresh()).observe(viewer.stage.picture);
+viewer.stage.darkness.addEventListener('change', () => viewer.paint());
+}
+const LONGEST_PATH = 4000;
+const WIDEST_LISTS = 10000;
+function decoded(text) {
+try {
+return decodeURIComponent(text);
+} catch {
+return text;
+}
+}
+function encoded(text) {
+return encodeURIComponent(new TextDecoder('utf-8', { ignoreBOM: true }).decode(new TextEncoder().encode(text)));
+}
+function zoomWords(page, drawing, state) {
+if (state.source >= 0) return [`source=${state.source}`];
+if (state.from >= 0) return [`from=${state.from}`, `to=${state.to}`];
+if (state.box === 0) return [];
+const path = pathOf(page, drawing, state.box);
+const length = path.reduce((sum, name) => sum + name.length, 0);
+const zoom = length > LONGEST_PATH ? '' : path.map(encoded).join('/');
+if (length > LONGEST_PATH || zoom.length > 3 * LONGEST_PATH) return [`box=${state.box}`];
+if (isCaller(drawing, state.box)) return [`up=${zoom}`];
+return isTimeline(page, drawing) ? [`zoom=${zoom}`, `start=${timeOf(drawing, state.box)}`] : [`zoom=${zoom}`];
+}
+function callersWord(text, name) {
+return text.length > LONGEST_PATH ? `function=${name}` : `callers=${encoded(text)}`;
+}
+function fragmentOf(page, state) {
+const words = zoomWords(page, page.arranged(state), state);
+if (state.callers >= 0) words.unshift(callersWord(page.names[state.callers], state.callers));
+if (state.find !== '') words.push(`find=${encoded(state.find)}`);
+if (state.find !== '' && state.by !== 'text') words.push(`by=${state.by}`);
+if (state.order !== 'place') words.push(`order=${state.order}`);
+if (state.drawing !== page.drawingCount - 1) words.push(`drawing=${state.drawing}`);
+if (state.below !== page.isBelow) words.push(state.below ? 'root=below' : 'root=above');
+if (state.lists >= 0) words.push(`lists=${state.lists}`);
+if (state.share) words.push('share=1');
+if (state.heavy) words.push('heavy=1');
+if (state.beside) words.push('beside=1');
+if (state.packages) words.push('colours=package');
+return `#${words.join('&')}`;
+}
+function partOfWords(words, length) {
+const [from, to] = ['from', 'to'].map((key) => (/^[0-9]{1,15}(\.[0-9]{1,3})?$/.test(words.get(key) || '') ? Number(words.get(key)) : -1));
+return from >= 0 && to - from > 0.999 && to <= length ? { from, to } : { from: -1, to: -1 };
+}
+function wholeNumber(text, limit) {
+return /^[0-9]{1,15}$/.test(text || '') && Number(text) < limit ? Number(text) : -1;
+}
+function wordsOf(fragment) {
+const words = new Map();
+for (const word of fragment.replace(/^#/, '').split('&')) {
+const place = word.indexOf('=');
+if (place > 0) words.set(word.slice(0, place), word.slice(place + 1));
+}
+return words;
+}
+function wordsOfStep(fragment, made, now) {
+const words = wordsOf(fragment);
+const [wordsMade, wordsNow] = [wordsOf(made), wordsOf(now)];
+for (const key of ['find', 'by', 'order', 'drawing', 'root', 'lists', 'share', 'heavy', 'beside', 'colours']) {
+const kept = wordsNow.get(key);
+if (wordsMade.get(key) === kept) continue;
+if (['drawing', 'heavy', 'beside'].includes(key)) words.delete('box');
+if (key === 'beside') words.delete('from');
+if (kept === undefined) words.delete(key);
+else words.set(key, kept);
+}
+return words;
+}
+function boxOfWords(page, drawing, words) {
+const isUp = words.has('up');
+const zoom = words.get(isUp ? 'up' : 'zoom');
+if (zoom === undefined) return words.has('box') ? wholeNumber(words.get('box'), drawing.count) : 0;
+const path = zoom.split('/').map(decoded);
+const box = boxAt(page, drawing, path, Number(words.get('start') || -1), isUp);
+return drawing.depth[box] === path.length ? box : -1;
+}
+function choiceOfWords(page, words) {
+const number = wholeNumber(words.get('drawing'), page.drawingCount);
+const drawing = number >= 0 ? number : page.drawingCount - 1;
+const heavy = page.view !== 'chart' && words.get('heavy') === '1';
+const choice = { drawing, callers: -1, heavy, beside: hasLanes(page) && words.get('beside') === '1' };
+const name = words.get('callers');
+if (name === undefined && !words.has('function')) return { choice, isLost: false };
+const callers = name === undefined ? wholeNumber(words.get('function'), page.names.length) : page.names.indexOf(decoded(name));
+const isLost = callers < 0 || page.arranged({ ...choice, callers }).count === 0;
+return { choice: isLost ? choice : { ...choice, callers }, isLost };
+}
+function linkedOf(page, words) {
+const { choice, isLost } = choiceOfWords(page, words);
+const isSourced = page.view === 'chart' && choice.callers < 0;
+const source = isSourced ? wholeNumber(words.get('source'), page.sources.length) : -1;
+const drawing = page.arranged(choice);
+const box = isLost ? -1 : boxOfWords(page, drawing, words);
+const by = words.get('by');
+const state = {
+...choice,
+source: source >= 0 && page.sources[source].weight > 0 ? source : -1,
+box: Math.max(0, box),
+...(isSourced ? partOfWords(words, drawing.length) : { from: -1, to: -1 }),
+find: decoded(words.get('find') || ''),
+by: by === 'name' || by === 'regexp' ? by : 'text',
+order: words.get('order') === 'weight' ? 'weight' : 'place',
+below: page.isBelow ? words.get('root') !== 'above' : words.get('root') === 'below',
+lists: wholeNumber(words.get('lists'), WIDEST_LISTS),
+share: page.view === 'compare' && words.get('share') === '1',
+packages: page.view !== 'compare' && words.get('colours') === 'package',
 };
-picture.addEventListener('pointerdown', (event) => {
-if (!isMap(viewer) || event.button !== 0) return;
-points.set(event.pointerId, { x: event.clientX, y: event.clientY });
-before = handOf([...points.values()]);
-isDragged = points.size > 1;
-});
-picture.addEventListener('pointermove', (event) => {
-const point = points.get(event.pointerId);
-if (!point) return;
-const isShort = Math.hypot(event.clientX - before.x, event.clientY - before.y) < SHORTEST_DRAG;
-if (isShort && !isDragged) return;
-isDragged = true;
-picture.setPointerCapture(event.pointerId);
-points.set(event.pointerId, { x: event.clientX, y: event.clientY });
-if (frame === 0) frame = requestAnimationFrame(look);
-});
-for (const kind of ['pointerup', 'pointercancel']) {
-picture.addEventListener(kind, (event) => {
-if (event instanceof PointerEvent) points.delete(event.pointerId);
-if (points.size > 0) before = handOf([...points.values()]);
-});
+return { state, isDead: box < 0 };
 }
+function stepsMade() {
+return history.state?.steps || 0;
 }
-function listenToMap(viewer) {
-viewer.stage.picture.classList.toggle('map', viewer.page.view === 'chart');
-listenToWheel(viewer);
-listenToDrags(viewer);
-}
-const FONT_FAMILY = 'ui-monospace, "DejaVu Sans Mono", Menlo, Consolas, monospace';
-const FONT = `12px ${FONT_FAMILY}`;
-const PAD = 4;
-const LONGEST = 1000;
-class Lettering {
-constructor(names, formsOf) {
-this.names = names;
-this.formsOf = formsOf;
-this.context = contextOf(document.createElement('canvas'));
-this.context.font = FONT;
-this.letter = this.context.measureText('0').width;
-this.shown = new Map();
-}
-textFor(name, added, width) {
-const room = width - 2 * PAD;
-if (room < 2 * this.letter) return '';
-const forms = this.shownOf(name);
-const chosen = firstPlace(0, forms.length, (form) => this.hasRoom(forms[form], room));
-if (chosen === forms.length) return this.cut(forms[chosen - 1], room);
-const { text } = forms[chosen];
-const whole = `${text} ${added}`;
-return chosen === 0 && added && this.fits(whole, room) ? whole : text;
-}
-shownOf(name) {
-const known = this.shown.get(name);
-if (known) return known;
-const shown = this.formsOf(this.names[name]).map((form) => {
-const text = visible(beginning(form, LONGEST));
-return { text, isPlain: /^[ -~]*$/.test(text), isCut: form.length > LONGEST };
-});
-this.shown.set(name, shown);
-return shown;
-}
-hasRoom({ text, isPlain, isCut }, room) {
-return !isCut && (isPlain ? text.length <= Math.floor(room / this.letter) : this.fits(text, room));
-}
-fits(text, room) {
-return this.context.measureText(text).width <= room;
-}
-cut({ text, isPlain }, room) {
-const kept = isPlain ? text.slice(0, Math.floor(room / this.letter) - 1) : this.cutTo(text, room);
-return kept === '' ? '' : `${kept}\u2026`;
-}
-cutTo(text, room) {
-const characters = Array.from(text.slice(0, Math.ceil((4 * room) / this.letter)));
-const count = firstPlace(0, characters.length, (each) => !this.fits(`${characters.slice(0, each + 1).join('')}\u2026`, room));
-return characters.slice(0, count).join('');
+function writeAddress(fragment, isStep) {
+const address = fragment === '#' && location.hash === '' ? '' : fragment;
+try {
+if (isStep) history.pushState({ steps: stepsMade() + 1 }, '', address);
+else history.replaceState({ steps: stepsMade() }, '', address);
+} catch {
 }
 }
 "##;

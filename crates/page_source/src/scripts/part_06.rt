@@ -1,126 +1,218 @@
-//! What `page/join` takes of page/scene.js, canvas.js.
-//! `checks/page_source --write` makes this file.
+//! What `page/join` takes of page/viewer.js, main.js. `checks/page_source --write` makes this file.
 
-pub(crate) const TEXT: &str = r##"const LANE_HEIGHT = 22;
-const AXIS_HEIGHT = 16;
-const TICK_HEIGHT = 12;
-const TEXT_FROM = 20;
-function coloursFor(scene, box) {
-const { drawing, colours, span, matches } = scene;
-if (matches && matches.isMatch(box)) return { fill: colours.match, ink: colours.matchInk };
-if (matches || drawing.depth[box] < spanOfRow(drawing, drawing.row[box], span).depth) return { fill: colours.dim, ink: colours.dimInk };
-if (drawing.other) {
-const { before, after } = comparedOf(scene.page, scene.isShare, bothWeights(drawing, box));
-return { fill: colours.changes[changeShade(before, after)], ink: colours.ink };
+pub(crate) const TEXT: &str = r##"const REST = 200;
+const DEAD_LINK = 'No box here has the path of this address, so all of them are shown.';
+class Viewer {
+constructor(page) {
+this.page = page;
+this.stage = new Stage(page);
+this.ring = new Ring(this.stage.picture);
+this.tip = new Tip();
+this.pointAt = (text) => {
+this.pointed = text;
+this.showStatus();
+};
+this.lanes = new LaneStrip(page, (source) => this.change({ ...UNZOOMED, source, focus: 0 }, true), this.pointAt);
+this.functions = new FunctionTable(page, (name, isHere) => {
+const { drawing, callers } = this.view.state;
+if (name === callers) this.zoomTo(0);
+else this.showCallers(name, isHere ? drawing : 1 - drawing);
+}, this.pointAt);
+this.matching = nameMatcher(page.names);
+this.hovered = null;
+this.pointed = '';
+this.message = '';
+this.wished = null;
+this.made = '';
+[this.waiting, this.writing] = [0, 0];
+const { state, isDead } = linkedOf(page, wordsOf(location.hash));
+this.view = viewOf(page, this.matching, { ...state, focus: focusIn(page.arranged(state), state, -1) }, null);
+this.showChange(null);
+this.beginStep(isDead);
 }
-if (drawing.depth[box] === 0) return { fill: colours.root, ink: colours.ink };
-return { fill: colours.plain[scene.shadeOf(drawing.name[box])], ink: colours.ink };
+statusText() {
+const { view, hovered, pointed, message } = this;
+if (hovered) return placeLine(view, hovered);
+return pointed || message || (view.drawing.count > 0 ? boxLine(view, view.state.focus) : '');
 }
-function joinedFill({ drawing, colours, matches }, place) {
-if (!matches) return colours.joined;
-const matching = matchesIn(matches, drawing, place);
-if (matching === 0) return colours.dim;
-return matching === place.count ? colours.match : colours.joinedMatch;
+showStatus() {
+element('status').textContent = this.statusText();
 }
-function addedText(scene, box) {
-if (!scene.drawing.other) return '';
-const { before, after } = comparedOf(scene.page, scene.isShare, bothWeights(scene.drawing, box));
-return changeText(before, after);
+say(text) {
+this.message = text;
+this.showStatus();
 }
-function paintPlace(painter, scene, place, top) {
-const { box, left, right, begin, end } = place;
-if (isJoined(place)) {
-painter.rectangle(begin, top, end - begin, ROW_HEIGHT - 1, joinedFill(scene, place));
+hover(place, event) {
+this.hovered = place;
+if (place) this.tip.show(this.view, place, event);
+else this.tip.hide();
+this.showStatus();
+}
+forget() {
+this.hovered = null;
+this.pointed = '';
+this.message = '';
+this.tip.hide();
+}
+paint() {
+this.lanes.show(this.view);
+this.stage.paint(this.view);
+this.showFocus();
+}
+showFocus() {
+this.ring.show(this.view);
+button('callers').disabled = focusedFunction(this.view) < 0;
+this.showStatus();
+}
+refresh() {
+if (this.stage.isStale()) this.paint();
+}
+look(state) {
+const old = this.view;
+this.view = viewOf(this.page, this.matching, state, old);
+this.showChange(old);
+}
+showChange(old) {
+const { page, stage, view } = this;
+const { picture } = stage;
+const { drawing, state } = view;
+this.forget();
+showTools(view);
+if (!old || old.state.lists !== state.lists) showLists(state.lists);
+if (!old || old.state.drawing !== state.drawing) showTop(page, page.drawing(state.drawing), this.pointAt);
+if (!old || isOther(old, view)) this.showFunctionsSoon();
+this.lanes.show(view);
+stage.makeRoom(view);
+this.showFocus();
+if (state.below !== (old ? old.state.below : false)) picture.scrollTop = state.below ? picture.scrollHeight : 0;
+if (drawing.count > 0 && drawing.centre >= 0 && (!old || old.drawing !== drawing)) stage.centre(view, drawing.row[state.box]);
+else if (!old || isElsewhere(old, view)) this.revealFocus();
+stage.paint(view);
+}
+showFunctionsSoon() {
+clearTimeout(this.waiting);
+if (this.view.state.from < 0) afterPaint(() => this.showFunctions());
+else this.waiting = window.setTimeout(() => this.showFunctions(), REST);
+}
+showFunctions() {
+const { view, matching } = this;
+const { find, by } = view.state;
+this.functions.show(view, view.matches && matching(find, by));
+}
+lookAt(part) {
+const { state, drawing } = this.view;
+if (!isTimeline(this.page, drawing) || drawing.count === 0) return;
+const isWhole = part.from <= 0 && part.to >= drawing.length;
+this.look({ ...state, ...UNZOOMED, ...(isWhole ? {} : part) });
+clearTimeout(this.writing);
+this.writing = window.setTimeout(() => writeAddress(fragmentOf(this.page, this.view.state), false), REST);
+}
+change(changed, isStep) {
+clearTimeout(this.writing);
+this.look({ ...this.view.state, ...changed });
+const fragment = fragmentOf(this.page, this.view.state);
+if (isStep) this.made = fragment;
+writeAddress(fragment, isStep);
+}
+revealFocus() {
+const { drawing, state } = this.view;
+if (drawing.count > 0) this.stage.reveal(this.view, drawing.row[state.focus]);
+}
+zoomTo(box) {
+const { drawing, state } = this.view;
+const source = sourceOf(drawing, box);
+if (source >= 0) this.change({ ...UNZOOMED, source: source === state.source ? -1 : source, focus: box }, true);
+else if (box === state.box && state.source < 0 && state.from < 0) this.change({ focus: box }, false);
+else this.change({ ...UNZOOMED, box, focus: box }, true);
+}
+goBack() {
+const { view } = this;
+if (!isZoomed(view) && view.state.callers < 0) return;
+if (stepsMade() > 0) history.back();
+else this.change({ ...UNZOOMED, callers: -1, focus: 0 }, true);
+}
+showCallers(name, drawing) {
+if (name >= 0) this.change({ ...UNZOOMED, callers: name, drawing, focus: 0 }, true);
+}
+showCallersOfFocus() {
+this.showCallers(focusedFunction(this.view), this.view.state.drawing);
+}
+focusOn(box) {
+this.view = { ...this.view, state: { ...this.view.state, focus: box } };
+this.forget();
+this.revealFocus();
+this.refresh();
+this.showFocus();
+}
+turnTo(choice) {
+const { page, wished } = this;
+const { state, drawing } = this.view;
+const other = page.arranged({ ...state, ...choice });
+const isWished = wished && wished.drawing === drawing && wished.box === state.box;
+const zoomed = isWished ? wished.path : this.pathTo(state.box);
+const find = (path, from) => (other.count ? boxAt(page, other, path, timeOf(drawing, from), isCaller(drawing, from)) : 0);
+const box = find(zoomed, state.box);
+const isOnBox = state.focus === state.box;
+const focus = isOnBox ? focusIn(other, { source: state.source, box }, box) : find(this.pathTo(state.focus), state.focus);
+this.wished = { drawing: other, box, path: zoomed };
+this.change({ ...choice, box, focus }, false);
+}
+showBefore(box) {
+const { page, view } = this;
+const choice = { drawing: 0, callers: -1, heavy: view.state.heavy, beside: false };
+const there = boxAt(page, page.arranged(choice), pathOf(page, page.drawing(0), box), -1, false);
+this.change({ ...UNZOOMED, ...choice, box: there, focus: there }, true);
+}
+pathTo(box) {
+const { drawing } = this.view;
+return drawing.count ? pathOf(this.page, drawing, box) : [];
+}
+toMatch(isForward) {
+const { drawing, matches, span, state } = this.view;
+if (!matches) return;
+const { focus, order } = state;
+const box = order === 'weight' ? neighbourByWeight(matches, drawing, focus, isForward) : neighbourMatch(matches, focus, isForward);
+if (box < 0) return;
+if (!isInSpan(drawing, box, span)) this.change({ ...UNZOOMED, focus: box }, true);
+this.focusOn(box);
+}
+arrive(words) {
+const { state, isDead } = linkedOf(this.page, words);
+const drawing = this.page.arranged(state);
+const { focus } = this.view.state;
+this.look({ ...state, focus: focusIn(drawing, state, this.view.drawing === drawing ? focus : -1) });
+this.beginStep(isDead);
+}
+beginStep(isDead) {
+if (isDead) this.say(DEAD_LINK);
+this.made = fragmentOf(this.page, this.view.state);
+writeAddress(this.made, false);
+}
+goTo(event) {
+const { hash } = location;
+this.arrive(event.state ? wordsOfStep(hash, this.made, fragmentOf(this.page, this.view.state)) : wordsOf(hash));
+}
+}
+function show(page) {
+element('tools').hidden = false;
+inside(document, 'main').hidden = false;
+afterPaint(() => performance.mark('painted'));
+const viewer = new Viewer(page);
+if (page.view === 'compare') {
+new GoneList(page, (box) => viewer.showBefore(box), viewer.pointAt);
+}
+listen(viewer);
+}
+function openPage() {
+let page;
+try {
+page = pageOf(JSON.parse(element('data').textContent || ''));
+} catch (fault) {
+const why = fault instanceof Error ? fault.message : '';
+element('summary').textContent = `The data of this page cannot be read: ${why}`;
 return;
 }
-const { fill, ink } = coloursFor(scene, box);
-painter.rectangle(begin, top, end - begin, ROW_HEIGHT - 1, fill);
-if (right - left < TEXT_FROM) return;
-const text = scene.lettering.textFor(scene.drawing.name[box], addedText(scene, box), right - left);
-if (text) painter.text(left + PAD, top + ROW_HEIGHT / 2, text, ink);
+show(page);
 }
-function paintRow(painter, scene, row) {
-const top = scene.lanes + rowTop(scene.rowCount, row, scene.below) - scene.top;
-for (const place of placesOf(scene.drawing, row, scene.span, scene.width)) {
-painter.entitled(() => placeTitle(scene, place), () => paintPlace(painter, scene, place, top));
-}
-}
-function paintBoundaries(painter, scene) {
-if (!isTimeline(scene.page, scene.drawing)) return;
-const { span, width, lanes } = scene;
-for (const source of scene.page.sources.slice(1)) {
-if (source.start <= span.from || source.start >= span.to) continue;
-painter.upright(((source.start - span.from) * width) / (span.to - span.from), lanes, scene.height, scene.colours.line);
-}
-}
-function paintLanes(painter, scene) {
-for (const { number, left, right } of lanesOf(scene.page, scene.drawing, scene.span, scene.width)) {
-painter.rectangle(left, 0, Math.max(right - left - 1, 0.3), LANE_HEIGHT - 2, scene.colours.dim);
-const text = scene.sourceLettering.textFor(number, '', right - left);
-if (text) painter.text(left + PAD, LANE_HEIGHT / 2, text, scene.colours.ink);
-}
-}
-function paintAxis(painter, scene) {
-for (const { left, text } of ticksOf(scene.page, scene.drawing, scene.span, scene.width)) {
-painter.upright(left, LANE_HEIGHT, TICK_HEIGHT, scene.colours.line);
-painter.text(left + PAD, LANE_HEIGHT + TICK_HEIGHT / 2, text, scene.colours.ink);
-}
-}
-function paintScene(painter, scene) {
-const { rowCount, below, top, lanes } = scene;
-painter.rectangle(0, 0, scene.width, lanes + scene.height, scene.colours.paper);
-if (lanes > 0) {
-paintLanes(painter, scene);
-paintAxis(painter, scene);
-}
-const rows = [rowAt(rowCount, top, below), rowAt(rowCount, top + scene.height, below)];
-const last = Math.min(rowCount - 1, Math.max(...rows));
-for (let row = Math.max(0, Math.min(...rows)); row <= last; row++) paintRow(painter, scene, row);
-paintBoundaries(painter, scene);
-}
-class CanvasPainter {
-constructor() {
-this.boxes = new Map();
-this.texts = [];
-this.lines = [];
-}
-rectangle(left, top, width, height, fill) {
-const sides = this.boxes.get(fill);
-if (sides) sides.push(left, top, width, height);
-else this.boxes.set(fill, [left, top, width, height]);
-}
-text(left, middle, text, ink) {
-this.texts.push({ left, middle, text, ink });
-}
-upright(left, top, height, colour) {
-this.lines.push({ left, top, height, colour });
-}
-entitled(titleOf, paint) {
-paint();
-}
-finish(context) {
-for (const [fill, sides] of this.boxes) {
-context.fillStyle = fill;
-for (let at = 0; at < sides.length; at += 4) context.fillRect(sides[at], sides[at + 1], sides[at + 2], sides[at + 3]);
-}
-context.font = FONT;
-context.textBaseline = 'middle';
-context.direction = 'ltr';
-for (const { left, middle, text, ink } of this.texts) {
-context.fillStyle = ink;
-context.fillText(text, left, middle);
-}
-for (const { left, top, height, colour } of this.lines) {
-context.fillStyle = colour;
-context.fillRect(Math.round(left), top, 1, height);
-}
-}
-}
-function paintOnCanvas(canvas, scene, dots) {
-const context = contextOf(canvas);
-context.setTransform(dots, 0, 0, dots, 0, 0);
-const painter = new CanvasPainter();
-paintScene(painter, scene);
-painter.finish(context);
-}
+openPage();
 "##;

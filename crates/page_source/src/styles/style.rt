@@ -42,12 +42,14 @@ p { margin: 0.1rem 0; }
 #notices { list-style: none; margin: 0; max-height: 8em; overflow: auto; padding: 0; }
 #notices li { background: var(--warning); margin: 0.2rem 0; overflow-wrap: anywhere; padding: 0.2rem 0.5rem; }
 #tools { align-items: center; display: flex; flex-wrap: wrap; gap: 0.4rem 0.8rem; padding: 0.4rem 0; position: relative; }
-#search { align-items: center; display: flex; flex: 1 1 39rem; gap: 0.3rem; max-width: 56rem; min-width: 0; }
+#search { align-items: center; display: flex; flex: 1000 1 45rem; gap: 0.3rem; max-width: 60rem; min-width: 0; }
 #find { background: var(--panel); border: 1px solid var(--quiet); flex: 1 1 6rem; min-width: 5rem; padding: 0.15rem 0.3rem; }
 #find::placeholder { color: var(--quiet); opacity: 1; }
 #find[aria-invalid="true"] { outline: 2px solid #c0392b; }
 #by { width: 12.2rem; }
-#matched { flex: none; min-width: 7.5rem; white-space: nowrap; }
+#matched { flex: 0 0 13rem; overflow: hidden; text-overflow: ellipsis; white-space: nowrap; }
+#matched.filtered { flex-basis: 17rem; }
+#drawing-name { flex: 1 1 8rem; min-width: 8rem; overflow: hidden; text-overflow: ellipsis; unicode-bidi: isolate; white-space: nowrap; width: 0; }
 #help dl {
 background: var(--panel);
 border: 1px solid var(--line);
@@ -60,6 +62,9 @@ z-index: 3;
 #help dt { font-weight: 600; }
 #help dd { margin: 0 0 0.3rem; }
 button, input, select { color: inherit; font: inherit; }
+button, select { background: var(--panel); border: 1px solid var(--quiet); }
+button { padding: 0.1rem 0.4rem; }
+button:disabled { opacity: 0.5; }
 :focus-visible { outline: 2px solid var(--accent); outline-offset: 1px; }
 main { display: flex; flex: 1; min-height: 0; }
 #stage { display: flex; flex: 1; flex-direction: column; min-width: 0; }
@@ -145,12 +150,17 @@ z-index: 4;
 #tip p { overflow-wrap: anywhere; unicode-bidi: isolate; }
 #tip p:first-child { font: 12px/1.4 ui-monospace, monospace; font-weight: 600; }
 @media (max-width: 60rem) {
-body { height: auto; min-height: 100vh; }
+body { height: auto; min-height: 100vh; padding-bottom: 2rem; }
 main { flex-direction: column; gap: 11px; }
 #divider { display: none; }
 #search { flex-wrap: wrap; }
-#status { background: var(--paper); bottom: 0; position: sticky; z-index: 2; }
+#status { background: var(--paper); bottom: 0; left: 0; margin: 0; padding: 0 11px; position: fixed; right: 0; z-index: 2; }
 #picture { flex: none; height: 70vh; }
 #lists { border-left: 0; max-width: none; padding: 0; width: auto; }
+}
+@media (max-width: 40rem) {
+body { padding-bottom: 6.2rem; }
+#matched, #matched.filtered { flex: 1 1 100%; height: 1.4em; }
+#status { border-top: 1px solid var(--line); height: 5.7em; overflow: auto; overflow-wrap: anywhere; white-space: normal; }
 }
 "##;

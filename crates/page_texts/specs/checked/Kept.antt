@@ -89,6 +89,6 @@ last_text kept total =
     ++ (column_text (codes ",\"weight\":") Weight kept.boxes.items ++ 125 ∷ [])))
 
 -- the whole
-abbrev pub drawing_parts : {B : Type 0} → Bool → Drawing B → KeptBoxes → List ℕ
-drawing_parts is_compared drawing kept =
-    moment_text drawing.moment ++ (first_text kept drawing.least ++ (other_text is_compared kept ++ last_text kept drawing.total))
+abbrev pub drawing_parts : {L : Type 0} → Drawing L → KeptBoxes → List ℕ
+drawing_parts drawing kept =
+    moment_text drawing.moment ++ (first_text kept drawing.least ++ (other_text drawing.is_compared kept ++ last_text kept drawing.total))

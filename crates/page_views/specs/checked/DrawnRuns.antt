@@ -5,12 +5,18 @@ use Rattle.merged_stacks.specs.Timeline.{total_weight}
 use Rattle.merging.specs.Snapshots.{snapshot_places}
 use Rattle.merging.specs.declared.snapshots.Snapshot.{Snapshot}
 use Rattle.merging.specs.Sums.{all_samples}
-use Rattle.flame_layout.specs.Boxes.{span_of}
+use denote.Ref.{Bor}
+use Rattle.flame_layout.specs.Boxes.{SeenBox, plain_box, span_of}
+use Rattle.flame_layout.specs.declared.boxes.DrawnBox.{DrawnBox}
 use Rattle.flame_layout.specs.Graph.{graph_of}
 use Rattle.page_texts.specs.Page.{PageDrawing}
 use Rattle.page_views.specs.declared.drawn_runs.DrawnRun.{DrawnRun}
 use Rattle.page_views.specs.declared.drawn_runs.DrawnSnapshot.{DrawnSnapshot}
 use Rattle.page_views.specs.Pages.{plain_drawing, snapshot_drawing}
+
+-- the boxes of a list that is lent
+abbrev pub drawn_list : Bor (List DrawnBox) → List SeenBox
+drawn_list boxes = map (λ drawn. plain_box (span_of drawn)) boxes.now
 
 -- after how many samples each snapshot was made
 abbrev pub places_of : List Snapshot → List ℕ

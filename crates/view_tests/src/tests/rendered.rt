@@ -85,12 +85,14 @@ const HEAVIEST: TopTable = TopTable {
     by: FunctionOrder::Own,
     rows: 10,
     is_json: false,
+    is_exact: false,
 };
 
 const GREATEST: TopTable = TopTable {
     by: FunctionOrder::Total,
     rows: 2,
     is_json: true,
+    is_exact: false,
 };
 
 #[test]

@@ -2,7 +2,7 @@
 
 ghost use Rattle.std.specs.Prelude.{◌+◌, ◌<◌, ◌≤◌, ◌^◌, All, IsTrue, length, sum_by};
 
-use flame_layout::{DrawnBox, DrawnPair, FlameBox};
+use flame_layout::{DrawnBox, DrawnPair, FlameBoxes};
 use std::alloc::AllocError;
 
 /// Depth, name, start, weight and own weight of a box.
@@ -43,27 +43,32 @@ pub(super) fn add_pairs<'a>(
 }
 
 /// Whether a box ends within the total.
-fn is_within<B: FlameBox>(one: &B, total: u64) -> bool
-    ensures { IsTrue result → (B.span one.now).start + (B.span one.now).weight ≤ total }
+fn is_within(one: &DrawnBox<'_>, total: u64) -> bool
+    ensures { IsTrue result → one.now.start + one.now.weight ≤ total }
 {
-    one.start() <= total && one.weight() <= total - one.start()
+    one.start <= total && one.weight <= total - one.start
 }
 
 /// Whether boxes can be drawn in this total.
-pub(super) fn are_within<B: FlameBox>(boxes: &[B], total: u64) -> bool
-    ensures within { IsTrue result → All (λ one. (B.span one).start + (B.span one).weight ≤ total) boxes.now }
-    ensures positive { IsTrue result → 0 < length boxes.now → 0 < total }
+pub(super) fn are_within<L: FlameBoxes>(boxes: &L, total: u64) -> bool
+    ensures within { IsTrue result → All (λ one. one.span.start + one.span.weight ≤ total) (L.boxes boxes.now) }
+    ensures positive { IsTrue result → 0 < length (L.boxes boxes.now) → 0 < total }
 {
-    (total > 0 || boxes.is_empty()) && boxes.iter().all(|one| is_within(one, total))
+    for place in 0..boxes.count() {
+        if !is_within(&boxes.get(place).drawn, total) {
+            return false;
+        }
+    }
+    total > 0 || boxes.count() == 0
 }
 
 /// Whether the own weights of boxes have 64 bits together.
-fn own_weights_fit<B: FlameBox>(boxes: &[B]) -> bool
-    ensures { IsTrue result → sum_by (λ one. (B.span one).own) boxes.now < 2 ^ 64 }
+fn own_weights_fit<L: FlameBoxes>(boxes: &L) -> bool
+    ensures { IsTrue result → sum_by (λ one. one.span.own) (L.boxes boxes.now) < 2 ^ 64 }
 {
     let mut left = u64::MAX;
-    for one in boxes {
-        let own = one.own();
+    for place in 0..boxes.count() {
+        let own = boxes.get(place).drawn.own;
         if own > left {
             return false;
         }
@@ -73,10 +78,10 @@ fn own_weights_fit<B: FlameBox>(boxes: &[B]) -> bool
 }
 
 /// Whether boxes can be drawn in a picture of this total.
-pub(super) fn fit<B: FlameBox>(boxes: &[B], total: u64) -> bool
-    ensures within { IsTrue result → All (λ one. (B.span one).start + (B.span one).weight ≤ total) boxes.now }
-    ensures positive { IsTrue result → 0 < length boxes.now → 0 < total }
-    ensures own { IsTrue result → sum_by (λ one. (B.span one).own) boxes.now < 2 ^ 64 }
+pub(super) fn fit<L: FlameBoxes>(boxes: &L, total: u64) -> bool
+    ensures within { IsTrue result → All (λ one. one.span.start + one.span.weight ≤ total) (L.boxes boxes.now) }
+    ensures positive { IsTrue result → 0 < length (L.boxes boxes.now) → 0 < total }
+    ensures own { IsTrue result → sum_by (λ one. one.span.own) (L.boxes boxes.now) < 2 ^ 64 }
 {
     are_within(boxes, total) && own_weights_fit(boxes)
 }

@@ -7,7 +7,7 @@ use stack_core::Text;
 use std::alloc::{AllocError, Global};
 use std::process::Abort;
 use std::test::Fail;
-use sum_texts::{ChangeLine, ChangeTable};
+use sum_texts::{ChangeLine, Table, Telling};
 
 /// A weight before and after.
 type Sides = (u64, u64);
@@ -46,11 +46,16 @@ type Written<'a> = (Form, &'a [Row<'a>], u64);
 fn append(alloc: Global, out: &mut Vec<u8>, written: &Written<'_>) -> Result<(), AllocError> {
     let (form, rows, count) = *written;
     let changes = changes_of(alloc, rows)?;
+    let telling = Telling::nothing();
     match form {
-        Form::Table => append_pieces(alloc, &ChangeTable::of(&changes, count), out),
+        Form::Table => {
+            let whole = change_of((11, 13));
+            let table = Table::of_changes(alloc, &changes, count, whole, &telling, false)?;
+            append_pieces(alloc, &table, out)
+        }
         Form::Line(whole) => append_pieces(
             alloc,
-            &ChangeLine::of(&changes, count, change_of(whole)),
+            &ChangeLine::of(&changes, count, change_of(whole), &telling),
             out,
         ),
     }
@@ -72,6 +77,7 @@ const READ_AND_MAIN: &[Row<'static>] = &[
 #[test]
 fn signs_of_changes(rt: HostRuntime) -> Result<(), Fail> {
     let wanted = "\
+Showing 3 of 3 functions, total 11 before, 13 after
 own before  after  change  total before  after  change  name
          4      7      +3             4      7      +3  read
          2      1      -1             6      8      +2  main
@@ -85,7 +91,7 @@ fn line_of_two_functions(rt: HostRuntime) -> Result<(), Fail> {
     let wanted = "{\"functions\":[\
         {\"name\":\"read\",\"own_after\":7,\"own_before\":4,\"total_after\":7,\"total_before\":4},\
         {\"name\":\"main\",\"own_after\":1,\"own_before\":2,\"total_after\":8,\"total_before\":6}],\
-        \"total_after\":11,\"total_before\":9,\"view\":\"diff\"}\n";
+        \"total_after\":11,\"total_before\":9,\"unit\":\"\",\"view\":\"diff\"}\n";
     make(&rt, &(Form::Line((9, 11)), READ_AND_MAIN, 2), wanted)
 }
 
@@ -98,12 +104,10 @@ const GREATEST: &[Row<'static>] = &[
 #[test]
 fn greatest_weights(rt: HostRuntime) -> Result<(), Fail> {
     let wanted = concat!(
-        "          own before                 after                 change",
-        "          total before                 after                 change  name\n",
-        "                   0  18446744073709551615  +18446744073709551615",
-        "                     0  18446744073709551615  +18446744073709551615  a b\n",
-        "18446744073709551615                     1  -18446744073709551614",
-        "  18446744073709551615  18446744073709551615                      0  c\n",
+        "Showing 2 of 2 functions, total 11 before, 13 after\n",
+        "                own before                       after                       change                total before                       after                       change  name\n",
+        "                         0  18,446,744,073,709,551,615  +18,446,744,073,709,551,615                           0  18,446,744,073,709,551,615  +18,446,744,073,709,551,615  a b\n",
+        "18,446,744,073,709,551,615                           1  -18,446,744,073,709,551,614  18,446,744,073,709,551,615  18,446,744,073,709,551,615                            0  c\n",
     );
     make(&rt, &(Form::Table, GREATEST, 2), wanted)
 }
@@ -115,6 +119,7 @@ fn hidden_changes_take_no_room(rt: HostRuntime) -> Result<(), Fail> {
         ("b", (100_000_000_000, 100_000_000_001), (0, 0)),
     ];
     let wanted = "\
+Showing 1 of 2 functions, total 11 before, 13 after
 own before  after  change  total before  after  change  name
          0      5      +5             0      5      +5  a
 ";
@@ -123,14 +128,17 @@ own before  after  change  total before  after  change  name
 
 #[test]
 fn no_changes(rt: HostRuntime) -> Result<(), Fail> {
-    let wanted = "own before  after  change  total before  after  change  name\n";
+    let wanted = concat!(
+        "Showing 0 of 0 functions, total 11 before, 13 after\n",
+        "own before  after  change  total before  after  change  name\n",
+    );
     make(&rt, &(Form::Table, &[], 10), wanted)
 }
 
 #[test]
 fn line_of_no_changes(rt: HostRuntime) -> Result<(), Fail> {
     let wanted =
-        "{\"functions\":[],\"total_after\":18446744073709551615,\"total_before\":0,\"view\":\"diff\"}\n";
+        "{\"functions\":[],\"total_after\":18446744073709551615,\"total_before\":0,\"unit\":\"\",\"view\":\"diff\"}\n";
     make(&rt, &(Form::Line((0, u64::MAX)), &[], 10), wanted)
 }
 
@@ -139,6 +147,6 @@ fn escaped_names(rt: HostRuntime) -> Result<(), Fail> {
     let rows: &[Row<'_>] = &[("a\"\u{1}", (1, 2), (3, 4))];
     let wanted = "{\"functions\":[\
         {\"name\":\"a\\\"\\u0001\",\"own_after\":2,\"own_before\":1,\"total_after\":4,\"total_before\":3}],\
-        \"total_after\":6,\"total_before\":5,\"view\":\"diff\"}\n";
+        \"total_after\":6,\"total_before\":5,\"unit\":\"\",\"view\":\"diff\"}\n";
     make(&rt, &(Form::Line((5, 6)), rows, 1), wanted)
 }

@@ -1,12 +1,13 @@
 //! Worked examples.
 
 use super::texts::is_text;
+use byte_io::append_pieces;
 use function_sums::FunctionSum;
 use stack_core::Text;
 use std::alloc::{AllocError, Global};
 use std::process::Abort;
 use std::test::Fail;
-use sum_texts::{append_sum_line, append_sum_table};
+use sum_texts::{Table, Telling, append_sum_line, append_sum_table};
 
 /// Names, own weights and totals of functions.
 pub(super) type Rows<'a> = &'a [(&'a str, u64, u64)];
@@ -55,9 +56,14 @@ fn append_sums(
     written: &Written<'_>,
 ) -> Result<(), AllocError> {
     let (form, _, count, total, whole) = written;
+    let telling = Telling {
+        whole: *whole,
+        type_name: "",
+        unit: "",
+    };
     match form {
-        Form::Table => append_sum_table(alloc, out, sums, *count, *total, *whole),
-        Form::Line => append_sum_line(alloc, out, sums, *count, *total, *whole),
+        Form::Table => append_sum_table(alloc, out, sums, *count, *total, &telling),
+        Form::Line => append_sum_line(alloc, out, sums, *count, *total, &telling),
     }
 }
 
@@ -92,10 +98,11 @@ const EXAMPLE: &[Written<'static>] = &[
 #[test]
 fn example_of_the_readme(rt: HostRuntime) -> Result<(), Fail> {
     let wanted = "before
-own    own%  total   total%  whole%  name
-  7  87.50%      7   87.50%  21.88%  read
-  1  12.50%      8  100.00%  25.00%  main
-{\"functions\":[{\"name\":\"read\",\"own\":7,\"total\":7}],\"total\":8,\"view\":\"top\",\"whole\":32}
+Showing 2 of 2 functions, total 8
+own    own%     sum%  total   total%  whole%  name
+  7  87.50%   87.50%      7   87.50%  21.88%  read
+  1  12.50%  100.00%      8  100.00%  25.00%  main
+{\"functions\":[{\"name\":\"read\",\"own\":7,\"total\":7}],\"total\":8,\"unit\":\"\",\"view\":\"top\",\"whole\":32}
 ";
     make(&rt, EXAMPLE, wanted)
 }
@@ -111,9 +118,10 @@ const WIDEST: &[Written<'static>] = &[(
 #[test]
 fn as_wide_as_the_widest(rt: HostRuntime) -> Result<(), Fail> {
     let wanted = "before
-     own   own%       total  total%  name
-10000000  0.00%  1000000000   0.10%  a b
-       0  0.00%           1   0.00%  c
+Showing 2 of 2 functions, total 1,000,000,000,000
+       own   own%   sum%          total  total%  name
+10,000,000  0.00%  0.00%  1,000,000,000   0.10%  a b
+         0  0.00%  0.00%              1   0.00%  c
 ";
     make(&rt, WIDEST, wanted)
 }
@@ -129,8 +137,9 @@ const HIDDEN: &[Written<'static>] = &[(
 #[test]
 fn hidden_functions_take_no_room(rt: HostRuntime) -> Result<(), Fail> {
     let wanted = "before
-own   own%  total  total%  name
-  5  0.05%      5   0.05%  a
+Showing 1 of 2 functions, total 10,000
+own   own%   sum%  total  total%  name
+  5  0.05%  0.05%      5   0.05%  a
 ";
     make(&rt, HIDDEN, wanted)
 }
@@ -144,10 +153,12 @@ const HALVES: &[Written<'static>] = &[
 #[test]
 fn halves_are_rounded_up(rt: HostRuntime) -> Result<(), Fail> {
     let wanted = "before
-own   own%  total  total%  name
-  1  0.01%      3   0.02%  a
-own   own%  total  total%  name
-  1  0.00%      2   0.01%  a
+Showing 1 of 1 functions, total 20,000
+own   own%   sum%  total  total%  name
+  1  0.01%  0.01%      3   0.02%  a
+Showing 1 of 1 functions, total 20,001
+own   own%   sum%  total  total%  name
+  1  0.00%  0.00%      2   0.01%  a
 ";
     make(&rt, HALVES, wanted)
 }
@@ -157,8 +168,9 @@ const THIRDS: &[Written<'static>] = &[(Form::Table, &[("a", 1, 2)], 1, 3, None)]
 #[test]
 fn thirds(rt: HostRuntime) -> Result<(), Fail> {
     let wanted = "before
-own    own%  total  total%  name
-  1  33.33%      2  66.67%  a
+Showing 1 of 1 functions, total 3
+own    own%    sum%  total  total%  name
+  1  33.33%  33.33%      2  66.67%  a
 ";
     make(&rt, THIRDS, wanted)
 }
@@ -174,8 +186,9 @@ const GREATEST: &[Written<'static>] = &[(
 #[test]
 fn greatest_weights(rt: HostRuntime) -> Result<(), Fail> {
     let wanted = "before
-                 own     own%                 total   total%  name
-18446744073709551615  100.00%  18446744073709551615  100.00%  a
+Showing 1 of 1 functions, total 18,446,744,073,709,551,615
+                       own     own%     sum%                       total   total%  name
+18,446,744,073,709,551,615  100.00%  100.00%  18,446,744,073,709,551,615  100.00%  a
 ";
     make(&rt, GREATEST, wanted)
 }
@@ -189,8 +202,9 @@ const NOTHING: &[Written<'static>] = &[
 fn no_functions(rt: HostRuntime) -> Result<(), Fail> {
     let wanted = concat!(
         "before\n",
-        "own  own%  total  total%  name\n",
-        "{\"functions\":[],\"total\":0,\"view\":\"top\"}\n",
+        "Showing 0 of 0 functions, total 0\n",
+        "own  own%  sum%  total  total%  name\n",
+        "{\"functions\":[],\"total\":0,\"unit\":\"\",\"view\":\"top\"}\n",
     );
     make(&rt, NOTHING, wanted)
 }
@@ -199,7 +213,8 @@ const WHOLE_OF_NOTHING: &[Written<'static>] = &[(Form::Table, &[("a", 1, 2)], 1,
 
 #[test]
 fn a_whole_of_nothing(rt: HostRuntime) -> Result<(), Fail> {
-    let wanted = "before\nown   own%  total  total%  name\n  1  0.00%      2   0.00%  a\n";
+    let wanted =
+        "before\nShowing 1 of 1 functions, total 0\nown   own%   sum%  total  total%  name\n  1  0.00%  0.00%      2   0.00%  a\n";
     make(&rt, WHOLE_OF_NOTHING, wanted)
 }
 
@@ -214,13 +229,16 @@ const WHOLES: &[Written<'static>] = &[
 #[test]
 fn the_column_of_the_whole_is_as_wide_as_needed(rt: HostRuntime) -> Result<(), Fail> {
     let wanted = "before
-own     own%  total   total%   whole%  name
-  3  100.00%      3  100.00%  100.00%  a
-  0    0.00%      1   33.33%   33.33%  b
-own     own%  total   total%  whole%  name
-  3  100.00%      3  100.00%   0.00%  a
-own   own%  total  total%  whole%  name
-  3  0.00%      3   0.00%   0.00%  a
+Showing 2 of 2 functions, total 3
+own     own%     sum%  total   total%   whole%  name
+  3  100.00%  100.00%      3  100.00%  100.00%  a
+  0    0.00%  100.00%      1   33.33%   33.33%  b
+Showing 1 of 2 functions, total 3
+own     own%     sum%  total   total%  whole%  name
+  3  100.00%  100.00%      3  100.00%   0.00%  a
+Showing 1 of 2 functions, total 0
+own   own%   sum%  total  total%  whole%  name
+  3  0.00%  0.00%      3   0.00%   0.00%  a
 ";
     make(&rt, WHOLES, wanted)
 }
@@ -236,8 +254,38 @@ const ESCAPED: &[Written<'static>] = &[(
 #[test]
 fn escaped_names(rt: HostRuntime) -> Result<(), Fail> {
     let wanted =
-        "before\n{\"functions\":[{\"name\":\"a\\\"\\u0001\",\"own\":1,\"total\":2},{\"name\":\"é\",\"own\":0,\"total\":1}],\"total\":3,\"view\":\"top\"}\n";
+        "before\n{\"functions\":[{\"name\":\"a\\\"\\u0001\",\"own\":1,\"total\":2},{\"name\":\"é\",\"own\":0,\"total\":1}],\"total\":3,\"unit\":\"\",\"view\":\"top\"}\n";
     make(&rt, ESCAPED, wanted)
+}
+
+fn append_in_units(alloc: Global, out: &mut Vec<u8>) -> Result<(), AllocError> {
+    let sums = sums_of(alloc, &[("read", 756_000, 756_000), ("main", 12, 757_234)])?;
+    let telling = Telling {
+        whole: None,
+        type_name: "cpu",
+        unit: "nanoseconds",
+    };
+    append_sum_table(alloc, out, &sums, 1, 757_234, &telling)?;
+    append_sum_line(alloc, out, &sums, 1, 757_234, &telling)?;
+    let table = Table::of_functions(alloc, &sums, 2, 757_234, &telling, true)?;
+    append_pieces(alloc, &table, out)
+}
+
+// The sign of a microsecond is one character of two bytes.
+#[test]
+fn weights_in_their_unit(rt: HostRuntime) -> Result<(), Fail> {
+    let mut out = Vec::new(rt.alloc());
+    let made = append_in_units(rt.alloc(), &mut out);
+    let wanted = "Showing 1 of 2 functions, type cpu, total 757 µs
+   own    own%    sum%   total  total%  name
+756 µs  99.84%  99.84%  756 µs  99.84%  read
+{\"functions\":[{\"name\":\"read\",\"own\":756000,\"total\":756000}],\"total\":757234,\"unit\":\"nanoseconds\",\"view\":\"top\"}
+Showing 2 of 2 functions, type cpu, unit nanoseconds, total 757234
+   own    own%    sum%   total   total%  name
+756000  99.84%  99.84%  756000   99.84%  read
+    12   0.00%  99.84%  757234  100.00%  main
+";
+    is_text(&rt, made, &out, wanted.as_bytes())
 }
 
 #[test]

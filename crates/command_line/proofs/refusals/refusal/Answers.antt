@@ -1,5 +1,5 @@
 use Rattle.std.proofs.Common.{rules}
 use Rattle.command_line.proofs.refusals.refusal.Goals as goal
 
-pub returns-in-Ok-2 : goal.returns-in-Ok-2
-returns-in-Ok-2 c = search rules
+pub returns-in-Ok-completed : goal.returns-in-Ok-completed
+returns-in-Ok-completed c = search rules

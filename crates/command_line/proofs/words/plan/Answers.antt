@@ -5,7 +5,7 @@ use Rattle.clap.proofs.WalkLemmas.{both}
 use Rattle.clap.specs.Simple.{subcommand_rows_of}
 use Rattle.clap.specs.Walk.{is_empty}
 use Rattle.command_line.specs.Plans.{IsFaultAmong, entered_plan, own_fault}
-use Rattle.command_line.proofs.PlannedWords.{entered_reads, entered_rows, error_kind, fault_among, fault_of_memory, own_alone, more_kinds, no_fault, only_memory, plan_asks, none_in, planned_own}
+use Rattle.command_line.proofs.PlannedWords.{entered_reads, entered_rows, error_kind, fault_among, fault_of_memory, own_alone, no_fault, only_memory, plan_asks, none_in, planned_own}
 use Rattle.command_line.proofs.words.plan.Goals as goal
 
 pub planned-requires : goal.planned-requires
@@ -74,9 +74,9 @@ returns-in-Ok-clause-types c =
 pub returns-in-Err-clause-refused : goal.returns-in-Err-clause-refused
 returns-in-Err-clause-refused c =
     let has = error_kind _ (map string_bytes c.args.words.now) c.in-Err.error c.in_ok-line.ensures c.in-Err.ensures.kinds in
-    fault_among _ c.in-Err.error c.refusal.result (more_kinds _ _ c.in-Err.error has) c.refusal.ensures
+    fault_among (map string_bytes c.args.words.now) _ _ c.in-Err.error c.parse_refusal.result has c.parse_refusal.ensures
 
 pub returns-in-Err-clause-passes : goal.returns-in-Err-clause-passes
 returns-in-Err-clause-passes c = λ taken.
     let memory = only_memory _ (map string_bytes c.args.words.now) c.in-Err.error c.in_ok-line.ensures c.in-Err.ensures.passes (both _ _ taken).0 in
-    fault_of_memory c.in-Err.error c.refusal.result memory c.refusal.ensures
+    fault_of_memory (map string_bytes c.args.words.now) c.in-Err.error c.parse_refusal.result memory c.parse_refusal.ensures

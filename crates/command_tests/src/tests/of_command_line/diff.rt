@@ -10,6 +10,7 @@ const BY_OWN: TopTable = TopTable {
     by: FunctionOrder::Own,
     rows: 10,
     is_json: false,
+    is_exact: false,
 };
 
 const TABLES: &[(&str, Wanted<'static>)] = &[
@@ -54,6 +55,7 @@ const ASKED_FOR: TopTable = TopTable {
     by: FunctionOrder::Total,
     rows: 7,
     is_json: true,
+    is_exact: false,
 };
 
 const PARTS: &[(&str, Wanted<'static>)] = &[

@@ -18,10 +18,31 @@ fn filters_of_each_command(rt: HostRuntime) -> Result<(), Fail> {
     are_answered(&rt, FILTERED)
 }
 
+const FROM: Wanted<'static> = Wanted::From("b;c");
+
+const FROM_A_NAME: &[(&str, Wanted<'static>)] = &[
+    ("fold --from b;c", FROM),
+    ("graph x --from=b;c", FROM),
+    ("chart --from b;c", FROM),
+    ("compare a b --from b;c", FROM),
+    ("top --from b;c", FROM),
+    ("diff a --from b;c b", FROM),
+    ("callers --from b;c f", FROM),
+    ("callees f --from b;c", FROM),
+];
+
+#[test]
+fn stacks_from_a_name(rt: HostRuntime) -> Result<(), Fail> {
+    are_answered(&rt, FROM_A_NAME)
+}
+
 const REFUSED_LINES: &[(&str, Wanted<'static>)] = &[
     ("fold --focus", REFUSED),
     ("graph --focus=", REFUSED),
     ("compare a b --hide=", REFUSED),
+    ("fold --from=", REFUSED),
+    ("top --from a --from b", REFUSED),
+    ("types --from a x", REFUSED),
 ];
 
 #[test]

@@ -2,7 +2,7 @@
 
 use super::lines::are_answered;
 use super::wanted::{NOTHING, REFUSED, Set, Shown, Wanted};
-use command_line::TopTable;
+use command_line::{TopTable, WeightUnit};
 use run_options::FunctionOrder;
 use std::test::Fail;
 
@@ -10,6 +10,7 @@ const BY_OWN: TopTable = TopTable {
     by: FunctionOrder::Own,
     rows: 10,
     is_json: false,
+    is_exact: false,
 };
 
 const TABLES: &[(&str, Wanted<'static>)] = &[
@@ -55,6 +56,68 @@ const TABLES: &[(&str, Wanted<'static>)] = &[
     ),
 ];
 
+const UNITS: &[(&str, Wanted<'static>)] = &[
+    ("top", Wanted::Unit(None)),
+    (
+        "top --unit nanoseconds",
+        Wanted::Unit(Some(WeightUnit::Nanoseconds)),
+    ),
+    (
+        "diff --unit=microseconds a b",
+        Wanted::Unit(Some(WeightUnit::Microseconds)),
+    ),
+    (
+        "callers --unit milliseconds f",
+        Wanted::Unit(Some(WeightUnit::Milliseconds)),
+    ),
+    (
+        "callees f --unit seconds",
+        Wanted::Unit(Some(WeightUnit::Seconds)),
+    ),
+    (
+        "graph --page --unit bytes",
+        Wanted::Unit(Some(WeightUnit::Bytes)),
+    ),
+    (
+        "compare --svg --unit samples a b",
+        Wanted::Unit(Some(WeightUnit::Samples)),
+    ),
+    (
+        "top --exact",
+        Wanted::View(Shown::Top(TopTable {
+            is_exact: true,
+            ..BY_OWN
+        })),
+    ),
+    ("top --unit ns", REFUSED),
+    ("top --unit Bytes", REFUSED),
+    ("top --exact=yes", REFUSED),
+    ("fold --unit bytes", REFUSED),
+    ("graph --exact", REFUSED),
+    ("types --unit bytes a", REFUSED),
+];
+
+#[test]
+fn units_of_weights(rt: HostRuntime) -> Result<(), Fail> {
+    are_answered(&rt, UNITS)
+}
+
+fn name_of(name: &str) -> &str {
+    match WeightUnit::named(name) {
+        Some(unit) => unit.name(),
+        None => "",
+    }
+}
+
+// Each unit is that of its name.
+#[test]
+fn units_by_their_names(rt: HostRuntime) {
+    for name in ["nanoseconds", "seconds", "bytes", "samples"] {
+        assert!(rt; name_of(name) == name);
+    }
+    assert!(rt; name_of("minutes").is_empty());
+}
+
 #[test]
 fn tables_of_functions(rt: HostRuntime) -> Result<(), Fail> {
     are_answered(&rt, TABLES)
@@ -66,6 +129,7 @@ const ASKED_FOR: TopTable = TopTable {
     by: FunctionOrder::Total,
     rows: 7,
     is_json: true,
+    is_exact: false,
 };
 
 const PARTS: &[(&str, Wanted<'static>)] = &[

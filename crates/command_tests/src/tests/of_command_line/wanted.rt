@@ -1,6 +1,6 @@
 //! What a test wants of a line's plan, or of the fault in its place.
 
-use command_line::{CallTable, Form, Plan, TopTable, View};
+use command_line::{CallTable, Form, Plan, TopTable, View, WeightUnit};
 use run_options::{Format, Naming, Options, Pick, Width};
 use stack_core::{Names, Text};
 
@@ -55,12 +55,16 @@ pub(crate) enum Wanted<'a> {
     Options(Set<'a>),
     /// The names that are focused and hidden.
     Filter(&'a [&'a str], &'a [&'a str]),
+    /// The name of the frame at which stacks begin, with no other option.
+    From(&'a str),
     /// This format, with no other option.
     Format(Option<Format>),
     /// A text, and progress.
     LoudText,
     /// No progress, with no other option.
     Quiet,
+    /// This unit of weights that have none, with no other option.
+    Unit(Option<WeightUnit>),
     /// A page, with this title and this least weight, and the root above.
     Page(Option<&'a str>, Option<u64>),
     /// A page, with the root below, and neither title nor least weight.
@@ -126,7 +130,15 @@ fn options_are(options: &Options, set: &Set<'_>) -> bool {
 }
 
 fn has_defaults(plan: &Plan) -> bool {
-    options_are(&plan.options, &NOTHING) && plan.options.filter.is_everything()
+    options_are(&plan.options, &NOTHING)
+        && plan.options.filter.is_everything()
+        && plan.from.is_none()
+}
+
+fn begins_at(plan: &Plan, name: &str) -> bool {
+    options_are(&plan.options, &NOTHING)
+        && plan.options.filter.is_everything()
+        && is_titled(&plan.from, Some(name))
 }
 
 fn is_filtered(plan: &Plan, focus: &[&str], hide: &[&str]) -> bool {
@@ -189,9 +201,11 @@ pub(crate) fn has(plan: &Plan, wanted: &Wanted<'_>) -> bool {
         }
         Wanted::Options(set) => options_are(&plan.options, &set),
         Wanted::Filter(focus, hide) => is_filtered(plan, focus, hide),
+        Wanted::From(name) => begins_at(plan, name),
         Wanted::Format(format) => plan.format == format && has_defaults(plan),
         Wanted::LoudText => !plan.is_quiet && matches!(&plan.form, Form::Text),
         Wanted::Quiet => plan.is_quiet && has_defaults(plan),
+        Wanted::Unit(unit) => plan.unit == unit && has_defaults(plan),
         Wanted::Page(title, least) => is_page(&plan.form, title, least, false),
         Wanted::PageBelow => is_page(&plan.form, None, None, true),
         Wanted::Picture(title, is_below) => is_picture(&plan.form, title, is_below),

@@ -1,6 +1,5 @@
 use Rattle.std.proofs.Common.{◌≡◌, ℕ, ◌+◌, ◌-◌, ◌<◌, ◌≤◌, ◌∷◌, [], ◌∙◌, sym, ap, arith, drop, length, subst, List}
 use Rattle.std.proofs.lemmas.List.{drop_all, drop_more}
-use Rattle.std.proofs.lemmas.Result.{IfOk-weaker}
 use Rattle.sample_tables.specs.declared.samples.Sample.{Sample}
 use Rattle.sample_tables.specs.Rows.{sample_at}
 use Rattle.stack_core.specs.Interleaving.{list_of}
@@ -77,4 +76,4 @@ end-requires g c =
 pub returns : goal.returns
 returns g c =
     let samples = g.S.StackRows.samples c.args.list.now in
-    IfOk-weaker c.drawn.result _ _ (λ boxes e. e ∙ c.in_ok-runs.ensures samples (walked_all samples c.loop-at.at c.loop-at.start c.args.total c.loop-at.walk (omega arith) c.requires c.loop-at.invariant.start c.loop-at.invariant.walked)) c.drawn.ensures
+    c.in_ok-runs.ensures samples (walked_all samples c.loop-at.at c.loop-at.start c.args.total c.loop-at.walk (omega arith) c.requires c.loop-at.invariant.start c.loop-at.invariant.walked)

@@ -1,9 +1,8 @@
-use Rattle.std.proofs.Common.{◌≡◌, [], ◌∙◌, ap, arith, map}
+use Rattle.std.proofs.Common.{◌≡◌, [], ◌∙◌, ap, arith}
 use Rattle.std.proofs.lemmas.Result.{IfOk-weaker}
 use Rattle.merged_stacks.specs.declared.paired_sides.Side.TheVariants.{Before, After}
 use Rattle.merged_stacks.specs.Timeline.{total_weight}
 use Rattle.merged_stacks.specs.Paired.{side_samples}
-use Rattle.flame_layout.specs.Boxes.{span_of}
 use Rattle.flame_layout.specs.Chart.{chart_of}
 use Rattle.flame_layout.specs.Comparison.{comparison_of}
 use Rattle.flame_layout.specs.checked.Paired.{paired_rows}
@@ -28,7 +27,7 @@ pub returns : goal.returns
 returns c =
     let before = c.args.before.now.samples in
     let after = c.args.after.now.samples in
-    let lefts = ap (map span_of) c.deref.ensures.value ∙ (c.in_ok-left.ensures ∙ ap (λ stacks. chart_of (side_samples Before stacks)) c.requires.stacks) in
-    let rights = ap (map span_of) c.deref-2.ensures.value ∙ (c.in_ok-right.ensures ∙ ap (λ stacks. chart_of (side_samples After stacks)) c.requires.stacks) in
-    IfOk-weaker c.pair_rows.result (λ rows. rows.items ≡ paired_rows [] (map span_of c.deref.result.now) (map span_of c.deref-2.result.now)) (λ rows. rows.items ≡ comparison_of before after)
-    (λ found e. e ∙ compared_rows before after (map span_of c.deref.result.now) (map span_of c.deref-2.result.now) lefts rights) c.pair_rows.ensures
+    let lefts = c.in_ok-left.ensures ∙ ap (λ stacks. chart_of (side_samples Before stacks)) c.requires.stacks in
+    let rights = c.in_ok-right.ensures ∙ ap (λ stacks. chart_of (side_samples After stacks)) c.requires.stacks in
+    IfOk-weaker c.pair_rows.result (λ rows. rows.items ≡ paired_rows [] c.in_ok-left.left c.in_ok-right.right) (λ rows. rows.items ≡ comparison_of before after)
+    (λ found e. e ∙ compared_rows before after c.in_ok-left.left c.in_ok-right.right lefts rights) c.pair_rows.ensures

@@ -4,7 +4,7 @@ use Rattle.std.proofs.lemmas.Result.{IfOk-weaker}
 use Rattle.merged_stacks.specs.declared.paired_sides.Side.TheVariants.{Before, After}
 use Rattle.merged_stacks.specs.Timeline.{total_weight}
 use Rattle.merged_stacks.specs.Paired.{side_samples}
-use Rattle.flame_layout.specs.Boxes.{compared_of, span_of}
+use Rattle.flame_layout.specs.Boxes.{compared_of}
 use Rattle.flame_layout.specs.Chart.{chart_of}
 use Rattle.flame_layout.specs.Comparison.{compared_boxes_of}
 use Rattle.flame_layout.specs.checked.Paired.{paired_boxes}
@@ -31,10 +31,10 @@ pub returns-clause-boxes : goal.returns-clause-boxes
 returns-clause-boxes c =
     let before = c.args.before.now.samples in
     let after = c.args.after.now.samples in
-    let lefts = ap (map span_of) c.deref.ensures.value ∙ (c.in_ok-left.ensures ∙ ap (λ stacks. chart_of (side_samples Before stacks)) c.requires.stacks) in
-    let rights = ap (map span_of) c.deref-2.ensures.value ∙ (c.in_ok-right.ensures ∙ ap (λ stacks. chart_of (side_samples After stacks)) c.requires.stacks) in
-    IfOk-weaker c.pair_boxes.result (λ boxes. map compared_of boxes.items ≡ paired_boxes (map span_of c.deref.result.now) (map span_of c.deref-2.result.now)) (λ boxes. map compared_of boxes.items ≡ compared_boxes_of before after)
-    (λ found e. e ∙ compared_drawn before after (map span_of c.deref.result.now) (map span_of c.deref-2.result.now) lefts rights) c.pair_boxes.ensures
+    let lefts = c.in_ok-left.ensures ∙ ap (λ stacks. chart_of (side_samples Before stacks)) c.requires.stacks in
+    let rights = c.in_ok-right.ensures ∙ ap (λ stacks. chart_of (side_samples After stacks)) c.requires.stacks in
+    IfOk-weaker c.pair_boxes.result (λ boxes. map compared_of boxes.items ≡ paired_boxes c.in_ok-left.left c.in_ok-right.right) (λ boxes. map compared_of boxes.items ≡ compared_boxes_of before after)
+    (λ found e. e ∙ compared_drawn before after c.in_ok-left.left c.in_ok-right.right lefts rights) c.pair_boxes.ensures
 
 pub returns-clause-within : goal.returns-clause-within
 returns-clause-within c =

@@ -1,6 +1,5 @@
 use Rattle.std.proofs.Common.{◌≡◌, map, take}
-use Rattle.flame_layout.specs.Boxes.{span_of}
 use Rattle.flame_layout.proofs.flame_boxes.span_boxes.Given as goal
 
-abbrev pub invariant-loop-one : goal.invariant-loop-one
-invariant-loop-one l = l.boxes.items ≡ map span_of (take l.one-index l.drawn)
+abbrev pub invariant-loop-place : goal.invariant-loop-place
+invariant-loop-place g l = l.boxes.items ≡ map (λ seen. seen.span) (take l.place (g.L.FlameBoxes.boxes l.list))

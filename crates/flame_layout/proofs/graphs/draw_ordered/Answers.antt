@@ -1,11 +1,10 @@
 use Rattle.std.proofs.Common.{◌≡◌, ◌∙◌, ◌+◌, ◌<◌, ◌≤◌, ◌∷◌, [], List, All, length, ap, subst, sym, refl, arith}
-use Rattle.std.proofs.lemmas.Result.{IfOk-weaker}
 use Rattle.std.proofs.lemmas.List.Elements.{recursion_from_All}
 use Rattle.sample_tables.specs.declared.samples.Sample.{Sample}
 use Rattle.stack_core.specs.Interleaving.{list_of}
+use Rattle.flame_layout.specs.declared.boxes.SpanBox.{SpanBox}
 use Rattle.merged_stacks.specs.Timeline.{total_weight}
 use Rattle.flame_layout.specs.Chart.{chart_of}
-use Rattle.flame_layout.proofs.DrawnBoxes.{drawn_within, drawn_positive}
 use Rattle.flame_layout.proofs.GraphBoxes.{graph-positive}
 use Rattle.flame_layout.proofs.Geometry.{chart-within}
 use Rattle.merged_stacks.proofs.MergedRows.{as_true}
@@ -36,12 +35,11 @@ end-requires g c =
     )
 
 pub returns-clause-graph : goal.returns-clause-graph
-returns-clause-graph g c =
+returns-clause-graph g c samples same =
     let stacks = g.S.StackRows.samples c.args.stacks.now in
     let is = c.in_ok-runs.ensures stacks (walked_stacks stacks _ c.in_ok-enter_samples.field-0 c.args.total c.enter_samples.new.walk (list_is c.in_ok-walk.walk.chart.lists stacks c.in_ok-walk.ensures.lists)
     c.requires.positive (sym c.requires.total) c.in_ok-enter_samples.ensures.start (c.in_ok-enter_samples.ensures.walked [] (c.in_ok-walk.ensures.walked c.args.total))) in
-    IfOk-weaker c.drawn.result _ _ (λ boxes e samples same.
-    e ∙ is ∙ chart_is_graph stacks samples (as_true _ c.requires.in_order) (recursion_from_All (λ (sample : Sample). 0 < sample.weight) stacks c.requires.positive) same) c.drawn.ensures
+    is ∙ chart_is_graph stacks samples (as_true _ c.requires.in_order) (recursion_from_All (λ (sample : Sample). 0 < sample.weight) stacks c.requires.positive) same
 
 pub returns-clause-within : goal.returns-clause-within
 returns-clause-within g c =
@@ -49,14 +47,12 @@ returns-clause-within g c =
     let is = c.in_ok-runs.ensures stacks (walked_stacks stacks _ c.in_ok-enter_samples.field-0 c.args.total c.enter_samples.new.walk (list_is c.in_ok-walk.walk.chart.lists stacks c.in_ok-walk.ensures.lists)
     c.requires.positive (sym c.requires.total) c.in_ok-enter_samples.ensures.start (c.in_ok-enter_samples.ensures.walked [] (c.in_ok-walk.ensures.walked c.args.total))) in
     let within = subst (λ n. All (λ span. span.start + span.weight ≤ n) (chart_of stacks)) c.requires.total (chart-within stacks) in
-    IfOk-weaker c.drawn.result _ _ (λ boxes e. drawn_within boxes.items (chart_of stacks) c.args.total (e ∙ is) within) c.drawn.ensures
+    subst (λ (boxes : List SpanBox). All (λ span. span.start + span.weight ≤ c.args.total) boxes) (sym is) within
 
 pub returns-clause-positive : goal.returns-clause-positive
-returns-clause-positive g c =
+returns-clause-positive g c some =
     let stacks = g.S.StackRows.samples c.args.stacks.now in
     let is = c.in_ok-runs.ensures stacks (walked_stacks stacks _ c.in_ok-enter_samples.field-0 c.args.total c.enter_samples.new.walk (list_is c.in_ok-walk.walk.chart.lists stacks c.in_ok-walk.ensures.lists)
     c.requires.positive (sym c.requires.total) c.in_ok-enter_samples.ensures.start (c.in_ok-enter_samples.ensures.walked [] (c.in_ok-walk.ensures.walked c.args.total))) in
-    IfOk-weaker c.drawn.result _ _ (λ boxes e.
-    drawn_positive boxes.items _ c.args.total
-    (e ∙ is ∙ chart_is_graph stacks stacks (as_true _ c.requires.in_order) (recursion_from_All (λ (sample : Sample). 0 < sample.weight) stacks c.requires.positive) (λ path. refl))
-    (λ some. subst (λ n. 0 < n) c.requires.total (graph-positive stacks some))) c.drawn.ensures
+    let graph = is ∙ chart_is_graph stacks stacks (as_true _ c.requires.in_order) (recursion_from_All (λ (sample : Sample). 0 < sample.weight) stacks c.requires.positive) (λ path. refl) in
+    subst (λ n. 0 < n) c.requires.total (graph-positive stacks (omega (arith, some, ap length graph)))

@@ -2,12 +2,12 @@ use Rattle.std.proofs.Common.{◌≡◌, ◌∙◌, ap, [], map, IfOk}
 use Rattle.std.proofs.lemmas.Result.{IfOk-weaker}
 use Rattle.flame_layout.specs.Boxes.{span_of}
 use Rattle.call_tree.specs.CallTree.{total_weight}
-use Rattle.flame_layout.proofs.DrawnBoxes.{spans_within, spans_positive}
+use Rattle.flame_layout.proofs.DrawnBoxes.{drawn_spans, spans_within, spans_positive}
 use Rattle.flame_layout.proofs.graphs.graph_boxes.Goals as goal
 
 -- the boxes are those that the drawn ones stand for
 copied : (c : goal.After-drop-drawn) → IfOk c.span_boxes.result (λ boxes. boxes.items ≡ map span_of c.in_ok-drawn.drawn.items)
-copied c = IfOk-weaker c.span_boxes.result _ _ (λ boxes e. e ∙ ap (map span_of) c.deref.ensures.value) c.span_boxes.ensures
+copied c = IfOk-weaker c.span_boxes.result _ _ (λ boxes e. e ∙ (drawn_spans c.as_slice.result.now ∙ ap (map span_of) c.as_slice.ensures.value)) c.span_boxes.ensures
 
 pub returns-clause-graph : goal.returns-clause-graph
 returns-clause-graph c = IfOk-weaker c.span_boxes.result _ _ (λ boxes e samples same. e ∙ c.in_ok-drawn.ensures.graph samples same) (copied c)

@@ -1,21 +1,20 @@
-use Rattle.std.proofs.Common.{◌≡◌, ◌∙◌, ap, map, IfOk}
+use Rattle.std.proofs.Common.{◌≡◌, ◌∙◌, ◌+◌, ◌≤◌, List, All, IfOk, length, ap, sym, subst, arith}
 use Rattle.std.proofs.lemmas.Result.{IfOk-weaker}
-use Rattle.flame_layout.specs.Boxes.{span_of}
 use Rattle.merged_stacks.specs.Timeline.{total_weight}
-use Rattle.flame_layout.proofs.DrawnBoxes.{spans_within, spans_positive}
+use Rattle.flame_layout.specs.declared.boxes.SpanBox.{SpanBox}
+use Rattle.flame_layout.proofs.DrawnBoxes.{plain_spans}
 use Rattle.flame_layout.proofs.graphs.merged_boxes.Goals as goal
 
--- the boxes are those that the drawn ones stand for
-copied : (c : goal.After-drop-drawn) → IfOk c.span_boxes.result (λ boxes. boxes.items ≡ map span_of c.in_ok-drawn.drawn.items)
-copied c = IfOk-weaker c.span_boxes.result _ _ (λ boxes e. e ∙ ap (map span_of) c.deref.ensures.value) c.span_boxes.ensures
+-- the boxes are those of the chart
+copied : (c : goal.After-drop-chart-inside-3) → IfOk c.span_boxes.result (λ boxes. boxes.items ≡ c.in_ok-chart.chart)
+copied c = IfOk-weaker c.span_boxes.result _ _ (λ boxes e. e ∙ plain_spans c.in_ok-chart.chart) c.span_boxes.ensures
 
 pub returns-clause-graph : goal.returns-clause-graph
-returns-clause-graph c = IfOk-weaker c.span_boxes.result _ _ (λ boxes e samples same. e ∙ c.in_ok-drawn.ensures.graph samples same) (copied c)
+returns-clause-graph c = IfOk-weaker c.span_boxes.result _ _ (λ boxes e samples same. e ∙ c.in_ok-chart.ensures.graph samples same) (copied c)
 
 pub returns-clause-within : goal.returns-clause-within
 returns-clause-within c =
-    IfOk-weaker c.span_boxes.result _ _ (λ boxes e. spans_within c.in_ok-drawn.drawn.items boxes.items (total_weight c.args.merged.now) e c.in_ok-drawn.ensures.within) (copied c)
+    IfOk-weaker c.span_boxes.result _ _ (λ boxes e. subst (λ (all : List SpanBox). All (λ span. span.start + span.weight ≤ total_weight c.args.merged.now) all) (sym e) c.in_ok-chart.ensures.within) (copied c)
 
 pub returns-clause-positive : goal.returns-clause-positive
-returns-clause-positive c =
-    IfOk-weaker c.span_boxes.result _ _ (λ boxes e. spans_positive c.in_ok-drawn.drawn.items boxes.items (total_weight c.args.merged.now) e c.in_ok-drawn.ensures.positive) (copied c)
+returns-clause-positive c = IfOk-weaker c.span_boxes.result _ _ (λ boxes e some. c.in_ok-chart.ensures.positive (omega (arith, some, ap length e))) (copied c)

@@ -2,7 +2,7 @@ use Rattle.std.proofs.Common.{arith, rules, ◌≡◌, inl, inr, [], length, map
 use Rattle.std.specs.Vec.{vec_len}
 use Rattle.command_line.specs.CommandLine.{command_line}
 use Rattle.command_line.specs.Plans.{IsFaultAmong, fault_of, plan_of}
-use Rattle.flame_tool.proofs.RunEndings.{accepted_none, accepted_some, are_refused, asked_callees, asked_callers, asked_exactly, asked_faulty, asked_many, asked_page, asked_partly, asked_shown, asked_svg, asked_types, asked_types_faulty, asked_types_partly, asked_types_untouched, asked_untouched, asked_whole, asks_if_help, input_clean, input_front, input_text, none_asked, partly_by_plan, partly_help, some_asked, some_faultless}
+use Rattle.flame_tool.proofs.RunEndings.{accepted_none, accepted_some, among_words, are_refused, asked_callees, asked_callers, asked_exactly, asked_faulty, asked_many, asked_page, asked_partly, asked_shown, asked_svg, asked_types, asked_types_faulty, asked_types_partly, asked_types_untouched, asked_untouched, asked_with_facts, asks_if_help, faultless_words, input_clean, input_front, input_text, none_asked, partly_by_plan, partly_help, some_asked, some_faultless}
 use Rattle.flame_tool.proofs.UntouchedOutputs.{no_help, whatever_is_read, whatever_types_are_read}
 use Rattle.flame_tool.proofs.program.run.Goals as goal
 
@@ -12,11 +12,11 @@ returns-in-Ok-clause-shown_exactly g c =
     let planned : plan_of (map string_bytes c.args.words.items) ≡ Some c.in-Ok.plan = search rules in
     λ zero. inr (asked_exactly (map string_bytes c.args.words.items) c.in-Ok.plan (g.F.Files.known_input c.args.files.now) (g.F.Files.known_file c.args.files.now) _ _ (some_asked string_bytes c.args.words.items c.in-Ok.plan some planned) (c.run_plan-in-Ok.ensures.shown zero))
 
-pub returns-in-Ok-clause-shown_with_whole : goal.returns-in-Ok-clause-shown_with_whole
-returns-in-Ok-clause-shown_with_whole g c =
+pub returns-in-Ok-clause-shown_with_facts : goal.returns-in-Ok-clause-shown_with_facts
+returns-in-Ok-clause-shown_with_facts g c =
     let some : length c.args.words.items ≡ 0 → ⊥ = search rules in
     let planned : plan_of (map string_bytes c.args.words.items) ≡ Some c.in-Ok.plan = search rules in
-    λ zero. inr (asked_whole (map string_bytes c.args.words.items) c.in-Ok.plan (g.F.Files.known_input c.args.files.now) (g.F.Files.known_file c.args.files.now) _ _ (some_asked string_bytes c.args.words.items c.in-Ok.plan some planned) (c.run_plan-in-Ok.ensures.shown zero))
+    λ zero. inr (asked_with_facts (map string_bytes c.args.words.items) c.in-Ok.plan (g.F.Files.known_input c.args.files.now) (g.F.Files.known_file c.args.files.now) _ _ (some_asked string_bytes c.args.words.items c.in-Ok.plan some planned) (c.run_plan-in-Ok.ensures.shown zero))
 
 pub returns-in-Ok-clause-shown_page : goal.returns-in-Ok-clause-shown_page
 returns-in-Ok-clause-shown_page g c =
@@ -45,13 +45,13 @@ returns-in-Ok-clause-shown_callers g c =
 pub returns-clause-partly : goal.returns-clause-partly
 returns-clause-partly g c =
     let some : length c.args.words.items ≡ 0 → ⊥ = search rules in
-    let among : IsFaultAmong (fault_of command_line (map string_bytes c.args.words.items)) c.in-Err.fault = search rules in
+    let among = among_words string_bytes c.in-Err.fault c.as_slice-2.ensures.value c.in-Err.ensures.refused in
     λ three. partly_help string_bytes c.args.words.items c.in-Err.fault _ _ some among (c.refuse.ensures.front three)
 
 pub returns-clause-types_partly : goal.returns-clause-types_partly
 returns-clause-types_partly g c =
     let some : length c.args.words.items ≡ 0 → ⊥ = search rules in
-    let among : IsFaultAmong (fault_of command_line (map string_bytes c.args.words.items)) c.in-Err.fault = search rules in
+    let among = among_words string_bytes c.in-Err.fault c.as_slice-2.ensures.value c.in-Err.ensures.refused in
     λ three. partly_help string_bytes c.args.words.items c.in-Err.fault _ _ some among (c.refuse.ensures.front three)
 
 -- without words all of the input is kept
@@ -70,31 +70,49 @@ returns-then-is_empty-clause-front g c = λ _ three.
 pub returns-clause-shown : goal.returns-clause-shown
 returns-clause-shown g c =
     let some : length c.args.words.items ≡ 0 → ⊥ = search rules in
-    let among : IsFaultAmong (fault_of command_line (map string_bytes c.args.words.items)) c.in-Err.fault = search rules in
+    let among = among_words string_bytes c.in-Err.fault c.as_slice-2.ensures.value c.in-Err.ensures.refused in
     λ zero. inl (asks_if_help string_bytes c.args.words.items c.in-Err.fault some among (c.refuse.ensures.help (omega (arith, zero))))
 
 pub returns-clause-types : goal.returns-clause-types
 returns-clause-types g c =
     let some : length c.args.words.items ≡ 0 → ⊥ = search rules in
-    let among : IsFaultAmong (fault_of command_line (map string_bytes c.args.words.items)) c.in-Err.fault = search rules in
+    let among = among_words string_bytes c.in-Err.fault c.as_slice-2.ensures.value c.in-Err.ensures.refused in
     λ zero. inl (asks_if_help string_bytes c.args.words.items c.in-Err.fault some among (c.refuse.ensures.help (omega (arith, zero))))
 
 pub returns-clause-shown_exactly : goal.returns-clause-shown_exactly
 returns-clause-shown_exactly g c =
     let some : length c.args.words.items ≡ 0 → ⊥ = search rules in
-    let among : IsFaultAmong (fault_of command_line (map string_bytes c.args.words.items)) c.in-Err.fault = search rules in
+    let among = among_words string_bytes c.in-Err.fault c.as_slice-2.ensures.value c.in-Err.ensures.refused in
     λ zero. inl (asks_if_help string_bytes c.args.words.items c.in-Err.fault some among (c.refuse.ensures.help (omega (arith, zero))))
 
-pub returns-clause-shown_with_whole : goal.returns-clause-shown_with_whole
-returns-clause-shown_with_whole g c =
+pub returns-clause-shown_with_facts : goal.returns-clause-shown_with_facts
+returns-clause-shown_with_facts g c =
     let some : length c.args.words.items ≡ 0 → ⊥ = search rules in
-    let among : IsFaultAmong (fault_of command_line (map string_bytes c.args.words.items)) c.in-Err.fault = search rules in
+    let among = among_words string_bytes c.in-Err.fault c.as_slice-2.ensures.value c.in-Err.ensures.refused in
     λ zero. inl (asks_if_help string_bytes c.args.words.items c.in-Err.fault some among (c.refuse.ensures.help (omega (arith, zero))))
 
 pub returns-clause-shown_page : goal.returns-clause-shown_page
 returns-clause-shown_page g c =
     let some : length c.args.words.items ≡ 0 → ⊥ = search rules in
-    let among : IsFaultAmong (fault_of command_line (map string_bytes c.args.words.items)) c.in-Err.fault = search rules in
+    let among = among_words string_bytes c.in-Err.fault c.as_slice-2.ensures.value c.in-Err.ensures.refused in
+    λ zero. inl (asks_if_help string_bytes c.args.words.items c.in-Err.fault some among (c.refuse.ensures.help (omega (arith, zero))))
+
+pub returns-clause-shown_svg : goal.returns-clause-shown_svg
+returns-clause-shown_svg g c =
+    let some : length c.args.words.items ≡ 0 → ⊥ = search rules in
+    let among = among_words string_bytes c.in-Err.fault c.as_slice-2.ensures.value c.in-Err.ensures.refused in
+    λ zero. inl (asks_if_help string_bytes c.args.words.items c.in-Err.fault some among (c.refuse.ensures.help (omega (arith, zero))))
+
+pub returns-clause-shown_callers : goal.returns-clause-shown_callers
+returns-clause-shown_callers g c =
+    let some : length c.args.words.items ≡ 0 → ⊥ = search rules in
+    let among = among_words string_bytes c.in-Err.fault c.as_slice-2.ensures.value c.in-Err.ensures.refused in
+    λ zero. inl (asks_if_help string_bytes c.args.words.items c.in-Err.fault some among (c.refuse.ensures.help (omega (arith, zero))))
+
+pub returns-clause-shown_callees : goal.returns-clause-shown_callees
+returns-clause-shown_callees g c =
+    let some : length c.args.words.items ≡ 0 → ⊥ = search rules in
+    let among = among_words string_bytes c.in-Err.fault c.as_slice-2.ensures.value c.in-Err.ensures.refused in
     λ zero. inl (asks_if_help string_bytes c.args.words.items c.in-Err.fault some among (c.refuse.ensures.help (omega (arith, zero))))
 
 -- words that are followed have no fault
@@ -105,13 +123,13 @@ pub returns-in-Ok-clause-accepted : goal.returns-in-Ok-clause-accepted
 returns-in-Ok-clause-accepted g c =
     let some : length c.args.words.items ≡ 0 → ⊥ = search rules in
     let planned : plan_of (map string_bytes c.args.words.items) ≡ Some c.in-Ok.plan = search rules in
-    let faultless : fault_of command_line (map string_bytes c.args.words.items) ≡ [] = search rules in
+    let faultless = faultless_words string_bytes c.as_slice-2.ensures.value c.in-Ok.ensures.taken in
     λ accepted. inr (accepted_some string_bytes c.args.words.items c.in-Ok.plan _ some planned faultless c.run_plan-in-Ok.ensures.few accepted)
 
 pub returns-clause-accepted : goal.returns-clause-accepted
 returns-clause-accepted g c =
     let some : length c.args.words.items ≡ 0 → ⊥ = search rules in
-    let among : IsFaultAmong (fault_of command_line (map string_bytes c.args.words.items)) c.in-Err.fault = search rules in
+    let among = among_words string_bytes c.in-Err.fault c.as_slice-2.ensures.value c.in-Err.ensures.refused in
     λ accepted. inl (asks_if_help string_bytes c.args.words.items c.in-Err.fault some among (c.refuse.ensures.help accepted))
 
 pub returns-then-is_empty-clause-followed : goal.returns-then-is_empty-clause-followed
@@ -121,7 +139,7 @@ pub returns-in-Ok-clause-followed : goal.returns-in-Ok-clause-followed
 returns-in-Ok-clause-followed g c =
     let some : length c.args.words.items ≡ 0 → ⊥ = search rules in
     let planned : plan_of (map string_bytes c.args.words.items) ≡ Some c.in-Ok.plan = search rules in
-    let faultless : fault_of command_line (map string_bytes c.args.words.items) ≡ [] = search rules in
+    let faultless = faultless_words string_bytes c.as_slice-2.ensures.value c.in-Ok.ensures.taken in
     λ one. (accepted_some string_bytes c.args.words.items c.in-Ok.plan _ some planned faultless c.run_plan-in-Ok.ensures.few (omega (arith, one))).0
 
 pub returns-clause-followed : goal.returns-clause-followed
@@ -136,27 +154,27 @@ pub returns-in-Ok-clause-partly_followed : goal.returns-in-Ok-clause-partly_foll
 returns-in-Ok-clause-partly_followed g c =
     let some : length c.args.words.items ≡ 0 → ⊥ = search rules in
     let planned : plan_of (map string_bytes c.args.words.items) ≡ Some c.in-Ok.plan = search rules in
-    let faultless : fault_of command_line (map string_bytes c.args.words.items) ≡ [] = search rules in
+    let faultless = faultless_words string_bytes c.as_slice-2.ensures.value c.in-Ok.ensures.taken in
     λ three. partly_by_plan (map string_bytes c.args.words.items) c.in-Ok.plan (g.F.Files.known_input c.args.files.now) (g.F.Files.known_file c.args.files.now) _ _ (some_asked string_bytes c.args.words.items c.in-Ok.plan some planned) (some_faultless string_bytes c.args.words.items some faultless) (c.run_plan-in-Ok.ensures.front three)
 
 pub returns-clause-partly_followed : goal.returns-clause-partly_followed
 returns-clause-partly_followed g c =
     let some : length c.args.words.items ≡ 0 → ⊥ = search rules in
-    let among : IsFaultAmong (fault_of command_line (map string_bytes c.args.words.items)) c.in-Err.fault = search rules in
+    let among = among_words string_bytes c.in-Err.fault c.as_slice-2.ensures.value c.in-Err.ensures.refused in
     λ three. partly_help string_bytes c.args.words.items c.in-Err.fault _ _ some among (c.refuse.ensures.front three)
 
 -- words that are not followed have a fault, or there was no memory for their plan
 pub returns-clause-untouched : goal.returns-clause-untouched
 returns-clause-untouched g c =
     let some : length c.args.words.items ≡ 0 → ⊥ = search rules in
-    let among : IsFaultAmong (fault_of command_line (map string_bytes c.args.words.items)) c.in-Err.fault = search rules in
+    let among = among_words string_bytes c.in-Err.fault c.as_slice-2.ensures.value c.in-Err.ensures.refused in
     λ faultless. whatever_is_read _ (map string_bytes c.args.words.items) (g.F.Files.known_file c.args.files.now)
     (c.refuse.ensures.untouched (no_help string_bytes c.args.words.items c.in-Err.fault some among faultless)) (g.F.Files.known_input c.args.files.now)
 
 pub returns-clause-types_untouched : goal.returns-clause-types_untouched
 returns-clause-types_untouched g c =
     let some : length c.args.words.items ≡ 0 → ⊥ = search rules in
-    let among : IsFaultAmong (fault_of command_line (map string_bytes c.args.words.items)) c.in-Err.fault = search rules in
+    let among = among_words string_bytes c.in-Err.fault c.as_slice-2.ensures.value c.in-Err.ensures.refused in
     λ faultless. whatever_types_are_read _ (map string_bytes c.args.words.items) (g.F.Files.known_file c.args.files.now)
     (c.refuse.ensures.untouched (no_help string_bytes c.args.words.items c.in-Err.fault some among faultless))
 
@@ -237,11 +255,11 @@ returns-then-is_empty-clause-shown_exactly g c =
     let asked = none_asked string_bytes c.args.words.items c.plan_without_words.result none c.plan_without_words.ensures.plan in
     λ zero. inr (asked_exactly (map string_bytes c.args.words.items) c.plan_without_words.result (g.F.Files.known_input c.args.files.now) (g.F.Files.known_file c.args.files.now) _ _ asked (c.run_plan.ensures.shown zero))
 
-pub returns-then-is_empty-clause-shown_with_whole : goal.returns-then-is_empty-clause-shown_with_whole
-returns-then-is_empty-clause-shown_with_whole g c =
+pub returns-then-is_empty-clause-shown_with_facts : goal.returns-then-is_empty-clause-shown_with_facts
+returns-then-is_empty-clause-shown_with_facts g c =
     let none : length c.args.words.items ≡ 0 = search rules in
     let asked = none_asked string_bytes c.args.words.items c.plan_without_words.result none c.plan_without_words.ensures.plan in
-    λ zero. inr (asked_whole (map string_bytes c.args.words.items) c.plan_without_words.result (g.F.Files.known_input c.args.files.now) (g.F.Files.known_file c.args.files.now) _ _ asked (c.run_plan.ensures.shown zero))
+    λ zero. inr (asked_with_facts (map string_bytes c.args.words.items) c.plan_without_words.result (g.F.Files.known_input c.args.files.now) (g.F.Files.known_file c.args.files.now) _ _ asked (c.run_plan.ensures.shown zero))
 
 pub returns-then-is_empty-clause-shown_page : goal.returns-then-is_empty-clause-shown_page
 returns-then-is_empty-clause-shown_page g c =
@@ -421,5 +439,5 @@ returns-clause-types_faulty g c = λ one. absurd (c.refuse.ensures.no_fault one)
 pub returns-clause-blamed : goal.returns-clause-blamed
 returns-clause-blamed g c =
     let some : length c.args.words.items ≡ 0 → ⊥ = search rules in
-    let among : IsFaultAmong (fault_of command_line (map string_bytes c.args.words.items)) c.in-Err.fault = search rules in
+    let among = among_words string_bytes c.in-Err.fault c.as_slice-2.ensures.value c.in-Err.ensures.refused in
     λ two. inl (are_refused string_bytes c.args.words.items c.in-Err.fault some among (c.refuse.ensures.words two))

@@ -2,27 +2,19 @@
 ghost use Rattle.std.specs.Prelude.{◌<◌, ◌^◌};
 ghost use Rattle.merged_stacks.specs.Timeline.{samples_of, timeline, total_weight};
 
-use super::{RUNS, append_box};
+use super::{RUNS, append_boxes};
 use crate::tests::told::{OfChart, Telling, Told, are_told};
 use flame_layout::Chart;
 use stack_core::SourceList;
 use std::alloc::{AllocError, Global};
 use std::test::Fail;
 
-/// The boxes of a chart, one asked for after another.
-fn append_one_by_one(text: &mut String, chart: &Chart<'_>) -> Result<(), AllocError> {
-    for at in 0..chart.len() {
-        append_box(text, &chart.get(at))?;
-    }
-    Ok(())
-}
-
 /// Appends whether a chart is empty, where it is, and its boxes.
-fn append_compact(text: &mut String, chart: &Chart<'_>) -> Result<(), AllocError> {
+fn append_compact(text: &mut String, chart: &Chart<'_, SourceList>) -> Result<(), AllocError> {
     if chart.is_empty() {
         text.push_str("no boxes")?;
     }
-    append_one_by_one(text, chart)
+    append_boxes(text, &chart)
 }
 
 pub(in crate::tests) fn append_compact_chart(

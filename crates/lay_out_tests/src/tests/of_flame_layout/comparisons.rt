@@ -65,8 +65,8 @@ fn append_compared(
     width: Width,
 ) -> Result<(), AllocError> {
     write!(text, "{}", pair.total_before)?;
-    append_span(text, pair)?;
-    append_edges_in(text, pair, total, width)
+    append_span(text, &pair.drawn)?;
+    append_edges_in(text, &pair.drawn, total, width)
 }
 
 fn append_all_compared(

@@ -12,7 +12,7 @@ pub(in crate::tests) fn append_graph(
     merged: &MergedStacks,
 ) -> Result<(), AllocError> {
     let boxes = merged_boxes(alloc, merged)?;
-    append_boxes(text, &boxes)
+    append_boxes(text, &boxes.as_slice())
 }
 
 const TWO_SOURCES: &[Telling<'static>] = &[(

@@ -3,11 +3,10 @@
 use crate::tests::of_page_source::is_page;
 use crate::tests::texts::{holds, is_text};
 use byte_io::{CountedWriter, PieceFault};
-use flame_layout::{DrawnBox, DrawnPair};
-use page_texts::{Drawing, Moment, Page, PageBox, Source, append_page_data, send_page};
+use flame_layout::{DrawnBox, DrawnPair, FlameBoxes};
+use page_texts::{Drawing, Moment, Page, Source, append_page_data, send_page};
 use std::alloc::{AllocError, Global};
 use std::process::Abort;
-use std::slice;
 use std::test::Fail;
 
 // Depth, name, start, weight and own weight of a box.
@@ -43,16 +42,17 @@ struct Case<'a> {
     is_root_below: bool,
 }
 
-fn drawing_of<'a, B: PageBox>(boxes: &'a [B], case: &Case<'a>) -> Drawing<'a, B> {
+fn drawing_of<'a, L>(boxes: L, case: &Case<'a>) -> Drawing<'a, L> {
     Drawing {
         boxes,
+        is_compared: case.view == "compare",
         least: case.least,
         total: case.total,
         moment: case.moment,
     }
 }
 
-fn page_with<'a, B: PageBox>(drawings: &'a [Drawing<'a, B>], case: &Case<'a>) -> Page<'a, B> {
+fn page_with<'a, L: FlameBoxes>(drawings: &'a [Drawing<'a, L>], case: &Case<'a>) -> Page<'a, L> {
     Page {
         drawings,
         sources: case.sources,
@@ -64,14 +64,13 @@ fn page_with<'a, B: PageBox>(drawings: &'a [Drawing<'a, B>], case: &Case<'a>) ->
 }
 
 // Appends the data of a page.
-fn append_data<B: PageBox>(
+fn append_data<L: FlameBoxes>(
     alloc: Global,
     out: &mut Vec<u8>,
-    boxes: &[B],
+    drawings: &[Drawing<'_, L>],
     case: &Case<'_>,
 ) -> Result<(), AllocError> {
-    let drawing = drawing_of(boxes, case);
-    append_page_data(alloc, out, &page_with(slice::from_ref(&drawing), case))
+    append_page_data(alloc, out, &page_with(drawings, case))
 }
 
 const ALL: Row<'static> = (0, "all", 0, 3, 0);
@@ -86,7 +85,8 @@ const SMALL: &[Row<'static>] = &[ALL, MAIN, READ];
 fn append_small(alloc: Global, out: &mut Vec<u8>, case: &Case<'_>) -> Result<(), AllocError> {
     let mut boxes = Vec::new(alloc);
     add_boxes(&mut boxes, SMALL)?;
-    append_data(alloc, out, &boxes, case)
+    let drawing = drawing_of(boxes.as_slice(), case);
+    append_data(alloc, out, &[drawing], case)
 }
 
 // The data of a page of the small boxes are these.
@@ -190,7 +190,8 @@ const COMPARED: &Case<'static> = &Case {
 fn append_compared(alloc: Global, out: &mut Vec<u8>) -> Result<(), AllocError> {
     let mut boxes = Vec::new(alloc);
     add_compared(&mut boxes, COMPARED_BOXES)?;
-    append_data(alloc, out, &boxes, COMPARED)
+    let drawing = drawing_of(boxes.as_slice(), COMPARED);
+    append_data(alloc, out, &[drawing], COMPARED)
 }
 
 #[test]
@@ -225,7 +226,8 @@ const LONG: &Case<'static> = &Case {
 fn append_long(alloc: Global, out: &mut Vec<u8>) -> Result<(), AllocError> {
     let mut boxes = Vec::new(alloc);
     add_same(&mut boxes, 2500)?;
-    append_data(alloc, out, &boxes, LONG)
+    let drawing = drawing_of(boxes.as_slice(), LONG);
+    append_data(alloc, out, &[drawing], LONG)
 }
 
 // Five columns of 2500 digits with 2499 commas, and what stands round them.
@@ -250,19 +252,35 @@ const README: &Case<'static> = &Case {
     is_root_below: false,
 };
 
-// Sends the page of the README.
-fn send_readme(
-    alloc: Global,
-    boxes: &[DrawnBox<'_>],
-    out: &mut CountedWriter<Vec<u8>>,
-) -> Result<(), PieceFault> {
-    let drawing = drawing_of(boxes, README);
-    send_page(alloc, &page_with(slice::from_ref(&drawing), README), out)
+// Appends the data of the page of the README.
+fn append_readme(alloc: Global, out: &mut Vec<u8>) -> Result<(), AllocError> {
+    let mut boxes = Vec::new(alloc);
+    add_boxes(&mut boxes, &SMALL[..1])?;
+    let drawing = drawing_of(boxes.as_slice(), README);
+    append_data(alloc, out, &[drawing], README)
 }
 
-fn sent_readme(alloc: Global, boxes: &[DrawnBox<'_>]) -> Result<Vec<u8>, PieceFault> {
+// Sends a page.
+fn send_drawings<L: FlameBoxes>(
+    alloc: Global,
+    drawings: &[Drawing<'_, L>],
+    case: &Case<'_>,
+    out: &mut CountedWriter<Vec<u8>>,
+) -> Result<(), PieceFault> {
+    send_page(alloc, &page_with(drawings, case), out)
+}
+
+// Sends the page of the README.
+fn send_readme(alloc: Global, out: &mut CountedWriter<Vec<u8>>) -> Result<(), PieceFault> {
+    let mut boxes = Vec::new(alloc);
+    add_boxes(&mut boxes, &SMALL[..1])?;
+    let drawing = drawing_of(boxes.as_slice(), README);
+    send_drawings(alloc, &[drawing], README, out)
+}
+
+fn sent_readme(alloc: Global) -> Result<Vec<u8>, PieceFault> {
     let mut out = CountedWriter::new(Vec::new(alloc));
-    send_readme(alloc, boxes, &mut out)?;
+    send_readme(alloc, &mut out)?;
     Ok(out.into_inner())
 }
 
@@ -274,26 +292,17 @@ fn is_of_the_readme(alloc: Global, data: &[u8], sent: &[u8]) -> Result<bool, All
     }
 }
 
-fn is_sent(
-    rt: &(impl Abort + AllocGlobal),
-    boxes: &[DrawnBox<'_>],
-    data: &[u8],
-) -> Result<(), Fail> {
-    let sent = sent_readme(rt.alloc(), boxes)?;
+fn is_sent(rt: &(impl Abort + AllocGlobal), data: &[u8]) -> Result<(), Fail> {
+    let sent = sent_readme(rt.alloc())?;
     holds(rt, is_of_the_readme(rt.alloc(), data, &sent))
 }
 
-fn sends_its_data(
-    rt: &(impl Abort + AllocGlobal),
-    boxes: &mut Vec<DrawnBox<'_>>,
-    data: &mut Vec<u8>,
-) -> Result<(), Fail> {
-    add_boxes(boxes, &SMALL[..1])?;
-    append_data(rt.alloc(), data, boxes, README)?;
-    is_sent(rt, boxes, data)
+fn sends_its_data(rt: &(impl Abort + AllocGlobal), data: &mut Vec<u8>) -> Result<(), Fail> {
+    append_readme(rt.alloc(), data)?;
+    is_sent(rt, data)
 }
 
 #[test]
 fn example_of_the_readme(rt: HostRuntime) -> Result<(), Fail> {
-    sends_its_data(&rt, &mut Vec::new(rt.alloc()), &mut Vec::new(rt.alloc()))
+    sends_its_data(&rt, &mut Vec::new(rt.alloc()))
 }

@@ -7,7 +7,7 @@ use Rattle.page_texts.proofs.keeping.keep_drawings.Goals as goal
 
 pub loop-drawing-preserved : goal.loop-drawing-preserved
 loop-drawing-preserved g c =
-    let stands_for = drawing_of g.B.FlameBox.span g.B.PageBox.other g.B.PageBox.compared in
+    let stands_for = drawing_of g.L.FlameBoxes.boxes in
     let drawings = c.args.drawings.now in
     let at = c.loop-drawing.drawing-index in
     let item = c.drawing-item.result in

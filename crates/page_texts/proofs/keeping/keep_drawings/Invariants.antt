@@ -7,5 +7,5 @@ use Rattle.page_texts.proofs.keeping.keep_drawings.Given as goal
 
 abbrev pub invariant-loop-drawing : goal.invariant-loop-drawing
 invariant-loop-drawing g l =
-    let done = map (drawing_of g.B.FlameBox.span g.B.PageBox.other g.B.PageBox.compared) (take l.drawing-index l.drawings) in
+    let done = map (drawing_of g.L.FlameBoxes.boxes) (take l.drawing-index l.drawings) in
     (l.names ≡ page_names done) × AreAllKept l.names done l.kept.items

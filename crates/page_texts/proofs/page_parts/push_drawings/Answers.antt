@@ -5,7 +5,7 @@ use Rattle.std.proofs.lemmas.Result.{on_ok_weaker}
 use Rattle.serde_json.specs.View.{items_of}
 use Rattle.serde_json.specs.Written.{comma_if}
 use Rattle.page_texts.specs.Page.{drawing_data}
-use Rattle.page_texts.specs.Drawn.{drawing_of, shown}
+use Rattle.page_texts.specs.Drawn.{drawing_of, page_box}
 use Rattle.page_texts.specs.checked.Parts.{parts_text}
 use Rattle.page_texts.specs.checked.SafeText.{safe_items, safe_text, values_text}
 use Rattle.page_texts.proofs.DrawingTexts.{drawing_text}
@@ -16,14 +16,14 @@ use Rattle.page_texts.proofs.page_parts.push_drawings.Goals as goal
 
 pub loop-at-preserved : goal.loop-at-preserved
 loop-at-preserved g c names all =
-    let stands_for = drawing_of g.B.FlameBox.span g.B.PageBox.other g.B.PageBox.compared in
+    let stands_for = drawing_of g.L.FlameBoxes.boxes in
     let drawings = c.args.drawings.now in
     let at = c.loop-at.at in
     let drawing = c.index-drawings-at.result in
     let answer = c.index-kept-at.result in
     let more = values_text-more (λ d. drawing_data names (stands_for d)) drawings at drawing (omega arith) in
     let keeps = kept_at names stands_for drawings c.args.kept.now at drawing answer all (omega arith) c.index-drawings-at.is c.index-kept-at.is in
-    let text = drawing_text names drawing.moment g.B.PageBox.compared drawing.least drawing.total (map (shown g.B.FlameBox.span g.B.PageBox.other) drawing.boxes.now) answer keeps in
+    let text = drawing_text names drawing.moment drawing.is_compared drawing.least drawing.total (map page_box (g.L.FlameBoxes.boxes drawing.boxes)) answer keeps in
     list_step (parts_text c.push_literal.new.parts.items) _ (comma_if (nat_lt 0 at)) _ _ (parts_text c.loop-at.parts.items) (parts_text c.push_literal-in-loop-at.new.parts.items) (parts_text c.push_drawing.new.parts.items)
     (c.loop-at.invariant names all) (c.in_ok-push_literal-2.ensures ∙ ap (λ t. parts_text c.loop-at.parts.items ++ t) c.comma_if.ensures)
     (c.in_ok-push_drawing.ensures ∙ ap (λ t. parts_text c.push_literal-in-loop-at.new.parts.items ++ t) (sym text ∙ ap (λ d. safe_text (drawing_data names (stands_for d))) c.index-drawings-at.is))
@@ -31,7 +31,7 @@ loop-at-preserved g c names all =
 
 pub returns : goal.returns
 returns g c =
-    let stands_for = drawing_of g.B.FlameBox.span g.B.PageBox.other g.B.PageBox.compared in
+    let stands_for = drawing_of g.L.FlameBoxes.boxes in
     let drawings = c.args.drawings.now in
     let done : take c.loop-at.at drawings ≡ drawings = take_all c.loop-at.at drawings (omega arith) in
     on_ok_weaker c.push_literal-2.result

@@ -9,6 +9,6 @@ use Rattle.page_texts.proofs.page_parts.push_drawings.Given as goal
 
 abbrev pub invariant-loop-at : goal.invariant-loop-at
 invariant-loop-at g l =
-    let stands_for = drawing_of g.B.FlameBox.span g.B.PageBox.other g.B.PageBox.compared in
+    let stands_for = drawing_of g.L.FlameBoxes.boxes in
     (names : List (List ℕ)) → AreAllKept names (map stands_for l.drawings) l.kept
     → parts_text l.parts.items ≡ parts_text l.initial.parts.items ++ values_text false (map (λ drawing. drawing_data names (stands_for drawing)) (take l.at l.drawings))

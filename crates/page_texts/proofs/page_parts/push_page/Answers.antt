@@ -15,12 +15,12 @@ pub push_drawings-requires : goal.push_drawings-requires
 push_drawings-requires g c =
     let kept = c.args.kept.now in
     let drawings = c.args.page.now.drawings.now in
-    let stands_for = drawing_of g.B.FlameBox.span g.B.PageBox.other g.B.PageBox.compared in
+    let stands_for = drawing_of g.L.FlameBoxes.boxes in
     sym (length-map drawings stands_for) ∙ as_many kept.names (map stands_for drawings) kept.drawings.items c.requires.1 ∙ ap length (sym c.deref.ensures.value)
 
 pub returns : goal.returns
 returns g c =
-    let page = page_of g.B.FlameBox.span g.B.PageBox.other g.B.PageBox.compared c.args.page.now in
+    let page = page_of g.L.FlameBoxes.boxes c.args.page.now in
     let names = c.args.kept.now.names in
     let all = subst (AreAllKept names page.drawings) (sym c.deref.ensures.value) c.requires.1 in
     on_ok_weaker c.push_literal-2.result

@@ -9,7 +9,7 @@ use Rattle.page_texts.proofs.pages.document.Goals as goal
 
 pub returns-clause-text : goal.returns-clause-text
 returns-clause-text g c =
-    let page = page_of g.B.FlameBox.span g.B.PageBox.other g.B.PageBox.compared c.args.page.now in
+    let page = page_of g.L.FlameBoxes.boxes c.args.page.now in
     let none = no_parts in
     let head : parts_text c.push_literals.new.parts.items ≡ page_head = grind (arith, common_steps, none) in
     let both = c.in_ok-push_page.ensures ∙ ap (λ t. t ++ page_text page) head in

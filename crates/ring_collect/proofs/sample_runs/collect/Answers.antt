@@ -1,9 +1,8 @@
 use Rattle.std.proofs.Common.{◌≤◌, ◌∙◌, refl, sym, ap, subst, length}
 use Rattle.std.proofs.lemmas.List.{length-map}
-use Rattle.std.proofs.lemmas.Result.{IfOk-from_err}
+use Rattle.std.proofs.lemmas.Result.{IfOk-from_err, IfOk-weaker}
 use Rattle.std.specs.Arc.{arc_value}
-use Rattle.std.specs.Result.{IfOk}
-use Rattle.ring_collect.specs.Collection.{AreWhole, Collects, GainsFirst, Unfinishes}
+use Rattle.ring_collect.specs.Collection.{AnswersRun, Unfinishes}
 use Rattle.ring_collect.specs.declared.faults.CollectFault.TheVariants.{Unfinished}
 use Rattle.ring_collect.proofs.Outcomes.{error_said}
 use Rattle.ring_collect.proofs.RunLemmas.{allows_nothing, gains_nothing}
@@ -25,22 +24,24 @@ returns-in_err-readers g c = record {
 }
 
 pub returns : goal.returns
-returns g c = record {
-  lists = subst (λ rests. IfOk c.collect_by.result (λ run. Collects (g.G.Gate.may_stop (arc_value c.args.gate)) (g.G.Gate.may_go (arc_value c.args.gate)) rests run.lists.items))
-      c.in_ok-readers.ensures.rests c.collect_by.ensures.lists;
-  whole = λ never. subst (λ rests. IfOk c.collect_by.result (λ run. AreWhole rests run.lists.items)) c.in_ok-readers.ensures.rests (c.collect_by.ensures.whole never);
-  told = c.collect_by.ensures.told;
-  distinct = c.collect_by.ensures.distinct;
-  order = c.collect_by.ensures.order;
-  sink = c.collect_by.ensures.sink;
-  by_source = c.collect_by.ensures.by_source;
-  refused = λ fault. subst (λ rests. GainsFirst rests (g.S.Sink.taken c.args.sink.now) (g.S.Sink.taken c.collect_by.new.sink)) c.in_ok-readers.ensures.rests (c.collect_by.ensures.refused fault);
-  popped = c.collect_by.ensures.popped;
-  unfinished = λ source fault.
-      let count = sym (length-map _ _) ∙ ap length c.in_ok-readers.ensures.rests ∙ length-map c.args.readers.items g.R.SampleReader.rest in
-      subst (λ n. Unfinishes n source (g.S.Sink.taken c.args.sink.now) (g.S.Sink.taken c.collect_by.new.sink)) count (c.collect_by.ensures.unfinished source fault);
-  setting = c.collect_by.ensures.setting;
-}
+returns g c =
+    let taken = g.S.Sink.taken c.args.sink.now in
+    let taken' = g.S.Sink.taken c.collect_by.new.sink in
+    let gate = arc_value c.args.gate in
+    let answer = subst (λ rests. AnswersRun (g.G.Gate.may_stop gate) (g.G.Gate.may_go gate) rests taken taken' c.collect_by.result) c.in_ok-readers.ensures.rests c.collect_by.ensures.answer in
+    record {
+      lists = IfOk-weaker c.collect_by.result _ _ (λ run collected. collected.lists) answer.run;
+      whole = λ never. IfOk-weaker c.collect_by.result _ _ (λ run collected. collected.whole never) answer.run;
+      told = IfOk-weaker c.collect_by.result _ _ (λ run collected. collected.told) answer.run;
+      distinct = IfOk-weaker c.collect_by.result _ _ (λ run collected. collected.distinct) answer.run;
+      order = IfOk-weaker c.collect_by.result _ _ (λ run collected. collected.order) answer.run;
+      sink = IfOk-weaker c.collect_by.result _ _ (λ run collected. collected.sink) answer.run;
+      by_source = IfOk-weaker c.collect_by.result _ _ (λ run collected. collected.by_source) answer.run;
+      refused = answer.refused;
+      popped = answer.popped;
+      unfinished = λ source fault. subst (λ n. Unfinishes n source taken taken') (length-map c.args.readers.items g.R.SampleReader.rest) (answer.unfinished source fault);
+      setting = c.collect_by.ensures.setting;
+    }
 
 pub collect_by-requires-clause-few : goal.collect_by-requires-clause-few
 collect_by-requires-clause-few g c = λ κs within.

@@ -11,6 +11,6 @@ loop-at-preserved c =
     let lists = c.args.sources.now.lists in
     let list = c.index-lists-at.result in
     let samples = ap (λ (list : ListState). list.samples) c.index-lists-at.is ∙ listed_samples lists c.lists-lists.result.now c.loop-at.at list c.lists-lists.ensures.lists (search rules) in
-    let here = told_source c.described_source.result files c.args.types.now (samples_of lists) c.loop-at.at (c.described_source.ensures.name ∙ c.path_of.ensures) c.described_source.ensures.type_name c.described_source.ensures.unit
+    let here = told_source c.described_source.result c.args.unit files c.args.types.now (samples_of lists) c.loop-at.at (c.described_source.ensures.name ∙ c.path_of.ensures) c.described_source.ensures.type_name c.described_source.ensures.unit
     (c.described_source.ensures.weight ∙ ap total_weight samples) in
-    told_more files c.args.types.now (samples_of lists) c.loop-at.at c.loop-at.described.items _ c.described_source.result c.in_ok-push.ensures.items c.loop-at.invariant here
+    told_more c.args.unit files c.args.types.now (samples_of lists) c.loop-at.at c.loop-at.described.items _ c.described_source.result c.in_ok-push.ensures.items c.loop-at.invariant here

@@ -8,4 +8,4 @@ use Rattle.sent_views.proofs.headings.described_sources.Given as goal
 
 abbrev pub invariant-loop-at : goal.invariant-loop-at
 invariant-loop-at l =
-    map source_of l.described.items ≡ map (source_at (map string_bytes l.files) l.types (samples_of l.sources.lists)) (range_with_len 0 l.at)
+    map source_of l.described.items ≡ map (source_at l.unit (map string_bytes l.files) l.types (samples_of l.sources.lists)) (range_with_len 0 l.at)

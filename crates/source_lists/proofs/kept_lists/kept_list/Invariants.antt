@@ -1,7 +1,5 @@
-use Rattle.std.proofs.Common.{◌≡◌, None, take}
-use Rattle.run_options.specs.Filters.{kept_samples}
-use Rattle.run_options.specs.declared.filters.Filter.{Filter}
-use Rattle.source_lists.specs.checked.KeptStacks.{are_kept}
+use Rattle.std.proofs.Common.{◌≡◌, ℕ, Bool, List, None, take}
+use Rattle.source_lists.specs.checked.KeptStacks.{are_passing, passing_samples}
 use Rattle.source_lists.proofs.kept_lists.kept_list.Given as goal
 
 abbrev pub invariant-loop-at : goal.invariant-loop-at
@@ -9,5 +7,5 @@ invariant-loop-at l = record {
   open_ : l.ledger.close ≡ None;
   told : l.ledger.told ≡ l.list.told;
   stacks : l.ledger.stacks ≡ l.list.stacks;
-  samples : (asked : Filter) → l.kept ≡ are_kept asked l.list → l.ledger.samples ≡ kept_samples asked (take l.at l.list.samples);
+  samples : (passes : List (List ℕ) → Bool) → l.kept ≡ are_passing passes l.list → l.ledger.samples ≡ passing_samples passes (take l.at l.list.samples);
 }

@@ -5,7 +5,6 @@ use Rattle.sample_tables.specs.declared.samples.Sample.{Sample}
 use Rattle.stack_core.specs.Interleaving.{count_of}
 use Rattle.stack_core.specs.Ledgers.{ListState}
 use Rattle.merged_stacks.specs.Timeline.{samples_of}
-use Rattle.run_options.specs.Filters.{keeps}
 use Rattle.source_lists.proofs.KeptLemmas.{kept_order_all, kept_order_more, marks_at}
 use Rattle.source_lists.proofs.OrderLemmas.{count_at_most, counted_more, list_at, next_within}
 use Rattle.source_lists.proofs.kept_order.kept_order.Goals.{then-is_kept+in_ok-push, else-is_kept}
@@ -86,13 +85,13 @@ loop-source-preserved c =
       counted = λ other within_lists.
           counted_more (take p order) came source (at + 1) below_came counted (ap (λ n. n + 1) (at_is ∙ counted)) other (c.loop-source.invariant.counted other within_lists)
           ∙ ap (count_of other) (sym more);
-      kept = λ asked flags.
-          let marks = c.deref.ensures.value ∙ marks_at (λ marks. marks.items) asked lists c.args.kept.now source c.index-kept-number.result list flags (omega (arith, below, c.requires.count)) below c.index-kept-number.is c.index-lists-number.is in
-          let keeps_it = c.is_kept.ensures.kept asked marks ∙ ap (λ (samples : List Sample). keeps asked (sample_at samples at).stack) (sym list_is) in
+      kept = λ passes flags.
+          let marks = c.deref.ensures.value ∙ marks_at (λ marks. marks.items) passes lists c.args.kept.now source c.index-kept-number.result list flags (omega (arith, below, c.requires.count)) below c.index-kept-number.is c.index-lists-number.is in
+          let keeps_it = c.is_kept.ensures.kept passes marks ∙ ap (λ (samples : List Sample). passes (sample_at samples at).stack) (sym list_is) in
           new_left
-          ∙ kept_order_more asked samples order left p source at c.is_kept.result c.requires.ordered within refl (at_is ∙ counted) (omega (arith, at_is, counted, next.1)) keeps_it (c.loop-source.invariant.kept asked flags);
+          ∙ kept_order_more passes samples order left p source at c.is_kept.result c.requires.ordered within refl (at_is ∙ counted) (omega (arith, at_is, counted, next.1)) keeps_it (c.loop-source.invariant.kept passes flags);
     }
 
 pub returns : goal.returns
-returns c = λ asked flags.
-    kept_order_all asked (samples_of c.args.lists.now) c.args.order.now c.loop-source.left.items c.loop-source.source-index c.requires.ordered (omega arith) (c.loop-source.invariant.kept asked flags)
+returns c = λ passes flags.
+    kept_order_all passes (samples_of c.args.lists.now) c.args.order.now c.loop-source.left.items c.loop-source.source-index c.requires.ordered (omega arith) (c.loop-source.invariant.kept passes flags)

@@ -1,5 +1,4 @@
-use Rattle.std.proofs.Common.{subst, ap, map, ℕ, List, ◌∙◌}
-use Rattle.flame_layout.specs.Boxes.{span_of}
+use Rattle.std.proofs.Common.{subst, ℕ, List}
 use Rattle.merged_stacks.specs.Timeline.{samples_of}
 use Rattle.merging.specs.Sums.{all_samples}
 use Rattle.opened_sources.specs.Failures.{Sends}
@@ -10,5 +9,5 @@ returns-clause-sent g c = subst (λ (text : List ℕ). Sends text (g.W.Outlet.co
 
 pub drawn_graph-line-requires : goal.drawn_graph-line-requires
 drawn_graph-line-requires g c = record {
-  boxes = ap (map span_of) c.deref.ensures.value ∙ c.in_ok-boxes.ensures.graph (all_samples (samples_of c.args.sources.now.lists)) c.in_ok-merged.ensures;
+  boxes = c.in_ok-chart.ensures.graph (all_samples (samples_of c.args.sources.now.lists)) c.in_ok-merged.ensures;
 }

@@ -4,6 +4,7 @@ use Rattle.command_line.specs.declared.plans.View.{View}
 use Rattle.command_line.specs.declared.plans.View.TheVariants.{PairBoxes}
 use Rattle.merged_stacks.specs.Timeline.{samples_of}
 use Rattle.source_views.specs.Texts.{pair_boxes_text, told_text}
+use Rattle.sum_texts.specs.Told.{told_of}
 use Rattle.opened_sources.specs.Failures.{Sends}
 use Rattle.source_views.proofs.TextLemmas.{listed_samples}
 use Rattle.source_views.proofs.view_text.send_view.Goals as goal
@@ -16,5 +17,5 @@ returns-in-PairBoxes-clause-sent g c =
     let before = ap (λ (list : ListState). list.samples) c.index-lists-0.is ∙ listed_samples lists c.lists-lists.result.now 0 c.index-lists-0.result c.lists-lists.ensures.lists (omega (arith, two)) in
     let after = ap (λ (list : ListState). list.samples) c.index-lists-1.is ∙ listed_samples lists c.lists-lists.result.now 1 c.index-lists-1.result c.lists-lists.ensures.lists (omega (arith, two)) in
     subst (λ (text : List ℕ). Sends text (g.W.Outlet.contents c.args.out.now) (g.W.Outlet.contents c.send_compared.new.out) c.send_compared.result)
-    ((λ i. pair_boxes_text c.in-PairBoxes.width (before i) (after i)) ∙ ap (λ (view : View). told_text c.args.asked.now.whole view (samples_of lists) c.args.sources.now.order c.args.asked.now.every) (sym is))
+    ((λ i. pair_boxes_text c.in-PairBoxes.width (before i) (after i)) ∙ ap (λ (view : View). told_text (told_of c.args.asked.now.telling) view (samples_of lists) c.args.sources.now.order c.args.asked.now.every) (sym is))
     c.send_compared.ensures.sent

@@ -6,7 +6,7 @@ use Rattle.svg_texts.proofs.tallies.tally_of.Given as goal
 abbrev pub invariant-loop-place : goal.invariant-loop-place
 invariant-loop-place g l =
     let picture = picture_of l.picture in
-    let boxes = take l.place (g.L.PictureBoxes.boxes l.boxes) in
+    let boxes = take l.place (g.L.FlameBoxes.boxes l.boxes) in
     record {
       rows : l.rows ≡ rows_of (drawn picture boxes);
       few : l.rows ≤ 2 ^ 32;

@@ -6,8 +6,8 @@ use Rattle.view_texts.proofs.json_boxes.append_compared.Goals as goal
 
 pub returns-clause-ok : goal.returns-clause-ok
 unfolding serde_json_on_literals
-returns-clause-ok g c = grind (arith, common_steps)
+returns-clause-ok c = grind (arith, common_steps)
 
 pub returns-clause-front : goal.returns-clause-front
-returns-clause-front g c =
+returns-clause-front c =
     further c.append_members.new.text.items c.append_number.new.out.items c.args.text.now.items _ c.append_members.ensures.front c.in_ok-append_number.ensures.ok

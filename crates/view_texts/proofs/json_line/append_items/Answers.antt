@@ -1,7 +1,9 @@
-use Rattle.std.proofs.Common.{◌<◌, ◌++◌, ◌∙◌, [], false, length, get_or, sym, ap, append_assoc, arith}
+use Rattle.std.proofs.Common.{◌<◌, ◌++◌, ◌∙◌, [], false, length, get_or, sym, ap, append_assoc, arith, map}
 use Rattle.std.specs.List.{concat, slice_range}
 use Rattle.byte_io.proofs.PieceTexts.{further, range_more}
+use Rattle.std.proofs.lemmas.List.{length-map}
 use Rattle.view_texts.specs.declared.scales.Scale.{Scale}
+use Rattle.view_texts.specs.Lines.{seen_data}
 use Rattle.view_texts.specs.Pieces.{value_pieces}
 use Rattle.view_texts.proofs.TextPieces.{length-value_pieces}
 use Rattle.view_texts.proofs.json_line.append_items.Goals as goal
@@ -13,12 +15,12 @@ returns-in_err-append_item-clause-front g c =
 pub loop-place-preserved : goal.loop-place-preserved
 loop-place-preserved g c =
     let scale = c.args.scale.now in
-    let objects = λ (s : Scale). g.L.JsonBoxes.objects s.total s.width c.args.boxes.now in
+    let objects = λ (s : Scale). map (seen_data s.total s.width) (g.L.FlameBoxes.boxes c.args.boxes.now) in
     let pieces = value_pieces false (objects scale) in
     let place = c.loop-place.place in
     let start = c.args.out.now.items in
     let within : place < length pieces =
-    omega (arith, c.loop-place-test.true, c.requires.end, length-value_pieces false (objects scale), g.met.L.JsonBoxes.counted scale.total scale.width c.args.boxes.now) in
+    omega (arith, c.loop-place-test.true, c.requires.end, length-value_pieces false (objects scale), length-map (g.L.FlameBoxes.boxes c.args.boxes.now) (seen_data scale.total scale.width)) in
     record {
       appended = c.in_ok-append_item.ensures.ok
           ∙ ap (λ (s : Scale). c.loop-place.out.items ++ get_or (value_pieces false (objects s)) place []) c.loop-place.invariant.scale

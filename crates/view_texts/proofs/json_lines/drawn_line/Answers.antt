@@ -1,22 +1,11 @@
-use Rattle.std.proofs.Common.{◌+◌, ◌∙◌, [], map, ap, sym, List}
-use Rattle.std.proofs.lemmas.Simd.{map-map}
-use Rattle.serde_json.specs.Data.{Data}
-use Rattle.flame_layout.specs.Boxes.{span_of}
-use Rattle.flame_layout.specs.declared.boxes.DrawnBox.{DrawnBox}
-use Rattle.view_texts.specs.Json.{box_data}
+use Rattle.std.proofs.Common.{[], ◌∙◌, ap}
 use Rattle.view_texts.specs.Lines.{line_text}
 use Rattle.view_texts.specs.declared.line_kinds.LineKind.TheVariants.{Picture}
 use Rattle.view_texts.proofs.JsonFrames.{picture_is}
-use Rattle.view_texts.proofs.BoxLists.{all_within}
+use Rattle.view_texts.proofs.BoxLists.{plain_data}
 use Rattle.view_texts.proofs.json_lines.drawn_line.Goals as goal
 
-pub of-requires-clause-within : goal.of-requires-clause-within
-of-requires-clause-within c = all_within (λ (box : DrawnBox). box.start + box.weight) c.args.boxes.now c.args.scale.total c.requires.within
-
 pub returns-clause-text : goal.returns-clause-text
-returns-clause-text c =
-    let total = c.args.scale.total in
-    let width = c.args.scale.width in
-    c.of.ensures.text
-    ∙ ap (λ (objects : List Data). line_text Picture [] c.args.view.now total width objects) (sym (map-map (box_data total width) span_of c.args.boxes.now))
-    ∙ picture_is [] c.args.view.now total width (map span_of c.args.boxes.now)
+returns-clause-text g c spans are =
+    let scale = c.args.scale in
+    c.of.ensures.text ∙ (ap (line_text Picture [] c.args.view.now scale.total scale.width) (plain_data scale.total scale.width _ spans are) ∙ picture_is [] c.args.view.now scale.total scale.width spans)

@@ -11,7 +11,7 @@ use stack_core::SourceList;
 use std::alloc::{AllocError, Global};
 use std::process::Abort;
 use std::test::Fail;
-use svg_texts::{Picture, chart_svg};
+use svg_texts::{Picture, Svg};
 
 /// The picture is drawn in the weight of the sources.
 fn append_chart(
@@ -27,7 +27,7 @@ fn append_chart(
         total: total_weight(lists),
         ..*picture
     };
-    let svg = chart_svg(alloc, &picture, &chart)?;
+    let svg = Svg::of(alloc, &picture, &chart)?;
     append_pieces(alloc, &svg, out)
 }
 

@@ -7,7 +7,7 @@ use flame_layout::{DrawnBox, DrawnPair, Width};
 use std::alloc::{AllocError, Global};
 use std::process::Abort;
 use std::test::Fail;
-use svg_texts::{Picture, comparison_svg, graph_svg};
+use svg_texts::{Picture, Svg};
 
 /// What is drawn.
 pub(super) enum Boxes<'a> {
@@ -40,10 +40,11 @@ fn append_graph<'a>(
     boxes: &mut Vec<DrawnBox<'a>>,
 ) -> Result<(), AllocError> {
     add_drawn(boxes, rows)?;
-    if !fit(boxes, picture.total) {
+    let boxes = boxes.as_slice();
+    if !fit(&boxes, picture.total) {
         return refuse(out);
     }
-    let svg = graph_svg(alloc, picture, boxes)?;
+    let svg = Svg::of(alloc, picture, boxes)?;
     append_pieces(alloc, &svg, out)
 }
 
@@ -55,10 +56,11 @@ fn append_comparison<'a>(
     boxes: &mut Vec<DrawnPair<'a>>,
 ) -> Result<(), AllocError> {
     add_pairs(boxes, rows)?;
-    if !fit(boxes, picture.total) {
+    let boxes = boxes.as_slice();
+    if !fit(&boxes, picture.total) {
         return refuse(out);
     }
-    let svg = comparison_svg(alloc, picture, boxes)?;
+    let svg = Svg::of(alloc, picture, boxes)?;
     append_pieces(alloc, &svg, out)
 }
 

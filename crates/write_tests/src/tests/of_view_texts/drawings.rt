@@ -26,7 +26,7 @@ fn append_drawn(
     boxes: &[DrawnBox<'_>],
     scale: &Scale,
 ) -> Result<(), AllocError> {
-    if !are_within(boxes, scale.total) {
+    if !are_within(&boxes, scale.total) {
         return refuse(out);
     }
     append_pieces(alloc, &drawn_line(view, boxes, *scale), out)
@@ -54,7 +54,8 @@ fn append_snapshot<'a>(
     boxes: &mut Vec<DrawnBox<'a>>,
 ) -> Result<(), AllocError> {
     add_drawn(boxes, rows)?;
-    if !are_within(boxes, scale.total) {
+    let boxes = boxes.as_slice();
+    if !are_within(&boxes, scale.total) {
         return refuse(out);
     }
     append_pieces(alloc, &drawn_snapshot_line(at, counts, boxes, *scale), out)
@@ -69,7 +70,8 @@ fn append_pairs<'a>(
     boxes: &mut Vec<DrawnPair<'a>>,
 ) -> Result<(), AllocError> {
     add_pairs(boxes, rows)?;
-    if !are_within(boxes, scale.total) {
+    let boxes = boxes.as_slice();
+    if !are_within(&boxes, scale.total) {
         return refuse(out);
     }
     append_pieces(alloc, &drawn_comparison_line(before, boxes, *scale), out)

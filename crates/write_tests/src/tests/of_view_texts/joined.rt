@@ -11,7 +11,7 @@ use flame_layout::{Chart, MergedStacks, Width, total_weight};
 use merged_stacks::PairedStacks;
 use stack_core::SourceList;
 use std::alloc::{AllocError, Global};
-use view_texts::{FoldedText, PairedText, Scale, drawn_chart_line};
+use view_texts::{FoldedText, PairedText, Scale, drawn_line};
 
 /// What is written of two sources.
 pub(super) enum Joined {
@@ -51,7 +51,7 @@ fn append_chart(alloc: Global, out: &mut Vec<u8>, lists: &[SourceList]) -> Resul
         total: total_weight(lists),
         width: Width::of(10).unwrap(),
     };
-    append_pieces(alloc, &drawn_chart_line("chart", &chart, scale), out)
+    append_pieces(alloc, &drawn_line("chart", &chart, scale), out)
 }
 
 fn append_joined(

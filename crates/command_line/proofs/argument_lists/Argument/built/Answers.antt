@@ -17,6 +17,9 @@ returns-in-Focus c = c.filter_option.ensures ∙ sym (ap rule_at c.in-Focus.is)
 pub returns-in-Hide : goal.returns-in-Hide
 returns-in-Hide c = c.filter_option-in-Hide.ensures ∙ sym (ap rule_at c.in-Hide.is)
 
+pub returns-in-From : goal.returns-in-From
+returns-in-From c = c.from_option.ensures ∙ sym (ap rule_at c.in-From.is)
+
 pub returns-in-Ring : goal.returns-in-Ring
 returns-in-Ring c = c.ring_option.ensures ∙ sym (ap rule_at c.in-Ring.is)
 
@@ -37,6 +40,12 @@ returns-in-By c = c.text_option-in-By.ensures ∙ sym (ap rule_at c.in-By.is)
 
 pub returns-in-Json : goal.returns-in-Json
 returns-in-Json c = c.flag-in-Json.ensures ∙ sym (ap rule_at c.in-Json.is)
+
+pub returns-in-Exact : goal.returns-in-Exact
+returns-in-Exact c = c.flag-in-Exact.ensures ∙ sym (ap rule_at c.in-Exact.is)
+
+pub returns-in-Unit : goal.returns-in-Unit
+returns-in-Unit c = c.text_option-in-Unit.ensures ∙ sym (ap rule_at c.in-Unit.is)
 
 pub returns-in-Quiet : goal.returns-in-Quiet
 returns-in-Quiet c = c.flag-in-Quiet.ensures ∙ sym (ap rule_at c.in-Quiet.is)

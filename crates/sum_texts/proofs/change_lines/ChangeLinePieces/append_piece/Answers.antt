@@ -10,7 +10,7 @@ use Rattle.sum_texts.proofs.change_lines.ChangeLinePieces.append_piece.Goals as 
 pub returns-then-at-self-clause-ok : goal.returns-then-at-self-clause-ok
 returns-then-at-self-clause-ok c =
     let line = c.args.self.now in
-    let tail = changes_tail line.whole.before line.whole.after in
+    let tail = changes_tail line.unit.now line.whole.before line.whole.after in
     let piece = box_piece change_data line.changes.now (codes "{\"functions\":[") tail c.args.at (c.args.at - 1) c.index-self-place.result (omega (arith, c.if-at-eq0.false)) (omega (arith, c.if-at-eq0.false, c.if-at-self.true)) in
     on_ok_weaker c.append_function.result (λ e. e ∙ ap (λ text. c.args.out.now.items ++ text) (sym piece)) c.append_function.ensures.ok
 
@@ -18,6 +18,6 @@ pub returns-else-at-self-clause-ok : goal.returns-else-at-self-clause-ok
 returns-else-at-self-clause-ok c =
     let line = c.args.self.now in
     let values = map change_data line.changes.now in
-    let tail = changes_tail line.whole.before line.whole.after in
-    let last : c.args.at ≡ length values + 1 = omega (arith, c.if-at-self.false, c.requires.there, length-changes_pieces line.whole.before line.whole.after line.changes.now, length-map line.changes.now change_data) in
+    let tail = changes_tail line.unit.now line.whole.before line.whole.after in
+    let last : c.args.at ≡ length values + 1 = omega (arith, c.if-at-self.false, c.requires.there, length-changes_pieces line.unit.now line.whole.before line.whole.after line.changes.now, length-map line.changes.now change_data) in
     on_ok_weaker c.append_tail.result (λ e. e ∙ ap (λ text. c.args.out.now.items ++ text) (sym (tail_piece values (codes "{\"functions\":[") tail c.args.at last))) c.append_tail.ensures.ok

@@ -1,6 +1,11 @@
-use Rattle.std.proofs.Common.{◌∙◌}
+use Rattle.std.proofs.Common.{◌∙◌, None, ap}
+use Rattle.sum_texts.specs.FunctionJson.{functions_line}
+use Rattle.sum_texts.specs.Told.{told_of}
 use Rattle.sum_texts.proofs.TopTexts.{line_of_samples}
 use Rattle.sum_texts.proofs.sum_lines.SumLine.of.Goals as goal
 
+pub returns-clause-text : goal.returns-clause-text
+returns-clause-text c = c.listed.ensures.text ∙ ap (functions_line None (told_of c.args.telling.now) c.args.whole) c.first_sums.ensures.first
+
 pub returns-clause-top : goal.returns-clause-top
-returns-clause-top c by samples are weight = c.listed.ensures.text ∙ line_of_samples c.args.all c.args.rows c.args.whole c.args.sums.now by samples are weight
+returns-clause-top c by samples are weight = returns-clause-text c ∙ line_of_samples (told_of c.args.telling.now) c.args.rows c.args.whole c.args.sums.now by samples are weight

@@ -1,5 +1,6 @@
 use Rattle.std.proofs.Common.{◌+◌, ◌*◌, ◌/◌, ◌∙◌, ap}
 use Rattle.std.proofs.lemmas.Result.{on_ok_weaker}
+use Rattle.flame_layout.specs.Boxes.{span_of}
 use Rattle.flame_layout.specs.Edges.{left_edge, right_edge, placed_at}
 use Rattle.view_texts.specs.declared.scales.Scale.{Scale}
 use Rattle.view_texts.specs.checked.BoxParts.{edge_text}
@@ -7,9 +8,9 @@ use Rattle.view_texts.proofs.JsonMembers.{box_written}
 use Rattle.view_texts.proofs.box_writers.BoxWriter.append_members.Goals as goal
 
 pub returns-clause-ok : goal.returns-clause-ok
-returns-clause-ok g c =
+returns-clause-ok c =
     let scale = c.self.inside.scale in
-    let span = g.B.FlameBox.span c.args.span.now in
+    let span = span_of c.args.drawn.now in
     let ready = c.turn_to.ensures.ready in
     let left = ready.left ∙ ap (λ s. s * scale.width / scale.total) c.turn_to.ensures.start
     ∙ ap (λ (one : Scale). left_edge one.total one.width span) c.self.view_is in

@@ -1,11 +1,12 @@
-use Rattle.std.proofs.Common.{◌<◌, ◌∙◌, ◌^◌, ap, subst, sum_by, sym}
-use Rattle.flame_layout.specs.declared.boxes.SpanBox.{SpanBox}
+use Rattle.std.proofs.Common.{◌+◌, ◌≤◌, All, subst, sym}
 use Rattle.merged_stacks.specs.Timeline.{samples_of, timeline}
-use Rattle.svg_texts.proofs.OwnWeights.{chart-own}
+use Rattle.flame_layout.proofs.DrawnBoxes.{plain_within}
+use Rattle.svg_texts.proofs.OwnWeights.{chart-own, own_plain}
 use Rattle.write_tests.proofs.tests.of_svg_texts.charts.append_chart.Goals as goal
 
-pub chart_svg-requires-clause-own : goal.chart_svg-requires-clause-own
-chart_svg-requires-clause-own c =
-    let all = timeline (samples_of c.args.lists.now) in
-    let adds = ap (sum_by (λ (span : SpanBox). span.own)) c.in_ok-chart.ensures.chart ∙ chart-own all in
-    subst (λ sum. sum < 2 ^ 64) (sym adds) c.requires
+pub of-requires-2-clause-within : goal.of-requires-2-clause-within
+of-requires-2-clause-within c =
+    plain_within c.in_ok-chart.chart c.total_weight.result (subst (λ n. All (λ span. span.start + span.weight ≤ n) c.in_ok-chart.chart) (sym c.total_weight.ensures) c.in_ok-chart.ensures.within)
+
+pub of-requires-2-clause-own : goal.of-requires-2-clause-own
+of-requires-2-clause-own c = own_plain c.in_ok-chart.chart _ _ c.in_ok-chart.ensures.chart (chart-own (timeline (samples_of c.args.lists.now))) c.requires

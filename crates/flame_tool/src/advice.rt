@@ -1,0 +1,67 @@
+//! What whoever sees the messages of a run on a terminal is advised to do.
+
+use crate::next_steps::{Trouble, next_step};
+use byte_io::{Outlet, send};
+use opened_sources::Failure;
+use run_options::Filter;
+use stack_core::{SourceEnd, SourceList};
+use std::alloc::Global;
+
+/// The advice of a run with these words, where it is wanted.
+#[derive(Clone, Copy)]
+pub(crate) struct Advice<'a> {
+    words: &'a [String],
+    is_wanted: bool,
+}
+
+impl<'a> Advice<'a> {
+    /// Is wanted where the messages go to a terminal.
+    pub(crate) fn new(words: &'a [String], is_wanted: bool) -> Advice<'a> {
+        Advice { words, is_wanted }
+    }
+
+    /// Says what to do behind the message of this trouble with a source.
+    pub(crate) fn tell<E: Outlet>(
+        &self,
+        alloc: Global,
+        err: &mut E,
+        files: &[String],
+        source: usize,
+        trouble: Trouble,
+    ) {
+        if !self.is_wanted {
+            return;
+        }
+        if let Ok(step) = next_step(alloc, self.words, files, source, trouble) {
+            let _ = send(step.as_bytes(), err);
+        }
+    }
+
+    /// The same behind the message of a failure, which has one.
+    pub(crate) fn tell_failure<E: Outlet>(
+        &self,
+        alloc: Global,
+        err: &mut E,
+        files: &[String],
+        failure: Failure,
+    ) {
+        if failure != Failure::Faults {
+            self.tell(alloc, err, files, 0, Trouble::Failed(failure));
+        }
+    }
+}
+
+/// What trouble there was with a source, if there was some.
+pub(crate) fn trouble_with(list: &SourceList, filter: &Filter) -> Option<Trouble> {
+    match list.ending() {
+        SourceEnd::Fault(fault) => Some(Trouble::Fault(fault.kind)),
+        SourceEnd::Clean { ignored } => {
+            if *ignored > 0 && list.len() == 0 && filter.is_everything() {
+                Some(Trouble::NoSamples)
+            } else {
+                None
+            }
+        }
+        SourceEnd::Stopped { after: _ } => None,
+    }
+}

@@ -1,0 +1,196 @@
+//! What is said behind a message: what it means, and what to do.
+ghost use Rattle.std.specs.Prelude.{◌≡◌, IfOk, map, string_bytes};
+ghost use Rattle.flame_tool.specs.NextSteps.{fault_meaning, failure_meaning, meaning, next_step, reading, remedy_for, unpacking, what_to_do};
+
+use crate::step_commands::{
+    can_pipe, command_text, format_text, is_quotable, pipe_word, source_word,
+};
+use byte_io::PieceFault;
+use opened_sources::{Failure, path_of};
+use stack_core::ReadKind;
+use std::alloc::{AllocError, Global};
+
+/// What a message tells of.
+#[derive(Clone, Copy, Debug, PartialEq, Eq)]
+pub enum Trouble {
+    /// A source ended in a fault of this kind.
+    Fault(ReadKind),
+    /// All lines of a source were ignored.
+    NoSamples,
+    /// The run failed.
+    Failed(Failure),
+}
+
+/// What there is to do beside what is said in words.
+#[derive(Clone, Copy)]
+pub(crate) enum Remedy {
+    Nothing,
+    Unpack,
+    AskForTypes,
+    ReadAsProfile,
+}
+
+/// The line behind the message of a run with these words, over these files, that tells of the source at this place.
+pub fn next_step(
+    alloc: Global,
+    words: &[String],
+    files: &[String],
+    source: usize,
+    trouble: Trouble,
+) -> Result<String, AllocError>
+    ensures { IfOk result (λ text. string_bytes text
+        ≡ next_step (map string_bytes words.now) (map string_bytes files.now) source trouble) }
+{
+    let means = meaning(trouble);
+    let advice = what_to_do(alloc, words, files, source, remedy_for(trouble))?;
+    format!(in alloc; "  {means}{advice}\n")
+}
+
+fn meaning(trouble: Trouble) -> &'static str
+    ensures { result.now ≡ meaning trouble }
+{
+    match trouble {
+        Trouble::Fault(kind) => fault_meaning(kind),
+        Trouble::NoSamples => "no line of it is a stack and a count",
+        Trouble::Failed(failure) => failure_meaning(failure),
+    }
+}
+
+fn fault_meaning(kind: ReadKind) -> &'static str
+    ensures { result.now ≡ fault_meaning kind }
+{
+    match kind {
+        ReadKind::Compressed => "it is compressed by gzip",
+        ReadKind::Truncated
+        | ReadKind::BadVarint
+        | ReadKind::BadFieldNumber
+        | ReadKind::BadWireType
+        | ReadKind::WrongKind
+        | ReadKind::BadStringZero
+        | ReadKind::BadString => {
+            "it is no whole pprof profile: copy it again; if it is folded text, read it with --format folded"
+        }
+        ReadKind::ZeroId
+        | ReadKind::DuplicateId
+        | ReadKind::UnknownFunction
+        | ReadKind::NoSampleType
+        | ReadKind::ValueCount
+        | ReadKind::UnknownLocation => {
+            "the profile contradicts itself: have the tool that made it write it again"
+        }
+        ReadKind::UnknownSampleType => "it has no such sample type",
+        ReadKind::NegativeWeight => {
+            "a weight is below 0, as in a difference of profiles: give both profiles to compare or diff"
+        }
+        ReadKind::TooDeep => {
+            "a stack has more than 4096 frames: have the tool that made it cut stacks"
+        }
+        ReadKind::TotalTooLarge => {
+            "its weights add up to more than 72057594037927935: cut it into several files"
+        }
+        ReadKind::DecimalWeight => "a count is no whole number: multiply or round the counts",
+        ReadKind::TwoColumns => {
+            "a line has two counts, as compare writes them: give the profiles that were compared"
+        }
+    }
+}
+
+fn failure_meaning(failure: Failure) -> &'static str
+    ensures { result.now ≡ failure_meaning failure }
+{
+    match failure {
+        Failure::TooManyFiles => {
+            "64 files are read at once: fold parts of them, and then the folds, as docs/RECIPES.md does"
+        }
+        Failure::Unreadable { source: _ } => {
+            "it is not there, is a folder, or may not be read: ls -l shows which"
+        }
+        Failure::TooLarge { source: _ } => {
+            "1073741824 bytes of a file are read: fold parts of it, as docs/RECIPES.md does"
+        }
+        Failure::OutOfMemory | Failure::Output(PieceFault::OutOfMemory) => {
+            "the system gave no more memory: read fewer or smaller files"
+        }
+        Failure::NoThread => "the system gave no more threads: read fewer files",
+        Failure::Unfinished { source: _ } => "not all of it came through: run it again",
+        Failure::Faults => "",
+        Failure::Output(PieceFault::Output) => {
+            "its reader ended, or its disk is full: lead the output elsewhere"
+        }
+    }
+}
+
+fn remedy_for(trouble: Trouble) -> Remedy
+    ensures { result ≡ remedy_for trouble }
+{
+    match trouble {
+        Trouble::Fault(kind) => {
+            if kind == ReadKind::Compressed {
+                Remedy::Unpack
+            } else if kind == ReadKind::UnknownSampleType {
+                Remedy::AskForTypes
+            } else {
+                Remedy::Nothing
+            }
+        }
+        Trouble::NoSamples => Remedy::ReadAsProfile,
+        Trouble::Failed(_) => Remedy::Nothing,
+    }
+}
+
+fn what_to_do(
+    alloc: Global,
+    words: &[String],
+    files: &[String],
+    source: usize,
+    remedy: Remedy,
+) -> Result<String, AllocError>
+    ensures { IfOk result (λ text. string_bytes text
+        ≡ what_to_do (map string_bytes words.now) (map string_bytes files.now) source remedy) }
+{
+    match remedy {
+        Remedy::Nothing => Ok(String::new(alloc)),
+        Remedy::Unpack => unpacking(alloc, words, files, path_of(files, source)),
+        Remedy::AskForTypes => {
+            let name = source_word(alloc, words, files, path_of(files, source))?;
+            format!(in alloc; "; these are its types: flamecollect types {name}")
+        }
+        Remedy::ReadAsProfile => reading(alloc, words, files),
+    }
+}
+
+// How what is compressed is read.
+fn unpacking(
+    alloc: Global,
+    words: &[String],
+    files: &[String],
+    path: &str,
+) -> Result<String, AllocError>
+    ensures { IfOk result (λ text. string_bytes text
+        ≡ unpacking (map string_bytes words.now) (map string_bytes files.now) path.now) }
+{
+    if can_pipe(words, files, path) {
+        let name = source_word(alloc, words, files, path)?;
+        let instead = pipe_word(words);
+        let command = command_text(alloc, words, Some(path), instead, format_text(words))?;
+        format!(in alloc; ": gzip -dc {name} | {command}")
+    } else {
+        String::from_str(
+            alloc,
+            ": gzip -dc FILE > FILE.pb, and read FILE.pb in its place",
+        )
+    }
+}
+
+// How what is no folded text is read.
+fn reading(alloc: Global, words: &[String], files: &[String]) -> Result<String, AllocError>
+    ensures { IfOk result (λ text. string_bytes text
+        ≡ reading (map string_bytes words.now) (map string_bytes files.now)) }
+{
+    if files.len() <= 1 && is_quotable(words) {
+        let command = command_text(alloc, words, None, "", format_text(words))?;
+        format!(in alloc; "; if it is a pprof profile: {command}")
+    } else {
+        String::from_str(alloc, "; pprof profiles are read with --format pprof")
+    }
+}
