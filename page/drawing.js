@@ -1,6 +1,7 @@
-// The boxes of a drawing in memory: the document's columns as typed arrays, and what follows from them.
+// The boxes of a drawing in memory: their numbers as typed arrays, and what follows from them.
 
 import { firstPlace } from './bisect.js';
+import { boxesTold } from './columns.js';
 import { rowsOf } from './rows.js';
 
 /**
@@ -78,18 +79,18 @@ export function drawingWith(about, columns) {
     return { ...about, ...columns, count: depth.length, rowCount, rows, ...nestingOf(depth) };
 }
 
-// The drawing that the document has as columns, by its number.
+// The drawing of which the document's columns tell, by its number.
 /** @type {(columns: any, number: number) => Drawing} */
 export function drawingOf(columns, number) {
     const { at, counts, total, least, left_out: leftOut } = columns;
-    const depth = new Int32Array(columns.depth);
+    const { depth, start, weight, own } = boxesTold(columns);
     return drawingWith({ number, centre: -1, callees: 1, bands: [], at, counts, total, length: total, least, leftOut }, {
         depth,
         row: depth,
         name: new Int32Array(columns.name),
-        start: new Float64Array(columns.start),
-        weight: new Float64Array(columns.weight),
-        own: new Float64Array(columns.own),
+        start,
+        weight,
+        own,
         other: columns.other ? new Float64Array(columns.other) : null,
     });
 }

@@ -8,6 +8,7 @@ import re
 import subprocess
 
 import profiles
+from told_boxes import Box, columns_of
 
 TOP = pathlib.Path(__file__).resolve().parents[2]
 
@@ -66,7 +67,7 @@ def drawing(line, least, places):
     """A drawing of a line of JSON. `places` has the place of each name so far, and gets those of new names."""
     kept = [box for box in line['boxes'] if box['weight'] >= least]
     out = [box for box in line['boxes'] if box['weight'] < least]
-    made = {key: [box[key] for box in kept] for key in ('depth', 'own', 'start', 'weight')}
+    made = columns_of(Box(*(box[key] for key in Box._fields)) for box in kept)
     made['name'] = [places.setdefault(box['name'], len(places)) for box in kept]
     made |= {'least': least, 'left_out': {'boxes': len(out), 'weight': sum(box['own'] for box in out)}, 'total': line['total']}
     if line['view'] == 'compare':

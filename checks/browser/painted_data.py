@@ -11,6 +11,7 @@ from typing import Any, Callable
 from painted_arranged import callers_of, left_heavy
 from painted_beside import Beside, beside
 from painted_drawing import Data, Drawing, Span
+from told_boxes import with_boxes
 
 
 @dataclass(frozen=True)
@@ -45,7 +46,7 @@ class Document:
         self.names: list[str] = data['names']
         # What the check looks at has one unit: plain numbers, or nanoseconds.
         self.unit: str = data['sources'][0]['unit']
-        self.drawings = [Drawing(columns, number) for number, columns in enumerate(data['drawings'])]
+        self.drawings = [Drawing(with_boxes(columns), number) for number, columns in enumerate(data['drawings'])]
         self.arranged: dict[tuple[int, str | None, bool, bool], Drawing] = {}
         self.sources: list[tuple[str, int, int]] = []
         begin = 0

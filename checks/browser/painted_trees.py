@@ -6,6 +6,7 @@ from dataclasses import dataclass, field
 from typing import Callable
 
 from painted_drawing import Data
+from told_boxes import Box, columns_of
 
 WORDS = ('read', 'parse', 'next', 'encode', 'Row', 'List', 'hash', 'poll', 'flush', 'visit', 'Tree', 'scan', 'merge', 'lock', 'send', 'map')
 ODD_NAMES = ('', '<', '&amp;', '"quoted"', "it's", 'Vec<Box<dyn Fn(&str) -> bool>>', '</script><script>', 'été', '你好世界',
@@ -60,20 +61,21 @@ def narrow_calls(drawn: random.Random, count: int, most: int) -> list[Node]:
 def columns(root: Node, other: Callable[[int], int] | None = None) -> tuple[Data, list[str]]:
     """The drawing of a tree as a page has it, and its names."""
     places: dict[str, int] = {}
-    made: Data = {key: [] for key in ('depth', 'name', 'own', 'start', 'weight')}
+    boxes: list[Box] = []
+    name: list[int] = []
 
     def add(node: Node, depth: int, start: int) -> None:
-        box = {'depth': depth, 'name': places.setdefault(node.name, len(places)), 'own': node.own, 'start': start, 'weight': node.weight}
-        for key, value in box.items():
-            made[key].append(value)
+        boxes.append(Box(depth, start, node.weight, node.own))
+        name.append(places.setdefault(node.name, len(places)))
         taken: set[str] = set()
         for call in node.calls:
             add(Node(unused(call.name, taken), call.own, call.calls), depth + 1, start)
             start += call.weight
 
     add(root, 0, 0)
+    made: Data = columns_of(boxes) | {'name': name}
     if other:
-        made['other'] = [other(weight) for weight in made['weight']]
+        made['other'] = [other(box.weight) for box in boxes]
     return made | {'least': 0, 'left_out': {'boxes': 0, 'weight': 0}, 'total': root.weight}, list(places)
 
 

@@ -48,12 +48,12 @@ def widths(check):
 def broken(check):
     browser = check.browser
     document = check.show('graph', 'parse.folded')
-    half = check.place(document[:document.index(b'"own":[')])
+    half = check.place(document[:document.index(b'"rest":[')])
     browser.go(half)
     browser.wait_for("document.readyState === 'complete'")
     contains(browser.text('#summary'), 'the document is cut off', 'half of a document')
     same(browser.value("document.querySelector('main').hidden"), True, 'the picture is hidden')
-    browser.go(check.place(document.replace(b'"own":[', b'own:[')))
+    browser.go(check.place(document.replace(b'"rest":[', b'rest:[')))
     browser.wait_for("document.readyState === 'complete'")
     contains(browser.text('#summary'), 'The data of this page cannot be read', 'data that is no JSON')
 

@@ -25,6 +25,13 @@ FAULTS = {
         ('bisect.js', 'else low = middle + 1;', 'else low = middle + 2;'),
         ('bisect.js', 'Math.min(low + step, high)', 'Math.min(low + step - 1, high)'),
     ],
+    'columns': [
+        ('columns.js', 'depthBefore + 1', 'depthBefore'),
+        ('columns.js', 'isOn ? 0 : weightBefore', 'weightBefore'),
+        ('columns.js', 'gap[box] + tail[box]', 'tail[box]'),
+        ('columns.js', 'up[box + 1]', 'up[box]'),
+        ('columns.js', 'without(weight[box], rest[box])', 'weight[box]'),
+    ],
     'rows': [
         ('rows.js', 'row < rowCount; row++) first', 'row < rowCount - 1; row++) first'),
         ('rows.js', 'rowCount - 1 - place', 'rowCount - place'),

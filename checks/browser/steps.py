@@ -325,7 +325,10 @@ def first_run(check):
     example = 'examples/parse.folded'
     commands = [line.split() for line in text.splitlines() if ' graph --page ' in line and example in line]
     assert commands, f'README makes no page of {example}'
-    words = commands[0][commands[0].index('graph'):commands[0].index('>')]
+    words = commands[0][commands[0].index('graph'):]
+    # Without the file that it writes: what is looked at here goes to standard output.
+    at = words.index('-o')
+    del words[at:at + 2]
     document = documents.page(check.program, [str(documents.TOP / example) if word == example else word for word in words])
     check.browser.open(check.place(document))
     same(Picture(check.browser).name(3, 0.9), 'tokenize', 'a box of the example')

@@ -8,6 +8,7 @@ import documents
 import profiles
 from documents import raw_data_in
 from looking import Picture, contains, data_in, fragment, same, search, table
+from told_boxes import boxes_of
 
 NESTED = 'main;walk;walk;leaf 5\nmain;walk;other 3\nmain;leaf 2\n'
 
@@ -191,7 +192,7 @@ def notices(check):
     document = check.show('graph', '--least', '0', check.write('most.folded', f'main;huge {most - 3}\nmain;tiny 3\n'))
     contains(browser.text('#notices'), 'JavaScript has no more digits', 'rounding')
     contains(browser.text('#summary'), 'about 72,057,594,037,927,9', 'a rounded sum')
-    same(data_in(document)['drawings'][0]['weight'], [most, most, most - 3, 3], 'the data is exact')
+    same([box.weight for box in boxes_of(data_in(document)['drawings'][0])], [most, most, most - 3, 3], 'the data is exact')
     check.show('graph', '--least', '5', 'parse.folded')
     same(browser.text('#notices'), 'Left out: 1 box of together 4, each lighter than 5. Neither the search nor the lists count them.',
          'what is left out')

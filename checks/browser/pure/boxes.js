@@ -1,6 +1,7 @@
 // Tests of where boxes stand: each function against a plain definition that looks at all boxes.
 
 import { firstPlace, nextPlace } from './page/bisect.js';
+import { boxesTold } from './page/columns.js';
 import { bothWeights, boxAt, comparedOf, pathOf } from './page/drawing.js';
 import { goneOf } from './page/gone.js';
 import { placeOver, placesOf, weighedTogether } from './page/places.js';
@@ -8,7 +9,7 @@ import { ROW_HEIGHT, rowAt, rowTop, rowsOf } from './page/rows.js';
 import { isEitherCase, matchesIn, matchesOf, nameMatcher, neighbourByWeight, neighbourMatch } from './page/search.js';
 import { edgesOf, inRow, isInSpan, lanesOf, moved, rowsInSpan, spanOf, weightInSpan, widened } from './page/spans.js';
 import { sumsOf } from './page/sums.js';
-import { boxesOf, forPages, holds, onPath, randomOf, randomSpan, same } from './random.js';
+import { boxesOf, columnsOf, forPages, holds, onPath, randomOf, randomSpan, same, toldOf } from './random.js';
 
 function bisect() {
     const random = randomOf(1);
@@ -19,6 +20,19 @@ function bisect() {
         while (wanted < low + size && !isHeld(wanted)) wanted++;
         same(firstPlace(low, low + size, isHeld), wanted, 'firstPlace');
         if (size > 0) same(nextPlace(low, low + size, isHeld), wanted, 'nextPlace');
+    }
+}
+
+// All boxes of random trees, and those that weigh enough.
+function columns() {
+    for (let seed = 0; seed < 40; seed++) {
+        const all = columnsOf(randomOf(seed), seed % 2 === 0);
+        for (const least of [0, 2, 6, 100]) {
+            const [depth, start, weight, own] = ['depth', 'start', 'weight', 'own'].map((key) => all[key].filter((_, box) => all.weight[box] >= least));
+            const found = boxesTold(toldOf({ depth, start, weight, own }));
+            const numbers = [found.depth, found.start, found.weight, found.own].map((column) => [...column]);
+            same(numbers, [depth, start, weight, own], `tree ${seed}, of at least ${least}`);
+        }
     }
 }
 
@@ -306,4 +320,4 @@ function gone() {
     });
 }
 
-export const TESTS = { bisect, rows, nesting, shares, spans, parts, places, painting, pointer, search, functions, gone };
+export const TESTS = { bisect, columns, rows, nesting, shares, spans, parts, places, painting, pointer, search, functions, gone };

@@ -16,8 +16,20 @@ export function randomOf(seed) {
     return { next, below, choose: (list) => list[below(list.length)] };
 }
 
+// What the columns of a document tell of boxes: plainly, as docs/PAGE-DATA.md says it.
+export function toldOf({ depth, start, weight, own }) {
+    const end = start.map((each, box) => each + weight[box]);
+    const isOn = (box) => depth[box] === (depth[box - 1] ?? 0) + 1;
+    return {
+        up: depth.map((each, box) => (depth[box - 1] ?? 0) + 1 - each),
+        gap: start.map((each, box) => each - ((isOn(box) ? start : end)[box - 1] ?? 0)),
+        tail: end.map((each, box) => (isOn(box) ? end[box - 1] - each : weight[box])),
+        rest: own.map((each, box) => (isOn(box + 1) ? each : weight[box] - each)),
+    };
+}
+
 // The boxes of a tree as columns: weights of all sizes, gaps before callees, and rows of many small ones. In a chart callees may have a name twice.
-function columnsOf(random, isChart) {
+export function columnsOf(random, isChart) {
     const columns = { depth: [], name: [], start: [], weight: [], own: [] };
     const gap = () => random.choose([0, 0, 0, 1, 3, 40]);
     const grow = (depth, name, start) => {
@@ -76,7 +88,8 @@ export function randomPage(random, view) {
     const sources = parts.map((weight, number) => ({ name: `source${number}`, type: '', unit: '', weight }));
     const whole = parts.reduce((sum, each) => sum + each);
     const names = [...NAMES, 'nowhere'];
-    return pageOf({ view, title: 'random', names, sources, whole, drawings, ...(random.below(2) ? { root_below: true } : {}) });
+    const told = drawings.map((each) => ({ ...each, ...toldOf(each) }));
+    return pageOf({ view, title: 'random', names, sources, whole, drawings: told, ...(random.below(2) ? { root_below: true } : {}) });
 }
 
 // Does something with so many random pages of each view.

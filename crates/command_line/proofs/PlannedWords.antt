@@ -17,7 +17,7 @@ use Rattle.clap.specs.declared.parser.matches.ArgMatches.{ArgMatches}
 use Rattle.command_line.specs.CommandLine.{command_line}
 use Rattle.command_line.specs.EarlyValues.{told_kind, told_kinds}
 use Rattle.command_line.specs.checked.Entries.{IsFaultOf, IsNumberAt, IsRead, compares}
-use Rattle.command_line.specs.Plans.{IsComparison, IsDrawn, IsFaultAmong, IsOfOneProfile, IsPage, IsPicture, IsRequest, call_table_of, command_plan, compared_view, entered_plan, entries_fault, fault_of, form_of, has_conflict, has_its_form, has_its_page, is_set, is_used, knows_format, knows_order, knows_unit, number_at, own_fault, page_of, picture_of, plan_with, table_of, text_form, types_plan, view_of, width_of}
+use Rattle.command_line.specs.Plans.{IsComparison, IsDrawn, IsFaultAmong, IsOfOneProfile, IsPage, IsPicture, IsRequest, call_table_of, command_plan, compared_view, diff_table_of, entered_plan, entries_fault, fault_of, form_of, has_conflict, has_its_form, has_its_page, is_set, is_used, knows_format, knows_order, knows_unit, number_at, own_fault, page_of, picture_of, plan_with, table_of, text_form, types_plan, view_of, width_of}
 use Rattle.command_line.specs.declared.plans.Form.{Form}
 use Rattle.command_line.specs.declared.plans.Form.TheVariants as form
 use Rattle.command_line.specs.declared.arguments.TheConstants.{MOST_BETWEEN_SNAPSHOTS}
@@ -58,7 +58,7 @@ comparison_named name entries view is comparing =
 
     go : (fold graph chart compare top diff calls : Bool)
         → cond fold (Some Fold) (cond graph (Some (Graph (width_of entries))) (cond chart (Some (Chart (width_of entries)))
-        (cond compare (Some (compared_view entries)) (cond top (Some (Top (table_of entries))) (cond diff (Some (Diff (table_of entries))) (cond calls (Some Fold) None)))))) ≡ Some view
+        (cond compare (Some (compared_view entries)) (cond top (Some (Top (table_of entries))) (cond diff (Some (Diff (diff_table_of entries))) (cond calls (Some Fold) None)))))) ≡ Some view
         → (compare || diff) ≡ true
     go true graph chart compare top diff calls e = absurd (same Fold e)
     go false true chart compare top diff calls e = absurd (same (Graph (width_of entries)) e)

@@ -25,9 +25,9 @@ use Rattle.clap.proofs.ValueTestLemmas.{accepts-Accepts}
 use Rattle.clap.proofs.WalkLemmas.{both}
 use Rattle.run_options.specs.declared.ring_sizes.TheConstants.{LARGEST_RING}
 use Rattle.run_options.specs.declared.widths.TheConstants.{MAX_WIDTH}
-use Rattle.command_line.specs.declared.arguments.TheConstants.{MOST_BETWEEN_SNAPSHOTS, MOST_ROWS}
+use Rattle.command_line.specs.declared.arguments.TheConstants.{MOST_BETWEEN_SNAPSHOTS, MOST_HUNDREDTHS, MOST_ROWS}
 use Rattle.command_line.specs.CommandLine.{command_line}
-use Rattle.command_line.specs.checked.Entries.{IsCountAt, IsFlagAt, IsNumberAt, IsRead, compares}
+use Rattle.command_line.specs.checked.Entries.{GREATEST_COUNT, IsCountAt, IsFlagAt, IsNumberAt, IsRead, compares}
 use Rattle.command_line.specs.Plans.{IsDrawn, compared_view, files_of, is_set, values_at, view_of, width_of}
 use Rattle.command_line.specs.declared.plans.View.TheVariants.{PairBoxes, Pairs}
 use Rattle.command_line.proofs.PassedLevels.{level_holds}
@@ -111,15 +111,15 @@ module _ (c : List Rule) (rows : List Row) (each : Each (IsRow c) rows) where
       let reading : reading_by a ≡ how.AsWritten = ap (λ (p : Option ValueParser). reading_of (parser_of_value p)) parser in
       rw reading (flag_read text accepted))
 
-  count_at_id : (id : Text) → IfSome (arg_by_id c id) (λ a. a.parser ≡ Some (vp.Unsigned 0 18446744073709551615)) → IsCountAt id rows
-  count_at_id id known = read_at id _ (λ a text is pass.
-      let number = vp.Unsigned 0 18446744073709551615 in
+  count_at_id : (id : Text) (most : ℕ) → IfSome (arg_by_id c id) (λ a. a.parser ≡ Some (vp.Unsigned 0 most)) → IsCountAt id most rows
+  count_at_id id most known = read_at id _ (λ a text is pass.
+      let number = vp.Unsigned 0 most in
       let parser : a.parser ≡ Some number = rw is at known in
       let accepted : accepts a.ignore_case number text ≡ true =
       ap (λ (p : Option ValueParser). accepts a.ignore_case (parser_of_value p) text) (sym parser) ∙ pass in
       let reading : reading_by a ≡ how.AsWritten = ap (λ (p : Option ValueParser). reading_of (parser_of_value p)) parser in
       let passed = accepts-Accepts a.ignore_case number text accepted in
-      rw reading (passed.0, passed.1))
+      rw reading (passed.0, passed.3))
 
   unset_at_id : (id : Text) → arg_by_id c id ≡ None → is_set id rows ≡ false
   unset_at_id id unknown = go (find (λ r. bytes_eq r.id id) rows) refl
@@ -200,8 +200,8 @@ IsNumberRule most found = IfSome found (λ a. a.parser ≡ Some (vp.Signed (pos 
 abbrev IsFlagRule : Option Rule → Type 0
 IsFlagRule found = IfSome found (λ a. a.parser ≡ Some vp.Bool)
 
-abbrev IsCountRule : Option Rule → Type 0
-IsCountRule found = IfSome found (λ a. a.parser ≡ Some (vp.Unsigned 0 18446744073709551615))
+abbrev IsCountRule : ℕ → Option Rule → Type 0
+IsCountRule most found = IfSome found (λ a. a.parser ≡ Some (vp.Unsigned 0 most))
 
 -- the arguments of a command that are numbers and flags
 record KnowsArguments (c : List Rule) : Type 0 where
@@ -214,11 +214,14 @@ record KnowsArguments (c : List Rule) : Type 0 where
   rows : IsNumberRule MOST_ROWS (arg_by_id c (codes "number"))
   json : IsFlagRule (arg_by_id c (codes "json"))
   exact : IsFlagRule (arg_by_id c (codes "exact"))
+  share : IsFlagRule (arg_by_id c (codes "share"))
+  over : IsCountRule MOST_HUNDREDTHS (arg_by_id c (codes "fail-over"))
+  strict : IsFlagRule (arg_by_id c (codes "strict"))
   quiet : IsFlagRule (arg_by_id c (codes "quiet"))
   page : IsFlagRule (arg_by_id c (codes "page"))
   svg : IsFlagRule (arg_by_id c (codes "svg"))
   below : IsFlagRule (arg_by_id c (codes "root-below"))
-  least : IsCountRule (arg_by_id c (codes "least"))
+  least : IsCountRule GREATEST_COUNT (arg_by_id c (codes "least"))
 
 module _ (s : Shape) (known : KnowsArguments s.rules) (once : s.args_override_self ≡ false) (words : List Text)
     (fault : level_fault s [] nothing_held words false [] ≡ []) where
@@ -246,11 +249,14 @@ module _ (s : Shape) (known : KnowsArguments s.rules) (once : s.args_override_se
     rows = number_at_id s.rules rows each_row (codes "number") MOST_ROWS known.rows;
     json = flag_at_id s.rules rows each_row (codes "json") known.json;
     exact = flag_at_id s.rules rows each_row (codes "exact") known.exact;
+    share = flag_at_id s.rules rows each_row (codes "share") known.share;
+    over = count_at_id s.rules rows each_row (codes "fail-over") MOST_HUNDREDTHS known.over;
+    strict = flag_at_id s.rules rows each_row (codes "strict") known.strict;
     quiet = flag_at_id s.rules rows each_row (codes "quiet") known.quiet;
     page = flag_at_id s.rules rows each_row (codes "page") known.page;
     svg = flag_at_id s.rules rows each_row (codes "svg") known.svg;
     below = flag_at_id s.rules rows each_row (codes "root-below") known.below;
-    least = count_at_id s.rules rows each_row (codes "least") known.least;
+    least = count_at_id s.rules rows each_row (codes "least") GREATEST_COUNT known.least;
     pair = pair;
     drawn = drawn;
     pictured = pictured;
@@ -301,7 +307,7 @@ built_types = slice_index_or built_line.subs 8 no_shape
 
 fold_known : KnowsArguments built_fold.rules
 fold_known = record {
-  firsts = (refl, (refl, (refl, (refl, (refl, (refl, (refl, (refl, (refl, (refl, tt))))))))));
+  firsts = (refl, (refl, (refl, (refl, (refl, (refl, (refl, (refl, (refl, (refl, (refl, (refl, tt))))))))))));
   width = tt;
   ring = refl;
   every = tt;
@@ -310,6 +316,9 @@ fold_known = record {
   rows = tt;
   json = tt;
   exact = tt;
+  share = tt;
+  over = tt;
+  strict = refl;
   quiet = refl;
   page = tt;
   svg = tt;
@@ -319,7 +328,7 @@ fold_known = record {
 
 graph_known : KnowsArguments built_graph.rules
 graph_known = record {
-  firsts = (refl, (refl, (refl, (refl, (refl, (refl, (refl, (refl, (refl, (refl, (refl, (refl, (refl, (refl, (refl, (refl, (refl, (refl, tt))))))))))))))))));
+  firsts = (refl, (refl, (refl, (refl, (refl, (refl, (refl, (refl, (refl, (refl, (refl, (refl, (refl, (refl, (refl, (refl, (refl, (refl, (refl, (refl, tt))))))))))))))))))));
   width = refl;
   ring = refl;
   every = refl;
@@ -328,6 +337,9 @@ graph_known = record {
   rows = tt;
   json = tt;
   exact = tt;
+  share = tt;
+  over = tt;
+  strict = refl;
   quiet = refl;
   page = refl;
   svg = refl;
@@ -337,7 +349,7 @@ graph_known = record {
 
 chart_known : KnowsArguments built_chart.rules
 chart_known = record {
-  firsts = (refl, (refl, (refl, (refl, (refl, (refl, (refl, (refl, (refl, (refl, (refl, (refl, (refl, (refl, (refl, (refl, (refl, tt)))))))))))))))));
+  firsts = (refl, (refl, (refl, (refl, (refl, (refl, (refl, (refl, (refl, (refl, (refl, (refl, (refl, (refl, (refl, (refl, (refl, (refl, (refl, tt)))))))))))))))))));
   width = refl;
   ring = refl;
   every = tt;
@@ -346,6 +358,9 @@ chart_known = record {
   rows = tt;
   json = tt;
   exact = tt;
+  share = tt;
+  over = tt;
+  strict = refl;
   quiet = refl;
   page = refl;
   svg = refl;
@@ -355,7 +370,7 @@ chart_known = record {
 
 compare_known : KnowsArguments built_compare.rules
 compare_known = record {
-  firsts = (refl, (refl, (refl, (refl, (refl, (refl, (refl, (refl, (refl, (refl, (refl, (refl, (refl, (refl, (refl, (refl, (refl, (refl, (refl, tt)))))))))))))))))));
+  firsts = (refl, (refl, (refl, (refl, (refl, (refl, (refl, (refl, (refl, (refl, (refl, (refl, (refl, (refl, (refl, (refl, (refl, (refl, (refl, (refl, (refl, tt)))))))))))))))))))));
   width = refl;
   ring = refl;
   every = tt;
@@ -364,6 +379,9 @@ compare_known = record {
   rows = tt;
   json = tt;
   exact = tt;
+  share = tt;
+  over = tt;
+  strict = refl;
   quiet = refl;
   page = refl;
   svg = refl;
@@ -373,7 +391,7 @@ compare_known = record {
 
 top_known : KnowsArguments built_top.rules
 top_known = record {
-  firsts = (refl, (refl, (refl, (refl, (refl, (refl, (refl, (refl, (refl, (refl, (refl, (refl, (refl, (refl, (refl, tt)))))))))))))));
+  firsts = (refl, (refl, (refl, (refl, (refl, (refl, (refl, (refl, (refl, (refl, (refl, (refl, (refl, (refl, (refl, (refl, (refl, tt)))))))))))))))));
   width = tt;
   ring = refl;
   every = tt;
@@ -382,6 +400,9 @@ top_known = record {
   rows = refl;
   json = refl;
   exact = refl;
+  share = tt;
+  over = tt;
+  strict = refl;
   quiet = refl;
   page = tt;
   svg = tt;
@@ -391,7 +412,7 @@ top_known = record {
 
 diff_known : KnowsArguments built_diff.rules
 diff_known = record {
-  firsts = (refl, (refl, (refl, (refl, (refl, (refl, (refl, (refl, (refl, (refl, (refl, (refl, (refl, (refl, (refl, (refl, tt))))))))))))))));
+  firsts = (refl, (refl, (refl, (refl, (refl, (refl, (refl, (refl, (refl, (refl, (refl, (refl, (refl, (refl, (refl, (refl, (refl, (refl, (refl, (refl, tt))))))))))))))))))));
   width = tt;
   ring = refl;
   every = tt;
@@ -400,6 +421,9 @@ diff_known = record {
   rows = refl;
   json = refl;
   exact = refl;
+  share = refl;
+  over = refl;
+  strict = refl;
   quiet = refl;
   page = tt;
   svg = tt;
@@ -409,7 +433,7 @@ diff_known = record {
 
 callers_known : KnowsArguments built_callers.rules
 callers_known = record {
-  firsts = (refl, (refl, (refl, (refl, (refl, (refl, (refl, (refl, (refl, (refl, (refl, (refl, (refl, (refl, (refl, tt)))))))))))))));
+  firsts = (refl, (refl, (refl, (refl, (refl, (refl, (refl, (refl, (refl, (refl, (refl, (refl, (refl, (refl, (refl, (refl, (refl, tt)))))))))))))))));
   width = tt;
   ring = refl;
   every = tt;
@@ -418,6 +442,9 @@ callers_known = record {
   rows = refl;
   json = refl;
   exact = refl;
+  share = tt;
+  over = tt;
+  strict = refl;
   quiet = refl;
   page = tt;
   svg = tt;
@@ -430,7 +457,7 @@ callees_known = callers_known
 
 types_known : KnowsArguments built_types.rules
 types_known = record {
-  firsts = (refl, (refl, tt));
+  firsts = (refl, (refl, (refl, tt)));
   width = tt;
   ring = tt;
   every = tt;
@@ -439,6 +466,9 @@ types_known = record {
   rows = tt;
   json = tt;
   exact = tt;
+  share = tt;
+  over = tt;
+  strict = tt;
   quiet = tt;
   page = tt;
   svg = tt;

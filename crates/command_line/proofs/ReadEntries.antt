@@ -6,7 +6,7 @@ use Rattle.std.specs.Str.{bytes_eq}
 use Rattle.std.specs.Str.Parse.{ExplainsUnsignedError, HasUnsignedDigitsIfOk, IsNumeral, ParsesUnsigned, digits_value, without_leading_plus}
 use Rattle.std.specs.declared.num.ParseIntError.{ParseIntError}
 use Rattle.clap.specs.Matches.{ReadsOne, first_value, found_of, matched_of, one_text, raw_values}
-use Rattle.clap.specs.Walk.{Row, Text, one_of}
+use Rattle.clap.specs.Walk.{first_of, Row, Text, one_of}
 use Rattle.clap.specs.declared.parser.matches.ArgMatches.{ArgMatches}
 use Rattle.clap.specs.declared.parser.matches.MatchedArg.{MatchedArg}
 use Rattle.clap.proofs.WalkLemmas.{first_value-rows, one_text-rows, raw_values-rows}
@@ -16,7 +16,7 @@ use Rattle.run_options.specs.Formats.{named_format}
 use Rattle.run_options.specs.Orders.{named_order}
 use Rattle.command_line.specs.Units.{named_unit}
 use Rattle.run_options.specs.declared.orders.FunctionOrder.TheVariants.{Own}
-use Rattle.command_line.specs.Plans.{asked_format, asked_unit, form_of, from_of, function_of, has_conflict, has_its_form, has_its_page, is_drawn, is_root_below, is_set, is_used, knows_format, knows_order, knows_unit, number_at, order_of, page_of, pick_of, picture_of, shows_boxes, text_form, title_of, values_at}
+use Rattle.command_line.specs.Plans.{asked_format, asked_unit, form_of, function_of, has_conflict, has_its_form, has_its_page, is_drawn, is_root_below, is_set, is_used, knows_format, knows_order, knows_unit, number_at, order_of, page_of, pick_of, picture_of, shows_boxes, text_form, values_at}
 use Rattle.command_line.specs.declared.plans.Form.TheVariants as form
 
 -- how `u32` reads a text
@@ -61,18 +61,20 @@ abbrev pub ReadsU64 : Text → Result ℕ ParseIntError → Type 0
 ReadsU64 t r = ParsesUnsigned 64 10 t r × ExplainsUnsignedError 10 t r × HasUnsignedDigitsIfOk t r
 
 -- `get_one` of an option with a number of 64 bits
-pub count_given : (m : ArgMatches) (id : Text) (r : Option ℕ) → IsCountAt id (entries_of m)
+pub count_given : (m : ArgMatches) (id : Text) (most : ℕ) (r : Option ℕ) → most < 2 ^ 64 → IsCountAt id most (entries_of m)
     → (one_text (found_of m) id ≡ None → r ≡ None) → ((t : Text) → one_text (found_of m) id ≡ Some t → ReadsOne ReadsU64 t r)
     → r ≡ number_at id (entries_of m)
-count_given m id r number none value = go (one_of id (entries_of m)) refl number
+count_given m id most r fits number none value = go (one_of id (entries_of m)) refl number
   where
-    read : (t : Text) (o : Option ℕ) → IsNumeral 10 (without_leading_plus t) → digits_value 10 (without_leading_plus t) < 2 ^ 64
+    read : (t : Text) (o : Option ℕ) → IsNumeral 10 (without_leading_plus t) → digits_value 10 (without_leading_plus t) ≤ most
         → ReadsOne ReadsU64 t o → o ≡ Some (digits_value 10 (without_leading_plus t))
-    read t (Some n) numeral small gives = ap (λ m. Some m) gives.0.1
-    read t None numeral small gives = absurd (gives.1.0 (numeral, small))
+    read t (Some n) numeral within gives = ap (λ m. Some m) gives.0.1
+    read t None numeral within gives =
+        let small : digits_value 10 (without_leading_plus t) < 2 ^ 64 = omega arith in
+        absurd (gives.1.0 (numeral, small))
 
     go : (o : Option Text) → one_of id (entries_of m) ≡ o
-        → IfSome o (λ t. IsNumeral 10 (without_leading_plus t) × (digits_value 10 (without_leading_plus t) < 2 ^ 64))
+        → IfSome o (λ t. IsNumeral 10 (without_leading_plus t) × (digits_value 10 (without_leading_plus t) ≤ most))
         → r ≡ option_map (λ t. digits_value 10 (without_leading_plus t)) o
     go None is number = none (one_text-rows (found_of m) id ∙ is)
     go (Some t) is number = read t r number.0 number.1 (value t (one_text-rows (found_of m) id ∙ is))
@@ -125,11 +127,8 @@ order_given m name is =
       ap (λ o. option_map_or (λ n. is_some (named_order n)) o true) read,
     )
 
-pub title_given : (m : ArgMatches) (name : Option Text) → name ≡ first_value (found_of m) (codes "title") → title_of (entries_of m) ≡ name
-title_given m name is = sym (first_value-rows (found_of m) (codes "title")) ∙ sym is
-
-pub from_given : (m : ArgMatches) (name : Option Text) → name ≡ first_value (found_of m) (codes "from") → from_of (entries_of m) ≡ name
-from_given m name is = sym (first_value-rows (found_of m) (codes "from")) ∙ sym is
+pub first_given : (m : ArgMatches) (id : Text) (value : Option Text) → value ≡ first_value (found_of m) id → first_of id (entries_of m) ≡ value
+first_given m id value is = sym (first_value-rows (found_of m) id) ∙ sym is
 
 pub function_given : (m : ArgMatches) (name : Option Text) → name ≡ first_value (found_of m) (codes "function") → function_of (entries_of m) ≡ unwrap_or name []
 function_given m name is = ap (λ o. unwrap_or o []) (sym (first_value-rows (found_of m) (codes "function")) ∙ sym is)

@@ -1,5 +1,5 @@
 -- Worked command lines, computed on the definitions.
-use Rattle.std.proofs.Common.{◌≡◌, false, true, refl, List, [], ◌∷◌, Some, None, codes}
+use Rattle.std.proofs.Common.{◌≡◌, ℕ, false, true, refl, List, [], ◌∷◌, Some, None, codes}
 use Rattle.clap.proofs.OnLiterals.{clap_on_literals}
 use Rattle.clap.specs.Faults.{is_simple_and_free}
 use Rattle.clap.specs.Walk.{Text}
@@ -14,8 +14,10 @@ use Rattle.command_line.specs.Plans.{fault_of, plan_of, takes}
 use Rattle.run_options.specs.declared.formats.Format.TheVariants.{Folded, Pprof}
 use Rattle.run_options.specs.declared.options.Options.{Options}
 use Rattle.run_options.specs.declared.orders.FunctionOrder.TheVariants.{Own, Total}
+use Rattle.command_line.specs.declared.plans.DiffTable.{DiffTable}
 use Rattle.command_line.specs.declared.plans.Form.TheVariants as form
 use Rattle.command_line.specs.declared.plans.Plan.{Plan}
+use Rattle.command_line.specs.declared.plans.TopTable.{TopTable}
 use Rattle.command_line.specs.declared.plans.View.{View}
 use Rattle.command_line.specs.declared.units.WeightUnit.TheVariants.{Bytes, Seconds}
 use Rattle.command_line.specs.declared.plans.View.TheVariants.{Fold, Graph, Chart, Pairs, PairBoxes, Top, Diff}
@@ -27,8 +29,11 @@ line_is_simple = refl
 abbrev defaults : Options
 defaults = record { ring = 1024; pick = Preferred; naming = Plain; filter = everything; every = None }
 
+abbrev changes : TopTable → DiffTable
+changes table = record { table = table; is_share = false; fail_over = None }
+
 abbrev plan_with : View → Options → List Text → Plan
-plan_with view options files = record { view = view; options = options; from = None; format = None; files = files; form = form.Text; is_quiet = false; unit = None }
+plan_with view options files = record { view = view; options = options; from = None; output = None; format = None; files = files; form = form.Text; is_strict = false; is_quiet = false; unit = None }
 
 graph_with_a_width : plan_of (codes "graph" ∷ codes "--width" ∷ codes "10" ∷ codes "x.folded" ∷ [])
     ≡ Some (plan_with (Graph 10) defaults (codes "x.folded" ∷ []))
@@ -77,6 +82,20 @@ exact_top_in_seconds : plan_of (codes "top" ∷ codes "--unit" ∷ codes "second
 unfolding clap_on_literals
 exact_top_in_seconds = refl
 
+picture_in_a_file : plan_of (codes "graph" ∷ codes "--svg" ∷ codes "-o" ∷ codes "x.svg" ∷ codes "x" ∷ [])
+    ≡ Some (record (plan_with (Graph 1200) defaults (codes "x" ∷ [])) { form = form.Picture (record { title = None; is_root_below = false }); output = Some (codes "x.svg") })
+unfolding clap_on_literals
+picture_in_a_file = refl
+
+types_in_a_file : plan_of (codes "types" ∷ codes "x" ∷ codes "--output=types.json" ∷ [])
+    ≡ Some (record (plan_with Fold defaults (codes "x" ∷ [])) { output = Some (codes "types.json"); format = Some Pprof; form = form.Types })
+unfolding clap_on_literals
+types_in_a_file = refl
+
+no_nameless_file : fault_of command_line (codes "fold" ∷ codes "-o" ∷ codes "" ∷ []) ≡ kind.InvalidValue ∷ []
+unfolding clap_on_literals
+no_nameless_file = refl
+
 picture_in_bytes : plan_of (codes "graph" ∷ codes "--svg" ∷ codes "--unit=bytes" ∷ [])
     ≡ Some (record (plan_with (Graph 1200) defaults []) { form = form.Picture (record { title = None; is_root_below = false }); unit = Some Bytes })
 unfolding clap_on_literals
@@ -110,15 +129,36 @@ no_order_of_fold : fault_of command_line (codes "fold" ∷ codes "--by" ∷ code
 unfolding clap_on_literals
 no_order_of_fold = refl
 
-diff_alone : plan_of (codes "diff" ∷ codes "b" ∷ codes "a" ∷ []) ≡ Some (plan_with (Diff (record { by = Own; rows = 10; is_json = false; is_exact = false })) defaults (codes "b" ∷ codes "a" ∷ []))
+diff_alone : plan_of (codes "diff" ∷ codes "b" ∷ codes "a" ∷ []) ≡ Some (plan_with (Diff (changes (record { by = Own; rows = 10; is_json = false; is_exact = false }))) defaults (codes "b" ∷ codes "a" ∷ []))
 unfolding clap_on_literals
 diff_alone = refl
 
 diff_with_options : plan_of (codes "diff" ∷ codes "--json" ∷ codes "b" ∷ codes "-n" ∷ codes "3" ∷ codes "a" ∷ codes "--by" ∷ codes "total" ∷ codes "--focus" ∷ codes "f" ∷ [])
-    ≡ Some (plan_with (Diff (record { by = Total; rows = 3; is_json = true; is_exact = false }))
+    ≡ Some (plan_with (Diff (changes (record { by = Total; rows = 3; is_json = true; is_exact = false })))
     (record defaults { filter = record { focus = codes "f" ∷ []; hide = [] } }) (codes "b" ∷ codes "a" ∷ []))
 unfolding clap_on_literals
 diff_with_options = refl
+
+abbrev shares_with_a_limit : ℕ → DiffTable
+shares_with_a_limit over = record { table = record { by = Own; rows = 10; is_json = false; is_exact = false }; is_share = true; fail_over = Some over }
+
+diff_of_shares_with_a_limit : plan_of (codes "diff" ∷ codes "--share" ∷ codes "b" ∷ codes "--fail-over" ∷ codes "5" ∷ codes "a" ∷ [])
+    ≡ Some (plan_with (Diff (shares_with_a_limit 5)) defaults (codes "b" ∷ codes "a" ∷ []))
+unfolding clap_on_literals
+diff_of_shares_with_a_limit = refl
+
+no_growth_at_all : plan_of (codes "diff" ∷ codes "b" ∷ codes "a" ∷ codes "--share" ∷ codes "--fail-over=0" ∷ [])
+    ≡ Some (plan_with (Diff (shares_with_a_limit 0)) defaults (codes "b" ∷ codes "a" ∷ []))
+unfolding clap_on_literals
+no_growth_at_all = refl
+
+more_than_the_whole : fault_of command_line (codes "diff" ∷ codes "--fail-over" ∷ codes "101" ∷ codes "b" ∷ codes "a" ∷ []) ≡ kind.ValueValidation ∷ []
+unfolding clap_on_literals
+more_than_the_whole = refl
+
+no_limit_of_top : fault_of command_line (codes "top" ∷ codes "--fail-over" ∷ codes "5" ∷ []) ≡ kind.UnknownArgument ∷ []
+unfolding clap_on_literals
+no_limit_of_top = refl
 
 diff_of_one_file : fault_of command_line (codes "diff" ∷ codes "b" ∷ []) ≡ kind.MissingRequiredArgument ∷ []
 unfolding clap_on_literals
@@ -153,7 +193,7 @@ unfolding clap_on_literals
 graph_from_a_name = refl
 
 diff_from_a_name : plan_of (codes "diff" ∷ codes "b" ∷ codes "a" ∷ codes "--from=f" ∷ [])
-    ≡ Some (record (plan_with (Diff (record { by = Own; rows = 10; is_json = false; is_exact = false })) defaults (codes "b" ∷ codes "a" ∷ [])) { from = Some (codes "f") })
+    ≡ Some (record (plan_with (Diff (changes (record { by = Own; rows = 10; is_json = false; is_exact = false }))) defaults (codes "b" ∷ codes "a" ∷ [])) { from = Some (codes "f") })
 unfolding clap_on_literals
 diff_from_a_name = refl
 
@@ -168,6 +208,18 @@ from_no_name = refl
 no_from_of_types : fault_of command_line (codes "types" ∷ codes "--from" ∷ codes "f" ∷ codes "x" ∷ []) ≡ kind.UnknownArgument ∷ []
 unfolding clap_on_literals
 no_from_of_types = refl
+
+strict_fold : plan_of (codes "fold" ∷ codes "--strict" ∷ []) ≡ Some (record (plan_with Fold defaults []) { is_strict = true })
+unfolding clap_on_literals
+strict_fold = refl
+
+strict_of_two : fault_of command_line (codes "fold" ∷ codes "--strict" ∷ codes "--strict" ∷ []) ≡ kind.ArgumentConflict ∷ []
+unfolding clap_on_literals
+strict_of_two = refl
+
+no_strict_of_types : fault_of command_line (codes "types" ∷ codes "--strict" ∷ codes "x" ∷ []) ≡ kind.UnknownArgument ∷ []
+unfolding clap_on_literals
+no_strict_of_types = refl
 
 quiet_fold : plan_of (codes "fold" ∷ codes "--quiet" ∷ []) ≡ Some (record (plan_with Fold defaults []) { is_quiet = true })
 unfolding clap_on_literals

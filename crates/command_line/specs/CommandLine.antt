@@ -6,7 +6,7 @@ use Rattle.clap.specs.declared.builder.action.ArgAction.TheVariants.{Append, Set
 use Rattle.clap.specs.declared.builder.value_parser.ValueParser.TheVariants.{NonEmptyString, Signed, Unsigned}
 use Rattle.run_options.specs.declared.ring_sizes.TheConstants.{LARGEST_RING}
 use Rattle.run_options.specs.declared.widths.TheConstants.{MAX_WIDTH}
-use Rattle.command_line.specs.declared.arguments.TheConstants.{MOST_BETWEEN_SNAPSHOTS, MOST_ROWS}
+use Rattle.command_line.specs.declared.arguments.TheConstants.{MOST_BETWEEN_SNAPSHOTS, MOST_HUNDREDTHS, MOST_ROWS}
 
 -- an option with a value: a text, or a number from 1 to `most`
 abbrev pub text_option : Text → Rule
@@ -78,8 +78,22 @@ exact_flag = flag (codes "exact")
 abbrev pub unit_option : Rule
 unit_option = text_option (codes "unit")
 
+abbrev pub share_flag : Rule
+share_flag = flag (codes "share")
+
+-- from 0 to the most hundredths of a whole
+abbrev pub fail_over_option : Rule
+fail_over_option = record (text_option (codes "fail-over")) { parser = Some (Unsigned 0 MOST_HUNDREDTHS) }
+
+abbrev pub strict_flag : Rule
+strict_flag = flag (codes "strict")
+
 abbrev pub quiet_flag : Rule
 quiet_flag = flag (codes "quiet")
+
+-- also as `-o`, where 111 is the code of o
+abbrev pub output_option : Rule
+output_option = record (text_option (codes "output")) { short = Some 111; parser = Some NonEmptyString }
 
 abbrev pub page_flag : Rule
 page_flag = flag (codes "page")
@@ -103,37 +117,37 @@ command name arguments = record (new_shape name) { rules = arguments }
 
 abbrev pub fold_command : Shape
 fold_command = command (codes "fold") (type_option ∷ format_option ∷ focus_option ∷ hide_option
-    ∷ from_option ∷ ring_option ∷ lines_flag ∷ quiet_flag ∷ any_files (codes "file") ∷ [])
+    ∷ from_option ∷ ring_option ∷ lines_flag ∷ strict_flag ∷ output_option ∷ quiet_flag ∷ any_files (codes "file") ∷ [])
 
 abbrev pub graph_command : Shape
 graph_command = command (codes "graph") (width_option ∷ type_option ∷ unit_option ∷ format_option
-    ∷ focus_option ∷ hide_option ∷ from_option ∷ ring_option ∷ every_option ∷ lines_flag ∷ quiet_flag
+    ∷ focus_option ∷ hide_option ∷ from_option ∷ ring_option ∷ every_option ∷ lines_flag ∷ strict_flag ∷ output_option ∷ quiet_flag
     ∷ page_flag ∷ svg_flag ∷ title_option ∷ root_below_flag ∷ least_option ∷ any_files (codes "file") ∷ [])
 
 abbrev pub chart_command : Shape
 chart_command = command (codes "chart") (width_option ∷ type_option ∷ unit_option ∷ format_option
-    ∷ focus_option ∷ hide_option ∷ from_option ∷ ring_option ∷ lines_flag ∷ quiet_flag
+    ∷ focus_option ∷ hide_option ∷ from_option ∷ ring_option ∷ lines_flag ∷ strict_flag ∷ output_option ∷ quiet_flag
     ∷ page_flag ∷ svg_flag ∷ title_option ∷ root_below_flag ∷ least_option ∷ any_files (codes "file") ∷ [])
 
 abbrev pub compare_command : Shape
 compare_command = command (codes "compare") (width_option ∷ type_option ∷ unit_option ∷ format_option
-    ∷ focus_option ∷ hide_option ∷ from_option ∷ ring_option ∷ boxes_flag ∷ lines_flag ∷ quiet_flag
+    ∷ focus_option ∷ hide_option ∷ from_option ∷ ring_option ∷ boxes_flag ∷ lines_flag ∷ strict_flag ∷ output_option ∷ quiet_flag
     ∷ page_flag ∷ svg_flag ∷ title_option ∷ root_below_flag ∷ least_option
     ∷ one_value (codes "before") ∷ one_value (codes "after") ∷ [])
 
 abbrev pub top_command : Shape
 top_command = command (codes "top") (rows_option ∷ by_option ∷ json_flag ∷ exact_flag ∷ type_option ∷ unit_option ∷ format_option
-    ∷ focus_option ∷ hide_option ∷ from_option ∷ ring_option ∷ lines_flag ∷ quiet_flag ∷ any_files (codes "file") ∷ [])
+    ∷ focus_option ∷ hide_option ∷ from_option ∷ ring_option ∷ lines_flag ∷ strict_flag ∷ output_option ∷ quiet_flag ∷ any_files (codes "file") ∷ [])
 
 abbrev pub diff_command : Shape
-diff_command = command (codes "diff") (rows_option ∷ by_option ∷ json_flag ∷ exact_flag ∷ type_option ∷ unit_option ∷ format_option
-    ∷ focus_option ∷ hide_option ∷ from_option ∷ ring_option ∷ lines_flag ∷ quiet_flag
+diff_command = command (codes "diff") (rows_option ∷ by_option ∷ json_flag ∷ exact_flag ∷ share_flag ∷ fail_over_option
+    ∷ type_option ∷ unit_option ∷ format_option ∷ focus_option ∷ hide_option ∷ from_option ∷ ring_option ∷ lines_flag ∷ strict_flag ∷ output_option ∷ quiet_flag
     ∷ one_value (codes "before") ∷ one_value (codes "after") ∷ [])
 
 -- the name comes before the files
 abbrev pub calls_command : Text → Shape
 calls_command name = command name (rows_option ∷ json_flag ∷ exact_flag ∷ type_option ∷ unit_option ∷ format_option
-    ∷ focus_option ∷ hide_option ∷ from_option ∷ ring_option ∷ lines_flag ∷ quiet_flag
+    ∷ focus_option ∷ hide_option ∷ from_option ∷ ring_option ∷ lines_flag ∷ strict_flag ∷ output_option ∷ quiet_flag
     ∷ one_value (codes "function") ∷ any_files (codes "file") ∷ [])
 
 abbrev pub callers_command : Shape
@@ -143,7 +157,7 @@ abbrev pub callees_command : Shape
 callees_command = calls_command (codes "callees")
 
 abbrev pub types_command : Shape
-types_command = command (codes "types") (one_value (codes "file") ∷ [])
+types_command = command (codes "types") (output_option ∷ one_value (codes "file") ∷ [])
 
 -- the words begin after the program's name, one of the commands is required, and the version can be asked for before it
 abbrev pub command_line : App

@@ -27,6 +27,7 @@ use Rattle.command_line.specs.CommandLine.{command_line}
 use Rattle.command_line.specs.EarlyValues.{told_kinds}
 use Rattle.command_line.specs.Units.{named_unit}
 use Rattle.command_line.specs.declared.plans.CallTable.{CallTable}
+use Rattle.command_line.specs.declared.plans.DiffTable.{DiffTable}
 use Rattle.command_line.specs.declared.plans.Form.{Form}
 use Rattle.command_line.specs.declared.plans.Form.TheVariants as form
 use Rattle.command_line.specs.declared.plans.PageForm.{PageForm}
@@ -102,6 +103,10 @@ options_of entries = record {
 abbrev pub from_of : List Row → Option Text
 from_of entries = first_of (codes "from") entries
 
+-- the file that what is written goes to, if the words set one
+abbrev pub output_of : List Row → Option Text
+output_of entries = first_of (codes "output") entries
+
 abbrev pub default_options : Options
 default_options = options_of []
 
@@ -139,6 +144,14 @@ table_of entries = record {
   is_exact = is_set (codes "exact") entries;
 }
 
+-- a table of changes: of shares, and with a limit, if the words set one
+abbrev pub diff_table_of : List Row → DiffTable
+diff_table_of entries = record {
+  table = table_of entries;
+  is_share = is_set (codes "share") entries;
+  fail_over = number_at (codes "fail-over") entries;
+}
+
 -- a function, and how much is told of its calls
 abbrev pub function_of : List Row → Text
 function_of entries = unwrap_or (first_of (codes "function") entries) []
@@ -159,7 +172,7 @@ view_of name entries =
     else (if bytes_eq name (codes "chart") then Some (Chart (width_of entries))
     else (if bytes_eq name (codes "compare") then Some (compared_view entries)
     else (if bytes_eq name (codes "top") then Some (Top (table_of entries))
-    else (if bytes_eq name (codes "diff") then Some (Diff (table_of entries))
+    else (if bytes_eq name (codes "diff") then Some (Diff (diff_table_of entries))
     else (if bytes_eq name (codes "callers") || bytes_eq name (codes "callees") then Some Fold else None))))))
 
 -- what is written: a page or a picture with what the words say of it, else the calls of a function, or the text of the view
@@ -213,9 +226,11 @@ plan_with name entries view = record {
   view = view;
   options = options_of entries;
   from = from_of entries;
+  output = output_of entries;
   format = asked_format entries;
   files = files_of entries;
   form = form_of name entries;
+  is_strict = is_set (codes "strict") entries;
   is_quiet = is_set (codes "quiet") entries;
   unit = asked_unit entries;
 }
@@ -226,9 +241,11 @@ types_plan entries = record {
   view = Fold;
   options = default_options;
   from = None;
+  output = output_of entries;
   format = Some Pprof;
   files = files_of entries;
   form = form.Types;
+  is_strict = false;
   is_quiet = false;
   unit = None;
 }
@@ -270,6 +287,16 @@ IsComparison (Graph width) = ⊥
 IsComparison (Chart width) = ⊥
 IsComparison (Top table) = ⊥
 IsComparison (Diff table) = Unit {0}
+
+-- by how many hundredths of the whole a function's share may grow, if the plan sets a limit
+abbrev pub limit_of : View → Option ℕ
+limit_of Pairs = None
+limit_of (PairBoxes width) = None
+limit_of Fold = None
+limit_of (Graph width) = None
+limit_of (Chart width) = None
+limit_of (Top table) = None
+limit_of (Diff table) = table.fail_over
 
 -- the view has boxes
 abbrev pub IsDrawn : View → Type 0

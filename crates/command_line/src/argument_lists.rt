@@ -4,8 +4,9 @@ ghost use Rattle.clap.specs.Words.{rule_of};
 ghost use Rattle.command_line.specs.checked.Commands.{rule_at};
 
 use crate::arguments::{
-    MOST_BETWEEN_SNAPSHOTS, files, filter_option, flag, form_flag, from_option, least_option,
-    number_option, one_value, ring_option, rows_option, text_option, title_option,
+    MOST_BETWEEN_SNAPSHOTS, fail_over_option, files, filter_option, flag, form_flag, from_option,
+    least_option, number_option, one_value, output_option, ring_option, rows_option, text_option,
+    title_option,
 };
 use clap::Arg;
 use run_options::MAX_WIDTH;
@@ -27,7 +28,11 @@ pub(crate) enum Argument {
     By,
     Json,
     Exact,
+    Share,
+    FailOver,
     Unit,
+    Strict,
+    Output,
     Quiet,
     Page,
     Svg,
@@ -49,6 +54,8 @@ pub(crate) const FOLD: &[Argument] = &[
     Argument::From,
     Argument::Ring,
     Argument::Lines,
+    Argument::Strict,
+    Argument::Output,
     Argument::Quiet,
     Argument::Files,
 ];
@@ -64,6 +71,8 @@ pub(crate) const GRAPH: &[Argument] = &[
     Argument::Ring,
     Argument::Every,
     Argument::Lines,
+    Argument::Strict,
+    Argument::Output,
     Argument::Quiet,
     Argument::Page,
     Argument::Svg,
@@ -83,6 +92,8 @@ pub(crate) const CHART: &[Argument] = &[
     Argument::From,
     Argument::Ring,
     Argument::Lines,
+    Argument::Strict,
+    Argument::Output,
     Argument::Quiet,
     Argument::Page,
     Argument::Svg,
@@ -103,6 +114,8 @@ pub(crate) const COMPARE: &[Argument] = &[
     Argument::Ring,
     Argument::Boxes,
     Argument::Lines,
+    Argument::Strict,
+    Argument::Output,
     Argument::Quiet,
     Argument::Page,
     Argument::Svg,
@@ -126,6 +139,8 @@ pub(crate) const TOP: &[Argument] = &[
     Argument::From,
     Argument::Ring,
     Argument::Lines,
+    Argument::Strict,
+    Argument::Output,
     Argument::Quiet,
     Argument::Files,
 ];
@@ -135,6 +150,8 @@ pub(crate) const DIFF: &[Argument] = &[
     Argument::By,
     Argument::Json,
     Argument::Exact,
+    Argument::Share,
+    Argument::FailOver,
     Argument::Type,
     Argument::Unit,
     Argument::Format,
@@ -143,6 +160,8 @@ pub(crate) const DIFF: &[Argument] = &[
     Argument::From,
     Argument::Ring,
     Argument::Lines,
+    Argument::Strict,
+    Argument::Output,
     Argument::Quiet,
     Argument::Before,
     Argument::After,
@@ -160,12 +179,14 @@ pub(crate) const CALLS: &[Argument] = &[
     Argument::From,
     Argument::Ring,
     Argument::Lines,
+    Argument::Strict,
+    Argument::Output,
     Argument::Quiet,
     Argument::Function,
     Argument::Files,
 ];
 
-pub(crate) const TYPES: &[Argument] = &[Argument::Profile];
+pub(crate) const TYPES: &[Argument] = &[Argument::Output, Argument::Profile];
 
 impl Argument {
     // What the help says of it.
@@ -188,8 +209,14 @@ impl Argument {
             Argument::By => "Weight that sorts the functions, own or total [default: own]",
             Argument::Json => "Write the table as a line of JSON instead",
             Argument::Exact => "Write weights as plain digits, whatever their unit",
+            Argument::Share =>
+                "Write and sort by shares of what each profile weighs, for profiles of different length",
+            Argument::FailOver =>
+                "Exit with 4 where a function's share of own weight grew by more than P hundredths, 0 to 100",
             Argument::Unit =>
                 "Unit of weights that have none: nanoseconds, microseconds, milliseconds, seconds, bytes or samples",
+            Argument::Strict => "Refuse sources with an ignored line, or without a sample",
+            Argument::Output => "File for what is written, which takes its place when it is whole",
             Argument::Quiet => "Show no progress on a terminal",
             Argument::Page => "Write a page for browsers instead",
             Argument::Svg => "Write an SVG instead",
@@ -225,7 +252,11 @@ impl Argument {
             Argument::By => text_option(alloc, "by", "WEIGHT", help),
             Argument::Json => flag(alloc, "json", help),
             Argument::Exact => flag(alloc, "exact", help),
+            Argument::Share => flag(alloc, "share", help),
+            Argument::FailOver => fail_over_option(alloc, help),
             Argument::Unit => text_option(alloc, "unit", "UNIT", help),
+            Argument::Strict => flag(alloc, "strict", help),
+            Argument::Output => output_option(alloc, help),
             Argument::Quiet => flag(alloc, "quiet", help),
             Argument::Page => form_flag(alloc, "page", help),
             Argument::Svg => form_flag(alloc, "svg", help),

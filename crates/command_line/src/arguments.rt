@@ -1,7 +1,7 @@
 //! The kinds of arguments that commands have: options, flags and files.
 ghost use Rattle.std.specs.Prelude.{◌≡◌, codes};
 ghost use Rattle.clap.specs.Words.{rule_of};
-ghost use Rattle.command_line.specs.CommandLine.{any_files, flag, from_option, least_option, number_option, one_value, ring_option, rows_option, text_option, texts_option, title_option};
+ghost use Rattle.command_line.specs.CommandLine.{any_files, fail_over_option, flag, from_option, least_option, number_option, one_value, output_option, ring_option, rows_option, text_option, texts_option, title_option};
 
 use clap::builder::ValueParser;
 use clap::{Arg, ArgAction, value_parser};
@@ -13,6 +13,9 @@ pub(crate) const MOST_BETWEEN_SNAPSHOTS: u32 = 1_000_000_000;
 
 // The most rows of a table.
 const MOST_ROWS: u32 = 1_000_000_000;
+
+// The most hundredths of a whole.
+pub(crate) const MOST_HUNDREDTHS: u64 = 100;
 
 // The heading of what is said of the samples that are shown.
 const FILTERS: &str = "Filters";
@@ -79,6 +82,23 @@ pub(crate) fn rows_option<'a>(alloc: Global, help: &'a str) -> Arg<'a>
     ensures { rule_of result ≡ rows_option }
 {
     number_option(alloc, "number", MOST_ROWS, help).short('n')
+}
+
+pub(crate) fn output_option<'a>(alloc: Global, help: &'a str) -> Arg<'a>
+    ensures { rule_of result ≡ output_option }
+{
+    text_option(alloc, "output", "FILE", help)
+        .short('o')
+        .value_parser(ValueParser::NonEmptyString)
+}
+
+pub(crate) fn fail_over_option<'a>(alloc: Global, help: &'a str) -> Arg<'a>
+    ensures { rule_of result ≡ fail_over_option }
+{
+    text_option(alloc, "fail-over", "P", help).value_parser(ValueParser::unsigned(
+        0,
+        MOST_HUNDREDTHS,
+    ))
 }
 
 pub(crate) fn form_flag<'a>(alloc: Global, name: &'a str, help: &'a str) -> Arg<'a>

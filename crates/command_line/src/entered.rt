@@ -5,7 +5,7 @@ ghost use Rattle.command_line.specs.Plans.{IsFaultAmong, entered_plan, own_fault
 ghost use Rattle.command_line.specs.checked.Entries.{IsRead, entries_of};
 ghost use Rattle.command_line.specs.declared.plans.PlanFault.TheVariants.{OutOfMemory};
 
-use crate::entries::{default_options, files, format, from, options, unit};
+use crate::entries::{default_options, files, first, format, options, unit};
 use crate::plans::{Form, Plan, PlanFault, View};
 use crate::refusals::check_entries;
 use crate::views::{form, view};
@@ -43,10 +43,12 @@ fn view_plan(alloc: Global, name: &str, entries: &ArgMatches<'_>) -> Result<Plan
     Ok(Plan {
         view: view(name, entries),
         format: format(entries),
+        is_strict: entries.get_flag("strict"),
         is_quiet: entries.get_flag("quiet"),
         unit: unit(entries),
         form: form(alloc, name, entries)?,
-        from: from(alloc, entries)?,
+        from: first(alloc, entries, "from")?,
+        output: first(alloc, entries, "output")?,
         files: files(alloc, entries)?,
         options: options(alloc, entries)?,
     })
@@ -59,8 +61,10 @@ fn types_plan(alloc: Global, entries: &ArgMatches<'_>) -> Result<Plan, AllocErro
     Ok(Plan {
         view: View::Fold,
         format: Some(Format::Pprof),
+        is_strict: false,
         is_quiet: false,
         from: None,
+        output: first(alloc, entries, "output")?,
         unit: None,
         form: Form::Types,
         files: files(alloc, entries)?,

@@ -1,7 +1,7 @@
 //! What the entries of a command ask for, beside the view.
 ghost use Rattle.std.specs.Prelude.{◌≡◌, ◌++◌, IfOk, OnOk, codes};
-ghost use Rattle.clap.specs.Walk.{texts};
-ghost use Rattle.command_line.specs.Plans.{asked_format, asked_unit, default_options, files_of, filter_of, from_of, naming_of, number_at, options_of, pick_of, values_at};
+ghost use Rattle.clap.specs.Walk.{first_of, texts};
+ghost use Rattle.command_line.specs.Plans.{asked_format, asked_unit, default_options, files_of, filter_of, naming_of, number_at, options_of, pick_of, values_at};
 ghost use Rattle.command_line.specs.checked.Entries.{IsFlagAt, IsNumberAt, entries_of};
 ghost use Rattle.command_line.specs.declared.arguments.TheConstants.{MOST_BETWEEN_SNAPSHOTS};
 ghost use Rattle.run_options.specs.declared.ring_sizes.TheConstants.{LARGEST_RING};
@@ -96,12 +96,16 @@ fn every(entries: &ArgMatches<'_>) -> Option<u64>
     entries.get_one::<u32>("every").map(u64::from)
 }
 
-// The frame at which each stack begins, if the words set one.
-pub(crate) fn from(alloc: Global, entries: &ArgMatches<'_>) -> Result<Option<Text>, AllocError>
-    ensures { IfOk result (λ from. from ≡ from_of (entries_of entries.now)) }
+// The first value of an argument, if it has one.
+pub(crate) fn first(
+    alloc: Global,
+    entries: &ArgMatches<'_>,
+    id: &str,
+) -> Result<Option<Text>, AllocError>
+    ensures { IfOk result (λ value. value ≡ first_of id.now (entries_of entries.now)) }
 {
-    match entries.get_str("from") {
-        Some(name) => Ok(Some(Text::from_str(alloc, name)?)),
+    match entries.get_str(id) {
+        Some(value) => Ok(Some(Text::from_str(alloc, value)?)),
         None => Ok(None),
     }
 }

@@ -4,6 +4,7 @@
 mod argument_lists;
 mod arguments;
 mod commands;
+mod destinations;
 mod early_values;
 mod entered;
 mod entries;
@@ -14,6 +15,9 @@ mod usages;
 mod views;
 mod words;
 
-pub use plans::{CallTable, Form, PageForm, PictureForm, Plan, PlanFault, TopTable, View};
+pub use destinations::{Destination, asked_destination};
+pub use plans::{
+    CallTable, DiffTable, Form, PageForm, PictureForm, Plan, PlanFault, TopTable, View,
+};
 pub use units::WeightUnit;
 pub use words::{plan, plan_without_words};

@@ -25,7 +25,7 @@ pub enum View {
     /// The functions by weight.
     Top(TopTable),
     /// The functions of two sources by the change of their weight.
-    Diff(TopTable),
+    Diff(DiffTable),
 }
 
 /// A table of functions.
@@ -39,6 +39,17 @@ pub struct TopTable {
     pub is_json: bool,
     /// Its weights are plain digits, whatever their unit.
     pub is_exact: bool,
+}
+
+/// A table of the changes of functions.
+#[derive(Clone, Copy, Debug, PartialEq)]
+pub struct DiffTable {
+    /// What it has in common with a table of functions.
+    pub table: TopTable,
+    /// Its weights are shares of what the samples of their side weigh, and so sorted.
+    pub is_share: bool,
+    /// By how many hundredths of the whole the share of a function's own weight may grow, if the words say so.
+    pub fail_over: Option<u64>,
 }
 
 /// What a run writes.
@@ -98,12 +109,16 @@ pub struct Plan {
     pub options: Options,
     /// The whole name of the frame at which each stack begins, if the words set one. Stacks without such a frame are left out.
     pub from: Option<Text>,
+    /// The file that what is written goes to, if the words set one, and not standard output.
+    pub output: Option<Text>,
     /// The format of every source. None leaves it to the name of each.
     pub format: Option<Format>,
     /// The paths of the sources, in order. None is the standard input.
     pub files: Names,
     /// What is written.
     pub form: Form,
+    /// A line of a source that is ignored is a fault, and so is a source without a sample.
+    pub is_strict: bool,
     /// No progress is shown on a terminal.
     pub is_quiet: bool,
     /// The unit of weights that have none of their own, if the words set one.

@@ -1,11 +1,12 @@
 //! The view that a command asks for, and what is written of it.
 ghost use Rattle.std.specs.Prelude.{◌≡◌, IfOk, IsSome, Some, codes};
-ghost use Rattle.command_line.specs.Plans.{call_table_of, compared_view, form_of, function_of, is_drawn, is_root_below, number_at, order_of, page_of, picture_of, rows_of, shows_boxes, table_of, text_form, title_of, view_of, width_of};
-ghost use Rattle.command_line.specs.checked.Entries.{IsCountAt, IsFlagAt, IsNumberAt, IsRead, entries_of};
-ghost use Rattle.command_line.specs.declared.arguments.TheConstants.{MOST_ROWS};
+ghost use Rattle.command_line.specs.Plans.{call_table_of, compared_view, diff_table_of, form_of, function_of, is_drawn, is_root_below, number_at, order_of, page_of, picture_of, rows_of, shows_boxes, table_of, text_form, view_of, width_of};
+ghost use Rattle.command_line.specs.checked.Entries.{GREATEST_COUNT, IsCountAt, IsFlagAt, IsNumberAt, IsRead, entries_of};
+ghost use Rattle.command_line.specs.declared.arguments.TheConstants.{MOST_HUNDREDTHS, MOST_ROWS};
 ghost use Rattle.run_options.specs.declared.widths.TheConstants.{MAX_WIDTH};
 
-use crate::plans::{CallTable, Form, PageForm, PictureForm, TopTable, View};
+use crate::entries::first;
+use crate::plans::{CallTable, DiffTable, Form, PageForm, PictureForm, TopTable, View};
 use clap::ArgMatches;
 use run_options::{FunctionOrder, Width};
 use stack_core::Text;
@@ -28,7 +29,7 @@ pub(crate) fn view(name: &str, entries: &ArgMatches<'_>) -> View
         "chart" => View::Chart(width(entries)),
         "compare" => compared_view(entries),
         "top" => View::Top(table(entries)),
-        "diff" => View::Diff(table(entries)),
+        "diff" => View::Diff(diff_table(entries)),
         "callers" | "callees" => View::Fold,
         _ => unreachable!(),
     }
@@ -89,6 +90,21 @@ fn table(entries: &ArgMatches<'_>) -> TopTable
     }
 }
 
+fn diff_table(entries: &ArgMatches<'_>) -> DiffTable
+    requires rows { IsNumberAt (codes "number") MOST_ROWS (entries_of entries.now) }
+    requires json { IsFlagAt (codes "json") (entries_of entries.now) }
+    requires exact { IsFlagAt (codes "exact") (entries_of entries.now) }
+    requires share { IsFlagAt (codes "share") (entries_of entries.now) }
+    requires over { IsCountAt (codes "fail-over") MOST_HUNDREDTHS (entries_of entries.now) }
+    ensures { result ≡ diff_table_of (entries_of entries.now) }
+{
+    DiffTable {
+        table: table(entries),
+        is_share: entries.get_flag("share"),
+        fail_over: entries.get_one::<u64>("fail-over"),
+    }
+}
+
 fn order(entries: &ArgMatches<'_>) -> FunctionOrder
     ensures { result ≡ order_of (entries_of entries.now) }
 {
@@ -113,7 +129,7 @@ pub(crate) fn form(alloc: Global, name: &str, entries: &ArgMatches<'_>) -> Resul
     requires page { IsFlagAt (codes "page") (entries_of entries.now) }
     requires svg { IsFlagAt (codes "svg") (entries_of entries.now) }
     requires below { IsFlagAt (codes "root-below") (entries_of entries.now) }
-    requires least { IsCountAt (codes "least") (entries_of entries.now) }
+    requires least { IsCountAt (codes "least") GREATEST_COUNT (entries_of entries.now) }
     requires rows { IsNumberAt (codes "number") MOST_ROWS (entries_of entries.now) }
     requires json { IsFlagAt (codes "json") (entries_of entries.now) }
     requires exact { IsFlagAt (codes "exact") (entries_of entries.now) }
@@ -168,11 +184,11 @@ fn function<'a>(entries: &ArgMatches<'a>) -> &'a str
 
 fn page(alloc: Global, entries: &ArgMatches<'_>) -> Result<PageForm, AllocError>
     requires below { IsFlagAt (codes "root-below") (entries_of entries.now) }
-    requires least { IsCountAt (codes "least") (entries_of entries.now) }
+    requires least { IsCountAt (codes "least") GREATEST_COUNT (entries_of entries.now) }
     ensures { IfOk result (λ page. page ≡ page_of (entries_of entries.now)) }
 {
     Ok(PageForm {
-        title: title(alloc, entries)?,
+        title: first(alloc, entries, "title")?,
         least: least(entries),
         is_root_below: is_root_below(entries),
     })
@@ -183,7 +199,7 @@ fn picture(alloc: Global, entries: &ArgMatches<'_>) -> Result<PictureForm, Alloc
     ensures { IfOk result (λ picture. picture ≡ picture_of (entries_of entries.now)) }
 {
     Ok(PictureForm {
-        title: title(alloc, entries)?,
+        title: first(alloc, entries, "title")?,
         is_root_below: is_root_below(entries),
     })
 }
@@ -197,17 +213,8 @@ pub(crate) fn is_root_below(entries: &ArgMatches<'_>) -> bool
 }
 
 fn least(entries: &ArgMatches<'_>) -> Option<u64>
-    requires { IsCountAt (codes "least") (entries_of entries.now) }
+    requires { IsCountAt (codes "least") GREATEST_COUNT (entries_of entries.now) }
     ensures { result ≡ number_at (codes "least") (entries_of entries.now) }
 {
     entries.get_one::<u64>("least")
-}
-
-fn title(alloc: Global, entries: &ArgMatches<'_>) -> Result<Option<Text>, AllocError>
-    ensures { IfOk result (λ title. title ≡ title_of (entries_of entries.now)) }
-{
-    match entries.get_str("title") {
-        Some(title) => Ok(Some(Text::from_str(alloc, title)?)),
-        None => Ok(None),
-    }
 }

@@ -53,9 +53,11 @@ pub fn plan_without_words(alloc: Global) -> Plan
         view: View::Fold,
         options: default_options(alloc),
         from: None,
+        output: None,
         format: None,
         files: Names::of(Vec::new(alloc)),
         form: Form::Text,
+        is_strict: false,
         is_quiet: false,
         unit: None,
     }

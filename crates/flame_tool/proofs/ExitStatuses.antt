@@ -1,11 +1,12 @@
 -- What an exit status says of a run that showed what was asked for, or failed.
-use Rattle.std.proofs.Common.{◌≡◌, ◌≢◌, ◌≤◌, ◌⊎◌, ℕ, List, Option, Result, Ok, Err, IfSome, IfErr, OnOk, ap, refl, arith}
+use Rattle.std.proofs.Common.{◌≡◌, ◌≢◌, ◌≤◌, ◌⊎◌, ℕ, Bool, true, false, List, Option, Result, Ok, Err, IfSome, IfErr, IfOk, OnOk, ap, refl, arith}
 use Rattle.std.specs.Prelude.{IsErrOf}
 use Rattle.std.specs.Io.KnownBytes.{Keeps}
 use Rattle.stack_core.specs.Reading.{Rest}
 use Rattle.command_line.specs.declared.plans.Plan.{Plan}
 use Rattle.sent_views.specs.declared.run_facts.RunFacts.{RunFacts}
-use Rattle.flame_tool.specs.Runs.{HasFault, ShowsFront}
+use Rattle.flame_tool.specs.Runs.{ShowsFront}
+use Rattle.flame_tool.specs.StrictRuns.{HasPlainFault}
 use Rattle.flame_tool.specs.TypeRuns.{HasTableFault, ShowsTypesFront}
 use Rattle.flame_tool.specs.checked.Failures.{Fails, KeepsOutput, exit_status}
 use Rattle.flame_tool.specs.checked.TypeFailures.{FailsTypes}
@@ -69,52 +70,77 @@ only_many (Output fault) two many = absurd (omega arith)
 
 -- ---- of a run
 
-module _ {T : Type 0} where
-  pub status_within : (shown : Result T Failure) → exit_status shown ≤ 3
-  status_within (Ok done) = omega arith
-  status_within (Err failure) = at_most_three failure
+pub status_within : (shown : Result Bool Failure) → exit_status shown ≤ 4
+status_within (Ok true) = omega arith
+status_within (Ok false) = omega arith
+status_within (Err failure) = omega (arith, at_most_three failure)
 
-  pub at_zero : {P : Type 0} (shown : Result T Failure) → exit_status shown ≡ 0 → OnOk shown P → P
-  at_zero (Ok done) zero holds = holds
-  at_zero (Err failure) zero holds = absurd (not_zero failure zero)
+pub at_zero : {P : Type 0} (shown : Result Bool Failure) → exit_status shown ≡ 0 → OnOk shown P → P
+at_zero (Ok true) zero holds = absurd (omega arith)
+at_zero (Ok false) zero holds = holds
+at_zero (Err failure) zero holds = absurd (not_zero failure zero)
 
-  pub flushed_at_zero : {P : Type 0} (old new : ℕ) (shown : Result T Failure) → exit_status shown ≡ 0 → Flushes P old new shown → P
-  flushed_at_zero old new (Ok done) zero flushes = flushes.0
-  flushed_at_zero old new (Err failure) zero flushes = absurd (not_zero failure zero)
+not_four : (failure : Failure) → status_of failure ≡ 4 → ⊥
+not_four failure four = omega (arith, at_most_three failure, four)
 
-  pub many_at_two : {P : Type 0} (shown : Result T Failure) → exit_status shown ≡ 2 → (IsErrOf shown TooManyFiles → P) → P
-  many_at_two (Ok done) two many = absurd (omega arith)
-  many_at_two (Err failure) two many = only_many failure two (λ is. many (ap Err is))
+pub at_four : {P : Type 0} (shown : Result Bool Failure) → exit_status shown ≡ 4 → OnOk shown P → P
+at_four (Ok true) four holds = holds
+at_four (Ok false) four holds = absurd (omega arith)
+at_four (Err failure) four holds = absurd (not_four failure four)
 
-  pub few_but_at_two : {P : Type 0} (shown : Result T Failure) → exit_status shown ≢ 2 → (shown ≢ Err TooManyFiles → P) → P
-  few_but_at_two shown other few = few (λ is. other (ap exit_status is))
+-- what is said of either answer
+pub of_answer : (P : Bool → Type 0) (shown : Result Bool Failure) → IfOk shown P → (exit_status shown ≡ 0 → P false) × (exit_status shown ≡ 4 → P true)
+of_answer P (Ok true) holds = ((λ zero. absurd (omega arith)), (λ four. holds))
+of_answer P (Ok false) holds = ((λ zero. holds), (λ four. absurd (omega arith)))
+of_answer P (Err failure) holds = ((λ zero. absurd (not_zero failure zero)), (λ four. absurd (not_four failure four)))
 
-  pub kept_but_at_three : (old new : Option (List ℕ)) (shown : Result T Failure) → exit_status shown ≢ 0 → exit_status shown ≢ 3 → IfErr shown (KeepsOutput old new) → Keeps old new
-  kept_but_at_three old new (Ok done) some other kept = absurd (some refl)
-  kept_but_at_three old new (Err failure) some other kept = kept_output old new failure other kept
+pub flushed_at_zero : {P : Type 0} (old new : ℕ) (shown : Result Bool Failure) → exit_status shown ≡ 0 → Flushes P old new shown → P
+flushed_at_zero old new (Ok done) zero flushes = flushes.0
+flushed_at_zero old new (Err failure) zero flushes = absurd (not_zero failure zero)
 
-  pub unfailed_but_at_three : (P : Type 0) (old new : ℕ) (shown : Result T Failure) → exit_status shown ≢ 3 → Flushes P old new shown → new ≡ old
-  unfailed_but_at_three P old new (Ok done) other flushes = flushes.1
-  unfailed_but_at_three P old new (Err failure) other flushes = counted old new failure other flushes
+pub flushed_at_four : {P : Type 0} (old new : ℕ) (shown : Result Bool Failure) → exit_status shown ≡ 4 → Flushes P old new shown → P
+flushed_at_four old new (Ok done) four flushes = flushes.0
+flushed_at_four old new (Err failure) four flushes = absurd (not_four failure four)
 
-  pub faulty_at_one : (plan : Plan) (told : Option RunFacts) (known : Option (List Rest)) (old new : Option (List ℕ)) (shown : Result T Failure)
-      → exit_status shown ≡ 1 → IfErr shown (λ failure. IfSome known (Fails plan told old new failure)) → IfSome known HasFault
-  faulty_at_one plan told known old new (Ok done) one fails = absurd (omega arith)
-  faulty_at_one plan told known old new (Err failure) one fails = failed_faulty plan told known old new failure one fails
+pub many_at_two : {P : Type 0} (shown : Result Bool Failure) → exit_status shown ≡ 2 → (IsErrOf shown TooManyFiles → P) → P
+many_at_two (Ok true) two many = absurd (omega arith)
+many_at_two (Ok false) two many = absurd (omega arith)
+many_at_two (Err failure) two many = only_many failure two (λ is. many (ap Err is))
 
-  pub front_at_three : (plan : Plan) (told : Option RunFacts) (known : Option (List Rest)) (old new : Option (List ℕ)) (shown : Result T Failure)
-      → exit_status shown ≡ 3 → IfErr shown (KeepsOutput old new) → IfErr shown (λ failure. IfSome known (Fails plan told old new failure))
-      → Keeps old new ⊎ IfSome known (ShowsFront plan told old new)
-  front_at_three plan told known old new (Ok done) three kept fails = absurd (omega arith)
-  front_at_three plan told known old new (Err failure) three kept fails = failed_front plan told known old new failure three kept fails
+pub few_but_at_two : {P : Type 0} (shown : Result Bool Failure) → exit_status shown ≢ 2 → (shown ≢ Err TooManyFiles → P) → P
+few_but_at_two shown other few = few (λ is. other (ap exit_status is))
 
-  pub types_faulty_at_one : (P : Type 0) (known : Option (List ℕ)) (old new : Option (List ℕ)) (shown : Result T Failure)
-      → exit_status shown ≡ 1 → IfErr shown (λ failure. P → IfSome known (FailsTypes old new failure)) → P → IfSome known HasTableFault
-  types_faulty_at_one P known old new (Ok done) one fails = absurd (omega arith)
-  types_faulty_at_one P known old new (Err failure) one fails = types_faulty P known old new failure one fails
+pub kept_at : (old new : Option (List ℕ)) (status : ℕ) (shown : Result Bool Failure) → 1 ≤ status → status ≤ 2 → exit_status shown ≡ status → IfErr shown (KeepsOutput old new) → Keeps old new
+kept_at old new status (Ok true) low high is kept = absurd (omega (arith, is))
+kept_at old new status (Ok false) low high is kept = absurd (omega (arith, is))
+kept_at old new status (Err failure) low high is kept = kept_output old new failure (λ three. omega (arith, is, three, high)) kept
 
-  pub types_front_at_three : (P : Type 0) (known : Option (List ℕ)) (old new : Option (List ℕ)) (shown : Result T Failure)
-      → exit_status shown ≡ 3 → IfErr shown (KeepsOutput old new) → IfErr shown (λ failure. P → IfSome known (FailsTypes old new failure))
-      → Keeps old new ⊎ (P → IfSome known (ShowsTypesFront old new))
-  types_front_at_three P known old new (Ok done) three kept fails = absurd (omega arith)
-  types_front_at_three P known old new (Err failure) three kept fails = types_front P known old new failure three kept fails
+pub unfailed_but_at_three : (P : Type 0) (old new : ℕ) (shown : Result Bool Failure) → exit_status shown ≢ 3 → Flushes P old new shown → new ≡ old
+unfailed_but_at_three P old new (Ok done) other flushes = flushes.1
+unfailed_but_at_three P old new (Err failure) other flushes = counted old new failure other flushes
+
+pub faulty_at_one : (plan : Plan) (told : Option RunFacts) (known : Option (List Rest)) (old new : Option (List ℕ)) (shown : Result Bool Failure)
+    → exit_status shown ≡ 1 → IfErr shown (λ failure. IfSome known (Fails plan told old new failure)) → IfSome known (HasPlainFault plan)
+faulty_at_one plan told known old new (Ok true) one fails = absurd (omega arith)
+faulty_at_one plan told known old new (Ok false) one fails = absurd (omega arith)
+faulty_at_one plan told known old new (Err failure) one fails = failed_faulty plan told known old new failure one fails
+
+pub front_at_three : (plan : Plan) (told : Option RunFacts) (known : Option (List Rest)) (old new : Option (List ℕ)) (shown : Result Bool Failure)
+    → exit_status shown ≡ 3 → IfErr shown (KeepsOutput old new) → IfErr shown (λ failure. IfSome known (Fails plan told old new failure))
+    → Keeps old new ⊎ IfSome known (ShowsFront plan told old new)
+front_at_three plan told known old new (Ok true) three kept fails = absurd (omega arith)
+front_at_three plan told known old new (Ok false) three kept fails = absurd (omega arith)
+front_at_three plan told known old new (Err failure) three kept fails = failed_front plan told known old new failure three kept fails
+
+pub types_faulty_at_one : (P : Type 0) (known : Option (List ℕ)) (old new : Option (List ℕ)) (shown : Result Bool Failure)
+    → exit_status shown ≡ 1 → IfErr shown (λ failure. P → IfSome known (FailsTypes old new failure)) → P → IfSome known HasTableFault
+types_faulty_at_one P known old new (Ok true) one fails = absurd (omega arith)
+types_faulty_at_one P known old new (Ok false) one fails = absurd (omega arith)
+types_faulty_at_one P known old new (Err failure) one fails = types_faulty P known old new failure one fails
+
+pub types_front_at_three : (P : Type 0) (known : Option (List ℕ)) (old new : Option (List ℕ)) (shown : Result Bool Failure)
+    → exit_status shown ≡ 3 → IfErr shown (KeepsOutput old new) → IfErr shown (λ failure. P → IfSome known (FailsTypes old new failure))
+    → Keeps old new ⊎ (P → IfSome known (ShowsTypesFront old new))
+types_front_at_three P known old new (Ok true) three kept fails = absurd (omega arith)
+types_front_at_three P known old new (Ok false) three kept fails = absurd (omega arith)
+types_front_at_three P known old new (Err failure) three kept fails = types_front P known old new failure three kept fails

@@ -1,5 +1,5 @@
 -- What is collected of sources whose bytes are known, where no gate stops them, is what their bytes stand for.
-use Rattle.std.proofs.Common.{◌≡◌, ◌≢◌, ℕ, List, [], ◌∷◌, map, Option, Some, None, Result, Ok, Err, IfSome, IfErr, OnOk, ap, sym, ◌∙◌, subst, refl, true, false, ◌||◌, All}
+use Rattle.std.proofs.Common.{◌≡◌, ◌≢◌, ℕ, List, [], ◌∷◌, map, Option, Some, None, Result, Ok, Err, IfSome, IfErr, IfOk, OnOk, ap, sym, ◌∙◌, subst, refl, true, false, ◌||◌, All}
 use Rattle.std.proofs.lemmas.Bool.{true≢false, false≢true}
 use Rattle.std.proofs.lemmas.List.Elements.{All-nil, All-cons, All-map}
 use Rattle.std.proofs.lemmas.List.Folds.{Any-from_list_any}
@@ -32,7 +32,11 @@ use Rattle.flame_tool.specs.KnownFacts.{bytes_at, bytes_in, bytes_of, facts_of, 
 use Rattle.flame_tool.specs.Requests.{all_found, rest_of, rest_at, rest_in, rests_at, known_rests}
 use Rattle.sent_views.specs.Pages.{shown_text}
 use Rattle.flame_tool.specs.Runs.{IsClean, IsFault, lists_of, IsTextOf, Shows, HasFault}
-use Rattle.flame_tool.specs.checked.Failures.{Fails, FailsToShow}
+use Rattle.flame_tool.specs.StrictRuns.{has_strict_fault}
+use Rattle.flame_tool.specs.checked.Failures.{Fails, FailsToShow, TellsGrowth}
+use Rattle.flame_tool.proofs.StrictSources.{clean_sources}
+use Rattle.flame_tool.proofs.GrownFunctions.{is_said, tells_growth}
+use Rattle.source_views.specs.Texts.{growth_line}
 use Rattle.opened_sources.specs.Failures.{has_fault, ends_in_fault}
 use Rattle.opened_sources.specs.declared.failures.Failure.{Failure}
 use Rattle.opened_sources.specs.declared.failures.Failure.TheVariants.{TooManyFiles, Unreadable, TooLarge, OutOfMemory, NoThread, Unfinished, Faults, Output}
@@ -89,7 +93,7 @@ bytes_input asked (Some bytes) [] loaded = absurd loaded
 bytes_input asked (Some bytes) (source ∷ []) (folded, same) = λ i. (folded i, same i) ∷ []
 bytes_input asked (Some bytes) (source ∷ other ∷ more) loaded = absurd loaded
 
-bytes_loaded : (asked : Option Format) (input : Option (List ℕ)) (files : List ℕ → Option (List ℕ)) (paths : List (List ℕ)) (sources : List (Format × List ℕ)) → AreLoaded asked input files paths sources
+pub bytes_loaded : (asked : Option Format) (input : Option (List ℕ)) (files : List ℕ → Option (List ℕ)) (paths : List (List ℕ)) (sources : List (Format × List ℕ)) → AreLoaded asked input files paths sources
     → IfSome (bytes_of asked paths input files) (λ all. sources ≡ all)
 bytes_loaded asked input files [] sources loaded = bytes_input asked input sources loaded
 bytes_loaded asked input files (path ∷ paths) sources loaded = bytes_files asked files (path ∷ paths) sources loaded
@@ -195,6 +199,16 @@ faults_of_rests : (lists : List ListState) → has_fault lists ≡ list_any (λ 
 faults_of_rests [] = refl
 faults_of_rests (list ∷ lists) = ap (λ more. ends_in_fault list.ending || more) (faults_of_rests lists)
 
+-- where no source has a strict fault, no list has a fault, wherever its stacks begin
+pub lists_faultless : (plan : Plan) (sources : List (Format × List ℕ)) (lists : List ListState) → has_strict_fault plan.options sources ≡ false → AreWhole (rests_from plan.from (asked_rests plan.options sources)) lists
+    → has_fault lists ≡ false
+lists_faultless plan sources lists none whole =
+    faults_of_rests lists ∙ ap (λ rests. list_any (λ (rest : Rest). ends_in_fault rest.ending) rests) whole ∙ wanted_faults plan.from ∙ clean_sources plan.options sources none
+  where
+    wanted_faults : (from : Option (List ℕ)) → list_any (λ (rest : Rest). ends_in_fault rest.ending) (rests_from from (asked_rests plan.options sources)) ≡ list_any (λ (rest : Rest). ends_in_fault rest.ending) (asked_rests plan.options sources)
+    wanted_faults None = refl
+    wanted_faults (Some name) = faults_from name (asked_rests plan.options sources)
+
 -- ---- what a run over known sources shows
 
 -- a plan's sources were loaded and collected whole
@@ -260,6 +274,14 @@ module _ (plan : Plan) (input : Option (List ℕ)) (files : List ℕ → Option 
       → OnOk result (IfSome (known_rests plan input files) (Shows plan (known_facts plan input files) old new))
   ok_shown_as result old new other same faultless appends = ok_shown result old new faultless (subst (λ said. OnOk result (Appends old new said)) same appends)
 
+  -- whether functions grew, by the line that names them
+  grown_known : (line : List ℕ) (is_over : Bool) → line ≡ growth_line plan.view (samples_of lists) → is_over ≡ is_said line → IfSome (known_rests plan input files) (TellsGrowth is_over plan)
+  grown_known line is_over is says = if_known (TellsGrowth is_over plan) (tells_growth plan wanted line is_over (is ∙ ap (growth_line plan.view) same_samples) says)
+
+  pub growth_shown : (result : Result Bool Failure) → IfOk result (λ is_over. is_over ≡ is_said (growth_line plan.view (samples_of lists))) → IfOk result (λ is_over. IfSome (known_rests plan input files) (TellsGrowth is_over plan))
+  growth_shown (Ok is_over) says = grown_known (growth_line plan.view (samples_of lists)) is_over refl says
+  growth_shown (Err failure) says = tt
+
   not_shown : (old new : Option (List ℕ)) (failure : Failure) → FailsToShow lists text old new failure → Fails plan (known_facts plan input files) old new failure wanted
   not_shown old new TooManyFiles fails = tt
   not_shown old new (Unreadable source) fails = tt
@@ -267,7 +289,7 @@ module _ (plan : Plan) (input : Option (List ℕ)) (files : List ℕ → Option 
   not_shown old new OutOfMemory fails = tt
   not_shown old new NoThread fails = tt
   not_shown old new (Unfinished source) fails = tt
-  not_shown old new Faults fails = faulty_rests wanted (sym same_faults ∙ fails.0)
+  not_shown old new Faults fails = λ plain. faulty_rests wanted (sym same_faults ∙ fails.0)
   not_shown old new (Output fault) fails = λ _. if_facts (λ facts. (text : List ℕ) × IsTextOf plan facts wanted text × AppendsFront text old new) (text, is_text fails.0, fails.1)
 
   pub err_shown : {T : Type 0} (result : Result T Failure) (old new : Option (List ℕ)) → IfErr result (FailsToShow lists text old new)

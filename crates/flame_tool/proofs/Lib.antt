@@ -1,7 +1,10 @@
 mod ExitStatuses
+mod GrownFunctions
 mod KnownSources
 mod RunEndings
 mod StepWords
+mod StrictEndings
+mod StrictSources
 mod TypeEndings
 mod UntouchedOutputs
 mod WorkedRequests

@@ -1,6 +1,7 @@
 -- How a run ends, by its words and by its plan.
-use Rattle.std.proofs.Common.{◌≡◌, ◌≢◌, ◌≤◌, ◌<◌, ◌⊎◌, inl, inr, ℕ, List, [], ◌∷◌, map, length, Option, Some, None, IfSome, cond, true, ap, sym, ◌∙◌, subst, refl, arith, take, append-nil}
-use Rattle.std.specs.Prelude.{IsSomeAnd}
+use Rattle.std.proofs.Common.{◌≡◌, ◌≢◌, ◌≤◌, ◌<◌, ◌⊎◌, inl, inr, ℕ, zero, suc, get_or, List, [], ◌∷◌, map, length, Option, Some, None, IfSome, cond, true, ap, sym, ◌∙◌, subst, refl, arith, take, append-nil, ⊎_elim}
+use Rattle.std.specs.Prelude.{IsSomeAnd, IsSome}
+use Rattle.std.proofs.lemmas.Bool.{cases_lt}
 use Rattle.std.specs.Io.KnownBytes.{Appends, Keeps}
 use Rattle.clap.specs.Walk.{Text}
 use Rattle.stack_core.specs.Reading.{Rest}
@@ -13,7 +14,7 @@ use Rattle.function_sums.specs.declared.call_sides.CallSide.{CallSide}
 use Rattle.function_sums.specs.declared.call_sides.CallSide.TheVariants.{Callers, Callees}
 use Rattle.merging.specs.Sums.{all_samples}
 use Rattle.view_texts.specs.Fold.{fold_text}
-use Rattle.command_line.specs.Plans.{IsFaultAmong, default_plan, fault_of, plan_of}
+use Rattle.command_line.specs.Plans.{IsFaultAmong, default_plan, fault_of, limit_of, plan_of}
 use Rattle.command_line.specs.declared.plans.PlanFault.{PlanFault}
 use Rattle.command_line.specs.declared.plans.PlanFault.TheVariants as fault
 use Rattle.command_line.specs.declared.plans.Form.{Form}
@@ -26,14 +27,15 @@ use Rattle.sent_views.specs.declared.run_facts.RunFacts.{RunFacts}
 use Rattle.flame_tool.specs.KnownFacts.{known_facts}
 use Rattle.flame_tool.proofs.KnownSources.{IsKnown, facts_are_known}
 use Rattle.flame_tool.specs.checked.Telling.{form_tells, view_tells}
-use Rattle.flame_tool.specs.Requests.{AreRefused, AsksForHelp, asked_faults, asked_plan, known_rests}
+use Rattle.flame_tool.specs.Requests.{AreRefused, AsksForHelp, HasLimit, asked_faults, asked_plan, known_rests}
 use Rattle.command_line.specs.declared.plans.CallTable.{CallTable}
 use Rattle.command_line.specs.declared.plans.PageForm.{PageForm}
 use Rattle.command_line.specs.declared.plans.PictureForm.{PictureForm}
 use Rattle.sent_views.specs.Pages.{asked_heading, called_text, page_text, picture_text, shown_text, text_in, told_in}
 use Rattle.sent_views.proofs.PageLemmas.{orderless_page}
 use Rattle.source_views.specs.Texts.{IsOrderless, told_text, view_text}
-use Rattle.flame_tool.specs.Runs.{lists_of, text_of, GainsFront, IsClean, Shows, ShowsFront, ShowsSamples, FailsUntouched, HasFault, IsOfSamples}
+use Rattle.flame_tool.specs.Runs.{lists_of, text_of, GainsFront, IsClean, IsFault, Shows, ShowsFront, ShowsSamples, FailsUntouched, HasFault, IsOfSamples, HasGrown, HasNotGrown}
+use Rattle.flame_tool.specs.StrictRuns.{HasPlainFault}
 use Rattle.flame_tool.specs.TypeRuns.{known_profile, HasTableFault, ShowsTypes, ShowsTypesFront}
 use Rattle.flame_tool.specs.checked.Failures.{Fails, IsHelp, IsWords, KeepsOutput}
 use Rattle.opened_sources.specs.Failures.{status_of}
@@ -43,7 +45,7 @@ use Rattle.opened_sources.specs.declared.failures.Failure.TheVariants.{TooManyFi
 -- ---- a failed run of a plan
 
 module _ (plan : Plan) (told : Option RunFacts) (known : Option (List Rest)) (old new : Option (List ℕ)) where
-  pub failed_faulty : (failure : Failure) → status_of failure ≡ 1 → IfSome known (Fails plan told old new failure) → IfSome known HasFault
+  pub failed_faulty : (failure : Failure) → status_of failure ≡ 1 → IfSome known (Fails plan told old new failure) → IfSome known (HasPlainFault plan)
   failed_faulty TooManyFiles one fails = absurd (omega arith)
   failed_faulty (Unreadable source) one fails = absurd (omega arith)
   failed_faulty (TooLarge source) one fails = absurd (omega arith)
@@ -191,6 +193,20 @@ module _ (input : Option (List ℕ)) (files : List ℕ → Option (List ℕ)) (o
           let shown = shows tt in
           shown.1.clean 0 (read_folded bytes) (omega arith)
 
+  -- a fault among the endings of one source is its
+  of_one : (rest found : Rest) (at : ℕ) → at < 1 → get_or (rest ∷ []) at found ≡ found → IsFault found.ending → IsFault rest.ending
+  of_one rest found zero within is faulty = subst (λ (rest : Rest). IsFault rest.ending) (sym is) faulty
+  of_one rest found (suc at) within is faulty = absurd (omega arith)
+
+  pub input_fault : (plan : Plan) → plan ≡ default_plan → IfSome (known_rests plan input files) (HasPlainFault plan) → IfSome input (λ bytes. IsFault (read_folded bytes).ending)
+  input_fault plan is faulty = go input (subst (λ (p : Plan). IfSome (known_rests p input files) (HasPlainFault p)) is faulty)
+    where
+      go : (known : Option (List ℕ)) → IfSome (known_rests default_plan known files) (HasPlainFault default_plan) → IfSome known (λ bytes. IsFault (read_folded bytes).ending)
+      go None faulty = tt
+      go (Some bytes) faulty =
+          let found = faulty refl in
+          of_one (kept_rest everything (read_folded bytes)) found.1 found.0 found.2 found.3 found.4
+
   unchanged : (before after : Option (List ℕ)) → Keeps before after → Appends before after []
   unchanged None after kept = tt
   unchanged (Some xs) None kept = kept
@@ -221,10 +237,10 @@ module _ {A : Type 0} (bytes : A → Text) {words words' : List A} where
   pub faultless_words : words ≡ words' → fault_of command_line (map bytes words) ≡ [] → fault_of command_line (map bytes words') ≡ []
   faultless_words same none = subst (λ words. fault_of command_line (map bytes words) ≡ []) same none
 
-words_have : (words : List Text) (plan : Plan) (P : Plan → Type 0) → asked_plan words ≡ Some plan → P plan → IsSomeAnd (asked_plan words) P
+pub words_have : (words : List Text) (plan : Plan) (P : Plan → Type 0) → asked_plan words ≡ Some plan → P plan → IsSomeAnd (asked_plan words) P
 words_have words plan P asked holds = subst (λ asked. IsSomeAnd asked P) (sym asked) holds
 
-words_meet : (words : List Text) (plan : Plan) (P : Plan → Type 0) → asked_plan words ≡ Some plan → P plan → IfSome (asked_plan words) P
+pub words_meet : (words : List Text) (plan : Plan) (P : Plan → Type 0) → asked_plan words ≡ Some plan → P plan → IfSome (asked_plan words) P
 words_meet words plan P asked holds = subst (λ asked. IfSome asked P) (sym asked) holds
 
 partly_asked : {Kept Help : Type 0} (words : List Text) (plan : Plan) (P : Plan → Type 0) → asked_plan words ≡ Some plan → Kept ⊎ P plan → Kept ⊎ (Help ⊎ IsSomeAnd (asked_plan words) P)
@@ -273,6 +289,21 @@ module _ (words : List Text) (plan : Plan) (input : Option (List ℕ)) (files : 
       words_have words plan (λ plan. (table : CallTable) → plan.form ≡ form.Callees table
       → IfSome (known_facts plan input files) (λ facts. IfSome (known_rests plan input files) (λ rests. Appends old new (called_text Callees table plan facts (lists_of rests)))))
       asked (λ table. calls_exactly plan old new Callees form.Callees table tt (λ facts lists order. refl) (known_facts plan input files) (known_rests plan input files) shows)
+
+-- a status of four comes of a limit
+pub within_three : (words : List Text) (plan : Plan) (status : ℕ) → asked_plan words ≡ Some plan → status ≤ 4 → (status ≡ 4 → IsSome (limit_of plan.view)) → (HasLimit words → ⊥) → status ≤ 3
+within_three words plan status asked most limit none =
+    ⊎_elim (λ low. omega (arith, low)) (λ high. absurd (none (words_have words plan (λ plan. IsSome (limit_of plan.view)) asked (limit (omega (arith, high, most)))))) (cases_lt status 4)
+
+pub asked_grown : (words : List Text) (plan : Plan) (input : Option (List ℕ)) (files : List ℕ → Option (List ℕ)) (old new : Option (List ℕ)) → asked_plan words ≡ Some plan
+    → IsSome (limit_of plan.view) → IfSome (known_rests plan input files) (HasGrown plan) → IfSome (known_rests plan input files) (Shows plan (known_facts plan input files) old new)
+    → IsSomeAnd (asked_plan words) (λ plan. IsSome (limit_of plan.view) × IfSome (known_rests plan input files) (HasGrown plan) × IfSome (known_rests plan input files) (Shows plan (known_facts plan input files) old new))
+asked_grown words plan input files old new asked limit grown shows =
+    words_have words plan (λ plan. IsSome (limit_of plan.view) × IfSome (known_rests plan input files) (HasGrown plan) × IfSome (known_rests plan input files) (Shows plan (known_facts plan input files) old new)) asked (limit, grown, shows)
+
+pub asked_not_grown : (words : List Text) (plan : Plan) (input : Option (List ℕ)) (files : List ℕ → Option (List ℕ)) → asked_plan words ≡ Some plan
+    → IfSome (known_rests plan input files) (HasNotGrown plan) → IsSomeAnd (asked_plan words) (λ plan. IfSome (known_rests plan input files) (HasNotGrown plan))
+asked_not_grown words plan input files asked = words_have words plan (λ plan. IfSome (known_rests plan input files) (HasNotGrown plan)) asked
 
 pub some_asked : {A : Type 0} (bytes : A → List ℕ) (words : List A) (plan : Plan) → (length words ≡ 0 → ⊥) → plan_of (map bytes words) ≡ Some plan → asked_plan (map bytes words) ≡ Some plan
 some_asked bytes [] plan some planned = absurd (some refl)
@@ -331,8 +362,8 @@ are_refused bytes (word ∷ words) fault.OutOfMemory some among refused = absurd
 
 -- what holds of the plan of a run's words
 module _ (words : List Text) (plan : Plan) (asked : asked_plan words ≡ Some plan) (input : Option (List ℕ)) (files : List ℕ → Option (List ℕ)) where
-  pub asked_faulty : IfSome (known_rests plan input files) HasFault → IsSomeAnd (asked_plan words) (λ plan. IfSome (known_rests plan input files) HasFault)
-  asked_faulty = words_have words plan (λ plan. IfSome (known_rests plan input files) HasFault) asked
+  pub asked_faulty : IfSome (known_rests plan input files) (HasPlainFault plan) → IsSomeAnd (asked_plan words) (λ plan. IfSome (known_rests plan input files) (HasPlainFault plan))
+  asked_faulty = words_have words plan (λ plan. IfSome (known_rests plan input files) (HasPlainFault plan)) asked
 
   pub asked_many : 64 < length plan.files → IsSomeAnd (asked_plan words) (λ plan. 64 < length plan.files)
   asked_many = words_have words plan (λ plan. 64 < length plan.files) asked

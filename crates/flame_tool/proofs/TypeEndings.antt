@@ -1,5 +1,5 @@
 -- How a run ends that is asked for the sample types of a profile.
-use Rattle.std.proofs.Common.{◌≡◌, ◌∙◌, ◌⊎◌, inl, inr, ℕ, List, [], ◌∷◌, length, Option, Some, None, Result, Ok, Err, IfSome, IfErr, OnOk, ap, sym, subst, refl, arith, take, get_or, map, ◌<◌}
+use Rattle.std.proofs.Common.{◌≡◌, ◌∙◌, ◌⊎◌, inl, inr, ℕ, Bool, true, false, true≢false, List, [], ◌∷◌, length, Option, Some, None, Result, Ok, Err, IfSome, IfErr, IfOk, OnOk, ap, sym, subst, refl, arith, take, get_or, map, ◌<◌}
 use Rattle.std.specs.Prelude.{option_and_then, option_map, slice_get}
 use Rattle.std.proofs.lemmas.List.{get_or-map, length-map}
 use Rattle.std.specs.Io.KnownBytes.{Appends, Keeps}
@@ -23,8 +23,9 @@ use Rattle.view_texts.specs.Types.{types_text}
 use Rattle.sent_views.specs.declared.run_facts.RunFacts.{RunFacts}
 use Rattle.flame_tool.specs.Requests.{known_rests, rest_of, rests_at}
 use Rattle.flame_tool.specs.Runs.{HasFault, IsFault, Shows, ShowsFront, ShowsSamples}
+use Rattle.flame_tool.specs.StrictRuns.{HasPlainFault}
 use Rattle.flame_tool.specs.TypeRuns.{HasTableFault, ShowsTypes, ShowsTypesFront, known_profile, table_fault}
-use Rattle.flame_tool.specs.checked.Failures.{Fails, KeepsOutput}
+use Rattle.flame_tool.specs.checked.Failures.{Fails, KeepsOutput, TellsGrowth}
 use Rattle.opened_sources.specs.Failures.{Sends, status_of}
 use Rattle.flame_tool.specs.checked.TypeFailures.{FailsTypes}
 use Rattle.opened_sources.specs.declared.failures.Failure.{Failure}
@@ -77,6 +78,10 @@ module _ (plan : Plan) (told : Option RunFacts) (old new : Option (List ℕ)) (t
   unsaid None = tt
   unsaid (Some rests) = tt
 
+  plainly : (known : Option (List Rest)) → IfSome known HasFault → IfSome known (HasPlainFault plan)
+  plainly None faulty = tt
+  plainly (Some rests) faulty = λ plain. faulty
+
   unseen_fails : (input : Option (List ℕ)) (files : List ℕ → Option (List ℕ)) (failure : Failure) → IsOfOneProfile plan
       → IfSome (known_profile plan files) (FailsTypes old new failure) → IfSome (known_rests plan input files) (Fails plan told old new failure)
   unseen_fails input files TooManyFiles one fails = unsaid (known_rests plan input files)
@@ -86,9 +91,9 @@ module _ (plan : Plan) (told : Option RunFacts) (old new : Option (List ℕ)) (t
   unseen_fails input files NoThread one fails = unsaid (known_rests plan input files)
   unseen_fails input files (Unfinished source) one fails = unsaid (known_rests plan input files)
   unseen_fails input files Faults one fails =
-      fault_shown plan.from (rests_at plan.options plan.format plan.files input files)
+      plainly (known_rests plan input files) (fault_shown plan.from (rests_at plan.options plan.format plan.files input files)
       (subst (λ (asked : Option Format). IfSome (rests_at plan.options asked plan.files input files) HasFault) (sym one.1)
-      (fault_of_paths plan.options input files plan.files one.0 (ap (λ (options : Options). options.pick) one.2) fails))
+      (fault_of_paths plan.options input files plan.files one.0 (ap (λ (options : Options). options.pick) one.2) fails)))
   unseen_fails input files (Output fault) one fails = unseen_front (known_rests plan input files)
 
   pub unseen_err : {T : Type 0} (input : Option (List ℕ)) (files : List ℕ → Option (List ℕ)) (result : Result T Failure) → IsOfOneProfile plan
@@ -96,6 +101,18 @@ module _ (plan : Plan) (told : Option RunFacts) (old new : Option (List ℕ)) (t
       → IfErr result (λ failure. IfSome (known_rests plan input files) (Fails plan told old new failure))
   unseen_err input files (Ok done) one fails = tt
   unseen_err input files (Err failure) one fails = unseen_fails input files failure one fails
+
+-- no function of it grew
+pub types_ungrown : (plan : Plan) (known : Option (List Rest)) (result : Result Bool Failure) → plan.form ≡ form.Types → IfOk result (λ is_over. is_over ≡ false)
+    → IfOk result (λ is_over. IfSome known (TellsGrowth is_over plan))
+types_ungrown plan known (Err failure) types none = tt
+types_ungrown plan None (Ok is_over) types none = tt
+types_ungrown plan (Some rests) (Ok true) types none = absurd (true≢false none)
+types_ungrown plan (Some rests) (Ok false) types none = λ shows. absurd (subst ShowsSamples types shows)
+
+pub types_unlimited : (P : Type 0) (result : Result Bool Failure) → IfOk result (λ is_over. is_over ≡ false) → IfOk result (λ is_over. is_over ≡ true → P)
+types_unlimited P (Ok is_over) none = λ over. absurd (true≢false (sym over ∙ none))
+types_unlimited P (Err failure) none = tt
 
 -- ---- a failed run of such a plan
 

@@ -1,5 +1,5 @@
 -- A fault of a source ends a run before the output is touched.
-use Rattle.std.proofs.Common.{◌≡◌, ◌∙◌, ℕ, List, [], length, map, Option, Some, None, Result, Ok, Err, IfSome, IfErr, OnOk, All, sym, subst}
+use Rattle.std.proofs.Common.{◌≡◌, ◌∙◌, ℕ, Bool, List, [], length, map, Option, Some, None, Result, Ok, Err, IfSome, IfErr, OnOk, All, sym, subst, true}
 use Rattle.clap.specs.Kinds.{IsAmong}
 use Rattle.clap.specs.Walk.{Text}
 use Rattle.stack_core.specs.Reading.{Rest}
@@ -13,6 +13,7 @@ use Rattle.command_line.specs.declared.plans.PlanFault.{PlanFault}
 use Rattle.sent_views.specs.declared.run_facts.RunFacts.{RunFacts}
 use Rattle.flame_tool.specs.Requests.{asked_faults, asked_plan, known_rests}
 use Rattle.flame_tool.specs.Runs.{FailsUntouched, HasFault, IsClean, IsFault, Shows, ShowsSamples}
+use Rattle.flame_tool.specs.StrictRuns.{has_strict_fault, known_sources}
 use Rattle.flame_tool.specs.TypeRuns.{HasTableFault, ShowsTypes, known_profile}
 use Rattle.flame_tool.specs.checked.Failures.{Fails, IsHelp, KeepsOutput, exit_status}
 use Rattle.flame_tool.specs.checked.TypeFailures.{FailsTypes}
@@ -36,8 +37,8 @@ not_both rests clean (at, rest, within, is, faulty) =
 
 -- ---- a run of a plan
 
-module _ {T : Type 0} (P : Type 0) (plan : Plan) (old new : Option (List ℕ)) (before after : ℕ) (samples : ShowsSamples plan.form) where
-  at_fault : (told : Option RunFacts) (rests : List Rest) (shown : Result T Failure) → IsKnown told
+module _ (P : Type 0) (plan : Plan) (old new : Option (List ℕ)) (before after : ℕ) (samples : ShowsSamples plan.form) where
+  at_fault : (told : Option RunFacts) (rests : List Rest) (shown : Result Bool Failure) → IsKnown told
       → OnOk shown (Shows plan told old new rests) → IfErr shown (λ failure. Fails plan told old new failure rests) → IfErr shown (KeepsOutput old new) → Flushes P before after shown
       → HasFault rests → FailsUntouched (exit_status shown) old new before after
   at_fault None rests shown known shows fails kept flushes faulty = absurd known
@@ -55,15 +56,15 @@ module _ {T : Type 0} (P : Type 0) (plan : Plan) (old new : Option (List ℕ)) (
       let text = fails samples in
       absurd (not_both rests text.1.clean faulty)
 
-  pub untouched_at_fault : (told : Option RunFacts) (known : Option (List Rest)) (shown : Result T Failure) → IfSome known (λ _. IsKnown told)
+  pub untouched_at_fault : (told : Option RunFacts) (known : Option (List Rest)) (shown : Result Bool Failure) → IfSome known (λ _. IsKnown told)
       → OnOk shown (IfSome known (Shows plan told old new)) → IfErr shown (λ failure. IfSome known (Fails plan told old new failure)) → IfErr shown (KeepsOutput old new) → Flushes P before after shown
       → IfSome known (λ rests. HasFault rests → FailsUntouched (exit_status shown) old new before after)
   untouched_at_fault told None shown some shows fails kept flushes = tt
   untouched_at_fault told (Some rests) shown some shows fails kept flushes = at_fault told rests shown some shows fails kept flushes
 
 -- the same of a plan that asks for sample types
-module _ {T : Type 0} (P : Type 0) (old new : Option (List ℕ)) (before after : ℕ) where
-  at_table_fault : (profile : List ℕ) (shown : Result T Failure) → OnOk shown (ShowsTypes old new profile) → IfErr shown (λ failure. FailsTypes old new failure profile)
+module _ (P : Type 0) (old new : Option (List ℕ)) (before after : ℕ) where
+  at_table_fault : (profile : List ℕ) (shown : Result Bool Failure) → OnOk shown (ShowsTypes old new profile) → IfErr shown (λ failure. FailsTypes old new failure profile)
       → IfErr shown (KeepsOutput old new) → Flushes P before after shown → HasTableFault profile → FailsUntouched (exit_status shown) old new before after
   at_table_fault profile (Ok done) shows fails kept flushes (found, is) = absurd (subst IsKnown (sym is ∙ shows.0) tt)
   at_table_fault profile (Err TooManyFiles) shows fails kept flushes faulty = (not_zero TooManyFiles, kept, flushes)
@@ -75,7 +76,7 @@ module _ {T : Type 0} (P : Type 0) (old new : Option (List ℕ)) (before after :
   at_table_fault profile (Err Faults) shows fails kept flushes faulty = (not_zero Faults, kept, flushes)
   at_table_fault profile (Err (Output fault)) shows fails kept flushes (found, is) = absurd (subst IsKnown (sym is ∙ fails.0) tt)
 
-  pub untouched_at_table_fault : (Q : Type 0) (known : Option (List ℕ)) (shown : Result T Failure) → OnOk shown (Q → IfSome known (ShowsTypes old new))
+  pub untouched_at_table_fault : (Q : Type 0) (known : Option (List ℕ)) (shown : Result Bool Failure) → OnOk shown (Q → IfSome known (ShowsTypes old new))
       → IfErr shown (λ failure. Q → IfSome known (FailsTypes old new failure)) → IfErr shown (KeepsOutput old new) → Flushes P before after shown
       → Q → IfSome known (λ profile. HasTableFault profile → FailsUntouched (exit_status shown) old new before after)
   untouched_at_table_fault Q None shown shows fails kept flushes asked = tt
@@ -99,6 +100,12 @@ module _ (Q : Type 0) (words : List Text) (files : List ℕ → Option (List ℕ
   whatever_types_are_read =
       if_any (asked_plan words) (λ plan. plan.form ≡ form.Types → IfSome (known_profile plan files) (λ profile. HasTableFault profile → Q))
       (λ plan types. if_any (known_profile plan files) (λ profile. HasTableFault profile → Q) (λ profile faulty. holds))
+
+pub whatever_is_strict : (Q : Type 0) (words : List Text) (input : Option (List ℕ)) (files : List ℕ → Option (List ℕ)) → Q
+    → IfSome (asked_plan words) (λ plan. ShowsSamples plan.form → plan.is_strict ≡ true → IfSome (known_sources plan input files) (λ sources. has_strict_fault plan.options sources ≡ true → Q))
+whatever_is_strict Q words input files holds =
+    if_any (asked_plan words) (λ plan. ShowsSamples plan.form → plan.is_strict ≡ true → IfSome (known_sources plan input files) (λ sources. has_strict_fault plan.options sources ≡ true → Q))
+    (λ plan samples strict. if_any (known_sources plan input files) (λ sources. has_strict_fault plan.options sources ≡ true → Q) (λ sources faulty. holds))
 
 -- words without a fault ask for no help
 pub no_help : {A : Type 0} (bytes : A → List ℕ) (words : List A) (f : PlanFault) → (length words ≡ 0 → ⊥) → IsFaultAmong (fault_of command_line (map bytes words)) f → asked_faults (map bytes words) ≡ [] → IsHelp f → ⊥

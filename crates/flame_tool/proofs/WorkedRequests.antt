@@ -1,6 +1,6 @@
 -- Worked examples of runs over known files, computed on the definitions.
 use Rattle.std.proofs.Common.{◌≡◌, ℕ, List, [], ◌∷◌, codes, refl, Option, Some, None, option_map}
-use Rattle.std.specs.Prelude.{if◌then◌else◌, option_and_then}
+use Rattle.std.specs.Prelude.{Bool, true, false, if◌then◌else◌, option_and_then}
 use Rattle.std.specs.Fmt.{digits}
 use Rattle.std.specs.Str.{bytes_eq}
 use Rattle.clap.proofs.OnLiterals.{clap_on_literals}
@@ -13,6 +13,7 @@ use Rattle.sent_views.specs.Facts.{told_whole}
 use Rattle.flame_tool.specs.KnownFacts.{known_facts}
 use Rattle.flame_tool.specs.Requests.{asked_plan, known_rests}
 use Rattle.flame_tool.specs.Runs.{lists_of}
+use Rattle.flame_tool.specs.StrictRuns.{has_strict_fault, known_sources}
 use Rattle.source_views.specs.Texts.{view_text}
 
 -- three files, of which one is named as a profile and is none
@@ -112,3 +113,24 @@ unknown_file = refl
 
 unknown_input : rests_asked [] None ≡ None
 unknown_input = refl
+
+-- whether words ask strictly, of which sources one has an ignored line, a fault or no sample
+abbrev refused_strictly : List Text → Option (List ℕ) → Option Bool
+refused_strictly words input =
+    option_and_then (λ plan. if plan.is_strict then option_map (has_strict_fault plan.options) (known_sources plan input two_files) else None) (asked_plan words)
+
+strict_whole_files : refused_strictly (codes "fold" ∷ codes "--strict" ∷ codes "x" ∷ codes "y" ∷ []) None ≡ Some false
+unfolding clap_on_literals computing
+strict_whole_files = refl
+
+strict_ignored_line : refused_strictly (codes "fold" ∷ codes "--strict" ∷ []) (Some (codes "a 1\nb\n")) ≡ Some true
+unfolding clap_on_literals computing
+strict_ignored_line = refl
+
+strict_empty_input : refused_strictly (codes "fold" ∷ codes "--strict" ∷ codes "--hide" ∷ codes "x" ∷ []) (Some []) ≡ Some true
+unfolding clap_on_literals computing
+strict_empty_input = refl
+
+not_strict : refused_strictly (codes "fold" ∷ []) (Some []) ≡ None
+unfolding clap_on_literals computing
+not_strict = refl

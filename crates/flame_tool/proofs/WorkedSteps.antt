@@ -2,6 +2,7 @@
 use Rattle.std.proofs.Common.{◌≡◌, refl, [], ◌∷◌, ◌++◌, codes}
 use Rattle.clap.specs.Walk.{Text}
 use Rattle.stack_core.specs.declared.endings.ReadKind.TheVariants as kind
+use Rattle.folded_lines.specs.declared.strictness.StrictKind.TheVariants as strict
 use Rattle.opened_sources.specs.declared.failures.Failure.TheVariants as failure
 use Rattle.flame_tool.specs.NextSteps.{next_step}
 use Rattle.flame_tool.specs.declared.next_steps.Trouble.TheVariants as trouble
@@ -36,6 +37,14 @@ unknown_type = refl
 no_samples : next_step (codes "graph" ∷ codes "--page" ∷ codes "profile" ∷ []) (codes "profile" ∷ []) 0 trouble.NoSamples
     ≡ line (codes "no line of it is a stack and a count; if it is a pprof profile: flamecollect graph --format pprof --page profile")
 no_samples = refl
+
+no_count : next_step (codes "fold" ∷ codes "--strict" ∷ codes "x" ∷ []) (codes "x" ∷ []) 0 (trouble.Strict strict.NoCount)
+    ≡ line (codes "that line is no stack and a count: without --strict it is ignored; if it is a pprof profile: flamecollect fold --format pprof --strict x")
+no_count = refl
+
+nothing_recorded : next_step (codes "fold" ∷ codes "--strict" ∷ codes "x" ∷ []) (codes "x" ∷ []) 0 (trouble.Strict strict.NoSamples)
+    ≡ line (codes "nothing was recorded in it: record it again; without --strict it is shown as it is")
+nothing_recorded = refl
 
 not_there : next_step (codes "fold" ∷ codes "x" ∷ []) (codes "x" ∷ []) 0 (trouble.Failed (failure.Unreadable 0))
     ≡ line (codes "it is not there, is a folder, or may not be read: ls -l shows which")

@@ -3,6 +3,7 @@ pub mod KnownFacts
 pub mod NextSteps
 pub mod Requests
 pub mod Runs
+pub mod StrictRuns
 pub mod TypeRuns
 pub mod checked
 pub use Rattle.byte_io.specs.Calls
@@ -14,12 +15,14 @@ pub use Rattle.command_line.specs.Plans
 pub use Rattle.function_sums.specs.FunctionChanges
 pub use Rattle.function_sums.specs.FunctionList
 pub use Rattle.function_sums.specs.FunctionSums
+pub use Rattle.function_sums.specs.Growth
 pub use Rattle.function_sums.specs.Tables
 pub use Rattle.merged_stacks.specs.Merged
 pub use Rattle.merging.specs.Gathered
 pub use Rattle.merging.specs.Snapshots
 pub use Rattle.source_lists.specs.FromNames
 pub use Rattle.source_lists.specs.Sources
+pub use Rattle.source_lists.specs.Strictness
 pub use Rattle.merging.specs.Sums
 pub use Rattle.merging.specs.TreeSinkState
 pub use Rattle.opened_sources.specs.Names
@@ -39,6 +42,7 @@ pub use Rattle.sum_texts.specs.Columns
 pub use Rattle.sum_texts.specs.DiffTexts
 pub use Rattle.sum_texts.specs.FunctionJson
 pub use Rattle.sum_texts.specs.FunctionTable
+pub use Rattle.sum_texts.specs.GrownLine
 pub use Rattle.sum_texts.specs.Told
 pub use Rattle.sum_texts.specs.TopTexts
 pub use Rattle.svg_texts.specs.Svg

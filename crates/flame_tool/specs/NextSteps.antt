@@ -11,6 +11,8 @@ use Rattle.byte_io.specs.declared.piece_output.PieceFault.TheVariants as piece
 use Rattle.opened_sources.specs.Names.{source_name}
 use Rattle.opened_sources.specs.declared.failures.Failure.{Failure}
 use Rattle.opened_sources.specs.declared.failures.Failure.TheVariants as failure
+use Rattle.folded_lines.specs.declared.strictness.StrictKind.{StrictKind}
+use Rattle.folded_lines.specs.declared.strictness.StrictKind.TheVariants as strict
 use Rattle.flame_tool.specs.declared.next_steps.Remedy.{Remedy}
 use Rattle.flame_tool.specs.declared.next_steps.Remedy.TheVariants as remedy
 use Rattle.flame_tool.specs.declared.next_steps.Trouble.{Trouble}
@@ -117,8 +119,14 @@ failure_meaning failure.Faults = []
 failure_meaning (failure.Output piece.OutOfMemory) = no_memory
 failure_meaning (failure.Output piece.Output) = codes "its reader ended, or its disk is full: lead the output elsewhere"
 
+abbrev pub strict_meaning : StrictKind → Text
+strict_meaning strict.NoCount = codes "that line is no stack and a count: without --strict it is ignored"
+strict_meaning strict.NoSamples = codes "nothing was recorded in it: record it again; without --strict it is shown as it is"
+strict_meaning (strict.Read k) = fault_meaning k
+
 abbrev pub meaning : Trouble → Text
 meaning (trouble.Fault k) = fault_meaning k
+meaning (trouble.Strict k) = strict_meaning k
 meaning trouble.NoSamples = codes "no line of it is a stack and a count"
 meaning (trouble.Failed f) = failure_meaning f
 
@@ -127,8 +135,14 @@ fault_remedy kind.Compressed = remedy.Unpack
 fault_remedy kind.UnknownSampleType = remedy.AskForTypes
 fault_remedy other = remedy.Nothing
 
+abbrev pub strict_remedy : StrictKind → Remedy
+strict_remedy strict.NoCount = remedy.ReadAsProfile
+strict_remedy strict.NoSamples = remedy.Nothing
+strict_remedy (strict.Read k) = fault_remedy k
+
 abbrev pub remedy_for : Trouble → Remedy
 remedy_for (trouble.Fault k) = fault_remedy k
+remedy_for (trouble.Strict k) = strict_remedy k
 remedy_for trouble.NoSamples = remedy.ReadAsProfile
 remedy_for (trouble.Failed f) = remedy.Nothing
 

@@ -1,5 +1,5 @@
 -- What the words of a run ask for, and what is known of the sources that they name.
-use Rattle.std.specs.Prelude.{ℕ, List, [], ◌∷◌, Option, Some, option_and_then, option_map, unwrap_or}
+use Rattle.std.specs.Prelude.{ℕ, List, [], ◌∷◌, Option, Some, IsSome, IsSomeAnd, option_and_then, option_map, unwrap_or}
 use Rattle.clap.specs.Kinds.{IsAmong, Kinds}
 use Rattle.clap.specs.Walk.{Text}
 use Rattle.clap.specs.declared.error.kind.ErrorKind.{ErrorKind}
@@ -9,7 +9,7 @@ use Rattle.run_options.specs.declared.formats.Format.{Format}
 use Rattle.run_options.specs.declared.formats.Format.TheVariants.{Folded}
 use Rattle.run_options.specs.declared.options.Options.{Options}
 use Rattle.command_line.specs.CommandLine.{command_line}
-use Rattle.command_line.specs.Plans.{IsRequest, default_plan, fault_of, plan_of}
+use Rattle.command_line.specs.Plans.{IsRequest, default_plan, fault_of, limit_of, plan_of}
 use Rattle.command_line.specs.declared.plans.Plan.{Plan}
 use Rattle.source_lists.specs.FromNames.{rests_from}
 use Rattle.source_lists.specs.Sources.{asked_rest}
@@ -33,6 +33,10 @@ AsksForHelp words = (k : ErrorKind) × IsAmong k (asked_faults words) × IsReque
 -- the words have a fault, and not just the wish for help
 abbrev pub AreRefused : List Text → Type 0
 AreRefused words = (k : ErrorKind) × IsAmong k (asked_faults words) × (IsRequest k → ⊥)
+
+-- the plan of the words sets a limit to what a function's share may grow
+abbrev pub HasLimit : List Text → Type 0
+HasLimit words = IsSomeAnd (asked_plan words) (λ plan. IsSome (limit_of plan.view))
 
 -- ---- the sources
 

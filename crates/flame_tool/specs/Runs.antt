@@ -1,5 +1,5 @@
 -- What a run leaves on its output, and what that says of its sources.
-use Rattle.std.specs.Prelude.{◌≡◌, ◌≢◌, ℕ, List, Option, IfSome, take, map, All, Any}
+use Rattle.std.specs.Prelude.{◌≡◌, ◌≢◌, ℕ, List, [], Option, IfSome, take, map, All, Any}
 use Rattle.std.specs.Io.KnownBytes.{Appends, Keeps}
 use Rattle.byte_io.specs.Pieces.{AppendsFront}
 use Rattle.stack_core.specs.Interleaving.{IsInterleaving}
@@ -15,6 +15,7 @@ use Rattle.command_line.specs.declared.plans.View.{View}
 use Rattle.command_line.specs.declared.plans.View.TheVariants.{Fold, Graph, Chart, Pairs, PairBoxes, Top, Diff}
 use Rattle.view_texts.specs.Fold.{fold_text}
 use Rattle.sent_views.specs.Pages.{shown_text}
+use Rattle.source_views.specs.Texts.{grown_names}
 use Rattle.sent_views.specs.declared.run_facts.RunFacts.{RunFacts}
 
 -- all of the source was read
@@ -67,6 +68,13 @@ Shows plan known old new rests =
 abbrev pub ShowsFront : Plan → Option RunFacts → Option (List ℕ) → Option (List ℕ) → List Rest → Type 0
 ShowsFront plan known old new rests =
     ShowsSamples plan.form → IfSome known (λ facts. (text : List ℕ) × IsTextOf plan facts rests text × AppendsFront text old new)
+
+-- there are functions whose share grew by more than the plan's limit, or there are none
+abbrev pub HasGrown : Plan → List Rest → Type 0
+HasGrown plan rests = grown_names plan.view (lists_of rests) ≢ []
+
+abbrev pub HasNotGrown : Plan → List Rest → Type 0
+HasNotGrown plan rests = ShowsSamples plan.form → grown_names plan.view (lists_of rests) ≡ []
 
 -- the text of the view says nothing but what the samples are
 abbrev pub IsOfSamples : View → Type 0

@@ -46,18 +46,20 @@ pub(crate) fn refuse<W: Outlet, E: Outlet>(fault: PlanFault, out: &mut W, err: &
     }
 }
 
-// Says why a run over these files failed, if it did, and answers its exit status.
+// Says why a run over these files failed, if it did, and answers its exit status: of one that did not, whether functions
+// grew over its limit.
 pub(crate) fn end_run<E: Outlet>(
     alloc: Global,
     err: &mut E,
     advice: Advice<'_>,
     files: &[String],
-    shown: Result<(), Failure>,
+    shown: Result<bool, Failure>,
 ) -> u8
     ensures { result ≡ exit_status shown }
 {
     match shown {
-        Ok(()) => 0,
+        Ok(true) => 4,
+        Ok(false) => 0,
         Err(failure) => {
             report_failure(err, files, failure);
             advice.tell_failure(alloc, err, files, failure);

@@ -4,7 +4,9 @@
 
 mod advice;
 mod exits;
+mod hosts;
 mod next_steps;
+mod plan_run;
 mod program;
 mod progress;
 mod step_commands;
@@ -13,10 +15,11 @@ mod views_run;
 
 pub use byte_io::{
     CountedReader, CountedWriter, Files, Inlet, LoadFault, MachineFiles, MemoryFiles, NamedFile,
-    Outlet, SOURCE_LIMIT, SendFault, load, send,
+    Outlet, OutputFile, SOURCE_LIMIT, SendFault, load, send,
 };
 pub use command_line::{
-    CallTable, Form, PageForm, PictureForm, Plan, PlanFault, TopTable, View, WeightUnit, plan,
+    CallTable, Destination, DiffTable, Form, PageForm, PictureForm, Plan, PlanFault, TopTable,
+    View, WeightUnit, asked_destination, plan,
 };
 pub use merging::{Gathered, Snapshot, TreeSink};
 pub use next_steps::{Trouble, next_step};
@@ -27,6 +30,6 @@ pub use ring_collect::CollectFault;
 pub use run_options::{
     Filter, Format, FunctionOrder, Naming, Options, Pick, RingSize, Width, format_of,
 };
-pub use source_lists::Source;
+pub use source_lists::{Source, StrictKind};
 pub use source_views::{Views, laws, render, views};
 pub use stack_core::{Gate, OpenGate, ReadKind, SourceEnd, SourceList, Turn};

@@ -1,12 +1,13 @@
 //! What is said behind a message: what it means, and what to do.
 ghost use Rattle.std.specs.Prelude.{◌≡◌, IfOk, map, string_bytes};
-ghost use Rattle.flame_tool.specs.NextSteps.{fault_meaning, failure_meaning, meaning, next_step, reading, remedy_for, unpacking, what_to_do};
+ghost use Rattle.flame_tool.specs.NextSteps.{fault_meaning, fault_remedy, failure_meaning, meaning, next_step, reading, remedy_for, strict_meaning, strict_remedy, unpacking, what_to_do};
 
 use crate::step_commands::{
     can_pipe, command_text, format_text, is_quotable, pipe_word, source_word,
 };
 use byte_io::PieceFault;
 use opened_sources::{Failure, path_of};
+use source_lists::StrictKind;
 use stack_core::ReadKind;
 use std::alloc::{AllocError, Global};
 
@@ -15,6 +16,8 @@ use std::alloc::{AllocError, Global};
 pub enum Trouble {
     /// A source ended in a fault of this kind.
     Fault(ReadKind),
+    /// A source that is read strictly has a fault of this kind.
+    Strict(StrictKind),
     /// All lines of a source were ignored.
     NoSamples,
     /// The run failed.
@@ -51,6 +54,7 @@ fn meaning(trouble: Trouble) -> &'static str
 {
     match trouble {
         Trouble::Fault(kind) => fault_meaning(kind),
+        Trouble::Strict(kind) => strict_meaning(kind),
         Trouble::NoSamples => "no line of it is a stack and a count",
         Trouble::Failed(failure) => failure_meaning(failure),
     }
@@ -95,6 +99,18 @@ fn fault_meaning(kind: ReadKind) -> &'static str
     }
 }
 
+fn strict_meaning(kind: StrictKind) -> &'static str
+    ensures { result.now ≡ strict_meaning kind }
+{
+    match kind {
+        StrictKind::NoCount => "that line is no stack and a count: without --strict it is ignored",
+        StrictKind::NoSamples => {
+            "nothing was recorded in it: record it again; without --strict it is shown as it is"
+        }
+        StrictKind::Read(kind) => fault_meaning(kind),
+    }
+}
+
 fn failure_meaning(failure: Failure) -> &'static str
     ensures { result.now ≡ failure_meaning failure }
 {
@@ -124,17 +140,32 @@ fn remedy_for(trouble: Trouble) -> Remedy
     ensures { result ≡ remedy_for trouble }
 {
     match trouble {
-        Trouble::Fault(kind) => {
-            if kind == ReadKind::Compressed {
-                Remedy::Unpack
-            } else if kind == ReadKind::UnknownSampleType {
-                Remedy::AskForTypes
-            } else {
-                Remedy::Nothing
-            }
-        }
+        Trouble::Fault(kind) => fault_remedy(kind),
+        Trouble::Strict(kind) => strict_remedy(kind),
         Trouble::NoSamples => Remedy::ReadAsProfile,
         Trouble::Failed(_) => Remedy::Nothing,
+    }
+}
+
+fn fault_remedy(kind: ReadKind) -> Remedy
+    ensures { result ≡ fault_remedy kind }
+{
+    if kind == ReadKind::Compressed {
+        Remedy::Unpack
+    } else if kind == ReadKind::UnknownSampleType {
+        Remedy::AskForTypes
+    } else {
+        Remedy::Nothing
+    }
+}
+
+fn strict_remedy(kind: StrictKind) -> Remedy
+    ensures { result ≡ strict_remedy kind }
+{
+    match kind {
+        StrictKind::NoCount => Remedy::ReadAsProfile,
+        StrictKind::NoSamples => Remedy::Nothing,
+        StrictKind::Read(kind) => fault_remedy(kind),
     }
 }
 

@@ -1,38 +1,34 @@
 //! A run of the program.
-ghost use Rattle.std.specs.Prelude.{◌≡◌, ◌≢◌, ◌≤◌, ◌<◌, ◌⊎◌, [], None, Some, false, IfSome, IfErr, IsErrOf, IsSomeAnd, OnOk, vec_len, length, map, string_bytes};
+ghost use Rattle.std.specs.Prelude.{◌≡◌, ◌≢◌, ◌≤◌, ◌<◌, ◌⊎◌, [], None, false, true, IfSome, IsSomeAnd, vec_len, length, map, string_bytes, IsSome};
 ghost use Rattle.std.specs.Io.KnownBytes.{Appends, Keeps};
 ghost use Rattle.folded_lines.specs.Reading.{read_folded};
-ghost use Rattle.command_line.specs.Plans.{IsComparison, IsOfOneProfile};
+ghost use Rattle.command_line.specs.Plans.{limit_of};
 ghost use Rattle.command_line.specs.declared.plans.CallTable.{CallTable};
 ghost use Rattle.command_line.specs.declared.plans.PageForm.{PageForm};
 ghost use Rattle.command_line.specs.declared.plans.PictureForm.{PictureForm};
 ghost use Rattle.function_sums.specs.declared.call_sides.CallSide.TheVariants.{Callers, Callees};
 ghost use Rattle.flame_tool.specs.KnownFacts.{known_facts};
-ghost use Rattle.flame_tool.specs.Requests.{AreRefused, AsksForHelp, asked_faults, asked_plan, known_rests};
+ghost use Rattle.flame_tool.specs.Requests.{AreRefused, AsksForHelp, HasLimit, asked_faults, asked_plan, known_rests};
 ghost use Rattle.sent_views.specs.Pages.{called_text, page_text, picture_text, told_in};
 ghost use Rattle.source_views.specs.Texts.{IsOrderless, told_text, view_text};
-ghost use Rattle.flame_tool.specs.Runs.{IsClean, IsFault, text_of, lists_of, FailsUntouched, GainsFront, Shows, ShowsFront, ShowsSamples, HasFault, IsOfSamples};
+ghost use Rattle.flame_tool.specs.Runs.{IsClean, IsFault, text_of, lists_of, FailsUntouched, GainsFront, Shows, ShowsFront, ShowsSamples, HasFault, IsOfSamples, HasGrown, HasNotGrown};
+ghost use Rattle.flame_tool.specs.StrictRuns.{HasPlainFault, has_strict_fault, known_sources};
 ghost use Rattle.flame_tool.specs.TypeRuns.{known_profile, HasTableFault, ShowsTypes, ShowsTypesFront};
-ghost use Rattle.flame_tool.specs.checked.TypeFailures.{FailsTypes};
-ghost use Rattle.flame_tool.specs.checked.Failures.{Fails, KeepsOutput};
-ghost use Rattle.opened_sources.specs.Failures.{Flushes};
 
-use crate::advice::Advice;
-use crate::exits::{end_run, refuse};
-use crate::types_run::show_types;
-use crate::views_run::show_views;
+use crate::exits::refuse;
+use crate::hosts::Host;
+use crate::plan_run::run_plan;
 use byte_io::{Files, Outlet};
-use command_line::{Form, Plan, plan, plan_without_words};
-use opened_sources::{Failure, report_awaited_input};
-use run_options::Format;
+use command_line::{Form, plan, plan_without_words};
 use std::alloc::Global;
 use std::sync::Wait;
 use std::thread::Threads;
 
 /// Runs the program with the words after its name, and answers its exit status: 0 where it wrote what was
 /// asked for, 1 where a source has a fault, 2 where the words are refused or there are more than 64 files,
-/// and 3 where a source can't be read, there is no memory or no thread, or the output fails. Without words
-/// it writes the fold text of the input, which is folded text. Messages go to `err`, a line each, and a
+/// and 3 where a source can't be read, there is no memory or no thread, or the output fails. It is 4 where
+/// it wrote what was asked for, and a function's share grew by more than the words allow. Without words it
+/// writes the fold text of the input, which is folded text. Messages go to `err`, a line each, and a
 /// failure to write them changes nothing.
 pub fn run<T: Threads + Wait + Copy + Send + 'static, F: Files, W: Outlet, E: Outlet>(
     rt: &T,
@@ -42,11 +38,13 @@ pub fn run<T: Threads + Wait + Copy + Send + 'static, F: Files, W: Outlet, E: Ou
     out: &mut W,
     err: &mut E,
 ) -> u8
-    ensures status { result ≤ 3 }
+    ensures status { (HasLimit (map string_bytes words.items) → ⊥) → result ≤ 3 }
+    ensures status_with_limit { result ≤ 4 }
     ensures no_words { vec_len words ≡ 0 → result ≢ 2 }
 
     // 0 means that what was written was flushed too. No call of the output failed but where 3 is answered.
     ensures flushed { result ≡ 0 → W.is_flushed out.new }
+    ensures flushed_grown { result ≡ 4 → W.is_flushed out.new }
     ensures unfailed { result ≢ 3 → W.failures out.new ≡ W.failures out.old }
 
     // Without words 0 is success: the input has no fault, and its whole fold text went out.
@@ -129,7 +127,8 @@ pub fn run<T: Threads + Wait + Copy + Send + 'static, F: Files, W: Outlet, E: Ou
     // 1 is a fault of a source, 2 are words that are refused or more than 64 files, and 3 leaves nothing
     // or a part of the text from its front.
     ensures faulty { result ≡ 1 → IsSomeAnd (asked_plan (map string_bytes words.items)) (λ plan.
-        IfSome (known_rests plan (F.known_input files.old) (F.known_file files.old)) HasFault) }
+        IfSome (known_rests plan (F.known_input files.old) (F.known_file files.old))
+        (HasPlainFault plan)) }
     ensures blamed { result ≡ 2 → AreRefused (map string_bytes words.items)
         ⊎ IsSomeAnd (asked_plan (map string_bytes words.items)) (λ plan.
         64 < length plan.files) }
@@ -164,6 +163,40 @@ pub fn run<T: Threads + Wait + Copy + Send + 'static, F: Files, W: Outlet, E: Ou
         HasFault rests → FailsUntouched result (W.contents out.old) (W.contents out.new)
         (W.failures out.old) (W.failures out.new))) }
 
+    // Where the words ask for it, a line that is ignored and a source without a sample are faults, too: 0
+    // and 4 mean that no source has one, 1 that one has, and such a fault leaves the output untouched.
+    ensures strict { result ≡ 0 → AsksForHelp (map string_bytes words.items)
+        ⊎ IsSomeAnd (asked_plan (map string_bytes words.items)) (λ plan. ShowsSamples plan.form
+        → plan.is_strict ≡ true
+        → IfSome (known_sources plan (F.known_input files.old) (F.known_file files.old))
+        (λ sources. has_strict_fault plan.options sources ≡ false)) }
+    ensures strict_faulty { result ≡ 1 → IsSomeAnd (asked_plan (map string_bytes words.items)) (λ plan.
+        ShowsSamples plan.form → plan.is_strict ≡ true
+        → IfSome (known_sources plan (F.known_input files.old) (F.known_file files.old))
+        (λ sources. has_strict_fault plan.options sources ≡ true)) }
+    ensures strict_untouched { asked_faults (map string_bytes words.items) ≡ []
+        → IfSome (asked_plan (map string_bytes words.items)) (λ plan. ShowsSamples plan.form
+        → plan.is_strict ≡ true
+        → IfSome (known_sources plan (F.known_input files.old) (F.known_file files.old)) (λ sources.
+        has_strict_fault plan.options sources ≡ true → FailsUntouched result (W.contents out.old)
+        (W.contents out.new) (W.failures out.old) (W.failures out.new))) }
+    ensures strict_grown { result ≡ 4 → IsSomeAnd (asked_plan (map string_bytes words.items)) (λ plan.
+        ShowsSamples plan.form → plan.is_strict ≡ true
+        → IfSome (known_sources plan (F.known_input files.old) (F.known_file files.old))
+        (λ sources. has_strict_fault plan.options sources ≡ false)) }
+
+    // 4 is success too, of words that set a limit: the text that the plan asks for went out, and there are
+    // functions whose share of own weight grew by more than that. At 0 there is none.
+    ensures grown { result ≡ 4 → IsSomeAnd (asked_plan (map string_bytes words.items)) (λ plan.
+        IsSome (limit_of plan.view)
+        × IfSome (known_rests plan (F.known_input files.old) (F.known_file files.old)) (HasGrown plan)
+        × IfSome (known_rests plan (F.known_input files.old) (F.known_file files.old))
+        (Shows plan (known_facts plan (F.known_input files.old) (F.known_file files.old))
+        (W.contents out.old) (W.contents out.new))) }
+    ensures not_grown { result ≡ 0 → AsksForHelp (map string_bytes words.items)
+        ⊎ IsSomeAnd (asked_plan (map string_bytes words.items)) (λ plan.
+        IfSome (known_rests plan (F.known_input files.old) (F.known_file files.old)) (HasNotGrown plan)) }
+
     // The same of the sample types of a profile: 0 is their text, 1 is a fault of the profile before its
     // samples, and 3 leaves nothing or a part of the text from its front.
     ensures types { result ≡ 0 → AsksForHelp (map string_bytes words.items)
@@ -184,116 +217,13 @@ pub fn run<T: Threads + Wait + Copy + Send + 'static, F: Files, W: Outlet, E: Ou
         → FailsUntouched result (W.contents out.old) (W.contents out.new)
         (W.failures out.old) (W.failures out.new))) }
 {
+    let host = Host { rt, alloc };
     if words.is_empty() {
-        return run_plan(
-            rt,
-            alloc,
-            plan_without_words(alloc),
-            files,
-            out,
-            err,
-            words.as_slice(),
-        );
+        let plan = plan_without_words(alloc);
+        return run_plan(&host, plan, files, out, err, words.as_slice());
     }
     match plan(alloc, words.as_slice()) {
-        Ok(plan) => run_plan(rt, alloc, plan, files, out, err, words.as_slice()),
+        Ok(plan) => run_plan(&host, plan, files, out, err, words.as_slice()),
         Err(fault) => refuse(fault, out, err),
-    }
-}
-
-// Does what the plan says.
-fn run_plan<T: Threads + Wait + Copy + Send + 'static, F: Files, W: Outlet, E: Outlet>(
-    rt: &T,
-    alloc: Global,
-    plan: Plan,
-    files: &mut F,
-    out: &mut W,
-    err: &mut E,
-    words: &[String],
-) -> u8
-    requires pairs { IsComparison plan.view → length plan.files ≡ 2 }
-    requires every { IfSome plan.options.every (λ every. 1 ≤ every) }
-    requires profile { plan.form ≡ Form.Types → IsOfOneProfile plan }
-    ensures status { result ≤ 3 }
-    ensures shown { result ≡ 0
-        → IfSome (known_rests plan (F.known_input files.old) (F.known_file files.old))
-        (Shows plan (known_facts plan (F.known_input files.old) (F.known_file files.old))
-        (W.contents out.old) (W.contents out.new)) }
-    ensures faulty { result ≡ 1
-        → IfSome (known_rests plan (F.known_input files.old) (F.known_file files.old)) HasFault }
-    ensures many { result ≡ 2 → 64 < length plan.files }
-    ensures few { result ≢ 2 → length plan.files ≤ 64 }
-    ensures front { result ≡ 3 → Keeps (W.contents out.old) (W.contents out.new)
-        ⊎ IfSome (known_rests plan (F.known_input files.old) (F.known_file files.old))
-        (ShowsFront plan (known_facts plan (F.known_input files.old) (F.known_file files.old))
-        (W.contents out.old) (W.contents out.new)) }
-    ensures types { result ≡ 0 → plan.form ≡ Form.Types
-        → IfSome (known_profile plan (F.known_file files.old))
-        (ShowsTypes (W.contents out.old) (W.contents out.new)) }
-    ensures types_faulty { result ≡ 1 → plan.form ≡ Form.Types
-        → IfSome (known_profile plan (F.known_file files.old)) HasTableFault }
-    ensures types_front { result ≡ 3 → Keeps (W.contents out.old) (W.contents out.new)
-        ⊎ (plan.form ≡ Form.Types → IfSome (known_profile plan (F.known_file files.old))
-        (ShowsTypesFront (W.contents out.old) (W.contents out.new))) }
-    ensures untouched { ShowsSamples plan.form
-        → IfSome (known_rests plan (F.known_input files.old) (F.known_file files.old)) (λ rests.
-        HasFault rests → FailsUntouched result (W.contents out.old) (W.contents out.new)
-        (W.failures out.old) (W.failures out.new)) }
-    ensures types_untouched { plan.form ≡ Form.Types
-        → IfSome (known_profile plan (F.known_file files.old)) (λ profile. HasTableFault profile
-        → FailsUntouched result (W.contents out.old) (W.contents out.new)
-        (W.failures out.old) (W.failures out.new)) }
-    ensures unwritten { result ≡ 1 → Keeps (W.contents out.old) (W.contents out.new) }
-    ensures refused { result ≡ 2 → Keeps (W.contents out.old) (W.contents out.new) }
-    ensures flushed { result ≡ 0 → W.is_flushed out.new }
-    ensures unfailed { result ≢ 3 → W.failures out.new ≡ W.failures out.old }
-{
-    if plan.files.get().is_empty() && files.is_input_terminal() {
-        report_awaited_input(err, plan.format.unwrap_or(Format::Folded));
-    }
-    let shown = show_plan(rt, alloc, &plan, files, out, err, words);
-    let advice = Advice::new(words, files.is_error_terminal());
-    end_run(alloc, err, advice, plan.files.get(), shown)
-}
-
-// Shows the samples of the sources, or the sample types of the one profile.
-fn show_plan<T: Threads + Wait + Copy + Send + 'static, F: Files, W: Outlet, E: Outlet>(
-    rt: &T,
-    alloc: Global,
-    plan: &Plan,
-    files: &mut F,
-    out: &mut W,
-    err: &mut E,
-    words: &[String],
-) -> Result<(), Failure>
-    requires pairs { IsComparison plan.now.view → length plan.now.files ≡ 2 }
-    requires every { IfSome plan.now.options.every (λ every. 1 ≤ every) }
-    requires profile { plan.now.form ≡ Form.Types → IsOfOneProfile plan.now }
-    ensures ok { OnOk result
-        (IfSome (known_rests plan.now (F.known_input files.old) (F.known_file files.old))
-        (Shows plan.now (known_facts plan.now (F.known_input files.old) (F.known_file files.old))
-        (W.contents out.old) (W.contents out.new))) }
-    ensures err { IfErr result (λ failure.
-        IfSome (known_rests plan.now (F.known_input files.old) (F.known_file files.old))
-        (Fails plan.now (known_facts plan.now (F.known_input files.old) (F.known_file files.old))
-        (W.contents out.old) (W.contents out.new) failure)) }
-    ensures types { OnOk result (plan.now.form ≡ Form.Types
-        → IfSome (known_profile plan.now (F.known_file files.old))
-        (ShowsTypes (W.contents out.old) (W.contents out.new))) }
-    ensures types_err { IfErr result (λ failure. plan.now.form ≡ Form.Types
-        → IfSome (known_profile plan.now (F.known_file files.old))
-        (FailsTypes (W.contents out.old) (W.contents out.new) failure)) }
-    ensures kept { IfErr result (λ failure.
-        KeepsOutput (W.contents out.old) (W.contents out.new) failure) }
-    ensures many { IsErrOf result Failure.TooManyFiles → 64 < length plan.now.files }
-    ensures few { result ≢ Err Failure.TooManyFiles → length plan.now.files ≤ 64 }
-    ensures flushed { Flushes (W.is_flushed out.new) (W.failures out.old) (W.failures out.new)
-        result }
-{
-    match plan.form {
-        Form::Types => show_types(alloc, plan, files, out, err, words),
-        Form::Text | Form::Page(_) | Form::Picture(_) | Form::Callers(_) | Form::Callees(_) => {
-            show_views(rt, alloc, plan, files, out, err, words)
-        }
     }
 }

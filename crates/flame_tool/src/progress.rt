@@ -1,13 +1,15 @@
 //! How far the reading of sources is: on a terminal, a line that is written over while samples arrive. A failure to write it
 //! changes nothing.
 
-ghost use Rattle.std.specs.Prelude.{◌≡◌};
+ghost use Rattle.std.specs.Prelude.{◌≡◌, ◌==◌, length, not};
 
 use crate::advice::{Advice, trouble_with};
+use crate::next_steps::Trouble;
 use byte_io::{Outlet, send};
 use itoa::Buffer;
-use opened_sources::{path_of, report_ending};
+use opened_sources::{path_of, report_ending, report_strict_fault};
 use run_options::Filter;
+use source_lists::StrictFault;
 use stack_core::{Ledger, NoSink, RowSink, SourceList};
 use std::alloc::{AllocError, Global};
 
@@ -65,6 +67,32 @@ impl<'a, E: Outlet> Progress<'a, E> {
                 advice.tell(alloc, self.err, self.files, source, trouble);
             }
         }
+    }
+
+    /// Says of each source, in order, what is wrong with it where it is read strictly, if anything is, and what to do then.
+    pub(crate) fn report_strict_faults(&mut self, alloc: Global, faults: &[Option<StrictFault>]) {
+        self.clear();
+        let advice = Advice::new(self.words, self.is_told);
+        for (source, fault) in faults.iter().enumerate() {
+            if let Some(fault) = fault {
+                report_strict_fault(self.err, self.files, source, fault);
+                let trouble = Trouble::Strict(fault.kind);
+                advice.tell(alloc, self.err, self.files, source, trouble);
+            }
+        }
+    }
+
+    /// Says which functions grew, by a line that is empty where there is none, and whether there is one. The line of progress is
+    /// cleared before.
+    pub(crate) fn report_growth(&mut self, line: &[u8]) -> bool
+        ensures { result ≡ not (length line.now == 0) }
+    {
+        if line.is_empty() {
+            return false;
+        }
+        self.clear();
+        let _ = send(line, self.err);
+        true
     }
 
     /// Counts a sample, and tells how many there are now and then.

@@ -1,5 +1,5 @@
 //! The sample types of a profile, shown in place of its samples.
-ghost use Rattle.std.specs.Prelude.{◌≡◌, IfErr, IfSome, IsErrOf, OnOk, length};
+ghost use Rattle.std.specs.Prelude.{◌≡◌, false, IfErr, IfOk, IfSome, IsErrOf, OnOk, length};
 ghost use Rattle.view_texts.specs.Types.{types_text};
 ghost use Rattle.flame_tool.specs.TypeRuns.{known_profile, ShowsTypes};
 ghost use Rattle.flame_tool.specs.checked.Failures.{KeepsOutput};
@@ -17,7 +17,7 @@ use stack_core::SourceEnd;
 use std::alloc::Global;
 use view_texts::TypesText;
 
-// Shows the sample types of the one profile of a plan. No sample of it is read.
+// Shows the sample types of the one profile of a plan. No sample of it is read, so no function grew.
 pub(crate) fn show_types<F: Files, W: Outlet, E: Outlet>(
     alloc: Global,
     plan: &Plan,
@@ -25,7 +25,7 @@ pub(crate) fn show_types<F: Files, W: Outlet, E: Outlet>(
     out: &mut W,
     err: &mut E,
     words: &[String],
-) -> Result<(), Failure>
+) -> Result<bool, Failure>
     requires one { length plan.now.files ≡ 1 }
     ensures ok { OnOk result (IfSome (known_profile plan.now (F.known_file files.old))
         (ShowsTypes (W.contents out.old) (W.contents out.new))) }
@@ -34,6 +34,7 @@ pub(crate) fn show_types<F: Files, W: Outlet, E: Outlet>(
         (FailsTypes (W.contents out.old) (W.contents out.new) failure)) }
     ensures kept { IfErr result (λ failure.
         KeepsOutput (W.contents out.old) (W.contents out.new) failure) }
+    ensures none { IfOk result (λ is_over. is_over ≡ false) }
     ensures few { IsErrOf result Failure.TooManyFiles → ⊥ }
     ensures flushed { Flushes (W.is_flushed out.new) (W.failures out.old) (W.failures out.new)
         result }
@@ -52,12 +53,13 @@ fn show_types_of<W: Outlet, E: Outlet>(
     out: &mut W,
     err: &mut E,
     advice: Advice<'_>,
-) -> Result<(), Failure>
+) -> Result<bool, Failure>
     ensures ok { OnOk result (ShowsTypes (W.contents out.old) (W.contents out.new) profile.now) }
     ensures err { IfErr result (λ failure.
         FailsTypes (W.contents out.old) (W.contents out.new) failure profile.now) }
     ensures kept { IfErr result (λ failure.
         KeepsOutput (W.contents out.old) (W.contents out.new) failure) }
+    ensures none { IfOk result (λ is_over. is_over ≡ false) }
     ensures few { IsErrOf result Failure.TooManyFiles → ⊥ }
     ensures flushed { Flushes (W.is_flushed out.new) (W.failures out.old) (W.failures out.new)
         result }
@@ -73,10 +75,12 @@ fn show_types_of<W: Outlet, E: Outlet>(
     }
 }
 
-fn send_types<W: Outlet>(alloc: Global, types: &SampleTypes, out: &mut W) -> Result<(), Failure>
+fn send_types<W: Outlet>(alloc: Global, types: &SampleTypes, out: &mut W) -> Result<bool, Failure>
+    ensures none { IfOk result (λ is_over. is_over ≡ false) }
     ensures sent { Sends (types_text types.now) (W.contents out.old) (W.contents out.new) result }
     ensures flushed { Flushes (W.is_flushed out.new) (W.failures out.old) (W.failures out.new)
         result }
 {
-    send_text(alloc, &TypesText::of(types), out)
+    send_text(alloc, &TypesText::of(types), out)?;
+    Ok(false)
 }

@@ -1,18 +1,24 @@
 //! The samples of the sources of a plan, collected and shown.
-ghost use Rattle.std.specs.Prelude.{◌≡◌, ◌≢◌, ◌≤◌, ◌<◌, ℕ, List, Option, false, IfOk, IfSome, IfErr, IsErrOf, IsNone, OnOk, length, true};
+ghost use Rattle.std.specs.Prelude.{◌≡◌, ◌≢◌, ◌≤◌, ◌<◌, ℕ, List, Option, false, IfOk, IfSome, IfErr, IsErrOf, MatchResult, OnOk, is_some, length, not, true, ◌==◌, IsSome};
+ghost use Rattle.std.specs.List.{list_any};
 ghost use Rattle.std.specs.Io.KnownBytes.{Appends};
 ghost use Rattle.merged_stacks.specs.Timeline.{samples_of};
-ghost use Rattle.command_line.specs.Plans.{IsComparison};
+ghost use Rattle.command_line.specs.Plans.{IsComparison, limit_of};
+ghost use Rattle.ring_collect.specs.Collection.{AreWhole};
+ghost use Rattle.source_lists.specs.Sources.{asked_rests};
 ghost use Rattle.source_lists.specs.Types.{types_of};
 ghost use Rattle.flame_tool.specs.KnownFacts.{known_facts};
 ghost use Rattle.flame_tool.specs.Requests.{known_rests};
 ghost use Rattle.sent_views.specs.Pages.{shown_text};
-ghost use Rattle.flame_tool.specs.Runs.{Shows};
+ghost use Rattle.flame_tool.specs.Runs.{Shows, ShowsSamples};
+ghost use Rattle.flame_tool.specs.StrictRuns.{has_strict_fault, known_sources};
 ghost use Rattle.opened_sources.specs.Opening.{AreLoaded};
-ghost use Rattle.flame_tool.specs.checked.Failures.{Fails, FailsToShow, KeepsOutput};
+ghost use Rattle.flame_tool.specs.checked.Failures.{Fails, FailsStrictly, FailsToShow, KeepsOutput, TellsGrowth};
+ghost use Rattle.source_views.specs.Texts.{growth_line};
 ghost use Rattle.flame_tool.specs.checked.Telling.{form_tells, view_tells};
-ghost use Rattle.opened_sources.specs.Failures.{has_fault, Flushes};
+ghost use Rattle.opened_sources.specs.Failures.{has_fault, Flushes, Sends};
 
+use crate::hosts::Host;
 use crate::progress::Progress;
 use byte_io::{Files, Outlet};
 use command_line::{Form, Plan, View};
@@ -23,23 +29,22 @@ use sent_views::{
     AskedCalls, AskedPicture, RunFacts, send_asked_calls, send_asked_page, send_asked_picture,
     send_asked_view,
 };
-use source_lists::{Gating, Input, SourceLists, chosen_types, read};
-use source_views::InThreads;
-use stack_core::{Listed, OpenGate};
+use source_lists::{Gating, Input, SourceLists, StrictFault, chosen_types, read, strict_faults};
+use source_views::{InThreads, growth_line};
+use stack_core::{Listed, OpenGate, SourceList};
 use std::alloc::{AllocError, Global};
 use std::sync::Wait;
 use std::thread::Threads;
 
 // Reads the sources, and shows them.
 pub(crate) fn show_views<T: Threads + Wait + Copy + Send + 'static, F: Files, W: Outlet, E: Outlet>(
-    rt: &T,
-    alloc: Global,
+    host: &Host<'_, T>,
     plan: &Plan,
     files: &mut F,
     out: &mut W,
     err: &mut E,
     words: &[String],
-) -> Result<(), Failure>
+) -> Result<bool, Failure>
     requires pairs { IsComparison plan.now.view → length plan.now.files ≡ 2 }
     requires every { IfSome plan.now.options.every (λ every. 1 ≤ every) }
     ensures ok { OnOk result
@@ -50,31 +55,40 @@ pub(crate) fn show_views<T: Threads + Wait + Copy + Send + 'static, F: Files, W:
         IfSome (known_rests plan.now (F.known_input files.old) (F.known_file files.old))
         (Fails plan.now (known_facts plan.now (F.known_input files.old) (F.known_file files.old))
         (W.contents out.old) (W.contents out.new) failure)) }
+    ensures strict { ShowsSamples plan.now.form → plan.now.is_strict ≡ true → OnOk result
+        (IfSome (known_sources plan.now (F.known_input files.old) (F.known_file files.old))
+        (λ sources. has_strict_fault plan.now.options sources ≡ false)) }
+    ensures strict_err { ShowsSamples plan.now.form → plan.now.is_strict ≡ true → IfErr result (λ failure.
+        IfSome (known_sources plan.now (F.known_input files.old) (F.known_file files.old))
+        (λ sources. FailsStrictly (has_strict_fault plan.now.options sources) failure)) }
     ensures kept { IfErr result (λ failure.
         KeepsOutput (W.contents out.old) (W.contents out.new) failure) }
+    ensures grown { IfOk result (λ is_over.
+        IfSome (known_rests plan.now (F.known_input files.old) (F.known_file files.old))
+        (TellsGrowth is_over plan.now)) }
+    ensures limit { IfOk result (λ is_over. is_over ≡ true → IsSome (limit_of plan.now.view)) }
     ensures many { IsErrOf result Failure.TooManyFiles → 64 < length plan.now.files }
     ensures few { result ≢ Err Failure.TooManyFiles → length plan.now.files ≤ 64 }
     ensures flushed { Flushes (W.is_flushed out.new) (W.failures out.old) (W.failures out.new)
         result }
 {
-    let inputs = load_sources(alloc, files, plan.files.get(), plan.format)?;
+    let inputs = load_sources(host.alloc, files, plan.files.get(), plan.format)?;
     let is_terminal = files.is_error_terminal();
     let is_shown = !plan.is_quiet && is_terminal;
     let mut progress = Progress::new(err, plan.files.get(), is_shown, words, is_terminal);
-    let shown = show_sources(rt, alloc, plan, inputs, out, &mut progress);
+    let shown = show_sources(host, plan, inputs, out, &mut progress);
     progress.clear();
     shown
 }
 
-// Collects the samples of sources, and sends the view of them.
+// Collects the samples of sources, sends the view of them, and says which functions grew over the plan's limit, and whether some did.
 fn show_sources<T: Threads + Wait + Copy + Send + 'static, W: Outlet, E: Outlet>(
-    rt: &T,
-    alloc: Global,
+    host: &Host<'_, T>,
     plan: &Plan,
     inputs: Vec<Input>,
     out: &mut W,
     progress: &mut Progress<'_, E>,
-) -> Result<(), Failure>
+) -> Result<bool, Failure>
     requires few { length inputs.items ≤ 64 }
     requires pairs { IsComparison plan.now.view → length inputs.items ≡ 2 }
     requires every { IfSome plan.now.options.every (λ every. 1 ≤ every) }
@@ -89,14 +103,25 @@ fn show_sources<T: Threads + Wait + Copy + Send + 'static, W: Outlet, E: Outlet>
         (Fails plan.now (known_facts plan.now input files) (W.contents out.old) (W.contents out.new) failure)) }
     ensures kept { IfErr result (λ failure.
         KeepsOutput (W.contents out.old) (W.contents out.new) failure) }
+    ensures strict { plan.now.is_strict ≡ true → MatchResult result
+        (λ _. has_strict_fault plan.now.options inputs.items ≡ false)
+        (FailsStrictly (has_strict_fault plan.now.options inputs.items)) }
+    ensures grown { (input : Option (List ℕ)) (files : List ℕ → Option (List ℕ))
+        → AreLoaded plan.now.format input files plan.now.files inputs.items
+        → IfOk result (λ is_over. IfSome (known_rests plan.now input files) (TellsGrowth is_over plan.now)) }
+    ensures limit { IfOk result (λ is_over. is_over ≡ true → IsSome (limit_of plan.now.view)) }
     ensures few_files { IsErrOf result Failure.TooManyFiles → ⊥ }
     ensures flushed { Flushes (W.is_flushed out.new) (W.failures out.old) (W.failures out.new)
         result }
 {
+    let (rt, alloc) = (host.rt, host.alloc);
     let types = told_types(alloc, plan, &inputs)?;
+    let kept = kept_inputs(alloc, plan, &inputs)?;
     let gating = Gating::<OpenGate>::Open;
     let run = read(rt, alloc, inputs, &plan.options, gating, progress)?;
-    progress.report_endings(alloc, run.kept.lists(), &plan.options.filter);
+    if !report_sources(alloc, plan, kept, run.kept.lists(), progress)? {
+        return Err(Failure::Faults);
+    }
     let Some(whole) = run.whole_weight else {
         unreachable!()
     };
@@ -105,7 +130,54 @@ fn show_sources<T: Threads + Wait + Copy + Send + 'static, W: Outlet, E: Outlet>
         types: Listed::of(types),
     };
     let shown = run.kept.beginning_at(alloc, &plan.from)?;
-    send_lists(rt, alloc, shown, plan, &facts, out)
+    send_lists(host, shown, plan, &facts, out, progress)
+}
+
+// The sources, to be looked at again where they are read strictly.
+fn kept_inputs(alloc: Global, plan: &Plan, inputs: &[Input]) -> Result<Vec<Input>, AllocError>
+    ensures { IfOk result (λ kept. plan.now.is_strict ≡ true → kept.items ≡ inputs.now) }
+{
+    if plan.is_strict {
+        Input::share_all(alloc, inputs)
+    } else {
+        Ok(Vec::new(alloc))
+    }
+}
+
+// Says how the sources ended, or what is wrong with them where they are read strictly. It answers whether they may be shown as far as that
+// goes.
+fn report_sources<E: Outlet>(
+    alloc: Global,
+    plan: &Plan,
+    kept: Vec<Input>,
+    lists: &[SourceList],
+    progress: &mut Progress<'_, E>,
+) -> Result<bool, AllocError>
+    ensures loose { plan.now.is_strict ≡ false → IfOk result (λ sound. sound ≡ true) }
+    ensures strict { plan.now.is_strict ≡ true
+        → AreWhole (asked_rests plan.now.options kept.items) lists.now
+        → IfOk result (λ sound. sound ≡ not (has_strict_fault plan.now.options kept.items)) }
+{
+    if plan.is_strict {
+        let faults = strict_faults(alloc, &kept, lists)?;
+        progress.report_strict_faults(alloc, &faults);
+        Ok(!any_is_told(&faults))
+    } else {
+        progress.report_endings(alloc, lists, &plan.options.filter);
+        Ok(true)
+    }
+}
+
+fn any_is_told(faults: &[Option<StrictFault>]) -> bool
+    ensures { result ≡ list_any is_some faults.now }
+{
+    faults.iter().any(|fault| is_told(fault))
+}
+
+fn is_told(fault: &Option<StrictFault>) -> bool
+    ensures { result ≡ is_some fault.now }
+{
+    fault.is_some()
 }
 
 // The sample types of the weights of sources, where what is written tells them.
@@ -138,15 +210,16 @@ fn view_tells(view: View) -> bool
     }
 }
 
-// Sends what a plan asks for of the lists of a run, unless a source has a fault.
-fn send_lists<T: Threads, W: Outlet>(
-    rt: &T,
-    alloc: Global,
+// Sends what a plan asks for of the lists of a run, unless a source has a fault, and says which functions grew over the plan's limit,
+// and whether some did.
+fn send_lists<T: Threads, W: Outlet, E: Outlet>(
+    host: &Host<'_, T>,
     run: SourceLists,
     plan: &Plan,
     facts: &RunFacts,
     out: &mut W,
-) -> Result<(), Failure>
+    progress: &mut Progress<'_, E>,
+) -> Result<bool, Failure>
     requires pairs { IsComparison plan.now.view → length run.lists ≡ 2 }
     requires every { IfSome plan.now.options.every (λ every. 1 ≤ every) }
     ensures faulty { has_fault run.lists ≡ true → result ≡ Err Failure.Faults }
@@ -156,12 +229,35 @@ fn send_lists<T: Threads, W: Outlet>(
     ensures err { IfErr result (FailsToShow run.lists
         (shown_text plan.now facts.now (samples_of run.lists) run.order plan.now.options.every)
         (W.contents out.old) (W.contents out.new)) }
+    ensures growth { IfOk result (λ is_over.
+        is_over ≡ not (length (growth_line plan.now.view (samples_of run.lists)) == 0)) }
     ensures flushed { Flushes (W.is_flushed out.new) (W.failures out.old) (W.failures out.new)
         result }
 {
     if any_fault(run.lists()) {
         return Err(Failure::Faults);
     }
+    let line = growth_line(host.alloc, &run, plan.view)?;
+    send_form(host.rt, host.alloc, run, plan, facts, out)?;
+    Ok(progress.report_growth(&line))
+}
+
+// Sends what a plan asks for of the lists of a run.
+fn send_form<T: Threads, W: Outlet>(
+    rt: &T,
+    alloc: Global,
+    run: SourceLists,
+    plan: &Plan,
+    facts: &RunFacts,
+    out: &mut W,
+) -> Result<(), Failure>
+    requires pairs { IsComparison plan.now.view → length run.lists ≡ 2 }
+    requires every { IfSome plan.now.options.every (λ every. 1 ≤ every) }
+    ensures sent { Sends (shown_text plan.now facts.now (samples_of run.lists) run.order plan.now.options.every)
+        (W.contents out.old) (W.contents out.new) result }
+    ensures flushed { Flushes (W.is_flushed out.new) (W.failures out.old) (W.failures out.new)
+        result }
+{
     let workers = InThreads { rt };
     match &plan.form {
         Form::Text | Form::Types => send_asked_view(&workers, alloc, &run, plan, facts, out),

@@ -1,22 +1,30 @@
 //! Draws flame graphs and flame charts of recorded stack samples, and merges and compares them: reads pprof
-//! profiles and folded stacks, and writes text and JSON on standard output.
+//! profiles and folded stacks, and writes text, JSON, pages and pictures.
 #![tactic(auto)]
 
-use flame_tool::{CountedWriter, MachineFiles, run};
-use std::env;
-use std::io::ErrorKind;
+use flame_tool::{
+    CountedWriter, Destination, Files, MachineFiles, OutputFile, asked_destination, run,
+};
+use std::alloc::{Alloc, Global};
+use std::fs::File;
+use std::io::{ErrorKind, IsTerminal, Write};
 use std::process::ExitCode;
+use std::sync::Wait;
+use std::thread::Threads;
+use std::{env, rt};
+
+/// What is said where an output file can't be made, or can't take its place, as `run` says it of an output that fails.
+const FAILED: &str = "flamecollect: output failed\n";
+
+/// What is said in place of a page or a picture.
+const ON_A_TERMINAL: &str =
+    "flamecollect: a page or a picture is not for a terminal: -o FILE writes it to a file\n";
 
 fn main(rt: HostRuntime) -> ExitCode {
     let alloc = rt.alloc();
     let words = env::args(&rt).and_then(|args| Ok(args.skip(1).collect::<Vec<String>>(alloc)?));
     let status = match words {
-        Ok(words) => {
-            let mut files = MachineFiles::beside(&rt, &rt.stderr());
-            let mut out = CountedWriter::new(rt.stdout());
-            let mut err = CountedWriter::new(rt.stderr());
-            run(&rt, alloc, words, &mut files, &mut out, &mut err)
-        }
+        Ok(words) => run_words(&rt, words, rt.stdout(), rt.stderr()),
         Err(error) => match error.kind() {
             ErrorKind::OutOfMemory => {
                 let _ = eprintln!(rt; "flamecollect: out of memory");
@@ -30,4 +38,62 @@ fn main(rt: HostRuntime) -> ExitCode {
         },
     };
     ExitCode::from(status)
+}
+
+/// Runs the program where the words want it to write: to standard output, or to a file.
+fn run_words<T, W: Write + IsTerminal + Drop, E: Write + IsTerminal + Drop>(
+    rt: &T,
+    words: Vec<String>,
+    out: W,
+    err: E,
+) -> u8
+where
+    T: rt::Files<File = File> + Alloc<A = Global> + Input + Threads + Wait + Copy + Send + 'static,
+    T::Reader: IsTerminal,
+{
+    let alloc = rt.alloc();
+    let mut files = MachineFiles::beside(rt, &err);
+    match asked_destination(alloc, words.as_slice()) {
+        Ok(Destination::File(path)) => run_into_file(rt, words, path.get(), &mut files, err),
+        Ok(Destination::Standard { is_document: true }) if out.is_terminal() => {
+            let mut err = err;
+            let _ = err.write_all(ON_A_TERMINAL.as_bytes());
+            2
+        }
+        _ => {
+            let mut out = CountedWriter::new(out);
+            let mut err = CountedWriter::new(err);
+            run(rt, alloc, words, &mut files, &mut out, &mut err)
+        }
+    }
+}
+
+/// Runs the program, whose output is kept in the file of this path only where it is whole.
+fn run_into_file<T, F: Files, E: Write + Drop>(
+    rt: &T,
+    words: Vec<String>,
+    path: &str,
+    files: &mut F,
+    err: E,
+) -> u8
+where
+    T: rt::Files<File = File> + Alloc<A = Global> + Threads + Wait + Copy + Send + 'static,
+{
+    let mut err = err;
+    let Ok(mut output) = OutputFile::create(rt, path) else {
+        let _ = err.write_all(FAILED.as_bytes());
+        return 3;
+    };
+    let mut err = CountedWriter::new(err);
+    let status = run(rt, rt.alloc(), words, files, output.outlet(), &mut err);
+    // What comes with 4 is whole, too.
+    if !matches!(status, 0 | 4) {
+        output.discard();
+        return status;
+    }
+    if output.keep().is_err() {
+        let _ = err.into_inner().write_all(FAILED.as_bytes());
+        return 3;
+    }
+    status
 }

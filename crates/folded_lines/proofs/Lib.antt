@@ -18,8 +18,10 @@ pub mod ReadLemmas
 pub mod RowLemmas
 pub mod ScanLemmas
 pub mod SplitLemmas
+pub mod StrictLemmas
 pub mod TextLemmas
 pub mod ToldHeads
 pub mod UnstoppedLemmas
 pub mod WorkedExamples
 pub mod WorkedParts
+pub mod WorkedStrictness

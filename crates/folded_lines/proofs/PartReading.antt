@@ -16,6 +16,7 @@ use Rattle.folded_lines.specs.Line.{Line}
 use Rattle.folded_lines.specs.Line.{Ignored, Fault, Sample}
 use Rattle.folded_lines.specs.Lines.{text_lines, read_line}
 use Rattle.folded_lines.specs.Reading.{samples_of, is_ignored, total_weight, fault_after, whole, cut_short, read_after, begins_compressed, read_folded}
+use Rattle.folded_lines.specs.checked.Strictness.{lines_in}
 use Rattle.folded_lines.specs.TextParts.{IsWholeLines, AreCutAtLines, IsFaultless, samples_of_parts, ReadsAsParts}
 use Rattle.folded_lines.proofs.BackLemmas.{last-append}
 use Rattle.folded_lines.proofs.LossyLemmas.{All-parts}
@@ -23,7 +24,7 @@ use Rattle.folded_lines.proofs.ReadLemmas.{after_fault, samples_of-append, sampl
 
 -- ---- lines that are all read
 
-abbrev IsFine : Line → Type 0
+abbrev pub IsFine : Line → Type 0
 IsFine Ignored = Unit {0}
 IsFine (Fault kind) = ⊥
 IsFine (Sample sample) = Unit {0}
@@ -75,21 +76,18 @@ read_fine n (line ∷ lines) before fits clean = read_line_fine n before line li
 
 -- ---- texts that are all read
 
-abbrev lines_in : List ℕ → List Line
-lines_in text = map read_line (text_lines text)
+pub record IsFineText (text : List ℕ) : Type 0 where
+  pub plain : begins_compressed text ≡ false
+  pub lines : All IsFine (lines_in text)
+  pub total : total_weight (samples_of (lines_in text)) ≤ WEIGHT_LIMIT
 
-record IsFineText (text : List ℕ) : Type 0 where
-  plain : begins_compressed text ≡ false
-  lines : All IsFine (lines_in text)
-  total : total_weight (samples_of (lines_in text)) ≤ WEIGHT_LIMIT
-
-fine_text : (text : List ℕ) → IsFineText text → read_folded text ≡ whole (lines_in text)
+pub fine_text : (text : List ℕ) → IsFineText text → read_folded text ≡ whole (lines_in text)
 fine_text text fine = cond-false _ _ _ fine.plain ∙ fine_read (lines_in text) [] fine.lines fine.total
 
 faultless_from : (text : List ℕ) → IsFineText text → IsFaultless text
 faultless_from text fine = (count_by is_ignored (lines_in text), ap (λ rest. rest.ending) (fine_text text fine))
 
-fine_from : (text : List ℕ) → IsFaultless text → IsFineText text
+pub fine_from : (text : List ℕ) → IsFaultless text → IsFineText text
 fine_from text faultless = by (begins_compressed text) refl faultless.1
   where
     by : (t : Bool) → begins_compressed text ≡ t → (cond t (cut_short [] Compressed) (read_after [] (lines_in text))).ending ≡ ends.Clean faultless.0 → IsFineText text
@@ -127,7 +125,7 @@ plain_front (b ∷ c ∷ one) other ends both = both
 abbrev IsPlainFront : List ℕ → Type 0
 IsPlainFront part = begins_compressed part ≡ false
 
-lines_joined : (parts : List (List ℕ)) → AreCutAtLines parts → lines_in (concat parts) ≡ flat_map lines_in parts
+pub lines_joined : (parts : List (List ℕ)) → AreCutAtLines parts → lines_in (concat parts) ≡ flat_map lines_in parts
 lines_joined [] cut = ap (λ lines. map read_line (map without_terminator lines)) lines-nil
 lines_joined (part ∷ []) cut = ap lines_in (append-nil part) ∙ sym (append-nil (lines_in part))
 lines_joined (part ∷ next ∷ parts) cut =

@@ -3,5 +3,6 @@ pub mod Cutting
 pub mod Pieces
 pub mod RowLines
 pub mod Scanning
+pub mod Strictness
 pub mod Telling
 pub mod View

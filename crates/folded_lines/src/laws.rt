@@ -1,15 +1,16 @@
 //! What holds of the definitions.
 
-ghost use Rattle.std.specs.Prelude.{◌≡◌, ◌≤◌, ◌++◌, ◌∷◌, [], ℕ, false, List, All, sum_by};
+ghost use Rattle.std.specs.Prelude.{◌≡◌, ◌≢◌, ◌≤◌, ◌++◌, ◌∷◌, [], ℕ, None, false, List, All, sum_by};
 ghost use Rattle.std.specs.List.{concat};
 ghost use Rattle.sample_tables.specs.Samples.{total_weight};
 ghost use Rattle.sample_tables.specs.declared.samples.TheConstants.{WEIGHT_LIMIT};
 ghost use Rattle.sample_tables.specs.declared.samples.Sample.{Sample};
 ghost use Rattle.stack_core.specs.declared.endings.SourceEnd.TheVariants as ends;
 ghost use Rattle.folded_lines.specs.LastNames.{last_ends_in_number, is_open};
-ghost use Rattle.folded_lines.specs.Lines.{text_lines};
-ghost use Rattle.folded_lines.specs.Reading.{begins_compressed, read_folded};
+ghost use Rattle.folded_lines.specs.Lines.{read_line, text_lines};
+ghost use Rattle.folded_lines.specs.Reading.{begins_compressed, is_ignored, read_folded};
 ghost use Rattle.folded_lines.specs.ReadingBack.{IsPlain, text_of};
+ghost use Rattle.folded_lines.specs.StrictReading.{fault_of_ending, strict_fault};
 ghost use Rattle.folded_lines.specs.TextParts.{IsWholeLines, AreCutAtLines, IsFaultless, samples_of_parts, ReadsAsParts};
 
 /// Text of written lines reads back as the same samples, with none ignored, where no name holds `;` or
@@ -42,4 +43,14 @@ pub fn text_reads_as_its_parts()
     ensures parts { (parts : List (List ℕ)) → AreCutAtLines parts → All IsFaultless parts
         → total_weight (samples_of_parts parts) ≤ WEIGHT_LIMIT
         → ReadsAsParts (concat parts) parts }
+{}
+
+/// Text that has no fault where it is read strictly has a sample, and no line of it is ignored. Text that is not empty, of which no line
+/// is ignored, reads strictly as it does otherwise: to the same fault, or to none.
+pub fn strict_text_reads_the_same()
+    ensures accepted { (bytes : List ℕ) → strict_fault bytes ≡ None
+        → ((read_folded bytes).samples ≢ []) × ((read_folded bytes).ending ≡ ends.Clean 0) }
+    ensures same { (bytes : List ℕ) → bytes ≢ []
+        → All (λ line. is_ignored (read_line line) ≡ false) (text_lines bytes)
+        → strict_fault bytes ≡ fault_of_ending (read_folded bytes).ending }
 {}

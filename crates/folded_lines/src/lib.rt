@@ -13,10 +13,12 @@ mod reader;
 mod row_lines;
 mod row_steps;
 mod rows;
+mod strictness;
 mod telling;
 mod writing;
 
 pub use parts::cut_pieces;
 pub use reader::FoldedReader;
 pub use rows::FoldedRows;
+pub use strictness::{StrictFault, StrictKind, strict_fault};
 pub use writing::{append_line, append_pair_line};

@@ -1,8 +1,10 @@
 //! Folded text, read line by line, by rows of numbers.
 
-ghost use Rattle.std.specs.Prelude.{◌≡◌, ◌≢◌, ℕ, [], IsTrue};
+ghost use Rattle.std.specs.Prelude.{◌≡◌, ◌≢◌, ◌<◌, ◌^◌, ℕ, [], length, IfOk, OnErr, IsOk, IsTrue, refl};
 ghost use Rattle.stack_core.specs.Parts.{bytes_of};
+ghost use Rattle.stack_core.specs.Prefixes.{IsPrefixOf};
 ghost use Rattle.stack_core.specs.Reading.{IsSourceLimited};
+ghost use Rattle.stack_core.specs.RowReading.{StepsByRows, IsLastStep, IsLimitedStep};
 ghost use Rattle.stack_core.specs.declared.endings.SourceEnd.TheVariants.{Stopped};
 ghost use Rattle.folded_lines.specs.Reading.{read_folded, begins_compressed};
 
@@ -10,7 +12,7 @@ use crate::cursor::Cursor;
 use crate::row_steps::next_row_step;
 use crate::telling::Telling;
 use bytes::Bytes;
-use stack_core::{ReadFault, ReadKind, RowReader, RowStep, SourceBytes, SourceEnd};
+use stack_core::{KnownRows, ReadFault, ReadKind, RowReader, RowStep, SourceBytes, SourceEnd};
 use std::alloc::{AllocError, Global};
 use std::marker::Model;
 
@@ -87,16 +89,19 @@ impl FoldedRows {
             telling,
         }
     }
-}
 
-impl RowReader for FoldedRows {
-    ghost rest = { λ reader. reader.rest };
-
-    ghost told = { λ reader. reader.told };
-
-    ghost has_ended = { λ reader. IsTrue reader.has_ended };
-
-    fn next_row(&mut self, alloc: Global) -> Result<RowStep, AllocError> {
+    /// The next step. Contracts see the one rest that the reader gives.
+    fn next_step(&mut self, alloc: Global) -> Result<RowStep, AllocError>
+        ensures step { IfOk result (λ step. StepsByRows self.old.told self.old.rest step
+            self.new.told self.new.rest) }
+        ensures limits { IfOk result IsLimitedStep }
+        ensures refused { OnErr result (self.new.rest ≡ self.old.rest) }
+        ensures stacks { OnErr result (self.new.told.stacks ≡ self.old.told.stacks) }
+        ensures names { OnErr result (IsPrefixOf self.old.told.names self.new.told.names) }
+        ensures few { length self.old.rest.samples < 2 ^ 64 }
+        ensures ended { IfOk result (λ step. IsLastStep step → IsTrue self.new.has_ended) }
+        ensures repeats { IsTrue self.old.has_ended → IsOk result }
+    {
         if let Some(ending) = self.ended {
             return Ok(RowStep::End(ending));
         }
@@ -108,8 +113,28 @@ impl RowReader for FoldedRows {
         }
         Ok(step)
     }
+}
+
+impl RowReader for FoldedRows {
+    ghost gives = { λ reader rest. rest ≡ reader.rest };
+
+    ghost told = { λ reader. reader.told };
+
+    ghost has_ended = { λ reader. IsTrue reader.has_ended };
+
+    fn next_row(&mut self, alloc: Global) -> Result<RowStep, AllocError> {
+        self.next_step(alloc)
+    }
 
     fn name(&self, number: usize) -> Option<&str> {
         self.telling.name(number)
     }
+}
+
+impl KnownRows for FoldedRows {
+    ghost rest = { λ reader. reader.rest };
+
+    ghost gives_rest = { λ reader. refl };
+
+    ghost gives_no_other = { λ reader other is. is };
 }

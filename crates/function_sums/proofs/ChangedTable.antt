@@ -17,6 +17,7 @@ use Rattle.std.proofs.lemmas.List.Kept.{Any-dedup, Contains-from_dedup, IsStrict
 use Rattle.std.proofs.lemmas.List.Sorted.{All-permutation, Contains-permutation, IsPermutation-sym}
 use Rattle.std.proofs.lemmas.Slice.Eq.{bytes_eq-Decides}
 use Rattle.sample_tables.specs.declared.samples.Sample.{Sample}
+use Rattle.function_sums.specs.declared.changes.ChangeOrder.{ChangeOrder}
 use Rattle.function_sums.specs.declared.changes.FunctionChange.{FunctionChange}
 use Rattle.function_sums.specs.declared.sums.FunctionSum.{FunctionSum}
 use Rattle.function_sums.specs.FunctionChanges.{change_of, change_cmp, AreFunctionChanges}
@@ -51,7 +52,7 @@ row_ties a b =
 
 -- ---- the table
 
-module _ (by first second : Order) (before after : List Sample) (olds news : List FunctionSum) (of_before : AreFunctionSums first before olds) (of_after : AreFunctionSums second after news)
+module _ (by : ChangeOrder) (first second : Order) (before after : List Sample) (olds news : List FunctionSum) (of_before : AreFunctionSums first before olds) (of_after : AreFunctionSums second after news)
     (rows sorted kept : List ChangeRow) (names : map row_name rows ≡ map (λ (sum : FunctionSum). sum.name) olds ++ map (λ (sum : FunctionSum). sum.name) news) (sizes : All (HasSize by before after) rows)
     (perm : IsPermutation rows sorted) (up : IsSorted row_cmp sorted) (kept_is : kept ≡ dedup row_eq sorted) where
   names_of : (some : List ChangeRow) → map (λ (change : FunctionChange). change.name) (map (λ row. change_of before after (row_name row)) some) ≡ map row_name some

@@ -12,6 +12,7 @@ use Rattle.std.proofs.lemmas.List.Sums.{sum_by-cons}
 use Rattle.sample_tables.specs.declared.samples.Sample.{Sample}
 use Rattle.merged_stacks.specs.Timeline.{drawn, is_drawn}
 use Rattle.flame_layout.proofs.Sums.{SameSums, same_tested}
+use Rattle.function_sums.specs.declared.changes.ChangeOrder.{ChangeOrder}
 use Rattle.function_sums.specs.declared.changes.FunctionChange.{FunctionChange}
 use Rattle.function_sums.specs.declared.sums.FunctionSum.{FunctionSum}
 use Rattle.run_options.specs.declared.orders.FunctionOrder.{FunctionOrder as Order}
@@ -147,11 +148,11 @@ changing change = change.name
 abbrev both : List Sample → List Sample → List ℕ → ℕ
 both before after name = total_of name before + total_of name after
 
-one_change : (by : Order) (one other : FunctionChange) → change_cmp by one other ≡ Equal → one.name ≡ other.name
+one_change : (by : ChangeOrder) (one other : FunctionChange) → change_cmp by one other ≡ Equal → one.name ≡ other.name
 one_change by one other e =
     slice_cmp-IsAntisymmetric nat_cmp-IsAntisymmetric one.name other.name (then_equal (nat_cmp (size_of by other) (size_of by one)) _ e)
 
-pub changes_listed : (by : Order) (before after : List Sample) → AreFunctionChanges by before after (changes_of by before after)
+pub changes_listed : (by : ChangeOrder) (before after : List Sample) → AreFunctionChanges by before after (changes_of by before after)
 unfolding changes_of
 changes_listed by before after =
     tables.listed (change_cmp by) (change_total by) changing (change_of before after) (both before after) (one_change by) (λ name. refl) (names_in before ++ names_in after) weigh stand
@@ -163,12 +164,12 @@ changes_listed by before after =
     stand name h =
         ⊎_elim (λ here. among-front name (names_in before) (names_in after) (weighed name before here)) (λ there. among-back name (names_in before) (names_in after) (weighed name after there)) (either (total_of name before) (total_of name after) h)
 
-pub changes_alone : (by : Order) (before after : List Sample) (changes : List FunctionChange) → AreFunctionChanges by before after changes → changes ≡ changes_of by before after
+pub changes_alone : (by : ChangeOrder) (before after : List Sample) (changes : List FunctionChange) → AreFunctionChanges by before after changes → changes ≡ changes_of by before after
 changes_alone by before after changes are =
     tables.one_table (change_cmp by) (change_total by) changing (change_of before after) (both before after) changes (changes_of by before after) are (changes_listed by before after)
 
 -- sides with the same sums have the same changes
-pub same_changes : (by : Order) (old new before after : List Sample) → SameSums old before → SameSums new after → changes_of by old new ≡ changes_of by before after
+pub same_changes : (by : ChangeOrder) (old new before after : List Sample) → SameSums old before → SameSums new after → changes_of by old new ≡ changes_of by before after
 same_changes by old new before after first second =
     changes_alone by before after (changes_of by old new)
     (told_alike (change_cmp by) changing (change_of old new) (change_of before after) (both old new) (both before after) (changes_of by old new) told weight (changes_listed by old new))

@@ -23,6 +23,7 @@ use Rattle.sample_tables.specs.Rows.{name_at}
 use Rattle.merged_stacks.specs.Order.{AreRising}
 use Rattle.merged_stacks.proofs.JoinedStacks.{names_distinct}
 use Rattle.function_sums.specs.Tables.{IsTable}
+use Rattle.function_sums.specs.declared.changes.ChangeOrder.{ChangeOrder}
 use Rattle.function_sums.specs.declared.changes.FunctionChange.{FunctionChange}
 use Rattle.function_sums.specs.declared.sums.FunctionSum.{FunctionSum}
 use Rattle.run_options.specs.declared.orders.FunctionOrder.{FunctionOrder as Order}
@@ -39,7 +40,7 @@ row_cmp a b = ordering_then (ordering_then (ordering_then (nat_cmp b.0.0 a.0.0) 
 pub sum_total : (by : Order) → IsTotalOrder (sum_cmp by)
 sum_total by = then_total (on_total (weight_of by) (back_total nat_cmp_total)) (on_total (λ (sum : FunctionSum). sum.name) nat_list_cmp_total)
 
-pub change_total : (by : Order) → IsTotalOrder (change_cmp by)
+pub change_total : (by : ChangeOrder) → IsTotalOrder (change_cmp by)
 change_total by = then_total (on_total (size_of by) (back_total nat_cmp_total)) (on_total (λ (change : FunctionChange). change.name) nat_list_cmp_total)
 
 abbrev same : FunctionSum → FunctionSum → Bool

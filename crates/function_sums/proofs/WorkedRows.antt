@@ -1,15 +1,18 @@
 -- worked examples of the weights by function, of their changes, and of callers and callees: recursion counts once, and a sample without frames or weight counts nowhere
-use Rattle.std.proofs.Common.{◌≡◌, ℕ, List, [], ◌∷◌, codes, refl}
+use Rattle.std.proofs.Common.{◌≡◌, ℕ, false, true, List, [], ◌∷◌, None, Some, codes, refl}
 use Rattle.std.specs.declared.cmp.Ordering.TheVariants.{Less}
 use Rattle.sample_tables.specs.declared.samples.Sample.{Sample}
+use Rattle.run_options.specs.declared.orders.FunctionOrder.{FunctionOrder as Order}
 use Rattle.run_options.specs.declared.orders.FunctionOrder.TheVariants.{Own, Total}
 use Rattle.function_sums.specs.declared.changes.Change.{Change}
+use Rattle.function_sums.specs.declared.changes.ChangeOrder.{ChangeOrder}
 use Rattle.function_sums.specs.declared.changes.FunctionChange.{FunctionChange}
 use Rattle.function_sums.specs.declared.sums.FunctionSum.{FunctionSum}
 use Rattle.function_sums.specs.Calls.{calls_of}
 use Rattle.function_sums.specs.declared.call_sides.CallSide.TheVariants.{Callers, Callees}
 use Rattle.function_sums.specs.FunctionList.{changes_of, functions_of}
 use Rattle.function_sums.specs.FunctionSums.{own_of, total_of, sums_of, sum_cmp}
+use Rattle.function_sums.specs.Growth.{grew_over, grown}
 
 abbrev samples : List Sample
 samples =
@@ -66,17 +69,76 @@ change name own total = record { name = name; own = own; total = total }
 abbrev from : ℕ → ℕ → Change
 from before after = record { before = before; after = after }
 
+abbrev by_weight : Order → ChangeOrder
+by_weight by = record { by = by; whole = None }
+
 -- the greatest change first, also where it is down; a function of one side, and one that does not change
-changes_by_own : changes_of Own old new
+changes_by_own : changes_of (by_weight Own) old new
     ≡ change (codes "m") (from 5 1) (from 8 6) ∷ change (codes "f") (from 3 5) (from 3 5) ∷ change (codes "h") (from 0 2) (from 0 2) ∷ change (codes "g") (from 4 4) (from 4 4) ∷ []
 unfolding changes_of
 changes_by_own = refl
 
 -- three changes of 2, by their names
-changes_by_total : changes_of Total old new
+changes_by_total : changes_of (by_weight Total) old new
     ≡ change (codes "f") (from 3 5) (from 3 5) ∷ change (codes "h") (from 0 2) (from 0 2) ∷ change (codes "m") (from 5 1) (from 8 6) ∷ change (codes "g") (from 4 4) (from 4 4) ∷ []
 unfolding changes_of
 changes_by_total = refl
+
+-- of profiles of which one is ten times as long: f keeps its weight and loses most of its share, g keeps its share, and h has the half
+abbrev short : List Sample
+short =
+    record { stack = codes "f" ∷ []; weight = 6 } ∷
+    record { stack = codes "g" ∷ []; weight = 4 } ∷ []
+
+abbrev long : List Sample
+long =
+    record { stack = codes "f" ∷ []; weight = 10 } ∷
+    record { stack = codes "g" ∷ []; weight = 40 } ∷
+    record { stack = codes "h" ∷ []; weight = 50 } ∷ []
+
+abbrev by_share : ChangeOrder
+by_share = record { by = Own; whole = Some (from 10 100) }
+
+-- 60 to 10 hundredths and 0 to 50, by their names, before 40 to 40
+changes_by_share : changes_of by_share short long
+    ≡ change (codes "f") (from 6 10) (from 6 10) ∷ change (codes "h") (from 0 50) (from 0 50) ∷ change (codes "g") (from 4 40) (from 4 40) ∷ []
+unfolding changes_of
+changes_by_share = refl
+
+changes_by_length : changes_of (by_weight Own) short long
+    ≡ change (codes "h") (from 0 50) (from 0 50) ∷ change (codes "g") (from 4 40) (from 4 40) ∷ change (codes "f") (from 6 10) (from 6 10) ∷ []
+unfolding changes_of
+changes_by_length = refl
+
+-- from 40 to 45 hundredths: by 5, and no more
+by_just_five : grew_over 5 (from 10 100) (from 4 45) ≡ false
+by_just_five = refl
+
+by_more_than_five : grew_over 5 (from 10 1000) (from 4 451) ≡ true
+by_more_than_five = refl
+
+-- a share that stays has not grown, whatever its weight, nor has one that shrinks
+at_all : grew_over 0 (from 10 100) (from 4 40) ≡ false
+at_all = refl
+
+shrinks : grew_over 0 (from 10 100) (from 6 10) ≡ false
+shrinks = refl
+
+-- of nothing, each share is nothing
+from_nothing : grew_over 49 (from 0 100) (from 0 50) ≡ true
+from_nothing = refl
+
+to_nothing : grew_over 0 (from 10 0) (from 4 0) ≡ false
+to_nothing = refl
+
+-- h alone grew, by 50 hundredths
+grown_by_half : grown 49 (from 10 100) (changes_of by_share short long) ≡ change (codes "h") (from 0 50) (from 0 50) ∷ []
+unfolding changes_of
+grown_by_half = refl
+
+none_grown : grown 50 (from 10 100) (changes_of by_share short long) ≡ []
+unfolding changes_of
+none_grown = refl
 
 -- ---- callers and callees
 

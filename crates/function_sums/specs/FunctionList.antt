@@ -3,6 +3,7 @@ use Rattle.std.specs.Prelude.{ℕ, List, ◌++◌, map}
 use Rattle.std.specs.List.{flat_map}
 use Rattle.sample_tables.specs.declared.samples.Sample.{Sample}
 use Rattle.merged_stacks.specs.Timeline.{drawn}
+use Rattle.function_sums.specs.declared.changes.ChangeOrder.{ChangeOrder}
 use Rattle.function_sums.specs.declared.changes.FunctionChange.{FunctionChange}
 use Rattle.function_sums.specs.declared.sums.FunctionSum.{FunctionSum}
 use Rattle.run_options.specs.declared.orders.FunctionOrder.{FunctionOrder as Order}
@@ -19,5 +20,5 @@ unfoldable pub functions_of : Order → List Sample → List FunctionSum
 functions_of by samples = put_in_order (sum_cmp by) (map (sums_of samples) (names_in samples))
 
 -- the changes of the names of both sides, in order
-unfoldable pub changes_of : Order → List Sample → List Sample → List FunctionChange
+unfoldable pub changes_of : ChangeOrder → List Sample → List Sample → List FunctionChange
 changes_of by before after = put_in_order (change_cmp by) (map (change_of before after) (names_in before ++ names_in after))

@@ -7,8 +7,7 @@ ghost use Rattle.function_sums.specs.FunctionChanges.{AreFunctionChanges, change
 ghost use Rattle.function_sums.specs.FunctionSums.{AreFunctionSums};
 ghost use Rattle.function_sums.specs.checked.Sides.{AreSides, HasSize, row_name};
 
-use crate::Order;
-use crate::changes::FunctionChange;
+use crate::changes::{ChangeOrder, FunctionChange};
 use crate::sides::Sides;
 use crate::sums::FunctionSum;
 use std::alloc::{AllocError, Global};
@@ -16,7 +15,7 @@ use std::cmp::Reverse;
 
 /// The size of a function's change, and its name. So sorted, the greatest comes first, and of the same
 /// size the one with the lower name.
-type Row<'a> = (Reverse<u64>, &'a str);
+type Row<'a> = (Reverse<u128>, &'a str);
 
 /// How the functions of one side change to those of the other, the greatest change first, whether up or
 /// down. Each side may be sorted by either weight.
@@ -24,7 +23,7 @@ pub fn function_changes(
     alloc: Global,
     before: &[FunctionSum],
     after: &[FunctionSum],
-    by: Order,
+    by: ChangeOrder,
 ) -> Result<Vec<FunctionChange>, AllocError>
     ensures { IfOk result (λ changes. (first second : Order) (befores afters : List Sample)
         → AreFunctionSums first befores before.now → AreFunctionSums second afters after.now
@@ -44,7 +43,7 @@ fn add_rows<'a>(
     rows: &mut Vec<Row<'a>>,
     sides: &Sides<'_>,
     sums: &'a [FunctionSum],
-    by: Order,
+    by: ChangeOrder,
 ) -> Result<(), AllocError>
     ensures names { OnOk result (map row_name rows.new.items
         ≡ map row_name rows.old.items ++ map (λ sum. sum.name) sums.now) }
@@ -57,7 +56,7 @@ fn add_rows<'a>(
     Ok(())
 }
 
-fn row<'a>(sides: &Sides<'_>, name: &'a str, by: Order) -> Row<'a>
+fn row<'a>(sides: &Sides<'_>, name: &'a str, by: ChangeOrder) -> Row<'a>
     ensures name { result.1.now ≡ name.now }
     ensures size { (before after : List Sample) → AreSides before after sides.now
         → HasSize by before after result }

@@ -3,6 +3,7 @@
 ghost use Rattle.std.specs.Prelude.{◌≡◌, ◌≤◌, ◌+◌, ◌*◌, ℕ, List, All, filter, length, sum_by};
 ghost use Rattle.std.specs.Str.{bytes_eq};
 ghost use Rattle.sample_tables.specs.declared.samples.Sample.{Sample};
+ghost use Rattle.function_sums.specs.declared.changes.ChangeOrder.{ChangeOrder};
 ghost use Rattle.function_sums.specs.declared.changes.FunctionChange.{FunctionChange};
 ghost use Rattle.function_sums.specs.declared.sums.FunctionSum.{FunctionSum};
 ghost use Rattle.run_options.specs.declared.orders.FunctionOrder.{FunctionOrder as Order};
@@ -51,8 +52,8 @@ pub fn callees_share_the_total()
 
 /// The list of the changes is their table, and no other list is.
 pub fn changes_are_listed()
-    ensures listed { (by : Order) (before after : List Sample)
+    ensures listed { (by : ChangeOrder) (before after : List Sample)
         → AreFunctionChanges by before after (changes_of by before after) }
-    ensures alone { (by : Order) (before after : List Sample) (changes : List FunctionChange)
+    ensures alone { (by : ChangeOrder) (before after : List Sample) (changes : List FunctionChange)
         → AreFunctionChanges by before after changes → changes ≡ changes_of by before after }
 {}

@@ -9,7 +9,8 @@ ghost use Rattle.function_sums.specs.FunctionSums.{sums_of, AreFunctionSums};
 ghost use Rattle.function_sums.specs.checked.Sides.{AreSides, FindsWeights, found, weights_of};
 
 use crate::Order;
-use crate::changes::{Change, FunctionChange};
+use crate::changes::{Change, ChangeOrder, FunctionChange};
+use crate::shares::size;
 use crate::sums::FunctionSum;
 use crate::tables::function_sums;
 use merged_stacks::MergedStacks;
@@ -49,16 +50,17 @@ impl<'a> Sides<'a> {
     }
 
     /// By how much a function's weight changes.
-    pub(crate) fn size(&self, name: &str, by: Order) -> u64
+    pub(crate) fn size(&self, name: &str, by: ChangeOrder) -> u128
         ensures { (before after : List Sample) → AreSides before after self.now
             → result ≡ size_of by (change_of before after name.now) }
     {
         let before = weights_at(&self.before, name);
         let after = weights_at(&self.after, name);
-        match by {
-            Order::Own => before.own.abs_diff(after.own),
-            Order::Total => before.total.abs_diff(after.total),
-        }
+        let (before, after) = match by.by {
+            Order::Own => (before.own, after.own),
+            Order::Total => (before.total, after.total),
+        };
+        size(by.whole, Change { before, after })
     }
 
     /// The change of a function.

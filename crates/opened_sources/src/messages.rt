@@ -8,6 +8,7 @@ use crate::failures::Failure;
 use byte_io::{Outlet, PieceFault, send};
 use itoa::Buffer;
 use run_options::Format;
+use source_lists::StrictFault;
 use stack_core::SourceEnd;
 
 // What messages and pages call the standard input.
@@ -61,6 +62,16 @@ pub fn report_ending<E: Outlet>(err: &mut E, files: &[String], source: usize, en
         SourceEnd::Fault(fault) => report_fault(err, path, fault.kind.name(), fault.at),
         SourceEnd::Stopped { after: _ } => {}
     }
+}
+
+/// Says what is wrong with a source that is read strictly.
+pub fn report_strict_fault<E: Outlet>(
+    err: &mut E,
+    files: &[String],
+    source: usize,
+    fault: &StrictFault,
+) {
+    report_fault(err, path_of(files, source), fault.kind.name(), fault.at);
 }
 
 // Says how many lines of the source were ignored, if any were.

@@ -1,3 +1,5 @@
+pub mod BoxReading
+pub mod Columns
 pub mod DrawingTexts
 pub mod KeptDrawings
 pub mod KeptParts

@@ -1,6 +1,7 @@
 -- The value of a page: its keys rise, and where its numbers have 64 bits, it reads back.
-use Rattle.std.proofs.Common.{◌≡◌, ℕ, ◌^◌, ◌<◌, ◌≤◌, Bool, true, false, List, [], ◌∷◌, length, map, Option, Some, None, All, IfSome, ◌∙◌, arith, rules}
+use Rattle.std.proofs.Common.{◌≡◌, ℕ, suc, ◌+◌, ◌-◌, ◌^◌, ◌<◌, ◌≤◌, Bool, true, false, cond, List, [], ◌∷◌, length, map, Option, Some, None, All, IfSome, ◌∙◌, arith, rules}
 use Rattle.std.proofs.lemmas.List.Sums.{prefix_len-le-length}
+use Rattle.std.proofs.Math.Nat.{mod-lt}
 use Rattle.std.specs.List.{AllByRecursion}
 use Rattle.std.specs.List.Sorted.{IsStrictlySortedBy}
 use Rattle.serde_json.specs.Data.{Data, string, Members, depth, members_depth}
@@ -8,7 +9,9 @@ use Rattle.serde_json.specs.Read.{read, max_depth}
 use Rattle.view_texts.specs.JsonLaws.{HasRisingKeys}
 use Rattle.view_texts.proofs.JsonReading.{HasWholeNumbers, MembersHaveWholeNumbers, HasNumbers-outline, text_reads_back}
 use Rattle.view_texts.proofs.JsonValues.{each_of, whole_items, rising_items, items_depth-le}
-use Rattle.page_texts.specs.Page.{PageBox, below_members, later_members, Moment, PageDrawing, PageSource, Page, whole_number, list_data, kept, left_out, page_names, place_of, column, moment_members, other_members, last_members, box_members, drawing_data, source_data, page_value, page_text}
+use Rattle.flame_layout.specs.declared.boxes.SpanBox.{SpanBox}
+use Rattle.page_texts.specs.Columns.{minus, no_span, end_of, is_on, front_of, tail_of, rest_of}
+use Rattle.page_texts.specs.Page.{PageBox, ToldBox, told_boxes, drawing_boxes, is_under, below_members, later_members, Moment, PageDrawing, PageSource, Page, whole_number, list_data, kept, left_out, page_names, place_of, column, moment_members, other_members, last_members, box_members, drawing_data, source_data, page_value, page_text}
 use Rattle.page_texts.specs.PageLaws.{IsSmallBox, IsSmallMoment, IsSmallDrawing, IsSmallPage}
 use Rattle.page_texts.specs.ScriptSafe.{page_data_text}
 use Rattle.page_texts.proofs.SafeReading.{reads_as_plain}
@@ -23,19 +26,60 @@ string_reads_back text = value_reads_back (string text) tt tt (omega arith)
 
 -- ---- columns
 
-module _ (number_of : PageBox → ℕ) (boxes : List PageBox) where
+record IsSmallTold (box : ToldBox) : Type 0 where
+  gap : box.gap < 2 ^ 64
+  name : box.name < 2 ^ 64
+  other : box.other < 2 ^ 64
+  rest : box.rest < 2 ^ 64
+  tail : box.tail < 2 ^ 64
+  up : box.up < 2 ^ 64
+
+module _ (number_of : ToldBox → ℕ) (boxes : List ToldBox) where
   rising_column : HasRisingKeys (column number_of boxes)
   rising_column = rising_items (λ box. whole_number (number_of box)) (λ box. tt) boxes
 
   shallow_column : depth (column number_of boxes) ≤ 1
   shallow_column = omega (arith, items_depth-le (λ box. whole_number (number_of box)) 0 (λ box. omega arith) boxes)
 
-  whole_column : ((box : PageBox) → IsSmallBox box → number_of box < 2 ^ 64) → All IsSmallBox boxes → HasWholeNumbers (column number_of boxes)
-  whole_column small h = whole_items (λ box. whole_number (number_of box)) boxes (each_of IsSmallBox (λ box. number_of box < 2 ^ 64) boxes small h)
+  whole_column : ((box : ToldBox) → IsSmallTold box → number_of box < 2 ^ 64) → AllByRecursion IsSmallTold boxes → HasWholeNumbers (column number_of boxes)
+  whole_column small h = whole_items (λ box. whole_number (number_of box)) boxes (each boxes h)
+    where
+      each : (some : List ToldBox) → AllByRecursion IsSmallTold some → AllByRecursion (λ box. number_of box < 2 ^ 64) some
+      each [] h = tt
+      each (box ∷ some) h = (small box h.0, each some h.1)
 
 -- the place of a name is at most their number
 place-le : (names : List (List ℕ)) (name : List ℕ) → place_of names name ≤ length names
 place-le names name = prefix_len-le-length _ names
+
+minus-lt : (a b : ℕ) → minus a b < 2 ^ 64
+minus-lt a b = mod-lt (a + (2 ^ 64 - b)) (omega arith)
+
+tail-lt : (before span : SpanBox) → span.weight < 2 ^ 64 → tail_of before span < 2 ^ 64
+tail-lt before span small = go (is_on before span)
+  where
+    go : (on : Bool) → cond on (minus (end_of before) (end_of span)) span.weight < 2 ^ 64
+    go true = minus-lt (end_of before) (end_of span)
+    go false = small
+
+rest-lt : (is_under : Bool) (span : SpanBox) → span.own < 2 ^ 64 → rest_of is_under span < 2 ^ 64
+rest-lt true span small = small
+rest-lt false span small = minus-lt span.weight span.own
+
+small_told : (names : List (List ℕ)) → length names < 2 ^ 64 → (before : SpanBox) (boxes : List PageBox) → All IsSmallBox boxes → AllByRecursion IsSmallTold (told_boxes names before boxes)
+small_told names few before [] h = tt
+small_told names few before (box ∷ boxes) h =
+    let small = h 0 box (omega arith) in (
+      record {
+        gap = minus-lt box.span.start (front_of (is_on before box.span) before);
+        name = omega (arith, few, place-le names box.span.name);
+        other = small.other;
+        rest = rest-lt (is_under box.span boxes) box.span small.own;
+        tail = tail-lt before box.span small.weight;
+        up = minus-lt (before.depth + 1) box.span.depth;
+      },
+      small_told names few box.span boxes (λ k d l. h (suc k) d (omega arith)),
+    )
 
 -- ---- drawings
 
@@ -49,17 +93,17 @@ module _ (names : List (List ℕ)) (least total : ℕ) (boxes : List PageBox) wh
   rising_with : (moment : Option Moment) (is_compared : Bool) → HasRisingKeys (drawing_data names (drawing_with moment is_compared least total boxes))
   unfolding IsStrictlySortedBy
   rising_with None false =
-      let numbers = λ (number_of : PageBox → ℕ). rising_column number_of (kept least boxes) in
+      let numbers = λ (number_of : ToldBox → ℕ). rising_column number_of (told_boxes names no_span (kept least boxes)) in
       search (rules, numbers)
   rising_with None true =
-      let numbers = λ (number_of : PageBox → ℕ). rising_column number_of (kept least boxes) in
+      let numbers = λ (number_of : ToldBox → ℕ). rising_column number_of (told_boxes names no_span (kept least boxes)) in
       search (rules, numbers)
   rising_with (Some moment) false =
-      let numbers = λ (number_of : PageBox → ℕ). rising_column number_of (kept least boxes) in
+      let numbers = λ (number_of : ToldBox → ℕ). rising_column number_of (told_boxes names no_span (kept least boxes)) in
       let counts = rising_counts moment.counts in
       search (rules, numbers, counts)
   rising_with (Some moment) true =
-      let numbers = λ (number_of : PageBox → ℕ). rising_column number_of (kept least boxes) in
+      let numbers = λ (number_of : ToldBox → ℕ). rising_column number_of (told_boxes names no_span (kept least boxes)) in
       let counts = rising_counts moment.counts in
       search (rules, numbers, counts)
 
@@ -95,11 +139,10 @@ rising_page page = rising_page_with page.drawings page.sources page.title page.v
 
 -- ---- depths
 
-shallow_last : (boxes : List PageBox) (total : ℕ) → members_depth (last_members boxes total) ≤ 1
-shallow_last boxes total =
-    omega (arith, shallow_column (λ box. box.span.own) boxes, shallow_column (λ box. box.span.start) boxes, shallow_column (λ box. box.span.weight) boxes)
+shallow_last : (boxes : List ToldBox) (total : ℕ) → members_depth (last_members boxes total) ≤ 1
+shallow_last boxes total = omega (arith, shallow_column (λ box. box.rest) boxes, shallow_column (λ box. box.tail) boxes, shallow_column (λ box. box.up) boxes)
 
-shallow_others : (is_compared : Bool) (boxes : List PageBox) (later : Members) → members_depth later ≤ 1 → members_depth (other_members is_compared boxes later) ≤ 1
+shallow_others : (is_compared : Bool) (boxes : List ToldBox) (later : Members) → members_depth later ≤ 1 → members_depth (other_members is_compared boxes later) ≤ 1
 shallow_others true boxes later h = omega (arith, h, shallow_column (λ box. box.other) boxes)
 shallow_others false boxes later h = h
 
@@ -107,15 +150,15 @@ shallow_moment : (moment : Option Moment) (later : Members) → members_depth la
 shallow_moment None later h = h
 shallow_moment (Some moment) later h = omega (arith, h, items_depth-le whole_number 0 (λ count. omega arith) moment.counts)
 
-shallow_boxes : (names : List (List ℕ)) (drawing : PageDrawing) (boxes others : List PageBox) → members_depth (box_members names drawing boxes others) ≤ 1
-shallow_boxes names drawing boxes others =
-    omega (arith, shallow_column (λ box. box.span.depth) boxes, shallow_column (λ box. place_of names box.span.name) boxes, shallow_others drawing.is_compared boxes (last_members boxes drawing.total) (shallow_last boxes drawing.total))
+shallow_boxes : (drawing : PageDrawing) (boxes : List ToldBox) (others : List PageBox) → members_depth (box_members drawing boxes others) ≤ 1
+shallow_boxes drawing boxes others =
+    omega (arith, shallow_column (λ box. box.gap) boxes, shallow_column (λ box. box.name) boxes, shallow_others drawing.is_compared boxes (last_members boxes drawing.total) (shallow_last boxes drawing.total))
 
 shallow_drawing : (names : List (List ℕ)) (drawing : PageDrawing) → depth (drawing_data names drawing) ≤ 2
 shallow_drawing names drawing =
-    let boxes = kept drawing.least drawing.boxes in
+    let boxes = drawing_boxes names drawing in
     let others = left_out drawing.least drawing.boxes in
-    omega (arith, shallow_moment drawing.moment (box_members names drawing boxes others) (shallow_boxes names drawing boxes others))
+    omega (arith, shallow_moment drawing.moment (box_members drawing boxes others) (shallow_boxes drawing boxes others))
 
 shallow_below : (is_below : Bool) (later : Members) → members_depth later ≤ 2 → members_depth (below_members is_below later) ≤ 2
 shallow_below true later h = omega (arith, h)
@@ -136,11 +179,11 @@ shallow_page page =
 
 -- ---- numbers
 
-whole_last : (boxes : List PageBox) (total : ℕ) → All IsSmallBox boxes → total < 2 ^ 64 → MembersHaveWholeNumbers (last_members boxes total)
+whole_last : (boxes : List ToldBox) (total : ℕ) → AllByRecursion IsSmallTold boxes → total < 2 ^ 64 → MembersHaveWholeNumbers (last_members boxes total)
 whole_last boxes total h t =
-    (whole_column (λ box. box.span.own) boxes (λ box b. b.own) h, (whole_column (λ box. box.span.start) boxes (λ box b. b.start) h, (t, (whole_column (λ box. box.span.weight) boxes (λ box b. b.weight) h, tt))))
+    (whole_column (λ box. box.rest) boxes (λ box b. b.rest) h, (whole_column (λ box. box.tail) boxes (λ box b. b.tail) h, (t, (whole_column (λ box. box.up) boxes (λ box b. b.up) h, tt))))
 
-whole_others : (is_compared : Bool) (boxes : List PageBox) (later : Members) → All IsSmallBox boxes → MembersHaveWholeNumbers later → MembersHaveWholeNumbers (other_members is_compared boxes later)
+whole_others : (is_compared : Bool) (boxes : List ToldBox) (later : Members) → AllByRecursion IsSmallTold boxes → MembersHaveWholeNumbers later → MembersHaveWholeNumbers (other_members is_compared boxes later)
 whole_others true boxes later h more = (whole_column (λ box. box.other) boxes (λ box b. b.other) h, more)
 whole_others false boxes later h more = more
 
@@ -152,11 +195,12 @@ whole_moment (Some moment) later h more =
 
 whole_drawing : (names : List (List ℕ)) → length names < 2 ^ 64 → (drawing : PageDrawing) → IsSmallDrawing drawing → HasWholeNumbers (drawing_data names drawing)
 whole_drawing names few drawing h =
-    let boxes = kept drawing.least drawing.boxes in
-    let depths = whole_column (λ box. box.span.depth) boxes (λ box b. b.depth) h.boxes in
-    let places = whole_column (λ box. place_of names box.span.name) boxes (λ box b. omega (arith, few, place-le names box.span.name)) h.boxes in
-    let later = whole_others drawing.is_compared boxes (last_members boxes drawing.total) h.boxes (whole_last boxes drawing.total h.boxes h.total) in
-    whole_moment drawing.moment (box_members names drawing boxes (left_out drawing.least drawing.boxes)) h.moment (depths, (h.least, ((h.left_boxes, (h.left_weight, tt)), (places, later))))
+    let boxes = drawing_boxes names drawing in
+    let small = small_told names few no_span (kept drawing.least drawing.boxes) h.boxes in
+    let gaps = whole_column (λ box. box.gap) boxes (λ box b. b.gap) small in
+    let places = whole_column (λ box. box.name) boxes (λ box b. b.name) small in
+    let later = whole_others drawing.is_compared boxes (last_members boxes drawing.total) small (whole_last boxes drawing.total small h.total) in
+    whole_moment drawing.moment (box_members drawing boxes (left_out drawing.least drawing.boxes)) h.moment (gaps, (h.least, ((h.left_boxes, (h.left_weight, tt)), (places, later))))
 
 whole_page : (page : Page) → IsSmallPage page → HasWholeNumbers (page_value page)
 whole_page page h =

@@ -1,5 +1,5 @@
 -- The text of parts, one after another.
-use Rattle.std.proofs.Common.{◌≡◌, ℕ, ◌+◌, ◌-◌, ◌<◌, ◌≤◌, ◌||◌, List, [], ◌∷◌, ◌++◌, length, take, drop, get_or, map, Bool, true, false, refl, sym, ap, ◌∙◌, arith, append_assoc, append-nil, take-append-drop, lt-ltb}
+use Rattle.std.proofs.Common.{◌≡◌, ℕ, ◌+◌, ◌<◌, ◌≤◌, ◌||◌, List, [], ◌∷◌, ◌++◌, length, take, drop, get_or, map, Bool, true, false, refl, sym, ap, ◌∙◌, arith, append_assoc, append-nil, take-append-drop, lt-ltb}
 use Rattle.std.specs.Prelude.{nat_lt}
 use Rattle.std.specs.List.{concat}
 use Rattle.std.proofs.lemmas.List.{map-append, map_more, length-map, length-take-le, get_or-map, take-take, drop-take}
@@ -73,9 +73,8 @@ values_text-run f xs run at end within longer =
     ap (λ ys. values_text false (map f ys)) longer ∙ ap (values_text false) (map-append f (take at xs) run)
     ∙ values_text-append false before (map f run) ∙ ap (λ n. values_text false before ++ values_text (nat_lt 0 n) (map f run)) count
 
-pub front_and_run : {S : Type 0} (xs : List S) (at count : ℕ) → take (at + count) xs ≡ take at xs ++ take ((at + count) - at) (drop at xs)
+pub front_and_run : {S : Type 0} (xs : List S) (at count : ℕ) → take (at + count) xs ≡ take at xs ++ take count (drop at xs)
 front_and_run xs at count =
     let within : at ≤ at + count = omega arith in
-    let rest : count ≡ (at + count) - at = omega arith in
     sym (take-append-drop at (take (at + count) xs)) ∙ ap (λ ys. ys ++ drop at (take (at + count) xs)) (take-take at (at + count) xs within)
-    ∙ ap (λ ys. take at xs ++ ys) (drop-take at count xs ∙ ap (λ n. take n (drop at xs)) rest)
+    ∙ ap (λ ys. take at xs ++ ys) (drop-take at count xs)

@@ -1,4 +1,5 @@
 -- The definitions that the contracts of page_texts cite.
+pub mod Columns
 pub mod Document
 pub mod Drawn
 pub mod Page

@@ -1,11 +1,12 @@
 -- The data of a page: one JSON value, whose keys are in byte order, and its text.
-use Rattle.std.specs.Prelude.{ℕ, Bool, true, List, [], length, map, filter, sum_by, nat_le, not, Option, Some, None, codes, if◌then◌else◌}
+use Rattle.std.specs.Prelude.{ℕ, Bool, true, false, List, [], ◌∷◌, length, map, filter, sum_by, nat_le, not, Option, Some, None, codes, if◌then◌else◌}
 use Rattle.std.specs.List.{flat_map, position_or_len}
 use Rattle.std.specs.Str.{bytes_eq}
 use Rattle.serde_json.specs.Data.{Data, boolean, string, object, Members, no_members, member}
 use Rattle.stack_core.specs.NamesInOrder.{with_stack}
 use Rattle.flame_layout.specs.declared.boxes.SpanBox.{SpanBox}
 pub use Rattle.view_texts.specs.Json.{whole_number, list_data}
+use Rattle.page_texts.specs.Columns.{no_span, up_of, is_on, gap_of, tail_of, rest_of}
 use Rattle.page_texts.specs.ScriptSafe.{page_data_text}
 
 -- a box, and in a comparison the weight of its path in the other profile
@@ -75,10 +76,46 @@ page_names drawings = with_stack [] (flat_map kept_names drawings)
 abbrev pub place_of : List (List ℕ) → List ℕ → ℕ
 place_of names name = position_or_len (bytes_eq name) names
 
+-- ---- columns
+
+-- what the columns tell of a box
+pub record ToldBox : Type 0 where
+  pub gap : ℕ
+  pub name : ℕ
+  pub other : ℕ
+  pub rest : ℕ
+  pub tail : ℕ
+  pub up : ℕ
+
+-- what is told of a box behind that one
+abbrev pub told_box : List (List ℕ) → SpanBox → PageBox → Bool → ToldBox
+told_box names before box is_under = record {
+  gap = gap_of before box.span;
+  name = place_of names box.span.name;
+  other = box.other;
+  rest = rest_of is_under box.span;
+  tail = tail_of before box.span;
+  up = up_of before box.span;
+}
+
+-- whether the first of the boxes behind a box stands on it
+abbrev pub is_under : SpanBox → List PageBox → Bool
+is_under span [] = false
+is_under span (next ∷ later) = is_on span next.span
+
+-- what is told of boxes in their order, of which the first stands behind that one
+abbrev pub told_boxes : List (List ℕ) → SpanBox → List PageBox → List ToldBox
+told_boxes names before [] = []
+told_boxes names before (box ∷ later) = told_box names before box (is_under box.span later) ∷ told_boxes names box.span later
+
+-- what is told of the boxes that a drawing keeps
+abbrev pub drawing_boxes : List (List ℕ) → PageDrawing → List ToldBox
+drawing_boxes names drawing = told_boxes names no_span (kept drawing.least drawing.boxes)
+
 -- ---- members
 
 -- a number of each box
-abbrev pub column : (PageBox → ℕ) → List PageBox → Data
+abbrev pub column : (ToldBox → ℕ) → List ToldBox → Data
 column number_of boxes = list_data (map (λ box. whole_number (number_of box)) boxes)
 
 abbrev pub left_out_data : List PageBox → Data
@@ -97,25 +134,25 @@ moment_members (Some moment) later =
     later)
 
 -- in comparisons alone
-abbrev pub other_members : Bool → List PageBox → Members → Members
+abbrev pub other_members : Bool → List ToldBox → Members → Members
 other_members is_compared boxes later =
     if is_compared then member (codes "other") (column (λ box. box.other) boxes) later else later
 
-abbrev pub last_members : List PageBox → ℕ → Members
+abbrev pub last_members : List ToldBox → ℕ → Members
 last_members boxes total =
-    member (codes "own") (column (λ box. box.span.own) boxes)
-    (member (codes "start") (column (λ box. box.span.start) boxes)
+    member (codes "rest") (column (λ box. box.rest) boxes)
+    (member (codes "tail") (column (λ box. box.tail) boxes)
     (member (codes "total") (whole_number total)
-    (member (codes "weight") (column (λ box. box.span.weight) boxes)
+    (member (codes "up") (column (λ box. box.up) boxes)
     no_members)))
 
--- `boxes` are those that are kept, and `others` those that are not
-abbrev pub box_members : List (List ℕ) → PageDrawing → List PageBox → List PageBox → Members
-box_members names drawing boxes others =
-    member (codes "depth") (column (λ box. box.span.depth) boxes)
+-- `boxes` are what is told of those that are kept, and `others` those that are not
+abbrev pub box_members : PageDrawing → List ToldBox → List PageBox → Members
+box_members drawing boxes others =
+    member (codes "gap") (column (λ box. box.gap) boxes)
     (member (codes "least") (whole_number drawing.least)
     (member (codes "left_out") (left_out_data others)
-    (member (codes "name") (column (λ box. place_of names box.span.name) boxes)
+    (member (codes "name") (column (λ box. box.name) boxes)
     (other_members drawing.is_compared boxes
     (last_members boxes drawing.total)))))
 
@@ -124,7 +161,7 @@ abbrev pub drawing_data : List (List ℕ) → PageDrawing → Data
 drawing_data names drawing =
     object
     (moment_members drawing.moment
-    (box_members names drawing (kept drawing.least drawing.boxes) (left_out drawing.least drawing.boxes)))
+    (box_members drawing (drawing_boxes names drawing) (left_out drawing.least drawing.boxes)))
 
 abbrev pub source_data : PageSource → Data
 source_data source =

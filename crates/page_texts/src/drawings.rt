@@ -70,7 +70,7 @@ fn push_first<'k>(
     ensures { OnOk result
         (parts_text parts.new.items ≡ parts_text parts.old.items ++ first_text kept.now least) }
 {
-    push_column(parts, b"\"depth\":", Column::Depth, &kept.boxes)?;
+    push_column(parts, b"\"gap\":", Column::Gap, &kept.boxes)?;
     push_number(parts, b",\"least\":", u128::from(least))?;
     push_number(parts, b",\"left_out\":{\"boxes\":", kept.left_boxes as u128)?;
     push_number(parts, b",\"weight\":", kept.left_weight)?;
@@ -101,9 +101,9 @@ fn push_last<'k>(
     ensures { OnOk result
         (parts_text parts.new.items ≡ parts_text parts.old.items ++ last_text kept.now total) }
 {
-    push_column(parts, b",\"own\":", Column::Own, &kept.boxes)?;
-    push_column(parts, b",\"start\":", Column::Start, &kept.boxes)?;
+    push_column(parts, b",\"rest\":", Column::Rest, &kept.boxes)?;
+    push_column(parts, b",\"tail\":", Column::Tail, &kept.boxes)?;
     push_number(parts, b",\"total\":", u128::from(total))?;
-    push_column(parts, b",\"weight\":", Column::Weight, &kept.boxes)?;
+    push_column(parts, b",\"up\":", Column::Up, &kept.boxes)?;
     push_literal(parts, b"}")
 }

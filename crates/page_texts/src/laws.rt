@@ -1,13 +1,25 @@
 //! Laws over the definitions, for all values. Each function does nothing, and takes no memory.
-ghost use Rattle.std.specs.Prelude.{◌≡◌, ◌↔◌, ◌+◌, ◌<◌, ◌≤◌, ◌++◌, ℕ, List, [], length, Contains, Some};
+ghost use Rattle.std.specs.Prelude.{◌≡◌, ◌↔◌, ◌+◌, ◌<◌, ◌≤◌, ◌++◌, ℕ, List, [], length, All, Contains, Some};
 ghost use Rattle.json.specs.Tree.{HasNumbers};
 ghost use Rattle.serde_json.specs.Data.{Data, string};
 ghost use Rattle.serde_json.specs.Read.{read};
 ghost use Rattle.serde_json.specs.Written.{compact_text, outline};
 ghost use Rattle.page_source.specs.Source.{page_head, page_tail};
 ghost use Rattle.page_texts.specs.Document.{document_text};
-ghost use Rattle.page_texts.specs.Page.{Page, PageBox, kept, left_out, own_weight, page_value, page_text};
-ghost use Rattle.page_texts.specs.PageLaws.{HasNoMarkup, HasNoSeparator, IsSmallPage};
+ghost use Rattle.page_texts.specs.Columns.{no_span};
+ghost use Rattle.page_texts.specs.Page.{
+  Page,
+  PageBox,
+  kept,
+  left_out,
+  names_of,
+  own_weight,
+  page_names,
+  page_text,
+  page_value,
+  told_boxes,
+};
+ghost use Rattle.page_texts.specs.PageLaws.{HasNoMarkup, HasNoSeparator, IsSmallBox, IsSmallPage, ReadsBack, boxes_told};
 ghost use Rattle.page_texts.specs.ScriptSafe.{page_data_text};
 ghost use Rattle.view_texts.specs.JsonLaws.{HasRisingKeys};
 
@@ -53,4 +65,15 @@ pub fn only_narrow_boxes_are_left_out()
         length (kept least boxes) + length (left_out least boxes) ≡ length boxes }
     ensures weights { (least : ℕ) (boxes : List PageBox) →
         own_weight (kept least boxes) + own_weight (left_out least boxes) ≡ own_weight boxes }
+{}
+
+/// Boxes are read back of what columns tell of them, where their numbers have 64 bits and their names
+/// are among those that the columns count. So the boxes that the drawings of a page keep are a
+/// function of its columns and names; `other` is a column in comparisons alone.
+pub fn boxes_read_back()
+    ensures boxes { (names : List (List ℕ)) (boxes : List PageBox) → All IsSmallBox boxes
+        → All (Contains names) (names_of boxes)
+        → boxes_told names no_span (told_boxes names no_span boxes) ≡ boxes }
+    ensures drawings { (page : Page) → IsSmallPage page
+        → All (ReadsBack (page_names page.drawings)) page.drawings }
 {}

@@ -1,13 +1,14 @@
 //! The parts of a text as bytes.
-ghost use Rattle.std.specs.Prelude.{◌≡◌, ◌<◌, ◌^◌, ◌++◌, length, map, OnOk};
+ghost use Rattle.std.specs.Prelude.{◌≡◌, ◌<◌, ◌^◌, ◌++◌, get_or, length, map, take, OnOk};
 ghost use Rattle.std.specs.Io.{StartsWith};
 ghost use Rattle.json.specs.Print.{quoted};
 ghost use Rattle.page_texts.specs.Page.{whole_number};
 ghost use Rattle.page_texts.specs.ScriptSafe.{script_safe};
-ghost use Rattle.page_texts.specs.checked.Kept.{number_in};
+ghost use Rattle.page_texts.specs.checked.Kept.{numbers_of};
 ghost use Rattle.page_texts.specs.checked.Parts.{part_text};
 ghost use Rattle.page_texts.specs.checked.SafeText.{values_text};
 
+use crate::kept_boxes::{before_at, is_under_at};
 use crate::parts::{Part, Run, comma_if};
 use crate::script_safe::append_script_safe;
 use byte_io::Pieces;
@@ -70,10 +71,21 @@ fn append_text(alloc: Global, out: &mut Vec<u8>, text: &str) -> Result<(), Alloc
 // Appends the numbers of some boxes.
 fn append_run(out: &mut Vec<u8>, run: Run<'_>) -> Result<(), AllocError>
     ensures { OnOk result (out.new.items ≡ out.old.items ++ values_text run.entry.later
-        (map (λ item. whole_number (number_in run.entry.column item)) run.entry.boxes.now)) }
+        (map whole_number (take run.entry.count
+        (numbers_of run.entry.column run.entry.before run.entry.boxes.now)))) }
 {
-    for (i, item) in run.boxes.iter().enumerate() {
-        append_number(out, comma_if(run.later || i > 0), item.number(run.column))?;
+    for i in 0..run.count.min(run.boxes.len()) {
+        let number = number_at(&run, i);
+        append_number(out, comma_if(run.later || i > 0), number)?;
     }
     Ok(())
+}
+
+// The number of one of the boxes.
+fn number_at(run: &Run<'_>, at: usize) -> u64
+    requires { at < length run.now.boxes.now }
+    ensures { result ≡ get_or (numbers_of run.now.column run.now.before run.now.boxes.now) at 0 }
+{
+    let before = before_at(&run.before, run.boxes, at);
+    run.boxes[at].number(run.column, &before, is_under_at(run.boxes, at))
 }

@@ -5,21 +5,24 @@ ghost use Rattle.json.specs.Print.{quoted};
 ghost use Rattle.serde_json.specs.Written.{comma_if};
 ghost use Rattle.page_texts.specs.Page.{whole_number, list_data};
 ghost use Rattle.page_texts.specs.ScriptSafe.{script_safe};
-ghost use Rattle.page_texts.specs.checked.Kept.{number_in};
+ghost use Rattle.page_texts.specs.checked.Kept.{no_kept, numbers_of};
 ghost use Rattle.page_texts.specs.checked.Parts.{part_text, parts_text};
 ghost use Rattle.page_texts.specs.checked.SafeText.{safe_text};
 
-use crate::kept_boxes::{Column, KeptBox};
+use crate::kept_boxes::{Column, KeptBox, NO_BOX, before_at};
 use std::alloc::AllocError;
 
 // How many numbers of a column are a part at most.
 const RUN: usize = 1024;
 
-// Boxes whose numbers in a column are written.
+// Boxes of which the first so many have their numbers in a column written.
 #[derive(Clone, Copy)]
 pub(crate) struct Run<'a> {
     pub(crate) column: Column,
+    // What stands before them.
+    pub(crate) before: KeptBox,
     pub(crate) boxes: &'a [KeptBox],
+    pub(crate) count: usize,
     // Whether other numbers stand before theirs.
     pub(crate) later: bool,
 }
@@ -143,20 +146,22 @@ pub(crate) fn push_column<'k>(
 ) -> Result<(), AllocError>
     ensures { OnOk result (parts_text parts.new.items ≡ parts_text parts.old.items
         ++ (piece.now ++ safe_text
-        (list_data (map (λ item. whole_number (number_in column item)) boxes.now)))) }
+        (list_data (map whole_number (numbers_of column no_kept boxes.now))))) }
 {
     push_literal(parts, piece)?;
     push_literal(parts, b"[")?;
     let mut at = 0;
     while at < boxes.len() {
-        let end = at + RUN.min(boxes.len() - at);
+        let count = RUN.min(boxes.len() - at);
         let run = Run {
             column,
-            boxes: &boxes[at..end],
+            before: before_at(&NO_BOX, boxes, at),
+            boxes: &boxes[at..],
+            count,
             later: at > 0,
         };
         push_part(parts, Part::Numbers(run))?;
-        at = end;
+        at += count;
     }
     push_literal(parts, b"]")
 }

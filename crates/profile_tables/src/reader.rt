@@ -11,7 +11,7 @@ ghost use Rattle.profile_tables.specs.State.{nothing_told, told_type, HasRead};
 use crate::row_reader::PprofRows;
 use profile_messages::SampleType;
 use run_options::{Naming, Pick};
-use stack_core::{RowReader, RowSamples, SampleReader, Step};
+use stack_core::{RowSamples, SampleReader, Step};
 use std::alloc::{AllocError, Global};
 use std::marker::Model;
 
@@ -77,7 +77,7 @@ impl SampleReader for PprofReader {
         ensures tables { IfOk result (HasRead self.new) }
     {
         if self.samples.is_idle() {
-            let step = self.rows.next_row(alloc)?;
+            let step = self.rows.next_step(alloc)?;
             self.samples.take(step);
         }
         self.samples.give(alloc, &self.rows)

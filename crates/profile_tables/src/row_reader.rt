@@ -1,6 +1,6 @@
 //! A pprof profile, read by rows of numbers.
 
-ghost use Rattle.std.specs.Prelude.{◌≡◌, ◌≢◌, ◌<◌, ◌^◌, ℕ, length, IfOk, OnErr, IsOk, IsTrue};
+ghost use Rattle.std.specs.Prelude.{◌≡◌, ◌≢◌, ◌<◌, ◌^◌, ℕ, length, IfOk, OnErr, IsOk, IsTrue, refl};
 ghost use Rattle.stack_core.specs.Parts.{bytes_of};
 ghost use Rattle.stack_core.specs.Prefixes.{IsPrefixOf};
 ghost use Rattle.stack_core.specs.Reading.{IsSourceLimited};
@@ -19,7 +19,7 @@ use crate::tellers::Teller;
 use bytes::Bytes;
 use profile_messages::SampleType;
 use run_options::{Naming, Pick};
-use stack_core::{RowReader, RowStep, SourceBytes, SourceEnd};
+use stack_core::{KnownRows, RowReader, RowStep, SourceBytes, SourceEnd};
 use std::alloc::{AllocError, Global};
 use std::marker::Model;
 
@@ -105,18 +105,9 @@ impl PprofRows {
     {
         self.part.as_ref()?.outline.chosen_type.as_ref()
     }
-}
 
-/// A stack is known again where its location ids stand as one packed run, the sample's first field, and these bytes were met before.
-impl RowReader for PprofRows {
-    ghost rest = { λ reader. reader.rest };
-
-    ghost told = { λ reader. reader.told };
-
-    ghost has_ended = { λ reader. IsTrue reader.has_ended };
-
-    /// As the trait has it. The type of the chosen value stays, and behind a sample it is known.
-    fn next_row(&mut self, alloc: Global) -> Result<RowStep, AllocError>
+    /// The next step. The type of the chosen value stays, and behind a sample it is known.
+    pub(crate) fn next_step(&mut self, alloc: Global) -> Result<RowStep, AllocError>
         ensures step { IfOk result (λ step. StepsByRows self.old.told self.old.rest step
             self.new.told self.new.rest) }
         ensures limits { IfOk result IsLimitedStep }
@@ -151,6 +142,19 @@ impl RowReader for PprofRows {
         }
         Ok(step)
     }
+}
+
+/// A stack is known again where its location ids stand as one packed run, the sample's first field, and these bytes were met before.
+impl RowReader for PprofRows {
+    ghost gives = { λ reader rest. rest ≡ reader.rest };
+
+    ghost told = { λ reader. reader.told };
+
+    ghost has_ended = { λ reader. IsTrue reader.has_ended };
+
+    fn next_row(&mut self, alloc: Global) -> Result<RowStep, AllocError> {
+        self.next_step(alloc)
+    }
 
     fn name(&self, number: usize) -> Option<&str> {
         match &self.teller {
@@ -158,4 +162,12 @@ impl RowReader for PprofRows {
             None => None,
         }
     }
+}
+
+impl KnownRows for PprofRows {
+    ghost rest = { λ reader. reader.rest };
+
+    ghost gives_rest = { λ reader. refl };
+
+    ghost gives_no_other = { λ reader other is. is };
 }

@@ -1,5 +1,6 @@
 pub mod BatchLemmas
 pub mod CollectionLemmas
+pub mod GivenRests
 pub mod IntakeLemmas
 pub mod LedgerLemmas
 pub mod NameOrder

@@ -12,6 +12,7 @@ use Rattle.stack_core.specs.Reading.{Rest}
 use Rattle.stack_core.specs.Records.{names_told, stacks_told, names_at, stands_for, stands_for_after, IsWellTold, IsWellToldAfter}
 use Rattle.stack_core.specs.RowReading.{StepsByRows, sample_by}
 use Rattle.sample_tables.specs.declared.samples.Sample.{Sample}
+use Rattle.stack_core.specs.declared.endings.SourceEnd.{SourceEnd}
 use Rattle.stack_core.specs.declared.readers.RowStep.{RowStep}
 use Rattle.stack_core.specs.declared.readers.RowStep.TheVariants as step
 use Rattle.stack_core.specs.declared.endings.Item.{Item}
@@ -113,6 +114,12 @@ pub steps_sample : (told told' : ToldRows) (old_rest new_rest : Rest) (step : Ro
 steps_sample told told' old_rest new_rest (step.New names frames weight) steps more = (sample_by told'.names frames weight, steps.gives.samples)
 steps_sample told told' old_rest new_rest (step.Again row weight) steps more = (sample_by told.names (stack_at told.stacks row) weight, steps.gives.samples)
 steps_sample told told' old_rest new_rest (step.End ending) steps more = absurd (cc)
+
+-- and where it is one, that is the ending of what there was, which had no sample
+pub steps_end : (told told' : ToldRows) (old_rest new_rest : Rest) (step : RowStep) (ending : SourceEnd) → StepsByRows told old_rest step told' new_rest → ending_of step ≡ Some ending → (old_rest.samples ≡ []) × (old_rest.ending ≡ ending)
+steps_end told told' old_rest new_rest (step.New names frames weight) ending steps is = absurd (cc)
+steps_end told told' old_rest new_rest (step.Again row weight) ending steps is = absurd (cc)
+steps_end told told' old_rest new_rest (step.End last) ending steps is = (steps.none, steps.last ∙ cc)
 
 -- what a reader of rows gave is told by its records
 pub tells_step : {may_go : ℕ → ℕ → Type 0} {source index : ℕ} {told told' : ToldRows} {old_rest new_rest : Rest} (step : RowStep) (old : List RingRecord) → StepsByRows told old_rest step told' new_rest → ending_of step ≡ None

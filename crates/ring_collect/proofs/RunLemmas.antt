@@ -1,10 +1,11 @@
 -- A run, from its start to what was settled.
-use Rattle.std.proofs.Common.{◌≡◌, ◌≢◌, ℕ, zero, suc, ◌<◌, ◌≤◌, ◌⊎◌, inl, inr, Bool, false, List, [], ◌∷◌, ◌++◌, length, map, get_or, refl, sym, ap, subst, ◌∙◌, arith, append-nil, Some, None, slice_get, Result, Ok, Err, IsOk, OnOk, true≢false}
+use Rattle.std.proofs.Common.{All, ◌≡◌, ◌≢◌, ℕ, zero, suc, ◌<◌, ◌≤◌, ◌⊎◌, inl, inr, Bool, false, List, [], ◌∷◌, ◌++◌, length, map, get_or, refl, sym, ap, subst, ◌∙◌, arith, append-nil, Some, None, slice_get, Result, Ok, Err, IsOk, OnOk, true≢false}
 use Rattle.std.specs.List.{AllByRecursion}
 use Rattle.std.proofs.lemmas.List.{length-map}
 use Rattle.std.proofs.lemmas.List.Elements.{All-from_recursion}
 use Rattle.std.proofs.lemmas.Option.{slice_get_cases, slice_get_within, same_Some}
 use Rattle.stack_core.specs.Reading.{Rest}
+use Rattle.stack_core.specs.RowReading.{GivesSome, GivesSuch}
 use Rattle.stack_core.specs.Ledgers.{LedgerState}
 use Rattle.stack_core.specs.Told.{GoesBelow}
 use Rattle.stack_core.specs.Interleaving.{list_of, of_source}
@@ -21,6 +22,7 @@ use Rattle.ring_collect.specs.checked.WholeRuns.{RunsWhole, IsUnfinished}
 use Rattle.std.specs.Result.{IsErrAnd, IsErrOf}
 use Rattle.ring_collect.specs.declared.faults.CollectFault.{CollectFault}
 use Rattle.ring_collect.specs.declared.faults.CollectFault.TheVariants.{OutOfMemory, NoThread}
+use Rattle.ring_collect.proofs.GivenRests.{Chosen, choose, given_count, one_of_all}
 use Rattle.ring_collect.proofs.Outcomes.{error_said}
 use Rattle.ring_collect.proofs.RoundLemmas.{slice_get_map}
 use Rattle.ring_collect.specs.declared.intakes.Intake.{Intake}
@@ -98,12 +100,6 @@ as_many old new same = sym (length-map new (λ s. s.handle)) ∙ ap length same 
 pub at_index : {A : Type 0} (xs : List A) (i : ℕ) → i < length xs → (x : A) × (slice_get xs i ≡ Some x)
 at_index xs i below = elim (slice_get_cases xs i).1 [ inl here ↦ (here.0, here.2) | inr past ↦ let h = past.0 in absurd (omega arith) ]
 
-mapped : {A B : Type 0} (f : A → B) (xs : List A) (i : ℕ) (y : B) → slice_get (map f xs) i ≡ Some y → (x : A) × (slice_get xs i ≡ Some x) × (f x ≡ y)
-mapped f xs i y is =
-    let below : i < length xs = subst (λ n. i < n) (length-map xs f) (slice_get_within (map f xs) i y is) in
-    let place = at_index xs i below in
-    (place.0, place.1, same_Some (f place.0) y (sym (slice_get_map f xs i place.0 place.1) ∙ is))
-
 pub past_the_end : {A : Type 0} (xs : List (List A)) (i : ℕ) → length xs ≤ i → get_or xs i [] ≡ []
 past_the_end [] i past = refl
 past_the_end (x ∷ xs) zero past = absurd (omega arith)
@@ -145,44 +141,81 @@ unfinishes {readers = readers} all source promised gained below = record {
     no_more : length all ≤ length readers
     no_more = let n = promised.no_more in let e = length-map all (λ s. s.handle.promise) in omega arith
 
-module _ {R G : Type 0} {may_stop may_go : G → ℕ → ℕ → Type 0} {rest : R → Rest} {gate : G} {readers : List R} {all : List (RunningSource R G)} {ledgers : List LedgerState}
+module _ {R G : Type 0} {may_stop may_go : G → ℕ → ℕ → Type 0} {gives : R → Rest → Type 0} {gate : G} {readers : List R} {all : List (RunningSource R G)} {ledgers : List LedgerState}
     {start taken : List (ℕ × Sample)} {order : List ℕ} {refused : Bool}
-    (promised : ArePromised gate readers (map (λ started. started.handle.promise) all)) (settled : AreSettled may_stop may_go rest all ledgers)
+    (promised : ArePromised gate readers (map (λ started. started.handle.promise) all)) (settled : AreSettled may_stop may_go gives all ledgers)
     (has_gained : HasGained start (map (λ started. started.intake) all) taken order refused) where
+  abbrev IsRestOf : ℕ → RunningSource R G → LedgerState → Rest → Type 0
+  IsRestOf source started ledger rest = IsSettledAs (may_stop gate) (may_go gate) source rest started.intake.stage (list_of has_gained.lists source) ledger
+
   source_settled : (source : ℕ) (started : RunningSource R G) (ledger : LedgerState) (reader : R) → slice_get all source ≡ Some started → slice_get ledgers source ≡ Some ledger → slice_get readers source ≡ Some reader
-      → IsSettledAs (may_stop gate) (may_go gate) source (rest reader) started.intake.stage (list_of has_gained.lists source) ledger
+      → GivesSuch (gives reader) (IsRestOf source started ledger)
   source_settled source started ledger reader is_started is_ledger is_reader =
       let promise = promised.each source started.handle.promise reader (slice_get_map (λ s. s.handle.promise) all source started is_started) is_reader in
       let at = has_gained.each source started.intake (slice_get_map (λ s. s.intake) all source started is_started) in
       let list = list_of has_gained.lists source in
       let stage = started.intake.stage in
-      let as_promised = settled.each source started ledger is_started is_ledger list at.tracks in
-      subst (λ r. IsSettledAs (may_stop gate) (may_go gate) source (rest r) stage list ledger) promise.reader_is
-      (subst (λ s. IsSettledAs (may_stop gate) (may_go gate) s (rest started.handle.promise.reader.value) stage list ledger) promise.source_is
-      (subst (λ w. IsSettledAs (may_stop w) (may_go w) started.handle.promise.source (rest started.handle.promise.reader.value) stage list ledger) promise.gate_is as_promised))
+      let as_promised = settled.each source started ledger is_started is_ledger in
+      let rest = as_promised.rest in
+      record {
+        rest = rest;
+        is_given = subst (λ r. gives r rest) promise.reader_is as_promised.is_given;
+        holds = subst (λ s. IsSettledAs (may_stop gate) (may_go gate) s rest stage list ledger) promise.source_is
+            (subst (λ w. IsSettledAs (may_stop w) (may_go w) started.handle.promise.source rest stage list ledger) promise.gate_is (as_promised.holds list at.tracks));
+      }
+
+  -- the rest of a source that was started is the one by which it is settled
+  abbrev IsRestAt : ℕ → Rest → Type 0
+  IsRestAt source rest = (started : RunningSource R G) (ledger : LedgerState) → slice_get all source ≡ Some started → slice_get ledgers source ≡ Some ledger → IsRestOf source started ledger rest
+
+  rest_at : All (λ reader. GivesSome (gives reader)) readers → (source : ℕ) (reader : R) → slice_get readers source ≡ Some reader → GivesSuch (gives reader) (IsRestAt source)
+  rest_at possible source reader is_reader = elim (slice_get_cases all source).1 [
+    | inl here ↦
+        let count = settled.count in
+        let below = here.1 in
+        let ledger = at_index ledgers source (omega arith) in
+        let one = source_settled source here.0 ledger.0 reader here.2 ledger.1 is_reader in
+        record {
+          rest = one.rest;
+          is_given = one.is_given;
+          holds = λ started l is_started is_l.
+              subst (λ l. IsRestOf source started l one.rest) (same_Some ledger.0 l (sym ledger.1 ∙ is_l))
+              (subst (λ started. IsRestOf source started ledger.0 one.rest) (same_Some here.0 started (sym here.2 ∙ is_started)) one.holds);
+        }
+    | inr past ↦
+        let some = one_of_all (λ reader. GivesSome (gives reader)) readers possible source reader is_reader in
+        record {
+          rest = some.rest;
+          is_given = some.is_given;
+          holds = λ started l is_started is_l. let beyond = past.0 in let below = slice_get_within all source started is_started in absurd (omega arith);
+        }
+  ]
+
+  -- of the others it is any
+  pub rests_of : All (λ reader. GivesSome (gives reader)) readers → Chosen gives readers IsRestAt
+  rests_of possible = choose gives IsRestAt readers (rest_at possible)
 
   all_listed : length has_gained.lists ≡ length all
   all_listed = has_gained.all_listed ∙ length-map all (λ s. s.intake)
 
-  pub gains_first : GainsFirst (map rest readers) start taken
-  gains_first = record {
+  pub gains_first : (chosen : Chosen gives readers IsRestAt) → GainsFirst chosen.rests start taken
+  gains_first chosen = record {
     pairs = has_gained.pairs;
     lists = has_gained.lists;
     gained = has_gained.gained;
     of_lists = has_gained.of_lists;
-    no_more = let n = promised.no_more in let e = all_listed in let f = length-map all (λ s. s.handle.promise) in let h = length-map readers rest in omega arith;
+    no_more = let n = promised.no_more in let e = all_listed in let f = length-map all (λ s. s.handle.promise) in let h = given_count gives readers chosen.rests chosen.are_given in omega arith;
     first = first;
   }
     where
-      first : (source : ℕ) (r : Rest) → slice_get (map rest readers) source ≡ Some r → IsPrefixOf (list_of has_gained.lists source) r.samples
+      first : (source : ℕ) (r : Rest) → slice_get chosen.rests source ≡ Some r → IsPrefixOf (list_of has_gained.lists source) r.samples
       first source r is =
-          let reader = mapped rest readers source r is in
           elim (slice_get_cases all source).1 [
             | inl here ↦
                 let count = settled.count in
                 let below = here.1 in
                 let ledger = at_index ledgers source (omega arith) in
-                subst (λ (q : Rest). IsPrefixOf (list_of has_gained.lists source) q.samples) reader.2 (source_settled source here.0 ledger.0 reader.0 here.2 ledger.1 reader.1).first
+                (chosen.each source r is here.0 ledger.0 here.2 ledger.1).first
             | inr past ↦
                 let beyond = past.0 in
                 let e = all_listed in
@@ -206,7 +239,7 @@ module _ {R G : Type 0} {may_stop may_go : G → ℕ → ℕ → Type 0} {rest :
             let as_many = length-map all (λ s. s.handle.promise) in
             let ledger = at_index ledgers source (omega arith) in
             let reader = at_index readers source (omega arith) in
-            (source_settled source here.0 ledger.0 reader.0 here.2 ledger.1 reader.1).goes
+            (source_settled source here.0 ledger.0 reader.0 here.2 ledger.1 reader.1).holds.goes
         | inr past ↦
             let beyond = past.0 in
             let e = all_listed in
@@ -214,28 +247,27 @@ module _ {R G : Type 0} {may_stop may_go : G → ℕ → ℕ → Type 0} {rest :
             λ i below. absurd (omega arith)
       ]
 
-  pub runs_whole : refused ≡ false → length all ≡ length readers → RunsWhole (may_stop gate) (may_go gate) (map rest readers) ledgers order start taken
-  runs_whole not_refused every = record {
+  pub runs_whole : (chosen : Chosen gives readers IsRestAt) → refused ≡ false → length all ≡ length readers → RunsWhole (may_stop gate) (may_go gate) chosen.rests ledgers order start taken
+  runs_whole chosen not_refused every = record {
     pairs = has_gained.pairs;
     lists = has_gained.lists;
     gained = has_gained.gained;
     of_lists = has_gained.of_lists;
     ordered = has_gained.ordered not_refused;
     all_listed = all_listed ∙ sym settled.count;
-    count = settled.count ∙ every ∙ sym (length-map readers rest);
+    count = settled.count ∙ every ∙ sym (given_count gives readers chosen.rests chosen.are_given);
     each = each;
   }
     where
-      each : (source : ℕ) (r : Rest) (ledger : LedgerState) → slice_get (map rest readers) source ≡ Some r → slice_get ledgers source ≡ Some ledger
+      each : (source : ℕ) (r : Rest) (ledger : LedgerState) → slice_get chosen.rests source ≡ Some r → slice_get ledgers source ≡ Some ledger
           → IsAllTold (may_stop gate) (may_go gate) source r (list_of has_gained.lists source) ledger
       each source r ledger is is_ledger =
-          let reader = mapped rest readers source r is in
           let count = settled.count in
           let below = slice_get_within ledgers source ledger is_ledger in
           let started = at_index all source (omega arith) in
-          let one = source_settled source started.0 ledger reader.0 started.1 is_ledger reader.1 in
+          let one = chosen.each source r is started.0 ledger started.1 is_ledger in
           let going = has_gained.going not_refused source started.0.intake (slice_get_map (λ s. s.intake) all source started.0 started.1) in
-          subst (λ q. IsAllTold (may_stop gate) (may_go gate) source q (list_of has_gained.lists source) ledger) reader.2 (one.whole (is_taking started.0.intake.stage going one.taken_or_dropped))
+          one.whole (is_taking started.0.intake.stage going one.taken_or_dropped)
 
 pub where_ok : {A E P : Type 0} (result : Result A E) → IsOk result → OnOk result P → P
 where_ok (Ok x) ok h = h

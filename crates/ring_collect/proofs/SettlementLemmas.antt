@@ -6,6 +6,7 @@ use Rattle.std.specs.Arc.{arc_value}
 use Rattle.rtrb.specs.Ring.{received, all_sent}
 use Rattle.rtrb.specs.declared.finished.Finished.{Finished}
 use Rattle.stack_core.specs.Reading.{Rest}
+use Rattle.stack_core.specs.RowReading.{GivesSuch}
 use Rattle.stack_core.specs.Ledgers.{LedgerState, ListState}
 use Rattle.stack_core.specs.Records.{stands_for, stands_for_after, names_told, stacks_told, IsWellTold}
 use Rattle.stack_core.specs.Prefixes.{IsPrefixOf}
@@ -104,20 +105,20 @@ module _ {may_stop may_go : ℕ → ℕ → Type 0} {source : ℕ} {rest : Rest}
             };
       }
 
-module _ {R G : Type 0} {may_stop may_go : G → ℕ → ℕ → Type 0} {rest : R → Rest} where
+module _ {R G : Type 0} {may_stop may_go : G → ℕ → ℕ → Type 0} {gives : R → Rest → Type 0} where
   -- one more is settled
-  pub settled_push : {all : List (RunningSource R G)} {ledgers : List LedgerState} → AreSettled may_stop may_go rest all ledgers → (started : RunningSource R G) (ledger : LedgerState)
-      → IsSettled may_stop may_go rest started ledger → AreSettled may_stop may_go rest (all ++ started ∷ []) (ledgers ++ ledger ∷ [])
+  pub settled_push : {all : List (RunningSource R G)} {ledgers : List LedgerState} → AreSettled may_stop may_go gives all ledgers → (started : RunningSource R G) (ledger : LedgerState)
+      → IsSettled may_stop may_go gives started ledger → AreSettled may_stop may_go gives (all ++ started ∷ []) (ledgers ++ ledger ∷ [])
   settled_push {all} {ledgers} settled started ledger one = record {
     count = length-append ledgers (ledger ∷ []) ∙ ap (λ n. n + 1) settled.count ∙ sym (length-append all (started ∷ []));
     each = λ source s l is_s is_l. by_index source s l (pushed_at all started source s is_s) (pushed_at ledgers ledger source l is_l);
   }
     where
-      by_index : (source : ℕ) (s : RunningSource R G) (l : LedgerState) → PushedAt all started source s → PushedAt ledgers ledger source l → IsSettled may_stop may_go rest s l
+      by_index : (source : ℕ) (s : RunningSource R G) (l : LedgerState) → PushedAt all started source s → PushedAt ledgers ledger source l → IsSettled may_stop may_go gives s l
       by_index source s l (Earlier before is_s) (Earlier before' is_l) = settled.each source s l is_s is_l
       by_index source s l (Earlier before is_s) (Last at is_l) = let e = settled.count in absurd (omega arith)
       by_index source s l (Last at is_s) (Earlier before is_l) = let e = settled.count in absurd (omega arith)
-      by_index source s l (Last at is_s) (Last at' is_l) = subst (λ t. IsSettled may_stop may_go rest t l) (sym is_s) (subst (IsSettled may_stop may_go rest started) (sym is_l) one)
+      by_index source s l (Last at is_s) (Last at' is_l) = subst (λ t. IsSettled may_stop may_go gives t l) (sym is_s) (subst (IsSettled may_stop may_go gives started) (sym is_l) one)
 
 -- a row had a number without a name only where what was received is not well told
 none_was_unnamed : {records sent : List RingRecord} {close : Option Close} {ledger : LedgerState} {stage : Stage} {list : List Sample}
@@ -141,39 +142,44 @@ closed_by : (close : Option Close) → IsSome close → (last : Close) × (close
 closed_by None closed = absurd (true≢false (sym closed))
 closed_by (Some last) closed = (last, refl)
 
-module _ {R G : Type 0} (may_stop may_go : G → ℕ → ℕ → Type 0) (rest : R → Rest) (started : RunningSource R G) where
+module _ {R G : Type 0} (may_stop may_go : G → ℕ → ℕ → Type 0) (gives : R → Rest → Type 0) (started : RunningSource R G) where
   abbrev gate : G
   gate = arc_value started.handle.promise.gate.value
 
   -- a source whose ledger has all that was sent is settled
   received_settled : (sent : List RingRecord) (ledger : LedgerState) → IsSome started.intake.close
-      → TellsAll (may_stop gate) (may_go gate) started.handle.promise.source (rest started.handle.promise.reader.value) sent
-      → IsReceived sent started.intake ledger → IsSettled may_stop may_go rest started ledger
-  received_settled sent ledger closed tells is list tracked =
+      → GivesSuch (gives started.handle.promise.reader.value) (λ rest. TellsAll (may_stop gate) (may_go gate) started.handle.promise.source rest sent)
+      → IsReceived sent started.intake ledger → IsSettled may_stop may_go gives started ledger
+  received_settled sent ledger closed tells is =
       let intake = started.intake in
       let last = closed_by intake.close closed in
-      settled last.0 (subst (λ close. Tracked (records_of_all (received intake.consumer)) close intake.ledger intake.stage list) last.1 tracked) is.begins tells
-      (is.closed ∙ ap (λ close. record intake.ledger { close = close }) last.1)
+      record {
+        rest = tells.rest;
+        is_given = tells.is_given;
+        holds = λ list tracked.
+            settled last.0 (subst (λ close. Tracked (records_of_all (received intake.consumer)) close intake.ledger intake.stage list) last.1 tracked) is.begins tells.holds
+            (is.closed ∙ ap (λ close. record intake.ledger { close = close }) last.1);
+      }
 
   pub left_settled : {A P : Type 0} (left : Option (Finished Batch A P)) (result : Option LedgerState) → IsSome started.intake.close
-      → IfSome left (λ left. TellsAll (may_stop gate) (may_go gate) started.handle.promise.source (rest started.handle.promise.reader.value) (records_of_all (all_sent left)))
+      → IfSome left (λ left. GivesSuch (gives started.handle.promise.reader.value) (λ rest. TellsAll (may_stop gate) (may_go gate) started.handle.promise.source rest (records_of_all (all_sent left))))
       → IfSome left (λ left. IfSome result (IsReceived (records_of_all (all_sent left)) started.intake)) → IfNone left (result ≡ None)
-      → IfSome result (IsSettled may_stop may_go rest started)
+      → IfSome result (IsSettled may_stop may_go gives started)
   left_settled left None closed tells received unshown = tt
   left_settled None (Some ledger) closed tells received unshown = absurd (some≢none unshown)
   left_settled (Some left) (Some ledger) closed tells received unshown = received_settled (records_of_all (all_sent left)) ledger closed tells received
 
 -- what holds of the ledgers goes on to one more, where no source is unfinished
-pub more_settled : {R G : Type 0} (may_stop may_go : G → ℕ → ℕ → Type 0) (rest : R → Rest) (all : List (RunningSource R G)) (ledgers ledgers' : List LedgerState)
+pub more_settled : {R G : Type 0} (may_stop may_go : G → ℕ → ℕ → Type 0) (gives : R → Rest → Type 0) (all : List (RunningSource R G)) (ledgers ledgers' : List LedgerState)
     (unfinished result : Option ℕ) (last : Option LedgerState) (started : RunningSource R G)
     → IfNone result ((unfinished ≡ None) × IfSome last (λ ledger. ledgers' ≡ ledgers ++ ledger ∷ []) × IsSome last)
-    → IfNone unfinished (AreSettled may_stop may_go rest all ledgers) → IfSome last (IsSettled may_stop may_go rest started)
-    → IfNone result (AreSettled may_stop may_go rest (all ++ started ∷ []) ledgers')
-more_settled may_stop may_go rest all ledgers ledgers' unfinished (Some first) last started kept so_far one = tt
-more_settled may_stop may_go rest all ledgers ledgers' unfinished None None started kept so_far one = absurd (true≢false (sym kept.2))
-more_settled may_stop may_go rest all ledgers ledgers' unfinished None (Some ledger) started kept so_far one =
-    subst (AreSettled may_stop may_go rest (all ++ started ∷ [])) (sym kept.1)
-    (settled_push (subst (λ u. IfNone u (AreSettled may_stop may_go rest all ledgers)) kept.0 so_far) started ledger one)
+    → IfNone unfinished (AreSettled may_stop may_go gives all ledgers) → IfSome last (IsSettled may_stop may_go gives started)
+    → IfNone result (AreSettled may_stop may_go gives (all ++ started ∷ []) ledgers')
+more_settled may_stop may_go gives all ledgers ledgers' unfinished (Some first) last started kept so_far one = tt
+more_settled may_stop may_go gives all ledgers ledgers' unfinished None None started kept so_far one = absurd (true≢false (sym kept.2))
+more_settled may_stop may_go gives all ledgers ledgers' unfinished None (Some ledger) started kept so_far one =
+    subst (AreSettled may_stop may_go gives (all ++ started ∷ [])) (sym kept.1)
+    (settled_push (subst (λ u. IfNone u (AreSettled may_stop may_go gives all ledgers)) kept.0 so_far) started ledger one)
 
 pub first_below : {n source : ℕ} (unfinished result : Option ℕ) → IfSome result (λ first. (unfinished ≡ Some first) ⊎ (first ≡ source)) → IfSome unfinished (λ first. first < n) → source ≡ n
     → IfSome result (λ first. first < n + 1)

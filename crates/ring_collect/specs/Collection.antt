@@ -1,5 +1,5 @@
 -- What a run collected, and what a refusal leaves in the sink.
-use Rattle.std.specs.Prelude.{◌≡◌, ◌≤◌, ◌<◌, ◌++◌, ◌⊎◌, ℕ, List, length, map, All, Some, slice_get, Result, IfOk, IsErrOf}
+use Rattle.std.specs.Prelude.{◌≡◌, ◌≤◌, ◌<◌, ◌++◌, ◌⊎◌, ℕ, List, [], ◌∷◌, length, map, All, Some, slice_get, Result, IfOk, IsErrOf}
 use Rattle.call_tree.specs.FrameTable.{HasDistinctNames}
 use Rattle.stack_core.specs.Reading.{Rest}
 use Rattle.stack_core.specs.Ledgers.{ListState}
@@ -15,6 +15,19 @@ use Rattle.ring_collect.specs.declared.runs.Collected.{Collected}
 -- the samples and the ending of a list
 abbrev pub seen_as_rest : ListState → Rest
 seen_as_rest list = record { samples = list.samples; ending = list.ending }
+
+-- a rest for each reader, which it may give
+abbrev pub AreGiven : {R : Type 0} → (R → Rest → Type 0) → List R → List Rest → Type 0
+AreGiven gives [] [] = Unit {0}
+AreGiven gives [] (rest ∷ rests) = ⊥
+AreGiven gives (reader ∷ readers) [] = ⊥
+AreGiven gives (reader ∷ readers) (rest ∷ rests) = gives reader rest × AreGiven gives readers rests
+
+-- there are rests, a rest for each reader, which it may give, of which this holds
+pub record GiveSuch {R : Type 0} (gives : R → Rest → Type 0) (readers : List R) (Holds : List Rest → Type 0) : Type 0 where
+  pub rests : List Rest
+  pub are_given : AreGiven gives readers rests
+  pub holds : Holds rests
 
 -- one list for each rest, in their order
 pub record Collects (may_stop may_go : ℕ → ℕ → Type 0) (rests : List Rest) (lists : List ListState) : Type 0 where

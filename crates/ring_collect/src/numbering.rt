@@ -93,9 +93,10 @@ pub struct NumberingReader<R: SampleReader> {
 }
 
 impl<R: SampleReader> NumberingReader<R> {
-    ghost use Rattle.std.specs.Prelude.{◌≡◌, [], None, IfOk, IsSome, OnErr};
+    ghost use Rattle.std.specs.Prelude.{◌≡◌, ◌<◌, ◌^◌, [], None, length, IfOk, IsOk, IsSome, OnErr};
     ghost use Rattle.ring_collect.specs.NamesInOrder.{GrowsTo};
     ghost use Rattle.ring_collect.specs.checked.Numbering.{stacks_of, told_of, with_waiting};
+    ghost use Rattle.stack_core.specs.Prefixes.{IsPrefixOf};
     ghost use Rattle.stack_core.specs.RowReading.{IsLastStep, IsLimitedStep, StepsByRows};
 
     /// Nothing is told yet.
@@ -141,20 +142,25 @@ impl<R: SampleReader> NumberingReader<R> {
             weight,
         })
     }
-}
 
-impl<R: SampleReader> RowReader for NumberingReader<R> {
-    ghost use Rattle.std.specs.Prelude.{◌≡◌, None, []};
-    ghost use Rattle.ring_collect.specs.checked.Numbering.{told_of, with_waiting};
-
-    ghost rest = { λ numbering. with_waiting numbering.waiting (R.rest numbering.reader) };
-
-    ghost told = { λ numbering. told_of numbering.names numbering.stacks };
-
-    ghost has_ended = { λ numbering. (numbering.waiting ≡ None) × R.has_ended numbering.reader
-        × ((R.rest numbering.reader).samples ≡ []) };
-
-    fn next_row(&mut self, alloc: Global) -> Result<RowStep, AllocError> {
+    /// The next step. Contracts see the one rest that the reader gives.
+    fn next_step(&mut self, alloc: Global) -> Result<RowStep, AllocError>
+        ensures step { IfOk result (λ step. StepsByRows (told_of self.old.names self.old.stacks)
+            (with_waiting self.old.waiting (R.rest self.old.reader)) step
+            (told_of self.new.names self.new.stacks)
+            (with_waiting self.new.waiting (R.rest self.new.reader))) }
+        ensures limits { IfOk result IsLimitedStep }
+        ensures refused { OnErr result (with_waiting self.new.waiting (R.rest self.new.reader)
+            ≡ with_waiting self.old.waiting (R.rest self.old.reader)) }
+        ensures stacks { OnErr result (stacks_of self.new.stacks ≡ stacks_of self.old.stacks) }
+        ensures names { OnErr result (IsPrefixOf self.old.names self.new.names) }
+        ensures few { length (with_waiting self.old.waiting (R.rest self.old.reader)).samples
+            < 2 ^ 64 }
+        ensures ended { IfOk result (λ step. IsLastStep step → (self.new.waiting ≡ None)
+            × R.has_ended self.new.reader × ((R.rest self.new.reader).samples ≡ [])) }
+        ensures repeats { (self.old.waiting ≡ None) × R.has_ended self.old.reader
+            × ((R.rest self.old.reader).samples ≡ []) → IsOk result }
+    {
         if self.waiting.is_some() {
             return self.tell_waiting(alloc);
         }
@@ -165,6 +171,23 @@ impl<R: SampleReader> RowReader for NumberingReader<R> {
             }
             Step::End(ending) => Ok(RowStep::End(ending)),
         }
+    }
+}
+
+impl<R: SampleReader> RowReader for NumberingReader<R> {
+    ghost use Rattle.std.specs.Prelude.{◌≡◌, None, []};
+    ghost use Rattle.ring_collect.specs.checked.Numbering.{told_of, with_waiting};
+
+    ghost gives = { λ numbering rest.
+        rest ≡ with_waiting numbering.waiting (R.rest numbering.reader) };
+
+    ghost told = { λ numbering. told_of numbering.names numbering.stacks };
+
+    ghost has_ended = { λ numbering. (numbering.waiting ≡ None) × R.has_ended numbering.reader
+        × ((R.rest numbering.reader).samples ≡ []) };
+
+    fn next_row(&mut self, alloc: Global) -> Result<RowStep, AllocError> {
+        self.next_step(alloc)
     }
 
     fn name(&self, number: usize) -> Option<&str> {

@@ -1,8 +1,9 @@
 //! A whole run of readers of rows and a sink by rows.
 
-ghost use Rattle.std.specs.Prelude.{All, ◌≡◌, ◌≤◌, [], length, map};
+ghost use Rattle.std.specs.Prelude.{All, ◌≡◌, ◌≤◌, [], length};
 ghost use Rattle.std.specs.Arc.{arc_value};
-ghost use Rattle.ring_collect.specs.Collection.{AnswersRun};
+ghost use Rattle.ring_collect.specs.Collection.{AnswersRun, GiveSuch};
+ghost use Rattle.stack_core.specs.RowReading.{GivesSome};
 
 use crate::batches::Handover;
 use crate::faults::CollectFault;
@@ -37,8 +38,12 @@ pub fn collect_rows<
     requires few { length readers.items ≤ 64 }
     requires nothing_told { All (λ reader. R.told reader ≡ record { names = []; stacks = [] })
         readers.items }
-    ensures answer { AnswersRun (G.may_stop (arc_value gate)) (G.may_go (arc_value gate))
-        (map R.rest readers.items) (S.taken sink.old) (S.taken sink.new) result }
+    requires possible { All (λ reader. GivesSome (R.gives reader)) readers.items }
+
+    // So for a rest of each reader that it may give. Of bytes that are known there is one.
+    ensures answer { GiveSuch (λ reader. R.gives reader) readers.items (λ rests.
+        AnswersRun (G.may_stop (arc_value gate)) (G.may_go (arc_value gate)) rests
+        (S.taken sink.old) (S.taken sink.new) result) }
     ensures setting { S.setting sink.new ≡ S.setting sink.old }
 {
     let handover = Handover::in_batches(ring);

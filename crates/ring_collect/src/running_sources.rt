@@ -10,7 +10,8 @@ use std::snapshot::Snapshot;
 use std::sync::Arc;
 use std::thread::{Promise, PromisedHandle};
 
-/// What the thread of a source promises of what it hands back: all that it sent is what its reader tells under the gate.
+/// What the thread of a source promises of what it hands back: all that it sent is what its reader tells under the gate, of a
+/// rest that it may give.
 pub struct ReaderPromise<R, G> {
     pub reader: Snapshot<R>,
     pub gate: Snapshot<Arc<G>>,
@@ -32,11 +33,13 @@ impl<R, G> Drop for ReaderPromise<R, G> {
 impl<R: RowReader, G: Gate> Promise<Option<LeftOfRing>> for ReaderPromise<R, G> {
     ghost use Rattle.std.specs.Prelude.{IfSome};
     ghost use Rattle.std.specs.Arc.{arc_value};
+    ghost use Rattle.stack_core.specs.RowReading.{GivesSuch};
     ghost use Rattle.ring_collect.specs.checked.Tellers.{SentAll};
 
     ghost kept_by = { λ p r.
-        IfSome r (SentAll (G.may_stop (arc_value p.gate.value)) (G.may_go (arc_value p.gate.value))
-        p.source (R.rest p.reader.value) p.producer.value) };
+        IfSome r (λ left. GivesSuch (R.gives p.reader.value) (λ rest.
+        SentAll (G.may_stop (arc_value p.gate.value)) (G.may_go (arc_value p.gate.value))
+        p.source rest p.producer.value left)) };
 }
 
 pub type ReaderHandle<R, G> = PromisedHandle<Option<LeftOfRing>, ReaderPromise<R, G>>;

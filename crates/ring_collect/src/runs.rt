@@ -1,11 +1,12 @@
 //! A whole run: a reader thread and a bounded ring for each source, and the collecting thread that feeds the sink.
 
-ghost use Rattle.std.specs.Prelude.{All, None, Some, false, ◌≡◌, ◌≤◌, ◌++◌, ◌⊎◌, ℕ, [], IfOk, IsErrOf, IfErr, IsOk, length, map, vec_capacity};
+ghost use Rattle.std.specs.Prelude.{All, None, Some, false, ◌≡◌, ◌≤◌, ◌++◌, ◌⊎◌, ℕ, [], IfOk, IsErrOf, IfErr, IsOk, length, vec_capacity};
 ghost use Rattle.std.specs.Arc.{arc_value};
-ghost use Rattle.ring_collect.specs.Collection.{AnswersRun, GainsAllowed, GainsFirst};
+ghost use Rattle.ring_collect.specs.Collection.{AnswersRun, GainsAllowed, GainsFirst, GiveSuch};
 ghost use Rattle.ring_collect.specs.checked.WholeRuns.{IsUnfinished, RunsWhole};
 ghost use Rattle.ring_collect.specs.checked.Settlement.{AreListsOf};
 ghost use Rattle.stack_core.specs.Ledgers.{IsRead};
+ghost use Rattle.stack_core.specs.RowReading.{GivesSome};
 
 use crate::batches::Handover;
 use crate::faults::CollectFault;
@@ -87,19 +88,19 @@ impl<R: RowReader + Send + Drop + 'static, G: Gate + Send + Sync + Drop + 'stati
         requires few { length readers.items ≤ 64 }
         requires nothing_told { All (λ reader. R.told reader ≡ record { names = []; stacks = [] })
             readers.items }
+        requires possible { All (λ reader. GivesSome (R.gives reader)) readers.items }
         requires rings { length self.rings.items ≡ length readers.items }
         requires sources { (self.sources.items ≡ [])
             × (length readers.items ≤ vec_capacity self.sources) }
         requires ledgers { (self.ledgers.items ≡ [])
             × (length readers.items ≤ vec_capacity self.ledgers) }
-        ensures gains { IfOk result (λ _.
-            GainsFirst (map R.rest readers.items) (F.taken sink.old) (F.taken sink.new)) }
+        ensures gains { IfOk result (λ run. GiveSuch (λ reader. R.gives reader) readers.items (λ rests.
+            GainsFirst rests (F.taken sink.old) (F.taken sink.new)
+            × (run.fault ≡ None
+            → RunsWhole (G.may_stop (arc_value gate.now)) (G.may_go (arc_value gate.now)) rests
+            run.ledgers.items run.order.items (F.taken sink.old) (F.taken sink.new)))) }
         ensures popped { IfOk result (λ _.
             GainsAllowed (G.may_go (arc_value gate.now)) (F.taken sink.old) (F.taken sink.new)) }
-        ensures whole { IfOk result (λ run. run.fault ≡ None
-            → RunsWhole (G.may_stop (arc_value gate.now)) (G.may_go (arc_value gate.now))
-            (map R.rest readers.items) run.ledgers.items run.order.items (F.taken sink.old)
-            (F.taken sink.new)) }
         ensures refused { IfOk result (λ run. (source : ℕ)
             → run.fault ≡ Some (CollectFault.Unfinished source) → ⊥) }
         ensures unfinished { IfErr result (λ fault.
@@ -164,8 +165,10 @@ impl<R: RowReader + Send + Drop + 'static> RingedReaders<R> {
         requires few { length self.readers.items ≤ 64 }
         requires nothing_told { All (λ reader. R.told reader ≡ record { names = []; stacks = [] })
             self.readers.items }
-        ensures answer { AnswersRun (G.may_stop (arc_value gate)) (G.may_go (arc_value gate))
-            (map R.rest self.readers.items) (F.taken sink.old) (F.taken sink.new) result }
+        requires possible { All (λ reader. GivesSome (R.gives reader)) self.readers.items }
+        ensures answer { GiveSuch (λ reader. R.gives reader) self.readers.items (λ rests.
+            AnswersRun (G.may_stop (arc_value gate)) (G.may_go (arc_value gate)) rests
+            (F.taken sink.old) (F.taken sink.new) result) }
         ensures setting { F.setting sink.new ≡ F.setting sink.old }
     {
         let RingedReaders { readers, handover } = self;

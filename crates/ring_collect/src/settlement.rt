@@ -50,7 +50,7 @@ fn settle_by(left: Option<LeftOfRing>, intake: Intake) -> Option<Ledger>
 fn settle<T: Threads, R: RowReader, G: Gate>(rt: &T, running: RunningSource<R, G>) -> Option<Ledger>
     requires { IsSome running.intake.close }
     ensures { IfSome result (λ ledger.
-        IsSettled (λ gate. G.may_stop gate) (λ gate. G.may_go gate) (λ reader. R.rest reader)
+        IsSettled (λ gate. G.may_stop gate) (λ gate. G.may_go gate) (λ reader. R.gives reader)
         running ledger) }
 {
     let RunningSource {
@@ -103,7 +103,7 @@ pub fn settle_all<T: Threads, R: RowReader, G: Gate>(
     requires room { length sources.items ≤ vec_capacity ledgers.old }
     requires none { ledgers.old.items ≡ [] }
     ensures settled { IfNone result (AreSettled (λ gate. G.may_stop gate) (λ gate. G.may_go gate)
-        (λ reader. R.rest reader) sources.items ledgers.new.items) }
+        (λ reader. R.gives reader) sources.items ledgers.new.items) }
     ensures unfinished { IfSome result (λ source. source < length sources.items) }
 {
     let mut unfinished = None;

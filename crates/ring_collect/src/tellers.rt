@@ -4,7 +4,7 @@ ghost use Rattle.std.specs.Prelude.{◌≡◌, ◌++◌, ◌∷◌, [], IfNone, 
 ghost use Rattle.rtrb.specs.Ring.{SameProducer};
 ghost use Rattle.ring_collect.specs.checked.Batches.{told_to};
 ghost use Rattle.ring_collect.specs.checked.Tellers.{SentAll, TellsNames, ending_of, records_of};
-ghost use Rattle.stack_core.specs.RowReading.{IsLimitedStep};
+ghost use Rattle.stack_core.specs.RowReading.{GivesSuch, IsLimitedStep};
 ghost use Rattle.std.specs.Arc.{arc_value};
 
 use crate::outlets::Outlet;
@@ -85,7 +85,9 @@ impl<R: RowReader> Teller<R> {
     ghost use Rattle.rtrb.specs.Ring.{sent, SameProducer};
     ghost use Rattle.ring_collect.specs.checked.Batches.{records_of_all, told_to};
     ghost use Rattle.ring_collect.specs.checked.Tellers.{AreNamesOf, TellsOne, TellsAll, Closes, told_by};
+    ghost use Rattle.stack_core.specs.Reading.{Rest};
     ghost use Rattle.stack_core.specs.Records.{names_told, stands_for, IsWellTold};
+    ghost use Rattle.stack_core.specs.RowReading.{GivesSome, GivesSuch};
     ghost use Rattle.stack_core.specs.Told.{IsToldUnder};
     ghost use Rattle.stack_core.specs.declared.endings.Item.TheVariants as item;
 
@@ -101,14 +103,16 @@ impl<R: RowReader> Teller<R> {
         requires told { R.told self.old.reader ≡ told_by (told_to self.old.outlet) }
         requires well_told { IsWellTold (told_to self.old.outlet) }
         ensures ring { SameProducer self.old.outlet.producer self.new.outlet.producer }
-        ensures few { length (R.rest self.old.reader).samples < 2 ^ 64 }
-        ensures told { IfNone result
-            (TellsOne (G.may_go gate.now) number.source number.index (R.rest self.old.reader)
-            (R.rest self.new.reader) (R.told self.new.reader) (told_to self.old.outlet)
-            (told_to self.new.outlet)) }
-        ensures closes { IfSome result
-            (Closes (G.may_stop gate.now) number.source number.index (R.rest self.old.reader)
-            (told_to self.old.outlet) (told_to self.new.outlet)) }
+        ensures few { (rest : Rest) → R.gives self.old.reader rest
+            → length rest.samples < 2 ^ 64 }
+        ensures possible { GivesSome (R.gives self.new.reader) }
+        ensures told { IfNone result ((after : Rest) → R.gives self.new.reader after
+            → GivesSuch (R.gives self.old.reader) (λ before. TellsOne (G.may_go gate.now)
+            number.source number.index before after (R.told self.new.reader)
+            (told_to self.old.outlet) (told_to self.new.outlet))) }
+        ensures closes { IfSome result (λ close. GivesSuch (R.gives self.old.reader) (λ rest.
+            Closes (G.may_stop gate.now) number.source number.index rest
+            (told_to self.old.outlet) (told_to self.new.outlet) close)) }
     {
         let SampleNumber { source, index } = number;
         let Ok(step) = self.reader.next_row(alloc) else {
@@ -138,9 +142,9 @@ impl<R: RowReader> Teller<R> {
         requires nothing_sent { told_to self.old.outlet ≡ [] }
         requires nothing_told { R.told self.old.reader ≡ record { names = []; stacks = [] } }
         ensures ring { SameProducer self.old.outlet.producer self.new.outlet.producer }
-        ensures told { IsToldUnder (G.may_stop gate.now) (G.may_go gate.now) source
-            (R.rest self.old.reader)
-            (stands_for (told_to self.new.outlet) ++ item.Close result ∷ []) }
+        ensures told { GivesSuch (R.gives self.old.reader) (λ rest.
+            IsToldUnder (G.may_stop gate.now) (G.may_go gate.now) source rest
+            (stands_for (told_to self.new.outlet) ++ item.Close result ∷ [])) }
         ensures well_told { IsWellTold (told_to self.new.outlet) }
         ensures in_order { AreNamesOf (stands_for (told_to self.new.outlet) ++ item.Close result ∷ [])
             (names_told (told_to self.new.outlet)) }
@@ -161,8 +165,9 @@ impl<R: RowReader> Teller<R> {
         requires nothing_sent { told_to self.old.outlet ≡ [] }
         requires nothing_told { R.told self.old.reader ≡ record { names = []; stacks = [] } }
         ensures ring { SameProducer self.old.outlet.producer self.new.outlet.producer }
-        ensures told { TellsAll (G.may_stop gate.now) (G.may_go gate.now) source
-            (R.rest self.old.reader) (records_of_all (sent self.new.outlet.producer)) }
+        ensures told { GivesSuch (R.gives self.old.reader) (λ rest.
+            TellsAll (G.may_stop gate.now) (G.may_go gate.now) source rest
+            (records_of_all (sent self.new.outlet.producer))) }
     {
         let close = self.tell_samples(rt, alloc, gate, source);
         self.outlet.close(rt, alloc, close);
@@ -181,9 +186,9 @@ pub fn tell_all<W: Wait, R: RowReader + Drop, G: Gate + Drop>(
 ) -> Option<LeftOfRing>
     requires nothing_sent { told_to outlet ≡ [] }
     requires nothing_told { R.told reader ≡ record { names = []; stacks = [] } }
-    ensures { IfSome result
-        (SentAll (G.may_stop (arc_value gate)) (G.may_go (arc_value gate)) source
-        (R.rest reader) outlet.producer) }
+    ensures { IfSome result (λ left. GivesSuch (R.gives reader) (λ rest.
+        SentAll (G.may_stop (arc_value gate)) (G.may_go (arc_value gate)) source rest
+        outlet.producer left)) }
 {
     let mut teller = Teller { reader, outlet };
     teller.tell_source(rt, alloc, &*gate, source);

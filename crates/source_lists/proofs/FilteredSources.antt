@@ -20,7 +20,7 @@ use Rattle.merged_stacks.specs.Timeline.{samples_of}
 use Rattle.ring_collect.specs.Collection.{AreWhole, Collects, seen_as_rest}
 use Rattle.run_options.specs.declared.formats.Format.{Format}
 use Rattle.source_lists.specs.Sources.{asked_rests, whole_rest, whole_rests, whole_weight}
-use Rattle.source_lists.specs.checked.Readers.{naming_rest, rows}
+use Rattle.source_lists.specs.checked.Readers.{known, naming_rest, rows}
 use Rattle.source_lists.specs.declared.source_reader.SourceReader.{SourceReader}
 use Rattle.stack_core.specs.declared.row_samples.NamingReader.{NamingReader}
 use Rattle.source_lists.proofs.KeptLemmas.{samples_of_rests}
@@ -36,7 +36,7 @@ pub kept_of_all : (options : Options) (inputs : List (Format × List ℕ)) → m
 kept_of_all options inputs = map-map (kept_rest options.filter) (whole_rest options) inputs
 
 -- readers of all samples, each with the filter
-pub kept_by_readers : (options : Options) (readers : List (NamingReader SourceReader rows)) (inputs : List (Format × List ℕ)) → map naming_rest readers ≡ whole_rests options inputs
+pub kept_by_readers : (options : Options) (readers : List (NamingReader SourceReader known rows)) (inputs : List (Format × List ℕ)) → map naming_rest readers ≡ whole_rests options inputs
     → map (λ reader. kept_rest options.filter (naming_rest reader)) readers ≡ asked_rests options inputs
 kept_by_readers options readers inputs same =
     sym (map-map (kept_rest options.filter) naming_rest readers)

@@ -8,4 +8,5 @@ pub mod ListLemmas
 pub mod OrderLemmas
 pub mod PartLemmas
 pub mod ReaderThreads
+pub mod StrictLemmas
 mod WorkedFromNames

@@ -3,5 +3,6 @@ pub mod FromNames
 pub mod Lists
 pub mod Runs
 pub mod Sources
+pub mod Strictness
 pub mod Types
 pub mod checked

@@ -6,4 +6,5 @@ pub mod Joining
 pub mod KeptStacks
 pub mod Parts
 pub mod Readers
+pub mod StrictEndings
 pub mod UnkeptSamples

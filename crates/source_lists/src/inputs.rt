@@ -72,6 +72,28 @@ impl Input {
         Ok(inputs)
     }
 
+    /// The same source, with the same bytes. They are not copied.
+    pub fn share(&self, alloc: Global) -> Result<Input, AllocError>
+        ensures { IfOk result (λ input. input ≡ self.now) }
+    {
+        let content = match &self.content {
+            Content::Text(parts) => Content::Text(shared(alloc, parts.as_slice())?),
+            Content::Profile(bytes) => Content::Profile(bytes.clone()?),
+        };
+        Ok(Input { content })
+    }
+
+    /// The same of each, in their order.
+    pub fn share_all(alloc: Global, inputs: &[Input]) -> Result<Vec<Input>, AllocError>
+        ensures { IfOk result (λ shared. shared.items ≡ inputs.now) }
+    {
+        let mut shared = Vec::with_capacity(alloc, inputs.len())?;
+        for input in inputs {
+            shared.push(input.share(alloc)?)?;
+        }
+        Ok(shared)
+    }
+
     pub(crate) fn content(&self) -> &Content
         ensures content { seen_content result.now ≡ self.now }
         ensures cut { IsCut result.now }
@@ -84,4 +106,15 @@ impl Input {
     {
         self.content
     }
+}
+
+/// The parts of a text, which share its bytes.
+fn shared(alloc: Global, parts: &[Bytes]) -> Result<Vec<Bytes>, AllocError>
+    ensures { IfOk result (λ same. same.items ≡ parts.now) }
+{
+    let mut same = Vec::with_capacity(alloc, parts.len())?;
+    for part in parts {
+        same.push(part.clone()?)?;
+    }
+    Ok(same)
 }

@@ -22,11 +22,14 @@ mod source_reader;
 mod source_readers;
 mod source_types;
 mod sources;
+mod strictness;
 mod unkept_samples;
 
+pub use folded_lines::{StrictFault, StrictKind};
 pub use gating::Gating;
 pub use inputs::Input;
 pub use reading::{Run, read};
 pub use source_lists::SourceLists;
 pub use source_types::chosen_types;
 pub use sources::Source;
+pub use strictness::strict_faults;

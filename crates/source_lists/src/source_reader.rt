@@ -1,6 +1,6 @@
 //! The readers of all formats as one type.
 
-ghost use Rattle.std.specs.Prelude.{◌≡◌, [], IfOk};
+ghost use Rattle.std.specs.Prelude.{◌≡◌, [], IfOk, refl};
 ghost use Rattle.std.specs.List.{concat};
 ghost use Rattle.stack_core.specs.Reading.{IsSourceLimited};
 ghost use Rattle.source_lists.specs.Sources.{whole_rest};
@@ -10,7 +10,7 @@ use bytes::Bytes;
 use folded_lines::FoldedRows;
 use profile_tables::PprofRows;
 use run_options::Options;
-use stack_core::{RowReader, RowStep};
+use stack_core::{KnownRows, RowReader, RowStep};
 use std::alloc::{AllocError, Global};
 
 /// The reader of a source.
@@ -72,7 +72,7 @@ fn joined_text(alloc: Global, parts: Vec<Bytes>) -> Result<Bytes, AllocError>
 impl RowReader for SourceReader {
     ghost use Rattle.source_lists.specs.checked.Readers.{reader_rest, reader_told, HasEnded};
 
-    ghost rest = { reader_rest };
+    ghost gives = { λ reader rest. rest ≡ reader_rest reader };
 
     ghost told = { reader_told };
 
@@ -91,4 +91,14 @@ impl RowReader for SourceReader {
             SourceReader::Pprof(reader) => reader.name(number),
         }
     }
+}
+
+impl KnownRows for SourceReader {
+    ghost use Rattle.source_lists.specs.checked.Readers.{reader_rest};
+
+    ghost rest = { reader_rest };
+
+    ghost gives_rest = { λ reader. refl };
+
+    ghost gives_no_other = { λ reader other is. is };
 }

@@ -1,5 +1,5 @@
 -- The views of the folds of sources are those of the sources.
-use Rattle.std.proofs.Common.{◌≡◌, ℕ, zero, suc, false, cond, length, take, List, [], ◌∷◌, map, None, All, codes, refl, sym}
+use Rattle.std.proofs.Common.{◌≡◌, ℕ, zero, suc, false, cond, length, take, List, [], ◌∷◌, map, None, Some, All, codes, ap, ◌∙◌, refl, sym}
 use Rattle.std.proofs.lemmas.List.Elements.{All-head, All-tail}
 use Rattle.stack_core.specs.Interleaving.{list_of}
 use Rattle.stack_core.specs.Reading.{IsSourceLimited}
@@ -16,12 +16,15 @@ use Rattle.flame_layout.proofs.Sums.{same_graph}
 use Rattle.source_lists.specs.Sources.{read_bytes}
 use Rattle.merging.specs.Sums.{all_samples}
 use Rattle.merging.proofs.BackLemmas.{samples_back}
+use Rattle.function_sums.specs.FunctionList.{changes_of}
+use Rattle.function_sums.specs.declared.changes.ChangeOrder.{ChangeOrder}
 use Rattle.function_sums.proofs.FunctionList.{same_changes, same_functions}
 use Rattle.sum_texts.specs.ChangeJson.{changes_line}
-use Rattle.sum_texts.specs.ChangeTable.{changes_table}
+use Rattle.sum_texts.specs.ChangeTable.{changes_table, shares_table}
 use Rattle.sum_texts.specs.FunctionJson.{functions_line}
 use Rattle.sum_texts.specs.FunctionTable.{functions_table}
 use Rattle.sum_texts.specs.Told.{nothing_told}
+use Rattle.command_line.specs.declared.plans.DiffTable.{DiffTable}
 use Rattle.command_line.specs.declared.plans.TopTable.{TopTable}
 use Rattle.command_line.specs.declared.plans.View.{View}
 use Rattle.command_line.specs.declared.plans.View.TheVariants.{Fold, Graph, Chart, Pairs, PairBoxes, Top, Diff}
@@ -30,7 +33,7 @@ use Rattle.view_texts.specs.Parts.{IsFoldable, refolded}
 use Rattle.view_texts.proofs.PartFolds.{refolded-sums, foldable-from}
 use Rattle.view_texts.proofs.SumViews.{SameSums, same_append, same_weights, same_folds, same_pairs, same_boxes}
 use Rattle.source_views.specs.SumViews.{SeesSums}
-use Rattle.source_views.specs.Texts.{diff_text, top_text, view_text}
+use Rattle.source_views.specs.Texts.{diff_text, order_of, top_text, view_text}
 
 same_all : (lists : List (List Sample)) → All IsFoldable lists → SameSums (all_samples (map refolded lists)) (all_samples lists)
 same_all [] foldable = λ q. refl
@@ -50,13 +53,15 @@ same_top top xs ys same =
     λ i. cond top.is_json (functions_line None nothing_told (weight i) (take top.rows (functions i)))
     (functions_table top.is_exact nothing_told (length (functions i)) (weight i) (take top.rows (functions i)))
 
-same_diff : (table : TopTable) (old new before after : List Sample) → SameSums old before → SameSums new after → diff_text nothing_told table old new ≡ diff_text nothing_told table before after
-same_diff table old new before after first second =
-    let changes = same_changes table.by old new before after first second in
+same_diff : (diff : DiffTable) (old new before after : List Sample) → SameSums old before → SameSums new after → diff_text nothing_told diff old new ≡ diff_text nothing_told diff before after
+same_diff diff old new before after first second =
     let olds = same_weights old before first in
     let news = same_weights new after second in
-    λ i. cond table.is_json (changes_line [] (olds i) (news i) (take table.rows (changes i)))
-    (changes_table table.is_exact nothing_told (length (changes i)) (olds i) (news i) (take table.rows (changes i)))
+    let order : order_of diff old new ≡ order_of diff before after = λ i. record { by = diff.table.by; whole = cond diff.is_share (Some (record { before = olds i; after = news i })) None } in
+    let changes = same_changes (order_of diff old new) old new before after first second ∙ ap (λ (by : ChangeOrder). changes_of by before after) order in
+    λ i. cond diff.table.is_json (changes_line [] (olds i) (news i) (take diff.table.rows (changes i)))
+    (cond diff.is_share (shares_table diff.table.is_exact nothing_told (length (changes i)) (record { before = olds i; after = news i }) (take diff.table.rows (changes i)))
+    (changes_table diff.table.is_exact nothing_told (length (changes i)) (olds i) (news i) (take diff.table.rows (changes i))))
 
 pub same_views : (view : View) (lists : List (List Sample)) → SeesSums view → All IsFoldable lists → view_text view (map refolded lists) [] None ≡ view_text view lists [] None
 same_views Fold lists sees foldable = same_folds (all_samples (map refolded lists)) (all_samples lists) (same_all lists foldable)

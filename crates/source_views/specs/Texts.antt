@@ -1,5 +1,5 @@
 -- The text of each view, of the collected lists and the order of arrival.
-use Rattle.std.specs.Prelude.{◌≡◌, ℕ, List, ◌++◌, Option, None, codes, length, map, if◌then◌else◌}
+use Rattle.std.specs.Prelude.{◌≡◌, ℕ, List, [], ◌++◌, Option, None, Some, codes, length, map, if◌then◌else◌}
 use Rattle.std.specs.List.{flat_map, range_with_len}
 use Rattle.sample_tables.specs.declared.samples.Sample.{Sample}
 use Rattle.stack_core.specs.Interleaving.{counts_at, list_of}
@@ -13,11 +13,17 @@ use Rattle.view_texts.specs.Pairs.{pairs_text}
 use Rattle.merging.specs.Snapshots.{snapshot_samples, snapshot_places}
 use Rattle.merging.specs.Sums.{all_samples}
 use Rattle.sum_texts.specs.CallTexts.{calls_line, calls_table}
-use Rattle.sum_texts.specs.DiffTexts.{diff_table, diff_line}
+use Rattle.function_sums.specs.FunctionList.{changes_of}
+use Rattle.function_sums.specs.Growth.{grown}
+use Rattle.function_sums.specs.declared.changes.ChangeOrder.{ChangeOrder}
+use Rattle.sum_texts.specs.DiffTexts.{diff_table, diff_line, share_table, wholes}
+use Rattle.sum_texts.specs.GrownLine.{grown_line}
 use Rattle.sum_texts.specs.Told.{Told, nothing_told}
 use Rattle.sum_texts.specs.TopTexts.{top_table, top_line}
 use Rattle.function_sums.specs.declared.call_sides.CallSide.{CallSide}
+use Rattle.command_line.specs.Plans.{limit_of}
 use Rattle.command_line.specs.declared.plans.CallTable.{CallTable}
+use Rattle.command_line.specs.declared.plans.DiffTable.{DiffTable}
 use Rattle.command_line.specs.declared.plans.TopTable.{TopTable}
 use Rattle.command_line.specs.declared.plans.View.{View}
 use Rattle.command_line.specs.declared.plans.View.TheVariants.{Fold, Graph, Chart, Pairs, PairBoxes, Top, Diff}
@@ -60,10 +66,47 @@ abbrev pub top_text : Told → TopTable → List Sample → List ℕ
 top_text told top samples =
     if top.is_json then top_line told top.by top.rows samples else top_table top.is_exact told top.by top.rows samples
 
--- the functions with the greatest changes from some samples to others: their table, or their line of JSON
-abbrev pub diff_text : Told → TopTable → List Sample → List Sample → List ℕ
-diff_text told table before after =
-    if table.is_json then diff_line told table.by table.rows before after else diff_table table.is_exact told table.by table.rows before after
+-- by what the functions with the greatest changes are listed: by weight, or by share of what both sides weigh
+abbrev pub order_of : DiffTable → List Sample → List Sample → ChangeOrder
+order_of diff before after = record {
+  by = diff.table.by;
+  whole = if diff.is_share then Some (wholes before after) else None;
+}
+
+-- their table, of weights or of shares, or their line of JSON, which has the weights in any case
+abbrev pub diff_text : Told → DiffTable → List Sample → List Sample → List ℕ
+diff_text told diff before after =
+    let by = order_of diff before after in
+    if diff.table.is_json then diff_line told by diff.table.rows before after
+    else (if diff.is_share then share_table diff.table.is_exact told by diff.table.rows before after
+    else diff_table diff.table.is_exact told by diff.table.rows before after)
+
+-- the names of the functions whose share of own weight grew by more than the limit, if there is one, in the order of the table
+abbrev pub grown_over : Option ℕ → ChangeOrder → List Sample → List Sample → List (List ℕ)
+grown_over None by before after = []
+grown_over (Some points) by before after = map (λ change. change.name) (grown points (wholes before after) (changes_of by before after))
+
+-- what is said of names, where there is a limit
+abbrev pub limit_line : Option ℕ → List (List ℕ) → List ℕ
+limit_line None names = []
+limit_line (Some points) names = grown_line points names
+
+abbrev pub diff_growth : DiffTable → List Sample → List Sample → List ℕ
+diff_growth diff before after = limit_line diff.fail_over (grown_over diff.fail_over (order_of diff before after) before after)
+
+abbrev pub grown_names : View → List (List Sample) → List (List ℕ)
+grown_names Fold lists = []
+grown_names (Graph width) lists = []
+grown_names (Chart width) lists = []
+grown_names Pairs lists = []
+grown_names (PairBoxes width) lists = []
+grown_names (Top top) lists = []
+grown_names (Diff diff) lists =
+    grown_over diff.fail_over (order_of diff (list_of lists 0) (list_of lists 1)) (list_of lists 0) (list_of lists 1)
+
+-- what is said of them: nothing where there is none
+abbrev pub growth_line : View → List (List Sample) → List ℕ
+growth_line view lists = limit_line (limit_of view) (grown_names view lists)
 
 -- a function and its callers, or its callees: their table, or their line of JSON
 abbrev pub calls_text : Told → CallSide → CallTable → List Sample → List ℕ

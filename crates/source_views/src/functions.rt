@@ -6,7 +6,7 @@ ghost use Rattle.merged_stacks.specs.Timeline.{samples_of, total_weight};
 ghost use Rattle.merging.specs.Sums.{all_samples};
 
 use crate::workers::Workers;
-use function_sums::{FunctionChange, FunctionSum, function_changes, function_sums};
+use function_sums::{ChangeOrder, FunctionChange, FunctionSum, function_changes, function_sums};
 use merged_stacks::MergedStacks;
 use run_options::FunctionOrder;
 use source_lists::SourceLists;
@@ -33,15 +33,15 @@ pub(crate) fn change_functions(
     alloc: Global,
     before: &SourceList,
     after: &SourceList,
-    by: FunctionOrder,
+    by: ChangeOrder,
 ) -> Result<Vec<FunctionChange>, AllocError>
     requires before { total_weight before.now.samples < 2 ^ 64 }
     requires after { total_weight after.now.samples < 2 ^ 64 }
     ensures { IfOk result (λ changes.
         AreFunctionChanges by before.now.samples after.now.samples changes.items) }
 {
-    let olds = weigh_list(alloc, before, by)?;
-    let news = weigh_list(alloc, after, by)?;
+    let olds = weigh_list(alloc, before, by.by)?;
+    let news = weigh_list(alloc, after, by.by)?;
     function_changes(alloc, &olds, &news, by)
 }
 

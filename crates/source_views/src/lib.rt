@@ -2,9 +2,11 @@
 #![tactic(auto)]
 
 mod call_texts;
+mod change_texts;
 mod drawings;
 mod drawn_texts;
 mod functions;
+mod growth;
 pub mod laws;
 mod long_texts;
 mod snapshot_texts;
@@ -15,6 +17,7 @@ mod workers;
 
 pub use call_texts::send_calls;
 pub use drawings::lend_chart;
+pub use growth::growth_line;
 pub use long_texts::{LongText, OneOf};
 pub use view_set::Views;
 pub use view_text::{AskedText, render, send_view};

@@ -5,14 +5,15 @@ ghost use Rattle.view_texts.specs.Fold.{fold_text};
 ghost use Rattle.view_texts.specs.Pairs.{pairs_text};
 ghost use Rattle.merging.specs.Sums.{all_samples};
 ghost use Rattle.command_line.specs.Plans.{IsComparison};
-ghost use Rattle.source_views.specs.Texts.{chart_text, diff_text, graph_text, graph_line, pair_boxes_text, told_text, top_text, view_text};
+ghost use Rattle.source_views.specs.Texts.{chart_text, graph_text, graph_line, pair_boxes_text, told_text, top_text, view_text};
 ghost use Rattle.sum_texts.specs.Told.{told_of};
 ghost use Rattle.opened_sources.specs.Failures.{Flushes, Sends};
 ghost use Rattle.stack_core.specs.Interleaving.{list_of};
 
+use crate::change_texts::send_diff;
 use crate::drawings::lend_chart;
 use crate::drawn_texts::{drawn_chart, drawn_graph};
-use crate::functions::{change_functions, weigh_functions};
+use crate::functions::weigh_functions;
 use crate::long_texts::OneOf;
 use crate::snapshot_texts::send_snapshots;
 use crate::view_set::Views;
@@ -20,13 +21,12 @@ use crate::workers::{Alone, Workers, send_text};
 use byte_io::{CountedWriter, Outlet, truncate_on_error};
 use command_line::{TopTable, View};
 use flame_layout::{Width, draw_merged, draw_paired};
-use function_sums::Change;
 use opened_sources::Failure;
 use source_lists::SourceLists;
 use stack_core::SourceList;
 use std::alloc::{AllocError, Global};
 use std::mem;
-use sum_texts::{ChangeLine, SumLine, Table, Telling};
+use sum_texts::{SumLine, Table, Telling};
 use view_texts::{FoldedText, PairedText, Scale, drawn_comparison_line};
 
 /// What is asked of a text.
@@ -96,7 +96,7 @@ pub fn send_view<H: Workers, W: Outlet>(
             send_compared(workers, alloc, &lists[0], &lists[1], width, out)
         }
         View::Top(top) => send_top(workers, alloc, sources, top, &asked.telling, out),
-        View::Diff(table) => send_diff(alloc, sources, table, &asked.telling, out),
+        View::Diff(diff) => send_diff(alloc, sources, diff, &asked.telling, out),
     }
 }
 
@@ -250,67 +250,6 @@ fn send_top<H: Workers, W: Outlet>(
         send_text(alloc, &SumLine::of(&sums, top.rows, whole, &telling), out)
     } else {
         let table = Table::of_functions(alloc, &sums, top.rows, whole, &telling, top.is_exact)?;
-        send_text(alloc, &table, out)
-    }
-}
-
-// Sends the greatest changes from the first source to the second.
-fn send_diff<W: Outlet>(
-    alloc: Global,
-    sources: &SourceLists,
-    table: TopTable,
-    telling: &Telling<'_>,
-    out: &mut W,
-) -> Result<(), Failure>
-    requires { length sources.now.lists ≡ 2 }
-    ensures sent { Sends (diff_text (told_of telling.now) table (list_of (samples_of sources.now.lists) 0)
-        (list_of (samples_of sources.now.lists) 1)) (W.contents out.old) (W.contents out.new) result }
-    ensures flushed { Flushes (W.is_flushed out.new) (W.failures out.old) (W.failures out.new)
-        result }
-{
-    let lists = sources.lists();
-    send_changes(alloc, &lists[0], &lists[1], table, telling, out)
-}
-
-// Sends the greatest changes from one profile to another, as a table or as a line of JSON.
-fn send_changes<W: Outlet>(
-    alloc: Global,
-    before: &SourceList,
-    after: &SourceList,
-    table: TopTable,
-    telling: &Telling<'_>,
-    out: &mut W,
-) -> Result<(), Failure>
-    requires before { total_weight before.now.samples < 2 ^ 64 }
-    requires after { total_weight after.now.samples < 2 ^ 64 }
-    ensures sent { Sends (diff_text (told_of telling.now) table before.now.samples after.now.samples)
-        (W.contents out.old) (W.contents out.new) result }
-    ensures flushed { Flushes (W.is_flushed out.new) (W.failures out.old) (W.failures out.new)
-        result }
-{
-    let changes = change_functions(alloc, before, after, table.by)?;
-    let whole = Change {
-        before: before.total() as u64,
-        after: after.total() as u64,
-    };
-    // The same, for as long as the sums are lent.
-    let telling = Telling {
-        whole: telling.whole,
-        type_name: telling.type_name,
-        unit: telling.unit,
-    };
-    if table.is_json {
-        let line = ChangeLine::of(&changes, table.rows, whole, &telling);
-        send_text(alloc, &line, out)
-    } else {
-        let table = Table::of_changes(
-            alloc,
-            &changes,
-            table.rows,
-            whole,
-            &telling,
-            table.is_exact,
-        )?;
         send_text(alloc, &table, out)
     }
 }

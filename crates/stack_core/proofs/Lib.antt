@@ -1,3 +1,4 @@
+pub mod GivenLemmas
 pub mod InterleavingLemmas
 mod LaneMoves
 pub mod RecordLemmas

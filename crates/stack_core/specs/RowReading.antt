@@ -45,6 +45,21 @@ StepsByRows told old (step.New names frames weight) told' new = TellsNew told to
 StepsByRows told old (step.Again row weight) told' new = TellsAgain told told' row weight old new
 StepsByRows told old (step.End ending) told' new = TellsEnd told told' ending old new
 
+-- it may give a rest of which this holds
+pub record GivesSuch (gives : Rest → Type 0) (Holds : Rest → Type 0) : Type 0 where
+  pub rest : Rest
+  pub is_given : gives rest
+  pub holds : Holds rest
+
+-- there is a rest that it may give
+pub record GivesSome (gives : Rest → Type 0) : Type 0 where
+  pub rest : Rest
+  pub is_given : gives rest
+
+-- for each rest that it may give after the step, it might have given one before of which the step comes off
+abbrev pub StepsAmong : (Rest → Type 0) → (Rest → Type 0) → ToldRows → RowStep → ToldRows → Type 0
+StepsAmong old new told step told' = (after : Rest) → new after → GivesSuch old (λ before. StepsByRows told before step told' after)
+
 abbrev pub IsLastStep : RowStep → Type 0
 IsLastStep (step.New names frames weight) = ⊥
 IsLastStep (step.Again row weight) = ⊥

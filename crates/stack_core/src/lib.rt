@@ -19,7 +19,7 @@ pub use endings::{Close, Item, ReadFault, ReadKind, SourceEnd};
 pub use gates::{Gate, OpenGate, Turn};
 pub use ledgers::Ledger;
 pub use lists::SourceList;
-pub use readers::{RowReader, RowStep, SampleReader, Step};
+pub use readers::{KnownRows, RowReader, RowStep, SampleReader, Step};
 pub use records::RingRecord;
 pub use row_samples::{NamingReader, RowSamples};
 pub use sample_tables::{FRAME_LIMIT, Listed, Names, Sample, Text, WEIGHT_LIMIT};

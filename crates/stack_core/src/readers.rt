@@ -3,7 +3,7 @@
 ghost use Rattle.std.specs.Prelude.{◌≡◌, ◌<◌, ◌≤◌, ◌^◌, length, IfOk, OnOk, OnErr, IsOk, MatchOption};
 ghost use Rattle.stack_core.specs.Prefixes.{IsPrefixOf};
 ghost use Rattle.stack_core.specs.Reading.{Steps, IsEnd, IsWithinLimits, Rest};
-ghost use Rattle.stack_core.specs.RowReading.{StepsByRows, IsLastStep, IsLimitedStep};
+ghost use Rattle.stack_core.specs.RowReading.{GivesSome, StepsAmong, IsLastStep, IsLimitedStep};
 ghost use Rattle.sample_tables.specs.Rows.{ToldRows, name_at};
 
 use crate::endings::SourceEnd;
@@ -59,10 +59,11 @@ pub enum RowStep {
 }
 
 /// A source of samples that tells each name once, and each stack as a row of numbers. A stack that it told before it may tell by its
-/// number, or once more. Contracts see what it still has to give, as that of a `SampleReader`, and what it told.
+/// number, or once more. Contracts see what it may still give, and what it told: over bytes that are known it may give one rest, and over
+/// bytes that are still to come as many as there are bytes that may come.
 pub trait RowReader {
-    /// The samples still to come, and the ending.
-    ghost rest: { Self → Rest };
+    /// The rests that it may give: the samples still to come, and the ending.
+    ghost gives: { Self → Rest → Type 0 };
 
     /// The names and stacks that were told. After want of memory there may be more names, which no step gives, but `name`.
     ghost told: { Self → ToldRows };
@@ -70,16 +71,17 @@ pub trait RowReader {
     /// Holds where a call has answered the ending.
     ghost has_ended: { Self → Type 0 };
 
-    /// The next sample, or the ending. Want of memory leaves the rest and the stacks as they were, and does not come after the
+    /// The next sample, or the ending. Want of memory leaves the rests and the stacks as they were, and does not come after the
     /// ending was answered.
     fn next_row(&mut self, alloc: Global) -> Result<RowStep, AllocError>
         ensures step { IfOk result (λ step.
-            StepsByRows (told self.old) (rest self.old) step (told self.new) (rest self.new)) }
+            StepsAmong (gives self.old) (gives self.new) (told self.old) step (told self.new)) }
         ensures limits { IfOk result IsLimitedStep }
-        ensures refused { OnErr result (rest self.new ≡ rest self.old) }
+        ensures refused { OnErr result ((rest : Rest) → gives self.new rest → gives self.old rest) }
         ensures stacks { OnErr result ((told self.new).stacks ≡ (told self.old).stacks) }
         ensures names { OnErr result (IsPrefixOf (told self.old).names (told self.new).names) }
-        ensures few { length (rest self.old).samples < 2 ^ 64 }
+        ensures few { (rest : Rest) → gives self.old rest → length rest.samples < 2 ^ 64 }
+        ensures possible { GivesSome (gives self.new) }
         ensures ended { IfOk result (λ step. IsLastStep step → has_ended self.new) }
         ensures repeats { has_ended self.old → IsOk result };
 
@@ -87,4 +89,17 @@ pub trait RowReader {
     fn name(&self, number: usize) -> Option<&str>
         ensures { MatchOption result (length (told self.now).names ≤ number)
             (λ name. name.now ≡ name_at (told self.now).names number) };
+}
+
+/// A reader of rows over bytes that are known: there is one rest that it may give.
+pub trait KnownRows: RowReader {
+    /// The samples still to come, and the ending.
+    ghost rest: { Self → Rest };
+
+    /// It may give this rest.
+    ghost gives_rest: { (reader : Self) → Self.gives reader (rest reader) };
+
+    /// It may give no other.
+    ghost gives_no_other: { (reader : Self) (other : Rest) → Self.gives reader other
+        → other ≡ rest reader };
 }

@@ -3,12 +3,14 @@
 ghost use Rattle.std.specs.Prelude.{◌≡◌, ◌≤◌, ◌<◌, ◌^◌, [], true, false, length, IfOk, IsOk, OnOk, OnErr, MatchResult};
 ghost use Rattle.std.proofs.Props.{props};
 ghost use Rattle.sample_tables.specs.declared.samples.TheConstants.{FRAME_LIMIT, WEIGHT_LIMIT};
+ghost use Rattle.stack_core.specs.Prefixes.{IsPrefixOf};
 ghost use Rattle.stack_core.specs.Reading.{IsEnd, IsWithinLimits, Rest, Steps};
 ghost use Rattle.stack_core.specs.Records.{names_at};
+ghost use Rattle.stack_core.specs.RowReading.{IsLastStep, IsLimitedStep, StepsByRows};
 ghost use Rattle.stack_core.specs.RowSamples.{Nothing, OneRow, Ending, IsStepBehind, given_by, is_at_end, is_idle, left_with, stacks_with};
 
 use crate::endings::SourceEnd;
-use crate::readers::{RowReader, RowStep, SampleReader, Step};
+use crate::readers::{KnownRows, RowReader, RowStep, SampleReader, Step};
 use sample_tables::{Listed, Names, Sample};
 use std::alloc::{AllocError, Global};
 use std::marker::Model;
@@ -140,9 +142,24 @@ impl RowSamples {
     }
 }
 
+/// The next step of a reader over bytes that are known. It comes off the one rest that the reader may give.
+fn next_known<R: KnownRows>(alloc: Global, reader: &mut R) -> Result<RowStep, AllocError>
+    ensures step { IfOk result (λ step. StepsByRows (R.told reader.old) (R.rest reader.old) step
+        (R.told reader.new) (R.rest reader.new)) }
+    ensures limits { IfOk result IsLimitedStep }
+    ensures refused { OnErr result (R.rest reader.new ≡ R.rest reader.old) }
+    ensures stacks { OnErr result ((R.told reader.new).stacks ≡ (R.told reader.old).stacks) }
+    ensures names { OnErr result (IsPrefixOf (R.told reader.old).names (R.told reader.new).names) }
+    ensures few { length (R.rest reader.old).samples < 2 ^ 64 }
+    ensures ended { IfOk result (λ step. IsLastStep step → R.has_ended reader.new) }
+    ensures repeats { R.has_ended reader.old → IsOk result }
+{
+    reader.next_row(alloc)
+}
+
 /// A reader of the samples for which the rows of another stand, and of its ending.
 #[derive(Drop)]
-pub struct NamingReader<R: RowReader> {
+pub struct NamingReader<R: KnownRows> {
     pub reader: R,
     pub samples: RowSamples,
     ghost stacks: { (R.told reader).stacks ≡ samples.stacks } by { Prim.hlevel props },
@@ -150,7 +167,7 @@ pub struct NamingReader<R: RowReader> {
         length (left_with (R.told reader).names samples.awaited (R.rest reader)).samples < 2 ^ 64 } by { Prim.hlevel props },
 }
 
-impl<R: RowReader> NamingReader<R> {
+impl<R: KnownRows> NamingReader<R> {
     /// A reader that gave nothing yet. It takes no memory.
     pub fn of(alloc: Global, reader: R) -> Self
         requires { (R.told reader).stacks ≡ [] }
@@ -164,7 +181,7 @@ impl<R: RowReader> NamingReader<R> {
     }
 }
 
-impl<R: RowReader> SampleReader for NamingReader<R> {
+impl<R: KnownRows> SampleReader for NamingReader<R> {
     ghost use Rattle.std.specs.Prelude.{IsTrue};
     ghost use Rattle.stack_core.specs.RowSamples.{is_at_end, left_with};
 
@@ -174,7 +191,7 @@ impl<R: RowReader> SampleReader for NamingReader<R> {
 
     fn next(&mut self, alloc: Global) -> Result<Step, AllocError> {
         if self.samples.is_idle() {
-            let step = self.reader.next_row(alloc)?;
+            let step = next_known(alloc, &mut self.reader)?;
             self.samples.take(step);
         }
         self.samples.give(alloc, &self.reader)

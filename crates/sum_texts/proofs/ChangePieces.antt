@@ -7,7 +7,7 @@ use Rattle.serde_json.specs.Data.{Data, string}
 use Rattle.serde_json.specs.Written.{compact_text}
 use Rattle.sample_tables.specs.Samples.{total_weight}
 use Rattle.sample_tables.specs.declared.samples.Sample.{Sample}
-use Rattle.run_options.specs.declared.orders.FunctionOrder.{FunctionOrder as Order}
+use Rattle.function_sums.specs.declared.changes.ChangeOrder.{ChangeOrder}
 use Rattle.function_sums.specs.FunctionChanges.{AreFunctionChanges}
 use Rattle.function_sums.specs.declared.changes.FunctionChange.{FunctionChange}
 use Rattle.function_sums.proofs.FunctionList.{changes_alone}
@@ -15,8 +15,8 @@ use Rattle.view_texts.specs.Json.{list_data}
 use Rattle.view_texts.proofs.JsonLists.{values_text}
 use Rattle.view_texts.proofs.TextPieces.{line_pieces-text, length-line_pieces}
 use Rattle.sum_texts.specs.ChangeJson.{change_data, changes_line}
-use Rattle.sum_texts.specs.ChangeTable.{changes_table}
-use Rattle.sum_texts.specs.DiffTexts.{diff_line, diff_table}
+use Rattle.sum_texts.specs.ChangeTable.{changes_table, shares_table}
+use Rattle.sum_texts.specs.DiffTexts.{diff_line, diff_table, share_table}
 use Rattle.sum_texts.specs.Pieces.{changes_pieces, changes_tail, unit_member}
 use Rattle.sum_texts.specs.Told.{Told}
 use Rattle.sum_texts.proofs.TextPieces.{after_value, bracketed}
@@ -94,9 +94,12 @@ change_written change name o o1 o2 o3 o4 o5 o6 n e1 e2 e3 e4 e5 e6 =
 
 -- ---- the texts of a list are those of the sides of which it is the table
 
-module _ (rows : ℕ) (changes : List FunctionChange) (by : Order) (before after : List Sample) (are : AreFunctionChanges by before after changes) (old new : ℕ) (olds : total_weight before ≡ old) (news : total_weight after ≡ new) where
+module _ (rows : ℕ) (changes : List FunctionChange) (by : ChangeOrder) (before after : List Sample) (are : AreFunctionChanges by before after changes) (old new : ℕ) (olds : total_weight before ≡ old) (news : total_weight after ≡ new) where
   pub table_of_sides : (is_exact : Bool) (told : Told) → changes_table is_exact told (length changes) old new (take rows changes) ≡ diff_table is_exact told by rows before after
   table_of_sides is_exact told = λ i. changes_table is_exact told (length (changes_alone by before after changes are i)) (sym olds i) (sym news i) (take rows (changes_alone by before after changes are i))
+
+  pub shares_of_sides : (is_exact : Bool) (told : Told) → shares_table is_exact told (length changes) (record { before = old; after = new }) (take rows changes) ≡ share_table is_exact told by rows before after
+  shares_of_sides is_exact told = λ i. shares_table is_exact told (length (changes_alone by before after changes are i)) (record { before = sym olds i; after = sym news i }) (take rows (changes_alone by before after changes are i))
 
   pub line_of_sides : (told : Told) → changes_line told.unit old new (take rows changes) ≡ diff_line told by rows before after
   line_of_sides told = λ i. changes_line told.unit (sym olds i) (sym news i) (take rows (changes_alone by before after changes are i))

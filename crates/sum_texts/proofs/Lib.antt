@@ -1,4 +1,5 @@
 pub mod ChangePieces
+pub mod JoinedNames
 pub mod JsonLaws
 pub mod TableLines
 pub mod TextPieces

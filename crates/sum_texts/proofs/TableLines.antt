@@ -1,5 +1,5 @@
 -- Lines of a table with one more, and characters of a text with one byte more.
-use Rattle.std.proofs.Common.{◌≡◌, ℕ, suc, ◌+◌, ◌<◌, ◌≤◌, Bool, cond, max, List, [], ◌∷◌, ◌++◌, Option, None, length, map, get_or, drop, take-append-drop, refl, sym, ap, ◌∙◌, arith, append_assoc}
+use Rattle.std.proofs.Common.{◌≡◌, ℕ, suc, ◌+◌, ◌<◌, cond, max, List, [], ◌++◌, Option, None, length, get_or, drop, take-append-drop, sym, ap, ◌∙◌, arith}
 use Rattle.std.specs.Prelude.{unwrap_or}
 use Rattle.byte_io.proofs.PieceTexts.{further}
 use Rattle.std.specs.Io.{StartsWith}

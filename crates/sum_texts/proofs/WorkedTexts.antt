@@ -14,7 +14,8 @@ use Rattle.weight_texts.specs.Quotients.{decimals, quotient_text}
 use Rattle.weight_texts.specs.WeightTexts.{weight_text}
 use Rattle.sum_texts.specs.CallTexts.{calls_table}
 use Rattle.sum_texts.specs.ChangeJson.{changes_line}
-use Rattle.sum_texts.specs.ChangeTable.{changes_table, signed}
+use Rattle.sum_texts.specs.ChangeTable.{changes_table, shares_table, signed}
+use Rattle.sum_texts.specs.GrownLine.{grown_line}
 use Rattle.sum_texts.specs.Columns.{characters, lines_text}
 use Rattle.sum_texts.specs.FunctionJson.{functions_line}
 use Rattle.sum_texts.specs.FunctionTable.{functions_table, listed_table}
@@ -148,3 +149,19 @@ line_of_changes : changes_line (codes "bytes") 9 11 (change (codes "read") (from
     ≡ codes "{\"functions\":[{\"name\":\"read\",\"own_after\":7,\"own_before\":4,\"total_after\":8,\"total_before\":5}],\"total_after\":11,\"total_before\":9,\"unit\":\"bytes\",\"view\":\"diff\"}\n"
 unfolding changes_line escape_byte digits
 line_of_changes = refl
+
+-- 60 of a hundred are 10 of a hundred after, and one of three thirds is none; shares of different wholes
+table_of_shares : shares_table true nothing_told 3 (from 10 100) (change (codes "f") (from 6 10) (from 6 10) ∷ change (codes "g") (from 4 45) (from 10 100) ∷ [])
+    ≡ codes "Showing 2 of 3 functions, total 10 before, 100 after\n"
+    ++ (codes "own before   after   points  total before    after   points  name\n"
+    ++ (codes "    60.00%  10.00%  -50.00%        60.00%   10.00%  -50.00%  f\n"
+    ++ codes "    40.00%  45.00%   +5.00%       100.00%  100.00%    0.00%  g\n"))
+unfolding shares_table lines_text digits
+table_of_shares = refl
+
+grown_names : grown_line 5 (codes "f" ∷ codes "g h" ∷ []) ≡ codes "flamecollect: grew by more than 5 %: f, g h\n"
+unfolding digits
+grown_names = refl
+
+none_grown : grown_line 5 [] ≡ []
+none_grown = refl

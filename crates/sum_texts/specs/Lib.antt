@@ -6,6 +6,7 @@ pub mod Columns
 pub mod DiffTexts
 pub mod FunctionJson
 pub mod FunctionTable
+pub mod GrownLine
 pub mod Pieces
 pub mod Told
 pub mod TopTexts

@@ -6,8 +6,8 @@ ghost use Rattle.std.specs.List.{concat};
 ghost use Rattle.serde_json.specs.Written.{comma_if, compact_text};
 ghost use Rattle.sample_tables.specs.Samples.{total_weight};
 ghost use Rattle.sample_tables.specs.declared.samples.Sample.{Sample};
+ghost use Rattle.function_sums.specs.declared.changes.ChangeOrder.{ChangeOrder};
 ghost use Rattle.function_sums.specs.FunctionChanges.{AreFunctionChanges};
-ghost use Rattle.run_options.specs.declared.orders.FunctionOrder.{FunctionOrder as Order};
 ghost use Rattle.sum_texts.specs.ChangeJson.{change_data, changes_line};
 ghost use Rattle.sum_texts.specs.DiffTexts.{diff_line};
 ghost use Rattle.sum_texts.specs.Pieces.{changes_pieces, changes_tail};
@@ -40,7 +40,7 @@ impl<'a> ChangeLine<'a> {
     ) -> ChangeLine<'a>
         ensures text { concat (⟦<ChangeLine<'a> as Pieces>⟧.pieces result)
             ≡ changes_line (told_of telling.now).unit whole.before whole.after (take rows changes.now) }
-        ensures diff { (by : Order) (before after : List Sample)
+        ensures diff { (by : ChangeOrder) (before after : List Sample)
             → AreFunctionChanges by before after changes.now
             → total_weight before ≡ whole.before → total_weight after ≡ whole.after
             → concat (⟦<ChangeLine<'a> as Pieces>⟧.pieces result) ≡ diff_line (told_of telling.now) by rows before after }

@@ -2,7 +2,7 @@
 
 ghost use Rattle.std.specs.Prelude.{◌≡◌, ◌+◌, ◌≤◌, ◌++◌, [], replicate, option_map, unwrap_or, IfOk, OnOk};
 ghost use Rattle.std.specs.Io.{StartsWith};
-ghost use Rattle.sum_texts.specs.ChangeTable.{sign, signed};
+ghost use Rattle.sum_texts.specs.ChangeTable.{points, sign, signed};
 ghost use Rattle.sum_texts.specs.Columns.{at_right, at_right_if, characters, goes_on};
 ghost use Rattle.sum_texts.specs.Told.{said, told_of};
 ghost use Rattle.sum_texts.specs.checked.Entries.{entry_text};
@@ -11,7 +11,7 @@ use crate::telling::Telling;
 use function_sums::Change;
 use itoa::Buffer;
 use std::alloc::{AllocError, Global};
-use weight_texts::{append_share, append_weight};
+use weight_texts::{Part, append_points, append_share, append_weight};
 
 // How weights are said.
 #[derive(Clone, Copy, Debug)]
@@ -29,6 +29,8 @@ pub(crate) enum Entry {
     Part { weight: u64, whole: u64 },
     // How much more or less there is after than before.
     Change(Change),
+    // How much more or less of the whole it is after than before.
+    Points { change: Change, whole: Change },
 }
 
 impl<'a> Saying<'a> {
@@ -83,6 +85,7 @@ impl Entry {
                 Ok(())
             }
             Entry::Change(change) => saying.append_signed(out, change),
+            Entry::Points { change, whole } => append_step(out, change, whole),
         }
     }
 
@@ -94,6 +97,23 @@ impl Entry {
         self.append(&mut text, saying)?;
         Ok(text)
     }
+}
+
+// Appends how much more or less of the whole it is, or a front of that.
+fn append_step(out: &mut Vec<u8>, change: Change, whole: Change) -> Result<(), AllocError>
+    ensures ok { OnOk result (out.new.items ≡ out.old.items ++ points whole change) }
+    ensures front { StartsWith out.new.items out.old.items }
+{
+    let before = Part {
+        weight: change.before,
+        whole: whole.before,
+    };
+    let after = Part {
+        weight: change.after,
+        whole: whole.after,
+    };
+    append_points(out, before, after)?;
+    Ok(())
 }
 
 fn sign(change: Change) -> &'static [u8]

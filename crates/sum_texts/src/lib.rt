@@ -5,6 +5,7 @@ mod change_lines;
 mod change_tables;
 mod entries;
 mod first_sums;
+mod grown_lines;
 mod headings;
 mod json_parts;
 pub mod laws;
@@ -14,6 +15,7 @@ mod tables;
 mod telling;
 
 pub use change_lines::ChangeLine;
+pub use grown_lines::grown_line;
 pub use sum_lines::{SumLine, append_sum_line};
 pub use sum_tables::append_sum_table;
 pub use tables::Table;

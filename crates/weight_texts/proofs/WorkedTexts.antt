@@ -4,7 +4,7 @@ use Rattle.std.specs.Prelude.{encode_utf8_all}
 use lib.Utf8.{encode}
 use Rattle.std.specs.Fmt.{digits}
 use Rattle.weight_texts.specs.Quotients.{quotient_text, decimals}
-use Rattle.weight_texts.specs.Shares.{hundredths, share_text}
+use Rattle.weight_texts.specs.Shares.{hundredths, points_text, share_text}
 use Rattle.weight_texts.specs.WeightTexts.{weight_text, change_text}
 
 milliseconds : weight_text (codes "nanoseconds") 756000000 ≡ codes "756 ms"
@@ -172,3 +172,15 @@ half_up = refl
 
 less_down : hundredths 20001 1 ≡ 0
 less_down = refl
+
+points_more : points_text 1250 1500 ≡ codes "+2.50%"
+unfolding digits
+points_more = refl
+
+points_fewer : points_text 10000 0 ≡ codes "-100.00%"
+unfolding digits
+points_fewer = refl
+
+as_many_points : points_text 7 7 ≡ codes "0.00%"
+unfolding digits
+as_many_points = refl

@@ -11,5 +11,5 @@ mod steps;
 mod weights;
 
 pub use changes::append_change;
-pub use shares::{append_share, share_width};
+pub use shares::{Part, append_points, append_share, share_width};
 pub use weights::append_weight;

@@ -2,7 +2,7 @@
 use Rattle.std.specs.Prelude.{codes}
 use Rattle.clap.specs.Simple.{Shape}
 use Rattle.clap.specs.Walk.{Rule}
-use Rattle.command_line.specs.CommandLine.{any_files, boxes_flag, by_option, callees_command, callers_command, chart_command, compare_command, diff_command, every_option, exact_flag, focus_option, fold_command, format_option, from_option, graph_command, hide_option, json_flag, least_option, lines_flag, one_value, page_flag, quiet_flag, ring_option, root_below_flag, rows_option, svg_flag, title_option, top_command, type_option, types_command, unit_option, width_option}
+use Rattle.command_line.specs.CommandLine.{any_files, boxes_flag, by_option, callees_command, callers_command, chart_command, compare_command, diff_command, every_option, exact_flag, fail_over_option, focus_option, fold_command, format_option, from_option, graph_command, hide_option, json_flag, least_option, lines_flag, one_value, output_option, page_flag, quiet_flag, ring_option, root_below_flag, rows_option, share_flag, strict_flag, svg_flag, title_option, top_command, type_option, types_command, unit_option, width_option}
 use Rattle.command_line.specs.declared.argument_lists.Argument.{Argument}
 use Rattle.command_line.specs.declared.argument_lists.Argument.TheVariants as argument
 use Rattle.command_line.specs.declared.commands.Subcommand.{Subcommand}
@@ -23,7 +23,11 @@ rule_at argument.Rows = rows_option
 rule_at argument.By = by_option
 rule_at argument.Json = json_flag
 rule_at argument.Exact = exact_flag
+rule_at argument.Share = share_flag
+rule_at argument.FailOver = fail_over_option
 rule_at argument.Unit = unit_option
+rule_at argument.Strict = strict_flag
+rule_at argument.Output = output_option
 rule_at argument.Quiet = quiet_flag
 rule_at argument.Page = page_flag
 rule_at argument.Svg = svg_flag

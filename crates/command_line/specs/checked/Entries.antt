@@ -1,5 +1,5 @@
 -- What holds of the entries of a command line without a fault.
-use Rattle.std.specs.Prelude.{◌≡◌, ◌≢◌, ◌⊎◌, ◌≤◌, ◌<◌, ◌^◌, ◌||◌, ℕ, Bool, List, IfSome, IsSome, codes, false, length, true}
+use Rattle.std.specs.Prelude.{◌≡◌, ◌≢◌, ◌⊎◌, ◌≤◌, ◌||◌, ℕ, Bool, List, IfSome, IsSome, codes, false, length, true}
 use Rattle.std.specs.Str.{bytes_eq}
 use Rattle.std.specs.Str.Parse.{IsNumeral, digits_value, without_leading_plus}
 use Rattle.clap.specs.Matches.{found_of}
@@ -10,7 +10,7 @@ use Rattle.clap.specs.declared.parser.matches.ArgMatches.{ArgMatches}
 use Rattle.run_options.specs.declared.ring_sizes.TheConstants.{LARGEST_RING}
 use Rattle.run_options.specs.declared.widths.TheConstants.{MAX_WIDTH}
 use Rattle.command_line.specs.Plans.{IsDrawn, IsRequest, files_of, is_set, view_of}
-use Rattle.command_line.specs.declared.arguments.TheConstants.{MOST_BETWEEN_SNAPSHOTS, MOST_ROWS}
+use Rattle.command_line.specs.declared.arguments.TheConstants.{MOST_BETWEEN_SNAPSHOTS, MOST_HUNDREDTHS, MOST_ROWS}
 use Rattle.command_line.specs.declared.plans.PlanFault.{PlanFault}
 use Rattle.command_line.specs.declared.plans.PlanFault.TheVariants as fault
 
@@ -24,10 +24,14 @@ IsNumberAt id most entries = IfSome (one_of id entries) (λ text.
     × (1 ≤ digits_value 10 (without_leading_plus text))
     × (digits_value 10 (without_leading_plus text) ≤ most))
 
--- a value, if there is one, is a number of 64 bits
-abbrev pub IsCountAt : Text → List Row → Type 0
-IsCountAt id entries = IfSome (one_of id entries) (λ text.
-    IsNumeral 10 (without_leading_plus text) × (digits_value 10 (without_leading_plus text) < 2 ^ 64))
+-- a value, if there is one, is a number from 0 to `most`
+abbrev pub IsCountAt : Text → ℕ → List Row → Type 0
+IsCountAt id most entries = IfSome (one_of id entries) (λ text.
+    IsNumeral 10 (without_leading_plus text) × (digits_value 10 (without_leading_plus text) ≤ most))
+
+-- the greatest number of 64 bits
+abbrev pub GREATEST_COUNT : ℕ
+GREATEST_COUNT = 18446744073709551615
 
 abbrev pub IsFlagAt : Text → List Row → Type 0
 IsFlagAt id entries =
@@ -49,11 +53,14 @@ pub record IsRead (name : Text) (entries : List Row) : Type 0 where
   pub rows : IsNumberAt (codes "number") MOST_ROWS entries
   pub json : IsFlagAt (codes "json") entries
   pub exact : IsFlagAt (codes "exact") entries
+  pub share : IsFlagAt (codes "share") entries
+  pub over : IsCountAt (codes "fail-over") MOST_HUNDREDTHS entries
+  pub strict : IsFlagAt (codes "strict") entries
   pub quiet : IsFlagAt (codes "quiet") entries
   pub page : IsFlagAt (codes "page") entries
   pub svg : IsFlagAt (codes "svg") entries
   pub below : IsFlagAt (codes "root-below") entries
-  pub least : IsCountAt (codes "least") entries
+  pub least : IsCountAt (codes "least") GREATEST_COUNT entries
   pub pair : compares name ≡ true → length (files_of entries) ≡ 2
   pub drawn : is_set (codes "page") entries ≡ true → IfSome (view_of name entries) IsDrawn
   pub pictured : is_set (codes "svg") entries ≡ true → IfSome (view_of name entries) IsDrawn

@@ -1,5 +1,5 @@
 -- What a failed run says of the sources and of the output, by its plan.
-use Rattle.std.specs.Prelude.{◌≡◌, ℕ, List, true, false, Option, Result, Ok, Err}
+use Rattle.std.specs.Prelude.{◌≡◌, ℕ, Bool, List, true, false, Option, Result, Ok, Err}
 use Rattle.std.specs.Io.KnownBytes.{Keeps}
 use Rattle.stack_core.specs.Ledgers.{ListState}
 use Rattle.stack_core.specs.Reading.{Rest}
@@ -11,12 +11,20 @@ use Rattle.opened_sources.specs.Failures.{has_fault, status_of}
 use Rattle.opened_sources.specs.declared.failures.Failure.{Failure}
 use Rattle.opened_sources.specs.declared.failures.Failure.TheVariants.{TooManyFiles, Unreadable, TooLarge, OutOfMemory, NoThread, Unfinished, Faults, Output}
 use Rattle.sent_views.specs.declared.run_facts.RunFacts.{RunFacts}
-use Rattle.flame_tool.specs.Runs.{HasFault, ShowsFront}
+use Rattle.flame_tool.specs.Runs.{HasGrown, HasNotGrown, ShowsFront}
+use Rattle.flame_tool.specs.StrictRuns.{HasPlainFault}
 
--- the exit status of a run that showed what was asked for, or failed
-abbrev pub exit_status : {T : Type 0} → Result T Failure → ℕ
-exit_status (Ok done) = 0
+-- the exit status of a run that showed what was asked for, with functions whose share grew by more than its limit or with none, or
+-- failed
+abbrev pub exit_status : Result Bool Failure → ℕ
+exit_status (Ok true) = 4
+exit_status (Ok false) = 0
 exit_status (Err failure) = status_of failure
+
+-- what a run tells of the functions of its sources: whether some grew over the limit
+abbrev pub TellsGrowth : Bool → Plan → List Rest → Type 0
+TellsGrowth true plan rests = HasGrown plan rests
+TellsGrowth false plan rests = HasNotGrown plan rests
 
 -- the output is as it was, unless a text was not sent whole
 abbrev pub KeepsOutput : Option (List ℕ) → Option (List ℕ) → Failure → Type 0
@@ -37,8 +45,19 @@ Fails plan known old new (TooLarge source) rests = Unit {0}
 Fails plan known old new OutOfMemory rests = Unit {0}
 Fails plan known old new NoThread rests = Unit {0}
 Fails plan known old new (Unfinished source) rests = Unit {0}
-Fails plan known old new Faults rests = HasFault rests
+Fails plan known old new Faults rests = HasPlainFault plan rests
 Fails plan known old new (Output fault) rests = ShowsFront plan known old new rests
+
+-- what a failed run that is strict says of its sources, of which one has a strict fault or none has
+abbrev pub FailsStrictly : Bool → Failure → Type 0
+FailsStrictly faulty TooManyFiles = Unit {0}
+FailsStrictly faulty (Unreadable source) = Unit {0}
+FailsStrictly faulty (TooLarge source) = Unit {0}
+FailsStrictly faulty OutOfMemory = Unit {0}
+FailsStrictly faulty NoThread = Unit {0}
+FailsStrictly faulty (Unfinished source) = Unit {0}
+FailsStrictly faulty Faults = faulty ≡ true
+FailsStrictly faulty (Output fault) = faulty ≡ false
 
 -- a text of lists was not sent whole: for want of memory, for a fault in a list, or since its sending failed
 abbrev pub FailsToShow : List ListState → List ℕ → Option (List ℕ) → Option (List ℕ) → Failure → Type 0

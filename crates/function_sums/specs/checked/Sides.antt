@@ -6,11 +6,11 @@ use Rattle.std.specs.Ordering.{nat_cmp}
 use Rattle.std.specs.declared.cmp.Reverse.{Reverse}
 use denote.Ref.{Bor}
 use Rattle.sample_tables.specs.declared.samples.Sample.{Sample}
+use Rattle.function_sums.specs.declared.changes.ChangeOrder.{ChangeOrder}
 use Rattle.function_sums.specs.declared.sides.Sides.{Sides}
 use Rattle.function_sums.specs.declared.sides.Weights.{Weights}
 use Rattle.function_sums.specs.FunctionChanges.{change_of, size_of}
 use Rattle.function_sums.specs.FunctionSums.{own_of, total_of}
-use Rattle.run_options.specs.declared.orders.FunctionOrder.{FunctionOrder as Order}
 
 abbrev pub no_weight : Weights
 no_weight = record { own = 0; total = 0 }
@@ -36,5 +36,5 @@ abbrev pub row_name : ChangeRow → List ℕ
 row_name row = row.1.now
 
 -- the row of a name has the size of its change
-abbrev pub HasSize : Order → List Sample → List Sample → ChangeRow → Type 0
+abbrev pub HasSize : ChangeOrder → List Sample → List Sample → ChangeRow → Type 0
 HasSize by before after row = row.0.0 ≡ size_of by (change_of before after (row_name row))

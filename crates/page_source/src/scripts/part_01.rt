@@ -1,5 +1,5 @@
-//! What `page/join` takes of page/bisect.js, rows.js, drawing.js, spans.js, sums.js, beside.js,
-//! heaviest.js, callers.js, names.js. `checks/page_source --write` makes this file.
+//! What `page/join` takes of page/bisect.js, columns.js, rows.js, drawing.js, spans.js, sums.js,
+//! beside.js, heaviest.js, callers.js, names.js. `checks/page_source --write` makes this file.
 
 pub(crate) const TEXT: &str = r##"function firstPlace(low, high, holds) {
 while (low < high) {
@@ -16,6 +16,26 @@ low += step;
 step *= 2;
 }
 return firstPlace(low, Math.min(low + step, high), holds);
+}
+function without(weight, part) {
+return Math.max(0, weight - part);
+}
+function boxesTold({ gap, rest, tail, up }) {
+const count = up.length;
+const depth = new Int32Array(count);
+const start = new Float64Array(count);
+const weight = new Float64Array(count);
+const own = new Float64Array(count);
+let [depthBefore, startBefore, weightBefore] = [0, 0, 0];
+for (let box = 0; box < count; box++) {
+const isOn = up[box] === 0;
+depth[box] = depthBefore + 1 - up[box];
+start[box] = startBefore + (isOn ? 0 : weightBefore) + gap[box];
+weight[box] = isOn ? without(weightBefore, gap[box] + tail[box]) : tail[box];
+own[box] = up[box + 1] === 0 ? rest[box] : without(weight[box], rest[box]);
+[depthBefore, startBefore, weightBefore] = [depth[box], start[box], weight[box]];
+}
+return { depth, start, weight, own };
 }
 const ROW_HEIGHT = 18;
 function rowsOf(depths, rowCount, boxes) {
@@ -59,14 +79,14 @@ return { ...about, ...columns, count: depth.length, rowCount, rows, ...nestingOf
 }
 function drawingOf(columns, number) {
 const { at, counts, total, least, left_out: leftOut } = columns;
-const depth = new Int32Array(columns.depth);
+const { depth, start, weight, own } = boxesTold(columns);
 return drawingWith({ number, centre: -1, callees: 1, bands: [], at, counts, total, length: total, least, leftOut }, {
 depth,
 row: depth,
 name: new Int32Array(columns.name),
-start: new Float64Array(columns.start),
-weight: new Float64Array(columns.weight),
-own: new Float64Array(columns.own),
+start,
+weight,
+own,
 other: columns.other ? new Float64Array(columns.other) : null,
 });
 }

@@ -151,7 +151,7 @@ fn has_data<T: Threads + Wait + AllocGlobal + Abort + Copy + Send + 'static>(
 #[test]
 fn graph_of_two_lines(rt: HostRuntime) -> Result<(), Fail> {
     let data =
-        "{\"drawings\":[{\"depth\":[0,1,2],\"least\":0,\"left_out\":{\"boxes\":0,\"weight\":0},\"name\":[0,1,2],\"own\":[0,1,2],\"start\":[0,0,1],\"total\":3,\"weight\":[3,3,2]}],\"names\":[\"all\",\"main\",\"read\\u003cint\\u003e\"],\"sources\":[{\"name\":\"small.folded\",\"type\":\"\",\"unit\":\"\",\"weight\":3}],\"title\":\"small.folded\",\"view\":\"graph\",\"whole\":3}";
+        "{\"drawings\":[{\"gap\":[0,0,1],\"least\":0,\"left_out\":{\"boxes\":0,\"weight\":0},\"name\":[0,1,2],\"rest\":[0,1,0],\"tail\":[3,0,0],\"total\":3,\"up\":[1,0,0]}],\"names\":[\"all\",\"main\",\"read\\u003cint\\u003e\"],\"sources\":[{\"name\":\"small.folded\",\"type\":\"\",\"unit\":\"\",\"weight\":3}],\"title\":\"small.folded\",\"view\":\"graph\",\"whole\":3}";
     has_data(
         &rt,
         &Sent::Graph,
@@ -163,13 +163,13 @@ fn graph_of_two_lines(rt: HostRuntime) -> Result<(), Fail> {
 #[test]
 fn chart_of_two_lines(rt: HostRuntime) -> Result<(), Fail> {
     let data =
-        "{\"drawings\":[{\"depth\":[0,1,2],\"least\":0,\"left_out\":{\"boxes\":0,\"weight\":0},\"name\":[0,1,2],\"own\":[0,1,2],\"start\":[0,0,0],\"total\":3,\"weight\":[3,3,2]}],\"names\":[\"all\",\"main\",\"read\"],\"sources\":[{\"name\":\"small.folded\",\"type\":\"\",\"unit\":\"\",\"weight\":3}],\"title\":\"small.folded\",\"view\":\"chart\",\"whole\":3}";
+        "{\"drawings\":[{\"gap\":[0,0,0],\"least\":0,\"left_out\":{\"boxes\":0,\"weight\":0},\"name\":[0,1,2],\"rest\":[0,1,0],\"tail\":[3,0,1],\"total\":3,\"up\":[1,0,0]}],\"names\":[\"all\",\"main\",\"read\"],\"sources\":[{\"name\":\"small.folded\",\"type\":\"\",\"unit\":\"\",\"weight\":3}],\"title\":\"small.folded\",\"view\":\"chart\",\"whole\":3}";
     has_data(&rt, &Sent::Chart, &[b"main;read 2\n", b"main 1\n"], data)
 }
 
 #[test]
 fn comparison_of_two_lines(rt: HostRuntime) -> Result<(), Fail> {
     let data =
-        "{\"drawings\":[{\"depth\":[0,1,2],\"least\":0,\"left_out\":{\"boxes\":0,\"weight\":0},\"name\":[0,1,2],\"other\":[1,1,0],\"own\":[0,0,3],\"start\":[0,0,0],\"total\":3,\"weight\":[3,3,3]},{\"depth\":[0,1],\"least\":0,\"left_out\":{\"boxes\":0,\"weight\":0},\"name\":[0,1],\"other\":[3,3],\"own\":[0,1],\"start\":[0,0],\"total\":1,\"weight\":[1,1]}],\"names\":[\"all\",\"a\",\"b\"],\"sources\":[{\"name\":\"small.folded\",\"type\":\"\",\"unit\":\"\",\"weight\":3}],\"title\":\"small.folded\",\"view\":\"compare\",\"whole\":3}";
+        "{\"drawings\":[{\"gap\":[0,0,0],\"least\":0,\"left_out\":{\"boxes\":0,\"weight\":0},\"name\":[0,1,2],\"other\":[1,1,0],\"rest\":[0,0,0],\"tail\":[3,0,0],\"total\":3,\"up\":[1,0,0]},{\"gap\":[0,0],\"least\":0,\"left_out\":{\"boxes\":0,\"weight\":0},\"name\":[0,1],\"other\":[3,3],\"rest\":[0,0],\"tail\":[1,0],\"total\":1,\"up\":[1,0]}],\"names\":[\"all\",\"a\",\"b\"],\"sources\":[{\"name\":\"small.folded\",\"type\":\"\",\"unit\":\"\",\"weight\":3}],\"title\":\"small.folded\",\"view\":\"compare\",\"whole\":3}";
     has_data(&rt, &Sent::Comparison, &[b"a;b 3\n", b"a 1\n"], data)
 }

@@ -3,6 +3,7 @@ use Rattle.std.specs.Prelude.{◌≡◌, ◌≢◌, ℕ, List, length, map, Some
 use Rattle.std.specs.Arc.{arc_value}
 use Rattle.rtrb.specs.Ring.{received}
 use Rattle.stack_core.specs.Reading.{Rest}
+use Rattle.stack_core.specs.RowReading.{GivesSuch}
 use Rattle.stack_core.specs.Ledgers.{LedgerState, ListState}
 use Rattle.stack_core.specs.Prefixes.{IsPrefixOf}
 use Rattle.stack_core.specs.Told.{GoesBelow, IsToldUnder, told}
@@ -35,12 +36,14 @@ pub record IsSettledAs (may_stop may_go : ℕ → ℕ → Type 0) (source : ℕ)
   pub goes : GoesBelow may_go source (length list)
   pub whole : stage ≡ Taking → IsAllTold may_stop may_go source rest list ledger
 
-module _ {R G : Type 0} (may_stop may_go : G → ℕ → ℕ → Type 0) (rest : R → Rest) where
+module _ {R G : Type 0} (may_stop may_go : G → ℕ → ℕ → Type 0) (gives : R → Rest → Type 0) where
+  -- so for a rest that its reader may give, the same one whatever the sink has
   abbrev pub IsSettled : RunningSource R G → LedgerState → Type 0
   IsSettled started ledger =
       let promise = started.handle.promise in
       let gate = arc_value promise.gate.value in
-      (list : List Sample) → Tracks started.intake list → IsSettledAs (may_stop gate) (may_go gate) promise.source (rest promise.reader.value) started.intake.stage list ledger
+      GivesSuch (gives promise.reader.value) (λ rest.
+      (list : List Sample) → Tracks started.intake list → IsSettledAs (may_stop gate) (may_go gate) promise.source rest started.intake.stage list ledger)
 
   pub record AreSettled (all : List (RunningSource R G)) (ledgers : List LedgerState) : Type 0 where
     pub count : length ledgers ≡ length all

@@ -1,7 +1,8 @@
 -- What a reader of either format still has to give.
-use Rattle.std.specs.Prelude.{IsTrue}
+use Rattle.std.specs.Prelude.{◌≡◌, IsTrue}
 use Rattle.stack_core.specs.Reading.{Rest}
 use Rattle.stack_core.specs.RowSamples.{left_with}
+use Rattle.stack_core.specs.declared.readers.KnownRows as known_rows
 use Rattle.stack_core.specs.declared.readers.RowReader as row_reader
 use Rattle.stack_core.specs.declared.row_samples.NamingReader.{NamingReader}
 use Rattle.sample_tables.specs.Rows.{ToldRows}
@@ -26,12 +27,15 @@ HasEnded (Pprof reader) = IsTrue reader.has_ended
 
 -- what contracts see of it
 abbrev pub rows : row_reader.Ghosts SourceReader
-rows = record { rest = reader_rest; told = reader_told; has_ended = HasEnded }
+rows = record { gives = λ reader rest. rest ≡ reader_rest reader; told = reader_told; has_ended = HasEnded }
+
+abbrev pub known : known_rows.Ghosts SourceReader
+known = record { rest = reader_rest }
 
 -- what a reader of its samples still has to give
-abbrev pub naming_rest : NamingReader SourceReader rows → Rest
+abbrev pub naming_rest : NamingReader SourceReader known rows → Rest
 naming_rest naming = left_with (reader_told naming.reader).names naming.samples.awaited (reader_rest naming.reader)
 
 -- what a reader that leaves samples out still has to give
-abbrev pub filtered_rest : FilteredReader (NamingReader SourceReader rows) → Rest
+abbrev pub filtered_rest : FilteredReader (NamingReader SourceReader known rows) → Rest
 filtered_rest filtered = kept_rest filtered.filter (naming_rest filtered.reader)

@@ -1,11 +1,11 @@
 -- What the entries and the lines of the code stand for.
 use Rattle.std.specs.Prelude.{ℕ, Bool, List, map, option_map}
-use Rattle.sum_texts.specs.ChangeTable.{signed}
+use Rattle.sum_texts.specs.ChangeTable.{points, signed}
 use Rattle.sum_texts.specs.Columns as columns
 use Rattle.sum_texts.specs.FunctionTable.{part_text}
 use Rattle.sum_texts.specs.Told.{said}
 use Rattle.sum_texts.specs.declared.entries.Entry.{Entry}
-use Rattle.sum_texts.specs.declared.entries.Entry.TheVariants.{Heading, Weight, Part, Change}
+use Rattle.sum_texts.specs.declared.entries.Entry.TheVariants.{Heading, Weight, Part, Change, Points}
 use Rattle.sum_texts.specs.declared.tables.Line.{Line}
 
 abbrev pub entry_text : Bool → List ℕ → Entry → List ℕ
@@ -13,6 +13,7 @@ entry_text is_exact unit (Heading text) = text.now
 entry_text is_exact unit (Weight weight) = said is_exact unit weight
 entry_text is_exact unit (Part weight whole) = part_text whole weight
 entry_text is_exact unit (Change change) = signed is_exact unit change
+entry_text is_exact unit (Points change whole) = points whole change
 
 abbrev pub line_of : Bool → List ℕ → Line → columns.Line
 line_of is_exact unit line = record {

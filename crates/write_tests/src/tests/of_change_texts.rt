@@ -1,13 +1,13 @@
 //! Worked examples of the texts of changes.
 
-use super::texts::is_text;
+use super::texts::{are_bytes, is_text};
 use byte_io::append_pieces;
 use function_sums::{Change, FunctionChange};
 use stack_core::Text;
 use std::alloc::{AllocError, Global};
 use std::process::Abort;
 use std::test::Fail;
-use sum_texts::{ChangeLine, Table, Telling};
+use sum_texts::{ChangeLine, Table, Telling, grown_line};
 
 /// A weight before and after.
 type Sides = (u64, u64);
@@ -37,6 +37,7 @@ fn changes_of(alloc: Global, rows: &[Row<'_>]) -> Result<Vec<FunctionChange>, Al
 #[derive(Clone, Copy)]
 enum Form {
     Table,
+    Shares(Sides),
     Line(Sides),
 }
 
@@ -51,6 +52,11 @@ fn append(alloc: Global, out: &mut Vec<u8>, written: &Written<'_>) -> Result<(),
         Form::Table => {
             let whole = change_of((11, 13));
             let table = Table::of_changes(alloc, &changes, count, whole, &telling, false)?;
+            append_pieces(alloc, &table, out)
+        }
+        Form::Shares(whole) => {
+            let whole = change_of(whole);
+            let table = Table::of_shares(alloc, &changes, count, whole, &telling, false)?;
             append_pieces(alloc, &table, out)
         }
         Form::Line(whole) => append_pieces(
@@ -149,4 +155,45 @@ fn escaped_names(rt: HostRuntime) -> Result<(), Fail> {
         {\"name\":\"a\\\"\\u0001\",\"own_after\":2,\"own_before\":1,\"total_after\":4,\"total_before\":3}],\
         \"total_after\":6,\"total_before\":5,\"unit\":\"\",\"view\":\"diff\"}\n";
     make(&rt, &(Form::Line((5, 6)), rows, 1), wanted)
+}
+
+#[test]
+fn shares_of_both_sides(rt: HostRuntime) -> Result<(), Fail> {
+    let rows: &[Row<'_>] = &[
+        ("f", (6, 10), (6, 10)),
+        ("g", (4, 45), (10, 100)),
+        ("h", (0, 0), (10, 50)),
+    ];
+    let wanted = "\
+Showing 3 of 3 functions, total 10 before, 100 after
+own before   after   points  total before    after   points  name
+    60.00%  10.00%  -50.00%        60.00%   10.00%  -50.00%  f
+    40.00%  45.00%   +5.00%       100.00%  100.00%    0.00%  g
+     0.00%   0.00%    0.00%       100.00%   50.00%  -50.00%  h
+";
+    make(&rt, &(Form::Shares((10, 100)), rows, 10), wanted)
+}
+
+#[test]
+fn shares_of_nothing(rt: HostRuntime) -> Result<(), Fail> {
+    let wanted = "\
+Showing 1 of 1 functions, total 0 before, 8 after
+own before    after    points  total before    after    points  name
+     0.00%  100.00%  +100.00%         0.00%  100.00%  +100.00%  f
+";
+    let rows: &[Row<'_>] = &[("f", (0, 8), (0, 8))];
+    make(&rt, &(Form::Shares((0, 8)), rows, 10), wanted)
+}
+
+#[test]
+fn line_of_grown_functions(rt: HostRuntime) -> Result<(), Fail> {
+    let line = grown_line(rt.alloc(), 5, &["parse", "lex"])?;
+    are_bytes(
+        &rt,
+        &line,
+        b"flamecollect: grew by more than 5 %: parse, lex\n",
+    );
+    let none = grown_line(rt.alloc(), 5, &[])?;
+    are_bytes(&rt, &none, b"");
+    Ok(())
 }

@@ -6,7 +6,7 @@ use std::process::Abort;
 use std::test::Fail;
 
 /// The bytes that were found are these.
-fn are_bytes(rt: &impl Abort, found: &[u8], wanted: &[u8]) {
+pub(super) fn are_bytes(rt: &impl Abort, found: &[u8], wanted: &[u8]) {
     assert_eq!(rt; found, wanted);
 }
 

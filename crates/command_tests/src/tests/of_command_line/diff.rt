@@ -2,7 +2,7 @@
 
 use super::lines::are_answered;
 use super::wanted::{NOTHING, REFUSED, Set, Shown, Wanted};
-use command_line::TopTable;
+use command_line::{DiffTable, TopTable};
 use run_options::FunctionOrder;
 use std::test::Fail;
 
@@ -13,21 +13,36 @@ const BY_OWN: TopTable = TopTable {
     is_exact: false,
 };
 
+const CHANGES: DiffTable = DiffTable {
+    table: BY_OWN,
+    is_share: false,
+    fail_over: None,
+};
+
 const TABLES: &[(&str, Wanted<'static>)] = &[
     (
         "diff old new",
-        Wanted::Defaults(Shown::Diff(BY_OWN), &["old", "new"]),
+        Wanted::Defaults(Shown::Diff(CHANGES), &["old", "new"]),
     ),
     (
         "diff new -n3 old",
-        Wanted::Defaults(Shown::Diff(TopTable { rows: 3, ..BY_OWN }), &["new", "old"]),
+        Wanted::Defaults(
+            Shown::Diff(DiffTable {
+                table: TopTable { rows: 3, ..BY_OWN },
+                ..CHANGES
+            }),
+            &["new", "old"],
+        ),
     ),
     (
         "diff --by total a a",
         Wanted::Defaults(
-            Shown::Diff(TopTable {
-                by: FunctionOrder::Total,
-                ..BY_OWN
+            Shown::Diff(DiffTable {
+                table: TopTable {
+                    by: FunctionOrder::Total,
+                    ..BY_OWN
+                },
+                ..CHANGES
             }),
             &["a", "a"],
         ),
@@ -35,11 +50,44 @@ const TABLES: &[(&str, Wanted<'static>)] = &[
     (
         "diff --json -- --json b",
         Wanted::Defaults(
-            Shown::Diff(TopTable {
-                is_json: true,
-                ..BY_OWN
+            Shown::Diff(DiffTable {
+                table: TopTable {
+                    is_json: true,
+                    ..BY_OWN
+                },
+                ..CHANGES
             }),
             &["--json", "b"],
+        ),
+    ),
+    (
+        "diff --share a b",
+        Wanted::Defaults(
+            Shown::Diff(DiffTable {
+                is_share: true,
+                ..CHANGES
+            }),
+            &["a", "b"],
+        ),
+    ),
+    (
+        "diff --fail-over 5 a b",
+        Wanted::Defaults(
+            Shown::Diff(DiffTable {
+                fail_over: Some(5),
+                ..CHANGES
+            }),
+            &["a", "b"],
+        ),
+    ),
+    (
+        "diff a b --fail-over=0",
+        Wanted::Defaults(
+            Shown::Diff(DiffTable {
+                fail_over: Some(0),
+                ..CHANGES
+            }),
+            &["a", "b"],
         ),
     ),
 ];
@@ -49,7 +97,8 @@ fn tables_of_changes(rt: HostRuntime) -> Result<(), Fail> {
     are_answered(&rt, TABLES)
 }
 
-const ALL_OPTIONS: &str = "diff a --json --focus f -n 7 b --by total --hide=g --ring 8";
+const ALL_OPTIONS: &str =
+    "diff a --json --focus f -n 7 b --by total --hide=g --ring 8 --share --fail-over 100";
 
 const ASKED_FOR: TopTable = TopTable {
     by: FunctionOrder::Total,
@@ -58,8 +107,14 @@ const ASKED_FOR: TopTable = TopTable {
     is_exact: false,
 };
 
+const ALL_ASKED_FOR: DiffTable = DiffTable {
+    table: ASKED_FOR,
+    is_share: true,
+    fail_over: Some(100),
+};
+
 const PARTS: &[(&str, Wanted<'static>)] = &[
-    (ALL_OPTIONS, Wanted::View(Shown::Diff(ASKED_FOR))),
+    (ALL_OPTIONS, Wanted::View(Shown::Diff(ALL_ASKED_FOR))),
     (ALL_OPTIONS, Wanted::Filter(&["f"], &["g"])),
     (ALL_OPTIONS, Wanted::Options(Set { ring: 8, ..NOTHING })),
     (ALL_OPTIONS, Wanted::Files(&["a", "b"])),
@@ -79,6 +134,14 @@ const REFUSED_LINES: &[(&str, Wanted<'static>)] = &[
     ("diff --by change a b", REFUSED),
     ("diff --by own --by own a b", REFUSED),
     ("diff --json=yes a b", REFUSED),
+    ("diff --share=yes a b", REFUSED),
+    ("diff --fail-over a b", REFUSED),
+    ("diff --fail-over 101 a b", REFUSED),
+    ("diff --fail-over=-1 a b", REFUSED),
+    ("diff --fail-over 0.5 a b", REFUSED),
+    ("diff --fail-over 5 --fail-over 5 a b", REFUSED),
+    ("top --share a", REFUSED),
+    ("compare --fail-over 5 a b", REFUSED),
     ("diff --boxes a b", REFUSED),
     ("diff --page a b", REFUSED),
     ("diff --svg a b", REFUSED),

@@ -41,7 +41,7 @@ const USAGES: &[(&str, Wanted<'static>)] = &[
     ),
     (
         "types --help",
-        Wanted::Help("\nUsage: flamecollect types <FILE>\n"),
+        Wanted::Help("\nUsage: flamecollect types [OPTIONS] <FILE>\n"),
     ),
     ("help", Wanted::Help("\nUsage: flamecollect <COMMAND>\n")),
     (

@@ -1,6 +1,6 @@
 //! What a test wants of a line's plan, or of the fault in its place.
 
-use command_line::{CallTable, Form, Plan, TopTable, View, WeightUnit};
+use command_line::{CallTable, DiffTable, Form, Plan, TopTable, View, WeightUnit};
 use run_options::{Format, Naming, Options, Pick, Width};
 use stack_core::{Names, Text};
 
@@ -13,7 +13,7 @@ pub(crate) enum Shown {
     Pairs,
     PairBoxes(u32),
     Top(TopTable),
-    Diff(TopTable),
+    Diff(DiffTable),
 }
 
 /// What words set of the options.
@@ -133,6 +133,7 @@ fn has_defaults(plan: &Plan) -> bool {
     options_are(&plan.options, &NOTHING)
         && plan.options.filter.is_everything()
         && plan.from.is_none()
+        && plan.output.is_none()
 }
 
 fn begins_at(plan: &Plan, name: &str) -> bool {

@@ -117,7 +117,7 @@ const EXAMPLE: &Case<'static> = &Case {
 #[test]
 fn example_of_the_page(rt: HostRuntime) -> Result<(), Fail> {
     let wanted =
-        b"{\"drawings\":[{\"depth\":[0,1,2],\"least\":0,\"left_out\":{\"boxes\":0,\"weight\":0},\"name\":[0,1,2],\"own\":[0,1,2],\"start\":[0,0,1],\"total\":3,\"weight\":[3,3,2]}],\"names\":[\"all\",\"main\",\"read\\u003cint\\u003e\"],\"sources\":[{\"name\":\"small.folded\",\"type\":\"\",\"unit\":\"\",\"weight\":3}],\"title\":\"small.folded\",\"view\":\"graph\",\"whole\":5}";
+        b"{\"drawings\":[{\"gap\":[0,0,1],\"least\":0,\"left_out\":{\"boxes\":0,\"weight\":0},\"name\":[0,1,2],\"rest\":[0,1,0],\"tail\":[3,0,0],\"total\":3,\"up\":[1,0,0]}],\"names\":[\"all\",\"main\",\"read\\u003cint\\u003e\"],\"sources\":[{\"name\":\"small.folded\",\"type\":\"\",\"unit\":\"\",\"weight\":3}],\"title\":\"small.folded\",\"view\":\"graph\",\"whole\":5}";
     data_are(&rt, EXAMPLE, wanted)
 }
 
@@ -135,7 +135,7 @@ const BELOW: &Case<'static> = &Case {
 #[test]
 fn root_below_is_told(rt: HostRuntime) -> Result<(), Fail> {
     let wanted =
-        b"{\"drawings\":[{\"depth\":[],\"least\":4,\"left_out\":{\"boxes\":3,\"weight\":3},\"name\":[],\"own\":[],\"start\":[],\"total\":3,\"weight\":[]}],\"names\":[],\"root_below\":true,\"sources\":[],\"title\":\"small\",\"view\":\"graph\",\"whole\":3}";
+        b"{\"drawings\":[{\"gap\":[],\"least\":4,\"left_out\":{\"boxes\":3,\"weight\":3},\"name\":[],\"rest\":[],\"tail\":[],\"total\":3,\"up\":[]}],\"names\":[],\"root_below\":true,\"sources\":[],\"title\":\"small\",\"view\":\"graph\",\"whole\":3}";
     data_are(&rt, BELOW, wanted)
 }
 
@@ -156,7 +156,7 @@ const NARROW: &Case<'static> = &Case {
 #[test]
 fn narrow_boxes_are_told(rt: HostRuntime) -> Result<(), Fail> {
     let wanted =
-        b"{\"drawings\":[{\"at\":2,\"counts\":[2],\"depth\":[0,1],\"least\":3,\"left_out\":{\"boxes\":1,\"weight\":2},\"name\":[0,1],\"own\":[0,1],\"start\":[0,0],\"total\":3,\"weight\":[3,3]}],\"names\":[\"all\",\"main\"],\"sources\":[{\"name\":\"small.folded\",\"type\":\"\",\"unit\":\"\",\"weight\":3}],\"title\":\"\\u003c/script\\u003e\\u0026\\u2028\\u2029\",\"view\":\"graph\",\"whole\":5}";
+        b"{\"drawings\":[{\"at\":2,\"counts\":[2],\"gap\":[0,0],\"least\":3,\"left_out\":{\"boxes\":1,\"weight\":2},\"name\":[0,1],\"rest\":[0,2],\"tail\":[3,0],\"total\":3,\"up\":[1,0]}],\"names\":[\"all\",\"main\"],\"sources\":[{\"name\":\"small.folded\",\"type\":\"\",\"unit\":\"\",\"weight\":3}],\"title\":\"\\u003c/script\\u003e\\u0026\\u2028\\u2029\",\"view\":\"graph\",\"whole\":5}";
     data_are(&rt, NARROW, wanted)
 }
 
@@ -199,14 +199,14 @@ fn comparison_has_the_other_weights(rt: HostRuntime) -> Result<(), Fail> {
     let mut data = Vec::new(rt.alloc());
     let made = append_compared(rt.alloc(), &mut data);
     let wanted =
-        b"{\"drawings\":[{\"depth\":[0,1,2],\"least\":0,\"left_out\":{\"boxes\":0,\"weight\":0},\"name\":[0,1,2],\"other\":[7,5,0],\"own\":[0,1,2],\"start\":[0,0,1],\"total\":3,\"weight\":[3,3,2]}],\"names\":[\"all\",\"main\",\"read\\u003cint\\u003e\"],\"sources\":[],\"title\":\"\",\"view\":\"compare\",\"whole\":5}";
+        b"{\"drawings\":[{\"gap\":[0,0,1],\"least\":0,\"left_out\":{\"boxes\":0,\"weight\":0},\"name\":[0,1,2],\"other\":[7,5,0],\"rest\":[0,1,0],\"tail\":[3,0,0],\"total\":3,\"up\":[1,0,0]}],\"names\":[\"all\",\"main\",\"read\\u003cint\\u003e\"],\"sources\":[],\"title\":\"\",\"view\":\"compare\",\"whole\":5}";
     is_text(&rt, made, &data, wanted)
 }
 
-// Adds so many boxes of the same row.
-fn add_same(boxes: &mut Vec<DrawnBox<'_>>, count: usize) -> Result<(), AllocError> {
-    for _ in 0..count {
-        boxes.push(box_of(&(0, "all", 0, 1, 1)))?;
+// Adds so many boxes, one behind another.
+fn add_row(boxes: &mut Vec<DrawnBox<'_>>, count: u32) -> Result<(), AllocError> {
+    for at in 0..count {
+        boxes.push(box_of(&(0, "all", u64::from(at), 1, 1)))?;
     }
     Ok(())
 }
@@ -225,7 +225,7 @@ const LONG: &Case<'static> = &Case {
 // Appends the data of a page of more numbers than a part has.
 fn append_long(alloc: Global, out: &mut Vec<u8>) -> Result<(), AllocError> {
     let mut boxes = Vec::new(alloc);
-    add_same(&mut boxes, 2500)?;
+    add_row(&mut boxes, 2500)?;
     let drawing = drawing_of(boxes.as_slice(), LONG);
     append_data(alloc, out, &[drawing], LONG)
 }
@@ -233,7 +233,7 @@ fn append_long(alloc: Global, out: &mut Vec<u8>) -> Result<(), AllocError> {
 // Five columns of 2500 digits with 2499 commas, and what stands round them.
 fn are_whole(alloc: Global, data: &mut Vec<u8>) -> Result<bool, AllocError> {
     append_long(alloc, data)?;
-    Ok(data.len() == 5 * (2500 + 2499) + 191)
+    Ok(data.len() == 5 * (2500 + 2499) + 185)
 }
 
 #[test]

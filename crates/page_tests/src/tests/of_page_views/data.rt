@@ -25,10 +25,10 @@ const EXAMPLE_DATA: &str = "{
     \"drawings\": [{
         \"least\": 10, \"total\": 57, \"left_out\": {\"boxes\": 2, \"weight\": 7},
         \"name\": [0, 1, 2, 3, 4],
-        \"depth\": [0, 1, 2, 3, 3],
-        \"start\": [0, 0, 7, 7, 26],
-        \"weight\": [57, 57, 50, 19, 31],
-        \"own\": [0, 0, 0, 19, 31]
+        \"up\": [1, 0, 0, 0, 1],
+        \"gap\": [0, 0, 7, 0, 0],
+        \"tail\": [57, 0, 0, 31, 31],
+        \"rest\": [0, 0, 0, 0, 0]
     }]
 }";
 
@@ -181,7 +181,7 @@ fn show_data<T: Threads + Wait + AllocGlobal + Abort + Copy + Send + 'static>(
 fn data_of_snapshots(rt: HostRuntime) -> Result<(), Fail> {
     let texts: &[&[u8]] = &[b"main;read<int> 2\nmain 1\n"];
     let wanted =
-        b"before {\"drawings\":[{\"at\":1,\"counts\":[1],\"depth\":[0,1,2],\"least\":0,\"left_out\":{\"boxes\":0,\"weight\":0},\"name\":[0,1,2],\"own\":[0,0,2],\"start\":[0,0,0],\"total\":2,\"weight\":[2,2,2]},{\"at\":2,\"counts\":[2],\"depth\":[0,1,2],\"least\":0,\"left_out\":{\"boxes\":0,\"weight\":0},\"name\":[0,1,2],\"own\":[0,1,2],\"start\":[0,0,1],\"total\":3,\"weight\":[3,3,2]},{\"depth\":[0,1,2],\"least\":0,\"left_out\":{\"boxes\":0,\"weight\":0},\"name\":[0,1,2],\"own\":[0,1,2],\"start\":[0,0,1],\"total\":3,\"weight\":[3,3,2]}],\"names\":[\"all\",\"main\",\"read\\u003cint\\u003e\"],\"sources\":[],\"title\":\"small\",\"view\":\"graph\",\"whole\":3}";
+        b"before {\"drawings\":[{\"at\":1,\"counts\":[1],\"gap\":[0,0,0],\"least\":0,\"left_out\":{\"boxes\":0,\"weight\":0},\"name\":[0,1,2],\"rest\":[0,0,0],\"tail\":[2,0,0],\"total\":2,\"up\":[1,0,0]},{\"at\":2,\"counts\":[2],\"gap\":[0,0,1],\"least\":0,\"left_out\":{\"boxes\":0,\"weight\":0},\"name\":[0,1,2],\"rest\":[0,1,0],\"tail\":[3,0,0],\"total\":3,\"up\":[1,0,0]},{\"gap\":[0,0,1],\"least\":0,\"left_out\":{\"boxes\":0,\"weight\":0},\"name\":[0,1,2],\"rest\":[0,1,0],\"tail\":[3,0,0],\"total\":3,\"up\":[1,0,0]}],\"names\":[\"all\",\"main\",\"read\\u003cint\\u003e\"],\"sources\":[],\"title\":\"small\",\"view\":\"graph\",\"whole\":3}";
     show_data(
         &rt,
         &mut Vec::new(rt.alloc()),
@@ -196,7 +196,7 @@ fn data_of_snapshots(rt: HostRuntime) -> Result<(), Fail> {
 fn data_of_a_chart(rt: HostRuntime) -> Result<(), Fail> {
     let texts: &[&[u8]] = &[b"main;read 2\n", b"main 1\n"];
     let wanted =
-        b"before {\"drawings\":[{\"depth\":[0,1,2],\"least\":0,\"left_out\":{\"boxes\":0,\"weight\":0},\"name\":[0,1,2],\"own\":[0,1,2],\"start\":[0,0,0],\"total\":3,\"weight\":[3,3,2]}],\"names\":[\"all\",\"main\",\"read\"],\"sources\":[],\"title\":\"small\",\"view\":\"chart\",\"whole\":3}";
+        b"before {\"drawings\":[{\"gap\":[0,0,0],\"least\":0,\"left_out\":{\"boxes\":0,\"weight\":0},\"name\":[0,1,2],\"rest\":[0,1,0],\"tail\":[3,0,1],\"total\":3,\"up\":[1,0,0]}],\"names\":[\"all\",\"main\",\"read\"],\"sources\":[],\"title\":\"small\",\"view\":\"chart\",\"whole\":3}";
     show_data(
         &rt,
         &mut Vec::new(rt.alloc()),
@@ -211,7 +211,7 @@ fn data_of_a_chart(rt: HostRuntime) -> Result<(), Fail> {
 fn data_of_a_comparison(rt: HostRuntime) -> Result<(), Fail> {
     let texts: &[&[u8]] = &[b"a;b 3\n", b"a 1\n"];
     let wanted =
-        b"before {\"drawings\":[{\"depth\":[0,1,2],\"least\":0,\"left_out\":{\"boxes\":0,\"weight\":0},\"name\":[0,1,2],\"other\":[1,1,0],\"own\":[0,0,3],\"start\":[0,0,0],\"total\":3,\"weight\":[3,3,3]},{\"depth\":[0,1],\"least\":0,\"left_out\":{\"boxes\":0,\"weight\":0},\"name\":[0,1],\"other\":[3,3],\"own\":[0,1],\"start\":[0,0],\"total\":1,\"weight\":[1,1]}],\"names\":[\"all\",\"a\",\"b\"],\"sources\":[],\"title\":\"small\",\"view\":\"compare\",\"whole\":3}";
+        b"before {\"drawings\":[{\"gap\":[0,0,0],\"least\":0,\"left_out\":{\"boxes\":0,\"weight\":0},\"name\":[0,1,2],\"other\":[1,1,0],\"rest\":[0,0,0],\"tail\":[3,0,0],\"total\":3,\"up\":[1,0,0]},{\"gap\":[0,0],\"least\":0,\"left_out\":{\"boxes\":0,\"weight\":0},\"name\":[0,1],\"other\":[3,3],\"rest\":[0,0],\"tail\":[1,0],\"total\":1,\"up\":[1,0]}],\"names\":[\"all\",\"a\",\"b\"],\"sources\":[],\"title\":\"small\",\"view\":\"compare\",\"whole\":3}";
     show_data(
         &rt,
         &mut Vec::new(rt.alloc()),

@@ -1,9 +1,12 @@
-use Rattle.std.proofs.Common.{◌≤◌, ◌∙◌, refl, sym, ap, subst, length}
+use Rattle.std.proofs.Common.{◌≡◌, ◌≤◌, ◌∙◌, List, refl, sym, ap, subst, length, get_or}
 use Rattle.std.proofs.lemmas.List.{length-map}
 use Rattle.std.proofs.lemmas.Result.{IfOk-from_err, IfOk-weaker}
 use Rattle.std.specs.Arc.{arc_value}
+use Rattle.stack_core.specs.Reading.{Rest}
 use Rattle.ring_collect.specs.Collection.{AnswersRun, Unfinishes}
 use Rattle.ring_collect.specs.declared.faults.CollectFault.TheVariants.{Unfinished}
+use Rattle.ring_collect.specs.checked.Numbering.{with_waiting}
+use Rattle.ring_collect.proofs.GivenRests.{known_such}
 use Rattle.ring_collect.proofs.Outcomes.{error_said}
 use Rattle.ring_collect.proofs.RunLemmas.{allows_nothing, gains_nothing}
 use Rattle.ring_collect.proofs.sample_runs.collect.Goals as goal
@@ -28,7 +31,9 @@ returns g c =
     let taken = g.S.Sink.taken c.args.sink.now in
     let taken' = g.S.Sink.taken c.collect_by.new.sink in
     let gate = arc_value c.args.gate in
-    let answer = subst (λ rests. AnswersRun (g.G.Gate.may_stop gate) (g.G.Gate.may_go gate) rests taken taken' c.collect_by.result) c.in_ok-readers.ensures.rests c.collect_by.ensures.answer in
+    let rest = g.R.SampleReader.rest in
+    let answers = λ (rests : List Rest). AnswersRun (g.G.Gate.may_stop gate) (g.G.Gate.may_go gate) rests taken taken' c.collect_by.result in
+    let answer = subst answers c.in_ok-readers.ensures.rests (known_such (λ one given. given ≡ with_waiting one.waiting (rest one.reader)) (λ one. with_waiting one.waiting (rest one.reader)) (λ one other is. is) c.in_ok-readers.readers.items answers c.collect_by.ensures.answer) in
     record {
       lists = IfOk-weaker c.collect_by.result _ _ (λ run collected. collected.lists) answer.run;
       whole = λ never. IfOk-weaker c.collect_by.result _ _ (λ run collected. collected.whole never) answer.run;
@@ -50,3 +55,9 @@ collect_by-requires-clause-few g c = λ κs within.
 
 pub collect_by-requires-clause-nothing_told : goal.collect_by-requires-clause-nothing_told
 collect_by-requires-clause-nothing_told g c = λ κs within. c.in_ok-readers.ensures.nothing_told
+
+-- a reader that numbers a reader's samples gives their rest
+pub collect_by-requires-clause-possible : goal.collect_by-requires-clause-possible
+collect_by-requires-clause-possible g c = λ κs within. λ source one below.
+    let numbering = get_or c.in_ok-readers.readers.items source one in
+    record { rest = with_waiting numbering.waiting (g.R.SampleReader.rest numbering.reader); is_given = refl }

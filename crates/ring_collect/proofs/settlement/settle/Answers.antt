@@ -4,5 +4,5 @@ use Rattle.ring_collect.proofs.settlement.settle.Goals as goal
 
 pub returns : goal.returns
 returns g c =
-    left_settled (λ gate. g.G.Gate.may_stop gate) (λ gate. g.G.Gate.may_go gate) (λ reader. g.R.RowReader.rest reader) c.args.running c.join.result c.settle_by.result c.requires
-    (IfSome_then c.join.result c.join.ensures (λ left sent. sent.all)) c.settle_by.ensures.received c.settle_by.ensures.unshown
+    left_settled (λ gate. g.G.Gate.may_stop gate) (λ gate. g.G.Gate.may_go gate) (λ reader. g.R.RowReader.gives reader) c.args.running c.join.result c.settle_by.result c.requires
+    (IfSome_then c.join.result c.join.ensures (λ left sent. record { rest = sent.rest; is_given = sent.is_given; holds = sent.holds.all })) c.settle_by.ensures.received c.settle_by.ensures.unshown

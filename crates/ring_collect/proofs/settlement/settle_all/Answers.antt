@@ -34,7 +34,7 @@ loop-running-preserved g c =
       source = ap (λ n. n + 1) so_far.source ∙ sym one_more;
       room = let room = so_far.room in let more = added.room in omega arith;
       ledgers = let before = so_far.ledgers in let one = added.one in omega arith;
-      settled = more_settled (λ gate. g.G.Gate.may_stop gate) (λ gate. g.G.Gate.may_go gate) (λ reader. g.R.RowReader.rest reader) c.loop-running.yielded c.loop-running.ledgers.items c.add_ledger-unfinished.new.ledgers.items c.loop-running.unfinished c.add_ledger-unfinished.result c.settle.result c.in-Some.running added.added so_far.settled c.settle.ensures;
+      settled = more_settled (λ gate. g.G.Gate.may_stop gate) (λ gate. g.G.Gate.may_go gate) (λ reader. g.R.RowReader.gives reader) c.loop-running.yielded c.loop-running.ledgers.items c.add_ledger-unfinished.new.ledgers.items c.loop-running.unfinished c.add_ledger-unfinished.result c.settle.result c.in-Some.running added.added so_far.settled c.settle.ensures;
       unfinished = subst (λ n. IfSome c.add_ledger-unfinished.result (λ first. first < n)) (sym one_more) (first_below c.loop-running.unfinished c.add_ledger-unfinished.result added.first so_far.unfinished so_far.source);
     }
 
@@ -48,7 +48,7 @@ whole g c =
 
 pub returns-clause-settled : goal.returns-clause-settled
 returns-clause-settled g c =
-    subst (λ all. IfNone c.loop-running.unfinished (AreSettled (λ gate. g.G.Gate.may_stop gate) (λ gate. g.G.Gate.may_go gate) (λ reader. g.R.RowReader.rest reader) all c.loop-running.ledgers.items)) (sym (whole g c)) c.loop-running.invariant.settled
+    subst (λ all. IfNone c.loop-running.unfinished (AreSettled (λ gate. g.G.Gate.may_stop gate) (λ gate. g.G.Gate.may_go gate) (λ reader. g.R.RowReader.gives reader) all c.loop-running.ledgers.items)) (sym (whole g c)) c.loop-running.invariant.settled
 
 pub returns-clause-unfinished : goal.returns-clause-unfinished
 returns-clause-unfinished g c = subst (λ all. IfSome c.loop-running.unfinished (λ source. source < length all)) (sym (whole g c)) c.loop-running.invariant.unfinished

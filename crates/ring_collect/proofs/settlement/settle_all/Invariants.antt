@@ -9,6 +9,6 @@ invariant-loop-running g l = record {
   source : l.source ≡ length l.yielded;
   room : length l.fn.sources.items ≤ vec_capacity l.ledgers;
   ledgers : length l.ledgers.items ≤ length l.yielded;
-  settled : IfNone l.unfinished (AreSettled (λ gate. g.G.Gate.may_stop gate) (λ gate. g.G.Gate.may_go gate) (λ reader. g.R.RowReader.rest reader) l.yielded l.ledgers.items);
+  settled : IfNone l.unfinished (AreSettled (λ gate. g.G.Gate.may_stop gate) (λ gate. g.G.Gate.may_go gate) (λ reader. g.R.RowReader.gives reader) l.yielded l.ledgers.items);
   unfinished : IfSome l.unfinished (λ source. source < length l.yielded);
 }

@@ -1,6 +1,5 @@
-use Rattle.byte_io.proofs.PieceTexts.{further}
 use Rattle.std.proofs.Common.{codes}
-use Rattle.view_texts.proofs.Fronts.{front_either, on_ok_if}
+use Rattle.view_texts.proofs.Fronts.{on_ok_if}
 use Rattle.sum_texts.proofs.ChangePieces.{tail_written}
 use Rattle.sum_texts.proofs.change_lines.append_tail.Goals as goal
 

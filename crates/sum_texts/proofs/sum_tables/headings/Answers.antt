@@ -1,4 +1,4 @@
-use Rattle.std.proofs.Common.{◌≡◌, ◌∙◌, ◌∷◌, [], ℕ, List, Bool, Option, None, Some, ap, codes, cond, is_some, option_map, refl}
+use Rattle.std.proofs.Common.{◌≡◌, ◌∙◌, ◌∷◌, [], ℕ, List, Option, None, Some, ap, codes, cond, is_some, option_map, refl}
 use Rattle.sum_texts.proofs.sum_tables.headings.Goals as goal
 
 of_all : (text : List ℕ) (all : Option ℕ) → cond (is_some all) (Some text) None ≡ option_map (λ _. text) all

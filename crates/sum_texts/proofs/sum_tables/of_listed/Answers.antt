@@ -1,4 +1,4 @@
-use Rattle.std.proofs.Common.{◌≡◌, ◌∙◌, ◌∷◌, ◌++◌, [], false, None, ap, map, refl}
+use Rattle.std.proofs.Common.{◌∙◌, ◌∷◌, ◌++◌, [], false, None, ap, map, refl}
 use Rattle.std.proofs.lemmas.List.{map-append}
 use Rattle.std.proofs.lemmas.Result.{IfOk-weaker}
 use Rattle.sum_texts.specs.FunctionTable.{function_lines, headings}

@@ -1,4 +1,4 @@
-use Rattle.std.proofs.Common.{◌≡◌, ◌<◌, ◌+◌, ◌++◌, ◌∙◌, None, ap, append_assoc, arith, drop, get_or, length, map, option_map, sym}
+use Rattle.std.proofs.Common.{◌<◌, ◌+◌, ◌++◌, ◌∙◌, None, ap, append_assoc, arith, drop, get_or, length, map, option_map, sym}
 use Rattle.std.proofs.lemmas.List.{get_or-map, length-map}
 use Rattle.sum_texts.specs.Columns.{at_right_if, in_columns}
 use Rattle.sum_texts.specs.checked.Entries.{entry_text}

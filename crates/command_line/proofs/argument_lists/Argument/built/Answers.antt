@@ -47,6 +47,12 @@ returns-in-Exact c = c.flag-in-Exact.ensures ∙ sym (ap rule_at c.in-Exact.is)
 pub returns-in-Unit : goal.returns-in-Unit
 returns-in-Unit c = c.text_option-in-Unit.ensures ∙ sym (ap rule_at c.in-Unit.is)
 
+pub returns-in-Strict : goal.returns-in-Strict
+returns-in-Strict c = c.flag-in-Strict.ensures ∙ sym (ap rule_at c.in-Strict.is)
+
+pub returns-in-Output : goal.returns-in-Output
+returns-in-Output c = c.output_option.ensures ∙ sym (ap rule_at c.in-Output.is)
+
 pub returns-in-Quiet : goal.returns-in-Quiet
 returns-in-Quiet c = c.flag-in-Quiet.ensures ∙ sym (ap rule_at c.in-Quiet.is)
 

@@ -1,83 +1,21 @@
-use Rattle.std.proofs.lemmas.Grind.{common_steps}
-use Rattle.std.proofs.Common.{ap, length, arith, rules}
-use Rattle.std.proofs.lemmas.Result.{IfOk-from_err}
-use Rattle.profile_tables.proofs.ReaderLemmas.{few-state}
+use Rattle.std.proofs.Common.{◌≡◌, refl}
+use Rattle.std.proofs.lemmas.Result.{IfOk-weaker, on_err_weaker}
+use Rattle.stack_core.specs.RowReading.{StepsAmong, StepsByRows}
+use Rattle.stack_core.proofs.GivenLemmas.{few_among, rest_among, step_among}
 use Rattle.profile_tables.proofs.row_reader.PprofRowsRowReader.next_row.Goals as goal
 
-pub returns-in-Some : goal.returns-in-Some
-returns-in-Some c = search rules
+pub returns-clause-step : goal.returns-clause-step
+returns-clause-step c =
+    let old = c.args.self.now in
+    let new = c.next_step.new.self in
+    IfOk-weaker c.next_step.result (λ step. StepsByRows old.told old.rest step new.told new.rest) (λ step. StepsAmong (λ rest. rest ≡ old.rest) (λ rest. rest ≡ new.rest) old.told step new.told)
+    (step_among old.told new.told) c.next_step.ensures.step
 
-pub invariant_of-self : goal.invariant_of-self
-invariant_of-self c = search rules
+pub returns-clause-refused : goal.returns-clause-refused
+returns-clause-refused c = on_err_weaker c.next_step.result rest_among c.next_step.ensures.refused
 
-pub returns-in_err-fault : goal.returns-in_err-fault
-returns-in_err-fault c = record {
-  step = IfOk-from_err _ _ c.from_residual.ensures.0;
-  limits = IfOk-from_err _ _ c.from_residual.ensures.0;
-  refused = search rules;
-  stacks = search rules;
-  names = search rules;
-  few = few-state c.self.inside _ c.self.view_is (omega (arith, ap length c.as_slice-file.ensures));
-  ended = IfOk-from_err _ _ c.from_residual.ensures.0;
-  repeats = search rules;
-  chosen_type = search rules;
-  tables = IfOk-from_err _ _ c.from_residual.ensures.0;
-}
+pub returns-clause-few : goal.returns-clause-few
+returns-clause-few c = few_among c.next_step.ensures.few
 
-pub invariant_of-self-in-Some-2 : goal.invariant_of-self-in-Some-2
-invariant_of-self-in-Some-2 c = search rules
-
-pub returns-in-Some-2 : goal.returns-in-Some-2
-returns-in-Some-2 c = search rules
-
-pub unreachable-requires : goal.unreachable-requires
-unreachable-requires c = search rules
-
-pub unreachable-unreachable : goal.unreachable-unreachable
-unreachable-unreachable c = search rules
-
-pub next_row-requires : goal.next_row-requires
-next_row-requires c = search rules
-
-pub invariant_of-self-in_err-step : goal.invariant_of-self-in_err-step
-invariant_of-self-in_err-step c = search rules
-
-pub returns-in_err-step : goal.returns-in_err-step
-returns-in_err-step c = record {
-  step = IfOk-from_err _ _ c.from_residual-in_err-step.ensures.0;
-  limits = IfOk-from_err _ _ c.from_residual-in_err-step.ensures.0;
-  refused = search rules;
-  stacks = search rules;
-  names = search rules;
-  few = few-state c.self.inside _ c.self.view_is (omega (arith, ap length c.as_slice-file.ensures));
-  ended = IfOk-from_err _ _ c.from_residual-in_err-step.ensures.0;
-  repeats = search rules;
-  chosen_type = search rules;
-  tables = IfOk-from_err _ _ c.from_residual-in_err-step.ensures.0;
-}
-
-pub invariant_of-self-in-End-1 : goal.invariant_of-self-in-End-1
-invariant_of-self-in-End-1 c = search rules
-
-pub overflow_add-self-in-New : goal.overflow_add-self-in-New
-overflow_add-self-in-New c = search rules
-
-pub invariant_of-self-in-New : goal.invariant_of-self-in-New
-invariant_of-self-in-New c = search rules
-
-pub returns : goal.returns
-returns c = record {
-  step = search rules;
-  limits = search rules;
-  refused = search rules;
-  stacks = search rules;
-  names = search rules;
-  few = few-state c.self.inside _ c.self.view_is (omega (arith, ap length c.as_slice-file.ensures));
-  ended = search rules;
-  repeats = search rules;
-  chosen_type = search rules;
-  tables = search rules;
-}
-
-pub overflow_add-self : goal.overflow_add-self
-overflow_add-self c = grind (arith, common_steps)
+pub returns-clause-possible : goal.returns-clause-possible
+returns-clause-possible c = record { rest = c.next_step.new.self.rest; is_given = refl }

@@ -3,7 +3,7 @@ use Rattle.std.proofs.lemmas.List.{length-map}
 use Rattle.std.specs.Arc.{arc_value}
 use Rattle.ring_collect.specs.checked.RunningSources.{ArePromised}
 use Rattle.ring_collect.specs.checked.Rounds.{HasGained}
-use Rattle.ring_collect.proofs.RunLemmas.{nothing_gained, still_promised, as_many, unfinishes, gains_allowed, gains_first, runs_whole, where_ok}
+use Rattle.ring_collect.proofs.RunLemmas.{nothing_gained, still_promised, as_many, unfinishes, gains_allowed, gains_first, rests_of, runs_whole, where_ok}
 use Rattle.ring_collect.proofs.room.Room.run_sources.Goals as goal
 
 gained : (g : _) (c : goal.After-refusal g) → HasGained (g.F.Feed.taken c.args.sink.now) (map (λ running. running.intake) c.drain.new.self.sources.items) (g.F.Feed.taken c.drain.new.sink) c.drain.new.self.order.items c.drain.new.self.refused
@@ -13,22 +13,30 @@ promised : (g : _) (c : goal.After-refusal g) → ArePromised (arc_value c.args.
 promised g c = still_promised c.start_all-started.new.sources.items c.drain.new.self.sources.items c.drain.ensures.handles c.start_all-started.ensures.promised
 
 pub returns-clause-gains : goal.returns-clause-gains
-returns-clause-gains g c = gains_first (promised g c) c.in_default-settle_all.ensures.settled (gained g c)
+returns-clause-gains g c =
+    let promised = promised g c in
+    let settled = c.in_default-settle_all.ensures.settled in
+    let gained = gained g c in
+    let chosen = rests_of promised settled gained c.requires.possible in
+    record {
+      rests = chosen.rests;
+      are_given = chosen.are_given;
+      holds = (
+        gains_first promised settled gained chosen,
+        λ is.
+            let none = c.refusal.ensures.none is in
+            runs_whole promised settled gained chosen none.0
+            (as_many c.start_all-started.new.sources.items c.drain.new.self.sources.items c.drain.ensures.handles ∙ where_ok c.start_all-started.result none.1 c.start_all-started.ensures.all),
+      );
+    }
 
 pub returns-clause-popped : goal.returns-clause-popped
 returns-clause-popped g c = gains_allowed (promised g c) c.in_default-settle_all.ensures.settled (gained g c)
-
-pub returns-clause-whole : goal.returns-clause-whole
-returns-clause-whole g c = λ is.
-    let none = c.refusal.ensures.none is in
-    runs_whole (promised g c) c.in_default-settle_all.ensures.settled (gained g c) none.0
-    (as_many c.start_all-started.new.sources.items c.drain.new.self.sources.items c.drain.ensures.handles ∙ where_ok c.start_all-started.result none.1 c.start_all-started.ensures.all)
 
 pub returns-in-Some : goal.returns-in-Some
 returns-in-Some g c = record {
   gains = tt;
   popped = tt;
-  whole = tt;
   refused = tt;
   unfinished = unfinishes _ c.in-Some.source (still_promised c.start_all-started.new.sources.items c.drain.new.self.sources.items c.drain.ensures.handles c.start_all-started.ensures.promised)
       (c.drain.ensures.gained (g.F.Feed.taken c.args.sink.now) (nothing_gained _ _ _ _ c.new-order.ensures.items c.start_all-started.ensures.fresh))

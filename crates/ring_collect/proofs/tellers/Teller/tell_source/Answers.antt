@@ -13,11 +13,15 @@ returns-clause-told g c =
     let close = c.tell_samples-close.result in
     let samples = c.tell_samples-close.ensures in
     record {
-      well_told = subst IsWellTold (sym all) (IsWellTold-append told (Close close ∷ []) samples.well_told tt);
-      is_told = subst (IsToldUnder (g.G.Gate.may_stop c.args.gate.now) (g.G.Gate.may_go c.args.gate.now) c.args.source (g.R.RowReader.rest c.args.self.now.reader))
-          (sym (ap stands_for all ∙ stands_for-append told (Close close ∷ []))) samples.told;
-      is_closed = (told, close, all);
-      in_order = λ read ending is.
-          ap names_told all ∙ names_told-append told (Close close ∷ []) ∙ append-nil (names_told told)
-          ∙ samples.in_order read ending (sym (ap stands_for all ∙ stands_for-append told (Close close ∷ [])) ∙ is);
+      rest = samples.told.rest;
+      is_given = samples.told.is_given;
+      holds = record {
+        well_told = subst IsWellTold (sym all) (IsWellTold-append told (Close close ∷ []) samples.well_told tt);
+        is_told = subst (IsToldUnder (g.G.Gate.may_stop c.args.gate.now) (g.G.Gate.may_go c.args.gate.now) c.args.source samples.told.rest)
+            (sym (ap stands_for all ∙ stands_for-append told (Close close ∷ []))) samples.told.holds;
+        is_closed = (told, close, all);
+        in_order = λ read ending is.
+            ap names_told all ∙ names_told-append told (Close close ∷ []) ∙ append-nil (names_told told)
+            ∙ samples.in_order read ending (sym (ap stands_for all ∙ stands_for-append told (Close close ∷ [])) ∙ is);
+      };
     }

@@ -1,4 +1,4 @@
-use Rattle.std.proofs.Common.{◌∙◌, ◌∷◌, Some, add-one, ap, take}
+use Rattle.std.proofs.Common.{◌∙◌, Some, add-one, take}
 use Rattle.function_sums.specs.Calls.{calls_of}
 use Rattle.function_sums.specs.FunctionSums.{sums_of}
 use Rattle.sum_texts.specs.FunctionJson.{functions_line}

@@ -1,4 +1,4 @@
-use Rattle.std.proofs.Common.{◌≡◌, ◌∙◌, ◌∷◌, ◌++◌, ℕ, List, false, None, ap, drop, get_or, length, sym, take}
+use Rattle.std.proofs.Common.{◌∙◌, ◌∷◌, ◌++◌, ℕ, List, false, None, drop, get_or, length, sym, take}
 use Rattle.std.proofs.lemmas.Result.{IfOk-weaker}
 use Rattle.function_sums.specs.Calls.{calls_of}
 use Rattle.function_sums.specs.FunctionSums.{sums_of}

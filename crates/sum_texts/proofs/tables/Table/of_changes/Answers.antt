@@ -1,4 +1,4 @@
-use Rattle.std.proofs.Common.{◌≡◌, ◌∙◌, ◌∷◌, [], ap, codes, length, map}
+use Rattle.std.proofs.Common.{◌∙◌, ◌∷◌, [], ap, codes, length, map}
 use Rattle.std.proofs.lemmas.Result.{IfOk-weaker}
 use Rattle.sum_texts.specs.ChangeTable.{change_headings, change_line, changes_table}
 use Rattle.sum_texts.specs.Told.{shown_of, sides_heading, told_of}

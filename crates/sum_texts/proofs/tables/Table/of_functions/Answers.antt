@@ -1,4 +1,4 @@
-use Rattle.std.proofs.Common.{◌≡◌, ◌∙◌, ◌∷◌, ◌++◌, [], Some, true, ap, codes, length, map, refl}
+use Rattle.std.proofs.Common.{◌∙◌, ◌∷◌, ◌++◌, [], Some, true, ap, codes, length, map, refl}
 use Rattle.std.proofs.lemmas.Result.{IfOk-weaker}
 use Rattle.sum_texts.specs.FunctionTable.{function_lines, functions_table, headings}
 use Rattle.sum_texts.specs.Told.{shown_of, told_of, whole_heading}

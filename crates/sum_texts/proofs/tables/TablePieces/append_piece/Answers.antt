@@ -1,4 +1,4 @@
-use Rattle.std.proofs.Common.{◌≡◌, ◌-◌, ◌++◌, ◌∙◌, ◌<◌, [], ap, arith, get_or, length, map, sym}
+use Rattle.std.proofs.Common.{◌-◌, ◌++◌, ◌∙◌, ◌<◌, [], ap, arith, get_or, length, map, sym}
 use Rattle.std.proofs.lemmas.List.{get_or-map, length-map}
 use Rattle.std.proofs.lemmas.Result.{on_ok_weaker}
 use Rattle.sum_texts.specs.Columns.{line_text}

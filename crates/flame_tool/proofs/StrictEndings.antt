@@ -1,0 +1,129 @@
+-- How a run ends that is asked to be strict.
+use Rattle.std.proofs.Common.{◌≡◌, ℕ, List, Option, Some, None, Result, Ok, Err, IfSome, IfErr, OnOk, sym, ◌∙◌, subst, true, false, arith}
+use Rattle.std.proofs.lemmas.Bool.{true≢false, false≢true}
+use Rattle.std.specs.Prelude.{Bool, IsSomeAnd, MatchResult}
+use Rattle.clap.specs.Walk.{Text}
+use Rattle.stack_core.specs.Ledgers.{ListState}
+use Rattle.stack_core.specs.Reading.{Rest}
+use Rattle.run_options.specs.declared.formats.Format.{Format}
+use Rattle.run_options.specs.declared.options.Options.{Options}
+use Rattle.command_line.specs.declared.plans.Plan.{Plan}
+use Rattle.opened_sources.specs.Failures.{Flushes, IsOpening, has_fault, status_of}
+use Rattle.opened_sources.specs.declared.failures.Failure.{Failure}
+use Rattle.opened_sources.specs.declared.failures.Failure.TheVariants.{TooManyFiles, Unreadable, TooLarge, OutOfMemory, NoThread, Unfinished, Faults, Output}
+use Rattle.flame_tool.specs.Requests.{asked_plan}
+use Rattle.flame_tool.specs.Runs.{FailsUntouched, ShowsSamples}
+use Rattle.flame_tool.specs.StrictRuns.{HasPlainFault, has_strict_fault, known_sources}
+use Rattle.flame_tool.specs.checked.Failures.{FailsStrictly, FailsToShow, KeepsOutput, exit_status}
+use Rattle.flame_tool.proofs.ExitStatuses.{not_zero}
+use Rattle.flame_tool.proofs.RunEndings.{words_have, words_meet}
+
+-- ---- a failed run
+
+-- nothing was collected
+pub unopened : (count : ℕ) (faulty : Bool) (failure : Failure) → IsOpening count failure → FailsStrictly faulty failure
+unopened count faulty TooManyFiles opening = tt
+unopened count faulty (Unreadable source) opening = tt
+unopened count faulty (TooLarge source) opening = tt
+unopened count faulty OutOfMemory opening = tt
+unopened count faulty NoThread opening = tt
+unopened count faulty (Unfinished source) opening = tt
+unopened count faulty Faults opening = absurd opening
+unopened count faulty (Output fault) opening = absurd opening
+
+-- the lists have no fault
+unsent : (lists : List ListState) (text : List ℕ) (old new : Option (List ℕ)) (faulty : Bool) → faulty ≡ false → has_fault lists ≡ false → (failure : Failure) → FailsToShow lists text old new failure → FailsStrictly faulty failure
+unsent lists text old new faulty none clean TooManyFiles fails = absurd fails
+unsent lists text old new faulty none clean (Unreadable source) fails = absurd fails
+unsent lists text old new faulty none clean (TooLarge source) fails = absurd fails
+unsent lists text old new faulty none clean OutOfMemory fails = tt
+unsent lists text old new faulty none clean NoThread fails = absurd fails
+unsent lists text old new faulty none clean (Unfinished source) fails = absurd fails
+unsent lists text old new faulty none clean Faults fails = absurd (false≢true (sym clean ∙ fails.0))
+unsent lists text old new faulty none clean (Output fault) fails = none
+
+pub sent_strictly : {T : Type 0} (lists : List ListState) (text : List ℕ) (old new : Option (List ℕ)) (faulty : Bool) → faulty ≡ false → has_fault lists ≡ false → (result : Result T Failure)
+    → IfErr result (FailsToShow lists text old new) → MatchResult result (λ _. faulty ≡ false) (FailsStrictly faulty)
+sent_strictly lists text old new faulty none clean (Ok done) fails = none
+sent_strictly lists text old new faulty none clean (Err failure) fails = unsent lists text old new faulty none clean failure fails
+
+-- it is asked strictly, so that no plain fault is told
+pub told_strictly : (plan : Plan) (known : Option (List Rest)) → plan.is_strict ≡ true → IfSome known (HasPlainFault plan)
+told_strictly plan None strict = tt
+told_strictly plan (Some rests) strict = λ plain. absurd (true≢false (sym strict ∙ plain))
+
+strict_failed : (faulty : Bool) (failure : Failure) → status_of failure ≡ 1 → FailsStrictly faulty failure → faulty ≡ true
+strict_failed faulty TooManyFiles one fails = absurd (omega arith)
+strict_failed faulty (Unreadable source) one fails = absurd (omega arith)
+strict_failed faulty (TooLarge source) one fails = absurd (omega arith)
+strict_failed faulty OutOfMemory one fails = absurd (omega arith)
+strict_failed faulty NoThread one fails = absurd (omega arith)
+strict_failed faulty (Unfinished source) one fails = absurd (omega arith)
+strict_failed faulty Faults one fails = fails
+strict_failed faulty (Output fault) one fails = absurd (omega arith)
+
+if_some : {A : Type 0} (known : Option A) (P Q : A → Type 0) → ((x : A) → P x → Q x) → IfSome known P → IfSome known Q
+if_some None P Q weaker holds = tt
+if_some (Some x) P Q weaker holds = weaker x holds
+
+-- ---- by its exit status
+
+module _ {A : Type 0} (has : A → Bool) (known : Option A) where
+  pub strict_at_one : (shown : Result Bool Failure) → exit_status shown ≡ 1 → IfErr shown (λ failure. IfSome known (λ sources. FailsStrictly (has sources) failure)) → IfSome known (λ sources. has sources ≡ true)
+  strict_at_one (Ok true) one fails = absurd (omega arith)
+  strict_at_one (Ok false) one fails = absurd (omega arith)
+  strict_at_one (Err failure) one fails =
+      if_some known (λ sources. FailsStrictly (has sources) failure) (λ sources. has sources ≡ true) (λ sources. strict_failed (has sources) failure one) fails
+
+  module _ (P : Type 0) (old new : Option (List ℕ)) (before after : ℕ) where
+    left_alone : (faulty : Bool) (failure : Failure) → FailsStrictly faulty failure → KeepsOutput old new failure → Flushes {T = Bool} P before after (Err failure) → faulty ≡ true
+        → FailsUntouched (status_of failure) old new before after
+    left_alone faulty TooManyFiles fails kept flushes is = (not_zero TooManyFiles, kept, flushes)
+    left_alone faulty (Unreadable source) fails kept flushes is = (not_zero (Unreadable source), kept, flushes)
+    left_alone faulty (TooLarge source) fails kept flushes is = (not_zero (TooLarge source), kept, flushes)
+    left_alone faulty OutOfMemory fails kept flushes is = (not_zero OutOfMemory, kept, flushes)
+    left_alone faulty NoThread fails kept flushes is = (not_zero NoThread, kept, flushes)
+    left_alone faulty (Unfinished source) fails kept flushes is = (not_zero (Unfinished source), kept, flushes)
+    left_alone faulty Faults fails kept flushes is = (not_zero Faults, kept, flushes)
+    left_alone faulty (Output fault) fails kept flushes is = absurd (true≢false (sym is ∙ fails))
+
+    pub strict_untouched : (shown : Result Bool Failure) → OnOk shown (IfSome known (λ sources. has sources ≡ false)) → IfErr shown (λ failure. IfSome known (λ sources. FailsStrictly (has sources) failure))
+        → IfErr shown (KeepsOutput old new) → Flushes P before after shown → IfSome known (λ sources. has sources ≡ true → FailsUntouched (exit_status shown) old new before after)
+    strict_untouched (Ok done) clean fails kept flushes =
+        if_some known (λ sources. has sources ≡ false) (λ sources. has sources ≡ true → FailsUntouched (exit_status (Ok done)) old new before after) (λ sources none is. absurd (true≢false (sym is ∙ none))) clean
+    strict_untouched (Err failure) clean fails kept flushes =
+        if_some known (λ sources. FailsStrictly (has sources) failure) (λ sources. has sources ≡ true → FailsUntouched (status_of failure) old new before after)
+        (λ sources failed. left_alone (has sources) failure failed kept flushes) fails
+
+-- ---- by what is known of the sources
+
+module _ (known : Option (List (Format × List ℕ))) (sources : List (Format × List ℕ)) (same : IfSome known (λ all. sources ≡ all)) where
+  of_sources : (P : List (Format × List ℕ) → Type 0) → P sources → IfSome known P
+  of_sources P holds =
+      elim known as (λ known. IfSome known (λ all. sources ≡ all) → IfSome known P) [
+        | None ↦ λ _. tt
+        | Some all ↦ λ same. subst P same holds
+      ] same
+
+  pub known_strict : {T : Type 0} (options : Options) (result : Result T Failure) → MatchResult result (λ _. has_strict_fault options sources ≡ false) (FailsStrictly (has_strict_fault options sources))
+      → OnOk result (IfSome known (λ sources. has_strict_fault options sources ≡ false))
+  known_strict options (Ok done) holds = of_sources (λ sources. has_strict_fault options sources ≡ false) holds
+  known_strict options (Err failure) holds = tt
+
+  pub known_strict_err : {T : Type 0} (options : Options) (result : Result T Failure) → MatchResult result (λ _. has_strict_fault options sources ≡ false) (FailsStrictly (has_strict_fault options sources))
+      → IfErr result (λ failure. IfSome known (λ sources. FailsStrictly (has_strict_fault options sources) failure))
+  known_strict_err options (Ok done) holds = tt
+  known_strict_err options (Err failure) holds = of_sources (λ sources. FailsStrictly (has_strict_fault options sources) failure) holds
+
+-- ---- by the words
+
+module _ (words : List Text) (plan : Plan) (asked : asked_plan words ≡ Some plan) (input : Option (List ℕ)) (files : List ℕ → Option (List ℕ)) where
+  pub asked_strict : (faulty : Bool) → (ShowsSamples plan.form → plan.is_strict ≡ true → IfSome (known_sources plan input files) (λ sources. has_strict_fault plan.options sources ≡ faulty))
+      → IsSomeAnd (asked_plan words) (λ plan. ShowsSamples plan.form → plan.is_strict ≡ true → IfSome (known_sources plan input files) (λ sources. has_strict_fault plan.options sources ≡ faulty))
+  asked_strict faulty = words_have words plan (λ plan. ShowsSamples plan.form → plan.is_strict ≡ true → IfSome (known_sources plan input files) (λ sources. has_strict_fault plan.options sources ≡ faulty)) asked
+
+  pub asked_strict_untouched : (status before after : ℕ) (old new : Option (List ℕ))
+      → (ShowsSamples plan.form → plan.is_strict ≡ true → IfSome (known_sources plan input files) (λ sources. has_strict_fault plan.options sources ≡ true → FailsUntouched status old new before after))
+      → IfSome (asked_plan words) (λ plan. ShowsSamples plan.form → plan.is_strict ≡ true → IfSome (known_sources plan input files) (λ sources. has_strict_fault plan.options sources ≡ true → FailsUntouched status old new before after))
+  asked_strict_untouched status before after old new =
+      words_meet words plan (λ plan. ShowsSamples plan.form → plan.is_strict ≡ true → IfSome (known_sources plan input files) (λ sources. has_strict_fault plan.options sources ≡ true → FailsUntouched status old new before after)) asked

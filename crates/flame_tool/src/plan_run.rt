@@ -1,0 +1,153 @@
+//! A run of a plan.
+ghost use Rattle.std.specs.Prelude.{◌≡◌, ◌≢◌, ◌≤◌, ◌<◌, ◌⊎◌, false, true, IfSome, IfErr, IsErrOf, OnOk, length, IfOk, IsSome};
+ghost use Rattle.std.specs.Io.KnownBytes.{Keeps};
+ghost use Rattle.command_line.specs.Plans.{IsComparison, IsOfOneProfile, limit_of};
+ghost use Rattle.flame_tool.specs.KnownFacts.{known_facts};
+ghost use Rattle.flame_tool.specs.Requests.{known_rests};
+ghost use Rattle.flame_tool.specs.Runs.{FailsUntouched, Shows, ShowsFront, ShowsSamples, HasFault, HasGrown, HasNotGrown};
+ghost use Rattle.flame_tool.specs.StrictRuns.{HasPlainFault, has_strict_fault, known_sources};
+ghost use Rattle.flame_tool.specs.TypeRuns.{known_profile, HasTableFault, ShowsTypes, ShowsTypesFront};
+ghost use Rattle.flame_tool.specs.checked.TypeFailures.{FailsTypes};
+ghost use Rattle.flame_tool.specs.checked.Failures.{Fails, FailsStrictly, KeepsOutput, TellsGrowth};
+ghost use Rattle.opened_sources.specs.Failures.{Flushes};
+
+use crate::advice::Advice;
+use crate::exits::end_run;
+use crate::hosts::Host;
+use crate::types_run::show_types;
+use crate::views_run::show_views;
+use byte_io::{Files, Outlet};
+use command_line::{Form, Plan};
+use opened_sources::{Failure, report_awaited_input};
+use run_options::Format;
+use std::sync::Wait;
+use std::thread::Threads;
+
+// Does what the plan says.
+pub(crate) fn run_plan<T: Threads + Wait + Copy + Send + 'static, F: Files, W: Outlet, E: Outlet>(
+    host: &Host<'_, T>,
+    plan: Plan,
+    files: &mut F,
+    out: &mut W,
+    err: &mut E,
+    words: &[String],
+) -> u8
+    requires pairs { IsComparison plan.view → length plan.files ≡ 2 }
+    requires every { IfSome plan.options.every (λ every. 1 ≤ every) }
+    requires profile { plan.form ≡ Form.Types → IsOfOneProfile plan }
+    ensures status { result ≤ 4 }
+    ensures limit { result ≡ 4 → IsSome (limit_of plan.view) }
+    ensures grown { result ≡ 4
+        → IfSome (known_rests plan (F.known_input files.old) (F.known_file files.old)) (HasGrown plan) }
+    ensures not_grown { result ≡ 0
+        → IfSome (known_rests plan (F.known_input files.old) (F.known_file files.old)) (HasNotGrown plan) }
+    ensures shown_grown { result ≡ 4
+        → IfSome (known_rests plan (F.known_input files.old) (F.known_file files.old))
+        (Shows plan (known_facts plan (F.known_input files.old) (F.known_file files.old))
+        (W.contents out.old) (W.contents out.new)) }
+    ensures flushed_grown { result ≡ 4 → W.is_flushed out.new }
+    ensures shown { result ≡ 0
+        → IfSome (known_rests plan (F.known_input files.old) (F.known_file files.old))
+        (Shows plan (known_facts plan (F.known_input files.old) (F.known_file files.old))
+        (W.contents out.old) (W.contents out.new)) }
+    ensures faulty { result ≡ 1
+        → IfSome (known_rests plan (F.known_input files.old) (F.known_file files.old))
+        (HasPlainFault plan) }
+    ensures strict { result ≡ 0 → ShowsSamples plan.form → plan.is_strict ≡ true
+        → IfSome (known_sources plan (F.known_input files.old) (F.known_file files.old))
+        (λ sources. has_strict_fault plan.options sources ≡ false) }
+    ensures strict_faulty { result ≡ 1 → ShowsSamples plan.form → plan.is_strict ≡ true
+        → IfSome (known_sources plan (F.known_input files.old) (F.known_file files.old))
+        (λ sources. has_strict_fault plan.options sources ≡ true) }
+    ensures strict_grown { result ≡ 4 → ShowsSamples plan.form → plan.is_strict ≡ true
+        → IfSome (known_sources plan (F.known_input files.old) (F.known_file files.old))
+        (λ sources. has_strict_fault plan.options sources ≡ false) }
+    ensures strict_untouched { ShowsSamples plan.form → plan.is_strict ≡ true
+        → IfSome (known_sources plan (F.known_input files.old) (F.known_file files.old)) (λ sources.
+        has_strict_fault plan.options sources ≡ true → FailsUntouched result (W.contents out.old)
+        (W.contents out.new) (W.failures out.old) (W.failures out.new)) }
+    ensures many { result ≡ 2 → 64 < length plan.files }
+    ensures few { result ≢ 2 → length plan.files ≤ 64 }
+    ensures front { result ≡ 3 → Keeps (W.contents out.old) (W.contents out.new)
+        ⊎ IfSome (known_rests plan (F.known_input files.old) (F.known_file files.old))
+        (ShowsFront plan (known_facts plan (F.known_input files.old) (F.known_file files.old))
+        (W.contents out.old) (W.contents out.new)) }
+    ensures types { result ≡ 0 → plan.form ≡ Form.Types
+        → IfSome (known_profile plan (F.known_file files.old))
+        (ShowsTypes (W.contents out.old) (W.contents out.new)) }
+    ensures types_faulty { result ≡ 1 → plan.form ≡ Form.Types
+        → IfSome (known_profile plan (F.known_file files.old)) HasTableFault }
+    ensures types_front { result ≡ 3 → Keeps (W.contents out.old) (W.contents out.new)
+        ⊎ (plan.form ≡ Form.Types → IfSome (known_profile plan (F.known_file files.old))
+        (ShowsTypesFront (W.contents out.old) (W.contents out.new))) }
+    ensures untouched { ShowsSamples plan.form
+        → IfSome (known_rests plan (F.known_input files.old) (F.known_file files.old)) (λ rests.
+        HasFault rests → FailsUntouched result (W.contents out.old) (W.contents out.new)
+        (W.failures out.old) (W.failures out.new)) }
+    ensures types_untouched { plan.form ≡ Form.Types
+        → IfSome (known_profile plan (F.known_file files.old)) (λ profile. HasTableFault profile
+        → FailsUntouched result (W.contents out.old) (W.contents out.new)
+        (W.failures out.old) (W.failures out.new)) }
+    ensures unwritten { result ≡ 1 → Keeps (W.contents out.old) (W.contents out.new) }
+    ensures refused { result ≡ 2 → Keeps (W.contents out.old) (W.contents out.new) }
+    ensures flushed { result ≡ 0 → W.is_flushed out.new }
+    ensures unfailed { result ≢ 3 → W.failures out.new ≡ W.failures out.old }
+{
+    if plan.files.get().is_empty() && files.is_input_terminal() {
+        report_awaited_input(err, plan.format.unwrap_or(Format::Folded));
+    }
+    let shown = show_plan(host, &plan, files, out, err, words);
+    let advice = Advice::new(words, files.is_error_terminal());
+    end_run(host.alloc, err, advice, plan.files.get(), shown)
+}
+
+// Shows the samples of the sources, or the sample types of the one profile, and says whether functions grew over the plan's limit.
+fn show_plan<T: Threads + Wait + Copy + Send + 'static, F: Files, W: Outlet, E: Outlet>(
+    host: &Host<'_, T>,
+    plan: &Plan,
+    files: &mut F,
+    out: &mut W,
+    err: &mut E,
+    words: &[String],
+) -> Result<bool, Failure>
+    requires pairs { IsComparison plan.now.view → length plan.now.files ≡ 2 }
+    requires every { IfSome plan.now.options.every (λ every. 1 ≤ every) }
+    requires profile { plan.now.form ≡ Form.Types → IsOfOneProfile plan.now }
+    ensures ok { OnOk result
+        (IfSome (known_rests plan.now (F.known_input files.old) (F.known_file files.old))
+        (Shows plan.now (known_facts plan.now (F.known_input files.old) (F.known_file files.old))
+        (W.contents out.old) (W.contents out.new))) }
+    ensures err { IfErr result (λ failure.
+        IfSome (known_rests plan.now (F.known_input files.old) (F.known_file files.old))
+        (Fails plan.now (known_facts plan.now (F.known_input files.old) (F.known_file files.old))
+        (W.contents out.old) (W.contents out.new) failure)) }
+    ensures strict { ShowsSamples plan.now.form → plan.now.is_strict ≡ true → OnOk result
+        (IfSome (known_sources plan.now (F.known_input files.old) (F.known_file files.old))
+        (λ sources. has_strict_fault plan.now.options sources ≡ false)) }
+    ensures strict_err { ShowsSamples plan.now.form → plan.now.is_strict ≡ true → IfErr result (λ failure.
+        IfSome (known_sources plan.now (F.known_input files.old) (F.known_file files.old))
+        (λ sources. FailsStrictly (has_strict_fault plan.now.options sources) failure)) }
+    ensures grown { IfOk result (λ is_over.
+        IfSome (known_rests plan.now (F.known_input files.old) (F.known_file files.old))
+        (TellsGrowth is_over plan.now)) }
+    ensures limit { IfOk result (λ is_over. is_over ≡ true → IsSome (limit_of plan.now.view)) }
+    ensures types { OnOk result (plan.now.form ≡ Form.Types
+        → IfSome (known_profile plan.now (F.known_file files.old))
+        (ShowsTypes (W.contents out.old) (W.contents out.new))) }
+    ensures types_err { IfErr result (λ failure. plan.now.form ≡ Form.Types
+        → IfSome (known_profile plan.now (F.known_file files.old))
+        (FailsTypes (W.contents out.old) (W.contents out.new) failure)) }
+    ensures kept { IfErr result (λ failure.
+        KeepsOutput (W.contents out.old) (W.contents out.new) failure) }
+    ensures many { IsErrOf result Failure.TooManyFiles → 64 < length plan.now.files }
+    ensures few { result ≢ Err Failure.TooManyFiles → length plan.now.files ≤ 64 }
+    ensures flushed { Flushes (W.is_flushed out.new) (W.failures out.old) (W.failures out.new)
+        result }
+{
+    match plan.form {
+        Form::Types => show_types(host.alloc, plan, files, out, err, words),
+        Form::Text | Form::Page(_) | Form::Picture(_) | Form::Callers(_) | Form::Callees(_) => {
+            show_views(host, plan, files, out, err, words)
+        }
+    }
+}

@@ -1,0 +1,107 @@
+//! What is wrong with sources that are read strictly.
+
+ghost use Rattle.std.specs.Prelude.{◌≡◌, IfOk, is_some, length, map, slice_get};
+ghost use Rattle.wire_fields.specs.Field.{seen_field};
+ghost use Rattle.profile_messages.specs.Message.{content_of};
+ghost use Rattle.profile_messages.specs.Tables.{samples_of};
+ghost use Rattle.profile_tables.specs.Samples.{read_pprof};
+ghost use Rattle.ring_collect.specs.Collection.{AreWhole};
+ghost use Rattle.run_options.specs.declared.choices.Naming.{Naming as NamingOf};
+ghost use Rattle.run_options.specs.declared.choices.Pick.{Pick as PickOf};
+ghost use Rattle.run_options.specs.declared.options.Options.{Options};
+ghost use Rattle.source_lists.specs.Sources.{asked_rests, whole_rest};
+ghost use Rattle.source_lists.specs.Strictness.{fault_of_rest, source_fault};
+ghost use Rattle.source_lists.specs.checked.StrictEndings.{has_some, EndsAs};
+
+use crate::inputs::{Content, Input};
+use folded_lines::{StrictFault, StrictKind, strict_fault};
+use stack_core::{SourceEnd, SourceList};
+use std::alloc::{AllocError, Global};
+use wire_fields::{Field, FieldValue, Fields};
+
+fn is_sample(field: Field<'_>) -> bool
+    ensures { result ≡ is_some (content_of 2 (seen_field field.entry)) }
+{
+    match field.value {
+        FieldValue::Bytes(_) => field.number == 2,
+        FieldValue::Varint(_) | FieldValue::Eight(_) | FieldValue::Four(_) => false,
+    }
+}
+
+/// Whether a sample stands in a profile, whatever is wrong with it.
+fn has_sample(profile: &[u8]) -> bool
+    ensures { result ≡ has_some (samples_of profile.now) }
+{
+    let mut fields = Fields::over(profile);
+    loop {
+        match fields.next() {
+            Ok(Some(field)) => {
+                if is_sample(field) {
+                    return true;
+                }
+            }
+            Ok(None) | Err(_) => return false,
+        }
+    }
+}
+
+/// What is wrong with a profile that reads to this ending.
+fn fault_of_profile(profile: &[u8], ending: &SourceEnd) -> Option<StrictFault>
+    ensures { (pick : PickOf) (naming : NamingOf) →
+        ending.now ≡ (read_pprof profile.now pick naming).ending →
+        result ≡ fault_of_rest (length profile.now) (read_pprof profile.now pick naming) }
+{
+    if let SourceEnd::Fault(fault) = ending {
+        return Some(StrictFault::from(*fault));
+    }
+    if has_sample(profile) {
+        return None;
+    }
+    let kind = StrictKind::NoSamples;
+    let at = profile.len() as u64;
+    Some(StrictFault { kind, at })
+}
+
+/// What is wrong with a source that reads to this ending.
+fn fault_of(input: &Input, ending: &SourceEnd) -> Result<Option<StrictFault>, AllocError>
+    ensures { (options : Options) → ending.now ≡ (whole_rest options input.now).ending
+        → IfOk result (λ fault. fault ≡ source_fault options input.now) }
+{
+    match input.content() {
+        Content::Text(parts) => strict_fault(parts.as_slice(), ending),
+        Content::Profile(bytes) => Ok(fault_of_profile(bytes.as_slice(), ending)),
+    }
+}
+
+fn fault_at(
+    input: &Input,
+    lists: &[SourceList],
+    at: usize,
+) -> Result<Option<StrictFault>, AllocError>
+    ensures { (options : Options) → EndsAs options input.now (slice_get lists.now at)
+        → IfOk result (λ fault. fault ≡ source_fault options input.now) }
+{
+    match lists.get(at) {
+        Some(list) => fault_of(input, list.ending()),
+        None => Ok(None),
+    }
+}
+
+/// What is wrong with each source where it is read strictly, if anything is, by what was read of it: that a line is ignored, that there is no
+/// sample, or its fault, whichever comes first. What a filter leaves out counts as a sample. It fails for want of memory, and where a text
+/// has more lines than 64 bits can count.
+pub fn strict_faults(
+    alloc: Global,
+    inputs: &[Input],
+    lists: &[SourceList],
+) -> Result<Vec<Option<StrictFault>>, AllocError>
+    ensures { (options : Options) → AreWhole (asked_rests options inputs.now) lists.now
+        → IfOk result (λ faults. faults.items ≡ map (source_fault options) inputs.now) }
+{
+    let mut faults = Vec::with_capacity(alloc, inputs.len())?;
+    for input in inputs {
+        let fault = fault_at(input, lists, faults.len())?;
+        faults.push(fault)?;
+    }
+    Ok(faults)
+}
