@@ -11,20 +11,21 @@ _flamecollect() {
         --every|--fail-over|--focus|--from|--hide|--least|--number|--output|--ring|--title|--type|--width|-n|-o) return ;;
     esac
     if [ "$COMP_CWORD" = 1 ]; then
-        COMPREPLY=($(compgen -W 'fold graph chart compare top diff callers callees types help -h --help -V --version' -- "$word"))
+        COMPREPLY=($(compgen -W 'fold graph chart live compare top diff callers callees types help -h --help -V --version' -- "$word"))
         return
     fi
     case ${COMP_WORDS[1]} in
         fold) options='--type --format --lines --strict -o --output --quiet -h --help --focus --hide --from --ring' ;;
         graph) options='--width --type --unit --format --every --lines --strict -o --output --quiet -h --help --focus --hide --from --ring --page --svg --title --root-below --least' ;;
         chart) options='--width --type --unit --format --lines --strict -o --output --quiet -h --help --focus --hide --from --ring --page --svg --title --root-below --least' ;;
+        live) options='--width --every -o --output -h --help --ring' ;;
         compare) options='--width --type --unit --format --boxes --lines --strict -o --output --quiet -h --help --focus --hide --from --ring --page --svg --title --root-below --least' ;;
         top) options='-n --number --by --json --exact --type --unit --format --lines --strict -o --output --quiet -h --help --focus --hide --from --ring' ;;
         diff) options='-n --number --by --json --exact --share --fail-over --type --unit --format --lines --strict -o --output --quiet -h --help --focus --hide --from --ring' ;;
         callers) options='-n --number --json --exact --type --unit --format --lines --strict -o --output --quiet -h --help --focus --hide --from --ring' ;;
         callees) options='-n --number --json --exact --type --unit --format --lines --strict -o --output --quiet -h --help --focus --hide --from --ring' ;;
         types) options='-o --output -h --help' ;;
-        help) COMPREPLY=($(compgen -W 'fold graph chart compare top diff callers callees types' -- "$word")); return ;;
+        help) COMPREPLY=($(compgen -W 'fold graph chart live compare top diff callers callees types' -- "$word")); return ;;
         *) return ;;
     esac
     case $word in

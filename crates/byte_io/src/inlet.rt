@@ -1,5 +1,5 @@
 //! Where bytes come in: the trait, and a wrapper of any of std's readers.
-ghost use Rattle.std.specs.Prelude.{◌≡◌, ℕ, List, Option};
+ghost use Rattle.std.specs.Prelude.{◌≡◌, ℕ, List, Option, Bool, true, false, IsOk};
 ghost use Rattle.std.specs.Io.{ReadsAtMost};
 ghost use Rattle.std.specs.Io.KnownBytes.{ReadConsumes};
 ghost use Rattle.byte_io.specs.Calls.{CountsRead};
@@ -17,12 +17,17 @@ pub trait Inlet {
     // How many calls failed. At 2^64 - 1 it stays.
     ghost failures: { Self → ℕ };
 
+    // Whether no read fails: over memory, and not over the machine.
+    ghost is_sure: { Self → Bool } = { λ _. false };
+
     /// Reads some bytes into the front of `buf`, and answers how many. It answers 0 at the end,
     /// and for an empty `buf`.
     fn read(&mut self, buf: &mut [u8]) -> io::Result<usize>
         ensures bound { ReadsAtMost result buf.new }
         ensures bytes { ReadConsumes (remaining self.old) (remaining self.new) result buf.new }
-        ensures count { CountsRead (failures self.old) (failures self.new) result };
+        ensures count { CountsRead (failures self.old) (failures self.new) result }
+        ensures sure { is_sure self.old ≡ true → IsOk result }
+        ensures surety { is_sure self.new ≡ is_sure self.old };
 }
 
 /// Any of std's readers as an `Inlet`: a slice of bytes, which tells what is left of it, or a file

@@ -1,14 +1,16 @@
 //! Bytes in, and bytes out: readers and writers that count their failed calls, whole inputs and outputs
-//! over them, texts that go out piece by piece, and the files of a run.
+//! over them, texts that go out piece by piece, and the files and streams of a run.
 #![tactic(auto)]
 
 mod ahead_files;
+mod bytes_inlet;
 mod failure_counts;
 mod file_pieces;
 mod files;
 mod inlet;
 mod long_files;
 mod machine_files;
+mod machine_inlet;
 mod memory_files;
 mod outlet;
 mod output_file;
@@ -18,13 +20,16 @@ mod pieces;
 mod positioned_read;
 mod range_reader;
 mod rollback;
+mod streams;
 mod whole_input;
 mod whole_output;
 
+pub use bytes_inlet::BytesInlet;
 pub use file_pieces::load_in_pieces;
 pub use files::Files;
 pub use inlet::{CountedReader, Inlet};
 pub use machine_files::{MachineFiles, SOURCE_LIMIT};
+pub use machine_inlet::{MachineInlet, StreamFile};
 pub use memory_files::{MemoryFiles, NamedFile};
 pub use outlet::{CountedWriter, Outlet};
 pub use output_file::OutputFile;
@@ -33,5 +38,6 @@ pub use piece_threads::send_pieces_in_threads;
 pub use pieces::{Chain, Literal, Pieces};
 pub use positioned_read::PositionedRead;
 pub use rollback::truncate_on_error;
+pub use streams::Streams;
 pub use whole_input::{LoadFault, load};
 pub use whole_output::{SendFault, send};

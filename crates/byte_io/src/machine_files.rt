@@ -7,6 +7,8 @@ use crate::ahead_files::{AheadFile, are_plain, is_ahead, load_ahead, take_loaded
 use crate::files::Files;
 use crate::inlet::CountedReader;
 use crate::long_files::load_long;
+use crate::machine_inlet::{MachineInlet, StreamFile};
+use crate::streams::Streams;
 use crate::whole_input::{LoadFault, load};
 use std::alloc::Global;
 use std::fs::File;
@@ -114,5 +116,33 @@ where
 
     fn is_error_terminal(&self) -> bool {
         self.is_error_terminal
+    }
+}
+
+impl<T: rt::Files<File = File> + Input + Copy + Send + 'static> Streams for MachineFiles<'_, T>
+where
+    T::Reader: IsTerminal + Send + 'static,
+{
+    type Inlet = MachineInlet<T, T::Reader>;
+
+    ghost known_input = { λ _. unknown };
+
+    ghost known_file = { λ _. unknown_files };
+
+    fn open_named(
+        &mut self,
+        alloc: Global,
+        path: &str,
+    ) -> Result<MachineInlet<T, T::Reader>, LoadFault> {
+        let file = StreamFile::new(*self.rt, alloc, path)?;
+        Ok(MachineInlet::File(CountedReader::new(file)))
+    }
+
+    fn open_input(&mut self, _alloc: Global) -> Result<MachineInlet<T, T::Reader>, LoadFault> {
+        Ok(MachineInlet::Input(CountedReader::new(self.rt.reader())))
+    }
+
+    fn is_input_terminal(&self) -> bool {
+        self.rt.reader().is_terminal()
     }
 }

@@ -1,10 +1,12 @@
 //! Files and an input in memory.
-ghost use Rattle.std.specs.Prelude.{◌≡◌, ◌≢◌, ◌-◌, ◌<◌, ◌≤◌, [], ◌∷◌, ◌++◌, max, All, length, map, take, vec_len, false, Some, None, OnOk, OnErr, IfOk, IfSome, IsErrOf, IsNone};
+ghost use Rattle.std.specs.Prelude.{◌≡◌, ◌≢◌, ◌-◌, ◌^◌, ◌<◌, ◌≤◌, [], ◌∷◌, ◌++◌, max, All, length, map, take, vec_len, false, Some, None, OnOk, OnErr, IfOk, IfSome, IsErrOf, IsNone};
 ghost use Rattle.byte_io.specs.Files.{input_bytes, named_files, byte_limit, piece_length, file_at, bytes_at};
 ghost use Rattle.std.specs.List.{concat};
-ghost use Rattle.std.specs.Option.{option_copied};
+ghost use Rattle.std.specs.Option.{is_none, option_copied};
 
+use crate::bytes_inlet::BytesInlet;
 use crate::files::Files;
+use crate::streams::Streams;
 use crate::whole_input::LoadFault;
 use std::alloc::{AllocError, Global};
 
@@ -147,6 +149,38 @@ impl Files for MemoryFiles {
     {
         false
     }
+}
+
+// A stream is a copy, of any length.
+impl Streams for MemoryFiles {
+    type Inlet = BytesInlet;
+
+    ghost known_input = { λ files. Some (input_bytes files) };
+
+    ghost known_file = { bytes_at };
+
+    ghost is_absent = { λ files path. is_none (file_at (named_files files) path) };
+
+    fn open_named(&mut self, alloc: Global, path: &str) -> Result<BytesInlet, LoadFault> {
+        match first_at(self.named.as_slice(), path) {
+            Some(file) => inlet_of(alloc, file.bytes.as_slice()),
+            None => Err(LoadFault::Io),
+        }
+    }
+
+    fn open_input(&mut self, alloc: Global) -> Result<BytesInlet, LoadFault> {
+        inlet_of(alloc, self.input.as_slice())
+    }
+}
+
+// An inlet of the bytes again.
+fn inlet_of(alloc: Global, bytes: &[u8]) -> Result<BytesInlet, LoadFault>
+    ensures same { IfOk result (λ inlet. inlet ≡ bytes.now) }
+    ensures small { length bytes.now < 2 ^ 64 }
+    ensures io { result ≢ Err LoadFault.Io }
+    ensures any_length { result ≢ Err LoadFault.TooLarge }
+{
+    Ok(BytesInlet::new(Vec::from_slice(alloc, bytes)?))
 }
 
 // The first file of a path.

@@ -6,6 +6,7 @@ mod fakes;
 mod files_in_pieces;
 mod page;
 mod pieces;
+mod streams;
 mod threads;
 
 use std::fmt::Debug;

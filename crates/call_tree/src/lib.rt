@@ -10,7 +10,8 @@ mod links;
 mod listing;
 mod nodes;
 mod places;
-mod spelling_hash;
+pub mod slots;
+pub mod spelling_hash;
 mod spellings;
 mod tree;
 

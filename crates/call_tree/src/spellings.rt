@@ -7,6 +7,7 @@ ghost use Rattle.call_tree.specs.checked.Spellings.{IsSpelledAt};
 mod ahead;
 
 use crate::hints::Hints;
+use crate::slots::{PROBES, put, slot_of};
 use crate::spelling_hash::hash_of;
 use std::alloc::{AllocError, Global};
 use std::marker::Model;
@@ -45,9 +46,6 @@ impl Entry {
         }
     }
 }
-
-/// In how many slots a spelling is looked for, so that spellings of one hash cost no more than others.
-const PROBES: usize = 16;
 
 /// How many slots there are at first.
 const FIRST_SLOTS: usize = 1024;
@@ -193,23 +191,6 @@ impl SpellingCache {
         self.entries.push(entry)?;
         put(self.slots.as_mut_slice(), hash, number as u32);
         Ok(())
-    }
-}
-
-/// The slot in which a hash is looked for at a probe, where there are so many.
-fn slot_of(hash: u32, probe: usize, slots: usize) -> usize {
-    (hash as usize).wrapping_add(probe) & slots.wrapping_sub(1)
-}
-
-/// Puts the number of an entry into the first free slot of its hash. Where none is free, an older entry is forgotten.
-fn put(slots: &mut [u32], hash: u32, number: u32) {
-    for probe in 0..PROBES {
-        if let Some(slot) = slots.get_mut(slot_of(hash, probe, slots.len()))
-            && (*slot == 0 || probe + 1 == PROBES)
-        {
-            *slot = number;
-            return;
-        }
     }
 }
 

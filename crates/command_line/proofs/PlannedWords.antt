@@ -17,7 +17,7 @@ use Rattle.clap.specs.declared.parser.matches.ArgMatches.{ArgMatches}
 use Rattle.command_line.specs.CommandLine.{command_line}
 use Rattle.command_line.specs.EarlyValues.{told_kind, told_kinds}
 use Rattle.command_line.specs.checked.Entries.{IsFaultOf, IsNumberAt, IsRead, compares}
-use Rattle.command_line.specs.Plans.{IsComparison, IsDrawn, IsFaultAmong, IsOfOneProfile, IsPage, IsPicture, IsRequest, call_table_of, command_plan, compared_view, diff_table_of, entered_plan, entries_fault, fault_of, form_of, has_conflict, has_its_form, has_its_page, is_set, is_used, knows_format, knows_order, knows_unit, number_at, own_fault, page_of, picture_of, plan_with, table_of, text_form, types_plan, view_of, width_of}
+use Rattle.command_line.specs.Plans.{IsComparison, IsDrawn, IsFaultAmong, IsOfOneProfile, IsOfStreams, IsPage, IsPicture, IsRequest, call_table_of, command_plan, compared_view, diff_table_of, entered_plan, entries_fault, fault_of, form_of, has_conflict, has_its_form, has_its_page, is_set, is_used, knows_format, knows_order, knows_unit, live_every, live_plan, number_at, own_fault, page_of, picture_of, plan_with, table_of, text_form, types_plan, view_of, width_of}
 use Rattle.command_line.specs.declared.plans.Form.{Form}
 use Rattle.command_line.specs.declared.plans.Form.TheVariants as form
 use Rattle.command_line.specs.declared.arguments.TheConstants.{MOST_BETWEEN_SNAPSHOTS}
@@ -86,6 +86,7 @@ pub record Asks (plan : Plan) : Type 0 where
   pub picture : IsPicture plan.form → IsDrawn plan.view
   pub alone : IsPicture plan.form → plan.options.every ≡ None
   pub types : plan.form ≡ form.Types → IsOfOneProfile plan
+  pub live : plan.form ≡ form.Live → IsOfStreams plan
 
 -- an option that was not used has no number
 unused_number : (entries : List Row) (id : Text) → is_used id entries ≡ false → number_at id entries ≡ None
@@ -139,13 +140,23 @@ picture_has_no_snapshots name entries alone picture =
     go false true least e = absurd (true≢false e)
     go false false least e = refl
 
-shows_no_types : (name : Text) (entries : List Row) (P : Type 0) → form_of name entries ≡ form.Types → P
-shows_no_types name entries P = go (is_set (codes "page") entries) (is_set (codes "svg") entries)
+-- a command that shows a view writes neither sample types nor the graphs of streams
+abbrev IsOfView : Form → Type 0
+IsOfView form.Text = Unit {0}
+IsOfView (form.Page page) = Unit {0}
+IsOfView (form.Picture picture) = Unit {0}
+IsOfView form.Types = ⊥
+IsOfView form.Live = ⊥
+IsOfView (form.Callers table) = Unit {0}
+IsOfView (form.Callees table) = Unit {0}
+
+is_of_view : (name : Text) (entries : List Row) → IsOfView (form_of name entries)
+is_of_view name entries = go (is_set (codes "page") entries) (is_set (codes "svg") entries)
   where
-    go : (page svg : Bool) → cond page (form.Page (page_of entries)) (cond svg (form.Picture (picture_of entries)) (text_form name entries)) ≡ form.Types → P
-    go true svg e = cc
-    go false true e = cc
-    go false false e = no_form_of_text name entries (λ written. written ≡ form.Types → P) (λ e. cc) (λ e. cc) (λ e. cc) e
+    go : (page svg : Bool) → IsOfView (cond page (form.Page (page_of entries)) (cond svg (form.Picture (picture_of entries)) (text_form name entries)))
+    go true svg = tt
+    go false true = tt
+    go false false = no_form_of_text name entries IsOfView tt tt tt
 
 view_asks : (name : Text) (entries : List Row) (view : View) → IsRead name entries → has_conflict entries ≡ false → view_of name entries ≡ Some view → Asks (plan_with name entries view)
 view_asks name entries view read alone known = record {
@@ -154,11 +165,28 @@ view_asks name entries view read alone known = record {
   page = page_is_drawn name entries view (λ set. subst (λ (o : Option View). IfSome o IsDrawn) known (read.drawn set));
   picture = λ picture. subst (λ (o : Option View). IfSome o IsDrawn) known (read.pictured (picture_is_set name entries picture));
   alone = picture_has_no_snapshots name entries alone;
-  types = shows_no_types name entries _;
+  types = λ types. absurd (subst IsOfView types (is_of_view name entries));
+  live = λ live. absurd (subst IsOfView live (is_of_view name entries));
 }
 
 types_asks : (name : Text) (entries : List Row) → IsRead name entries → bytes_eq name (codes "types") ≡ true → Asks (types_plan entries)
-types_asks name entries read is = record { pair = λ compares. absurd compares; every = tt; page = λ page. absurd page; picture = λ picture. absurd picture; alone = λ picture. absurd picture; types = λ _. (read.single is, refl, refl) }
+types_asks name entries read is = record { pair = λ compares. absurd compares; every = tt; page = λ page. absurd page; picture = λ picture. absurd picture; alone = λ picture. absurd picture; types = λ _. (read.single is, refl, refl); live = λ live. cc }
+
+live_in_range : (every : Option ℕ) → IfSome every (λ n. (1 ≤ n) × (n ≤ MOST_BETWEEN_SNAPSHOTS))
+    → (1 ≤ unwrap_or every 1000) × (unwrap_or every 1000 ≤ MOST_BETWEEN_SNAPSHOTS)
+live_in_range None known = (omega arith, omega arith)
+live_in_range (Some n) known = known
+
+live_asks : (name : Text) (entries : List Row) → IsRead name entries → Asks (live_plan entries)
+live_asks name entries read = record {
+  pair = λ compares. absurd compares;
+  every = live_in_range (number_at (codes "every") entries) (number_in_range (codes "every") MOST_BETWEEN_SNAPSHOTS entries read.every);
+  page = λ page. absurd page;
+  picture = λ picture. absurd picture;
+  alone = λ picture. absurd picture;
+  types = λ types. cc;
+  live = λ _. record { width = width_of entries; every = live_every entries; view = refl; options = refl; format = refl; from = refl };
+}
 
 -- entries without a fault
 pub none_in : (kinds : Kinds) → is_empty kinds ≡ true → kinds ≡ []
@@ -183,7 +211,7 @@ no_conflict entries = go (knows_format entries && (knows_order entries && knows_
     go true false formed e = refl
 
 command_asks : (name : Text) (entries : List Row) (plan : Plan) → IsRead name entries → command_plan name entries ≡ Some plan → Asks plan
-command_asks name entries plan read is = of_name (bytes_eq name (codes "types")) refl (with_no_fault (entries_fault entries) _ plan is).1
+command_asks name entries plan read is = of_name (bytes_eq name (codes "types")) (bytes_eq name (codes "live")) refl (with_no_fault (entries_fault entries) _ plan is).1
   where
     alone : has_conflict entries ≡ false
     alone = no_conflict entries (with_no_fault (entries_fault entries) _ plan is).0
@@ -195,9 +223,11 @@ command_asks name entries plan read is = of_name (bytes_eq name (codes "types"))
     of_view None known at = cc
     of_view (Some view) known at = same (plan_with name entries view) at (view_asks name entries view read alone known)
 
-    of_name : (b : Bool) → bytes_eq name (codes "types") ≡ b → cond b (Some (types_plan entries)) (option_map (plan_with name entries) (view_of name entries)) ≡ Some plan → Asks plan
-    of_name true named at = same (types_plan entries) at (types_asks name entries read named)
-    of_name false named at = of_view (view_of name entries) refl at
+    of_name : (types live : Bool) → bytes_eq name (codes "types") ≡ types
+        → cond types (Some (types_plan entries)) (cond live (Some (live_plan entries)) (option_map (plan_with name entries) (view_of name entries))) ≡ Some plan → Asks plan
+    of_name true live named at = same (types_plan entries) at (types_asks name entries read named)
+    of_name false true named at = same (live_plan entries) at (live_asks name entries read)
+    of_name false false named at = of_view (view_of name entries) refl at
 
 pub plan_asks : (entered : Option (Text × List Row)) (plan : Plan) → IsSomeAnd entered (λ p. IsRead p.0 p.1)
     → entered_plan entered ≡ Some plan → Asks plan
@@ -256,10 +286,17 @@ refused_form entries format order unit alone page formed = rw (format, order, un
 pub without_fault : (entries : List Row) → knows_format entries ≡ true → knows_order entries ≡ true → knows_unit entries ≡ true → has_conflict entries ≡ false → has_its_page entries ≡ true → has_its_form entries ≡ true → entries_fault entries ≡ []
 without_fault entries format order unit alone page formed = rw (format, order, unit, alone, page, formed) refl
 
-pub planned_command : (name : Text) (entries : List Row) (o : Option Plan) → entries_fault entries ≡ []
-    → cond (bytes_eq name (codes "types")) (Some (types_plan entries)) (option_map (plan_with name entries) (view_of name entries)) ≡ o
-    → command_plan name entries ≡ o
-planned_command name entries o none is = rw none is
+-- what the plan of a command without a fault is, by its name
+pub planned_types : (name : Text) (entries : List Row) → entries_fault entries ≡ [] → bytes_eq name (codes "types") ≡ true → command_plan name entries ≡ Some (types_plan entries)
+planned_types name entries none types = rw (none, types) refl
+
+pub planned_live : (name : Text) (entries : List Row) → entries_fault entries ≡ [] → bytes_eq name (codes "types") ≡ false → bytes_eq name (codes "live") ≡ true
+    → command_plan name entries ≡ Some (live_plan entries)
+planned_live name entries none types live = rw (none, types, live) refl
+
+pub planned_view : (name : Text) (entries : List Row) → entries_fault entries ≡ [] → bytes_eq name (codes "types") ≡ false → bytes_eq name (codes "live") ≡ false
+    → command_plan name entries ≡ option_map (plan_with name entries) (view_of name entries)
+planned_view name entries none types live = rw (none, types, live) refl
 
 -- words that `clap` takes have the faults of their entries alone
 pub own_alone : (words : List Text) (entered : Option (Text × List Row)) → parsing_fault command_line words ≡ [] → entered ≡ subcommand_of command_line words

@@ -48,6 +48,34 @@ chart_alone : plan_of (codes "chart" ∷ []) ≡ Some (plan_with (Chart 1200) de
 unfolding clap_on_literals
 chart_alone = refl
 
+abbrev live_with : ℕ → Options → List Text → Plan
+live_with width options files = record (plan_with (Graph width) options files) { format = Some Folded; form = form.Live; is_quiet = true }
+
+live_alone : plan_of (codes "live" ∷ []) ≡ Some (live_with 1200 (record defaults { every = Some 1000 }) [])
+unfolding clap_on_literals
+live_alone = refl
+
+live_of_two_streams : plan_of (codes "live" ∷ codes "a" ∷ codes "--every" ∷ codes "5" ∷ codes "--ring=7" ∷ codes "b.pb" ∷ codes "-o" ∷ codes "x" ∷ codes "--width=9" ∷ [])
+    ≡ Some (record (live_with 9 (record defaults { ring = 7; every = Some 5 }) (codes "a" ∷ codes "b.pb" ∷ [])) { output = Some (codes "x") })
+unfolding clap_on_literals
+live_of_two_streams = refl
+
+live_without_samples_between : fault_of command_line (codes "live" ∷ codes "--every" ∷ codes "0" ∷ []) ≡ kind.ValueValidation ∷ []
+unfolding clap_on_literals
+live_without_samples_between = refl
+
+no_format_of_live : fault_of command_line (codes "live" ∷ codes "--format" ∷ codes "pprof" ∷ []) ≡ kind.UnknownArgument ∷ []
+unfolding clap_on_literals
+no_format_of_live = refl
+
+no_page_of_live : fault_of command_line (codes "live" ∷ codes "--page" ∷ []) ≡ kind.UnknownArgument ∷ []
+unfolding clap_on_literals
+no_page_of_live = refl
+
+no_filter_of_live : fault_of command_line (codes "live" ∷ codes "--focus" ∷ codes "f" ∷ []) ≡ kind.UnknownArgument ∷ []
+unfolding clap_on_literals
+no_filter_of_live = refl
+
 options_after_files : plan_of (codes "graph" ∷ codes "a" ∷ codes "--ring=7" ∷ codes "b" ∷ codes "--every" ∷ codes "2" ∷ codes "--lines" ∷ codes "--type" ∷ codes "cpu" ∷ [])
     ≡ Some (plan_with (Graph 1200) (record { ring = 7; pick = Named (codes "cpu"); naming = Lines; filter = everything; every = Some 2 }) (codes "a" ∷ codes "b" ∷ []))
 unfolding clap_on_literals

@@ -129,6 +129,9 @@ chart_command = command (codes "chart") (width_option ∷ type_option ∷ unit_o
     ∷ focus_option ∷ hide_option ∷ from_option ∷ ring_option ∷ lines_flag ∷ strict_flag ∷ output_option ∷ quiet_flag
     ∷ page_flag ∷ svg_flag ∷ title_option ∷ root_below_flag ∷ least_option ∷ any_files (codes "file") ∷ [])
 
+abbrev pub live_command : Shape
+live_command = command (codes "live") (width_option ∷ every_option ∷ ring_option ∷ output_option ∷ any_files (codes "file") ∷ [])
+
 abbrev pub compare_command : Shape
 compare_command = command (codes "compare") (width_option ∷ type_option ∷ unit_option ∷ format_option
     ∷ focus_option ∷ hide_option ∷ from_option ∷ ring_option ∷ boxes_flag ∷ lines_flag ∷ strict_flag ∷ output_option ∷ quiet_flag
@@ -168,6 +171,6 @@ command_line = record {
     has_version = true;
     subcommand_required = true;
   };
-  subs = fold_command ∷ graph_command ∷ chart_command ∷ compare_command ∷ top_command ∷ diff_command
+  subs = fold_command ∷ graph_command ∷ chart_command ∷ live_command ∷ compare_command ∷ top_command ∷ diff_command
       ∷ callers_command ∷ callees_command ∷ types_command ∷ [];
 }

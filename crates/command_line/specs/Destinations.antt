@@ -16,6 +16,7 @@ is_document form.Text = false
 is_document (form.Page page) = true
 is_document (form.Picture picture) = true
 is_document form.Types = false
+is_document form.Live = false
 is_document (form.Callers table) = false
 is_document (form.Callees table) = false
 

@@ -19,7 +19,7 @@ use Rattle.run_options.specs.declared.choices.Pick.{Pick}
 use Rattle.run_options.specs.declared.choices.Pick.TheVariants.{Preferred, Named}
 use Rattle.run_options.specs.declared.filters.Filter.{Filter}
 use Rattle.run_options.specs.declared.formats.Format.{Format}
-use Rattle.run_options.specs.declared.formats.Format.TheVariants.{Pprof}
+use Rattle.run_options.specs.declared.formats.Format.TheVariants.{Folded, Pprof}
 use Rattle.run_options.specs.declared.options.Options.{Options}
 use Rattle.run_options.specs.declared.orders.FunctionOrder.{FunctionOrder}
 use Rattle.run_options.specs.declared.orders.FunctionOrder.TheVariants.{Own}
@@ -250,6 +250,32 @@ types_plan entries = record {
   unit = None;
 }
 
+-- after how many samples `live` draws the next graph
+abbrev pub live_every : List Row → ℕ
+live_every entries = unwrap_or (number_at (codes "every") entries) 1000
+
+abbrev pub live_options : List Row → Options
+live_options entries = record default_options {
+  ring = (options_of entries).ring;
+  every = Some (live_every entries);
+}
+
+-- the plan of `live`: the files are streams of folded text, whatever their names, and all of their samples are drawn; its lines
+-- tell how far it is
+abbrev pub live_plan : List Row → Plan
+live_plan entries = record {
+  view = Graph (width_of entries);
+  options = live_options entries;
+  from = None;
+  output = output_of entries;
+  format = Some Folded;
+  files = files_of entries;
+  form = form.Live;
+  is_strict = false;
+  is_quiet = true;
+  unit = None;
+}
+
 -- the faults of entries that `clap` takes: a format, an order or a unit that there is not, else a picture beside what it excludes, else
 -- what is said of a page or a picture where none is asked for
 abbrev pub entries_fault : List Row → Kinds
@@ -263,7 +289,8 @@ entries_fault entries =
 abbrev pub command_plan : Text → List Row → Option Plan
 command_plan name entries =
     if is_empty (entries_fault entries) then (if bytes_eq name (codes "types") then Some (types_plan entries)
-    else option_map (plan_with name entries) (view_of name entries))
+    else (if bytes_eq name (codes "live") then Some (live_plan entries)
+    else option_map (plan_with name entries) (view_of name entries)))
     else None
 
 -- the plan of the command that was entered
@@ -314,6 +341,7 @@ IsPage form.Text = ⊥
 IsPage (form.Page page) = Unit {0}
 IsPage (form.Picture picture) = ⊥
 IsPage form.Types = ⊥
+IsPage form.Live = ⊥
 IsPage (form.Callers table) = ⊥
 IsPage (form.Callees table) = ⊥
 
@@ -323,6 +351,7 @@ IsPicture form.Text = ⊥
 IsPicture (form.Page page) = ⊥
 IsPicture (form.Picture picture) = Unit {0}
 IsPicture form.Types = ⊥
+IsPicture form.Live = ⊥
 IsPicture (form.Callers table) = ⊥
 IsPicture (form.Callees table) = ⊥
 
@@ -330,6 +359,15 @@ IsPicture (form.Callees table) = ⊥
 abbrev pub IsOfOneProfile : Plan → Type 0
 IsOfOneProfile plan =
     (length plan.files ≡ 1) × (plan.format ≡ Some Pprof) × (plan.options ≡ default_options)
+
+-- the plan shows the flame graph of folded text after every so many samples, and keeps all of them
+pub record IsOfStreams (plan : Plan) : Type 0 where
+  pub width : ℕ
+  pub every : ℕ
+  pub view : plan.view ≡ Graph width
+  pub options : plan.options ≡ record default_options { ring = plan.options.ring; every = Some every }
+  pub format : plan.format ≡ Some Folded
+  pub from : plan.from ≡ None
 
 -- ---- refusals
 

@@ -22,6 +22,7 @@ pub(crate) enum Argument {
     From,
     Ring,
     Every,
+    LiveEvery,
     Lines,
     Boxes,
     Rows,
@@ -41,6 +42,7 @@ pub(crate) enum Argument {
     Least,
     Function,
     Files,
+    Streams,
     Before,
     After,
     Profile,
@@ -101,6 +103,14 @@ pub(crate) const CHART: &[Argument] = &[
     Argument::RootBelow,
     Argument::Least,
     Argument::Files,
+];
+
+pub(crate) const LIVE: &[Argument] = &[
+    Argument::Width,
+    Argument::LiveEvery,
+    Argument::Ring,
+    Argument::Output,
+    Argument::Streams,
 ];
 
 pub(crate) const COMPARE: &[Argument] = &[
@@ -203,6 +213,8 @@ impl Argument {
                 "Begin each stack at its first frame of this whole name; leave out those without one",
             Argument::Ring => "Size of the ring of each source, 1 to 65536 [default: 1024]",
             Argument::Every => "Write a snapshot after every N samples too, 1 to 1000000000",
+            Argument::LiveEvery =>
+                "Write the graph after every N samples, 1 to 1000000000 [default: 1000]",
             Argument::Lines => "Name the frames of pprof profiles by function and line",
             Argument::Boxes => "Write the differential flame graph as a line of JSON instead",
             Argument::Rows => "Number of functions, 1 to 1000000000 [default: 10]",
@@ -226,6 +238,7 @@ impl Argument {
             Argument::Function => "The whole name of the function",
             Argument::Files =>
                 "Profiles, pprof if named .pb, .pprof or .prof, else folded [default: standard input]",
+            Argument::Streams => "Streams of folded lines, up to 64 [default: standard input]",
             Argument::Before => "The profile before",
             Argument::After => "The profile after",
             Argument::Profile => "The pprof profile, whatever its name",
@@ -246,6 +259,7 @@ impl Argument {
             Argument::From => from_option(alloc, help),
             Argument::Ring => ring_option(alloc, help),
             Argument::Every => number_option(alloc, "every", MOST_BETWEEN_SNAPSHOTS, help),
+            Argument::LiveEvery => number_option(alloc, "every", MOST_BETWEEN_SNAPSHOTS, help),
             Argument::Lines => flag(alloc, "lines", help),
             Argument::Boxes => flag(alloc, "boxes", help),
             Argument::Rows => rows_option(alloc, help),
@@ -265,6 +279,7 @@ impl Argument {
             Argument::Least => least_option(alloc, help),
             Argument::Function => one_value(alloc, "function", "NAME", help),
             Argument::Files => files(alloc, help),
+            Argument::Streams => files(alloc, help),
             Argument::Before => one_value(alloc, "before", "BEFORE", help),
             Argument::After => one_value(alloc, "after", "AFTER", help),
             Argument::Profile => one_value(alloc, "file", "FILE", help),

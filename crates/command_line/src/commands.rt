@@ -5,7 +5,7 @@ ghost use Rattle.command_line.specs.CommandLine.{command_line};
 ghost use Rattle.command_line.specs.checked.Apps.{as_app, program};
 ghost use Rattle.command_line.specs.checked.Commands.{rule_at, shape_at};
 
-use crate::argument_lists::{Argument, CALLS, CHART, COMPARE, DIFF, FOLD, GRAPH, TOP, TYPES};
+use crate::argument_lists::{Argument, CALLS, CHART, COMPARE, DIFF, FOLD, GRAPH, LIVE, TOP, TYPES};
 use clap::Command;
 use std::alloc::{AllocError, Global};
 
@@ -31,6 +31,10 @@ Compressed: gzip -dc cpu.pb.gz | flamecollect graph --page --format pprof > grap
 const CHART_EXAMPLE: &str = "\
 Example: flamecollect chart --page trace.folded > chart.html
 Compressed: gzip -dc cpu.pb.gz | flamecollect chart --page --format pprof > chart.html";
+
+const LIVE_EXAMPLE: &str = "\
+Example: tail -n +1 -f samples.folded | flamecollect live --every 500
+Several: flamecollect live worker1.fifo worker2.fifo";
 
 const COMPARE_EXAMPLE: &str = "\
 Example: flamecollect compare --page before.pb after.pb > difference.html
@@ -61,6 +65,7 @@ pub(crate) enum Subcommand {
     Fold,
     Graph,
     Chart,
+    Live,
     Compare,
     Top,
     Diff,
@@ -74,6 +79,7 @@ const COMMANDS: &[Subcommand] = &[
     Subcommand::Fold,
     Subcommand::Graph,
     Subcommand::Chart,
+    Subcommand::Live,
     Subcommand::Compare,
     Subcommand::Top,
     Subcommand::Diff,
@@ -90,6 +96,7 @@ impl Subcommand {
             Subcommand::Fold => "fold",
             Subcommand::Graph => "graph",
             Subcommand::Chart => "chart",
+            Subcommand::Live => "live",
             Subcommand::Compare => "compare",
             Subcommand::Top => "top",
             Subcommand::Diff => "diff",
@@ -105,6 +112,8 @@ impl Subcommand {
                 "Write each stack once with the sum of its weights, as folded lines",
             Subcommand::Graph => "Write the flame graph as a line of JSON",
             Subcommand::Chart => "Write the flame chart as a line of JSON",
+            Subcommand::Live =>
+                "Write the flame graph of streams while they grow, a line of JSON each time",
             Subcommand::Compare => "Write each stack of two profiles with its weight in both",
             Subcommand::Top => "Write the functions with the greatest weights",
             Subcommand::Diff => "Write the functions of two profiles with the greatest changes",
@@ -119,6 +128,7 @@ impl Subcommand {
             Subcommand::Fold => FOLD_EXAMPLE,
             Subcommand::Graph => GRAPH_EXAMPLE,
             Subcommand::Chart => CHART_EXAMPLE,
+            Subcommand::Live => LIVE_EXAMPLE,
             Subcommand::Compare => COMPARE_EXAMPLE,
             Subcommand::Top => TOP_EXAMPLE,
             Subcommand::Diff => DIFF_EXAMPLE,
@@ -135,6 +145,7 @@ impl Subcommand {
             Subcommand::Fold => FOLD,
             Subcommand::Graph => GRAPH,
             Subcommand::Chart => CHART,
+            Subcommand::Live => LIVE,
             Subcommand::Compare => COMPARE,
             Subcommand::Top => TOP,
             Subcommand::Diff => DIFF,

@@ -1,14 +1,17 @@
 //! The plan of the command that was entered.
-ghost use Rattle.std.specs.Prelude.{◌≡◌, [], IfErr, IfOk, IsSome, IsSomeAnd, Some, option_map};
+ghost use Rattle.std.specs.Prelude.{◌≡◌, [], IfErr, IfOk, IsSome, IsSomeAnd, Some, codes, option_map};
 ghost use Rattle.clap.specs.Words.{subcommand_rows_of};
-ghost use Rattle.command_line.specs.Plans.{IsFaultAmong, entered_plan, own_fault, plan_with, types_plan, view_of};
-ghost use Rattle.command_line.specs.checked.Entries.{IsRead, entries_of};
+ghost use Rattle.command_line.specs.Plans.{IsFaultAmong, command_plan, entered_plan, entries_fault, live_plan, own_fault, plan_with, types_plan, view_of};
+ghost use Rattle.command_line.specs.checked.Entries.{IsNumberAt, IsRead, entries_of};
+ghost use Rattle.command_line.specs.declared.arguments.TheConstants.{MOST_BETWEEN_SNAPSHOTS};
 ghost use Rattle.command_line.specs.declared.plans.PlanFault.TheVariants.{OutOfMemory};
+ghost use Rattle.run_options.specs.declared.ring_sizes.TheConstants.{LARGEST_RING};
+ghost use Rattle.run_options.specs.declared.widths.TheConstants.{MAX_WIDTH};
 
-use crate::entries::{default_options, files, first, format, options, unit};
+use crate::entries::{default_options, files, first, format, live_options, options, unit};
 use crate::plans::{Form, Plan, PlanFault, View};
 use crate::refusals::check_entries;
-use crate::views::{form, view};
+use crate::views::{form, view, width};
 use clap::ArgMatches;
 use run_options::Format;
 use std::alloc::{AllocError, Global};
@@ -25,9 +28,22 @@ pub(crate) fn planned(alloc: Global, matches: &ArgMatches<'_>) -> Result<Plan, P
     let Some((name, entries)) = matches.subcommand() else {
         unreachable!()
     };
+    command_plan(alloc, name, entries)
+}
+
+// The plan of the command of that name with its entries.
+fn command_plan(alloc: Global, name: &str, entries: &ArgMatches<'_>) -> Result<Plan, PlanFault>
+    requires { IsRead name.now (entries_of entries.now) }
+    ensures plan { IfOk result (λ plan. command_plan name.now (entries_of entries.now) ≡ Some plan) }
+    ensures refused { IfErr result (IsFaultAmong (entries_fault (entries_of entries.now))) }
+    ensures passes { entries_fault (entries_of entries.now) ≡ []
+        → IfErr result (λ fault. fault ≡ OutOfMemory) }
+{
     check_entries(alloc, name, entries)?;
     if name == "types" {
         Ok(types_plan(alloc, entries)?)
+    } else if name == "live" {
+        Ok(live_plan(alloc, entries)?)
     } else {
         Ok(view_plan(alloc, name, entries)?)
     }
@@ -69,5 +85,26 @@ fn types_plan(alloc: Global, entries: &ArgMatches<'_>) -> Result<Plan, AllocErro
         form: Form::Types,
         files: files(alloc, entries)?,
         options: default_options(alloc),
+    })
+}
+
+// The plan of `live`.
+fn live_plan(alloc: Global, entries: &ArgMatches<'_>) -> Result<Plan, AllocError>
+    requires width { IsNumberAt (codes "width") MAX_WIDTH (entries_of entries.now) }
+    requires ring { IsNumberAt (codes "ring") LARGEST_RING (entries_of entries.now) }
+    requires every { IsNumberAt (codes "every") MOST_BETWEEN_SNAPSHOTS (entries_of entries.now) }
+    ensures { IfOk result (λ plan. plan ≡ live_plan (entries_of entries.now)) }
+{
+    Ok(Plan {
+        view: View::Graph(width(entries)),
+        format: Some(Format::Folded),
+        is_strict: false,
+        is_quiet: true,
+        from: None,
+        output: first(alloc, entries, "output")?,
+        unit: None,
+        form: Form::Live,
+        files: files(alloc, entries)?,
+        options: live_options(alloc, entries),
     })
 }

@@ -1,7 +1,7 @@
 //! What the entries of a command ask for, beside the view.
 ghost use Rattle.std.specs.Prelude.{◌≡◌, ◌++◌, IfOk, OnOk, codes};
 ghost use Rattle.clap.specs.Walk.{first_of, texts};
-ghost use Rattle.command_line.specs.Plans.{asked_format, asked_unit, default_options, files_of, filter_of, naming_of, number_at, options_of, pick_of, values_at};
+ghost use Rattle.command_line.specs.Plans.{asked_format, asked_unit, default_options, files_of, filter_of, live_every, live_options, naming_of, number_at, options_of, pick_of, values_at};
 ghost use Rattle.command_line.specs.checked.Entries.{IsFlagAt, IsNumberAt, entries_of};
 ghost use Rattle.command_line.specs.declared.arguments.TheConstants.{MOST_BETWEEN_SNAPSHOTS};
 ghost use Rattle.run_options.specs.declared.ring_sizes.TheConstants.{LARGEST_RING};
@@ -14,6 +14,9 @@ use std::alloc::{AllocError, Global};
 
 // The size of a ring unless the words set it.
 const DEFAULT_RING: u32 = 1_024;
+
+// After how many samples `live` draws the next graph unless the words set it.
+const DEFAULT_LIVE_EVERY: u64 = 1_000;
 
 // The options where no word sets one.
 pub(crate) fn default_options(alloc: Global) -> Options
@@ -41,6 +44,27 @@ pub(crate) fn options(alloc: Global, entries: &ArgMatches<'_>) -> Result<Options
         filter: filter(alloc, entries)?,
         every: every(entries),
     })
+}
+
+// The options of `live`.
+pub(crate) fn live_options(alloc: Global, entries: &ArgMatches<'_>) -> Options
+    requires ring { IsNumberAt (codes "ring") LARGEST_RING (entries_of entries.now) }
+    requires every { IsNumberAt (codes "every") MOST_BETWEEN_SNAPSHOTS (entries_of entries.now) }
+    ensures { result ≡ live_options (entries_of entries.now) }
+{
+    let ring = ring(entries);
+    Options {
+        ring,
+        every: Some(live_every(entries)),
+        ..default_options(alloc)
+    }
+}
+
+fn live_every(entries: &ArgMatches<'_>) -> u64
+    requires { IsNumberAt (codes "every") MOST_BETWEEN_SNAPSHOTS (entries_of entries.now) }
+    ensures { result ≡ live_every (entries_of entries.now) }
+{
+    every(entries).unwrap_or(DEFAULT_LIVE_EVERY)
 }
 
 fn ring(entries: &ArgMatches<'_>) -> RingSize

@@ -63,6 +63,8 @@ pub enum Form {
     Picture(PictureForm),
     /// The sample types of a profile, in place of a view.
     Types,
+    /// The lines of the view, the flame graph, each as soon as its last sample came.
+    Live,
     /// A function and those that call it, in place of a view.
     Callers(CallTable),
     /// A function and those that it calls, in place of a view.

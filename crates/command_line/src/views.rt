@@ -68,7 +68,7 @@ pub(crate) fn is_drawn(entries: &ArgMatches<'_>) -> bool
     entries.get_flag("page") || entries.get_flag("svg")
 }
 
-fn width(entries: &ArgMatches<'_>) -> Width
+pub(crate) fn width(entries: &ArgMatches<'_>) -> Width
     requires { IsNumberAt (codes "width") MAX_WIDTH (entries_of entries.now) }
     ensures { result ≡ width_of (entries_of entries.now) }
 {

@@ -1,7 +1,7 @@
 //! From words to a plan.
 ghost use Rattle.std.specs.Prelude.{◌≡◌, ◌≤◌, [], None, IfErr, IfOk, IfSome, OnOk, length, map, string_bytes, true};
 ghost use Rattle.command_line.specs.CommandLine.{command_line};
-ghost use Rattle.command_line.specs.Plans.{IsComparison, IsDrawn, IsFaultAmong, IsOfOneProfile, IsPage, IsPicture, default_plan, fault_of, plan_of, takes};
+ghost use Rattle.command_line.specs.Plans.{IsComparison, IsDrawn, IsFaultAmong, IsOfOneProfile, IsOfStreams, IsPage, IsPicture, default_plan, fault_of, plan_of, takes};
 ghost use Rattle.command_line.specs.declared.plans.PlanFault.TheVariants.{OutOfMemory};
 
 use crate::commands::command_line;
@@ -33,6 +33,7 @@ pub fn plan(alloc: Global, words: &[String]) -> Result<Plan, PlanFault>
     ensures picture { IfOk result (λ plan. IsPicture plan.form → IsDrawn plan.view) }
     ensures alone { IfOk result (λ plan. IsPicture plan.form → plan.options.every ≡ None) }
     ensures types { IfOk result (λ plan. plan.form ≡ Form.Types → IsOfOneProfile plan) }
+    ensures live { IfOk result (λ plan. plan.form ≡ Form.Live → IsOfStreams plan) }
 {
     let line = command_line(alloc)?;
     match line.try_get_matches_from(words) {

@@ -5,6 +5,7 @@ mod calls;
 mod changes;
 mod folded;
 mod growths;
+mod live;
 mod outputs;
 mod page;
 mod pictures;

@@ -149,7 +149,7 @@ unstopped : (format : Format) (bytes : List ℕ) (pick : Pick) (naming : Naming)
 unstopped Folded bytes pick naming after = unstopped-read_folded bytes after
 unstopped Pprof bytes pick naming after = unstopped-read_pprof bytes pick naming after
 
-clean_ending : (ending : SourceEnd) → ((after : ℕ) → ending ≢ ends.Stopped after) → ends_in_fault ending ≡ false → IsClean ending
+pub clean_ending : (ending : SourceEnd) → ((after : ℕ) → ending ≢ ends.Stopped after) → ends_in_fault ending ≡ false → IsClean ending
 clean_ending (ends.Clean ignored) goes_on faultless = tt
 clean_ending (ends.Fault fault) goes_on faultless = absurd (true≢false faultless)
 clean_ending (ends.Stopped after) goes_on faultless = absurd (goes_on after refl)
@@ -159,7 +159,7 @@ fault_ending (ends.Clean ignored) faulty = absurd (false≢true faulty)
 fault_ending (ends.Fault fault) faulty = tt
 fault_ending (ends.Stopped after) faulty = absurd (false≢true faulty)
 
-neither : (a b : Bool) → (a || b) ≡ false → (a ≡ false) × (b ≡ false)
+pub neither : (a b : Bool) → (a || b) ≡ false → (a ≡ false) × (b ≡ false)
 neither true b none = absurd (true≢false none)
 neither false b none = (refl, none)
 
@@ -184,18 +184,18 @@ clean_from (Some name) options sources faultless =
     All-map (λ (rest : Rest). IsClean rest.ending) (rest_from name) (asked_rests options sources)
     (clean_rests options sources (sym (faults_from name (asked_rests options sources)) ∙ faultless))
 
-faulty_rests : (rests : List Rest) → list_any (λ (rest : Rest). ends_in_fault rest.ending) rests ≡ true → HasFault rests
+pub faulty_rests : (rests : List Rest) → list_any (λ (rest : Rest). ends_in_fault rest.ending) rests ≡ true → HasFault rests
 faulty_rests rests faulty =
     let found = Any-from_list_any (λ (rest : Rest). ends_in_fault rest.ending) rests faulty in
     (found.0, found.1, found.2, found.3, fault_ending found.1.ending found.4)
 
 -- ---- lists, by what they are seen as
 
-samples_of_rests : (lists : List ListState) → samples_of lists ≡ lists_of (map seen_as_rest lists)
+pub samples_of_rests : (lists : List ListState) → samples_of lists ≡ lists_of (map seen_as_rest lists)
 samples_of_rests [] = refl
 samples_of_rests (list ∷ lists) = ap (λ more. list.samples ∷ more) (samples_of_rests lists)
 
-faults_of_rests : (lists : List ListState) → has_fault lists ≡ list_any (λ (rest : Rest). ends_in_fault rest.ending) (map seen_as_rest lists)
+pub faults_of_rests : (lists : List ListState) → has_fault lists ≡ list_any (λ (rest : Rest). ends_in_fault rest.ending) (map seen_as_rest lists)
 faults_of_rests [] = refl
 faults_of_rests (list ∷ lists) = ap (λ more. ends_in_fault list.ending || more) (faults_of_rests lists)
 

@@ -1,6 +1,9 @@
 mod ExitStatuses
 mod GrownFunctions
 mod KnownSources
+mod LiveSinks
+mod LiveStreamLemmas
+mod LiveTexts
 mod RunEndings
 mod StepWords
 mod StrictEndings

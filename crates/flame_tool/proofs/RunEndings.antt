@@ -1,5 +1,5 @@
 -- How a run ends, by its words and by its plan.
-use Rattle.std.proofs.Common.{◌≡◌, ◌≢◌, ◌≤◌, ◌<◌, ◌⊎◌, inl, inr, ℕ, zero, suc, get_or, List, [], ◌∷◌, map, length, Option, Some, None, IfSome, cond, true, ap, sym, ◌∙◌, subst, refl, arith, take, append-nil, ⊎_elim}
+use Rattle.std.proofs.Common.{◌≡◌, ◌≢◌, ◌≤◌, ◌<◌, ◌⊎◌, inl, inr, ℕ, zero, suc, get_or, List, [], ◌∷◌, map, length, Option, Some, None, IfSome, true, ap, sym, ◌∙◌, subst, refl, arith, take, append-nil, ⊎_elim}
 use Rattle.std.specs.Prelude.{IsSomeAnd, IsSome}
 use Rattle.std.proofs.lemmas.Bool.{cases_lt}
 use Rattle.std.specs.Io.KnownBytes.{Appends, Keeps}
@@ -163,6 +163,7 @@ same_shown plan one other lists order every weighed typed = go plan.form typed
     go (form.Page page) typed = with_types (typed refl) (λ facts. page_text plan facts page lists order every)
     go (form.Picture picture) typed = with_types (typed refl) (λ facts. picture_text plan facts picture lists)
     go form.Types typed = viewed plan.view typed
+    go form.Live typed = viewed plan.view typed
     go (form.Callers table) typed = with_types (typed refl) (λ facts. called_text Callers table plan facts lists)
     go (form.Callees table) typed = with_types (typed refl) (λ facts. called_text Callees table plan facts lists)
 

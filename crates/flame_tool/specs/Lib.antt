@@ -1,5 +1,6 @@
 -- The definitions that the contracts of flame_tool cite. Those of the crates below it are passed on.
 pub mod KnownFacts
+pub mod LiveRuns
 pub mod NextSteps
 pub mod Requests
 pub mod Runs

@@ -48,6 +48,7 @@ ShowsSamples form.Text = Unit {0}
 ShowsSamples (form.Page page) = Unit {0}
 ShowsSamples (form.Picture picture) = Unit {0}
 ShowsSamples form.Types = ⊥
+ShowsSamples form.Live = Unit {0}
 ShowsSamples (form.Callers table) = Unit {0}
 ShowsSamples (form.Callees table) = Unit {0}
 

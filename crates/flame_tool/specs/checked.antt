@@ -1,4 +1,6 @@
 -- Definitions that no public contract cites: not to be believed, but checked with the code that cites them.
 pub mod Failures
+pub mod LiveEnds
+pub mod LiveStreams
 pub mod Telling
 pub mod TypeFailures

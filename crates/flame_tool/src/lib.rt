@@ -5,6 +5,9 @@
 mod advice;
 mod exits;
 mod hosts;
+mod live_graphs;
+mod live_run;
+mod live_streams;
 mod next_steps;
 mod plan_run;
 mod program;
@@ -15,12 +18,13 @@ mod views_run;
 
 pub use byte_io::{
     CountedReader, CountedWriter, Files, Inlet, LoadFault, MachineFiles, MemoryFiles, NamedFile,
-    Outlet, OutputFile, SOURCE_LIMIT, SendFault, load, send,
+    Outlet, OutputFile, SOURCE_LIMIT, SendFault, Streams, load, send,
 };
 pub use command_line::{
     CallTable, Destination, DiffTable, Form, PageForm, PictureForm, Plan, PlanFault, TopTable,
     View, WeightUnit, asked_destination, plan,
 };
+pub use live_run::{live, live_plan};
 pub use merging::{Gathered, Snapshot, TreeSink};
 pub use next_steps::{Trouble, next_step};
 pub use opened_sources::{Failure, SOURCE_COUNT};

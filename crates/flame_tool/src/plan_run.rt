@@ -146,8 +146,11 @@ fn show_plan<T: Threads + Wait + Copy + Send + 'static, F: Files, W: Outlet, E: 
 {
     match plan.form {
         Form::Types => show_types(host.alloc, plan, files, out, err, words),
-        Form::Text | Form::Page(_) | Form::Picture(_) | Form::Callers(_) | Form::Callees(_) => {
-            show_views(host, plan, files, out, err, words)
-        }
+        Form::Text
+        | Form::Page(_)
+        | Form::Picture(_)
+        | Form::Live
+        | Form::Callers(_)
+        | Form::Callees(_) => show_views(host, plan, files, out, err, words),
     }
 }

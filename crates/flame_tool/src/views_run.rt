@@ -196,7 +196,7 @@ fn form_tells(form: &Form, view: View) -> bool
     ensures { result ≡ form_tells form.now view }
 {
     match form {
-        Form::Text | Form::Types => view_tells(view),
+        Form::Text | Form::Types | Form::Live => view_tells(view),
         Form::Page(_) | Form::Picture(_) | Form::Callers(_) | Form::Callees(_) => true,
     }
 }
@@ -260,7 +260,9 @@ fn send_form<T: Threads, W: Outlet>(
 {
     let workers = InThreads { rt };
     match &plan.form {
-        Form::Text | Form::Types => send_asked_view(&workers, alloc, &run, plan, facts, out),
+        Form::Text | Form::Types | Form::Live => {
+            send_asked_view(&workers, alloc, &run, plan, facts, out)
+        }
         Form::Callers(table) => {
             let side = CallSide::Callers;
             let asked = AskedCalls {

@@ -29,11 +29,11 @@ short_by taken ignored total lines (Fault kind) rest = omega arith
 short_by taken ignored total lines (Sample sample) rest = omega (arith, rest (taken + 1) ignored (total + sample.weight))
 
 -- no more samples than lines
-scan-short : (lines : List (List ℕ)) (taken ignored total : ℕ) → length (scan taken ignored total lines).samples ≤ length lines
+pub scan-short : (lines : List (List ℕ)) (taken ignored total : ℕ) → length (scan taken ignored total lines).samples ≤ length lines
 scan-short [] taken ignored total = omega arith
 scan-short (line ∷ lines) taken ignored total = short_by taken ignored total lines (within_total total (read_line line)) (scan-short lines)
 
-lines_short : (fuel : ℕ) (bytes : List ℕ) → length bytes ≤ fuel → length (lines_of bytes) ≤ length bytes
+pub lines_short : (fuel : ℕ) (bytes : List ℕ) → length bytes ≤ fuel → length (lines_of bytes) ≤ length bytes
 lines_short fuel [] le = omega (arith, ap length lines-nil)
 lines_short zero (b ∷ bytes) le = absurd (omega arith)
 lines_short (suc fuel) (b ∷ bytes) le =

@@ -98,10 +98,10 @@ fine_from text faultless = by (begins_compressed text) refl faultless.1
 
 -- ---- two texts
 
-ends_line : (text : List ℕ) → IsWholeLines text → EndsLine text
+pub ends_line : (text : List ℕ) → IsWholeLines text → EndsLine text
 ends_line text = ⊎_elim (λ none. inl (ap length none)) (λ some. inr (subst (λ t. slice_index t (length t - 1) ≡ 10) (sym some.1) (last-append some.0 10 [])))
 
-one_feed : (b : ℕ) → EndsLine (b ∷ []) → b ≡ 10
+pub one_feed : (b : ℕ) → EndsLine (b ∷ []) → b ≡ 10
 one_feed b = ⊎_elim (λ none. absurd (omega arith)) (λ feed. feed)
 
 lines_two : (one other : List ℕ) → IsWholeLines one → lines_in (one ++ other) ≡ lines_in one ++ lines_in other

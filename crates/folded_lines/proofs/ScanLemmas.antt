@@ -1,5 +1,5 @@
 -- What is left of a text at some line, step by step.
-use Rattle.std.proofs.Common.{◌≡◌, ℕ, ◌+◌, ◌-◌, ◌<◌, ◌≤◌, List, ◌∷◌, length, map, take, drop, take_all, drop-drop, length-drop, refl, sym, ap, ◌∙◌, arith}
+use Rattle.std.proofs.Common.{◌≡◌, ℕ, ◌+◌, ◌-◌, ◌<◌, ◌≤◌, List, [], ◌∷◌, length, map, take, drop, take_all, drop-drop, length-drop, refl, sym, ap, ◌∙◌, arith}
 use Rattle.std.proofs.lemmas.List.{drop_all}
 use Rattle.bstr.specs.Text.{line_len, without_terminator}
 use Rattle.bstr.proofs.lemmas.LineLemmas.{line_len-bounds, lines-step, lines-nil}
@@ -31,12 +31,15 @@ scan_line taken ignored total lines read =
 abbrev scan_at : Cursor → List (List ℕ) → Line → Rest
 scan_at cursor lines read = scan_line cursor.taken cursor.ignored cursor.total lines read
 
-scan_by : (cursor : Cursor) (len : ℕ) (line : List ℕ) (lines : List (List ℕ)) (read : Line) → within_total cursor.total (read_line line) ≡ read
+pub scan_by : (cursor : Cursor) (len : ℕ) (line : List ℕ) (lines : List (List ℕ)) (read : Line) → within_total cursor.total (read_line line) ≡ read
     → scan cursor.taken cursor.ignored cursor.total (line ∷ lines)
     ≡ rest_from cursor read (scan (place_after cursor len read).taken (place_after cursor len read).ignored (place_after cursor len read).total lines)
 scan_by cursor len line lines Ignored is = ap (scan_at cursor lines) is
 scan_by cursor len line lines (Fault kind) is = ap (scan_at cursor lines) is
 scan_by cursor len line lines (Sample sample) is = ap (scan_at cursor lines) is
+
+pub text_lines-none : text_lines [] ≡ []
+text_lines-none = ap (map without_terminator) lines-nil
 
 pub text_lines-step : (bytes : List ℕ) → 0 < length bytes → text_lines bytes ≡ without_terminator (take (line_len bytes) bytes) ∷ text_lines (drop (line_len bytes) bytes)
 text_lines-step bytes some = ap (map without_terminator) (lines-step bytes some)
@@ -67,7 +70,7 @@ rest_at-step bytes cursor read some is =
 pub rest_at-end : (bytes : List ℕ) (cursor : Cursor) → length bytes ≤ cursor.position → rest_at bytes cursor ≡ ended (ends.Clean cursor.ignored)
 rest_at-end bytes cursor past =
     ap (λ t. scan cursor.taken cursor.ignored cursor.total (text_lines t)) (drop_all cursor.position bytes past)
-    ∙ ap (λ t. scan cursor.taken cursor.ignored cursor.total (map without_terminator t)) lines-nil
+    ∙ ap (scan cursor.taken cursor.ignored cursor.total) text_lines-none
 
 pub line_len-fits : (bytes : List ℕ) (cursor : Cursor) → cursor.position < length bytes
     → (0 < line_len (drop cursor.position bytes)) × (cursor.position + line_len (drop cursor.position bytes) ≤ length bytes)

@@ -4,6 +4,7 @@ pub mod Lines
 pub mod Reading
 pub mod ReadingBack
 pub mod State
+pub mod Streams
 pub mod StrictReading
 pub mod TextParts
 pub mod Writing

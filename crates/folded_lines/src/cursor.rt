@@ -29,7 +29,7 @@ impl Cursor {
 }
 
 /// The line without a CR at its end.
-fn without_cr(line: &[u8]) -> &[u8]
+pub(crate) fn without_cr(line: &[u8]) -> &[u8]
     ensures text { result.now ≡ no_cr line.now }
     ensures front { result.now ≡ take (length result.now) line.now }
     ensures short { length result.now ≤ length line.now }

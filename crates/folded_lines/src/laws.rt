@@ -1,15 +1,19 @@
 //! What holds of the definitions.
 
-ghost use Rattle.std.specs.Prelude.{◌≡◌, ◌≢◌, ◌≤◌, ◌++◌, ◌∷◌, [], ℕ, None, false, List, All, sum_by};
+ghost use Rattle.std.specs.Prelude.{◌≡◌, ◌≢◌, ◌<◌, ◌≤◌, ◌^◌, ◌++◌, ◌∷◌, [], ℕ, Bool, Option, None, Some, true, false, List, All, IsSomeAnd, length, sum_by};
 ghost use Rattle.std.specs.List.{concat};
 ghost use Rattle.sample_tables.specs.Samples.{total_weight};
 ghost use Rattle.sample_tables.specs.declared.samples.TheConstants.{WEIGHT_LIMIT};
 ghost use Rattle.sample_tables.specs.declared.samples.Sample.{Sample};
+ghost use Rattle.stack_core.specs.Prefixes.{IsPrefixOf};
+ghost use Rattle.stack_core.specs.Reading.{Rest};
+ghost use Rattle.stack_core.specs.RowReading.{GivesSome};
 ghost use Rattle.stack_core.specs.declared.endings.SourceEnd.TheVariants as ends;
 ghost use Rattle.folded_lines.specs.LastNames.{last_ends_in_number, is_open};
 ghost use Rattle.folded_lines.specs.Lines.{read_line, text_lines};
 ghost use Rattle.folded_lines.specs.Reading.{begins_compressed, is_ignored, read_folded};
 ghost use Rattle.folded_lines.specs.ReadingBack.{IsPlain, text_of};
+ghost use Rattle.folded_lines.specs.Streams.{StreamGives};
 ghost use Rattle.folded_lines.specs.StrictReading.{fault_of_ending, strict_fault};
 ghost use Rattle.folded_lines.specs.TextParts.{IsWholeLines, AreCutAtLines, IsFaultless, samples_of_parts, ReadsAsParts};
 
@@ -53,4 +57,17 @@ pub fn strict_text_reads_the_same()
     ensures same { (bytes : List ℕ) → bytes ≢ []
         → All (λ line. is_ignored (read_line line) ≡ false) (text_lines bytes)
         → strict_fault bytes ≡ fault_of_ending (read_folded bytes).ending }
+{}
+
+/// What comes by a stream of known bytes reads as they do, unless a read fails. Then the samples are those in front of theirs. A stream
+/// may always give something, where a read may fail, or its bytes are known and fewer than 2^64.
+pub fn streams_read_as_texts()
+    ensures sure { (bytes : List ℕ) (rest : Rest) → StreamGives (Some bytes) true rest → rest ≡ read_folded bytes }
+    ensures whole { (bytes : List ℕ) (is_sure : Bool) (rest : Rest) → StreamGives (Some bytes) is_sure rest
+        → ((after : ℕ) → rest.ending ≢ ends.Stopped after) → rest ≡ read_folded bytes }
+    ensures front { (bytes : List ℕ) (is_sure : Bool) (rest : Rest) → StreamGives (Some bytes) is_sure rest
+        → IsPrefixOf rest.samples (read_folded bytes).samples }
+    ensures possible { (known : Option (List ℕ)) (is_sure : Bool)
+        → (is_sure ≡ true → IsSomeAnd known (λ bytes. length bytes < 2 ^ 64))
+        → GivesSome (StreamGives known is_sure) }
 {}

@@ -1,6 +1,6 @@
 //! The names of a folded head by their numbers in a table.
 
-ghost use Rattle.std.specs.Prelude.{◌≡◌, [], OnOk};
+ghost use Rattle.std.specs.Prelude.{◌≡◌, ◌≤◌, ◌++◌, [], length, drop, IfOk, OnOk};
 ghost use Rattle.std.specs.List.{slice_split};
 ghost use Rattle.stack_core.specs.Prefixes.{IsPrefixOf};
 ghost use Rattle.folded_lines.specs.Lines.{is_semicolon, names_of};
@@ -9,6 +9,7 @@ ghost use Rattle.folded_lines.specs.checked.Telling.{IsNumbered};
 use crate::names::{first_name, without_trailing_semicolons};
 use bstr::ByteSlice;
 use call_tree::FrameTable;
+use stack_core::{Listed, Text};
 use std::alloc::{AllocError, Global};
 
 /// Puts the numbers of the names between the `;` behind none.
@@ -51,4 +52,42 @@ pub(crate) fn number_names(
     // A `;` is never part of what U+FFFD stands for, so the head is made text whole.
     let text = head.to_str_lossy(alloc)?;
     number_parts(table, frames, text.as_str())
+}
+
+/// A stack that is told: those of its names that are new, and the numbers of all.
+#[derive(Drop)]
+pub(crate) struct NewStack {
+    pub(crate) names: Listed<Text>,
+    pub(crate) frames: Listed<usize>,
+}
+
+/// Copies of the names from a number on.
+fn names_from(alloc: Global, table: &FrameTable, first: usize) -> Result<Listed<Text>, AllocError>
+    requires { first ≤ length table.now }
+    ensures { IfOk result (λ names. names ≡ drop first table.now) }
+{
+    let mut names = Vec::with_capacity(alloc, table.len() - first)?;
+    for number in first..table.len() {
+        names.push(Text::from_str(alloc, table.name(number))?)?;
+    }
+    Ok(Listed::of(names))
+}
+
+/// The stack of a head, whose new names are put into the table. The numbers of its names take the place of others.
+pub(crate) fn new_stack(
+    alloc: Global,
+    table: &mut FrameTable,
+    numbers: &mut Vec<usize>,
+    head: &[u8],
+) -> Result<NewStack, AllocError>
+    ensures numbered { IfOk result (λ stack.
+        IsNumbered (names_of head.now) table.old table.new stack.frames) }
+    ensures names { IfOk result (λ stack. table.new ≡ table.old ++ stack.names) }
+    ensures grows { IsPrefixOf table.old table.new }
+{
+    let told = table.len();
+    number_names(alloc, table, numbers, head)?;
+    let names = names_from(alloc, table, told)?;
+    let frames = Listed::of(Vec::from_slice(alloc, numbers.as_slice())?);
+    Ok(NewStack { names, frames })
 }

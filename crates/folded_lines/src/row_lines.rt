@@ -35,7 +35,7 @@ pub(crate) enum RowLine {
 
 /// What stands at the end of a line.
 #[derive(Clone, Copy)]
-enum Count {
+pub(crate) enum Count {
     /// No count.
     Ignored,
     /// A count that is refused.
@@ -44,7 +44,8 @@ enum Count {
     Weight { head: usize, weight: u64 },
 }
 
-fn count_of(line: &[u8]) -> Count
+/// What stands at the end of a line.
+pub(crate) fn count_of(line: &[u8]) -> Count
     ensures { IsCountOf line.now result }
 {
     let Some((head, count)) = columns(line) else {
@@ -77,7 +78,7 @@ fn is_deep(head: &[u8]) -> bool
 }
 
 /// What is wrong with a head, whatever its count.
-fn fault_of(head: &[u8]) -> Option<ReadKind>
+pub(crate) fn fault_of(head: &[u8]) -> Option<ReadKind>
     ensures { result ≡ head_fault head.now }
 {
     if ends_in_number(head) {

@@ -16,7 +16,7 @@ use stack_core::{ReadFault, RowStep, SourceEnd, WEIGHT_LIMIT};
 use std::alloc::{AllocError, Global};
 
 /// The place after a line that takes so many bytes.
-fn after(cursor: Cursor, len: usize, line: &RowLine) -> Cursor
+pub(crate) fn after(cursor: Cursor, len: usize, line: &RowLine) -> Cursor
     requires position { cursor.position + len < 2 ^ 64 }
     requires taken { cursor.taken + 1 < 2 ^ 64 }
     requires ignored { cursor.ignored + 1 < 2 ^ 64 }

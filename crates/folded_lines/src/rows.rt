@@ -40,7 +40,7 @@ impl Model for FoldedRows {
 }
 
 /// Whether the bytes begin as gzip does.
-fn begins_compressed(bytes: &[u8]) -> bool
+pub(crate) fn begins_compressed(bytes: &[u8]) -> bool
     ensures { result ≡ begins_compressed bytes.now }
 {
     bytes.first() == Some(&0x1f) && bytes.get(1) == Some(&0x8b)

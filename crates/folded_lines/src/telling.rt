@@ -1,15 +1,13 @@
 //! What a reader of rows told, and which heads it knows again.
 
-ghost use Rattle.std.specs.Prelude.{◌≡◌, ◌≤◌, ◌<◌, ◌^◌, ◌++◌, [], None, length, slice_range, drop, IfOk, MatchOption, OnErr};
-ghost use Rattle.std.specs.List.{slice_index_or};
+ghost use Rattle.std.specs.Prelude.{◌≡◌, ◌≤◌, ◌<◌, ◌^◌, [], None, length, slice_range, IfOk, MatchOption, OnErr};
 ghost use Rattle.sample_tables.specs.Rows.{name_at};
 ghost use Rattle.stack_core.specs.Prefixes.{IsPrefixOf};
 ghost use Rattle.folded_lines.specs.Lines.{names_of};
 ghost use Rattle.folded_lines.specs.checked.Telling.{head_fault, told_of, IsTelling, TellsStack};
 
-use crate::numbering::number_names;
+use crate::numbering::{NewStack, new_stack};
 use call_tree::{FrameTable, SpellingCache, StackHistory};
-use stack_core::{Listed, Text};
 use std::alloc::{AllocError, Global};
 use std::fmt::{self, Debug, Formatter, Write};
 
@@ -29,25 +27,6 @@ impl Debug for Telling {
     fn fmt<W: Write>(&self, f: &mut Formatter<W>) -> Result<(), fmt::Error> {
         f.write_str("Telling")
     }
-}
-
-/// A stack that is told: those of its names that are new, and the numbers of all.
-#[derive(Drop)]
-pub(crate) struct NewStack {
-    pub(crate) names: Listed<Text>,
-    pub(crate) frames: Listed<usize>,
-}
-
-/// Copies of the names from a number on.
-fn names_from(alloc: Global, table: &FrameTable, first: usize) -> Result<Listed<Text>, AllocError>
-    requires { first ≤ length table.now }
-    ensures { IfOk result (λ names. names ≡ drop first table.now) }
-{
-    let mut names = Vec::with_capacity(alloc, table.len() - first)?;
-    for number in first..table.len() {
-        names.push(Text::from_str(alloc, table.name(number))?)?;
-    }
-    Ok(Listed::of(names))
 }
 
 impl Telling {
@@ -98,13 +77,11 @@ impl Telling {
         ensures stacks { OnErr result (self.new.history ≡ self.old.history) }
         ensures names { OnErr result (IsPrefixOf self.old.names self.new.names) }
     {
-        let told = self.names.len();
-        number_names(alloc, &mut self.names, &mut self.frames, &bytes[start..end])?;
-        let names = names_from(alloc, &self.names, told)?;
-        let frames = Listed::of(Vec::from_slice(alloc, self.frames.as_slice())?);
+        let head = &bytes[start..end];
+        let stack = new_stack(alloc, &mut self.names, &mut self.frames, head)?;
         self.heads.remember(bytes, start, end, self.stacks)?;
-        self.history.push(&frames);
+        self.history.push(&stack.frames);
         self.stacks += 1;
-        Ok(NewStack { names, frames })
+        Ok(stack)
     }
 }

@@ -1,5 +1,5 @@
 -- What a run gathered, from what was collected and what its sink holds.
-use Rattle.std.proofs.Common.{◌≡◌, ◌<◌, ◌≤◌, ◌+◌, ℕ, zero, suc, Bool, true, false, ◌&&◌, cond, List, [], ◌∷◌, length, get_or, take, map, sum_by, sym, ap, ◌∙◌, subst, arith, refl, Option, All}
+use Rattle.std.proofs.Common.{◌≡◌, ◌<◌, ◌≤◌, ◌+◌, ◌^◌, ℕ, zero, suc, Bool, true, false, ◌&&◌, cond, List, [], ◌∷◌, length, get_or, take, map, sum_by, sym, ap, ◌∙◌, subst, arith, refl, Option, All}
 use Rattle.std.specs.List.{AllByRecursion, range_with_len}
 use Rattle.std.specs.Str.{bytes_eq}
 use Rattle.std.specs.FinMap.{entries}
@@ -99,15 +99,18 @@ total-all (sample ∷ samples) =
     total_of-cons bytes_eq (sample.stack, sample.weight) (weighed samples) []
     ∙ (ap (λ n. sample.weight + n) (total-all samples) ∙ sym (sum_by-cons (λ (s : Sample). s.weight) sample samples))
 
-pub drawable : (names : List (List ℕ)) (tree : Tree) (lists : List (List Sample)) → HasSumsOf names tree (all_samples lists) → AreSmall lists → IsDrawable names tree
-drawable names tree lists h small = record {
-  total = omega (arith, h.total [] tt, total-all (all_samples lists), total_fits lists small);
+pub drawable_samples : (names : List (List ℕ)) (tree : Tree) (samples : List Sample) → HasSumsOf names tree samples → All (λ sample. length sample.stack ≤ FRAME_LIMIT) samples → weight_sum samples < 2 ^ 64 → IsDrawable names tree
+drawable_samples names tree samples h depths fits = record {
+  total = omega (arith, h.total [] tt, total-all samples, fits);
   depth = λ path w.
       let known : AreIn names path = path_in names (entries tree) path (entries_named names tree h.numbers) w in
-      let weighs : 0 < total_at (named names path) (all_samples lists) = omega (arith, w, h.total path known) in
-      omega (arith, total-depth (named names path) FRAME_LIMIT (all_samples lists) (depths_small lists small.each) weighs, length-map path (λ n. get_or names n []));
+      let weighs : 0 < total_at (named names path) samples = omega (arith, w, h.total path known) in
+      omega (arith, total-depth (named names path) FRAME_LIMIT samples depths weighs, length-map path (λ n. get_or names n []));
   numbers = h.numbers;
 }
+
+pub drawable : (names : List (List ℕ)) (tree : Tree) (lists : List (List Sample)) → HasSumsOf names tree (all_samples lists) → AreSmall lists → IsDrawable names tree
+drawable names tree lists h small = drawable_samples names tree (all_samples lists) h (depths_small lists small.each) (total_fits lists small)
 
 -- ---- what was gathered
 

@@ -20,6 +20,7 @@ mod running_sources;
 mod runs;
 mod sample_runs;
 mod settlement;
+mod stream_runs;
 mod tellers;
 
 pub use faults::CollectFault;
@@ -28,3 +29,4 @@ pub use run_options::{LARGEST_RING, RingSize};
 pub use runs::Collected;
 pub use sample_runs::collect;
 pub use stack_core::RingRecord;
+pub use stream_runs::collect_streams;

@@ -8,11 +8,10 @@ ghost use Rattle.ring_collect.specs.NamesInOrder.{names_in_order};
 ghost use Rattle.ring_collect.specs.checked.Numbering.{told_of, with_waiting};
 ghost use Rattle.stack_core.specs.Interleaving.{IsInterleaving, AreOf, interleaved};
 
-use crate::batches::Handover;
 use crate::faults::CollectFault;
 use crate::numbering::NumberingReader;
-use crate::row_samples::BySamples;
-use crate::runs::{Collected, RingedReaders};
+use crate::runs::Collected;
+use crate::stream_runs::collect_streams;
 use run_options::RingSize;
 use stack_core::{Gate, SampleReader, Sink};
 use std::alloc::{AllocError, Global};
@@ -90,12 +89,5 @@ pub fn collect<
     ensures setting { S.setting sink.new ≡ S.setting sink.old }
 {
     let readers = number_all(alloc, readers)?;
-    let handover = Handover::one_by_one(ring);
-    RingedReaders { readers, handover }.collect_by(
-        rt,
-        alloc,
-        gate,
-        &mut BySamples::new(alloc),
-        sink,
-    )
+    collect_streams(rt, alloc, readers, ring, gate, sink)
 }

@@ -112,6 +112,7 @@ text_in form.Text plan facts lists order every = asked_text plan facts lists ord
 text_in (form.Page page) plan facts lists order every = page_text plan facts page lists order every
 text_in (form.Picture picture) plan facts lists order every = picture_text plan facts picture lists
 text_in form.Types plan facts lists order every = asked_text plan facts lists order every
+text_in form.Live plan facts lists order every = asked_text plan facts lists order every
 text_in (form.Callers table) plan facts lists order every = called_text Callers table plan facts lists
 text_in (form.Callees table) plan facts lists order every = called_text Callees table plan facts lists
 

@@ -1,6 +1,6 @@
 pub mod FoldedSources
 pub mod MergedRuns
-mod SnapshotLines
+pub mod SnapshotLines
 pub mod TextLemmas
 mod WorkedLongTexts
 mod WorkedSnapshots

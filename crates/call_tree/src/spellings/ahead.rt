@@ -1,8 +1,9 @@
 //! Spellings that are looked for before they are asked for.
 ghost use Rattle.std.specs.Prelude.{◌≡◌};
 
-use super::{Entry, PROBES, SpellingCache, slot_of};
+use super::{Entry, SpellingCache};
 use crate::hints::{AHEAD, Hints};
+use crate::slots::{PROBES, slot_of};
 use crate::spelling_hash::hash_of;
 
 /// How many bytes of a spelling are looked at before all are compared, and how far they are from one another.

@@ -2,7 +2,7 @@
 use Rattle.std.specs.Prelude.{codes}
 use Rattle.clap.specs.Simple.{Shape}
 use Rattle.clap.specs.Walk.{Rule}
-use Rattle.command_line.specs.CommandLine.{any_files, boxes_flag, by_option, callees_command, callers_command, chart_command, compare_command, diff_command, every_option, exact_flag, fail_over_option, focus_option, fold_command, format_option, from_option, graph_command, hide_option, json_flag, least_option, lines_flag, one_value, output_option, page_flag, quiet_flag, ring_option, root_below_flag, rows_option, share_flag, strict_flag, svg_flag, title_option, top_command, type_option, types_command, unit_option, width_option}
+use Rattle.command_line.specs.CommandLine.{any_files, boxes_flag, by_option, callees_command, callers_command, chart_command, compare_command, diff_command, every_option, exact_flag, fail_over_option, focus_option, fold_command, format_option, from_option, graph_command, hide_option, json_flag, least_option, lines_flag, live_command, one_value, output_option, page_flag, quiet_flag, ring_option, root_below_flag, rows_option, share_flag, strict_flag, svg_flag, title_option, top_command, type_option, types_command, unit_option, width_option}
 use Rattle.command_line.specs.declared.argument_lists.Argument.{Argument}
 use Rattle.command_line.specs.declared.argument_lists.Argument.TheVariants as argument
 use Rattle.command_line.specs.declared.commands.Subcommand.{Subcommand}
@@ -17,6 +17,7 @@ rule_at argument.Hide = hide_option
 rule_at argument.From = from_option
 rule_at argument.Ring = ring_option
 rule_at argument.Every = every_option
+rule_at argument.LiveEvery = every_option
 rule_at argument.Lines = lines_flag
 rule_at argument.Boxes = boxes_flag
 rule_at argument.Rows = rows_option
@@ -36,6 +37,7 @@ rule_at argument.RootBelow = root_below_flag
 rule_at argument.Least = least_option
 rule_at argument.Function = one_value (codes "function")
 rule_at argument.Files = any_files (codes "file")
+rule_at argument.Streams = any_files (codes "file")
 rule_at argument.Before = one_value (codes "before")
 rule_at argument.After = one_value (codes "after")
 rule_at argument.Profile = one_value (codes "file")
@@ -44,6 +46,7 @@ abbrev pub shape_at : Subcommand → Shape
 shape_at subcommand.Fold = fold_command
 shape_at subcommand.Graph = graph_command
 shape_at subcommand.Chart = chart_command
+shape_at subcommand.Live = live_command
 shape_at subcommand.Compare = compare_command
 shape_at subcommand.Top = top_command
 shape_at subcommand.Diff = diff_command

@@ -7,6 +7,7 @@ mod filters;
 mod forms;
 mod help;
 mod lines;
+mod live;
 mod refused;
 mod top;
 mod wanted;

@@ -12,13 +12,13 @@ use std::thread::Threads;
 
 /// Takes so many bytes, at most three at a time, and then errs. It never flushes.
 #[derive(Drop)]
-struct Stingy {
-    taken: Vec<u8>,
+pub(super) struct Stingy {
+    pub(super) taken: Vec<u8>,
     room: usize,
 }
 
 impl Stingy {
-    fn with_room(alloc: Global, room: usize) -> Stingy {
+    pub(super) fn with_room(alloc: Global, room: usize) -> Stingy {
         Stingy {
             taken: Vec::new(alloc),
             room,

@@ -21,5 +21,6 @@ form_tells form.Text view = view_tells view
 form_tells (form.Page page) view = true
 form_tells (form.Picture picture) view = true
 form_tells form.Types view = view_tells view
+form_tells form.Live view = view_tells view
 form_tells (form.Callers table) view = true
 form_tells (form.Callees table) view = true

@@ -2,6 +2,7 @@
 
 mod reading;
 mod rows;
+mod streams;
 mod told;
 
 use super::texts::holds;
@@ -11,6 +12,7 @@ use stack_core::{Names, ReadFault, ReadKind, SampleReader, SourceEnd, Step};
 use std::alloc::{AllocError, Global};
 use std::process::Abort;
 use std::test::Fail;
+use streams::{append_stream, known_over};
 use told::append_rows;
 
 /// `FoldedReader::over` without its clauses, so that what calls it is proved without them.
@@ -40,9 +42,9 @@ fn append_step(
 }
 
 /// Appends the next sample, or keeps the ending.
-fn append_next(
+fn append_next<R: SampleReader>(
     alloc: Global,
-    reader: &mut FoldedReader,
+    reader: &mut R,
     lines: &mut Vec<u8>,
     end: &mut Option<SourceEnd>,
 ) -> Result<(), AllocError> {
@@ -51,9 +53,9 @@ fn append_next(
 }
 
 /// Appends the samples that are left, one a line, and keeps the ending.
-fn append_samples(
+fn append_samples<R: SampleReader>(
     alloc: Global,
-    reader: &mut FoldedReader,
+    reader: &mut R,
     lines: &mut Vec<u8>,
     end: &mut Option<SourceEnd>,
 ) -> Result<(), AllocError> {
@@ -67,9 +69,14 @@ fn append_samples(
 }
 
 /// How a text is read.
+#[derive(Clone, Copy)]
 enum By {
     Samples,
     Rows,
+    /// By a stream that gives so many bytes at a time.
+    Stream(usize),
+    /// The samples of a stream of bytes in memory.
+    Known,
 }
 
 /// Appends what is read of a text. Where it makes a reader no `?` follows: at each of them the proof writes out the drop of a reader,
@@ -84,6 +91,8 @@ fn append_by(
     match by {
         By::Samples => append_samples(alloc, &mut reader_over(text), lines, end),
         By::Rows => append_rows(alloc, &mut rows_over(text), lines, end),
+        By::Stream(size) => append_stream(alloc, &text, *size, false, lines, end),
+        By::Known => append_samples(alloc, &mut known_over(alloc, text), lines, end),
     }
 }
 
@@ -128,7 +137,12 @@ fn reads_as(
     ending: SourceEnd,
 ) -> Result<(), AllocError> {
     reads_by(rt, &By::Samples, text, lines, ending)?;
-    reads_by(rt, &By::Rows, text, lines, ending)
+    reads_by(rt, &By::Rows, text, lines, ending)?;
+    for size in 1..4 {
+        reads_by(rt, &By::Stream(size), text, lines, ending)?;
+    }
+    reads_by(rt, &By::Stream(1_000_000), text, lines, ending)?;
+    reads_by(rt, &By::Known, text, lines, ending)
 }
 
 fn clean(ignored: u64) -> SourceEnd {

@@ -20,6 +20,10 @@ const USAGES: &[(&str, Wanted<'static>)] = &[
         Wanted::Help("\nUsage: flamecollect chart [OPTIONS] [FILE]...\n"),
     ),
     (
+        "live --help",
+        Wanted::Help("\nUsage: flamecollect live [OPTIONS] [FILE]...\n"),
+    ),
+    (
         "compare --help",
         Wanted::Help("\nUsage: flamecollect compare [OPTIONS] <BEFORE> <AFTER>\n"),
     ),
@@ -59,6 +63,7 @@ const COMMANDS: &[(&str, Wanted<'static>)] = &[
     ("--help", Wanted::Help("\n  fold ")),
     ("--help", Wanted::Help("\n  graph ")),
     ("--help", Wanted::Help("\n  chart ")),
+    ("--help", Wanted::Help("\n  live ")),
     ("--help", Wanted::Help("\n  compare ")),
     ("--help", Wanted::Help("\n  top ")),
     ("--help", Wanted::Help("\n  diff ")),
@@ -99,6 +104,9 @@ const PARTS: &[(&str, Wanted<'static>)] = &[
         Wanted::Help("\nExample: flamecollect chart "),
     ),
     ("chart --help", Wanted::Help("\nCompressed: gzip -dc ")),
+    ("live --help", Wanted::Help("\nExample: tail -n +1 -f ")),
+    ("live --help", Wanted::Help("\nSeveral: flamecollect live ")),
+    ("live --help", Wanted::Help(" [default: 1000]\n")),
     (
         "compare --help",
         Wanted::Help("\nExample: flamecollect compare "),

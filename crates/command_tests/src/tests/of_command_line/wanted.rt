@@ -75,6 +75,8 @@ pub(crate) enum Wanted<'a> {
     Types(&'a str),
     /// The callers of this function, or its callees, so many and as JSON or not, in place of a view.
     Calls(Calls<'a>),
+    /// The graphs of streams, of this width and after so many samples, of these files.
+    Live(u32, u64, &'a [&'a str]),
     /// Words that are refused, with a text that begins so, has this part, and tells how to get help.
     Refused(&'a str, &'a str),
     /// Help, which has this part.
@@ -158,7 +160,7 @@ fn is_page(form: &Form, title: Option<&str>, least: Option<u64>, is_below: bool)
         Form::Page(page) => {
             page.least == least && page.is_root_below == is_below && is_titled(&page.title, title)
         }
-        Form::Text | Form::Picture(_) | Form::Types | Form::Callers(_) | Form::Callees(_) => false,
+        _ => false,
     }
 }
 
@@ -167,7 +169,7 @@ fn is_picture(form: &Form, title: Option<&str>, is_below: bool) -> bool {
         Form::Picture(picture) => {
             picture.is_root_below == is_below && is_titled(&picture.title, title)
         }
-        Form::Text | Form::Page(_) | Form::Types | Form::Callers(_) | Form::Callees(_) => false,
+        _ => false,
     }
 }
 
@@ -179,12 +181,22 @@ fn is_of_types(plan: &Plan, file: &str) -> bool {
         && are(&plan.files, &[file])
 }
 
+fn is_live(plan: &Plan, width: u32, every: u64, files: &[&str]) -> bool {
+    matches!(&plan.form, Form::Live)
+        && is_view(plan.view, Shown::Graph(width))
+        && plan.format == Some(Format::Folded)
+        && plan.options.every == Some(every)
+        && plan.options.filter.is_everything()
+        && plan.from.is_none()
+        && are(&plan.files, files)
+}
+
 fn are_calls(plan: &Plan, calls: &Calls<'_>) -> bool {
     plan.view == View::Fold
         && match &plan.form {
             Form::Callers(table) => calls.are_callers && is_table(table, calls),
             Form::Callees(table) => !calls.are_callers && is_table(table, calls),
-            Form::Text | Form::Page(_) | Form::Picture(_) | Form::Types => false,
+            _ => false,
         }
 }
 
@@ -212,6 +224,7 @@ pub(crate) fn has(plan: &Plan, wanted: &Wanted<'_>) -> bool {
         Wanted::Picture(title, is_below) => is_picture(&plan.form, title, is_below),
         Wanted::Types(file) => is_of_types(plan, file),
         Wanted::Calls(calls) => are_calls(plan, &calls),
+        Wanted::Live(width, every, files) => is_live(plan, width, every, files),
         Wanted::Refused(..) | Wanted::Help(_) | Wanted::Version => false,
     }
 }

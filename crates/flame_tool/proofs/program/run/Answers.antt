@@ -1,7 +1,6 @@
-use Rattle.std.proofs.Common.{arith, rules, ◌≡◌, inl, inr, [], length, map, string_bytes, Some, true, false}
+use Rattle.std.proofs.Common.{arith, rules, ◌≡◌, inl, inr, length, map, string_bytes, Some, true, false}
 use Rattle.std.specs.Vec.{vec_len}
-use Rattle.command_line.specs.CommandLine.{command_line}
-use Rattle.command_line.specs.Plans.{IsFaultAmong, fault_of, plan_of}
+use Rattle.command_line.specs.Plans.{plan_of}
 use Rattle.flame_tool.proofs.RunEndings.{accepted_none, accepted_some, among_words, are_refused, asked_callees, asked_callers, asked_exactly, asked_faulty, asked_many, asked_page, asked_partly, asked_shown, asked_svg, asked_types, asked_types_faulty, asked_types_partly, asked_types_untouched, asked_untouched, asked_with_facts, asks_if_help, faultless_words, input_clean, input_fault, input_front, input_text, none_asked, partly_by_plan, partly_help, some_asked, some_faultless, asked_grown, asked_not_grown, within_three}
 use Rattle.flame_tool.proofs.StrictEndings.{asked_strict, asked_strict_untouched}
 use Rattle.flame_tool.proofs.UntouchedOutputs.{no_help, whatever_is_read, whatever_is_strict, whatever_types_are_read}

@@ -156,6 +156,8 @@ const OF_KNOWN_HEADS: &[Fault<'static>] = &[
     ),
     (b"a 1\na 1.5\n", b"a 1\n", ReadKind::DecimalWeight, 2),
     (b"a 1\na 1 2\n", b"a 1\n", ReadKind::TwoColumns, 2),
+    // The stack of the first line has the name `a 5`, and the head of the second is it.
+    (b"a 5; 1\na 5 1\n", b"a 5 1\n", ReadKind::TwoColumns, 2),
 ];
 
 const KNOWN_HEADS: &[Clean<'static>] = &[(b"a 1\na\na x\na 2\n", b"a 1\na 2\n", 2)];

@@ -1,6 +1,6 @@
 //! Rows as lines, each of what a reader told so far.
 
-use folded_lines::{FoldedRows, append_line};
+use folded_lines::append_line;
 use stack_core::{Listed, RowReader, RowStep, SourceEnd, Text};
 use std::alloc::{AllocError, Global};
 
@@ -105,10 +105,10 @@ impl Told {
         }
     }
 
-    fn append_next(
+    fn append_next<R: RowReader>(
         &mut self,
         alloc: Global,
-        reader: &mut FoldedRows,
+        reader: &mut R,
         lines: &mut Vec<u8>,
         end: &mut Option<SourceEnd>,
     ) -> Result<(), AllocError> {
@@ -116,10 +116,10 @@ impl Told {
     }
 
     /// Appends the rows that are left, one a line, and keeps the ending. Each line is written of what was told so far.
-    fn append_all(
+    fn append_all<R: RowReader>(
         &mut self,
         alloc: Global,
-        reader: &mut FoldedRows,
+        reader: &mut R,
         lines: &mut Vec<u8>,
         end: &mut Option<SourceEnd>,
     ) -> Result<(), AllocError> {
@@ -134,9 +134,9 @@ impl Told {
 }
 
 /// The same of a reader that told no row before.
-pub(super) fn append_rows(
+pub(super) fn append_rows<R: RowReader>(
     alloc: Global,
-    reader: &mut FoldedRows,
+    reader: &mut R,
     lines: &mut Vec<u8>,
     end: &mut Option<SourceEnd>,
 ) -> Result<(), AllocError> {

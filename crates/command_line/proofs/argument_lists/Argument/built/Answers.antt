@@ -26,6 +26,9 @@ returns-in-Ring c = c.ring_option.ensures ∙ sym (ap rule_at c.in-Ring.is)
 pub returns-in-Every : goal.returns-in-Every
 returns-in-Every c = c.number_option-in-Every.ensures ∙ sym (ap rule_at c.in-Every.is)
 
+pub returns-in-LiveEvery : goal.returns-in-LiveEvery
+returns-in-LiveEvery c = c.number_option-in-LiveEvery.ensures ∙ sym (ap rule_at c.in-LiveEvery.is)
+
 pub returns-in-Lines : goal.returns-in-Lines
 returns-in-Lines c = c.flag.ensures ∙ sym (ap rule_at c.in-Lines.is)
 
@@ -73,3 +76,6 @@ returns-in-Least c = c.least_option.ensures ∙ sym (ap rule_at c.in-Least.is)
 
 pub returns-in-Files : goal.returns-in-Files
 returns-in-Files c = c.files.ensures ∙ sym (ap rule_at c.in-Files.is)
+
+pub returns-in-Streams : goal.returns-in-Streams
+returns-in-Streams c = c.files-in-Streams.ensures ∙ sym (ap rule_at c.in-Streams.is)

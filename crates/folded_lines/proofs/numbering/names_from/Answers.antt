@@ -1,6 +1,6 @@
 use Rattle.std.proofs.Common.{◌++◌, ◌∷◌, [], ap, sym, ◌∙◌, arith, drop, take_all}
 use Rattle.folded_lines.proofs.RowLemmas.{between-nothing, between-more}
-use Rattle.folded_lines.proofs.telling.names_from.Goals as goal
+use Rattle.folded_lines.proofs.numbering.names_from.Goals as goal
 
 pub loop-number-init : goal.loop-number-init
 loop-number-init c = c.in_ok-names.ensures.items ∙ sym (between-nothing c.args.table.now c.args.first)

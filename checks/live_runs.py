@@ -1,0 +1,120 @@
+"""Runs of `live`, and streams that are written to while it reads them."""
+import contextlib
+import os
+import pathlib
+import queue
+import subprocess
+import tempfile
+import threading
+from collections.abc import Callable
+from types import TracebackType
+
+# What has not come by then is taken for lost. Nothing else goes by time.
+PATIENCE = 60
+
+
+class Lost(Exception):
+    """Something has not come."""
+
+
+class Stream:
+    """A stream, and a thread that writes to it what it is given, once its reader has opened it."""
+
+    def __init__(self, opened: Callable[[], int]) -> None:
+        self.opened = opened
+        self.pieces: queue.SimpleQueue[bytes] = queue.SimpleQueue()
+        self.thread = threading.Thread(target=self.write, daemon=True)
+        self.thread.start()
+
+    def write(self) -> None:
+        end = self.opened()
+        # a reader may have ended before
+        with contextlib.suppress(BrokenPipeError):
+            while piece := self.pieces.get():
+                rest = memoryview(piece)
+                while rest:
+                    rest = rest[os.write(end, rest):]
+        os.close(end)
+
+    def give(self, *pieces: bytes) -> None:
+        for piece in filter(None, pieces):
+            self.pieces.put(piece)
+
+    def end(self) -> None:
+        self.pieces.put(b'')
+
+    def wait(self) -> None:
+        """Waits until all was read, or nobody reads it."""
+        self.thread.join(PATIENCE)
+        if self.thread.is_alive():
+            raise Lost(f'a stream was not read to its end, nor closed, in {PATIENCE} seconds')
+
+
+def fifo(path: pathlib.Path) -> Stream:
+    return Stream(lambda: os.open(path, os.O_WRONLY))
+
+
+def pipe() -> tuple[int, Stream]:
+    """The end of a pipe that is read, and a stream to the other one."""
+    source, end = os.pipe()
+    return source, Stream(lambda: end)
+
+
+class Run:
+    """A run, whose lines are there as they come. Its output may go through another command."""
+
+    def __init__(self, program: pathlib.Path, folder: pathlib.Path, words: list[str], source: int = subprocess.DEVNULL,
+                 through: tuple[str, ...] = ()) -> None:
+        self.errors = tempfile.TemporaryFile()
+        output, end = os.pipe()
+        self.process = subprocess.Popen([program, 'live', *words], cwd=folder, stdin=source, stdout=end, stderr=self.errors)
+        self.started = [self.process]
+        given = [end] if source == subprocess.DEVNULL else [end, source]
+        if through:
+            given.append(output)
+            output, end = os.pipe()
+            self.started.append(subprocess.Popen(through, stdin=given[-1], stdout=end))
+            given.append(end)
+        for each in given:
+            os.close(each)
+        self.lines: queue.SimpleQueue[bytes] = queue.SimpleQueue()
+        threading.Thread(target=self.read, args=(output,), daemon=True).start()
+
+    def read(self, output: int) -> None:
+        with open(output, 'rb') as lines:
+            for line in lines:
+                self.lines.put(line)
+        self.lines.put(b'')
+
+    def line(self) -> bytes:
+        """The next line, or nothing at the end."""
+        try:
+            return self.lines.get(timeout=PATIENCE)
+        except queue.Empty:
+            raise Lost(f'no line came in {PATIENCE} seconds') from None
+
+    def rest(self) -> list[bytes]:
+        return list(iter(self.line, b''))
+
+    def is_over(self, seconds: float) -> bool:
+        try:
+            self.process.wait(seconds)
+        except subprocess.TimeoutExpired:
+            return False
+        return True
+
+    def end(self) -> tuple[int, str]:
+        """Its status, and what it said."""
+        if not self.is_over(PATIENCE):
+            raise Lost(f'it has not ended in {PATIENCE} seconds')
+        self.errors.seek(0)
+        return self.process.returncode, self.errors.read().decode(errors='replace')
+
+    def __enter__(self) -> 'Run':
+        return self
+
+    def __exit__(self, kind: type[BaseException] | None, fault: BaseException | None, trace: TracebackType | None) -> None:
+        for process in self.started:
+            process.kill()
+            process.wait()
+        self.errors.close()

@@ -1,0 +1,65 @@
+-- Streams that are opened one after another.
+use Rattle.std.proofs.Common.{◌≡◌, ◌||◌, ◌+◌, ◌<◌, ◌≤◌, ◌^◌, ℕ, Bool, true, false, List, [], ◌∷◌, ◌++◌, Option, Some, None, IfSome, length, map, refl, take, get_or, ap, sym, subst, ◌∙◌, arith}
+use Rattle.std.specs.Prelude.{◌↔◌, IsSomeAnd}
+use Rattle.std.specs.List.{AllZip, list_any}
+use Rattle.std.proofs.lemmas.List.{map-append, take_more, take_all}
+use Rattle.std.proofs.lemmas.Slice.Zip.{all_zipped_more}
+use Rattle.stack_core.specs.Reading.{Rest}
+use Rattle.stack_core.specs.RowReading.{GivesSome}
+use Rattle.folded_lines.specs.Streams.{StreamGives}
+use Rattle.folded_lines.proofs.StreamTexts.{stream_first, stream_possible, stream_whole}
+use Rattle.flame_tool.specs.checked.LiveStreams.{AreOpened, IsOfFile, ReadsText}
+use Rattle.flame_tool.proofs.KnownSources.{neither}
+
+-- a reader that gives what a stream may give
+module _ (gives : Rest → Type 0) (remaining : Option (List ℕ)) (is_sure : Bool) (same : (rest : Rest) → gives rest ↔ StreamGives remaining is_sure rest) where
+  pub possible_reader : (is_sure ≡ true → IsSomeAnd remaining (λ bytes. length bytes < 2 ^ 64)) → GivesSome gives
+  possible_reader small =
+      let some = stream_possible remaining is_sure small in
+      record { rest = some.rest; is_given = (same some.rest).1 some.is_given }
+
+  pub reader_of_text : (known : Option (List ℕ)) → IfSome known (λ text. remaining ≡ Some text) → IfSome known (ReadsText gives)
+  reader_of_text None is = tt
+  reader_of_text (Some text) is = λ rest given.
+      let stream = subst (λ bytes. StreamGives bytes is_sure rest) is ((same rest).0 given) in
+      record { whole = stream_whole text is_sure rest stream; first = stream_first text is_sure rest stream }
+
+-- the reader of one path more
+pub opened_more : {A R : Type 0} (gives : R → Rest → Type 0) (bytes : A → List ℕ) (files : List ℕ → Option (List ℕ)) (paths : List A) (at : ℕ) (path : A) (readers : List R) (reader : R)
+    → at < length paths → path ≡ get_or paths at path → AllZip (IsOfFile gives files) (map bytes (take at paths)) readers → IsOfFile gives files (bytes path) reader
+    → AllZip (IsOfFile gives files) (map bytes (take (at + 1) paths)) (readers ++ reader ∷ [])
+opened_more gives bytes files paths at path readers reader below is opened here =
+    subst (λ ps. AllZip (IsOfFile gives files) ps (readers ++ reader ∷ []))
+    (sym (ap (map bytes) (take_more paths at path below ∙ ap (λ p. take at paths ++ p ∷ []) (sym is)) ∙ map-append bytes (take at paths) (path ∷ [])))
+    (all_zipped_more (IsOfFile gives files) (map bytes (take at paths)) readers (bytes path) reader opened here)
+
+-- the readers of all paths, of which there is one
+pub opened_whole : {A R : Type 0} (gives : R → Rest → Type 0) (bytes : A → List ℕ) (input : Option (List ℕ)) (files : List ℕ → Option (List ℕ)) (paths : List A) (at : ℕ) (readers : List R)
+    → 0 < length paths → length paths ≤ at → AllZip (IsOfFile gives files) (map bytes (take at paths)) readers → AreOpened gives input files (map bytes paths) readers
+opened_whole gives bytes input files [] at readers some all opened = absurd (omega arith)
+opened_whole gives bytes input files (path ∷ paths) at readers some all opened =
+    subst (λ ps. AllZip (IsOfFile gives files) (map bytes ps) readers) (take_all at (path ∷ paths) all) opened
+
+-- no path is known to be absent, of one more
+neither_is : (a b : Bool) → a ≡ false → b ≡ false → (a || b) ≡ false
+neither_is a b one other = λ i. one i || other i
+
+any_push : {A : Type 0} (p : A → Bool) (xs : List A) (x : A) → list_any p xs ≡ false → p x ≡ false → list_any p (xs ++ x ∷ []) ≡ false
+any_push p [] x none here = neither_is (p x) (list_any p []) here refl
+any_push p (y ∷ xs) x none here =
+    let both = neither (p y) (list_any p xs) none in
+    neither_is (p y) (list_any p (xs ++ x ∷ [])) both.0 (any_push p xs x both.1 here)
+
+pub present_more : {A : Type 0} (absent : List ℕ → Bool) (bytes : A → List ℕ) (paths : List A) (at : ℕ) (path : A) → at < length paths → path ≡ get_or paths at path
+    → list_any absent (map bytes (take at paths)) ≡ false → absent (bytes path) ≡ false → list_any absent (map bytes (take (at + 1) paths)) ≡ false
+present_more absent bytes paths at path below is none here =
+    subst (λ ps. list_any absent ps ≡ false)
+    (sym (ap (map bytes) (take_more paths at path below ∙ ap (λ p. take at paths ++ p ∷ []) (sym is)) ∙ map-append bytes (take at paths) (path ∷ [])))
+    (any_push absent (map bytes (take at paths)) (bytes path) none here)
+
+pub present_whole : {A : Type 0} (absent : List ℕ → Bool) (bytes : A → List ℕ) (paths : List A) (at : ℕ) → length paths ≤ at → list_any absent (map bytes (take at paths)) ≡ false → list_any absent (map bytes paths) ≡ false
+present_whole absent bytes paths at all none = subst (λ ps. list_any absent (map bytes ps) ≡ false) (take_all at paths all) none
+
+pub not_true : (b : Bool) → (b ≡ true → false ≡ true) → b ≡ false
+not_true true never = sym (never refl)
+not_true false never = refl

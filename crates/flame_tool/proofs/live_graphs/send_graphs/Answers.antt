@@ -1,0 +1,104 @@
+use Rattle.std.proofs.Common.{rules, ◌≡◌, ◌∙◌, [], Some, ap, subst, sym, length}
+use Rattle.std.specs.Io.KnownBytes.{Appends}
+use Rattle.byte_io.specs.Pieces.{AppendsFront}
+use Rattle.command_line.specs.declared.plans.View.TheVariants.{Graph}
+use Rattle.opened_sources.specs.Failures.{failure_of_collect}
+use Rattle.opened_sources.specs.declared.failures.Failure.TheVariants.{Output, OutOfMemory}
+use Rattle.ring_collect.specs.Collection.{CollectsRun}
+use Rattle.ring_collect.proofs.GivenRests.{any_given, given_count}
+use Rattle.live_lines.specs.Lines.{live_text}
+use Rattle.flame_tool.specs.LiveRuns.{ShowsFirst}
+use Rattle.flame_tool.specs.checked.LiveEnds.{EndsLive, FailsLive, anywhere, status_of_ends}
+use Rattle.flame_tool.proofs.LiveSinks.{all_shown, collect_failed, err_because, front_of_sink, none_shown, part_shown, same_setting, text_of_run}
+use Rattle.flame_tool.proofs.live_graphs.send_graphs.Goals as goal
+
+pub returns-in_err-gate-clause-err : goal.returns-in_err-gate-clause-err
+returns-in_err-gate-clause-err g c =
+    err_because c.from_residual.result OutOfMemory _ c.from_residual.ensures.1
+    (any_given (λ reader. g.R.RowReader.gives reader) c.args.readers.items c.requires.possible
+    (λ rests same. none_shown c.args.plan.now c.in-Graph.width c.in-Some.every c.in-Graph.is c.in-Some.is (g.W.Outlet.contents c.args.out.now) rests))
+
+-- what the sink left in the outlet is what the outlet is left with
+
+pub returns-in_err-run-clause-err : goal.returns-in_err-run-clause-err
+returns-in_err-run-clause-err g c =
+    let answer = c.in_err-run.ensures.answer in
+    let sink = c.new-sink.result in
+    let left = c.collect_streams-collected.new.sink in
+    let same = same_setting sink.out.ghost_name left.out.ghost_name (g.W.Outlet.contents sink.lines.start.value) (g.W.Outlet.contents left.lines.start.value) (g.W.Outlet.failures sink.lines.start.value)
+    (g.W.Outlet.failures left.lines.start.value) sink.lines.merge.sources left.lines.merge.sources sink.lines.width left.lines.width sink.lines.every left.lines.every c.collect_streams-collected.ensures.setting in
+    let graph : c.args.plan.now.view ≡ Graph sink.lines.width = c.in-Graph.is ∙ ap (λ width. Graph width) (sym c.new-sink.ensures.width) in
+    let often : c.args.plan.now.options.every ≡ Some sink.lines.every = c.in-Some.is ∙ ap (λ every. Some every) (sym c.new-sink.ensures.every) in
+    let merge = c.new-sink.ensures.merge ∙ c.in_ok-gate.ensures in
+    let none : sink.lines.merge.taken ≡ [] = ap (λ merge. merge.taken) merge in
+    let many : c.len.result ≡ length c.args.readers.items = search rules in
+    let count : sink.lines.merge.sources ≡ length answer.rests =
+    ap (λ merge. merge.sources) merge ∙ many ∙ sym (given_count (λ reader. g.R.RowReader.gives reader) c.args.readers.items answer.rests answer.are_given) in
+    let last = c.in_err-run.out-1-own.given.1 (sym (same.name_is ∙ c.new-sink.ensures.outlet)) in
+    let failure = failure_of_collect c.in_err-run.field-0.0 in
+    err_because c.from_residual-in_err-run.result failure _ c.from_residual-in_err-run.ensures.1 (record {
+      rests = answer.rests;
+      are_given = answer.are_given;
+      holds = subst (λ out. FailsLive c.args.plan.now (g.W.Outlet.contents c.args.out.now) (g.W.Outlet.contents out) failure answer.rests) (sym last)
+          (subst (λ start. FailsLive c.args.plan.now (g.W.Outlet.contents start) (g.W.Outlet.contents left.out.now) failure answer.rests) c.new-sink.ensures.start
+          (collect_failed c.args.plan.now sink.lines.width sink.lines.every graph often (g.W.Outlet.contents sink.lines.start.value) (g.W.Outlet.contents left.out.now) sink.lines.merge.sources sink.lines.merge.taken
+          left.lines.merge.taken answer.rests count none c.in_err-run.field-0.0 answer.holds (front_of_sink left.lines.merge.taken (g.W.Outlet.contents left.out.now) same left.front)));
+    })
+
+pub returns-in_err-finish-clause-err : goal.returns-in_err-finish-clause-err
+returns-in_err-finish-clause-err g c =
+    let answer = c.in_ok-run.ensures.answer in
+    let sink = c.new-sink.result in
+    let left = c.collect_streams-collected.new.sink in
+    let same = same_setting sink.out.ghost_name left.out.ghost_name (g.W.Outlet.contents sink.lines.start.value) (g.W.Outlet.contents left.lines.start.value) (g.W.Outlet.failures sink.lines.start.value)
+    (g.W.Outlet.failures left.lines.start.value) sink.lines.merge.sources left.lines.merge.sources sink.lines.width left.lines.width sink.lines.every left.lines.every c.collect_streams-collected.ensures.setting in
+    let graph : c.args.plan.now.view ≡ Graph sink.lines.width = c.in-Graph.is ∙ ap (λ width. Graph width) (sym c.new-sink.ensures.width) in
+    let often : c.args.plan.now.options.every ≡ Some sink.lines.every = c.in-Some.is ∙ ap (λ every. Some every) (sym c.new-sink.ensures.every) in
+    let merge = c.new-sink.ensures.merge ∙ c.in_ok-gate.ensures in
+    let none : sink.lines.merge.taken ≡ [] = ap (λ merge. merge.taken) merge in
+    let many : c.len.result ≡ length c.args.readers.items = search rules in
+    let count : sink.lines.merge.sources ≡ length answer.rests =
+    ap (λ merge. merge.sources) merge ∙ many ∙ sym (given_count (λ reader. g.R.RowReader.gives reader) c.args.readers.items answer.rests answer.are_given) in
+    let last = c.out-2-1.given.1 (sym (same.name_is ∙ c.new-sink.ensures.outlet)) in
+    let lists = c.in_ok-run.run'.lists.items in
+    let order = c.in_ok-run.run'.order.items in
+    let run = subst (λ taken. CollectsRun anywhere anywhere answer.rests taken left.lines.merge.taken lists order) none answer.holds.run in
+    let text = text_of_run answer.rests left.lines.merge.taken lists order same count run in
+    let gained = subst (λ contents. AppendsFront (live_text left.lines.merge.sources left.lines.width left.lines.every left.lines.merge.taken) contents (g.W.Outlet.contents c.finish.new.out)) same.contents_are c.in_err-finish.ensures.front in
+    err_because c.from_residual-in_err-finish.result (Output c.in_err-finish.field-0.0) _ c.from_residual-in_err-finish.ensures.1 (record {
+      rests = answer.rests;
+      are_given = answer.are_given;
+      holds = subst (λ out. ShowsFirst c.args.plan.now (g.W.Outlet.contents c.args.out.now) (g.W.Outlet.contents out) answer.rests) (sym last)
+          (subst (λ start. ShowsFirst c.args.plan.now (g.W.Outlet.contents start) (g.W.Outlet.contents c.finish.new.out) answer.rests) c.new-sink.ensures.start
+          (part_shown c.args.plan.now sink.lines.width sink.lines.every graph often (g.W.Outlet.contents sink.lines.start.value) (g.W.Outlet.contents c.finish.new.out) answer.rests left.lines.merge.taken lists order run _ text gained));
+    })
+
+pub returns-clause-ok : goal.returns-clause-ok
+returns-clause-ok g c =
+    let answer = c.in_ok-run.ensures.answer in
+    let sink = c.new-sink.result in
+    let left = c.collect_streams-collected.new.sink in
+    let same = same_setting sink.out.ghost_name left.out.ghost_name (g.W.Outlet.contents sink.lines.start.value) (g.W.Outlet.contents left.lines.start.value) (g.W.Outlet.failures sink.lines.start.value)
+    (g.W.Outlet.failures left.lines.start.value) sink.lines.merge.sources left.lines.merge.sources sink.lines.width left.lines.width sink.lines.every left.lines.every c.collect_streams-collected.ensures.setting in
+    let graph : c.args.plan.now.view ≡ Graph sink.lines.width = c.in-Graph.is ∙ ap (λ width. Graph width) (sym c.new-sink.ensures.width) in
+    let often : c.args.plan.now.options.every ≡ Some sink.lines.every = c.in-Some.is ∙ ap (λ every. Some every) (sym c.new-sink.ensures.every) in
+    let merge = c.new-sink.ensures.merge ∙ c.in_ok-gate.ensures in
+    let none : sink.lines.merge.taken ≡ [] = ap (λ merge. merge.taken) merge in
+    let many : c.len.result ≡ length c.args.readers.items = search rules in
+    let count : sink.lines.merge.sources ≡ length answer.rests =
+    ap (λ merge. merge.sources) merge ∙ many ∙ sym (given_count (λ reader. g.R.RowReader.gives reader) c.args.readers.items answer.rests answer.are_given) in
+    let last = c.out-2-1.given.1 (sym (same.name_is ∙ c.new-sink.ensures.outlet)) in
+    let lists = c.in_ok-run.run'.lists.items in
+    let order = c.in_ok-run.run'.order.items in
+    let run = subst (λ taken. CollectsRun anywhere anywhere answer.rests taken left.lines.merge.taken lists order) none answer.holds.run in
+    let text = text_of_run answer.rests left.lines.merge.taken lists order same count run in
+    let gained = subst (λ contents. Appends contents (g.W.Outlet.contents c.finish.new.out) (live_text left.lines.merge.sources left.lines.width left.lines.every left.lines.merge.taken)) same.contents_are c.in_ok-finish.ensures.ok in
+    let told = ap status_of_ends (sym c.deref-2.ensures.value) ∙ sym c.status_of_ends.ensures in
+    record {
+      rests = answer.rests;
+      are_given = answer.are_given;
+      holds = subst (λ out. EndsLive c.args.plan.now (g.W.Outlet.contents c.args.out.now) (g.W.Outlet.contents out) c.status_of_ends.result answer.rests) (sym last)
+          (subst (λ start. EndsLive c.args.plan.now (g.W.Outlet.contents start) (g.W.Outlet.contents c.finish.new.out) c.status_of_ends.result answer.rests) c.new-sink.ensures.start
+          (subst (λ status. EndsLive c.args.plan.now (g.W.Outlet.contents sink.lines.start.value) (g.W.Outlet.contents c.finish.new.out) status answer.rests) told
+          (all_shown c.args.plan.now sink.lines.width sink.lines.every graph often (g.W.Outlet.contents sink.lines.start.value) (g.W.Outlet.contents c.finish.new.out) answer.rests left.lines.merge.taken lists order run _ text gained)));
+    }

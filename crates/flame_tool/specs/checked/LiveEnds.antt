@@ -1,0 +1,65 @@
+-- How a live run of readers ended, by the rests that these may give.
+use Rattle.std.specs.Prelude.{◌≡◌, ◌⊎◌, ℕ, Bool, true, false, All, List, Option, Result, Ok, Err, if◌then◌else◌, length}
+use Rattle.std.specs.List.{list_any}
+use Rattle.std.specs.Io.KnownBytes.{Appends}
+use Rattle.stack_core.specs.Interleaving.{IsInterleaving}
+use Rattle.stack_core.specs.Ledgers.{ListState}
+use Rattle.stack_core.specs.Reading.{Rest}
+use Rattle.stack_core.specs.declared.endings.SourceEnd.{SourceEnd}
+use Rattle.stack_core.specs.declared.endings.SourceEnd.TheVariants as ends
+use Rattle.merged_stacks.specs.Timeline.{samples_of}
+use Rattle.command_line.specs.declared.plans.Plan.{Plan}
+use Rattle.ring_collect.specs.Collection.{Collects}
+use Rattle.opened_sources.specs.Failures.{has_fault, status_of}
+use Rattle.opened_sources.specs.declared.failures.Failure.{Failure}
+use Rattle.opened_sources.specs.declared.failures.Failure.TheVariants.{TooManyFiles, Unreadable, TooLarge, OutOfMemory, NoThread, Unfinished, Faults, Output}
+use Rattle.flame_tool.specs.LiveRuns.{ShowsFirst, ShowsLive, ShowsSome, lines_of, read_texts}
+use Rattle.flame_tool.specs.Runs.{HasFault, IsClean}
+
+-- the source was stopped, or a read of it failed
+abbrev pub is_stopped : SourceEnd → Bool
+is_stopped (ends.Clean ignored) = false
+is_stopped (ends.Fault fault) = false
+is_stopped (ends.Stopped after) = true
+
+-- the exit status of a run that went to its end, where a source is stopped, and where one has a fault
+abbrev pub status_by : Bool → Bool → ℕ
+status_by stopped faulty = if stopped then 3 else (if faulty then 1 else 0)
+
+abbrev pub status_of_ends : List ListState → ℕ
+status_of_ends lists = status_by (list_any (λ list. is_stopped list.ending) lists) (has_fault lists)
+
+-- wherever it may be
+abbrev pub anywhere : ℕ → ℕ → Type 0
+anywhere source index = Unit {0}
+
+-- it went to its end: the lines of what was collected are written, and the status tells the endings
+pub record EndsLive (plan : Plan) (old new : Option (List ℕ)) (status : ℕ) (rests : List Rest) : Type 0 where
+  pub lists : List ListState
+  pub collected : Collects anywhere anywhere rests lists
+  pub order : List ℕ
+  pub ordered : IsInterleaving order (samples_of lists)
+  pub gained : Appends old new (lines_of plan (samples_of lists) order)
+  pub told : status ≡ status_of_ends lists
+
+-- it failed on the way
+abbrev pub FailsLive : Plan → Option (List ℕ) → Option (List ℕ) → Failure → List Rest → Type 0
+FailsLive plan old new TooManyFiles rests = ⊥
+FailsLive plan old new (Unreadable source) rests = ⊥
+FailsLive plan old new (TooLarge source) rests = ⊥
+FailsLive plan old new OutOfMemory rests = ShowsFirst plan old new rests
+FailsLive plan old new NoThread rests = ShowsFirst plan old new rests
+FailsLive plan old new (Unfinished source) rests = ShowsSome plan old new (length rests)
+FailsLive plan old new Faults rests = ⊥
+FailsLive plan old new (Output fault) rests = ShowsFirst plan old new rests
+
+-- the exit status of a run
+abbrev pub live_status : Result ℕ Failure → ℕ
+live_status (Ok status) = status
+live_status (Err failure) = status_of failure
+
+-- what the exit status says of the texts of streams, and of the output
+pub record TellsTexts (plan : Plan) (old new : Option (List ℕ)) (status : ℕ) (texts : List (List ℕ)) : Type 0 where
+  pub shown : status ≡ 0 → All (λ rest. IsClean rest.ending) (read_texts texts) × ShowsLive plan old new (read_texts texts)
+  pub faulty : status ≡ 1 → HasFault (read_texts texts) × ShowsLive plan old new (read_texts texts)
+  pub front : status ≡ 3 → ShowsFirst plan old new (read_texts texts) ⊎ ShowsSome plan old new (length texts)

@@ -1,0 +1,116 @@
+//! The graphs of streams, drawn while their samples come.
+ghost use Rattle.std.specs.Prelude.{◌≡◌, ◌≤◌, [], All, IfErr, IfOk, IfSome, OnOk, length};
+ghost use Rattle.std.specs.List.{list_any};
+ghost use Rattle.command_line.specs.Plans.{IsOfStreams};
+ghost use Rattle.ring_collect.specs.Collection.{GiveSuch};
+ghost use Rattle.stack_core.specs.RowReading.{GivesSome};
+ghost use Rattle.flame_tool.specs.checked.LiveEnds.{EndsLive, FailsLive, is_stopped, status_of_ends};
+
+use crate::hosts::Host;
+use byte_io::Outlet;
+use command_line::{Plan, View};
+use live_lines::{LiveGate, LiveMerge, LiveSink};
+use opened_sources::{Failure, any_fault, report_ending, report_failure};
+use ring_collect::collect_streams;
+use stack_core::{RowReader, SourceEnd, SourceList};
+use std::alloc::{AllocError, Global};
+use std::sync::{Arc, Wait};
+use std::thread::Threads;
+
+// Sends the lines of the samples that readers give, each as soon as the last of its samples came, and says how the sources ended. It
+// answers the exit status.
+pub(crate) fn send_graphs<
+    T: Threads + Wait + Copy + Send + 'static,
+    R: RowReader + Send + Drop + 'static,
+    W: Outlet,
+    E: Outlet,
+>(host: &Host<'_, T>, plan: &Plan, readers: Vec<R>, out: &mut W, err: &mut E) -> Result<u8, Failure>
+    requires live { IsOfStreams plan.now }
+    requires every { IfSome plan.now.options.every (λ every. 1 ≤ every) }
+    requires few { length readers.items ≤ 64 }
+    requires nothing_told { All (λ reader. R.told reader ≡ record { names = []; stacks = [] })
+        readers.items }
+    requires possible { All (λ reader. GivesSome (R.gives reader)) readers.items }
+    ensures ok { IfOk result (λ status. GiveSuch (λ reader. R.gives reader) readers.items
+        (EndsLive plan.now (W.contents out.old) (W.contents out.new) status)) }
+    ensures err { IfErr result (λ failure. GiveSuch (λ reader. R.gives reader) readers.items
+        (FailsLive plan.now (W.contents out.old) (W.contents out.new) failure)) }
+    ensures flushed { OnOk result (W.is_flushed out.new) }
+    ensures unfailed { OnOk result (W.failures out.new ≡ W.failures out.old) }
+{
+    let View::Graph(width) = plan.view else {
+        unreachable!()
+    };
+    let Some(every) = plan.options.every else {
+        unreachable!()
+    };
+    let (rt, alloc) = (host.rt, host.alloc);
+    let LiveParts {
+        gate,
+        closed_by,
+        merge,
+    } = live_parts(alloc, readers.len())?;
+    let mut sink = LiveSink::new(merge, every, width, closed_by, out);
+    let collected = collect_streams(rt, alloc, readers, plan.options.ring, gate, &mut sink);
+    let LiveSink { lines, out } = sink;
+    let run = collected?;
+    report_ends(err, plan.files.get(), &run.lists, lines.failure.is_none());
+    lines.finish(alloc, out)?;
+    Ok(status_of_ends(&run.lists))
+}
+
+// What a live run needs before a sample comes.
+#[derive(Drop)]
+struct LiveParts {
+    gate: Arc<LiveGate>,
+    // The same gate, which the sink closes.
+    closed_by: Arc<LiveGate>,
+    merge: LiveMerge,
+}
+
+fn live_parts(alloc: Global, sources: usize) -> Result<LiveParts, AllocError>
+    ensures { IfOk result (λ parts. parts.merge ≡ record { sources = sources; taken = [] }) }
+{
+    let gate = Arc::new(alloc, LiveGate::new())?;
+    Ok(LiveParts {
+        closed_by: Arc::try_clone(&gate)?,
+        gate,
+        merge: LiveMerge::new(alloc, sources)?,
+    })
+}
+
+// Says of each source, in order, how it ended, where there is something to say. Unless the sink stopped the sources, a read failed
+// where one is stopped.
+fn report_ends<E: Outlet>(err: &mut E, files: &[String], lists: &[SourceList], is_read: bool) {
+    for (source, list) in lists.iter().enumerate() {
+        if is_read && is_stopped(list.ending()) {
+            report_failure(err, files, Failure::Unreadable { source });
+        } else {
+            report_ending(err, files, source, list.ending());
+        }
+    }
+}
+
+fn status_of_ends(lists: &[SourceList]) -> u8
+    ensures { result ≡ status_of_ends lists.now }
+{
+    if any_stopped(lists) {
+        3
+    } else if any_fault(lists) {
+        1
+    } else {
+        0
+    }
+}
+
+fn any_stopped(lists: &[SourceList]) -> bool
+    ensures { result ≡ list_any (λ list. is_stopped list.ending) lists.now }
+{
+    lists.iter().any(|list| is_stopped(list.ending()))
+}
+
+fn is_stopped(ending: &SourceEnd) -> bool
+    ensures { result ≡ is_stopped ending.now }
+{
+    matches!(ending, SourceEnd::Stopped { after: _ })
+}

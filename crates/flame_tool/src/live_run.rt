@@ -1,0 +1,135 @@
+//! A run over streams: its lines are written while their samples come.
+ghost use Rattle.std.specs.Prelude.{◌≡◌, ◌≢◌, ◌≤◌, ◌<◌, ◌⊎◌, true, Some, All, IfSome, length, map, string_bytes};
+ghost use Rattle.std.specs.List.{list_any};
+ghost use Rattle.std.specs.Io.KnownBytes.{Keeps};
+ghost use Rattle.command_line.specs.Plans.{IsOfStreams, plan_of};
+ghost use Rattle.flame_tool.specs.LiveRuns.{ShowsFirst, ShowsLive, ShowsSome, known_texts, read_texts};
+ghost use Rattle.flame_tool.specs.Runs.{FailsUntouched, HasFault, IsClean};
+ghost use Rattle.flame_tool.specs.checked.LiveEnds.{TellsTexts, live_status};
+
+use crate::hosts::Host;
+use crate::live_graphs::send_graphs;
+use crate::live_streams::{StreamReader, open_streams};
+use byte_io::{Outlet, Streams};
+use command_line::{Form, Plan, plan};
+use folded_lines::FoldedStream;
+use opened_sources::{Failure, report_awaited_input, report_failure};
+use run_options::Format;
+use std::alloc::Global;
+use std::sync::Wait;
+use std::thread::Threads;
+
+/// Runs a plan of `live` over streams of folded text, and answers its exit status. All streams are opened before anything is read. A line
+/// of each snapshot of their graph is written and flushed as soon as its last sample came, and at the end the line of the graph. Then
+/// `err` is told of each source its fault, how many lines were ignored, or that it could not be read to its end.
+///
+/// 0 says that all of each source was read. 1 says that a source has a fault: its samples before are shown, and the others to
+/// their ends. 2 are more than 64 files. 3 says that a source can't be opened or read, that there is no memory or no thread, or that the
+/// output fails, of which each comes before 1; where the output fails, the sources are stopped at their next samples.
+pub fn live<T: Threads + Wait + Copy + Send + 'static, S: Streams, W: Outlet, E: Outlet>(
+    rt: &T,
+    alloc: Global,
+    plan: &Plan,
+    streams: &mut S,
+    out: &mut W,
+    err: &mut E,
+) -> u8
+    requires live { IsOfStreams plan.now }
+    requires every { IfSome plan.now.options.every (λ every. 1 ≤ every) }
+    ensures status { result ≤ 3 }
+
+    // 0 and 1 mean that what was written was flushed, too, and that no call of the output failed.
+    ensures flushed { result ≤ 1 → W.is_flushed out.new }
+    ensures unfailed { result ≢ 3 → W.failures out.new ≡ W.failures out.old }
+
+    // Over streams whose bytes are known, 0 says that none of them has a fault, and that the lines of all their samples went out.
+    ensures shown { result ≡ 0 → IfSome (known_texts plan.now.files (S.known_input streams.old)
+        (S.known_file streams.old)) (λ texts.
+        All (λ rest. IsClean rest.ending) (read_texts texts)
+        × ShowsLive plan.now (W.contents out.old) (W.contents out.new) (read_texts texts)) }
+
+    // 1 says that one has a fault; the lines of all samples before it and of those of the others went out, too.
+    ensures faulty { result ≡ 1 → IfSome (known_texts plan.now.files (S.known_input streams.old)
+        (S.known_file streams.old)) (λ texts. HasFault (read_texts texts)
+        × ShowsLive plan.now (W.contents out.old) (W.contents out.new) (read_texts texts)) }
+    ensures many { result ≡ 2 → 64 < length plan.now.files }
+    ensures few { result ≢ 2 → length plan.now.files ≤ 64 }
+    ensures refused { result ≡ 2 → Keeps (W.contents out.old) (W.contents out.new) }
+
+    // 3 leaves the lines of first samples of each source, or a front of them, or of some samples of these sources where it isn't known
+    // whether all of one was received.
+    ensures front { result ≡ 3 → IfSome (known_texts plan.now.files (S.known_input streams.old)
+        (S.known_file streams.old)) (λ texts.
+        ShowsFirst plan.now (W.contents out.old) (W.contents out.new) (read_texts texts)
+        ⊎ ShowsSome plan.now (W.contents out.old) (W.contents out.new) (length texts)) }
+
+    // Where a file is known to be absent, nothing is written.
+    ensures absent { list_any (S.is_absent streams.old) plan.now.files ≡ true
+        → FailsUntouched result (W.contents out.old) (W.contents out.new)
+        (W.failures out.old) (W.failures out.new) }
+{
+    let paths = plan.files.get();
+    if paths.is_empty() && streams.is_input_terminal() {
+        report_awaited_input(err, Format::Folded);
+    }
+    let host = Host { rt, alloc };
+    match show_live::<T, S, FoldedStream<S::Inlet>, W, E>(&host, plan, streams, out, err) {
+        Ok(status) => status,
+        Err(failure) => {
+            report_failure(err, paths, failure);
+            failure.status()
+        }
+    }
+}
+
+// Opens the streams, reads them by readers of this type, and sends the lines of their graph.
+fn show_live<
+    T: Threads + Wait + Copy + Send + 'static,
+    S: Streams,
+    R: StreamReader<S::Inlet> + Send + Drop + 'static,
+    W: Outlet,
+    E: Outlet,
+>(host: &Host<'_, T>, plan: &Plan, streams: &mut S, out: &mut W, err: &mut E) -> Result<u8, Failure>
+    requires live { IsOfStreams plan.now }
+    requires every { IfSome plan.now.options.every (λ every. 1 ≤ every) }
+    ensures status { live_status result ≤ 3 }
+    ensures flushed { live_status result ≤ 1 → W.is_flushed out.new }
+    ensures unfailed { live_status result ≢ 3 → W.failures out.new ≡ W.failures out.old }
+    ensures told { IfSome (known_texts plan.now.files (S.known_input streams.old)
+        (S.known_file streams.old))
+        (TellsTexts plan.now (W.contents out.old) (W.contents out.new) (live_status result)) }
+    ensures many { live_status result ≡ 2 → 64 < length plan.now.files }
+    ensures few { live_status result ≢ 2 → length plan.now.files ≤ 64 }
+    ensures refused { live_status result ≡ 2 → Keeps (W.contents out.old) (W.contents out.new) }
+    ensures absent { list_any (S.is_absent streams.old) plan.now.files ≡ true
+        → FailsUntouched (live_status result) (W.contents out.old) (W.contents out.new)
+        (W.failures out.old) (W.failures out.new) }
+{
+    let readers: Vec<R> = open_streams(host.alloc, streams, plan.files.get())?;
+    send_graphs(host, plan, readers, out, err)
+}
+
+/// The plan of words that ask for `live`. There is none for any other words, for those that are refused, and for want of memory: `run`
+/// answers them.
+pub fn live_plan(alloc: Global, words: &[String]) -> Option<Plan>
+    ensures plan { IfSome result (λ plan. plan_of (map string_bytes words.now) ≡ Some plan) }
+    ensures form { IfSome result (λ plan. plan.form ≡ Form.Live) }
+    ensures live { IfSome result IsOfStreams }
+    ensures every { IfSome result (λ plan. IfSome plan.options.every (λ every. 1 ≤ every)) }
+{
+    match plan(alloc, words) {
+        Ok(plan) => if_live(plan),
+        Err(_) => None,
+    }
+}
+
+// The plan, if it is one of `live`.
+fn if_live(plan: Plan) -> Option<Plan>
+    ensures same { IfSome result (λ other. other ≡ plan) }
+    ensures form { IfSome result (λ _. plan.form ≡ Form.Live) }
+{
+    match plan.form {
+        Form::Live => Some(plan),
+        _ => None,
+    }
+}

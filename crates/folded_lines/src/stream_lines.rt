@@ -1,0 +1,153 @@
+//! The lines of a stream, one after another, as they come.
+
+ghost use Rattle.std.specs.Prelude.{◌≡◌, ◌≢◌, ◌<◌, ◌≤◌, ◌^◌, ◌∷◌, [], true, false, length, take, drop, Some, None, Ok, IfOk, IfSome, OnErr, OnOk};
+ghost use Rattle.memchr.specs.Find.{IsFirstByte, is_byte};
+ghost use Rattle.folded_lines.specs.Streams.{Coming};
+ghost use Rattle.folded_lines.specs.Lines.{text_lines};
+
+use crate::cursor::without_cr;
+use crate::line_buffer::LineBuffer;
+use byte_io::Inlet;
+use std::alloc::{AllocError, Global};
+
+/// Whether more may come of a stream.
+#[derive(Clone, Copy, Debug, PartialEq, Eq)]
+pub(crate) enum StreamState {
+    /// More may come.
+    Open,
+    /// It came to its end.
+    Ended,
+    /// A read failed.
+    Failed,
+}
+
+/// A line that was found.
+#[derive(Clone, Copy, Debug)]
+pub(crate) struct FoundLine {
+    /// How many bytes it has without its end.
+    len: usize,
+    /// How many bytes it has with its end.
+    next: usize,
+}
+
+/// The lines of a stream, each as soon as it came.
+#[derive(Drop)]
+pub(crate) struct StreamLines<I> {
+    pub(crate) inlet: I,
+    pub(crate) state: StreamState,
+    /// What was read and not given.
+    buffer: LineBuffer,
+    ghost short: { length buffer < 2 ^ 63 },
+}
+
+impl<I: Inlet> StreamLines<I> {
+    ghost use Rattle.folded_lines.specs.checked.StreamLines.{LinesMayCome, IsLineOf, HasNone, line_of_found, unread_of};
+
+    /// The lines of what comes from here on. It takes no memory.
+    pub(crate) fn over(alloc: Global, inlet: I) -> Self
+        ensures inlet { result.inlet ≡ inlet }
+        ensures unread { unread_of result ≡ [] }
+        ensures state { result.state ≡ StreamState.Open }
+    {
+        StreamLines {
+            inlet,
+            state: StreamState::Open,
+            buffer: LineBuffer::new(alloc),
+        }
+    }
+
+    /// Finds the next line, without taking it off. `None` where there is none: at the end, or where a read failed, which drops what stands
+    /// behind the last LF. It reads only where no whole line was read, and once a time, so that a line is given as soon as it came. Want
+    /// of memory comes only where a line doesn't fit, and drops nothing.
+    pub(crate) fn find_line(&mut self) -> Result<Option<FoundLine>, AllocError>
+        ensures kept { (coming : Coming) →
+            LinesMayCome (I.remaining self.new.inlet) (I.is_sure self.new.inlet) self.new coming
+            → LinesMayCome (I.remaining self.old.inlet) (I.is_sure self.old.inlet) self.old coming }
+        ensures line { IfOk result (λ found. IfSome found (IsLineOf self.new)) }
+        ensures closed { result ≡ Ok None → HasNone self.new }
+        ensures surety { I.is_sure self.new.inlet ≡ I.is_sure self.old.inlet }
+    {
+        if self.state == StreamState::Failed {
+            return Ok(None);
+        }
+        'more: loop {
+            if let Some(at) = self.buffer.find_feed() {
+                return Ok(Some(self.line_before(at)));
+            }
+            if !self.read_more()? {
+                return Ok(self.last_line());
+            }
+        }
+    }
+
+    /// The line before the first LF.
+    fn line_before(&self, at: usize) -> FoundLine
+        requires feed { IsFirstByte (is_byte 10) (unread_of self.now) (Some at) }
+        requires unfailed { self.now.state ≢ StreamState.Failed }
+        ensures { IsLineOf self.now result }
+    {
+        FoundLine {
+            len: without_cr(self.buffer.front(at)).len(),
+            next: at + 1,
+        }
+    }
+
+    /// Reads once, where more may come, and answers whether anything did.
+    fn read_more(&mut self) -> Result<bool, AllocError>
+        ensures kept { (coming : Coming) →
+            LinesMayCome (I.remaining self.new.inlet) (I.is_sure self.new.inlet) self.new coming
+            → LinesMayCome (I.remaining self.old.inlet) (I.is_sure self.old.inlet) self.old coming }
+        ensures more { result ≡ Ok true → length (unread_of self.old) < length (unread_of self.new) }
+        ensures open { result ≡ Ok true → self.new.state ≡ StreamState.Open }
+        ensures stops { result ≡ Ok false → self.new.state ≢ StreamState.Open }
+        ensures same { result ≡ Ok false → unread_of self.new ≡ unread_of self.old }
+        ensures surety { I.is_sure self.new.inlet ≡ I.is_sure self.old.inlet }
+    {
+        let StreamState::Open = self.state else {
+            return Ok(false);
+        };
+        match self.buffer.read(&mut self.inlet)? {
+            Some(0) => self.state = StreamState::Ended,
+            Some(_) => return Ok(true),
+            None => self.state = StreamState::Failed,
+        }
+        Ok(false)
+    }
+
+    /// What stands behind the last LF, if anything does, where no LF is left.
+    fn last_line(&self) -> Option<FoundLine>
+        requires stops { self.now.state ≢ StreamState.Open }
+        requires unfed { IsFirstByte (is_byte 10) (unread_of self.now) None }
+        ensures line { IfSome result (IsLineOf self.now) }
+        ensures closed { result ≡ None → HasNone self.now }
+    {
+        let len = self.buffer.len();
+        if self.state == StreamState::Ended && len > 0 {
+            Some(FoundLine { len, next: len })
+        } else {
+            None
+        }
+    }
+
+    /// The bytes of a line that was found.
+    pub(crate) fn line(&self, found: FoundLine) -> &[u8]
+        requires { IsLineOf self.now found }
+        ensures { result.now ≡ line_of_found self.now found }
+    {
+        self.buffer.front(found.len)
+    }
+
+    /// Takes a line off that was found.
+    pub(crate) fn pass(&mut self, found: FoundLine)
+        requires { IsLineOf self.old found }
+        ensures line { (after : Coming) →
+            LinesMayCome (I.remaining self.new.inlet) (I.is_sure self.new.inlet) self.new after
+            → (before : Coming)
+            × LinesMayCome (I.remaining self.old.inlet) (I.is_sure self.old.inlet) self.old before
+            × (before.fails ≡ after.fails)
+            × (text_lines before.bytes ≡ line_of_found self.old found ∷ text_lines after.bytes) }
+        ensures surety { I.is_sure self.new.inlet ≡ I.is_sure self.old.inlet }
+    {
+        self.buffer.drop_front(found.next);
+    }
+}

@@ -1,0 +1,149 @@
+//! What a reader of a stream told, and the line of a head that it meets.
+
+ghost use Rattle.std.specs.Prelude.{◌≡◌, ◌≤◌, ◌==◌, ◌&&◌, [], length, IfOk, IfSome, MatchOption, OnErr};
+ghost use Rattle.sample_tables.specs.Rows.{name_at};
+ghost use Rattle.stack_core.specs.Prefixes.{IsPrefixOf};
+ghost use Rattle.folded_lines.specs.Lines.{names_of};
+ghost use Rattle.folded_lines.specs.checked.KnownStacks.{IsRowOf};
+ghost use Rattle.folded_lines.specs.checked.Scanning.{within_total, IsWithin};
+ghost use Rattle.folded_lines.specs.checked.Telling.{TellsStack};
+ghost use Rattle.folded_lines.specs.checked.RowLines.{line_of_head, line_by, TellsLine};
+ghost use Rattle.folded_lines.specs.checked.StreamReading.{line_at};
+
+use crate::cursor::Cursor;
+use crate::known_stacks::KnownStacks;
+use crate::names::without_trailing_semicolons;
+use crate::numbering::{NewStack, new_stack};
+use crate::row_lines::{Count, RowLine, count_of, fault_of};
+use crate::rows::begins_compressed;
+use call_tree::FrameTable;
+use stack_core::{ReadKind, WEIGHT_LIMIT};
+use std::alloc::{AllocError, Global};
+use std::marker::Model;
+
+/// The names and stacks that were told. Of the lines that told them no byte is kept: a stack is known by its names.
+#[derive(Drop)]
+pub(crate) struct StreamTelling {
+    names: FrameTable,
+    stacks: KnownStacks,
+    /// The numbers of the stack that was told last.
+    frames: Vec<usize>,
+}
+
+impl Model for StreamTelling {
+    ghost use Rattle.sample_tables.specs.Rows.{ToldRows};
+    ghost use Rattle.folded_lines.specs.checked.KnownStacks.{AreKnown};
+
+    ghost Value = { ToldRows };
+
+    ghost view = { λ telling. record { names = telling.names; stacks = telling.stacks } };
+
+    ghost invariant = { λ telling. AreKnown telling.names telling.stacks };
+}
+
+impl StreamTelling {
+    /// Nothing was told. It takes no memory.
+    pub(crate) fn new(alloc: Global) -> StreamTelling
+        ensures { result ≡ record { names = []; stacks = [] } }
+    {
+        StreamTelling {
+            names: FrameTable::new(alloc),
+            stacks: KnownStacks::new(alloc),
+            frames: Vec::new(alloc),
+        }
+    }
+
+    /// The name of this number, if there is one.
+    pub(crate) fn name(&self, number: usize) -> Option<&str>
+        ensures { MatchOption result (length self.now.names ≤ number)
+            (λ name. name.now ≡ name_at self.now.names number) }
+    {
+        if number < self.names.len() {
+            Some(self.names.name(number))
+        } else {
+            None
+        }
+    }
+
+    /// The row of a head's stack, where it is known.
+    fn row_of(&mut self, head: &[u8]) -> Option<usize>
+        ensures row { IfSome result (λ row. IsRowOf self.old.names self.old.stacks row head.now) }
+        ensures same { self.new ≡ self.old }
+    {
+        self.stacks
+            .find(&self.names, without_trailing_semicolons(head))
+    }
+
+    /// Tells the stack of a head, and remembers it.
+    fn tell(&mut self, alloc: Global, head: &[u8]) -> Result<NewStack, AllocError>
+        ensures tells { IfOk result (λ stack.
+            TellsStack (names_of head.now) self.old stack.names stack.frames self.new) }
+        ensures stacks { OnErr result (self.new.stacks ≡ self.old.stacks) }
+        ensures names { OnErr result (IsPrefixOf self.old.names self.new.names) }
+    {
+        let stack = new_stack(alloc, &mut self.names, &mut self.frames, head)?;
+        self.stacks
+            .remember(without_trailing_semicolons(head), stack.frames.get())?;
+        Ok(stack)
+    }
+
+    /// The line of a head and a weight, after weights that add up to the total. A fault of the head is looked for before its stack, since
+    /// a head may have the names of another that has no fault.
+    fn read_head(
+        &mut self,
+        alloc: Global,
+        head: &[u8],
+        weight: u64,
+        total: u64,
+    ) -> Result<RowLine, AllocError>
+        requires { total ≤ WEIGHT_LIMIT }
+        ensures line { IfOk result (λ line.
+            line_by self.new line ≡ within_total total (line_of_head head.now weight)) }
+        ensures within { IfOk result (λ line. IsWithin total (line_by self.new line)) }
+        ensures tells { IfOk result (λ line. TellsLine self.old line self.new) }
+        ensures stacks { OnErr result (self.new.stacks ≡ self.old.stacks) }
+        ensures names { OnErr result (IsPrefixOf self.old.names self.new.names) }
+    {
+        if let Some(kind) = fault_of(head) {
+            return Ok(RowLine::Fault(kind));
+        }
+        if weight > WEIGHT_LIMIT - total {
+            return Ok(RowLine::Fault(ReadKind::TotalTooLarge));
+        }
+        if let Some(row) = self.row_of(head) {
+            return Ok(RowLine::Again { row, weight });
+        }
+        let stack = self.tell(alloc, head)?;
+        Ok(RowLine::New {
+            names: stack.names,
+            frames: stack.frames,
+            weight,
+        })
+    }
+
+    /// Reads the line at a place. The first line tells whether the bytes are compressed.
+    pub(crate) fn read_line(
+        &mut self,
+        alloc: Global,
+        line: &[u8],
+        counts: Cursor,
+    ) -> Result<RowLine, AllocError>
+        requires { counts.total ≤ WEIGHT_LIMIT }
+        ensures line { IfOk result (λ read. line_by self.new read ≡ line_at counts line.now) }
+        ensures within { IfOk result (λ read. IsWithin counts.total (line_by self.new read)) }
+        ensures tells { IfOk result (λ read. TellsLine self.old read self.new) }
+        ensures stacks { OnErr result (self.new.stacks ≡ self.old.stacks) }
+        ensures names { OnErr result (IsPrefixOf self.old.names self.new.names) }
+    {
+        if counts.taken == 0 && begins_compressed(line) {
+            return Ok(RowLine::Fault(ReadKind::Compressed));
+        }
+        match count_of(line) {
+            Count::Ignored => Ok(RowLine::Ignored),
+            Count::Fault(kind) => Ok(RowLine::Fault(kind)),
+            Count::Weight { head, weight } => {
+                self.read_head(alloc, &line[..head], weight, counts.total)
+            }
+        }
+    }
+}

@@ -1,0 +1,94 @@
+//! Folded text that comes by a stream, read line by line, by rows of numbers.
+
+ghost use Rattle.std.specs.Prelude.{true, IsSomeAnd, ◌<◌, ◌^◌, ◌≡◌, length};
+ghost use Rattle.std.proofs.Props.{props};
+ghost use Rattle.folded_lines.specs.checked.StreamPlaces.{IsStreamPlace, ending_of};
+
+use crate::cursor::Cursor;
+use crate::stream_lines::StreamLines;
+use crate::stream_steps::next_stream_step;
+use crate::stream_telling::StreamTelling;
+use byte_io::{BytesInlet, Inlet};
+use stack_core::{KnownRows, RowReader, RowStep, SourceEnd};
+use std::alloc::{AllocError, Global};
+
+/// Reads folded text while it comes by an inlet, as `FoldedRows` reads bytes that are there. No byte of a line is kept that was read: a
+/// stack is known again by the names of its frames. A line is given as soon as its end came. Where a read fails, the lines before it count,
+/// and the ending says how many samples they gave. It counts lines in 64 bits, and wants memory where it can't.
+#[derive(Drop)]
+pub struct FoldedStream<I: Inlet> {
+    lines: StreamLines<I>,
+    /// The lines so far, at position 0.
+    counts: Cursor,
+    ended: Option<SourceEnd>,
+    telling: StreamTelling,
+    ghost place: { IsStreamPlace (I.remaining lines.inlet) (I.is_sure lines.inlet) lines counts } by { Prim.hlevel props },
+}
+
+/// The ending that a step answers.
+fn ending_of(step: &RowStep) -> Option<SourceEnd>
+    ensures { result ≡ ending_of step.now }
+{
+    match step {
+        RowStep::End(ending) => Some(*ending),
+        RowStep::New { .. } | RowStep::Again { .. } => None,
+    }
+}
+
+impl<I: Inlet> FoldedStream<I> {
+    ghost use Rattle.std.specs.Prelude.{◌≡◌, ◌↔◌, ◌<◌, ◌^◌, [], true, length, IfOk, IsOk, IsSome, IsSomeAnd, OnErr};
+    ghost use Rattle.stack_core.specs.Prefixes.{IsPrefixOf};
+    ghost use Rattle.stack_core.specs.Reading.{Rest};
+    ghost use Rattle.stack_core.specs.RowReading.{GivesSome, StepsAmong, IsLastStep, IsLimitedStep};
+    ghost use Rattle.folded_lines.specs.Streams.{StreamGives};
+    ghost use Rattle.folded_lines.specs.checked.StreamPlaces.{GivesBy};
+
+    /// A reader of the folded text that comes by an inlet. It takes no memory. Of an inlet of which no read fails, the bytes are known.
+    pub fn over(alloc: Global, inlet: I) -> Self
+        requires small { I.is_sure inlet ≡ true → IsSomeAnd (I.remaining inlet) (λ known. length known < 2 ^ 64) }
+        ensures gives { (rest : Rest) → ⟦<FoldedStream<I> as RowReader>⟧.gives result rest
+            ↔ StreamGives (I.remaining inlet) (I.is_sure inlet) rest }
+        ensures told { ⟦<FoldedStream<I> as RowReader>⟧.told result ≡ record { names = []; stacks = [] } }
+    {
+        FoldedStream {
+            lines: StreamLines::over(alloc, inlet),
+            counts: Cursor::START,
+            ended: None,
+            telling: StreamTelling::new(alloc),
+        }
+    }
+}
+
+impl<I: Inlet> RowReader for FoldedStream<I> {
+    ghost use Rattle.std.specs.Prelude.{IsSome};
+    ghost use Rattle.folded_lines.specs.checked.StreamPlaces.{GivesBy};
+
+    ghost gives = { λ stream. GivesBy (I.remaining stream.lines.inlet) (I.is_sure stream.lines.inlet) stream.lines stream.counts stream.ended };
+
+    ghost told = { λ stream. stream.telling };
+
+    ghost has_ended = { λ stream. IsSome stream.ended };
+
+    fn next_row(&mut self, alloc: Global) -> Result<RowStep, AllocError> {
+        if let Some(ending) = self.ended {
+            return Ok(RowStep::End(ending));
+        }
+        let step = next_stream_step(alloc, &mut self.lines, &mut self.counts, &mut self.telling)?;
+        self.ended = ending_of(&step);
+        Ok(step)
+    }
+
+    fn name(&self, number: usize) -> Option<&str> {
+        self.telling.name(number)
+    }
+}
+
+impl KnownRows for FoldedStream<BytesInlet> {
+    ghost use Rattle.folded_lines.specs.checked.KnownStreams.{known_gives, known_gives_no_other, known_rest};
+
+    ghost rest = { λ stream. known_rest stream.lines.inlet stream.lines stream.counts stream.ended };
+
+    ghost gives_rest = { λ stream. known_gives stream.lines.inlet stream.lines stream.counts stream.ended stream.place };
+
+    ghost gives_no_other = { λ stream. known_gives_no_other stream.lines.inlet stream.lines stream.counts stream.ended };
+}

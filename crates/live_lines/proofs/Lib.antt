@@ -1,0 +1,4 @@
+pub mod GraphLemmas
+mod LineLemmas
+mod MergeLemmas
+pub mod WriteLemmas

@@ -1,0 +1,51 @@
+use Rattle.std.proofs.Common.{◌≡◌, ◌∙◌, ◌++◌, ◌∷◌, [], ap, length, rules, subst, sym}
+use Rattle.std.specs.Prelude.{Some}
+use Rattle.merging.specs.checked.Merging.{is_due}
+use Rattle.live_lines.specs.Lines.{live_line_at, live_lines}
+use Rattle.live_lines.specs.checked.Writes.{AreWritten}
+use Rattle.std.proofs.lemmas.List.{length_push}
+use Rattle.live_lines.proofs.LineLemmas.{due_before, lines_more}
+use Rattle.live_lines.proofs.WriteLemmas.{written_idle, written_line}
+use Rattle.live_lines.proofs.sink.take_sample.Goals as goal
+
+pub returns-then-is_due-clause-written : goal.returns-then-is_due-clause-written
+returns-then-is_due-clause-written g c =
+    let old = c.args.lines.now in
+    let m = old.merge in
+    let t = c.take.new.self in
+    let n = c.send_due.new.lines in
+    let known = g.W.Outlet.contents in
+    let failures = g.W.Outlet.failures in
+    let taken : c.take.new.self.taken ≡ c.args.lines.now.merge.taken ++ (c.args.source, c.args.sample.now) ∷ [] = search rules in
+    let longer = lines_more m.sources old.width old.every t.sources m.taken t.taken (c.args.source, c.args.sample.now) c.requires.positive c.take.ensures.sources taken in
+    let same : live_lines c.send_due.new.lines.merge.sources c.send_due.new.lines.width c.send_due.new.lines.every c.send_due.new.lines.merge.taken
+    ≡ live_lines c.take.new.self.sources c.args.lines.now.width c.args.lines.now.every c.take.new.self.taken =
+    λ i. live_lines (c.send_due.ensures.merge i).sources (c.send_due.ensures.width i) (c.send_due.ensures.every i) (c.send_due.ensures.merge i).taken in
+    let made = written_line (live_lines m.sources old.width old.every m.taken) (live_line_at t.sources old.width t.taken (length t.taken)) (live_lines n.merge.sources n.width n.every n.merge.taken)
+    (is_due (Some old.every) (length t.taken)) old.failure n.failure (known old.start.value) (known c.args.out.now) (known c.send_due.new.out) (failures old.start.value) (failures c.args.out.now) (failures c.send_due.new.out)
+    (sym c.is_due.ensures ∙ c.if-is_due.true) (same ∙ longer) c.requires.written c.send_due.ensures.whole c.send_due.ensures.front c.send_due.ensures.counted in
+    subst (λ (start : g.row.W.Denot). AreWritten (live_lines n.merge.sources n.width n.every n.merge.taken) n.failure (known start) (known c.send_due.new.out) (failures start) (failures c.send_due.new.out)) (sym c.send_due.ensures.start) made
+
+pub returns-else-is_due-clause-written : goal.returns-else-is_due-clause-written
+returns-else-is_due-clause-written g c =
+    let old = c.args.lines.now in
+    let m = old.merge in
+    let t = c.take.new.self in
+    let known = g.W.Outlet.contents in
+    let failures = g.W.Outlet.failures in
+    let taken : c.take.new.self.taken ≡ c.args.lines.now.merge.taken ++ (c.args.source, c.args.sample.now) ∷ [] = search rules in
+    let longer = lines_more m.sources old.width old.every t.sources m.taken t.taken (c.args.source, c.args.sample.now) c.requires.positive c.take.ensures.sources taken in
+    written_idle (live_lines m.sources old.width old.every m.taken) (live_line_at t.sources old.width t.taken (length t.taken)) (live_lines t.sources old.width old.every t.taken)
+    (is_due (Some old.every) (length t.taken)) old.failure (known old.start.value) (known c.args.out.now) (failures old.start.value) (failures c.args.out.now)
+    (sym c.is_due.ensures ∙ c.if-is_due.false) longer c.requires.written
+
+pub returns-then-is_due-clause-flushed : goal.returns-then-is_due-clause-flushed
+returns-then-is_due-clause-flushed g c none some = ∣ c.send_due.ensures.flushed none ∣₁
+
+pub returns-else-is_due-clause-flushed : goal.returns-else-is_due-clause-flushed
+returns-else-is_due-clause-flushed g c none some =
+    let old = c.args.lines.now in
+    let taken : c.take.new.self.taken ≡ c.args.lines.now.merge.taken ++ (c.args.source, c.args.sample.now) ∷ [] = search rules in
+    c.requires.flushed none
+    (due_before old.every (length old.merge.taken) (length c.take.new.self.taken) old.failure (ap length taken ∙ length_push old.merge.taken (c.args.source, c.args.sample.now)) none
+    (sym c.is_due.ensures ∙ c.if-is_due.false) some)

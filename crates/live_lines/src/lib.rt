@@ -1,0 +1,11 @@
+//! The lines of a graph while its samples come: a sink that writes each snapshot's line as soon as its last sample was taken.
+#![tactic(auto)]
+
+mod gate;
+pub mod laws;
+mod merge;
+mod sink;
+
+pub use gate::LiveGate;
+pub use merge::LiveMerge;
+pub use sink::{LiveLines, LiveSink};

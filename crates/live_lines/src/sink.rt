@@ -1,0 +1,221 @@
+//! A sink that writes a line each time that so many samples more came.
+
+ghost use Rattle.std.specs.Prelude.{◌≡◌, ◌≢◌, ◌≤◌, ◌++◌, ◌∷◌, ◌&&◌, ℕ, List, [], OnOk, OnErr, IsErrOf, None, is_none, length};
+ghost use Rattle.std.specs.Io.KnownBytes.{Appends};
+ghost use Rattle.byte_io.specs.Calls.{one_more};
+ghost use Rattle.byte_io.specs.Pieces.{AppendsFront};
+ghost use Rattle.sample_tables.specs.declared.samples.Sample.{Sample as TakenSample};
+ghost use Rattle.stack_core.specs.Interleaving.{IsInterleaving, interleaved};
+ghost use Rattle.merging.specs.checked.Merging.{is_due};
+ghost use Rattle.source_views.specs.Texts.{graph_text};
+ghost use Rattle.live_lines.specs.Lines.{live_line_at, live_lines, live_text};
+ghost use Rattle.live_lines.specs.Settings.{live_setting};
+ghost use Rattle.live_lines.specs.Written.{GrewByFront, GrewByText, failures_after};
+ghost use Rattle.live_lines.specs.checked.Writes.{AreWritten};
+ghost use Rattle.live_lines.specs.checked.WrittenProps.{front_prop, text_prop};
+
+use crate::gate::LiveGate;
+use crate::merge::LiveMerge;
+use byte_io::{Outlet, PieceFault};
+use flame_layout::Width;
+use stack_core::{Sample, Sink};
+use std::alloc::{AllocError, Global};
+use std::snapshot::Snapshot;
+use std::sync::Arc;
+
+/// What is written of the samples that came, and what is needed for it.
+#[derive(Drop)]
+pub struct LiveLines<W> {
+    pub merge: LiveMerge,
+    /// After how many samples more there is a line.
+    pub every: u64,
+    pub width: Width,
+    /// Why a line was not sent whole. Nothing is written after it.
+    pub failure: Option<PieceFault>,
+    /// The outlet as it was before anything was written, for contracts alone.
+    pub start: Snapshot<W>,
+    pub gate: Arc<LiveGate>,
+}
+
+/// Writes the lines of the snapshots of a graph while samples come, each as soon as its last sample was taken, and flushes each. Where a
+/// line is not sent whole it closes its gate, and writes nothing more.
+#[derive(Drop)]
+pub struct LiveSink<'a, W: Outlet> {
+    pub lines: LiveLines<W>,
+    pub out: &'a mut W,
+
+    // The lines that are due were written, in order and each once; after a failure a front of them.
+    pub ghost whole: { GrewByText lines.failure
+        (live_lines lines.merge.sources lines.width lines.every lines.merge.taken)
+        (W.contents lines.start.value) (W.contents out.now) } by { Prim.hlevel text_prop },
+    pub ghost front: { GrewByFront
+        (live_lines lines.merge.sources lines.width lines.every lines.merge.taken)
+        (W.contents lines.start.value) (W.contents out.now) } by { Prim.hlevel front_prop },
+    pub ghost counted: { W.failures out.now ≡ failures_after (W.failures lines.start.value) lines.failure },
+    pub ghost positive: { 1 ≤ lines.every },
+
+    // And they were handed on, each time.
+    pub ghost flushed: { lines.failure ≡ None → lines.every ≤ length lines.merge.taken
+        → ∥ W.is_flushed out.now ∥₁ },
+}
+
+impl<'a, W: Outlet> LiveSink<'a, W> {
+    /// Nothing came yet, and nothing is written. There is a line each time that `every` samples more came.
+    pub fn new(
+        merge: LiveMerge,
+        every: u64,
+        width: Width,
+        gate: Arc<LiveGate>,
+        out: &'a mut W,
+    ) -> LiveSink<'a, W>
+        requires every { 1 ≤ every }
+        requires nothing { merge.taken ≡ [] }
+        ensures merge { result.lines.merge ≡ merge }
+        ensures every { result.lines.every ≡ every }
+        ensures width { result.lines.width ≡ width }
+        ensures unfailed { result.lines.failure ≡ None }
+        ensures start { result.lines.start.value ≡ out.entry.now }
+        ensures outlet { result.out.ghost_name ≡ out.entry.ghost_name }
+    {
+        let start = Snapshot::of(out);
+        let lines = LiveLines {
+            merge,
+            every,
+            width,
+            failure: None,
+            start,
+            gate,
+        };
+        LiveSink { lines, out }
+    }
+
+    /// Why a line was not sent whole, if one was not.
+    pub fn failure(&self) -> Option<PieceFault>
+        ensures { result ≡ self.now.lines.failure }
+    {
+        self.lines.failure
+    }
+}
+
+impl<W: Outlet> LiveLines<W> {
+    /// Sends the line of the graph of all samples that came, and flushes. Where a line before was not sent whole it sends nothing, and
+    /// answers why. It is called with the lines and the outlet of a sink that was taken apart: what the sink keeps of them is required.
+    pub fn finish(&self, alloc: Global, out: &mut W) -> Result<(), PieceFault>
+        requires whole { GrewByText self.now.failure
+            (live_lines self.now.merge.sources self.now.width self.now.every self.now.merge.taken)
+            (W.contents self.now.start.value) (W.contents out.old) }
+        requires front { GrewByFront
+            (live_lines self.now.merge.sources self.now.width self.now.every self.now.merge.taken)
+            (W.contents self.now.start.value) (W.contents out.old) }
+        requires counted { W.failures out.old
+            ≡ failures_after (W.failures self.now.start.value) self.now.failure }
+
+        // Since the sink was made the outlet gained the lines of all snapshots, and then that of the graph.
+        ensures ok { OnOk result (Appends (W.contents self.now.start.value) (W.contents out.new)
+            (live_text self.now.merge.sources self.now.width self.now.every self.now.merge.taken)) }
+        ensures flushed { OnOk result (W.is_flushed out.new) }
+        ensures front { OnErr result (AppendsFront
+            (live_text self.now.merge.sources self.now.width self.now.every self.now.merge.taken)
+            (W.contents self.now.start.value) (W.contents out.new)) }
+        ensures output { IsErrOf result PieceFault.Output
+            → W.failures out.new ≡ one_more (W.failures self.now.start.value) }
+        ensures unfailed { result ≢ Err PieceFault.Output
+            → W.failures out.new ≡ W.failures self.now.start.value }
+
+        // That is the text of the graph of the lists of which it took the samples, in their order.
+        ensures graph { (lists : List (List TakenSample)) (order : List ℕ) → IsInterleaving order lists
+            → length lists ≡ self.now.merge.sources → self.now.merge.taken ≡ interleaved order lists
+            → live_text self.now.merge.sources self.now.width self.now.every self.now.merge.taken
+            ≡ graph_text self.now.width lists order (Some self.now.every) }
+    {
+        if let Some(fault) = self.failure {
+            return Err(fault);
+        }
+        self.merge.send_graph(alloc, self.width, out)
+    }
+}
+
+impl<W: Outlet> Sink for LiveSink<'_, W> {
+    ghost taken = { λ sink. sink.lines.merge.taken };
+
+    ghost setting = { λ sink. live_setting sink.out.ghost_name (W.contents sink.lines.start.value)
+        (W.failures sink.lines.start.value) sink.lines.merge.sources sink.lines.width sink.lines.every };
+
+    /// Merges one sample, and sends the line that is due then. A failure of the line is kept, since the sample was taken.
+    fn take(&mut self, alloc: Global, source: u32, sample: &Sample) -> Result<(), AllocError> {
+        take_sample(alloc, &mut self.lines, source, sample, self.out)
+    }
+}
+
+/// Merges one sample, and sends the line that is due then, unless one was not sent whole before. Where the sample is refused it closes the
+/// gate.
+fn take_sample<W: Outlet>(
+    alloc: Global,
+    lines: &mut LiveLines<W>,
+    source: u32,
+    sample: &Sample,
+    out: &mut W,
+) -> Result<(), AllocError>
+    requires positive { 1 ≤ lines.old.every }
+    requires written { AreWritten
+        (live_lines lines.old.merge.sources lines.old.width lines.old.every lines.old.merge.taken)
+        lines.old.failure
+        (W.contents lines.old.start.value) (W.contents out.old)
+        (W.failures lines.old.start.value) (W.failures out.old) }
+    requires flushed { lines.old.failure ≡ None → lines.old.every ≤ length lines.old.merge.taken
+        → ∥ W.is_flushed out.old ∥₁ }
+    ensures ok { OnOk result
+        (lines.new.merge.taken ≡ lines.old.merge.taken ++ (source, sample.now) ∷ []) }
+    ensures refused { OnErr result (lines.new.merge.taken ≡ lines.old.merge.taken) }
+    ensures sources { lines.new.merge.sources ≡ lines.old.merge.sources }
+    ensures width { lines.new.width ≡ lines.old.width }
+    ensures every { lines.new.every ≡ lines.old.every }
+    ensures start { lines.new.start.value ≡ lines.old.start.value }
+    ensures written { AreWritten
+        (live_lines lines.new.merge.sources lines.new.width lines.new.every lines.new.merge.taken)
+        lines.new.failure
+        (W.contents lines.new.start.value) (W.contents out.new)
+        (W.failures lines.new.start.value) (W.failures out.new) }
+    ensures flushed { lines.new.failure ≡ None → lines.new.every ≤ length lines.new.merge.taken
+        → ∥ W.is_flushed out.new ∥₁ }
+{
+    if let Err(refusal) = lines.merge.take(alloc, source, sample) {
+        lines.gate.close();
+        return Err(refusal);
+    }
+    if is_due(lines) {
+        send_due(alloc, lines, out);
+    }
+    Ok(())
+}
+
+/// Whether the line of what was taken is to be sent.
+fn is_due<W>(lines: &LiveLines<W>) -> bool
+    requires { 1 ≤ lines.now.every }
+    ensures { result ≡ (is_none lines.now.failure
+        && is_due (Some lines.now.every) (length lines.now.merge.taken)) }
+{
+    lines.failure.is_none() && lines.merge.count() % lines.every == 0
+}
+
+/// Sends the line of what was taken. Where it is not sent whole it keeps why, and closes the gate.
+fn send_due<W: Outlet>(alloc: Global, lines: &mut LiveLines<W>, out: &mut W)
+    requires { lines.old.failure ≡ None }
+    ensures merge { lines.new.merge ≡ lines.old.merge }
+    ensures width { lines.new.width ≡ lines.old.width }
+    ensures every { lines.new.every ≡ lines.old.every }
+    ensures start { lines.new.start.value ≡ lines.old.start.value }
+    ensures whole { lines.new.failure ≡ None → Appends (W.contents out.old) (W.contents out.new)
+        (live_line_at lines.old.merge.sources lines.old.width lines.old.merge.taken
+        (length lines.old.merge.taken)) }
+    ensures front { AppendsFront
+        (live_line_at lines.old.merge.sources lines.old.width lines.old.merge.taken
+        (length lines.old.merge.taken)) (W.contents out.old) (W.contents out.new) }
+    ensures counted { W.failures out.new ≡ failures_after (W.failures out.old) lines.new.failure }
+    ensures flushed { lines.new.failure ≡ None → W.is_flushed out.new }
+{
+    if let Err(fault) = lines.merge.send_snapshot(alloc, lines.width, out) {
+        lines.failure = Some(fault);
+        lines.gate.close();
+    }
+}

@@ -1,0 +1,122 @@
+//! The lines of a graph, written while its samples come.
+ghost use Rattle.std.specs.Prelude.{◌≤◌};
+
+use super::shown::{Given, see};
+use crate::tests::worked::{FIVE_LINES, SNAPSHOT_LINES};
+use flame_layout::Width;
+use flame_tool::{CountedWriter, Format, Outlet, View, Views, render};
+use live_lines::{LiveGate, LiveMerge, LiveSink};
+use ring_collect::CollectFault;
+use stack_core::{Names, Sample, Sink, SourceList};
+use std::alloc::{AllocError, Global};
+use std::sync::Arc;
+use std::test::Fail;
+
+/// How wide the graphs are.
+const WIDTH: u32 = 10;
+
+/// A sample of a list.
+fn sample_of(alloc: Global, list: &SourceList, at: usize) -> Result<Option<Sample>, AllocError> {
+    if at >= list.len() {
+        return Ok(None);
+    }
+    let mut names: Vec<String> = Vec::new(alloc);
+    for depth in 0..list.depth(at) {
+        names.push(String::from_str(alloc, list.name(at, depth))?)?;
+    }
+    Ok(Some(Sample {
+        stack: Names::of(names),
+        weight: list.weight(at),
+    }))
+}
+
+/// How many samples of a source came before this place of the order.
+fn came_before(order: &[u32], place: usize) -> usize {
+    if place >= order.len() {
+        return 0;
+    }
+    order[..place]
+        .iter()
+        .filter(|source| **source == order[place])
+        .count()
+}
+
+/// Hands the sink the samples of a run in their order.
+fn feed<W: Outlet>(
+    alloc: Global,
+    views: &Views,
+    sink: &mut LiveSink<'_, W>,
+) -> Result<(), AllocError> {
+    for (place, source) in views.order().iter().enumerate() {
+        if let Some(list) = views.lists().get(*source as usize) {
+            let at = came_before(views.order(), place);
+            if let Some(sample) = sample_of(alloc, list, at)? {
+                sink.take(alloc, *source, &sample)?;
+            }
+        }
+    }
+    Ok(())
+}
+
+fn open_gate(alloc: Global) -> Result<Arc<LiveGate>, AllocError> {
+    Ok(Arc::new(alloc, LiveGate::new())?)
+}
+
+/// What is written of a run while its samples come, and at its end.
+fn written(alloc: Global, views: &Views, every: u64) -> Result<Vec<u8>, AllocError>
+    requires { 1 ≤ every }
+{
+    let width = Width::of(WIDTH).unwrap();
+    let merge = LiveMerge::new(alloc, views.lists().len())?;
+    let gate = open_gate(alloc)?;
+    let mut out = CountedWriter::new(Vec::new(alloc));
+    let mut sink = LiveSink::new(merge, every, width, gate, &mut out);
+    feed(alloc, views, &mut sink)?;
+    let LiveSink { lines, out: outlet } = sink;
+    lines.finish(alloc, outlet).map_err(|_fault| AllocError)?;
+    Ok(out.into_inner())
+}
+
+const ONE: &[Given] = &[(Format::Folded, &[(FIVE_LINES, 1)])];
+
+#[test]
+fn lines_of_five_samples(rt: HostRuntime) -> Result<(), Fail> {
+    let alloc = rt.alloc();
+    see(
+        &rt,
+        ONE,
+        1_024,
+        None,
+        &|views: &Views| Ok(written(alloc, views, 2)?.as_slice() == SNAPSHOT_LINES.as_bytes()),
+    )
+}
+
+/// Two sources of five and of three samples, with a frame that both have.
+const TWO: &[Given] = &[
+    (Format::Folded, &[(FIVE_LINES, 1)]),
+    (Format::Folded, &[(b"a;b 7\n \nd;e 2\na 0\n", 1)]),
+];
+
+/// What is written while the samples come is what is rendered of them at the end.
+fn is_as_rendered(alloc: Global, views: &Views, every: u64) -> Result<bool, CollectFault>
+    requires { 1 ≤ every }
+{
+    let width = Width::of(WIDTH).unwrap();
+    let mut text = Vec::new(alloc);
+    render(alloc, views, View::Graph(width), &mut text)?;
+    Ok(written(alloc, views, every)?.as_slice() == text.as_slice())
+}
+
+/// A line for each sample, for every second one and at the last, at the last alone, and none before the end.
+#[test]
+fn lines_of_two_sources(rt: HostRuntime) -> Result<(), Fail> {
+    let alloc = rt.alloc();
+    let look = &|views: &Views| is_as_rendered(alloc, views, 1);
+    see(&rt, TWO, 4, Some(1), look)?;
+    let look = &|views: &Views| is_as_rendered(alloc, views, 2);
+    see(&rt, TWO, 4, Some(2), look)?;
+    let look = &|views: &Views| is_as_rendered(alloc, views, 8);
+    see(&rt, TWO, 4, Some(8), look)?;
+    let look = &|views: &Views| is_as_rendered(alloc, views, 9);
+    see(&rt, TWO, 4, Some(9), look)
+}
