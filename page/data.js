@@ -27,6 +27,7 @@ import { commonUnit, weighty } from './units.js';
  * @property {number} kept the weight of those that a filter keeps
  * @property {boolean} isFiltered
  * @property {boolean} isBelow whether it opens with the root below
+ * @property {boolean} isShare whether it opens by shares
  * @property {number} drawingCount
  * @property {(number: number) => Drawing} drawing
  * @property {(choice: Choice) => Drawing} arranged the drawing that is chosen, as it is chosen
@@ -99,6 +100,7 @@ export function pageOf(data) {
         // Sums above 2^53 are rounded, and a rounded sum is no filter's doing.
         isFiltered: data.whole > start + data.whole * 2 ** -50,
         isBelow: data.root_below === true,
+        isShare: data.share === true,
         drawingCount: data.drawings.length,
         drawing,
         arranged: arranging(drawing, sources, data.view === 'compare', data.names.length),

@@ -43,6 +43,7 @@ class Document:
         self.kind: str = data['view']
         self.title: str = data['title']
         self.opens_below: bool = data.get('root_below', False)
+        self.opens_by_shares: bool = data.get('share', False)
         self.names: list[str] = data['names']
         # What the check looks at has one unit: plain numbers, or nanoseconds.
         self.unit: str = data['sources'][0]['unit']

@@ -45,7 +45,7 @@ class Watched:
 
     def __init__(self, browser: chromium.Browser, document: Document, path: pathlib.Path, setting: Setting, bend: str = ''):
         self.browser, self.document, self.setting = browser, document, setting
-        self.view = View(len(document.drawings) - 1, below=setting.below)
+        self.view = View(len(document.drawings) - 1, below=setting.below, share=document.opens_by_shares)
         recorder = (HERE / 'recorder.js').read_text(encoding='utf-8')
         if bend:
             recorder += (HERE / 'faults.js').read_text(encoding='utf-8').replace('{fault}', bend)
@@ -93,7 +93,8 @@ class Watched:
             parts.append(f'{"up" if drawing.is_caller(view.box) else "zoom"}={path}')
         if view.find:
             parts += [f'find={urllib.parse.quote(view.find, safe="")}', f'by={view.by}']
-        switches = [f'{name}=1' for name in ('share', 'heavy', 'beside') if getattr(view, name)]
+        switches = [f'{name}=1' for name in ('heavy', 'beside') if getattr(view, name)]
+        switches += [] if view.share == self.document.opens_by_shares else [f'share={int(view.share)}']
         switches += ['colours=package'] if view.packages else []
         return '#' + '&'.join([*parts, f'drawing={view.drawing}', *self.root_words(view.below), *switches])
 

@@ -93,14 +93,14 @@ def comparison(check: Check) -> bytes:
 
 
 def comparison_made(check: Check) -> bytes:
-    """The same path with weights of which many are at the edge between two colours."""
+    """The same path with weights of which many are at the edge between two colours. It opens by shares."""
     drawn = random.Random(7)
     root = random_tree(7, 4, 60)
     data = data_of(root, 'compare')
     after, names = columns(root, lambda weight: drawn.choice((0, 1, weight, weight * 9 // 10, weight // 2, weight * 2, weight + 1)))
     before, _ = columns(root, lambda weight: drawn.choice((0, weight, weight * 3 // 10, weight * 4)))
     sources = [data['sources'][0] | {'name': name} for name in ('before.folded', 'after.folded')]
-    return of_data(data | {'drawings': [before, after], 'names': names, 'sources': sources, 'whole': 2 * root.weight})
+    return of_data(data | {'drawings': [before, after], 'names': names, 'share': True, 'sources': sources, 'whole': 2 * root.weight})
 
 
 def snapshots(check: Check) -> bytes:

@@ -16,7 +16,7 @@ from painted_colours import LIGHT, Colour, colour, is_same, of_change, of_name
 from painted_labels import LABELLED, PAD, SPARE
 from painted_layout import TOUCH, Fault
 from painted_trees import LANGUAGES, like_profile, text_of
-from svg_pictures import Box, Drawn, How, Line, Tile
+from svg_pictures import Box, Drawn, How, Line, Tile, Wholes
 
 WIDTHS = (368, 1182)
 # The window has room for each picture: what is outside of it is seen nowhere.
@@ -65,17 +65,22 @@ def part_of(shown: dict[str, Any]) -> Part:
     return Part(shown['kind'], (left, top, width, height), (red, green, blue), shown['text'])
 
 
-def colours_of(box: Box) -> list[Colour]:
+def colours_of(box: Box, wholes: Wholes) -> list[Colour]:
     """The colours that a box may have."""
     if 'before' in box:
-        return of_change(LIGHT, box['before'], box['weight'])
+        before, after = wholes or (1, 1)
+        return of_change(LIGHT, box['before'] * max(1, after), box['weight'] * max(1, before))
     return [colour(LIGHT.root) if box['depth'] == 0 else of_name(LIGHT, box['name'])]
 
 
-def label_faults(box: Box, label: Part | None) -> Iterator[Fault]:
+def change_of(box: Box, wholes: Wholes) -> str:
+    return words.change(box['before'], box['weight']) if wholes is None else svg_pictures.points_of(box, wholes)
+
+
+def label_faults(box: Box, label: Part | None, wholes: Wholes) -> Iterator[Fault]:
     """A label is the name, with the change where there is one, or a front of the name; it stays inside of its box."""
     name = words.visible(box['name'])
-    whole = f'{name} {words.change(box["before"], box["weight"])}' if 'before' in box else name
+    whole = f'{name} {change_of(box, wholes)}' if 'before' in box else name
     width = box['right'] - box['left']
     if label is None:
         if width >= LABELLED and name:
@@ -91,10 +96,10 @@ def label_faults(box: Box, label: Part | None) -> Iterator[Fault]:
         yield Fault('d', f'{label.text!r} is written in {label.fill}')
 
 
-def box_faults(box: Box, group: dict[str, Any]) -> Iterator[Fault]:
+def box_faults(box: Box, group: dict[str, Any], wholes: Wholes) -> Iterator[Fault]:
     """What is wrong with the colour, the title, the label and the order of a box."""
     rectangle, *labels = map(part_of, group['parts'])
-    if not any(is_same(rectangle.fill, each) for each in colours_of(box)):
+    if not any(is_same(rectangle.fill, each) for each in colours_of(box, wholes)):
         yield Fault('d', f'{box} is painted in {rectangle.fill}')
     if not group['title'].startswith(f'{words.visible(box["name"])}: '):
         yield Fault('c', f'the title {group["title"]!r} is that of {box}')
@@ -102,10 +107,10 @@ def box_faults(box: Box, group: dict[str, Any]) -> Iterator[Fault]:
         yield Fault('b', f'{box} has {labels}')
     if not group['isOnTop']:
         yield Fault('e', f'something lies over {box}')
-    yield from label_faults(box, labels[0] if labels else None)
+    yield from label_faults(box, labels[0] if labels else None, wholes)
 
 
-def faults_of(laid_out: dict[str, Any], line: Line, is_below: bool) -> Iterator[Fault]:
+def faults_of(laid_out: dict[str, Any], line: Line, how: How) -> Iterator[Fault]:
     """All that a picture has wrong."""
     groups, boxes = laid_out['groups'], svg_pictures.boxes_drawn(line)
     others = sorted(map(part_of, laid_out['others']), key=lambda part: part.kind)
@@ -116,10 +121,11 @@ def faults_of(laid_out: dict[str, Any], line: Line, is_below: bool) -> Iterator[
     if not is_same(paper.fill, colour(LIGHT.paper)) or paper.sides[:3] != (0, 0, line['width']):
         yield Fault('e', f'the paper is {paper}')
     tiles = [Tile(*part_of(group['parts'][0]).sides, title=group['title']) for group in groups]
-    for text in svg_pictures.faults(tiles, foot.text, line, is_below):
+    for text in svg_pictures.faults(tiles, foot.text, line, how):
         yield Fault('a' if len(groups) == len(boxes) else 'b' if len(groups) > len(boxes) else 'e', text)
     if len(groups) == len(boxes):
-        yield from itertools.chain.from_iterable(map(box_faults, boxes, groups))
+        wholes = itertools.repeat(svg_pictures.wholes_of(line, how))
+        yield from itertools.chain.from_iterable(map(box_faults, boxes, groups, wholes))
     if laid_out['count'] != len(others) + 1 + sum(2 + len(group['parts']) for group in groups):
         yield Fault('b', f'there are {laid_out["count"]} elements')
 
@@ -129,13 +135,15 @@ def look(check: Any, drawn: Drawn, svg: bytes) -> list[Fault]:
     check.browser.resize(*WINDOW)
     check.browser.go(check.folder / check.write('drawn.svg', svg))
     check.browser.wait_for("document.readyState === 'complete' && document.documentElement.localName === 'svg'")
-    return [*faults_of(check.browser.value(LAID_OUT), json.loads(drawn.line), drawn.is_below)]
+    return [*faults_of(check.browser.value(LAID_OUT), json.loads(drawn.line), drawn.how)]
 
 
 def pictures_drawn(check: Any) -> Iterator[tuple[str, Drawn]]:
-    """Pictures of graphs, charts and comparisons, of both widths and with the root above and below."""
+    """Pictures of graphs, charts and comparisons, these also by shares, of both widths and with the root above and below."""
     rng = random.Random(13)
-    for how in itertools.starmap(How, itertools.product(('graph', 'chart', 'compare'), WIDTHS, (False, True))):
+    kinds = (('graph', False), ('chart', False), ('compare', False), ('compare', True))
+    for (command, is_share), width, is_below in itertools.product(kinds, WIDTHS, (False, True)):
+        how = How(command, width, is_below, is_share=is_share)
         for texts in (svg_pictures.hostile(rng), likely(rng)):
             yield str(how), svg_pictures.draw(check.program, check.folder, how, texts)
 

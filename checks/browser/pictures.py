@@ -293,6 +293,22 @@ def shares(check):
     same([fragment(browser), {name: cells for name, *cells in table(browser)}['less']], ['', ['20', '30', '+10', '+50%']], 'weights again')
 
 
+def shares_at_first(check):
+    """A page that begins by shares says in its address where it was turned to weights."""
+    browser = check.browser
+    before = check.write('short.folded', 'main;same 10\nmain;less 30\n')
+    after = check.write('long.folded', 'main;same 30\nmain;less 30\n')
+    path = check.place(check.show('compare', '--share', before, after))
+    turned = []
+    for opened in ('', '#share=0', '#share=1'):
+        browser.open(path, opened)
+        for _ in range(2):
+            turned.append([fragment(browser), {name: cells for name, *cells in table(browser)}['less']])
+            browser.click_on('#share')
+    shares, weights = ['', ['75%', '50%', '−25%', '−33.3%']], ['#share=0', ['30', '30', '0', '±0%']]
+    same(turned, [shares, weights, weights, shares, shares, weights], 'address and a function, as opened and as turned')
+
+
 def gone_from_the_depth(check):
     """Of a long path the name is read, and the callers are cut."""
     browser = check.browser
@@ -398,5 +414,5 @@ def narrow_windows(check):
         browser.resize(*browser.size)
 
 
-TESTS = [first_paint, widths, broken, root_below, root_below_at_first, zoom, keys, snapshots, snapshots_of_sources, lanes, differences, shares,
+TESTS = [first_paint, widths, broken, root_below, root_below_at_first, zoom, keys, snapshots, snapshots_of_sources, lanes, differences, shares, shares_at_first,
          gone_from_the_depth, deep, narrow_boxes, joined_colours, narrow_windows]

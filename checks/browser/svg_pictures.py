@@ -3,12 +3,14 @@ reads an SVG as XML, and painted_svgs.py as a browser lays it out.
 """
 from __future__ import annotations
 
+import math
 import pathlib
 import random
 import re
 import shlex
 import subprocess
 from collections.abc import Iterator
+from fractions import Fraction
 from typing import Any, NamedTuple
 
 TOP = pathlib.Path(__file__).resolve().parents[2]
@@ -19,6 +21,8 @@ LETTERS = [chr(code) for code in range(1, 127) if chr(code) not in ';\n'] + list
 
 Box = dict[str, Any]
 Line = dict[str, Any]
+# What both profiles weigh, where shares of that are compared.
+Wholes = tuple[int, int] | None
 
 
 class Tile(NamedTuple):
@@ -31,17 +35,18 @@ class Tile(NamedTuple):
 
 
 class How(NamedTuple):
-    """How a picture is drawn."""
+    """How a picture is drawn: a comparison also by shares."""
     command: str
     width: int
     is_below: bool
     title: str = 'a title'
+    is_share: bool = False
 
 
 class Drawn(NamedTuple):
-    """What the program answers with one command: the text of an SVG, whether its root is below, and the line of JSON of the same samples."""
+    """What the program answers with one command: the text of an SVG and how it is drawn, and the line of JSON of the same samples."""
     svg: bytes
-    is_below: bool
+    how: How
     line: bytes
 
 
@@ -87,8 +92,9 @@ def draw(program: pathlib.Path, folder: pathlib.Path, how: How, texts: list[byte
     for path, text in zip(paths, texts):
         path.write_bytes(text)
     words = [how.command, '--width', str(how.width), *map(str, paths)]
-    svg = answer(program, [*words, '--svg', f'--title={how.title}', *(['--root-below'] if how.is_below else [])])
-    return Drawn(svg, how.is_below, answer(program, [*words, *(['--boxes'] if how.command == 'compare' else [])]))
+    flags = [flag for flag, is_set in (('--root-below', how.is_below), ('--share', how.is_share)) if is_set]
+    svg = answer(program, [*words, '--svg', f'--title={how.title}', *flags])
+    return Drawn(svg, how, answer(program, [*words, *(['--boxes'] if how.command == 'compare' else [])]))
 
 
 def of_readme(program: pathlib.Path) -> bytes:
@@ -116,10 +122,35 @@ def separated(number: int) -> str:
     return format(number, ',')
 
 
-def weights_of(box: Box) -> str:
-    """How a title tells the weight of a box, and in a comparison both weights."""
+def wholes_of(line: Line, how: How) -> Wholes:
+    """What both profiles weigh is what the root does."""
+    return (line['boxes'][0]['before'], line['total']) if how.is_share and line['boxes'] else None
+
+
+def hundredths(weight: int, whole: int) -> int:
+    """Hundredths of a percent, of two equally near the greater. Of nothing, each part is nothing."""
+    return math.floor(Fraction(10000 * weight, max(1, whole)) + Fraction(1, 2))
+
+
+def percent(parts: int) -> str:
+    return f'{parts // 100}.{parts % 100:02}%'
+
+
+def points_of(box: Box, wholes: tuple[int, int]) -> str:
+    """By how much the share of a path grew, as both shares are written."""
+    grown = hundredths(box['weight'], wholes[1]) - hundredths(box['before'], wholes[0])
+    return f'{"+" if grown > 0 else "-" if grown < 0 else ""}{percent(abs(grown))}'
+
+
+def weights_of(box: Box, wholes: Wholes) -> str:
+    """How a title tells the weight of a box, and in a comparison both weights, and by shares also what part of their whole they are."""
     weight = separated(box['weight'])
-    return f'before {separated(box["before"])}, after {weight}' if 'before' in box else weight
+    if 'before' not in box:
+        return weight
+    if wholes is None:
+        return f'before {separated(box["before"])}, after {weight}'
+    before, after = (percent(hundredths(*each)) for each in zip((box['before'], box['weight']), wholes))
+    return f'before {separated(box["before"])}, {before}, after {weight}, {after}, points {points_of(box, wholes)}'
 
 
 def foot_of(line: Line) -> str:
@@ -131,16 +162,16 @@ def foot_of(line: Line) -> str:
     return f'total {separated(line["total"])} · {boxes} left out, in which {ends} ends'
 
 
-def faults(tiles: list[Tile], foot: str, line: Line, is_below: bool) -> Iterator[str]:
+def faults(tiles: list[Tile], foot: str, line: Line, how: How) -> Iterator[str]:
     """What differs between the boxes of a picture, in order, with the text at its foot, and those of a line of JSON."""
     boxes = boxes_drawn(line)
     if len(tiles) != len(boxes):
         yield f'{len(tiles)} rectangles of {len(boxes)} boxes'
         return
     for tile, box in zip(tiles, boxes):
-        if tile[:4] != (box['left'], top_of(line, box, is_below), box['right'] - box['left'], ROW - 1):
+        if tile[:4] != (box['left'], top_of(line, box, how.is_below), box['right'] - box['left'], ROW - 1):
             yield f'the rectangle {tile[:4]} of {box}'
-        if f': {weights_of(box)}, ' not in tile.title or not tile.title.endswith(f'own {separated(box["own"])}'):
+        if f': {weights_of(box, wholes_of(line, how))}, ' not in tile.title or not tile.title.endswith(f'own {separated(box["own"])}'):
             yield f'the title {tile.title!r} of {box}'
     if foot != foot_of(line):
         yield f'the foot {foot!r} in place of {foot_of(line)!r}'

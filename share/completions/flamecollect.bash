@@ -8,24 +8,25 @@ _flamecollect() {
         --by) COMPREPLY=($(compgen -W 'own total' -- "$word")); return ;;
         --format) COMPREPLY=($(compgen -W 'folded pprof' -- "$word")); return ;;
         --unit) COMPREPLY=($(compgen -W 'nanoseconds microseconds milliseconds seconds bytes samples' -- "$word")); return ;;
-        --every|--fail-over|--focus|--from|--hide|--least|--number|--output|--ring|--title|--type|--width|-n|-o) return ;;
+        --every|--fail-over|--focus|--from|--hide|--least|--number|--omit|--output|--ring|--title|--type|--width|-n|-o) return ;;
     esac
     if [ "$COMP_CWORD" = 1 ]; then
-        COMPREPLY=($(compgen -W 'fold graph chart live compare top diff callers callees types help -h --help -V --version' -- "$word"))
+        COMPREPLY=($(compgen -W 'fold graph chart live compare top diff callers callees peek types help -h --help -V --version' -- "$word"))
         return
     fi
     case ${COMP_WORDS[1]} in
-        fold) options='--type --format --lines --strict -o --output --quiet -h --help --focus --hide --from --ring' ;;
-        graph) options='--width --type --unit --format --every --lines --strict -o --output --quiet -h --help --focus --hide --from --ring --page --svg --title --root-below --least' ;;
-        chart) options='--width --type --unit --format --lines --strict -o --output --quiet -h --help --focus --hide --from --ring --page --svg --title --root-below --least' ;;
+        fold) options='--type --format --lines --strict -o --output --quiet -h --help --focus --hide --from --omit --ring' ;;
+        graph) options='--width --type --unit --format --every --lines --strict -o --output --quiet -h --help --focus --hide --from --omit --ring --page --svg --title --root-below --least' ;;
+        chart) options='--width --type --unit --format --lines --strict -o --output --quiet -h --help --focus --hide --from --omit --ring --page --svg --title --root-below --least' ;;
         live) options='--width --every -o --output -h --help --ring' ;;
-        compare) options='--width --type --unit --format --boxes --lines --strict -o --output --quiet -h --help --focus --hide --from --ring --page --svg --title --root-below --least' ;;
-        top) options='-n --number --by --json --exact --type --unit --format --lines --strict -o --output --quiet -h --help --focus --hide --from --ring' ;;
-        diff) options='-n --number --by --json --exact --share --fail-over --type --unit --format --lines --strict -o --output --quiet -h --help --focus --hide --from --ring' ;;
-        callers) options='-n --number --json --exact --type --unit --format --lines --strict -o --output --quiet -h --help --focus --hide --from --ring' ;;
-        callees) options='-n --number --json --exact --type --unit --format --lines --strict -o --output --quiet -h --help --focus --hide --from --ring' ;;
+        compare) options='--width --type --unit --format --boxes --lines --strict -o --output --quiet -h --help --focus --hide --from --omit --ring --page --svg --title --root-below --least --share' ;;
+        top) options='-n --number --by --json --exact --type --unit --format --lines --strict -o --output --quiet -h --help --focus --hide --from --omit --ring' ;;
+        diff) options='-n --number --by --json --exact --share --fail-over --type --unit --format --lines --strict -o --output --quiet -h --help --focus --hide --from --omit --ring' ;;
+        callers) options='-n --number --json --exact --type --unit --format --lines --strict -o --output --quiet -h --help --focus --hide --from --omit --ring' ;;
+        callees) options='-n --number --json --exact --type --unit --format --lines --strict -o --output --quiet -h --help --focus --hide --from --omit --ring' ;;
+        peek) options='-n --number --json --exact --type --unit --format --lines --strict -o --output --quiet -h --help --focus --hide --from --omit --ring' ;;
         types) options='-o --output -h --help' ;;
-        help) COMPREPLY=($(compgen -W 'fold graph chart live compare top diff callers callees types' -- "$word")); return ;;
+        help) COMPREPLY=($(compgen -W 'fold graph chart live compare top diff callers callees peek types' -- "$word")); return ;;
         *) return ;;
     esac
     case $word in

@@ -290,7 +290,7 @@ function search() {
 
 // The names over each unit of weight in the span, by its stack there: the last has it as its own.
 function functions() {
-    forPages(4, (page, random, what) => {
+    forPages(16, (page, random, what) => {
         const drawing = page.drawing(0);
         const span = random.below(2) ? randomSpan(drawing, random) : spanOf(page, drawing, { box: 0, source: -1, from: -1 });
         const { own, total } = sumsOf(drawing, page.names.length, span);

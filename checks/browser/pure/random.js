@@ -89,7 +89,9 @@ export function randomPage(random, view) {
     const whole = parts.reduce((sum, each) => sum + each);
     const names = [...NAMES, 'nowhere'];
     const told = drawings.map((each) => ({ ...each, ...toldOf(each) }));
-    return pageOf({ view, title: 'random', names, sources, whole, drawings: told, ...(random.below(2) ? { root_below: true } : {}) });
+    const below = random.below(2) ? { root_below: true } : {};
+    const share = view === 'compare' && random.below(2) ? { share: true } : {};
+    return pageOf({ view, title: 'random', names, sources, whole, drawings: told, ...below, ...share });
 }
 
 // Does something with so many random pages of each view.

@@ -1,5 +1,5 @@
 //! Where a run gets its sources: named files and the input.
-ghost use Rattle.std.specs.Prelude.{◌≡◌, ℕ, List, map, Option, IfOk, IfSome};
+ghost use Rattle.std.specs.Prelude.{◌≡◌, ℕ, Bool, List, false, true, map, Option, IfOk, IfSome};
 ghost use Rattle.std.specs.List.{concat};
 
 use crate::whole_input::LoadFault;
@@ -12,6 +12,9 @@ pub trait Files {
 
     // The bytes of the file of a path, where they are known.
     ghost known_file: { Self → List ℕ → Option (List ℕ) };
+
+    // Whether the input or standard error may be a terminal: the machine's may.
+    ghost may_have_terminal: { Bool } = { false };
 
     /// The whole file of that path. A file that can't be opened or read is `LoadFault::Io`.
     fn named(&mut self, alloc: Global, path: &str) -> Result<Vec<u8>, LoadFault>
@@ -46,12 +49,16 @@ pub trait Files {
     }
 
     /// Whether the input is a terminal, where someone has to type it. Unless an implementation knows, it is none.
-    fn is_input_terminal(&self) -> bool {
+    fn is_input_terminal(&self) -> bool
+        ensures terminal { result ≡ true → may_have_terminal ≡ true }
+    {
         false
     }
 
     /// Whether standard error is a terminal, where a line can be written over. Unless an implementation knows, it is none.
-    fn is_error_terminal(&self) -> bool {
+    fn is_error_terminal(&self) -> bool
+        ensures terminal { result ≡ true → may_have_terminal ≡ true }
+    {
         false
     }
 }

@@ -1,5 +1,5 @@
 //! The files and the standard input of the machine.
-ghost use Rattle.std.specs.Prelude.{◌≡◌, ◌≤◌, length, map, vec_len, IfOk, IfSome};
+ghost use Rattle.std.specs.Prelude.{◌≡◌, ◌≤◌, length, map, true, vec_len, IfOk, IfSome};
 ghost use Rattle.std.specs.List.{concat};
 ghost use Rattle.byte_io.specs.Files.{unknown, unknown_files};
 
@@ -54,6 +54,8 @@ where
     ghost known_input = { λ _. unknown };
 
     ghost known_file = { λ _. unknown_files };
+
+    ghost may_have_terminal = { true };
 
     fn named(&mut self, alloc: Global, path: &str) -> Result<Vec<u8>, LoadFault>
         ensures bytes { IfOk result (λ bytes. IfSome unknown (λ known. bytes.items ≡ known)) }
@@ -128,6 +130,8 @@ where
     ghost known_input = { λ _. unknown };
 
     ghost known_file = { λ _. unknown_files };
+
+    ghost may_have_terminal = { true };
 
     fn open_named(
         &mut self,

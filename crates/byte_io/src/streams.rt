@@ -19,6 +19,9 @@ pub trait Streams {
     // Whether it is known that there is no file of a path.
     ghost is_absent: { Self → List ℕ → Bool } = { λ _ _. false };
 
+    // Whether the input may be a terminal: the machine's may.
+    ghost may_have_terminal: { Bool } = { false };
+
     /// The file of that path, from its first byte. A file that can't be opened is `LoadFault::Io`, or where to open it may wait, a read
     /// that fails.
     fn open_named(&mut self, alloc: Global, path: &str) -> Result<Self::Inlet, LoadFault>
@@ -46,7 +49,9 @@ pub trait Streams {
         ensures absences { is_absent self.new ≡ is_absent self.old };
 
     /// Whether the input is a terminal, where someone has to type it. Unless an implementation knows, it is none.
-    fn is_input_terminal(&self) -> bool {
+    fn is_input_terminal(&self) -> bool
+        ensures terminal { result ≡ true → may_have_terminal ≡ true }
+    {
         false
     }
 }

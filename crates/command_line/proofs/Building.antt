@@ -51,6 +51,7 @@ argument_is_simple argument.Format = refl
 argument_is_simple argument.Focus = refl
 argument_is_simple argument.Hide = refl
 argument_is_simple argument.From = refl
+argument_is_simple argument.Omit = refl
 argument_is_simple argument.Ring = refl
 argument_is_simple argument.Every = refl
 argument_is_simple argument.LiveEvery = refl
@@ -70,6 +71,7 @@ argument_is_simple argument.Page = refl
 argument_is_simple argument.Svg = refl
 argument_is_simple argument.Title = refl
 argument_is_simple argument.RootBelow = refl
+argument_is_simple argument.FormShare = refl
 argument_is_simple argument.Least = refl
 argument_is_simple argument.Function = refl
 argument_is_simple argument.Files = refl
@@ -99,6 +101,7 @@ with_all_arguments subcommand.Top = refl
 with_all_arguments subcommand.Diff = refl
 with_all_arguments subcommand.Callers = refl
 with_all_arguments subcommand.Callees = refl
+with_all_arguments subcommand.Peek = refl
 with_all_arguments subcommand.Types = refl
 
 -- `Command::bin_name`, of whose clause `P` is the rest
@@ -123,6 +126,7 @@ command_is_plain subcommand.Top = refl
 command_is_plain subcommand.Diff = refl
 command_is_plain subcommand.Callers = refl
 command_is_plain subcommand.Callees = refl
+command_is_plain subcommand.Peek = refl
 command_is_plain subcommand.Types = refl
 
 -- `Command::subcommand`, of one of the commands

@@ -51,7 +51,7 @@ entered_reads words none (Some p) is = reads words none p.0 p.1 (sym is)
 comparison_named : (name : Text) (entries : List Row) (view : View) → view_of name entries ≡ Some view → IsComparison view
     → compares name ≡ true
 comparison_named name entries view is comparing =
-    go (bytes_eq name (codes "fold")) (bytes_eq name (codes "graph")) (bytes_eq name (codes "chart")) (bytes_eq name (codes "compare")) (bytes_eq name (codes "top")) (bytes_eq name (codes "diff")) (bytes_eq name (codes "callers") || bytes_eq name (codes "callees")) is
+    go (bytes_eq name (codes "fold")) (bytes_eq name (codes "graph")) (bytes_eq name (codes "chart")) (bytes_eq name (codes "compare")) (bytes_eq name (codes "top")) (bytes_eq name (codes "diff")) (bytes_eq name (codes "callers") || (bytes_eq name (codes "callees") || bytes_eq name (codes "peek"))) is
   where
     same : (v : View) → Some v ≡ Some view → IsComparison v
     same v e = subst IsComparison (sym (ap (λ (o : Option View). unwrap_or o view) e)) comparing
@@ -97,20 +97,21 @@ unused_number entries id = go (find (λ r. bytes_eq r.id id) entries)
     go (Some r) e = absurd (true≢false e)
 
 -- what is written where no page and no picture is asked for is none
-no_form_of_text : (name : Text) (entries : List Row) (P : Form → Type 0) → P form.Text → (P (form.Callers (call_table_of entries))) → (P (form.Callees (call_table_of entries)))
+no_form_of_text : (name : Text) (entries : List Row) (P : Form → Type 0) → P form.Text → (P (form.Callers (call_table_of entries))) → (P (form.Callees (call_table_of entries))) → (P (form.Peek (call_table_of entries)))
     → P (text_form name entries)
-no_form_of_text name entries P text callers callees = go (bytes_eq name (codes "callers")) (bytes_eq name (codes "callees"))
+no_form_of_text name entries P text callers callees peek = go (bytes_eq name (codes "callers")) (bytes_eq name (codes "callees")) (bytes_eq name (codes "peek"))
   where
-    go : (up down : Bool) → P (cond up (form.Callers (call_table_of entries)) (cond down (form.Callees (call_table_of entries)) form.Text))
-    go true down = callers
-    go false true = callees
-    go false false = text
+    go : (up down both : Bool) → P (cond up (form.Callers (call_table_of entries)) (cond down (form.Callees (call_table_of entries)) (cond both (form.Peek (call_table_of entries)) form.Text)))
+    go true down both = callers
+    go false true both = callees
+    go false false true = peek
+    go false false false = text
 
 no_page : (name : Text) (entries : List Row) → IsPage (text_form name entries) → ⊥
-no_page name entries = no_form_of_text name entries (λ written. IsPage written → ⊥) (λ page. page) (λ page. page) (λ page. page)
+no_page name entries = no_form_of_text name entries (λ written. IsPage written → ⊥) (λ page. page) (λ page. page) (λ page. page) (λ page. page)
 
 no_picture : (name : Text) (entries : List Row) → IsPicture (text_form name entries) → ⊥
-no_picture name entries = no_form_of_text name entries (λ written. IsPicture written → ⊥) (λ picture. picture) (λ picture. picture) (λ picture. picture)
+no_picture name entries = no_form_of_text name entries (λ written. IsPicture written → ⊥) (λ picture. picture) (λ picture. picture) (λ picture. picture) (λ picture. picture)
 
 page_is_drawn : (name : Text) (entries : List Row) (view : View) → (is_set (codes "page") entries ≡ true → IsDrawn view) → IsPage (form_of name entries) → IsDrawn view
 page_is_drawn name entries view drawn = go (is_set (codes "page") entries) (is_set (codes "svg") entries) refl
@@ -149,6 +150,7 @@ IsOfView form.Types = ⊥
 IsOfView form.Live = ⊥
 IsOfView (form.Callers table) = Unit {0}
 IsOfView (form.Callees table) = Unit {0}
+IsOfView (form.Peek table) = Unit {0}
 
 is_of_view : (name : Text) (entries : List Row) → IsOfView (form_of name entries)
 is_of_view name entries = go (is_set (codes "page") entries) (is_set (codes "svg") entries)
@@ -156,7 +158,7 @@ is_of_view name entries = go (is_set (codes "page") entries) (is_set (codes "svg
     go : (page svg : Bool) → IsOfView (cond page (form.Page (page_of entries)) (cond svg (form.Picture (picture_of entries)) (text_form name entries)))
     go true svg = tt
     go false true = tt
-    go false false = no_form_of_text name entries IsOfView tt tt tt
+    go false false = no_form_of_text name entries IsOfView tt tt tt tt
 
 view_asks : (name : Text) (entries : List Row) (view : View) → IsRead name entries → has_conflict entries ≡ false → view_of name entries ≡ Some view → Asks (plan_with name entries view)
 view_asks name entries view read alone known = record {
@@ -185,7 +187,7 @@ live_asks name entries read = record {
   picture = λ picture. absurd picture;
   alone = λ picture. absurd picture;
   types = λ types. cc;
-  live = λ _. record { width = width_of entries; every = live_every entries; view = refl; options = refl; format = refl; from = refl };
+  live = λ _. record { width = width_of entries; every = live_every entries; view = refl; options = refl; format = refl; from = refl; omit = refl };
 }
 
 -- entries without a fault
@@ -202,8 +204,8 @@ with_no_fault {A} kinds o x at = go (is_empty kinds) refl at
     go true is at = (none_in kinds is, at)
     go false is at = cc
 
-no_conflict : (entries : List Row) → entries_fault entries ≡ [] → has_conflict entries ≡ false
-no_conflict entries = go (knows_format entries && (knows_order entries && knows_unit entries)) (has_conflict entries) (has_its_page entries && has_its_form entries)
+no_conflict : (name : Text) (entries : List Row) → entries_fault name entries ≡ [] → has_conflict entries ≡ false
+no_conflict name entries = go (knows_format entries && (knows_order entries && knows_unit entries)) (has_conflict entries) (has_its_page entries && has_its_form name entries)
   where
     go : (known conflict formed : Bool) → cond known (cond conflict (kind.ArgumentConflict ∷ []) (cond formed [] (kind.MissingRequiredArgument ∷ []))) (kind.InvalidValue ∷ []) ≡ [] → conflict ≡ false
     go false conflict formed e = cc
@@ -211,10 +213,10 @@ no_conflict entries = go (knows_format entries && (knows_order entries && knows_
     go true false formed e = refl
 
 command_asks : (name : Text) (entries : List Row) (plan : Plan) → IsRead name entries → command_plan name entries ≡ Some plan → Asks plan
-command_asks name entries plan read is = of_name (bytes_eq name (codes "types")) (bytes_eq name (codes "live")) refl (with_no_fault (entries_fault entries) _ plan is).1
+command_asks name entries plan read is = of_name (bytes_eq name (codes "types")) (bytes_eq name (codes "live")) refl (with_no_fault (entries_fault name entries) _ plan is).1
   where
     alone : has_conflict entries ≡ false
-    alone = no_conflict entries (with_no_fault (entries_fault entries) _ plan is).0
+    alone = no_conflict name entries (with_no_fault (entries_fault name entries) _ plan is).0
 
     same : (p : Plan) → Some p ≡ Some plan → Asks p → Asks plan
     same p e asks = subst Asks (ap (λ (o : Option Plan). unwrap_or o p) e) asks
@@ -248,7 +250,7 @@ only_memory a words e is passes taken = passes (ap (λ b. parses b words) is ∙
 
 pub planned_own : (entered : Option (Text × List Row)) (plan : Plan) → entered_plan entered ≡ Some plan → own_fault entered ≡ []
 planned_own None plan is = refl
-planned_own (Some p) plan is = (with_no_fault (entries_fault p.1) _ plan is).0
+planned_own (Some p) plan is = (with_no_fault (entries_fault p.0 p.1) _ plan is).0
 
 -- one of no kinds is want of memory
 pub among_none : (f : PlanFault) → IsFaultAmong [] f → f ≡ fault.OutOfMemory
@@ -257,44 +259,44 @@ among_none (fault.Words text) among = absurd among.1
 among_none (fault.Help text) among = absurd among.1
 
 -- a refusal of a kind that the entries have
-pub refused_for : (entries : List Row) (k : ErrorKind) (f : PlanFault) → entries_fault entries ≡ k ∷ [] → IsFaultOf k f → IsFaultAmong (entries_fault entries) f
-refused_for entries k fault.OutOfMemory is of = tt
-refused_for entries k (fault.Words text) is of = rw is (k, inl refl, of.0)
-refused_for entries k (fault.Help text) is of = rw is (k, inl refl, of)
+pub refused_for : (name : Text) (entries : List Row) (k : ErrorKind) (f : PlanFault) → entries_fault name entries ≡ k ∷ [] → IsFaultOf k f → IsFaultAmong (entries_fault name entries) f
+refused_for name entries k fault.OutOfMemory is of = tt
+refused_for name entries k (fault.Words text) is of = rw is (k, inl refl, of.0)
+refused_for name entries k (fault.Help text) is of = rw is (k, inl refl, of)
 
-pub refused_format : (entries : List Row) → knows_format entries ≡ false → entries_fault entries ≡ kind.InvalidValue ∷ []
-refused_format entries unknown = rw unknown refl
+pub refused_format : (name : Text) (entries : List Row) → knows_format entries ≡ false → entries_fault name entries ≡ kind.InvalidValue ∷ []
+refused_format name entries unknown = rw unknown refl
 
-pub refused_order : (entries : List Row) → knows_format entries ≡ true → knows_order entries ≡ false → entries_fault entries ≡ kind.InvalidValue ∷ []
-refused_order entries known unknown = rw (known, unknown) refl
+pub refused_order : (name : Text) (entries : List Row) → knows_format entries ≡ true → knows_order entries ≡ false → entries_fault name entries ≡ kind.InvalidValue ∷ []
+refused_order name entries known unknown = rw (known, unknown) refl
 
-pub refused_unit : (entries : List Row) → knows_format entries ≡ true → knows_order entries ≡ true → knows_unit entries ≡ false → entries_fault entries ≡ kind.InvalidValue ∷ []
-refused_unit entries format order unknown = rw (format, order, unknown) refl
+pub refused_unit : (name : Text) (entries : List Row) → knows_format entries ≡ true → knows_order entries ≡ true → knows_unit entries ≡ false → entries_fault name entries ≡ kind.InvalidValue ∷ []
+refused_unit name entries format order unknown = rw (format, order, unknown) refl
 
-pub refused_conflict : (entries : List Row) → knows_format entries ≡ true → knows_order entries ≡ true → knows_unit entries ≡ true → has_conflict entries ≡ true
-    → entries_fault entries ≡ kind.ArgumentConflict ∷ []
-refused_conflict entries format order unit conflict = rw (format, order, unit, conflict) refl
+pub refused_conflict : (name : Text) (entries : List Row) → knows_format entries ≡ true → knows_order entries ≡ true → knows_unit entries ≡ true → has_conflict entries ≡ true
+    → entries_fault name entries ≡ kind.ArgumentConflict ∷ []
+refused_conflict name entries format order unit conflict = rw (format, order, unit, conflict) refl
 
-pub refused_page : (entries : List Row) → knows_format entries ≡ true → knows_order entries ≡ true → knows_unit entries ≡ true → has_conflict entries ≡ false → has_its_page entries ≡ false
-    → entries_fault entries ≡ kind.MissingRequiredArgument ∷ []
-refused_page entries format order unit alone page = rw (format, order, unit, alone, page) refl
+pub refused_page : (name : Text) (entries : List Row) → knows_format entries ≡ true → knows_order entries ≡ true → knows_unit entries ≡ true → has_conflict entries ≡ false → has_its_page entries ≡ false
+    → entries_fault name entries ≡ kind.MissingRequiredArgument ∷ []
+refused_page name entries format order unit alone page = rw (format, order, unit, alone, page) refl
 
-pub refused_form : (entries : List Row) → knows_format entries ≡ true → knows_order entries ≡ true → knows_unit entries ≡ true → has_conflict entries ≡ false → has_its_page entries ≡ true → has_its_form entries ≡ false
-    → entries_fault entries ≡ kind.MissingRequiredArgument ∷ []
-refused_form entries format order unit alone page formed = rw (format, order, unit, alone, page, formed) refl
+pub refused_form : (name : Text) (entries : List Row) → knows_format entries ≡ true → knows_order entries ≡ true → knows_unit entries ≡ true → has_conflict entries ≡ false → has_its_page entries ≡ true → has_its_form name entries ≡ false
+    → entries_fault name entries ≡ kind.MissingRequiredArgument ∷ []
+refused_form name entries format order unit alone page formed = rw (format, order, unit, alone, page, formed) refl
 
-pub without_fault : (entries : List Row) → knows_format entries ≡ true → knows_order entries ≡ true → knows_unit entries ≡ true → has_conflict entries ≡ false → has_its_page entries ≡ true → has_its_form entries ≡ true → entries_fault entries ≡ []
-without_fault entries format order unit alone page formed = rw (format, order, unit, alone, page, formed) refl
+pub without_fault : (name : Text) (entries : List Row) → knows_format entries ≡ true → knows_order entries ≡ true → knows_unit entries ≡ true → has_conflict entries ≡ false → has_its_page entries ≡ true → has_its_form name entries ≡ true → entries_fault name entries ≡ []
+without_fault name entries format order unit alone page formed = rw (format, order, unit, alone, page, formed) refl
 
 -- what the plan of a command without a fault is, by its name
-pub planned_types : (name : Text) (entries : List Row) → entries_fault entries ≡ [] → bytes_eq name (codes "types") ≡ true → command_plan name entries ≡ Some (types_plan entries)
+pub planned_types : (name : Text) (entries : List Row) → entries_fault name entries ≡ [] → bytes_eq name (codes "types") ≡ true → command_plan name entries ≡ Some (types_plan entries)
 planned_types name entries none types = rw (none, types) refl
 
-pub planned_live : (name : Text) (entries : List Row) → entries_fault entries ≡ [] → bytes_eq name (codes "types") ≡ false → bytes_eq name (codes "live") ≡ true
+pub planned_live : (name : Text) (entries : List Row) → entries_fault name entries ≡ [] → bytes_eq name (codes "types") ≡ false → bytes_eq name (codes "live") ≡ true
     → command_plan name entries ≡ Some (live_plan entries)
 planned_live name entries none types live = rw (none, types, live) refl
 
-pub planned_view : (name : Text) (entries : List Row) → entries_fault entries ≡ [] → bytes_eq name (codes "types") ≡ false → bytes_eq name (codes "live") ≡ false
+pub planned_view : (name : Text) (entries : List Row) → entries_fault name entries ≡ [] → bytes_eq name (codes "types") ≡ false → bytes_eq name (codes "live") ≡ false
     → command_plan name entries ≡ option_map (plan_with name entries) (view_of name entries)
 planned_view name entries none types live = rw (none, types, live) refl
 

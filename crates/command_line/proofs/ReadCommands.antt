@@ -305,12 +305,15 @@ built_callers = slice_index_or built_line.subs 7 no_shape
 abbrev built_callees : Shape
 built_callees = slice_index_or built_line.subs 8 no_shape
 
+abbrev built_peek : Shape
+built_peek = slice_index_or built_line.subs 9 no_shape
+
 abbrev built_types : Shape
-built_types = slice_index_or built_line.subs 9 no_shape
+built_types = slice_index_or built_line.subs 10 no_shape
 
 fold_known : KnowsArguments built_fold.rules
 fold_known = record {
-  firsts = (refl, (refl, (refl, (refl, (refl, (refl, (refl, (refl, (refl, (refl, (refl, (refl, tt))))))))))));
+  firsts = (refl, (refl, (refl, (refl, (refl, (refl, (refl, (refl, (refl, (refl, (refl, (refl, (refl, tt)))))))))))));
   width = tt;
   ring = refl;
   every = tt;
@@ -331,7 +334,7 @@ fold_known = record {
 
 graph_known : KnowsArguments built_graph.rules
 graph_known = record {
-  firsts = (refl, (refl, (refl, (refl, (refl, (refl, (refl, (refl, (refl, (refl, (refl, (refl, (refl, (refl, (refl, (refl, (refl, (refl, (refl, (refl, tt))))))))))))))))))));
+  firsts = (refl, (refl, (refl, (refl, (refl, (refl, (refl, (refl, (refl, (refl, (refl, (refl, (refl, (refl, (refl, (refl, (refl, (refl, (refl, (refl, (refl, tt)))))))))))))))))))));
   width = refl;
   ring = refl;
   every = refl;
@@ -352,7 +355,7 @@ graph_known = record {
 
 chart_known : KnowsArguments built_chart.rules
 chart_known = record {
-  firsts = (refl, (refl, (refl, (refl, (refl, (refl, (refl, (refl, (refl, (refl, (refl, (refl, (refl, (refl, (refl, (refl, (refl, (refl, (refl, tt)))))))))))))))))));
+  firsts = (refl, (refl, (refl, (refl, (refl, (refl, (refl, (refl, (refl, (refl, (refl, (refl, (refl, (refl, (refl, (refl, (refl, (refl, (refl, (refl, tt))))))))))))))))))));
   width = refl;
   ring = refl;
   every = tt;
@@ -394,7 +397,7 @@ live_known = record {
 
 compare_known : KnowsArguments built_compare.rules
 compare_known = record {
-  firsts = (refl, (refl, (refl, (refl, (refl, (refl, (refl, (refl, (refl, (refl, (refl, (refl, (refl, (refl, (refl, (refl, (refl, (refl, (refl, (refl, (refl, tt)))))))))))))))))))));
+  firsts = (refl, (refl, (refl, (refl, (refl, (refl, (refl, (refl, (refl, (refl, (refl, (refl, (refl, (refl, (refl, (refl, (refl, (refl, (refl, (refl, (refl, (refl, (refl, tt)))))))))))))))))))))));
   width = refl;
   ring = refl;
   every = tt;
@@ -403,7 +406,7 @@ compare_known = record {
   rows = tt;
   json = tt;
   exact = tt;
-  share = tt;
+  share = refl;
   over = tt;
   strict = refl;
   quiet = refl;
@@ -415,7 +418,7 @@ compare_known = record {
 
 top_known : KnowsArguments built_top.rules
 top_known = record {
-  firsts = (refl, (refl, (refl, (refl, (refl, (refl, (refl, (refl, (refl, (refl, (refl, (refl, (refl, (refl, (refl, (refl, (refl, tt)))))))))))))))));
+  firsts = (refl, (refl, (refl, (refl, (refl, (refl, (refl, (refl, (refl, (refl, (refl, (refl, (refl, (refl, (refl, (refl, (refl, (refl, tt))))))))))))))))));
   width = tt;
   ring = refl;
   every = tt;
@@ -436,7 +439,7 @@ top_known = record {
 
 diff_known : KnowsArguments built_diff.rules
 diff_known = record {
-  firsts = (refl, (refl, (refl, (refl, (refl, (refl, (refl, (refl, (refl, (refl, (refl, (refl, (refl, (refl, (refl, (refl, (refl, (refl, (refl, (refl, tt))))))))))))))))))));
+  firsts = (refl, (refl, (refl, (refl, (refl, (refl, (refl, (refl, (refl, (refl, (refl, (refl, (refl, (refl, (refl, (refl, (refl, (refl, (refl, (refl, (refl, tt)))))))))))))))))))));
   width = tt;
   ring = refl;
   every = tt;
@@ -457,7 +460,7 @@ diff_known = record {
 
 callers_known : KnowsArguments built_callers.rules
 callers_known = record {
-  firsts = (refl, (refl, (refl, (refl, (refl, (refl, (refl, (refl, (refl, (refl, (refl, (refl, (refl, (refl, (refl, (refl, (refl, tt)))))))))))))))));
+  firsts = (refl, (refl, (refl, (refl, (refl, (refl, (refl, (refl, (refl, (refl, (refl, (refl, (refl, (refl, (refl, (refl, (refl, (refl, tt))))))))))))))))));
   width = tt;
   ring = refl;
   every = tt;
@@ -478,6 +481,9 @@ callers_known = record {
 
 callees_known : KnowsArguments built_callees.rules
 callees_known = callers_known
+
+peek_known : KnowsArguments built_peek.rules
+peek_known = callers_known
 
 types_known : KnowsArguments built_types.rules
 types_known = record {
@@ -551,6 +557,13 @@ callees_reads = (
   refl,
   λ words other fault. reads_command built_callees callees_known refl words fault (λ _ _. refl) (not_named _)
       (draws_none built_callees callees_known refl words fault (codes "page") _ refl) (draws_none built_callees callees_known refl words fault (codes "svg") _ refl) (not_named _),
+)
+
+peek_reads : ReadsCommand built_peek
+peek_reads = (
+  refl,
+  λ words other fault. reads_command built_peek peek_known refl words fault (λ _ _. refl) (not_named _)
+      (draws_none built_peek peek_known refl words fault (codes "page") _ refl) (draws_none built_peek peek_known refl words fault (codes "svg") _ refl) (not_named _),
 )
 
 both_given : (before after : Bool) → (not before || (not after || false)) ≡ false → (before ≡ true) × (after ≡ true)
@@ -627,11 +640,11 @@ types_reads = (
         let given = one_given (is_given (codes "file") found) (checks_pass false false wants (checked built_types types_known refl words fault)).1 in
         single_at built_types.rules found each _ refl (refl, refl, refl, refl) given refl refl
 
-help_reads : ReadsCommand (slice_index_or built_line.subs 10 no_shape)
+help_reads : ReadsCommand (slice_index_or built_line.subs 11 no_shape)
 help_reads = (refl, λ words other fault. absurd (true≢false other))
 
 commands_read : Each ReadsCommand built_line.subs
-commands_read = (fold_reads, (graph_reads, (chart_reads, (live_reads, (compare_reads, (top_reads, (diff_reads, (callers_reads, (callees_reads, (types_reads, (help_reads, tt)))))))))))
+commands_read = (fold_reads, (graph_reads, (chart_reads, (live_reads, (compare_reads, (top_reads, (diff_reads, (callers_reads, (callees_reads, (peek_reads, (types_reads, (help_reads, tt))))))))))))
 
 -- ---- the command line
 

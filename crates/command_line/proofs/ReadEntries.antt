@@ -16,7 +16,7 @@ use Rattle.run_options.specs.Formats.{named_format}
 use Rattle.run_options.specs.Orders.{named_order}
 use Rattle.command_line.specs.Units.{named_unit}
 use Rattle.run_options.specs.declared.orders.FunctionOrder.TheVariants.{Own}
-use Rattle.command_line.specs.Plans.{asked_format, asked_unit, form_of, function_of, has_conflict, has_its_form, has_its_page, is_drawn, is_root_below, is_set, is_used, knows_format, knows_order, knows_unit, number_at, order_of, page_of, pick_of, picture_of, shows_boxes, text_form, values_at}
+use Rattle.command_line.specs.Plans.{asked_format, asked_unit, draws_shares, form_of, function_of, has_conflict, has_its_form, has_its_page, is_drawn, is_root_below, is_set, is_used, knows_format, knows_order, knows_unit, number_at, order_of, page_of, pick_of, picture_of, shows_boxes, text_form, values_at}
 use Rattle.command_line.specs.declared.plans.Form.TheVariants as form
 
 -- how `u32` reads a text
@@ -173,15 +173,19 @@ asked_page entries set = rw set refl
 pub by_no_page : (entries : List Row) → is_set (codes "page") entries ≡ false → has_its_page entries ≡ not (is_used (codes "least") entries)
 by_no_page entries unset = rw unset refl
 
-pub asked_form : (entries : List Row) → is_drawn entries ≡ true → has_its_form entries ≡ true
-asked_form entries drawn = rw drawn refl
+pub asked_form : (name : Text) (entries : List Row) → is_drawn entries ≡ true → has_its_form name entries ≡ true
+asked_form name entries drawn = rw drawn refl
 
-pub titled_alone : (entries : List Row) → is_drawn entries ≡ false → is_used (codes "title") entries ≡ true → has_its_form entries ≡ false
-titled_alone entries undrawn title = rw (undrawn, title) refl
+pub titled_alone : (name : Text) (entries : List Row) → is_drawn entries ≡ false → is_used (codes "title") entries ≡ true → has_its_form name entries ≡ false
+titled_alone name entries undrawn title = rw (undrawn, title) refl
 
-pub untitled : (entries : List Row) → is_drawn entries ≡ false → is_used (codes "title") entries ≡ false
-    → has_its_form entries ≡ not (is_root_below entries)
-untitled entries undrawn title = rw (undrawn, title) refl
+pub below_alone : (name : Text) (entries : List Row) → is_drawn entries ≡ false → is_used (codes "title") entries ≡ false
+    → is_root_below entries ≡ true → has_its_form name entries ≡ false
+below_alone name entries undrawn title below = rw (undrawn, title, below) refl
+
+pub shared_alone : (name : Text) (entries : List Row) → is_drawn entries ≡ false → is_used (codes "title") entries ≡ false
+    → is_root_below entries ≡ false → has_its_form name entries ≡ not (draws_shares name entries)
+shared_alone name entries undrawn title below = rw (undrawn, title, below) refl
 
 pub drawn_by_page : (entries : List Row) → is_set (codes "page") entries ≡ true → is_drawn entries ≡ true
 drawn_by_page entries page = rw page refl

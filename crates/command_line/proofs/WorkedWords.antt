@@ -33,7 +33,7 @@ abbrev changes : TopTable → DiffTable
 changes table = record { table = table; is_share = false; fail_over = None }
 
 abbrev plan_with : View → Options → List Text → Plan
-plan_with view options files = record { view = view; options = options; from = None; output = None; format = None; files = files; form = form.Text; is_strict = false; is_quiet = false; unit = None }
+plan_with view options files = record { view = view; options = options; from = None; omit = []; output = None; format = None; files = files; form = form.Text; is_strict = false; is_quiet = false; unit = None }
 
 graph_with_a_width : plan_of (codes "graph" ∷ codes "--width" ∷ codes "10" ∷ codes "x.folded" ∷ [])
     ≡ Some (plan_with (Graph 10) defaults (codes "x.folded" ∷ []))
@@ -111,7 +111,7 @@ unfolding clap_on_literals
 exact_top_in_seconds = refl
 
 picture_in_a_file : plan_of (codes "graph" ∷ codes "--svg" ∷ codes "-o" ∷ codes "x.svg" ∷ codes "x" ∷ [])
-    ≡ Some (record (plan_with (Graph 1200) defaults (codes "x" ∷ [])) { form = form.Picture (record { title = None; is_root_below = false }); output = Some (codes "x.svg") })
+    ≡ Some (record (plan_with (Graph 1200) defaults (codes "x" ∷ [])) { form = form.Picture (record { title = None; is_root_below = false; is_share = false }); output = Some (codes "x.svg") })
 unfolding clap_on_literals
 picture_in_a_file = refl
 
@@ -125,7 +125,7 @@ unfolding clap_on_literals
 no_nameless_file = refl
 
 picture_in_bytes : plan_of (codes "graph" ∷ codes "--svg" ∷ codes "--unit=bytes" ∷ [])
-    ≡ Some (record (plan_with (Graph 1200) defaults []) { form = form.Picture (record { title = None; is_root_below = false }); unit = Some Bytes })
+    ≡ Some (record (plan_with (Graph 1200) defaults []) { form = form.Picture (record { title = None; is_root_below = false; is_share = false }); unit = Some Bytes })
 unfolding clap_on_literals
 picture_in_bytes = refl
 
@@ -207,6 +207,11 @@ callees_with_options : plan_of (codes "callees" ∷ codes "--json" ∷ codes "f"
 unfolding clap_on_literals
 callees_with_options = refl
 
+peek_with_options : plan_of (codes "peek" ∷ codes "f" ∷ codes "--exact" ∷ codes "x" ∷ codes "-n3" ∷ [])
+    ≡ Some (record (plan_with Fold defaults (codes "x" ∷ [])) { form = form.Peek (record { name = codes "f"; rows = 3; is_json = false; is_exact = true }) })
+unfolding clap_on_literals
+peek_with_options = refl
+
 callers_of_none : fault_of command_line (codes "callers" ∷ codes "--json" ∷ []) ≡ kind.MissingRequiredArgument ∷ []
 unfolding clap_on_literals
 callers_of_none = refl
@@ -233,6 +238,24 @@ from_no_name : fault_of command_line (codes "top" ∷ codes "--from=" ∷ []) �
 unfolding clap_on_literals
 from_no_name = refl
 
+fold_without_names : plan_of (codes "fold" ∷ codes "--omit" ∷ codes "f g" ∷ codes "x" ∷ codes "--omit=h" ∷ [])
+    ≡ Some (record (plan_with Fold defaults (codes "x" ∷ [])) { omit = codes "f g" ∷ codes "h" ∷ [] })
+unfolding clap_on_literals
+fold_without_names = refl
+
+compared_without_a_name : plan_of (codes "compare" ∷ codes "b" ∷ codes "--from" ∷ codes "f" ∷ codes "a" ∷ codes "--omit" ∷ codes "f" ∷ [])
+    ≡ Some (record (plan_with Pairs defaults (codes "b" ∷ codes "a" ∷ [])) { from = Some (codes "f"); omit = codes "f" ∷ [] })
+unfolding clap_on_literals
+compared_without_a_name = refl
+
+omits_no_name : fault_of command_line (codes "top" ∷ codes "--omit=" ∷ []) ≡ kind.InvalidValue ∷ []
+unfolding clap_on_literals
+omits_no_name = refl
+
+no_omit_of_live : fault_of command_line (codes "live" ∷ codes "--omit" ∷ codes "f" ∷ []) ≡ kind.UnknownArgument ∷ []
+unfolding clap_on_literals
+no_omit_of_live = refl
+
 no_from_of_types : fault_of command_line (codes "types" ∷ codes "--from" ∷ codes "f" ∷ codes "x" ∷ []) ≡ kind.UnknownArgument ∷ []
 unfolding clap_on_literals
 no_from_of_types = refl
@@ -254,12 +277,12 @@ unfolding clap_on_literals
 quiet_fold = refl
 
 page_of_a_graph : plan_of (codes "graph" ∷ codes "--page" ∷ codes "x" ∷ [])
-    ≡ Some (record (plan_with (Graph 1200) defaults (codes "x" ∷ [])) { form = form.Page (record { title = None; least = None; is_root_below = false }) })
+    ≡ Some (record (plan_with (Graph 1200) defaults (codes "x" ∷ [])) { form = form.Page (record { title = None; least = None; is_root_below = false; is_share = false }) })
 unfolding clap_on_literals
 page_of_a_graph = refl
 
 page_with_a_title : plan_of (codes "chart" ∷ codes "--title" ∷ codes "t u" ∷ codes "--page" ∷ codes "--least=0" ∷ codes "--width=9" ∷ [])
-    ≡ Some (record (plan_with (Chart 9) defaults []) { form = form.Page (record { title = Some (codes "t u"); least = Some 0; is_root_below = false }) })
+    ≡ Some (record (plan_with (Chart 9) defaults []) { form = form.Page (record { title = Some (codes "t u"); least = Some 0; is_root_below = false; is_share = false }) })
 unfolding clap_on_literals
 page_with_a_title = refl
 
@@ -270,25 +293,48 @@ unfolding clap_on_literals
 page_of_a_comparison = refl
 
 page_with_the_root_below : plan_of (codes "graph" ∷ codes "--root-below" ∷ codes "--page" ∷ [])
-    ≡ Some (record (plan_with (Graph 1200) defaults []) { form = form.Page (record { title = None; least = None; is_root_below = true }) })
+    ≡ Some (record (plan_with (Graph 1200) defaults []) { form = form.Page (record { title = None; least = None; is_root_below = true; is_share = false }) })
 unfolding clap_on_literals
 page_with_the_root_below = refl
 
 picture_of_a_graph : plan_of (codes "graph" ∷ codes "--svg" ∷ codes "--width" ∷ codes "800" ∷ codes "x" ∷ [])
-    ≡ Some (record (plan_with (Graph 800) defaults (codes "x" ∷ [])) { form = form.Picture (record { title = None; is_root_below = false }) })
+    ≡ Some (record (plan_with (Graph 800) defaults (codes "x" ∷ [])) { form = form.Picture (record { title = None; is_root_below = false; is_share = false }) })
 unfolding clap_on_literals
 picture_of_a_graph = refl
 
 picture_with_a_title : plan_of (codes "chart" ∷ codes "--title" ∷ codes "t u" ∷ codes "--root-below" ∷ codes "--svg" ∷ [])
-    ≡ Some (record (plan_with (Chart 1200) defaults []) { form = form.Picture (record { title = Some (codes "t u"); is_root_below = true }) })
+    ≡ Some (record (plan_with (Chart 1200) defaults []) { form = form.Picture (record { title = Some (codes "t u"); is_root_below = true; is_share = false }) })
 unfolding clap_on_literals
 picture_with_a_title = refl
 
 -- the picture of a comparison shows boxes, said or not
 picture_of_a_comparison : plan_of (codes "compare" ∷ codes "a" ∷ codes "--svg" ∷ codes "b" ∷ [])
-    ≡ Some (record (plan_with (PairBoxes 1200) defaults (codes "a" ∷ codes "b" ∷ [])) { form = form.Picture (record { title = None; is_root_below = false }) })
+    ≡ Some (record (plan_with (PairBoxes 1200) defaults (codes "a" ∷ codes "b" ∷ [])) { form = form.Picture (record { title = None; is_root_below = false; is_share = false }) })
 unfolding clap_on_literals
 picture_of_a_comparison = refl
+
+picture_of_shares : plan_of (codes "compare" ∷ codes "--share" ∷ codes "--svg" ∷ codes "a" ∷ codes "b" ∷ [])
+    ≡ Some (record (plan_with (PairBoxes 1200) defaults (codes "a" ∷ codes "b" ∷ [])) { form = form.Picture (record { title = None; is_root_below = false; is_share = true }) })
+unfolding clap_on_literals
+picture_of_shares = refl
+
+page_of_shares : plan_of (codes "compare" ∷ codes "a" ∷ codes "--page" ∷ codes "--least" ∷ codes "2" ∷ codes "b" ∷ codes "--share" ∷ [])
+    ≡ Some (record (plan_with (PairBoxes 1200) defaults (codes "a" ∷ codes "b" ∷ [])) { form = form.Page (record { title = None; least = Some 2; is_root_below = false; is_share = true }) })
+unfolding clap_on_literals
+page_of_shares = refl
+
+-- lines and boxes have the weights themselves
+no_shares_of_lines : fault_of command_line (codes "compare" ∷ codes "--share" ∷ codes "a" ∷ codes "b" ∷ []) ≡ kind.MissingRequiredArgument ∷ []
+unfolding clap_on_literals
+no_shares_of_lines = refl
+
+no_shares_of_boxes : fault_of command_line (codes "compare" ∷ codes "--boxes" ∷ codes "a" ∷ codes "b" ∷ codes "--share" ∷ []) ≡ kind.MissingRequiredArgument ∷ []
+unfolding clap_on_literals
+no_shares_of_boxes = refl
+
+no_shares_of_a_graph : fault_of command_line (codes "graph" ∷ codes "--svg" ∷ codes "--share" ∷ []) ≡ kind.UnknownArgument ∷ []
+unfolding clap_on_literals
+no_shares_of_a_graph = refl
 
 picture_and_page : fault_of command_line (codes "graph" ∷ codes "--svg" ∷ codes "--page" ∷ []) ≡ kind.ArgumentConflict ∷ []
 unfolding clap_on_literals

@@ -49,6 +49,9 @@ hide_option = texts_option (codes "hide")
 abbrev pub from_option : Rule
 from_option = record (text_option (codes "from")) { parser = Some NonEmptyString }
 
+abbrev pub omit_option : Rule
+omit_option = texts_option (codes "omit")
+
 abbrev pub ring_option : Rule
 ring_option = number_option (codes "ring") LARGEST_RING
 
@@ -117,16 +120,16 @@ command name arguments = record (new_shape name) { rules = arguments }
 
 abbrev pub fold_command : Shape
 fold_command = command (codes "fold") (type_option ∷ format_option ∷ focus_option ∷ hide_option
-    ∷ from_option ∷ ring_option ∷ lines_flag ∷ strict_flag ∷ output_option ∷ quiet_flag ∷ any_files (codes "file") ∷ [])
+    ∷ from_option ∷ omit_option ∷ ring_option ∷ lines_flag ∷ strict_flag ∷ output_option ∷ quiet_flag ∷ any_files (codes "file") ∷ [])
 
 abbrev pub graph_command : Shape
 graph_command = command (codes "graph") (width_option ∷ type_option ∷ unit_option ∷ format_option
-    ∷ focus_option ∷ hide_option ∷ from_option ∷ ring_option ∷ every_option ∷ lines_flag ∷ strict_flag ∷ output_option ∷ quiet_flag
+    ∷ focus_option ∷ hide_option ∷ from_option ∷ omit_option ∷ ring_option ∷ every_option ∷ lines_flag ∷ strict_flag ∷ output_option ∷ quiet_flag
     ∷ page_flag ∷ svg_flag ∷ title_option ∷ root_below_flag ∷ least_option ∷ any_files (codes "file") ∷ [])
 
 abbrev pub chart_command : Shape
 chart_command = command (codes "chart") (width_option ∷ type_option ∷ unit_option ∷ format_option
-    ∷ focus_option ∷ hide_option ∷ from_option ∷ ring_option ∷ lines_flag ∷ strict_flag ∷ output_option ∷ quiet_flag
+    ∷ focus_option ∷ hide_option ∷ from_option ∷ omit_option ∷ ring_option ∷ lines_flag ∷ strict_flag ∷ output_option ∷ quiet_flag
     ∷ page_flag ∷ svg_flag ∷ title_option ∷ root_below_flag ∷ least_option ∷ any_files (codes "file") ∷ [])
 
 abbrev pub live_command : Shape
@@ -134,23 +137,23 @@ live_command = command (codes "live") (width_option ∷ every_option ∷ ring_op
 
 abbrev pub compare_command : Shape
 compare_command = command (codes "compare") (width_option ∷ type_option ∷ unit_option ∷ format_option
-    ∷ focus_option ∷ hide_option ∷ from_option ∷ ring_option ∷ boxes_flag ∷ lines_flag ∷ strict_flag ∷ output_option ∷ quiet_flag
-    ∷ page_flag ∷ svg_flag ∷ title_option ∷ root_below_flag ∷ least_option
+    ∷ focus_option ∷ hide_option ∷ from_option ∷ omit_option ∷ ring_option ∷ boxes_flag ∷ lines_flag ∷ strict_flag ∷ output_option ∷ quiet_flag
+    ∷ page_flag ∷ svg_flag ∷ title_option ∷ root_below_flag ∷ least_option ∷ share_flag
     ∷ one_value (codes "before") ∷ one_value (codes "after") ∷ [])
 
 abbrev pub top_command : Shape
 top_command = command (codes "top") (rows_option ∷ by_option ∷ json_flag ∷ exact_flag ∷ type_option ∷ unit_option ∷ format_option
-    ∷ focus_option ∷ hide_option ∷ from_option ∷ ring_option ∷ lines_flag ∷ strict_flag ∷ output_option ∷ quiet_flag ∷ any_files (codes "file") ∷ [])
+    ∷ focus_option ∷ hide_option ∷ from_option ∷ omit_option ∷ ring_option ∷ lines_flag ∷ strict_flag ∷ output_option ∷ quiet_flag ∷ any_files (codes "file") ∷ [])
 
 abbrev pub diff_command : Shape
 diff_command = command (codes "diff") (rows_option ∷ by_option ∷ json_flag ∷ exact_flag ∷ share_flag ∷ fail_over_option
-    ∷ type_option ∷ unit_option ∷ format_option ∷ focus_option ∷ hide_option ∷ from_option ∷ ring_option ∷ lines_flag ∷ strict_flag ∷ output_option ∷ quiet_flag
+    ∷ type_option ∷ unit_option ∷ format_option ∷ focus_option ∷ hide_option ∷ from_option ∷ omit_option ∷ ring_option ∷ lines_flag ∷ strict_flag ∷ output_option ∷ quiet_flag
     ∷ one_value (codes "before") ∷ one_value (codes "after") ∷ [])
 
 -- the name comes before the files
 abbrev pub calls_command : Text → Shape
 calls_command name = command name (rows_option ∷ json_flag ∷ exact_flag ∷ type_option ∷ unit_option ∷ format_option
-    ∷ focus_option ∷ hide_option ∷ from_option ∷ ring_option ∷ lines_flag ∷ strict_flag ∷ output_option ∷ quiet_flag
+    ∷ focus_option ∷ hide_option ∷ from_option ∷ omit_option ∷ ring_option ∷ lines_flag ∷ strict_flag ∷ output_option ∷ quiet_flag
     ∷ one_value (codes "function") ∷ any_files (codes "file") ∷ [])
 
 abbrev pub callers_command : Shape
@@ -158,6 +161,9 @@ callers_command = calls_command (codes "callers")
 
 abbrev pub callees_command : Shape
 callees_command = calls_command (codes "callees")
+
+abbrev pub peek_command : Shape
+peek_command = calls_command (codes "peek")
 
 abbrev pub types_command : Shape
 types_command = command (codes "types") (output_option ∷ one_value (codes "file") ∷ [])
@@ -172,5 +178,5 @@ command_line = record {
     subcommand_required = true;
   };
   subs = fold_command ∷ graph_command ∷ chart_command ∷ live_command ∷ compare_command ∷ top_command ∷ diff_command
-      ∷ callers_command ∷ callees_command ∷ types_command ∷ [];
+      ∷ callers_command ∷ callees_command ∷ peek_command ∷ types_command ∷ [];
 }

@@ -19,6 +19,7 @@ is_document form.Types = false
 is_document form.Live = false
 is_document (form.Callers table) = false
 is_document (form.Callees table) = false
+is_document (form.Peek table) = false
 
 abbrev pub written_to : Plan → Destination
 written_to plan = option_map_or File plan.output (Standard (is_document plan.form))

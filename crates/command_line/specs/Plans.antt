@@ -103,6 +103,10 @@ options_of entries = record {
 abbrev pub from_of : List Row → Option Text
 from_of entries = first_of (codes "from") entries
 
+-- the names whose frames are left out
+abbrev pub omit_of : List Row → List Text
+omit_of entries = values_at (codes "omit") entries
+
 -- the file that what is written goes to, if the words set one
 abbrev pub output_of : List Row → Option Text
 output_of entries = first_of (codes "output") entries
@@ -144,11 +148,15 @@ table_of entries = record {
   is_exact = is_set (codes "exact") entries;
 }
 
+-- shares are compared, and not weights
+abbrev pub is_share : List Row → Bool
+is_share entries = is_set (codes "share") entries
+
 -- a table of changes: of shares, and with a limit, if the words set one
 abbrev pub diff_table_of : List Row → DiffTable
 diff_table_of entries = record {
   table = table_of entries;
-  is_share = is_set (codes "share") entries;
+  is_share = is_share entries;
   fail_over = number_at (codes "fail-over") entries;
 }
 
@@ -164,7 +172,7 @@ call_table_of entries = record {
   is_exact = is_set (codes "exact") entries;
 }
 
--- the two commands that tell the calls of a function show no view: the plan has that of `fold`
+-- the three commands that tell the calls of a function show no view: the plan has that of `fold`
 abbrev pub view_of : Text → List Row → Option View
 view_of name entries =
     if bytes_eq name (codes "fold") then Some Fold
@@ -173,7 +181,7 @@ view_of name entries =
     else (if bytes_eq name (codes "compare") then Some (compared_view entries)
     else (if bytes_eq name (codes "top") then Some (Top (table_of entries))
     else (if bytes_eq name (codes "diff") then Some (Diff (diff_table_of entries))
-    else (if bytes_eq name (codes "callers") || bytes_eq name (codes "callees") then Some Fold else None))))))
+    else (if bytes_eq name (codes "callers") || (bytes_eq name (codes "callees") || bytes_eq name (codes "peek")) then Some Fold else None))))))
 
 -- what is written: a page or a picture with what the words say of it, else the calls of a function, or the text of the view
 abbrev pub title_of : List Row → Option Text
@@ -187,15 +195,21 @@ page_of entries = record {
   title = title_of entries;
   least = number_at (codes "least") entries;
   is_root_below = is_root_below entries;
+  is_share = is_share entries;
 }
 
 abbrev pub picture_of : List Row → PictureForm
-picture_of entries = record { title = title_of entries; is_root_below = is_root_below entries }
+picture_of entries = record {
+  title = title_of entries;
+  is_root_below = is_root_below entries;
+  is_share = is_share entries;
+}
 
 abbrev pub text_form : Text → List Row → Form
 text_form name entries =
     if bytes_eq name (codes "callers") then form.Callers (call_table_of entries)
-    else (if bytes_eq name (codes "callees") then form.Callees (call_table_of entries) else form.Text)
+    else (if bytes_eq name (codes "callees") then form.Callees (call_table_of entries)
+    else (if bytes_eq name (codes "peek") then form.Peek (call_table_of entries) else form.Text))
 
 abbrev pub form_of : Text → List Row → Form
 form_of name entries =
@@ -207,13 +221,16 @@ abbrev pub has_conflict : List Row → Bool
 has_conflict entries = is_set (codes "svg") entries
     && (is_set (codes "page") entries || (is_used (codes "every") entries || is_used (codes "least") entries))
 
--- a least weight is that of a page, and a title and a root below are those of a page or a picture
+-- a least weight is that of a page, and a title, a root below and the shares of `compare` are those of a page or a picture
 abbrev pub has_its_page : List Row → Bool
 has_its_page entries = is_set (codes "page") entries || not (is_used (codes "least") entries)
 
-abbrev pub has_its_form : List Row → Bool
-has_its_form entries = is_drawn entries
-    || not (is_used (codes "title") entries || is_root_below entries)
+abbrev pub draws_shares : Text → List Row → Bool
+draws_shares name entries = bytes_eq name (codes "compare") && is_share entries
+
+abbrev pub has_its_form : Text → List Row → Bool
+has_its_form name entries = is_drawn entries
+    || not (is_used (codes "title") entries || (is_root_below entries || draws_shares name entries))
 
 -- a command has either FILEs or BEFORE and AFTER
 abbrev pub files_of : List Row → List Text
@@ -226,6 +243,7 @@ plan_with name entries view = record {
   view = view;
   options = options_of entries;
   from = from_of entries;
+  omit = omit_of entries;
   output = output_of entries;
   format = asked_format entries;
   files = files_of entries;
@@ -241,6 +259,7 @@ types_plan entries = record {
   view = Fold;
   options = default_options;
   from = None;
+  omit = [];
   output = output_of entries;
   format = Some Pprof;
   files = files_of entries;
@@ -267,6 +286,7 @@ live_plan entries = record {
   view = Graph (width_of entries);
   options = live_options entries;
   from = None;
+  omit = [];
   output = output_of entries;
   format = Some Folded;
   files = files_of entries;
@@ -276,19 +296,19 @@ live_plan entries = record {
   unit = None;
 }
 
--- the faults of entries that `clap` takes: a format, an order or a unit that there is not, else a picture beside what it excludes, else
+-- the faults of a command's entries that `clap` takes: a format, an order or a unit that there is not, else a picture beside what it excludes, else
 -- what is said of a page or a picture where none is asked for
-abbrev pub entries_fault : List Row → Kinds
-entries_fault entries =
+abbrev pub entries_fault : Text → List Row → Kinds
+entries_fault name entries =
     if knows_format entries && (knows_order entries && knows_unit entries)
     then (if has_conflict entries then kind.ArgumentConflict ∷ []
-    else (if has_its_page entries && has_its_form entries then [] else kind.MissingRequiredArgument ∷ []))
+    else (if has_its_page entries && has_its_form name entries then [] else kind.MissingRequiredArgument ∷ []))
     else kind.InvalidValue ∷ []
 
 -- the plan of a command with its entries, if they have no fault
 abbrev pub command_plan : Text → List Row → Option Plan
 command_plan name entries =
-    if is_empty (entries_fault entries) then (if bytes_eq name (codes "types") then Some (types_plan entries)
+    if is_empty (entries_fault name entries) then (if bytes_eq name (codes "types") then Some (types_plan entries)
     else (if bytes_eq name (codes "live") then Some (live_plan entries)
     else option_map (plan_with name entries) (view_of name entries)))
     else None
@@ -344,6 +364,7 @@ IsPage form.Types = ⊥
 IsPage form.Live = ⊥
 IsPage (form.Callers table) = ⊥
 IsPage (form.Callees table) = ⊥
+IsPage (form.Peek table) = ⊥
 
 -- a picture is written
 abbrev pub IsPicture : Form → Type 0
@@ -354,6 +375,7 @@ IsPicture form.Types = ⊥
 IsPicture form.Live = ⊥
 IsPicture (form.Callers table) = ⊥
 IsPicture (form.Callees table) = ⊥
+IsPicture (form.Peek table) = ⊥
 
 -- the plan reads one profile, with the default options
 abbrev pub IsOfOneProfile : Plan → Type 0
@@ -368,12 +390,13 @@ pub record IsOfStreams (plan : Plan) : Type 0 where
   pub options : plan.options ≡ record default_options { ring = plan.options.ring; every = Some every }
   pub format : plan.format ≡ Some Folded
   pub from : plan.from ≡ None
+  pub omit : plan.omit ≡ []
 
 -- ---- refusals
 
 -- the faults of the entries of the command that was entered
 abbrev pub own_fault : Option (Text × List Row) → Kinds
-own_fault entered = option_map_or (λ entered. entries_fault entered.1) entered []
+own_fault entered = option_map_or (λ entered. entries_fault entered.0 entered.1) entered []
 
 -- the words are taken: `clap` takes them, and their entries have no fault
 abbrev pub takes : App → List Text → Bool

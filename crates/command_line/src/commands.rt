@@ -56,6 +56,10 @@ const CALLEES_EXAMPLE: &str = "\
 Example: flamecollect callees main.serve cpu.pprof
 Compressed: gzip -dc cpu.pb.gz | flamecollect callees main.serve --format pprof";
 
+const PEEK_EXAMPLE: &str = "\
+Example: flamecollect peek main.serve cpu.pprof
+Compressed: gzip -dc cpu.pb.gz | flamecollect peek main.serve --format pprof";
+
 const TYPES_EXAMPLE: &str = "\
 Example: flamecollect types cpu.pprof
 Compressed: gzip -dk cpu.pb.gz makes cpu.pb, whose types can be told";
@@ -71,6 +75,7 @@ pub(crate) enum Subcommand {
     Diff,
     Callers,
     Callees,
+    Peek,
     Types,
 }
 
@@ -85,6 +90,7 @@ const COMMANDS: &[Subcommand] = &[
     Subcommand::Diff,
     Subcommand::Callers,
     Subcommand::Callees,
+    Subcommand::Peek,
     Subcommand::Types,
 ];
 
@@ -102,6 +108,7 @@ impl Subcommand {
             Subcommand::Diff => "diff",
             Subcommand::Callers => "callers",
             Subcommand::Callees => "callees",
+            Subcommand::Peek => "peek",
             Subcommand::Types => "types",
         }
     }
@@ -119,6 +126,7 @@ impl Subcommand {
             Subcommand::Diff => "Write the functions of two profiles with the greatest changes",
             Subcommand::Callers => "Write the functions that call one, by the weight of the calls",
             Subcommand::Callees => "Write the functions that one calls, by the weight of the calls",
+            Subcommand::Peek => "Write both, the functions that call one and those that it calls",
             Subcommand::Types => "Write the sample types of a pprof profile, each with its unit",
         }
     }
@@ -134,6 +142,7 @@ impl Subcommand {
             Subcommand::Diff => DIFF_EXAMPLE,
             Subcommand::Callers => CALLERS_EXAMPLE,
             Subcommand::Callees => CALLEES_EXAMPLE,
+            Subcommand::Peek => PEEK_EXAMPLE,
             Subcommand::Types => TYPES_EXAMPLE,
         }
     }
@@ -151,6 +160,7 @@ impl Subcommand {
             Subcommand::Diff => DIFF,
             Subcommand::Callers => CALLS,
             Subcommand::Callees => CALLS,
+            Subcommand::Peek => CALLS,
             Subcommand::Types => TYPES,
         }
     }

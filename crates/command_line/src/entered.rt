@@ -8,12 +8,13 @@ ghost use Rattle.command_line.specs.declared.plans.PlanFault.TheVariants.{OutOfM
 ghost use Rattle.run_options.specs.declared.ring_sizes.TheConstants.{LARGEST_RING};
 ghost use Rattle.run_options.specs.declared.widths.TheConstants.{MAX_WIDTH};
 
-use crate::entries::{default_options, files, first, format, live_options, options, unit};
+use crate::entries::{default_options, files, first, format, live_options, options, unit, values};
 use crate::plans::{Form, Plan, PlanFault, View};
 use crate::refusals::check_entries;
 use crate::views::{form, view, width};
 use clap::ArgMatches;
 use run_options::Format;
+use stack_core::Names;
 use std::alloc::{AllocError, Global};
 
 // The plan of the command that was entered.
@@ -35,8 +36,8 @@ pub(crate) fn planned(alloc: Global, matches: &ArgMatches<'_>) -> Result<Plan, P
 fn command_plan(alloc: Global, name: &str, entries: &ArgMatches<'_>) -> Result<Plan, PlanFault>
     requires { IsRead name.now (entries_of entries.now) }
     ensures plan { IfOk result (λ plan. command_plan name.now (entries_of entries.now) ≡ Some plan) }
-    ensures refused { IfErr result (IsFaultAmong (entries_fault (entries_of entries.now))) }
-    ensures passes { entries_fault (entries_of entries.now) ≡ []
+    ensures refused { IfErr result (IsFaultAmong (entries_fault name.now (entries_of entries.now))) }
+    ensures passes { entries_fault name.now (entries_of entries.now) ≡ []
         → IfErr result (λ fault. fault ≡ OutOfMemory) }
 {
     check_entries(alloc, name, entries)?;
@@ -64,6 +65,7 @@ fn view_plan(alloc: Global, name: &str, entries: &ArgMatches<'_>) -> Result<Plan
         unit: unit(entries),
         form: form(alloc, name, entries)?,
         from: first(alloc, entries, "from")?,
+        omit: values(alloc, entries, "omit")?,
         output: first(alloc, entries, "output")?,
         files: files(alloc, entries)?,
         options: options(alloc, entries)?,
@@ -80,6 +82,7 @@ fn types_plan(alloc: Global, entries: &ArgMatches<'_>) -> Result<Plan, AllocErro
         is_strict: false,
         is_quiet: false,
         from: None,
+        omit: Names::of(Vec::new(alloc)),
         output: first(alloc, entries, "output")?,
         unit: None,
         form: Form::Types,
@@ -101,6 +104,7 @@ fn live_plan(alloc: Global, entries: &ArgMatches<'_>) -> Result<Plan, AllocError
         is_strict: false,
         is_quiet: true,
         from: None,
+        omit: Names::of(Vec::new(alloc)),
         output: first(alloc, entries, "output")?,
         unit: None,
         form: Form::Live,

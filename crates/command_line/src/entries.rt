@@ -105,7 +105,7 @@ fn filter(alloc: Global, entries: &ArgMatches<'_>) -> Result<Filter, AllocError>
 }
 
 // All values of an argument.
-fn values(alloc: Global, entries: &ArgMatches<'_>, id: &str) -> Result<Names, AllocError>
+pub(crate) fn values(alloc: Global, entries: &ArgMatches<'_>, id: &str) -> Result<Names, AllocError>
     ensures { IfOk result (λ values. values ≡ values_at id.now (entries_of entries.now)) }
 {
     let mut values = Vec::new(alloc);

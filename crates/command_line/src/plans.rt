@@ -69,6 +69,8 @@ pub enum Form {
     Callers(CallTable),
     /// A function and those that it calls, in place of a view.
     Callees(CallTable),
+    /// Both, the one text and then the other.
+    Peek(CallTable),
 }
 
 /// A table of a function and its callers, or its callees.
@@ -93,6 +95,8 @@ pub struct PageForm {
     pub least: Option<u64>,
     /// The root is below when it opens.
     pub is_root_below: bool,
+    /// It compares shares of what each profile weighs when it opens, and not weights.
+    pub is_share: bool,
 }
 
 /// An SVG, as wide as its view.
@@ -102,6 +106,8 @@ pub struct PictureForm {
     pub title: Option<Text>,
     /// The root is below.
     pub is_root_below: bool,
+    /// It compares shares of what each profile weighs, and not weights.
+    pub is_share: bool,
 }
 
 /// A run as the words ask for it.
@@ -111,6 +117,8 @@ pub struct Plan {
     pub options: Options,
     /// The whole name of the frame at which each stack begins, if the words set one. Stacks without such a frame are left out.
     pub from: Option<Text>,
+    /// The whole names of the frames that are taken out of each stack, once it begins where it is to begin.
+    pub omit: Names,
     /// The file that what is written goes to, if the words set one, and not standard output.
     pub output: Option<Text>,
     /// The format of every source. None leaves it to the name of each.

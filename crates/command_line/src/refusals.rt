@@ -3,14 +3,14 @@ ghost use Rattle.std.specs.Prelude.{◌≡◌, [], IfErr, OnOk, codes, is_some, 
 ghost use Rattle.clap.specs.declared.error.kind.ErrorKind.TheVariants.{InvalidValue};
 ghost use Rattle.clap.specs.Words.{kind_of};
 ghost use Rattle.command_line.specs.EarlyValues.{told_kind};
-ghost use Rattle.command_line.specs.Plans.{IsFaultAmong, entries_fault, has_conflict, has_its_form, has_its_page, knows_format, knows_order, knows_unit};
+ghost use Rattle.command_line.specs.Plans.{IsFaultAmong, draws_shares, entries_fault, has_conflict, has_its_form, has_its_page, knows_format, knows_order, knows_unit};
 ghost use Rattle.command_line.specs.checked.Entries.{IsFaultOf, IsFlagAt, entries_of};
 
 use crate::early_values::{Choice, refused_before_help};
 use crate::plans::PlanFault;
 use crate::units::WeightUnit;
 use crate::usages::{completed, error_of};
-use crate::views::{is_drawn, is_root_below};
+use crate::views::{is_drawn, is_root_below, is_share};
 use clap::error::ErrorKind;
 use clap::{ArgMatches, Error};
 use run_options::{Format, FunctionOrder};
@@ -23,7 +23,7 @@ const SVG_AND_EVERY: &str = "the argument '--svg' cannot be used with '--every <
 
 const SVG_AND_LEAST: &str = "the argument '--svg' cannot be used with '--least <N>'";
 
-// What is said of a least weight without a page, and of a title or a root below with neither a page nor a picture.
+// What is said of a least weight without a page, and of a title, a root below or drawn shares with neither a page nor a picture.
 const MISSING_PAGE: &str = "the following required arguments were not provided:\n  --page";
 
 const MISSING_FORM: &str = "the following required arguments were not provided:\n  <--page|--svg>";
@@ -79,8 +79,9 @@ pub(crate) fn check_entries(
     requires page { IsFlagAt (codes "page") (entries_of entries.now) }
     requires svg { IsFlagAt (codes "svg") (entries_of entries.now) }
     requires below { IsFlagAt (codes "root-below") (entries_of entries.now) }
-    ensures meant { OnOk result (entries_fault (entries_of entries.now) ≡ []) }
-    ensures refused { IfErr result (IsFaultAmong (entries_fault (entries_of entries.now))) }
+    requires share { IsFlagAt (codes "share") (entries_of entries.now) }
+    ensures meant { OnOk result (entries_fault name.now (entries_of entries.now) ≡ []) }
+    ensures refused { IfErr result (IsFaultAmong (entries_fault name.now (entries_of entries.now))) }
 {
     if !knows_format(entries) {
         let given = entries.get_str("format").unwrap_or("");
@@ -105,7 +106,7 @@ pub(crate) fn check_entries(
             MISSING_PAGE,
         ));
     }
-    if !has_its_form(entries) {
+    if !has_its_form(name, entries) {
         return Err(refused(
             alloc,
             name,
@@ -173,19 +174,30 @@ fn has_its_page(entries: &ArgMatches<'_>) -> bool
     }
 }
 
-fn has_its_form(entries: &ArgMatches<'_>) -> bool
+fn has_its_form(name: &str, entries: &ArgMatches<'_>) -> bool
     requires page { IsFlagAt (codes "page") (entries_of entries.now) }
     requires svg { IsFlagAt (codes "svg") (entries_of entries.now) }
     requires below { IsFlagAt (codes "root-below") (entries_of entries.now) }
-    ensures { result ≡ has_its_form (entries_of entries.now) }
+    requires share { IsFlagAt (codes "share") (entries_of entries.now) }
+    ensures { result ≡ has_its_form name.now (entries_of entries.now) }
 {
     if is_drawn(entries) {
         true
     } else if entries.contains_id("title") {
         false
+    } else if is_root_below(entries) {
+        false
     } else {
-        !is_root_below(entries)
+        !draws_shares(name, entries)
     }
+}
+
+// Of the two commands that compare shares, `diff` tells them in its table.
+fn draws_shares(name: &str, entries: &ArgMatches<'_>) -> bool
+    requires { IsFlagAt (codes "share") (entries_of entries.now) }
+    ensures { result ≡ draws_shares name.now (entries_of entries.now) }
+{
+    name == "compare" && is_share(entries)
 }
 
 // The refusal of a value that the option can't have, with those that it can.

@@ -1,6 +1,6 @@
 //! The view that a command asks for, and what is written of it.
 ghost use Rattle.std.specs.Prelude.{◌≡◌, IfOk, IsSome, Some, codes};
-ghost use Rattle.command_line.specs.Plans.{call_table_of, compared_view, diff_table_of, form_of, function_of, is_drawn, is_root_below, number_at, order_of, page_of, picture_of, rows_of, shows_boxes, table_of, text_form, view_of, width_of};
+ghost use Rattle.command_line.specs.Plans.{call_table_of, compared_view, diff_table_of, form_of, function_of, is_drawn, is_root_below, is_share, number_at, order_of, page_of, picture_of, rows_of, shows_boxes, table_of, text_form, view_of, width_of};
 ghost use Rattle.command_line.specs.checked.Entries.{GREATEST_COUNT, IsCountAt, IsFlagAt, IsNumberAt, IsRead, entries_of};
 ghost use Rattle.command_line.specs.declared.arguments.TheConstants.{MOST_HUNDREDTHS, MOST_ROWS};
 ghost use Rattle.run_options.specs.declared.widths.TheConstants.{MAX_WIDTH};
@@ -30,7 +30,7 @@ pub(crate) fn view(name: &str, entries: &ArgMatches<'_>) -> View
         "compare" => compared_view(entries),
         "top" => View::Top(table(entries)),
         "diff" => View::Diff(diff_table(entries)),
-        "callers" | "callees" => View::Fold,
+        "callers" | "callees" | "peek" => View::Fold,
         _ => unreachable!(),
     }
 }
@@ -100,7 +100,7 @@ fn diff_table(entries: &ArgMatches<'_>) -> DiffTable
 {
     DiffTable {
         table: table(entries),
-        is_share: entries.get_flag("share"),
+        is_share: is_share(entries),
         fail_over: entries.get_one::<u64>("fail-over"),
     }
 }
@@ -129,6 +129,7 @@ pub(crate) fn form(alloc: Global, name: &str, entries: &ArgMatches<'_>) -> Resul
     requires page { IsFlagAt (codes "page") (entries_of entries.now) }
     requires svg { IsFlagAt (codes "svg") (entries_of entries.now) }
     requires below { IsFlagAt (codes "root-below") (entries_of entries.now) }
+    requires share { IsFlagAt (codes "share") (entries_of entries.now) }
     requires least { IsCountAt (codes "least") GREATEST_COUNT (entries_of entries.now) }
     requires rows { IsNumberAt (codes "number") MOST_ROWS (entries_of entries.now) }
     requires json { IsFlagAt (codes "json") (entries_of entries.now) }
@@ -154,6 +155,7 @@ fn text_form(alloc: Global, name: &str, entries: &ArgMatches<'_>) -> Result<Form
     match name {
         "callers" => Ok(Form::Callers(call_table(alloc, entries)?)),
         "callees" => Ok(Form::Callees(call_table(alloc, entries)?)),
+        "peek" => Ok(Form::Peek(call_table(alloc, entries)?)),
         _ => Ok(Form::Text),
     }
 }
@@ -184,6 +186,7 @@ fn function<'a>(entries: &ArgMatches<'a>) -> &'a str
 
 fn page(alloc: Global, entries: &ArgMatches<'_>) -> Result<PageForm, AllocError>
     requires below { IsFlagAt (codes "root-below") (entries_of entries.now) }
+    requires share { IsFlagAt (codes "share") (entries_of entries.now) }
     requires least { IsCountAt (codes "least") GREATEST_COUNT (entries_of entries.now) }
     ensures { IfOk result (λ page. page ≡ page_of (entries_of entries.now)) }
 {
@@ -191,16 +194,19 @@ fn page(alloc: Global, entries: &ArgMatches<'_>) -> Result<PageForm, AllocError>
         title: first(alloc, entries, "title")?,
         least: least(entries),
         is_root_below: is_root_below(entries),
+        is_share: is_share(entries),
     })
 }
 
 fn picture(alloc: Global, entries: &ArgMatches<'_>) -> Result<PictureForm, AllocError>
-    requires { IsFlagAt (codes "root-below") (entries_of entries.now) }
+    requires below { IsFlagAt (codes "root-below") (entries_of entries.now) }
+    requires share { IsFlagAt (codes "share") (entries_of entries.now) }
     ensures { IfOk result (λ picture. picture ≡ picture_of (entries_of entries.now)) }
 {
     Ok(PictureForm {
         title: first(alloc, entries, "title")?,
         is_root_below: is_root_below(entries),
+        is_share: is_share(entries),
     })
 }
 
@@ -210,6 +216,14 @@ pub(crate) fn is_root_below(entries: &ArgMatches<'_>) -> bool
     ensures { result ≡ is_root_below (entries_of entries.now) }
 {
     entries.get_flag("root-below")
+}
+
+// Shares are compared, and not weights.
+pub(crate) fn is_share(entries: &ArgMatches<'_>) -> bool
+    requires { IsFlagAt (codes "share") (entries_of entries.now) }
+    ensures { result ≡ is_share (entries_of entries.now) }
+{
+    entries.get_flag("share")
 }
 
 fn least(entries: &ArgMatches<'_>) -> Option<u64>

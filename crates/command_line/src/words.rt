@@ -54,6 +54,7 @@ pub fn plan_without_words(alloc: Global) -> Plan
         view: View::Fold,
         options: default_options(alloc),
         from: None,
+        omit: Names::of(Vec::new(alloc)),
         output: None,
         format: None,
         files: Names::of(Vec::new(alloc)),

@@ -10,7 +10,7 @@ ghost use Rattle.flame_layout.specs.checked.Paired.{names_now, next_path, paired
 use crate::boxes::{DrawnBox, DrawnPair, PairRow};
 use crate::chart::Chart;
 use crate::charts::draw_all;
-use merged_stacks::{PairedSide, PairedStacks, Side, StackRows};
+use merged_stacks::{Alone, PairedSide, PairedStacks, Side, StackRows};
 use stack_core::{Names, SourceList};
 use std::alloc::{AllocError, Global};
 
@@ -29,7 +29,7 @@ pub fn compare(
 {
     // The samples are within the limits: the counts tell it.
     let _counts = (before.len(), after.len());
-    let stacks = PairedStacks::of(alloc, before, after)?;
+    let stacks = PairedStacks::of(alloc, before, after, &Alone)?;
     compare_stacks(alloc, &stacks, before, after)
 }
 

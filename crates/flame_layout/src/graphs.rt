@@ -6,7 +6,7 @@ ghost use Rattle.call_tree.specs.CallTree.{total_weight};
 ghost use Rattle.call_tree.specs.Listing.{HasNumbersOf};
 ghost use Rattle.flame_layout.specs.Boxes.{span_of};
 ghost use Rattle.merged_stacks.specs.Timeline.{total_weight as total_of_samples};
-ghost use Rattle.merged_stacks.specs.Merged.{weighed, are_in_order};
+ghost use Rattle.merged_stacks.specs.RankedStacks.{ranked_samples};
 ghost use Rattle.flame_layout.specs.Graph.{graph_of};
 ghost use Rattle.flame_layout.specs.checked.Listed.{listed_box, listed_boxes};
 ghost use Rattle.flame_layout.specs.Paths.{SameOwn, tree_samples};
@@ -65,11 +65,11 @@ pub fn draw_tree<'a>(
 /// samples whose weights, summed up by stack, are the merged ones.
 pub fn merged_boxes(alloc: Global, merged: &MergedStacks) -> Result<Vec<SpanBox>, AllocError>
     ensures graph { IfOk result (λ boxes. (samples : List Sample)
-        → SameOwn samples merged.now → boxes.items ≡ graph_of samples) }
+        → SameOwn samples (ranked_samples merged.now) → boxes.items ≡ graph_of samples) }
     ensures within { IfOk result (λ boxes.
-        All (λ span. span.start + span.weight ≤ total_of_samples merged.now) boxes.items) }
+        All (λ span. span.start + span.weight ≤ total_of_samples (ranked_samples merged.now)) boxes.items) }
     ensures positive { IfOk result (λ boxes. 0 < length boxes.items
-        → 0 < total_of_samples merged.now) }
+        → 0 < total_of_samples (ranked_samples merged.now)) }
 {
     let chart = draw_merged(alloc, merged)?;
     span_boxes(alloc, &&chart)
@@ -81,34 +81,16 @@ pub fn draw_merged<'a>(
     merged: &'a MergedStacks,
 ) -> Result<Chart<'a, MergedStacks>, AllocError>
     ensures graph { IfOk result (λ chart. (samples : List Sample)
-        → SameOwn samples merged.now → chart ≡ graph_of samples) }
+        → SameOwn samples (ranked_samples merged.now) → chart ≡ graph_of samples) }
     ensures within { IfOk result (λ chart.
-        All (λ span. span.start + span.weight ≤ total_of_samples merged.now) chart) }
+        All (λ span. span.start + span.weight ≤ total_of_samples (ranked_samples merged.now)) chart) }
     ensures positive { IfOk result (λ chart. 0 < length chart
-        → 0 < total_of_samples merged.now) }
+        → 0 < total_of_samples (ranked_samples merged.now)) }
 {
     // The stacks are in order and weigh: the count tells it.
     let _count = merged.len();
-    draw_ordered(alloc, merged, merged.total())
-}
-
-/// The boxes of the flame graph of stacks in order, each with weight and once, that weigh `total` together,
-/// listed by start, then depth, with names that the stacks lend. They are those of every list of samples whose
-/// weights, summed up by stack, are theirs.
-pub fn draw_ordered<'a, S: StackRows>(
-    alloc: Global,
-    stacks: &'a S,
-    total: u64,
-) -> Result<Chart<'a, S>, AllocError>
-    requires in_order { IsTrue (are_in_order (weighed (S.samples stacks.now))) }
-    requires positive { All (λ sample. 0 < sample.weight) (S.samples stacks.now) }
-    requires total { total_of_samples (S.samples stacks.now) ≡ total }
-    ensures graph { IfOk result (λ chart. (samples : List Sample)
-        → SameOwn samples (S.samples stacks.now) → chart ≡ graph_of samples) }
-    ensures within { IfOk result (λ chart. All (λ span. span.start + span.weight ≤ total) chart) }
-    ensures positive { IfOk result (λ chart. 0 < length chart → 0 < total) }
-{
-    let mut walk = ChartWalk::over(alloc, stacks)?;
+    let total = merged.total();
+    let mut walk = ChartWalk::over(alloc, merged)?;
     enter_samples(&mut walk, total, 0)?;
     let runs = end(walk)?;
     Ok(Chart { runs })

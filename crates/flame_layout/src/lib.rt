@@ -19,7 +19,7 @@ pub use chart::Chart;
 pub use charts::chart_boxes;
 pub use comparisons::{compare, draw_paired};
 pub use flame_boxes::FlameBoxes;
-pub use graphs::{draw_merged, draw_ordered, draw_tree, graph_boxes, merged_boxes};
+pub use graphs::{draw_merged, draw_tree, graph_boxes, merged_boxes};
 pub use image::{edges, place};
 pub use merged_stacks::{MergedStacks, total_weight};
 pub use run_options::{MAX_WIDTH, Width};

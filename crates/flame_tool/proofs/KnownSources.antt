@@ -24,7 +24,8 @@ use Rattle.run_options.specs.declared.options.Options.{Options}
 use Rattle.ring_collect.specs.Collection.{AreWhole, seen_as_rest}
 use Rattle.merged_stacks.specs.Timeline.{samples_of}
 use Rattle.command_line.specs.declared.plans.Plan.{Plan}
-use Rattle.source_lists.specs.FromNames.{rest_from, rests_from}
+use Rattle.source_lists.specs.FromNames.{rest_from}
+use Rattle.source_lists.specs.OmittedNames.{rest_without, shown_rests}
 use Rattle.source_lists.specs.Sources.{asked_rest, asked_rests, read_bytes}
 use Rattle.opened_sources.specs.Opening.{AreLoaded, IsLoaded, IsLoadedInput}
 use Rattle.sent_views.specs.declared.run_facts.RunFacts.{RunFacts}
@@ -66,7 +67,7 @@ known_input options asked (Some bytes) [] loaded = absurd loaded
 known_input options asked (Some bytes) (source ∷ []) (folded, same) = λ i. asked_rest options (folded i) (same i) ∷ []
 known_input options asked (Some bytes) (source ∷ other ∷ more) loaded = absurd loaded
 
-loaded_rests : (options : Options) (asked : Option Format) (input : Option (List ℕ)) (files : List ℕ → Option (List ℕ)) (paths : List (List ℕ)) (sources : List (Format × List ℕ)) → AreLoaded asked input files paths sources
+pub loaded_rests : (options : Options) (asked : Option Format) (input : Option (List ℕ)) (files : List ℕ → Option (List ℕ)) (paths : List (List ℕ)) (sources : List (Format × List ℕ)) → AreLoaded asked input files paths sources
     → IfSome (rests_at options asked paths input files) (λ rests. asked_rests options sources ≡ rests)
 loaded_rests options asked input files [] sources loaded = known_input options asked input sources loaded
 loaded_rests options asked input files (path ∷ paths) sources loaded = known_files options asked files (path ∷ paths) sources loaded
@@ -131,7 +132,7 @@ under_map Q f (Some x) some = some
 
 pub facts_are_known : (plan : Plan) (input : Option (List ℕ)) (files : List ℕ → Option (List ℕ)) → IfSome (known_rests plan input files) (λ _. IsKnown (known_facts plan input files))
 facts_are_known plan input files =
-    under_map (IsKnown (known_facts plan input files)) (rests_from plan.from) (rests_at plan.options plan.format plan.files input files)
+    under_map (IsKnown (known_facts plan input files)) (shown_rests plan.from plan.omit) (rests_at plan.options plan.format plan.files input files)
     (if_mapped (facts_of plan.options) (rests_at plan.options plan.format plan.files input files) (bytes_of plan.format plan.files input files) (of_paths plan.files))
   where
     of_paths : (paths : List (List ℕ)) → IfSome (rests_at plan.options plan.format paths input files) (λ _. IsKnown (bytes_of plan.format paths input files))
@@ -172,17 +173,19 @@ clean_rests options (source ∷ sources) faultless =
     All-cons (λ (rest : Rest). IsClean rest.ending) rest (asked_rests options sources)
     (clean_ending rest.ending (unstopped source.0 source.1 options.pick options.naming) both.0) (clean_rests options sources both.1)
 
-faults_from : (name : List ℕ) (rests : List Rest) → list_any (λ (rest : Rest). ends_in_fault rest.ending) (map (rest_from name) rests) ≡ list_any (λ (rest : Rest). ends_in_fault rest.ending) rests
-faults_from name [] = refl
-faults_from name (rest ∷ rests) = ap (λ more. ends_in_fault rest.ending || more) (faults_from name rests)
+-- neither where stacks begin nor which frames are left out changes an ending
+faults_mapped : (f : Rest → Rest) → ((rest : Rest) → (f rest).ending ≡ rest.ending) → (rests : List Rest) → list_any (λ (rest : Rest). ends_in_fault rest.ending) (map f rests) ≡ list_any (λ (rest : Rest). ends_in_fault rest.ending) rests
+faults_mapped f same [] = refl
+faults_mapped f same (rest ∷ rests) = λ i. ends_in_fault (same rest i) || faults_mapped f same rests i
 
--- where stacks begin changes no ending
-clean_from : (from : Option (List ℕ)) (options : Options) (sources : List (Format × List ℕ)) → list_any (λ (rest : Rest). ends_in_fault rest.ending) (rests_from from (asked_rests options sources)) ≡ false
-    → All (λ (rest : Rest). IsClean rest.ending) (rests_from from (asked_rests options sources))
-clean_from None options sources faultless = clean_rests options sources faultless
-clean_from (Some name) options sources faultless =
-    All-map (λ (rest : Rest). IsClean rest.ending) (rest_from name) (asked_rests options sources)
-    (clean_rests options sources (sym (faults_from name (asked_rests options sources)) ∙ faultless))
+faults_shown : (from : Option (List ℕ)) (omitted : List (List ℕ)) (rests : List Rest) → list_any (λ (rest : Rest). ends_in_fault rest.ending) (shown_rests from omitted rests) ≡ list_any (λ (rest : Rest). ends_in_fault rest.ending) rests
+faults_shown None omitted rests = faults_mapped (rest_without omitted) (λ _. refl) rests
+faults_shown (Some name) omitted rests = faults_mapped (rest_without omitted) (λ _. refl) (map (rest_from name) rests) ∙ faults_mapped (rest_from name) (λ _. refl) rests
+
+clean_shown : (from : Option (List ℕ)) (omitted : List (List ℕ)) (rests : List Rest) → All (λ (rest : Rest). IsClean rest.ending) rests → All (λ (rest : Rest). IsClean rest.ending) (shown_rests from omitted rests)
+clean_shown None omitted rests clean = All-map (λ (rest : Rest). IsClean rest.ending) (rest_without omitted) rests clean
+clean_shown (Some name) omitted rests clean =
+    All-map (λ (rest : Rest). IsClean rest.ending) (rest_without omitted) (map (rest_from name) rests) (All-map (λ (rest : Rest). IsClean rest.ending) (rest_from name) rests clean)
 
 pub faulty_rests : (rests : List Rest) → list_any (λ (rest : Rest). ends_in_fault rest.ending) rests ≡ true → HasFault rests
 faulty_rests rests faulty =
@@ -199,27 +202,23 @@ pub faults_of_rests : (lists : List ListState) → has_fault lists ≡ list_any 
 faults_of_rests [] = refl
 faults_of_rests (list ∷ lists) = ap (λ more. ends_in_fault list.ending || more) (faults_of_rests lists)
 
--- where no source has a strict fault, no list has a fault, wherever its stacks begin
-pub lists_faultless : (plan : Plan) (sources : List (Format × List ℕ)) (lists : List ListState) → has_strict_fault plan.options sources ≡ false → AreWhole (rests_from plan.from (asked_rests plan.options sources)) lists
+-- where no source has a strict fault, no list has a fault, whatever is shown of its stacks
+pub lists_faultless : (plan : Plan) (sources : List (Format × List ℕ)) (lists : List ListState) → has_strict_fault plan.options sources ≡ false → AreWhole (shown_rests plan.from plan.omit (asked_rests plan.options sources)) lists
     → has_fault lists ≡ false
 lists_faultless plan sources lists none whole =
-    faults_of_rests lists ∙ ap (λ rests. list_any (λ (rest : Rest). ends_in_fault rest.ending) rests) whole ∙ wanted_faults plan.from ∙ clean_sources plan.options sources none
-  where
-    wanted_faults : (from : Option (List ℕ)) → list_any (λ (rest : Rest). ends_in_fault rest.ending) (rests_from from (asked_rests plan.options sources)) ≡ list_any (λ (rest : Rest). ends_in_fault rest.ending) (asked_rests plan.options sources)
-    wanted_faults None = refl
-    wanted_faults (Some name) = faults_from name (asked_rests plan.options sources)
+    faults_of_rests lists ∙ ap (λ rests. list_any (λ (rest : Rest). ends_in_fault rest.ending) rests) whole ∙ faults_shown plan.from plan.omit (asked_rests plan.options sources) ∙ clean_sources plan.options sources none
 
 -- ---- what a run over known sources shows
 
 -- a plan's sources were loaded and collected whole
 pub record AreCollected (plan : Plan) (input : Option (List ℕ)) (files : List ℕ → Option (List ℕ)) (sources : List (Format × List ℕ)) (lists : List ListState) (order : List ℕ) (every : Option ℕ) : Type 0 where
   pub loaded : AreLoaded plan.format input files plan.files sources
-  pub whole : AreWhole (rests_from plan.from (asked_rests plan.options sources)) lists
+  pub whole : AreWhole (shown_rests plan.from plan.omit (asked_rests plan.options sources)) lists
   pub ordered : IsInterleaving order (samples_of lists)
   pub every_is : every ≡ plan.options.every
 
 pub collected_of : (plan : Plan) (input : Option (List ℕ)) (files : List ℕ → Option (List ℕ)) (paths : List (List ℕ)) (sources : List (Format × List ℕ)) (lists : List ListState) (order : List ℕ) (every : Option ℕ)
-    → paths ≡ plan.files → AreLoaded plan.format input files paths sources → AreWhole (rests_from plan.from (asked_rests plan.options sources)) lists → IsInterleaving order (samples_of lists) → every ≡ plan.options.every
+    → paths ≡ plan.files → AreLoaded plan.format input files paths sources → AreWhole (shown_rests plan.from plan.omit (asked_rests plan.options sources)) lists → IsInterleaving order (samples_of lists) → every ≡ plan.options.every
     → AreCollected plan input files sources lists order every
 collected_of plan input files paths sources lists order every same loaded whole ordered every_is =
     record { loaded = subst (λ paths. AreLoaded plan.format input files paths sources) same loaded; whole = whole; ordered = ordered; every_is = every_is }
@@ -229,7 +228,7 @@ module _ (plan : Plan) (input : Option (List ℕ)) (files : List ℕ → Option 
   facts = facts_of plan.options sources
 
   abbrev wanted : List Rest
-  wanted = rests_from plan.from (asked_rests plan.options sources)
+  wanted = shown_rests plan.from plan.omit (asked_rests plan.options sources)
 
   abbrev text : List ℕ
   text = shown_text plan facts (samples_of lists) order every
@@ -242,7 +241,9 @@ module _ (plan : Plan) (input : Option (List ℕ)) (files : List ℕ → Option 
 
   is_text : has_fault lists ≡ false → IsTextOf plan facts wanted text
   is_text faultless = record {
-    clean = clean_from plan.from plan.options sources (sym same_faults ∙ faultless);
+    clean =
+        clean_shown plan.from plan.omit (asked_rests plan.options sources)
+        (clean_rests plan.options sources (sym (faults_shown plan.from plan.omit (asked_rests plan.options sources)) ∙ (sym same_faults ∙ faultless)));
     order = order;
     ordered = subst (λ (samples : List (List Sample)). IsInterleaving order samples) same_samples collected.ordered;
     text_is = λ i. shown_text plan facts (same_samples i) order (collected.every_is i);
@@ -251,9 +252,9 @@ module _ (plan : Plan) (input : Option (List ℕ)) (files : List ℕ → Option 
   -- what holds of the sources that were collected holds of those that are known
   if_known : (P : List Rest → Type 0) → P wanted → IfSome (known_rests plan input files) P
   if_known P holds =
-      elim (rests_at plan.options plan.format plan.files input files) as (λ known. IfSome known (λ rests. asked_rests plan.options sources ≡ rests) → IfSome (option_map (rests_from plan.from) known) P) [
+      elim (rests_at plan.options plan.format plan.files input files) as (λ known. IfSome known (λ rests. asked_rests plan.options sources ≡ rests) → IfSome (option_map (shown_rests plan.from plan.omit) known) P) [
         | None ↦ λ _. tt
-        | Some rests ↦ λ same. subst (λ rests. P (rests_from plan.from rests)) same holds
+        | Some rests ↦ λ same. subst (λ rests. P (shown_rests plan.from plan.omit rests)) same holds
       ] (loaded_rests plan.options plan.format input files plan.files sources collected.loaded)
 
   -- what holds of the facts of the sources holds of those that are known

@@ -8,6 +8,7 @@ mod RunEndings
 mod StepWords
 mod StrictEndings
 mod StrictSources
+mod ToldEndings
 mod TypeEndings
 mod UntouchedOutputs
 mod WorkedRequests

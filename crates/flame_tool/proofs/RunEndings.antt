@@ -24,6 +24,8 @@ use Rattle.command_line.specs.declared.plans.View.{View}
 use Rattle.command_line.specs.declared.plans.View.TheVariants.{Fold, Graph, Chart, Pairs, PairBoxes, Top, Diff}
 use Rattle.sum_texts.specs.Told.{Told}
 use Rattle.sent_views.specs.declared.run_facts.RunFacts.{RunFacts}
+use Rattle.source_lists.specs.OmittedNames.{rest_without, shown_rests}
+use Rattle.source_lists.proofs.CutLemmas.{shown_whole}
 use Rattle.flame_tool.specs.KnownFacts.{known_facts}
 use Rattle.flame_tool.proofs.KnownSources.{IsKnown, facts_are_known}
 use Rattle.flame_tool.specs.checked.Telling.{form_tells, view_tells}
@@ -31,7 +33,7 @@ use Rattle.flame_tool.specs.Requests.{AreRefused, AsksForHelp, HasLimit, asked_f
 use Rattle.command_line.specs.declared.plans.CallTable.{CallTable}
 use Rattle.command_line.specs.declared.plans.PageForm.{PageForm}
 use Rattle.command_line.specs.declared.plans.PictureForm.{PictureForm}
-use Rattle.sent_views.specs.Pages.{asked_heading, called_text, page_text, picture_text, shown_text, text_in, told_in}
+use Rattle.sent_views.specs.Pages.{asked_heading, called_text, page_text, peeked_text, picture_text, shown_text, text_in, told_in}
 use Rattle.sent_views.proofs.PageLemmas.{orderless_page}
 use Rattle.source_views.specs.Texts.{IsOrderless, told_text, view_text}
 use Rattle.flame_tool.specs.Runs.{lists_of, text_of, GainsFront, IsClean, IsFault, Shows, ShowsFront, ShowsSamples, FailsUntouched, HasFault, IsOfSamples, HasGrown, HasNotGrown}
@@ -124,22 +126,15 @@ module _ (plan : Plan) (old new : Option (List ℕ)) where
       of_shown (form.Page page) facts rests (page_text plan facts page (lists_of rests) [] None) as_page tt
       (λ order. sym (orderless_page (asked_heading plan facts page (lists_of rests)) plan.view (lists_of rests) order plan.options.every orderless)) shows
 
-  picture_exactly : (told : Option RunFacts) (known : Option (List Rest)) → IfSome known (Shows plan told old new)
-      → (picture : PictureForm) → plan.form ≡ form.Picture picture
-      → IfSome told (λ facts. IfSome known (λ rests. Appends old new (picture_text plan facts picture (lists_of rests))))
-  picture_exactly None known shows picture as_picture = tt
-  picture_exactly (Some facts) None shows picture as_picture = tt
-  picture_exactly (Some facts) (Some rests) shows picture as_picture =
-      of_shown (form.Picture picture) facts rests (picture_text plan facts picture (lists_of rests)) as_picture tt (λ order. refl) shows
-
-  pub calls_exactly : (side : CallSide) (written : CallTable → Form) (table : CallTable) → ShowsSamples (written table)
-      → ((facts : RunFacts) (lists : List (List Sample)) (order : List ℕ) → text_in (written table) plan facts lists order plan.options.every ≡ called_text side table plan facts lists)
-      → (told : Option RunFacts) (known : Option (List Rest)) → IfSome known (Shows plan told old new) → plan.form ≡ written table
-      → IfSome told (λ facts. IfSome known (λ rests. Appends old new (called_text side table plan facts (lists_of rests))))
-  calls_exactly side written table samples told_as None known shows as_calls = tt
-  calls_exactly side written table samples told_as (Some facts) None shows as_calls = tt
-  calls_exactly side written table samples told_as (Some facts) (Some rests) shows as_calls =
-      of_shown (written table) facts rests (called_text side table plan facts (lists_of rests)) as_calls samples (told_as facts (lists_of rests)) shows
+  -- a form whose text has no order of the samples
+  form_exactly : (written : Form) (text : RunFacts → List (List Sample) → List ℕ) → ShowsSamples written
+      → ((facts : RunFacts) (lists : List (List Sample)) (order : List ℕ) → text_in written plan facts lists order plan.options.every ≡ text facts lists)
+      → (told : Option RunFacts) (known : Option (List Rest)) → IfSome known (Shows plan told old new) → plan.form ≡ written
+      → IfSome told (λ facts. IfSome known (λ rests. Appends old new (text facts (lists_of rests))))
+  form_exactly written text samples told_as None known shows is = tt
+  form_exactly written text samples told_as (Some facts) None shows is = tt
+  form_exactly written text samples told_as (Some facts) (Some rests) shows is =
+      of_shown written facts rests (text facts (lists_of rests)) is samples (told_as facts (lists_of rests)) shows
 
 -- what tells no types is the same whatever they are
 pub same_shown : (plan : Plan) (one other : RunFacts) (lists : List (List Sample)) (order : List ℕ) (every : Option ℕ) → one.whole ≡ other.whole
@@ -166,14 +161,16 @@ same_shown plan one other lists order every weighed typed = go plan.form typed
     go form.Live typed = viewed plan.view typed
     go (form.Callers table) typed = with_types (typed refl) (λ facts. called_text Callers table plan facts lists)
     go (form.Callees table) typed = with_types (typed refl) (λ facts. called_text Callees table plan facts lists)
+    go (form.Peek table) typed = with_types (typed refl) (λ facts. peeked_text table plan facts lists)
 
 -- ---- without words
 
 -- the input is folded, and all of it is kept
-whole_input : (bytes : List ℕ) → fold_text (all_samples (lists_of (kept_rest everything (read_folded bytes) ∷ []))) ≡ text_of bytes
+whole_input : (bytes : List ℕ) → fold_text (all_samples (lists_of (shown_rests None [] (kept_rest everything (read_folded bytes) ∷ [])))) ≡ text_of bytes
 whole_input bytes =
-    ap (λ rest. fold_text (all_samples (lists_of (rest ∷ [])))) (all_is_kept everything refl (read_folded bytes))
-    ∙ ap fold_text (append-nil (read_folded bytes).samples)
+    ap (λ rests. fold_text (all_samples (lists_of rests))) (sym (shown_whole (kept_rest everything (read_folded bytes) ∷ [])))
+    ∙ (ap (λ rest. fold_text (all_samples (lists_of (rest ∷ [])))) (all_is_kept everything refl (read_folded bytes))
+    ∙ ap fold_text (append-nil (read_folded bytes).samples))
 
 module _ (input : Option (List ℕ)) (files : List ℕ → Option (List ℕ)) (old new : Option (List ℕ)) where
   pub input_text : (plan : Plan) → plan ≡ default_plan → IfSome (known_rests plan input files) (Shows plan (known_facts plan input files) old new) → IfSome input (λ bytes. Appends old new (text_of bytes))
@@ -206,7 +203,7 @@ module _ (input : Option (List ℕ)) (files : List ℕ → Option (List ℕ)) (o
       go None faulty = tt
       go (Some bytes) faulty =
           let found = faulty refl in
-          of_one (kept_rest everything (read_folded bytes)) found.1 found.0 found.2 found.3 found.4
+          of_one (rest_without [] (kept_rest everything (read_folded bytes))) found.1 found.0 found.2 found.3 found.4
 
   unchanged : (before after : Option (List ℕ)) → Keeps before after → Appends before after []
   unchanged None after kept = tt
@@ -275,21 +272,28 @@ module _ (words : List Text) (plan : Plan) (input : Option (List ℕ)) (files : 
   asked_svg =
       words_have words plan (λ plan. (picture : PictureForm) → plan.form ≡ form.Picture picture
       → IfSome (known_facts plan input files) (λ facts. IfSome (known_rests plan input files) (λ rests. Appends old new (picture_text plan facts picture (lists_of rests)))))
-      asked (picture_exactly plan old new (known_facts plan input files) (known_rests plan input files) shows)
+      asked (λ picture. form_exactly plan old new (form.Picture picture) (λ facts lists. picture_text plan facts picture lists) tt (λ facts lists order. refl) (known_facts plan input files) (known_rests plan input files) shows)
 
-  pub asked_callers : IsSomeAnd (asked_plan words) (λ plan. (table : CallTable) → plan.form ≡ form.Callers table
-      → IfSome (known_facts plan input files) (λ facts. IfSome (known_rests plan input files) (λ rests. Appends old new (called_text Callers table plan facts (lists_of rests)))))
-  asked_callers =
-      words_have words plan (λ plan. (table : CallTable) → plan.form ≡ form.Callers table
-      → IfSome (known_facts plan input files) (λ facts. IfSome (known_rests plan input files) (λ rests. Appends old new (called_text Callers table plan facts (lists_of rests)))))
-      asked (λ table. calls_exactly plan old new Callers form.Callers table tt (λ facts lists order. refl) (known_facts plan input files) (known_rests plan input files) shows)
+  -- the text of a function and its callers, its callees, or both
+  abbrev IsCallsText : (CallTable → Form) → (CallTable → Plan → RunFacts → List (List Sample) → List ℕ) → Plan → Type 0
+  IsCallsText written text plan = (table : CallTable) → plan.form ≡ written table
+      → IfSome (known_facts plan input files) (λ facts. IfSome (known_rests plan input files) (λ rests. Appends old new (text table plan facts (lists_of rests))))
 
-  pub asked_callees : IsSomeAnd (asked_plan words) (λ plan. (table : CallTable) → plan.form ≡ form.Callees table
-      → IfSome (known_facts plan input files) (λ facts. IfSome (known_rests plan input files) (λ rests. Appends old new (called_text Callees table plan facts (lists_of rests)))))
-  asked_callees =
-      words_have words plan (λ plan. (table : CallTable) → plan.form ≡ form.Callees table
-      → IfSome (known_facts plan input files) (λ facts. IfSome (known_rests plan input files) (λ rests. Appends old new (called_text Callees table plan facts (lists_of rests)))))
-      asked (λ table. calls_exactly plan old new Callees form.Callees table tt (λ facts lists order. refl) (known_facts plan input files) (known_rests plan input files) shows)
+  asked_calls : (written : CallTable → Form) (text : CallTable → Plan → RunFacts → List (List Sample) → List ℕ) → ((table : CallTable) → ShowsSamples (written table))
+      → ((table : CallTable) (facts : RunFacts) (lists : List (List Sample)) (order : List ℕ) → text_in (written table) plan facts lists order plan.options.every ≡ text table plan facts lists)
+      → IsSomeAnd (asked_plan words) (IsCallsText written text)
+  asked_calls written text samples told_as =
+      words_have words plan (IsCallsText written text) asked
+      (λ table. form_exactly plan old new (written table) (text table plan) (samples table) (told_as table) (known_facts plan input files) (known_rests plan input files) shows)
+
+  pub asked_callers : IsSomeAnd (asked_plan words) (IsCallsText form.Callers (called_text Callers))
+  asked_callers = asked_calls form.Callers (called_text Callers) (λ _. tt) (λ table facts lists order. refl)
+
+  pub asked_callees : IsSomeAnd (asked_plan words) (IsCallsText form.Callees (called_text Callees))
+  asked_callees = asked_calls form.Callees (called_text Callees) (λ _. tt) (λ table facts lists order. refl)
+
+  pub asked_peek : IsSomeAnd (asked_plan words) (IsCallsText form.Peek peeked_text)
+  asked_peek = asked_calls form.Peek peeked_text (λ _. tt) (λ table facts lists order. refl)
 
 -- a status of four comes of a limit
 pub within_three : (words : List Text) (plan : Plan) (status : ℕ) → asked_plan words ≡ Some plan → status ≤ 4 → (status ≡ 4 → IsSome (limit_of plan.view)) → (HasLimit words → ⊥) → status ≤ 3

@@ -14,7 +14,8 @@ use Rattle.profile_messages.specs.SampleTypes.{all_types}
 use Rattle.profile_messages.specs.declared.types.SampleTypes.{SampleTypes}
 use Rattle.profile_tables.specs.Samples.{read_pprof, read_samples, tables_of}
 use Rattle.profile_tables.specs.Samples as pprof
-use Rattle.source_lists.specs.FromNames.{rest_from, rests_from}
+use Rattle.source_lists.specs.FromNames.{rest_from}
+use Rattle.source_lists.specs.OmittedNames.{rest_without, shown_rests}
 use Rattle.source_lists.specs.Sources.{asked_rest}
 use Rattle.command_line.specs.Plans.{IsOfOneProfile}
 use Rattle.command_line.specs.declared.plans.Form.TheVariants as form
@@ -49,15 +50,19 @@ fault_of_paths options input files [] one preferred faulty = absurd (omega arith
 fault_of_paths options input files (path ∷ []) one preferred faulty = fault_of_one options (files path) preferred faulty
 fault_of_paths options input files (path ∷ another ∷ more) one preferred faulty = absurd (omega arith)
 
--- where stacks begin changes no ending
-fault_from : (from : Option (List ℕ)) (rests : List Rest) → HasFault rests → HasFault (rests_from from rests)
-fault_from None rests faulty = faulty
-fault_from (Some name) rests (i, rest, within, is, fault) =
-    (i, rest_from name rest, omega (arith, within, length-map rests (rest_from name)), get_or-map (rest_from name) rests i rest (rest_from name rest) within ∙ ap (rest_from name) is, fault)
+-- neither where stacks begin nor which frames are left out changes an ending
+fault_mapped : (f : Rest → Rest) → ((rest : Rest) → IsFault rest.ending → IsFault (f rest).ending) → (rests : List Rest) → HasFault rests → HasFault (map f rests)
+fault_mapped f same rests (i, rest, within, is, fault) =
+    (i, f rest, omega (arith, within, length-map rests f), get_or-map f rests i rest (f rest) within ∙ ap f is, same rest fault)
 
-fault_shown : (from : Option (List ℕ)) (known : Option (List Rest)) → IfSome known HasFault → IfSome (option_map (rests_from from) known) HasFault
-fault_shown from None faulty = tt
-fault_shown from (Some rests) faulty = fault_from from rests faulty
+fault_in_shown : (from : Option (List ℕ)) (omitted : List (List ℕ)) (rests : List Rest) → HasFault rests → HasFault (shown_rests from omitted rests)
+fault_in_shown None omitted rests faulty = fault_mapped (rest_without omitted) (λ _ fault. fault) rests faulty
+fault_in_shown (Some name) omitted rests faulty =
+    fault_mapped (rest_without omitted) (λ _ fault. fault) (map (rest_from name) rests) (fault_mapped (rest_from name) (λ _ fault. fault) rests faulty)
+
+fault_shown : (from : Option (List ℕ)) (omitted : List (List ℕ)) (known : Option (List Rest)) → IfSome known HasFault → IfSome (option_map (shown_rests from omitted) known) HasFault
+fault_shown from omitted None faulty = tt
+fault_shown from omitted (Some rests) faulty = fault_in_shown from omitted rests faulty
 
 -- ---- a plan that asks for no samples
 
@@ -91,7 +96,7 @@ module _ (plan : Plan) (told : Option RunFacts) (old new : Option (List ℕ)) (t
   unseen_fails input files NoThread one fails = unsaid (known_rests plan input files)
   unseen_fails input files (Unfinished source) one fails = unsaid (known_rests plan input files)
   unseen_fails input files Faults one fails =
-      plainly (known_rests plan input files) (fault_shown plan.from (rests_at plan.options plan.format plan.files input files)
+      plainly (known_rests plan input files) (fault_shown plan.from plan.omit (rests_at plan.options plan.format plan.files input files)
       (subst (λ (asked : Option Format). IfSome (rests_at plan.options asked plan.files input files) HasFault) (sym one.1)
       (fault_of_paths plan.options input files plan.files one.0 (ap (λ (options : Options). options.pick) one.2) fails)))
   unseen_fails input files (Output fault) one fails = unseen_front (known_rests plan input files)

@@ -106,6 +106,20 @@ compared_from_a_name : text_asked (codes "compare" ∷ codes "--from" ∷ codes 
 unfolding clap_on_literals computing digits total_of own_of
 compared_from_a_name = refl
 
+-- the frames of names are taken out of what is left of each stack, and each sample stays
+fold_without_a_name : text_asked (codes "fold" ∷ codes "--omit" ∷ codes "b" ∷ []) (Some (codes "a;b;c 2\nb;a;c 1\nb;b 4\n")) ≡ Some (codes " 4\na;c 3\n")
+unfolding clap_on_literals merged stacks_of sum_at computing digits
+fold_without_a_name = refl
+
+fold_without_where_it_begins : text_asked (codes "fold" ∷ codes "--from=b" ∷ codes "--omit=b" ∷ codes "--omit=c" ∷ codes "--focus=b" ∷ []) (Some (codes "a;b;c;d 2\nd;b;d 1\na 4\n")) ≡ Some (codes "d 3\n")
+unfolding clap_on_literals merged stacks_of sum_at computing digits
+fold_without_where_it_begins = refl
+
+-- which leaves out no sample
+whole_without_a_name : whole_asked (codes "top" ∷ codes "--omit" ∷ codes "a" ∷ codes "y" ∷ []) None ≡ None
+unfolding clap_on_literals computing digits
+whole_without_a_name = refl
+
 -- nothing is known of a run where a file or the input is not known
 unknown_file : rests_asked (codes "fold" ∷ codes "x" ∷ codes "z" ∷ []) (Some (codes "a 1\n")) ≡ None
 unfolding clap_on_literals computing

@@ -5,6 +5,7 @@ pub mod NextSteps
 pub mod Requests
 pub mod Runs
 pub mod StrictRuns
+pub mod ToldRuns
 pub mod TypeRuns
 pub mod checked
 pub use Rattle.byte_io.specs.Calls
@@ -22,10 +23,12 @@ pub use Rattle.merged_stacks.specs.Merged
 pub use Rattle.merging.specs.Gathered
 pub use Rattle.merging.specs.Snapshots
 pub use Rattle.source_lists.specs.FromNames
+pub use Rattle.source_lists.specs.OmittedNames
 pub use Rattle.source_lists.specs.Sources
 pub use Rattle.source_lists.specs.Strictness
 pub use Rattle.merging.specs.Sums
 pub use Rattle.merging.specs.TreeSinkState
+pub use Rattle.opened_sources.specs.Messages
 pub use Rattle.opened_sources.specs.Names
 pub use Rattle.page_texts.specs.Document
 pub use Rattle.page_texts.specs.Page

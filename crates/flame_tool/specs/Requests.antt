@@ -11,7 +11,7 @@ use Rattle.run_options.specs.declared.options.Options.{Options}
 use Rattle.command_line.specs.CommandLine.{command_line}
 use Rattle.command_line.specs.Plans.{IsRequest, default_plan, fault_of, limit_of, plan_of}
 use Rattle.command_line.specs.declared.plans.Plan.{Plan}
-use Rattle.source_lists.specs.FromNames.{rests_from}
+use Rattle.source_lists.specs.OmittedNames.{shown_rests}
 use Rattle.source_lists.specs.Sources.{asked_rest}
 
 -- ---- the words
@@ -66,7 +66,7 @@ rests_at options asked [] input files = option_map (λ rest. rest ∷ []) (rest_
 rests_at options asked (path ∷ paths) input files =
     all_found (rest_at options asked files) (path ∷ paths)
 
--- the same of the sources of a plan, which may say at which frame each stack begins
+-- the same of the sources of a plan, which may say at which frame each stack begins, and which frames are left out
 abbrev pub known_rests : Plan → Option (List ℕ) → (List ℕ → Option (List ℕ)) → Option (List Rest)
 known_rests plan input files =
-    option_map (rests_from plan.from) (rests_at plan.options plan.format plan.files input files)
+    option_map (shown_rests plan.from plan.omit) (rests_at plan.options plan.format plan.files input files)

@@ -51,6 +51,7 @@ ShowsSamples form.Types = ⊥
 ShowsSamples form.Live = Unit {0}
 ShowsSamples (form.Callers table) = Unit {0}
 ShowsSamples (form.Callees table) = Unit {0}
+ShowsSamples (form.Peek table) = Unit {0}
 
 -- a text that the plan asks for: all of each source was read, and it is the view of their samples, its page or its picture, in
 -- an order in which they may come

@@ -1,5 +1,7 @@
 //! What whoever sees the messages of a run on a terminal is advised to do.
 
+ghost use Rattle.std.specs.Prelude.{◌≡◌, false};
+
 use crate::next_steps::{Trouble, next_step};
 use byte_io::{Outlet, send};
 use opened_sources::Failure;
@@ -16,8 +18,17 @@ pub(crate) struct Advice<'a> {
 
 impl<'a> Advice<'a> {
     /// Is wanted where the messages go to a terminal.
-    pub(crate) fn new(words: &'a [String], is_wanted: bool) -> Advice<'a> {
+    pub(crate) fn new(words: &'a [String], is_wanted: bool) -> Advice<'a>
+        ensures { result.is_wanted ≡ is_wanted }
+    {
         Advice { words, is_wanted }
+    }
+
+    /// Whether it is wanted.
+    pub(crate) fn is_wanted(&self) -> bool
+        ensures { result ≡ self.now.is_wanted }
+    {
+        self.is_wanted
     }
 
     /// Says what to do behind the message of this trouble with a source.
@@ -28,12 +39,31 @@ impl<'a> Advice<'a> {
         files: &[String],
         source: usize,
         trouble: Trouble,
-    ) {
+    )
+        ensures untold { self.now.is_wanted ≡ false → err.new ≡ err.old }
+    {
         if !self.is_wanted {
             return;
         }
         if let Ok(step) = next_step(alloc, self.words, files, source, trouble) {
             let _ = send(step.as_bytes(), err);
+        }
+    }
+
+    /// The same behind the message of how a source ended, where there was trouble.
+    pub(crate) fn tell_ending<E: Outlet>(
+        &self,
+        alloc: Global,
+        err: &mut E,
+        files: &[String],
+        source: usize,
+        list: &SourceList,
+        filter: &Filter,
+    )
+        ensures untold { self.now.is_wanted ≡ false → err.new ≡ err.old }
+    {
+        if let Some(trouble) = trouble_with(list, filter) {
+            self.tell(alloc, err, files, source, trouble);
         }
     }
 
@@ -44,15 +74,17 @@ impl<'a> Advice<'a> {
         err: &mut E,
         files: &[String],
         failure: Failure,
-    ) {
+    )
+        ensures untold { self.now.is_wanted ≡ false → err.new ≡ err.old }
+    {
         if failure != Failure::Faults {
             self.tell(alloc, err, files, 0, Trouble::Failed(failure));
         }
     }
 }
 
-/// What trouble there was with a source, if there was some.
-pub(crate) fn trouble_with(list: &SourceList, filter: &Filter) -> Option<Trouble> {
+// What trouble there was with a source, if there was some.
+fn trouble_with(list: &SourceList, filter: &Filter) -> Option<Trouble> {
     match list.ending() {
         SourceEnd::Fault(fault) => Some(Trouble::Fault(fault.kind)),
         SourceEnd::Clean { ignored } => {

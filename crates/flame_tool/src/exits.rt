@@ -1,7 +1,8 @@
 //! How a run ends: the exit status, and what is said of it.
-ghost use Rattle.std.specs.Prelude.{◌≡◌, ◌≢◌, ◌≤◌, ◌⊎◌};
+ghost use Rattle.std.specs.Prelude.{◌≡◌, ◌≢◌, ◌≤◌, ◌⊎◌, [], false};
 ghost use Rattle.std.specs.Io.KnownBytes.{Appends, Keeps};
 ghost use Rattle.command_line.specs.Plans.{fault_text};
+ghost use Rattle.opened_sources.specs.Messages.{Tells};
 ghost use Rattle.flame_tool.specs.Runs.{FailsUntouched};
 ghost use Rattle.flame_tool.specs.checked.Failures.{IsHelp, IsWords, exit_status};
 
@@ -55,7 +56,9 @@ pub(crate) fn end_run<E: Outlet>(
     files: &[String],
     shown: Result<bool, Failure>,
 ) -> u8
-    ensures { result ≡ exit_status shown }
+    ensures status { result ≡ exit_status shown }
+    ensures untold { advice.entry.is_wanted ≡ false → result ≤ 1 → Tells []
+        (E.contents err.old) (E.contents err.new) (E.failures err.old) (E.failures err.new) }
 {
     match shown {
         Ok(true) => 4,

@@ -12,6 +12,7 @@ mod next_steps;
 mod plan_run;
 mod program;
 mod progress;
+mod reports;
 mod step_commands;
 mod types_run;
 mod views_run;

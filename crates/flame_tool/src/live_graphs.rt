@@ -11,7 +11,7 @@ use byte_io::Outlet;
 use command_line::{Plan, View};
 use live_lines::{LiveGate, LiveMerge, LiveSink};
 use opened_sources::{Failure, any_fault, report_ending, report_failure};
-use ring_collect::collect_streams;
+use ring_collect::collect_rows;
 use stack_core::{RowReader, SourceEnd, SourceList};
 use std::alloc::{AllocError, Global};
 use std::sync::{Arc, Wait};
@@ -51,7 +51,7 @@ pub(crate) fn send_graphs<
         merge,
     } = live_parts(alloc, readers.len())?;
     let mut sink = LiveSink::new(merge, every, width, closed_by, out);
-    let collected = collect_streams(rt, alloc, readers, plan.options.ring, gate, &mut sink);
+    let collected = collect_rows(rt, alloc, readers, plan.options.ring, gate, &mut sink);
     let LiveSink { lines, out } = sink;
     let run = collected?;
     report_ends(err, plan.files.get(), &run.lists, lines.failure.is_none());

@@ -3,6 +3,7 @@ ghost use Rattle.std.specs.Prelude.{◌≡◌, ◌≢◌, ◌≤◌, ◌<◌, �
 ghost use Rattle.std.specs.Io.KnownBytes.{Keeps};
 ghost use Rattle.command_line.specs.Plans.{IsComparison, IsOfOneProfile, limit_of};
 ghost use Rattle.flame_tool.specs.KnownFacts.{known_facts};
+ghost use Rattle.flame_tool.specs.ToldRuns.{TellsEndings, known_endings};
 ghost use Rattle.flame_tool.specs.Requests.{known_rests};
 ghost use Rattle.flame_tool.specs.Runs.{FailsUntouched, Shows, ShowsFront, ShowsSamples, HasFault, HasGrown, HasNotGrown};
 ghost use Rattle.flame_tool.specs.StrictRuns.{HasPlainFault, has_strict_fault, known_sources};
@@ -66,6 +67,11 @@ pub(crate) fn run_plan<T: Threads + Wait + Copy + Send + 'static, F: Files, W: O
         → IfSome (known_sources plan (F.known_input files.old) (F.known_file files.old)) (λ sources.
         has_strict_fault plan.options sources ≡ true → FailsUntouched result (W.contents out.old)
         (W.contents out.new) (W.failures out.old) (W.failures out.new)) }
+    ensures told { F.may_have_terminal ≡ false → result ≤ 1 → ShowsSamples plan.form
+        → plan.is_strict ≡ false
+        → IfSome (known_endings plan (F.known_input files.old) (F.known_file files.old))
+        (TellsEndings plan.files
+        (E.contents err.old) (E.contents err.new) (E.failures err.old) (E.failures err.new)) }
     ensures many { result ≡ 2 → 64 < length plan.files }
     ensures few { result ≢ 2 → length plan.files ≤ 64 }
     ensures front { result ≡ 3 → Keeps (W.contents out.old) (W.contents out.new)
@@ -93,12 +99,19 @@ pub(crate) fn run_plan<T: Threads + Wait + Copy + Send + 'static, F: Files, W: O
     ensures flushed { result ≡ 0 → W.is_flushed out.new }
     ensures unfailed { result ≢ 3 → W.failures out.new ≡ W.failures out.old }
 {
-    if plan.files.get().is_empty() && files.is_input_terminal() {
-        report_awaited_input(err, plan.format.unwrap_or(Format::Folded));
-    }
+    await_input(&plan, files, err);
     let shown = show_plan(host, &plan, files, out, err, words);
     let advice = Advice::new(words, files.is_error_terminal());
     end_run(host.alloc, err, advice, plan.files.get(), shown)
+}
+
+// Says what is awaited where the input is read, and is a terminal.
+fn await_input<F: Files, E: Outlet>(plan: &Plan, files: &F, err: &mut E)
+    ensures untold { F.may_have_terminal ≡ false → err.new ≡ err.old }
+{
+    if plan.files.get().is_empty() && files.is_input_terminal() {
+        report_awaited_input(err, plan.format.unwrap_or(Format::Folded));
+    }
 }
 
 // Shows the samples of the sources, or the sample types of the one profile, and says whether functions grew over the plan's limit.
@@ -139,6 +152,16 @@ fn show_plan<T: Threads + Wait + Copy + Send + 'static, F: Files, W: Outlet, E: 
         (FailsTypes (W.contents out.old) (W.contents out.new) failure)) }
     ensures kept { IfErr result (λ failure.
         KeepsOutput (W.contents out.old) (W.contents out.new) failure) }
+    ensures told { F.may_have_terminal ≡ false → plan.now.is_strict ≡ false → ShowsSamples plan.now.form
+        → IfOk result (λ is_over. is_over ≡ false
+        → IfSome (known_endings plan.now (F.known_input files.old) (F.known_file files.old))
+        (TellsEndings plan.now.files
+        (E.contents err.old) (E.contents err.new) (E.failures err.old) (E.failures err.new))) }
+    ensures told_faults { F.may_have_terminal ≡ false → plan.now.is_strict ≡ false → ShowsSamples plan.now.form
+        → IsErrOf result Failure.Faults
+        → IfSome (known_endings plan.now (F.known_input files.old) (F.known_file files.old))
+        (TellsEndings plan.now.files
+        (E.contents err.old) (E.contents err.new) (E.failures err.old) (E.failures err.new)) }
     ensures many { IsErrOf result Failure.TooManyFiles → 64 < length plan.now.files }
     ensures few { result ≢ Err Failure.TooManyFiles → length plan.now.files ≤ 64 }
     ensures flushed { Flushes (W.is_flushed out.new) (W.failures out.old) (W.failures out.new)
@@ -151,6 +174,7 @@ fn show_plan<T: Threads + Wait + Copy + Send + 'static, F: Files, W: Outlet, E: 
         | Form::Picture(_)
         | Form::Live
         | Form::Callers(_)
-        | Form::Callees(_) => show_views(host, plan, files, out, err, words),
+        | Form::Callees(_)
+        | Form::Peek(_) => show_views(host, plan, files, out, err, words),
     }
 }

@@ -8,8 +8,9 @@ ghost use Rattle.command_line.specs.declared.plans.PageForm.{PageForm};
 ghost use Rattle.command_line.specs.declared.plans.PictureForm.{PictureForm};
 ghost use Rattle.function_sums.specs.declared.call_sides.CallSide.TheVariants.{Callers, Callees};
 ghost use Rattle.flame_tool.specs.KnownFacts.{known_facts};
+ghost use Rattle.flame_tool.specs.ToldRuns.{TellsEndings, known_endings};
 ghost use Rattle.flame_tool.specs.Requests.{AreRefused, AsksForHelp, HasLimit, asked_faults, asked_plan, known_rests};
-ghost use Rattle.sent_views.specs.Pages.{called_text, page_text, picture_text, told_in};
+ghost use Rattle.sent_views.specs.Pages.{called_text, page_text, peeked_text, picture_text, told_in};
 ghost use Rattle.source_views.specs.Texts.{IsOrderless, told_text, view_text};
 ghost use Rattle.flame_tool.specs.Runs.{IsClean, IsFault, text_of, lists_of, FailsUntouched, GainsFront, Shows, ShowsFront, ShowsSamples, HasFault, IsOfSamples, HasGrown, HasNotGrown};
 ghost use Rattle.flame_tool.specs.StrictRuns.{HasPlainFault, has_strict_fault, known_sources};
@@ -108,7 +109,8 @@ pub fn run<T: Threads + Wait + Copy + Send + 'static, F: Files, W: Outlet, E: Ou
         Appends (W.contents out.old) (W.contents out.new)
         (picture_text plan facts picture (lists_of rests))))) }
 
-    // Nor of the callers of a function, and of its callees; under a filter they say what all samples weigh.
+    // Nor of the callers of a function, of its callees, and of both; under a filter they say what all
+    // samples weigh.
     ensures shown_callers { result ≡ 0 → AsksForHelp (map string_bytes words.items)
         ⊎ IsSomeAnd (asked_plan (map string_bytes words.items)) (λ plan.
         (table : CallTable) → plan.form ≡ Form.Callers table
@@ -123,6 +125,13 @@ pub fn run<T: Threads + Wait + Copy + Send + 'static, F: Files, W: Outlet, E: Ou
         IfSome (known_rests plan (F.known_input files.old) (F.known_file files.old)) (λ rests.
         Appends (W.contents out.old) (W.contents out.new)
         (called_text Callees table plan facts (lists_of rests))))) }
+    ensures shown_peek { result ≡ 0 → AsksForHelp (map string_bytes words.items)
+        ⊎ IsSomeAnd (asked_plan (map string_bytes words.items)) (λ plan.
+        (table : CallTable) → plan.form ≡ Form.Peek table
+        → IfSome (known_facts plan (F.known_input files.old) (F.known_file files.old)) (λ facts.
+        IfSome (known_rests plan (F.known_input files.old) (F.known_file files.old)) (λ rests.
+        Appends (W.contents out.old) (W.contents out.new)
+        (peeked_text table plan facts (lists_of rests))))) }
 
     // 1 is a fault of a source, 2 are words that are refused or more than 64 files, and 3 leaves nothing
     // or a part of the text from its front.
@@ -162,6 +171,16 @@ pub fn run<T: Threads + Wait + Copy + Send + 'static, F: Files, W: Outlet, E: Ou
         → IfSome (known_rests plan (F.known_input files.old) (F.known_file files.old)) (λ rests.
         HasFault rests → FailsUntouched result (W.contents out.old) (W.contents out.new)
         (W.failures out.old) (W.failures out.new))) }
+
+    // Where nothing may be a terminal, 0 and 1 mean that `err` gained what is said of each source, in order: its fault, or how many of its
+    // lines were ignored; or that a call of `err` failed.
+    ensures told { F.may_have_terminal ≡ false → result ≤ 1
+        → AsksForHelp (map string_bytes words.items)
+        ⊎ IsSomeAnd (asked_plan (map string_bytes words.items)) (λ plan. ShowsSamples plan.form
+        → plan.is_strict ≡ false
+        → IfSome (known_endings plan (F.known_input files.old) (F.known_file files.old))
+        (TellsEndings plan.files
+        (E.contents err.old) (E.contents err.new) (E.failures err.old) (E.failures err.new))) }
 
     // Where the words ask for it, a line that is ignored and a source without a sample are faults, too: 0
     // and 4 mean that no source has one, 1 that one has, and such a fault leaves the output untouched.

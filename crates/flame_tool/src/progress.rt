@@ -1,16 +1,12 @@
 //! How far the reading of sources is: on a terminal, a line that is written over while samples arrive. A failure to write it
 //! changes nothing.
 
-ghost use Rattle.std.specs.Prelude.{◌≡◌, ◌==◌, length, not};
+ghost use Rattle.std.specs.Prelude.{◌≡◌};
 
-use crate::advice::{Advice, trouble_with};
-use crate::next_steps::Trouble;
 use byte_io::{Outlet, send};
 use itoa::Buffer;
-use opened_sources::{path_of, report_ending, report_strict_fault};
-use run_options::Filter;
-use source_lists::StrictFault;
-use stack_core::{Ledger, NoSink, RowSink, SourceList};
+use opened_sources::path_of;
+use stack_core::{Ledger, NoSink, RowSink};
 use std::alloc::{AllocError, Global};
 
 /// After how many samples the line is written again, each time.
@@ -19,80 +15,28 @@ const STRIDE: u64 = 1 << 16;
 /// The longest path that the line has, so that it is not wrapped.
 const LONGEST_PATH: usize = 28;
 
-/// Tells how many samples of a run arrived, where that is wanted, as the sink of the run. The messages of the run go where it tells
-/// this.
+/// Tells how many samples of a run arrived, as the sink of the run.
 #[derive(Drop)]
 pub(crate) struct Progress<'a, E> {
     taken: NoSink,
     samples: u64,
     files: &'a [String],
     last: Option<usize>,
-    is_wanted: bool,
     is_shown: bool,
     err: &'a mut E,
-    words: &'a [String],
-    is_told: bool,
 }
 
 impl<'a, E: Outlet> Progress<'a, E> {
-    /// Of the sources of these files, or of the standard input where there is none. Nothing is read yet. Of a run with these words it
-    /// is told what to do, where that is wanted.
-    pub(crate) fn new(
-        err: &'a mut E,
-        files: &'a [String],
-        is_wanted: bool,
-        words: &'a [String],
-        is_told: bool,
-    ) -> Progress<'a, E> {
+    /// Of the sources of these files, or of the standard input where there is none. Nothing is read yet.
+    pub(crate) fn new(err: &'a mut E, files: &'a [String]) -> Progress<'a, E> {
         Progress {
             taken: NoSink::new(),
             samples: 0,
             files,
             last: None,
-            is_wanted,
             is_shown: false,
             err,
-            words,
-            is_told,
         }
-    }
-
-    /// Says of each source, in order, how it ended, where there is something to say, and what to do then. The line is cleared before.
-    pub(crate) fn report_endings(&mut self, alloc: Global, lists: &[SourceList], filter: &Filter) {
-        self.clear();
-        let advice = Advice::new(self.words, self.is_told);
-        for (source, list) in lists.iter().enumerate() {
-            report_ending(self.err, self.files, source, list.ending());
-            if let Some(trouble) = trouble_with(list, filter) {
-                advice.tell(alloc, self.err, self.files, source, trouble);
-            }
-        }
-    }
-
-    /// Says of each source, in order, what is wrong with it where it is read strictly, if anything is, and what to do then.
-    pub(crate) fn report_strict_faults(&mut self, alloc: Global, faults: &[Option<StrictFault>]) {
-        self.clear();
-        let advice = Advice::new(self.words, self.is_told);
-        for (source, fault) in faults.iter().enumerate() {
-            if let Some(fault) = fault {
-                report_strict_fault(self.err, self.files, source, fault);
-                let trouble = Trouble::Strict(fault.kind);
-                advice.tell(alloc, self.err, self.files, source, trouble);
-            }
-        }
-    }
-
-    /// Says which functions grew, by a line that is empty where there is none, and whether there is one. The line of progress is
-    /// cleared before.
-    pub(crate) fn report_growth(&mut self, line: &[u8]) -> bool
-        ensures { result ≡ not (length line.now == 0) }
-    {
-        if line.is_empty() {
-            return false;
-        }
-        self.clear();
-        let _ = send(line, self.err);
-        true
     }
 
     /// Counts a sample, and tells how many there are now and then.
@@ -100,7 +44,7 @@ impl<'a, E: Outlet> Progress<'a, E> {
         ensures { self.new.taken ≡ self.old.taken }
     {
         self.samples = self.samples.saturating_add(1);
-        if self.is_wanted && self.samples % STRIDE == 0 {
+        if self.samples % STRIDE == 0 {
             self.show(alloc);
         }
     }

@@ -1,11 +1,13 @@
 //! The samples of the sources of a plan, collected and shown.
-ghost use Rattle.std.specs.Prelude.{◌≡◌, ◌≢◌, ◌≤◌, ◌<◌, ℕ, List, Option, false, IfOk, IfSome, IfErr, IsErrOf, MatchResult, OnOk, is_some, length, not, true, ◌==◌, IsSome};
+ghost use Rattle.std.specs.Prelude.{◌≡◌, ◌≢◌, ◌≤◌, ◌<◌, ℕ, List, Option, false, IfOk, IfSome, Some, IfErr, IsErrOf, MatchResult, OnOk, is_some, length, map, not, true, ◌==◌, IsSome};
 ghost use Rattle.std.specs.List.{list_any};
 ghost use Rattle.std.specs.Io.KnownBytes.{Appends};
 ghost use Rattle.merged_stacks.specs.Timeline.{samples_of};
 ghost use Rattle.command_line.specs.Plans.{IsComparison, limit_of};
 ghost use Rattle.ring_collect.specs.Collection.{AreWhole};
-ghost use Rattle.source_lists.specs.Sources.{asked_rests};
+ghost use Rattle.source_lists.specs.Runs.{ReadsLists};
+ghost use Rattle.source_lists.specs.Sources.{asked_rests, whole_weight};
+ghost use Rattle.flame_tool.specs.ToldRuns.{TellsEndings, known_endings};
 ghost use Rattle.source_lists.specs.Types.{types_of};
 ghost use Rattle.flame_tool.specs.KnownFacts.{known_facts};
 ghost use Rattle.flame_tool.specs.Requests.{known_rests};
@@ -18,20 +20,25 @@ ghost use Rattle.source_views.specs.Texts.{growth_line};
 ghost use Rattle.flame_tool.specs.checked.Telling.{form_tells, view_tells};
 ghost use Rattle.opened_sources.specs.Failures.{has_fault, Flushes, Sends};
 
+use crate::advice::Advice;
 use crate::hosts::Host;
 use crate::progress::Progress;
+use crate::reports::{report_endings, report_growth, report_strict_faults};
 use byte_io::{Files, Outlet};
 use command_line::{Form, Plan, View};
 use function_sums::CallSide;
 use opened_sources::{Failure, any_fault, load_sources};
 use profile_messages::SampleType;
+use ring_collect::CollectFault;
 use sent_views::{
-    AskedCalls, AskedPicture, RunFacts, send_asked_calls, send_asked_page, send_asked_picture,
-    send_asked_view,
+    AskedCalls, AskedPicture, RunFacts, send_asked_calls, send_asked_page, send_asked_peek,
+    send_asked_picture, send_asked_view,
 };
-use source_lists::{Gating, Input, SourceLists, StrictFault, chosen_types, read, strict_faults};
+use source_lists::{
+    Gating, Input, Run, SourceLists, StrictFault, chosen_types, read, strict_faults,
+};
 use source_views::{InThreads, growth_line};
-use stack_core::{Listed, OpenGate, SourceList};
+use stack_core::{Listed, NoSink, OpenGate, SourceList};
 use std::alloc::{AllocError, Global};
 use std::sync::Wait;
 use std::thread::Threads;
@@ -67,18 +74,24 @@ pub(crate) fn show_views<T: Threads + Wait + Copy + Send + 'static, F: Files, W:
         IfSome (known_rests plan.now (F.known_input files.old) (F.known_file files.old))
         (TellsGrowth is_over plan.now)) }
     ensures limit { IfOk result (λ is_over. is_over ≡ true → IsSome (limit_of plan.now.view)) }
+    ensures told { F.may_have_terminal ≡ false → plan.now.is_strict ≡ false
+        → IfOk result (λ is_over. is_over ≡ false
+        → IfSome (known_endings plan.now (F.known_input files.old) (F.known_file files.old))
+        (TellsEndings plan.now.files
+        (E.contents err.old) (E.contents err.new) (E.failures err.old) (E.failures err.new))) }
+    ensures told_faults { F.may_have_terminal ≡ false → plan.now.is_strict ≡ false
+        → IsErrOf result Failure.Faults
+        → IfSome (known_endings plan.now (F.known_input files.old) (F.known_file files.old))
+        (TellsEndings plan.now.files
+        (E.contents err.old) (E.contents err.new) (E.failures err.old) (E.failures err.new)) }
     ensures many { IsErrOf result Failure.TooManyFiles → 64 < length plan.now.files }
     ensures few { result ≢ Err Failure.TooManyFiles → length plan.now.files ≤ 64 }
     ensures flushed { Flushes (W.is_flushed out.new) (W.failures out.old) (W.failures out.new)
         result }
 {
     let inputs = load_sources(host.alloc, files, plan.files.get(), plan.format)?;
-    let is_terminal = files.is_error_terminal();
-    let is_shown = !plan.is_quiet && is_terminal;
-    let mut progress = Progress::new(err, plan.files.get(), is_shown, words, is_terminal);
-    let shown = show_sources(host, plan, inputs, out, &mut progress);
-    progress.clear();
-    shown
+    let advice = Advice::new(words, files.is_error_terminal());
+    show_sources(host, plan, inputs, out, err, advice)
 }
 
 // Collects the samples of sources, sends the view of them, and says which functions grew over the plan's limit, and whether some did.
@@ -87,7 +100,8 @@ fn show_sources<T: Threads + Wait + Copy + Send + 'static, W: Outlet, E: Outlet>
     plan: &Plan,
     inputs: Vec<Input>,
     out: &mut W,
-    progress: &mut Progress<'_, E>,
+    err: &mut E,
+    advice: Advice<'_>,
 ) -> Result<bool, Failure>
     requires few { length inputs.items ≤ 64 }
     requires pairs { IsComparison plan.now.view → length inputs.items ≡ 2 }
@@ -110,16 +124,27 @@ fn show_sources<T: Threads + Wait + Copy + Send + 'static, W: Outlet, E: Outlet>
         → AreLoaded plan.now.format input files plan.now.files inputs.items
         → IfOk result (λ is_over. IfSome (known_rests plan.now input files) (TellsGrowth is_over plan.now)) }
     ensures limit { IfOk result (λ is_over. is_over ≡ true → IsSome (limit_of plan.now.view)) }
+    ensures told { plan.now.is_strict ≡ false → advice.entry.is_wanted ≡ false
+        → (input : Option (List ℕ)) (files : List ℕ → Option (List ℕ))
+        → AreLoaded plan.now.format input files plan.now.files inputs.items
+        → IfOk result (λ is_over. is_over ≡ false → IfSome (known_endings plan.now input files)
+        (TellsEndings plan.now.files
+        (E.contents err.old) (E.contents err.new) (E.failures err.old) (E.failures err.new))) }
+    ensures told_faults { plan.now.is_strict ≡ false → advice.entry.is_wanted ≡ false
+        → (input : Option (List ℕ)) (files : List ℕ → Option (List ℕ))
+        → AreLoaded plan.now.format input files plan.now.files inputs.items
+        → IsErrOf result Failure.Faults → IfSome (known_endings plan.now input files)
+        (TellsEndings plan.now.files
+        (E.contents err.old) (E.contents err.new) (E.failures err.old) (E.failures err.new)) }
     ensures few_files { IsErrOf result Failure.TooManyFiles → ⊥ }
     ensures flushed { Flushes (W.is_flushed out.new) (W.failures out.old) (W.failures out.new)
         result }
 {
-    let (rt, alloc) = (host.rt, host.alloc);
+    let alloc = host.alloc;
     let types = told_types(alloc, plan, &inputs)?;
     let kept = kept_inputs(alloc, plan, &inputs)?;
-    let gating = Gating::<OpenGate>::Open;
-    let run = read(rt, alloc, inputs, &plan.options, gating, progress)?;
-    if !report_sources(alloc, plan, kept, run.kept.lists(), progress)? {
+    let run = read_sources(host, plan, inputs, err, advice)?;
+    if !report_sources(alloc, plan, kept, run.kept.lists(), err, advice)? {
         return Err(Failure::Faults);
     }
     let Some(whole) = run.whole_weight else {
@@ -129,8 +154,36 @@ fn show_sources<T: Threads + Wait + Copy + Send + 'static, W: Outlet, E: Outlet>
         whole,
         types: Listed::of(types),
     };
-    let shown = run.kept.beginning_at(alloc, &plan.from)?;
-    send_lists(host, shown, plan, &facts, out, progress)
+    let shown = run.kept.shown(alloc, &plan.from, &plan.omit)?;
+    send_lists(host, shown, plan, &facts, out, err)
+}
+
+// Reads the sources, and tells how far that is on a terminal, unless it is to be quiet.
+fn read_sources<T: Threads + Wait + Copy + Send + 'static, E: Outlet>(
+    host: &Host<'_, T>,
+    plan: &Plan,
+    inputs: Vec<Input>,
+    err: &mut E,
+    advice: Advice<'_>,
+) -> Result<Run, CollectFault>
+    requires { length inputs.items ≤ 64 }
+    ensures reads { IfOk result (λ run. ReadsLists (λ _ _. ⊥) (λ _ _. Unit {0})
+        (asked_rests plan.now.options inputs.items) run.kept.lists run.kept.order) }
+    ensures weight { IfOk result (λ run.
+        run.whole_weight ≡ Some (whole_weight plan.now.options inputs.items)) }
+    ensures refused { (source : ℕ) → IsErrOf result (CollectFault.Unfinished source)
+        → source < length inputs.items }
+    ensures untold { advice.entry.is_wanted ≡ false → err.new ≡ err.old }
+{
+    let (rt, alloc) = (host.rt, host.alloc);
+    let gating = Gating::<OpenGate>::Open;
+    if plan.is_quiet || !advice.is_wanted() {
+        return read(rt, alloc, inputs, &plan.options, gating, &mut NoSink::new());
+    }
+    let mut progress = Progress::new(err, plan.files.get());
+    let run = read(rt, alloc, inputs, &plan.options, gating, &mut progress);
+    progress.clear();
+    run
 }
 
 // The sources, to be looked at again where they are read strictly.
@@ -151,8 +204,12 @@ fn report_sources<E: Outlet>(
     plan: &Plan,
     kept: Vec<Input>,
     lists: &[SourceList],
-    progress: &mut Progress<'_, E>,
+    err: &mut E,
+    advice: Advice<'_>,
 ) -> Result<bool, AllocError>
+    ensures told { plan.now.is_strict ≡ false → advice.entry.is_wanted ≡ false → TellsEndings plan.now.files
+        (E.contents err.old) (E.contents err.new) (E.failures err.old) (E.failures err.new)
+        (map (λ list. list.ending) lists.now) }
     ensures loose { plan.now.is_strict ≡ false → IfOk result (λ sound. sound ≡ true) }
     ensures strict { plan.now.is_strict ≡ true
         → AreWhole (asked_rests plan.now.options kept.items) lists.now
@@ -160,10 +217,17 @@ fn report_sources<E: Outlet>(
 {
     if plan.is_strict {
         let faults = strict_faults(alloc, &kept, lists)?;
-        progress.report_strict_faults(alloc, &faults);
+        report_strict_faults(alloc, err, plan.files.get(), &faults, advice);
         Ok(!any_is_told(&faults))
     } else {
-        progress.report_endings(alloc, lists, &plan.options.filter);
+        report_endings(
+            alloc,
+            err,
+            plan.files.get(),
+            lists,
+            &plan.options.filter,
+            advice,
+        );
         Ok(true)
     }
 }
@@ -197,7 +261,8 @@ fn form_tells(form: &Form, view: View) -> bool
 {
     match form {
         Form::Text | Form::Types | Form::Live => view_tells(view),
-        Form::Page(_) | Form::Picture(_) | Form::Callers(_) | Form::Callees(_) => true,
+        Form::Page(_) | Form::Picture(_) => true,
+        Form::Callers(_) | Form::Callees(_) | Form::Peek(_) => true,
     }
 }
 
@@ -218,7 +283,7 @@ fn send_lists<T: Threads, W: Outlet, E: Outlet>(
     plan: &Plan,
     facts: &RunFacts,
     out: &mut W,
-    progress: &mut Progress<'_, E>,
+    err: &mut E,
 ) -> Result<bool, Failure>
     requires pairs { IsComparison plan.now.view → length run.lists ≡ 2 }
     requires every { IfSome plan.now.options.every (λ every. 1 ≤ every) }
@@ -229,6 +294,8 @@ fn send_lists<T: Threads, W: Outlet, E: Outlet>(
     ensures err { IfErr result (FailsToShow run.lists
         (shown_text plan.now facts.now (samples_of run.lists) run.order plan.now.options.every)
         (W.contents out.old) (W.contents out.new)) }
+    ensures untold { IfOk result (λ is_over. is_over ≡ false → err.new ≡ err.old) }
+    ensures untold_err { IfErr result (λ _. err.new ≡ err.old) }
     ensures growth { IfOk result (λ is_over.
         is_over ≡ not (length (growth_line plan.now.view (samples_of run.lists)) == 0)) }
     ensures flushed { Flushes (W.is_flushed out.new) (W.failures out.old) (W.failures out.new)
@@ -239,7 +306,7 @@ fn send_lists<T: Threads, W: Outlet, E: Outlet>(
     }
     let line = growth_line(host.alloc, &run, plan.view)?;
     send_form(host.rt, host.alloc, run, plan, facts, out)?;
-    Ok(progress.report_growth(&line))
+    Ok(report_growth(err, &line))
 }
 
 // Sends what a plan asks for of the lists of a run.
@@ -283,6 +350,7 @@ fn send_form<T: Threads, W: Outlet>(
             };
             send_asked_calls(&workers, alloc, &run, &asked, out)
         }
+        Form::Peek(table) => send_asked_peek(&workers, alloc, &run, plan, facts, table, out),
         Form::Page(page) => send_asked_page(alloc, run, plan, facts, page, out),
         Form::Picture(form) => {
             send_asked_picture(rt, alloc, &run, &AskedPicture { plan, facts, form }, out)

@@ -5,6 +5,8 @@ use Rattle.std.proofs.lemmas.List.{take-take, take-append-le}
 use Rattle.std.proofs.lemmas.Slice.{between_is}
 use Rattle.std.specs.Vec.{with_items}
 use Rattle.memchr.specs.Find.{Nowhere, Passes, NoneBefore, is_byte}
+use Rattle.stack_core.specs.Parts.{bytes_of}
+use Rattle.stack_core.specs.declared.source_bytes.SourceBytes.TheVariants.{Own}
 use Rattle.bytes.proofs.Ranges.{slice_range_grown, take-append_past}
 use Rattle.folded_lines.specs.checked.LineBuffers.{held_by, IsBuffer}
 use Rattle.folded_lines.specs.declared.line_buffer.LineBuffer.TheInside.{Inside}
@@ -36,36 +38,36 @@ nowhere_of test xs start end len within none k low high passes = none (start + k
 
 -- ---- an LF that is looked for only behind what was looked through
 
-new_length : (buffer : Inside) → IsBuffer buffer → length (slice_range buffer.bytes.items buffer.searched buffer.end) ≡ buffer.end - buffer.searched
-new_length buffer ok = length_range buffer.bytes.items buffer.searched buffer.end (omega (arith, ok.within, buffer.bytes.ok.0))
+new_length : (buffer : Inside) → IsBuffer buffer → length (slice_range (bytes_of buffer.bytes) buffer.searched buffer.end) ≡ buffer.end - buffer.searched
+new_length buffer ok = length_range (bytes_of buffer.bytes) buffer.searched buffer.end (omega (arith, ok.within))
 
 pub held_length : (buffer : Inside) → IsBuffer buffer → length (held_by buffer) ≡ buffer.end - buffer.start
-held_length buffer ok = length_range buffer.bytes.items buffer.start buffer.end (omega (arith, ok.within, buffer.bytes.ok.0))
+held_length buffer ok = length_range (bytes_of buffer.bytes) buffer.start buffer.end (omega (arith, ok.within))
 
-new_none : (buffer : Inside) (seen : List ℕ) → IsBuffer buffer → seen ≡ buffer.bytes.items
+new_none : (buffer : Inside) (seen : List ℕ) → IsBuffer buffer → seen ≡ (bytes_of buffer.bytes)
     → Nowhere (Passes (is_byte 10) (slice_range seen buffer.searched buffer.end)) 0 (length (slice_range seen buffer.searched buffer.end))
-    → Nowhere (Passes (is_byte 10) (slice_range buffer.bytes.items buffer.searched buffer.end)) 0 (buffer.end - buffer.searched)
+    → Nowhere (Passes (is_byte 10) (slice_range (bytes_of buffer.bytes) buffer.searched buffer.end)) 0 (buffer.end - buffer.searched)
 new_none buffer seen ok same none =
     let new = subst (λ (xs : List ℕ). Nowhere (Passes (is_byte 10) (slice_range xs buffer.searched buffer.end)) 0 (length (slice_range xs buffer.searched buffer.end))) same none in
-    subst (Nowhere (Passes (is_byte 10) (slice_range buffer.bytes.items buffer.searched buffer.end)) 0) (new_length buffer ok) new
+    subst (Nowhere (Passes (is_byte 10) (slice_range (bytes_of buffer.bytes) buffer.searched buffer.end)) 0) (new_length buffer ok) new
 
 -- where no LF is new, none is in the buffer
-pub none_new : (buffer : Inside) (seen : List ℕ) → IsBuffer buffer → seen ≡ buffer.bytes.items
+pub none_new : (buffer : Inside) (seen : List ℕ) → IsBuffer buffer → seen ≡ (bytes_of buffer.bytes)
     → Nowhere (Passes (is_byte 10) (slice_range seen buffer.searched buffer.end)) 0 (length (slice_range seen buffer.searched buffer.end))
-    → Nowhere (Passes (is_byte 10) buffer.bytes.items) buffer.start buffer.end
+    → Nowhere (Passes (is_byte 10) (bytes_of buffer.bytes)) buffer.start buffer.end
 none_new buffer seen ok same none =
     let all : buffer.searched + (buffer.end - buffer.searched) ≡ buffer.end = omega (arith, ok.high) in
-    subst (Nowhere (Passes (is_byte 10) buffer.bytes.items) buffer.start) all
-    (nowhere_on (is_byte 10) buffer.bytes.items buffer.start buffer.searched buffer.end (buffer.end - buffer.searched) (omega arith) ok.unfed (new_none buffer seen ok same none))
+    subst (Nowhere (Passes (is_byte 10) (bytes_of buffer.bytes)) buffer.start) all
+    (nowhere_on (is_byte 10) (bytes_of buffer.bytes) buffer.start buffer.searched buffer.end (buffer.end - buffer.searched) (omega arith) ok.unfed (new_none buffer seen ok same none))
 
-pub none_held : (buffer : Inside) (held : List ℕ) → IsBuffer buffer → held_by buffer ≡ held → Nowhere (Passes (is_byte 10) buffer.bytes.items) buffer.start buffer.end
+pub none_held : (buffer : Inside) (held : List ℕ) → IsBuffer buffer → held_by buffer ≡ held → Nowhere (Passes (is_byte 10) (bytes_of buffer.bytes)) buffer.start buffer.end
     → Nowhere (Passes (is_byte 10) held) 0 (length held)
 none_held buffer held ok is none =
     let long = held_length buffer ok in
     let all : buffer.start + length (held_by buffer) ≡ buffer.end = omega (arith, ok.low, ok.high, long) in
     subst (λ (bytes : List ℕ). Nowhere (Passes (is_byte 10) bytes) 0 (length bytes)) is
-    (nowhere_of (is_byte 10) buffer.bytes.items buffer.start buffer.end (length (held_by buffer)) (omega (arith, long))
-    (subst (Nowhere (Passes (is_byte 10) buffer.bytes.items) buffer.start) (sym all) none))
+    (nowhere_of (is_byte 10) (bytes_of buffer.bytes) buffer.start buffer.end (length (held_by buffer)) (omega (arith, long))
+    (subst (Nowhere (Passes (is_byte 10) (bytes_of buffer.bytes)) buffer.start) (sym all) none))
 
 -- the first LF among the new bytes
 abbrev IsNewFeed : Inside → List ℕ → ℕ → Type 0
@@ -73,23 +75,23 @@ IsNewFeed buffer seen at =
     NoneBefore (Passes (is_byte 10) (slice_range seen buffer.searched buffer.end)) 0 (length (slice_range seen buffer.searched buffer.end)) at
     × Passes (is_byte 10) (slice_range seen buffer.searched buffer.end) at
 
-new_feed : (buffer : Inside) (seen : List ℕ) (at : ℕ) → seen ≡ buffer.bytes.items → IsNewFeed buffer seen at → IsNewFeed buffer buffer.bytes.items at
+new_feed : (buffer : Inside) (seen : List ℕ) (at : ℕ) → seen ≡ (bytes_of buffer.bytes) → IsNewFeed buffer seen at → IsNewFeed buffer (bytes_of buffer.bytes) at
 new_feed buffer seen at same found = subst (λ (xs : List ℕ). IsNewFeed buffer xs at) same found
 
-feed_within : (buffer : Inside) (at : ℕ) → IsBuffer buffer → IsNewFeed buffer buffer.bytes.items at → at < buffer.end - buffer.searched
+feed_within : (buffer : Inside) (at : ℕ) → IsBuffer buffer → IsNewFeed buffer (bytes_of buffer.bytes) at → at < buffer.end - buffer.searched
 feed_within buffer at ok found = omega (arith, found.0.high, new_length buffer ok)
 
-pub found_new : (buffer : Inside) (seen : List ℕ) (at : ℕ) → IsBuffer buffer → seen ≡ buffer.bytes.items → IsNewFeed buffer seen at
-    → (buffer.searched + at < buffer.end) × Nowhere (Passes (is_byte 10) buffer.bytes.items) buffer.start (buffer.searched + at)
+pub found_new : (buffer : Inside) (seen : List ℕ) (at : ℕ) → IsBuffer buffer → seen ≡ (bytes_of buffer.bytes) → IsNewFeed buffer seen at
+    → (buffer.searched + at < buffer.end) × Nowhere (Passes (is_byte 10) (bytes_of buffer.bytes)) buffer.start (buffer.searched + at)
 found_new buffer seen at ok same found =
     let here = new_feed buffer seen at same found in
     let within = feed_within buffer at ok here in (
       omega (arith, within),
-      nowhere_on (is_byte 10) buffer.bytes.items buffer.start buffer.searched buffer.end at (omega (arith, within)) ok.unfed here.0.before,
+      nowhere_on (is_byte 10) (bytes_of buffer.bytes) buffer.start buffer.searched buffer.end at (omega (arith, within)) ok.unfed here.0.before,
     )
 
 -- it is the first of all
-pub found_held : (buffer : Inside) (seen held : List ℕ) (at : ℕ) → IsBuffer buffer → seen ≡ buffer.bytes.items → IsNewFeed buffer seen at → held_by buffer ≡ held
+pub found_held : (buffer : Inside) (seen held : List ℕ) (at : ℕ) → IsBuffer buffer → seen ≡ (bytes_of buffer.bytes) → IsNewFeed buffer seen at → held_by buffer ≡ held
     → NoneBefore (Passes (is_byte 10) held) 0 (length held) (buffer.searched + at - buffer.start) × Passes (is_byte 10) held (buffer.searched + at - buffer.start)
 found_held buffer seen held at ok same found is =
     let here = new_feed buffer seen at same found in
@@ -97,15 +99,15 @@ found_held buffer seen held at ok same found is =
     let place = buffer.searched + at - buffer.start in
     let back : buffer.start + place ≡ buffer.searched + at = omega (arith, ok.low) in
     let inside : place < buffer.end - buffer.start = omega (arith, within, ok.low, ok.high) in
-    let none = subst (Nowhere (Passes (is_byte 10) buffer.bytes.items) buffer.start) (sym back) (found_new buffer seen at ok same found).1 in
-    let feed = passes_in (is_byte 10) buffer.bytes.items buffer.searched buffer.end at within here.1 in
+    let none = subst (Nowhere (Passes (is_byte 10) (bytes_of buffer.bytes)) buffer.start) (sym back) (found_new buffer seen at ok same found).1 in
+    let feed = passes_in (is_byte 10) (bytes_of buffer.bytes) buffer.searched buffer.end at within here.1 in
     subst (λ (bytes : List ℕ). NoneBefore (Passes (is_byte 10) bytes) 0 (length bytes) place × Passes (is_byte 10) bytes place) is (
       record {
         low = omega arith;
         high = omega (arith, inside, held_length buffer ok);
-        before = nowhere_of (is_byte 10) buffer.bytes.items buffer.start buffer.end place (omega (arith, inside)) none;
+        before = nowhere_of (is_byte 10) (bytes_of buffer.bytes) buffer.start buffer.end place (omega (arith, inside)) none;
       },
-      passes_of (is_byte 10) buffer.bytes.items buffer.start buffer.end place (buffer.searched + at) inside (sym back) feed,
+      passes_of (is_byte 10) (bytes_of buffer.bytes) buffer.start buffer.end place (buffer.searched + at) inside (sym back) feed,
     )
 
 -- ---- what is read behind the bytes of a buffer
@@ -113,11 +115,11 @@ found_held buffer seen held at ok same found is =
 -- a buffer's bytes stand at the front of longer ones, whose rest was read into
 pub record IsRoom (buffer : Inside) (room : Vec ℕ Global) (seen read : List ℕ) : Type 0 where
   pub ok : IsBuffer buffer
-  pub front : take buffer.end room.items ≡ take buffer.end buffer.bytes.items
+  pub front : take buffer.end room.items ≡ take buffer.end (bytes_of buffer.bytes)
   pub same : seen ≡ room.items
   pub long : buffer.end + length read ≡ room.len
 
-pub room_of : (buffer : Inside) (room : Vec ℕ Global) (seen read : List ℕ) → IsBuffer buffer → take buffer.end room.items ≡ take buffer.end buffer.bytes.items → buffer.end < room.len
+pub room_of : (buffer : Inside) (room : Vec ℕ Global) (seen read : List ℕ) → IsBuffer buffer → take buffer.end room.items ≡ take buffer.end (bytes_of buffer.bytes) → buffer.end < room.len
     → seen ≡ room.items → length read ≡ length (take (length seen - buffer.end) (drop buffer.end seen)) → IsRoom buffer room seen read
 room_of buffer room seen read ok front some same long = record {
   ok = ok;
@@ -134,10 +136,10 @@ written buffer room seen read more = with_items room (take buffer.end seen ++ (r
 -- the buffer with bytes up to a place
 abbrev pub read_to : Inside → Vec ℕ Global → List ℕ → List ℕ → List ℕ → ℕ → Inside
 read_to buffer room seen read more to =
-    record { bytes = with_items room (take buffer.end seen ++ (read ++ more)); start = buffer.start; searched = buffer.searched; end = to }
+    record { bytes = Own (with_items room (take buffer.end seen ++ (read ++ more))); start = buffer.start; searched = buffer.searched; end = to }
 
 read_front : (buffer : Inside) (room : Vec ℕ Global) (seen read more : List ℕ) (count to : ℕ) → IsRoom buffer room seen read → count ≤ length read → to ≡ buffer.end + count
-    → take to (written buffer room seen read more).items ≡ take buffer.end buffer.bytes.items ++ take count read
+    → take to (written buffer room seen read more).items ≡ take buffer.end (bytes_of buffer.bytes) ++ take count read
 read_front buffer room seen read more count to at few is =
     let front = take buffer.end seen in
     let text = front ++ (read ++ more) in
@@ -150,15 +152,15 @@ read_front buffer room seen read more count to at few is =
     ∙ ap (λ b. b ++ take count read) (ap (take buffer.end) at.same ∙ at.front)
 
 front_kept : (buffer : Inside) (room : Vec ℕ Global) (seen read more : List ℕ) → IsRoom buffer room seen read
-    → take buffer.end (written buffer room seen read more).items ≡ take buffer.end buffer.bytes.items
+    → take buffer.end (written buffer room seen read more).items ≡ take buffer.end (bytes_of buffer.bytes)
 front_kept buffer room seen read more at =
-    read_front buffer room seen read more 0 buffer.end at (omega arith) (omega arith) ∙ append-nil (take buffer.end buffer.bytes.items)
+    read_front buffer room seen read more 0 buffer.end at (omega arith) (omega arith) ∙ append-nil (take buffer.end (bytes_of buffer.bytes))
 
 pub held_more : (buffer : Inside) (room : Vec ℕ Global) (seen read more : List ℕ) (count to : ℕ) → IsRoom buffer room seen read → count ≤ length read → to ≡ buffer.end + count
     → held_by (read_to buffer room seen read more to) ≡ held_by buffer ++ take count read
 held_more buffer room seen read more count to at few is =
-    slice_range_grown buffer.bytes.items (written buffer room seen read more).items (take count read) buffer.start buffer.end to (omega (arith, at.ok.low, at.ok.high))
-    (omega (arith, at.ok.within, buffer.bytes.ok.0)) (read_front buffer room seen read more count to at few is)
+    slice_range_grown (bytes_of buffer.bytes) (written buffer room seen read more).items (take count read) buffer.start buffer.end to (omega (arith, at.ok.low, at.ok.high))
+    at.ok.within (read_front buffer room seen read more count to at few is)
 
 pub held_same : (buffer : Inside) (room : Vec ℕ Global) (seen read more : List ℕ) → IsRoom buffer room seen read → held_by (read_to buffer room seen read more buffer.end) ≡ held_by buffer
 held_same buffer room seen read more at =
@@ -174,12 +176,12 @@ pub read_ok : (buffer : Inside) (room : Vec ℕ Global) (seen read more : List �
 read_ok buffer room seen read more to at further within = record {
   low = at.ok.low;
   high = omega (arith, at.ok.high);
-  within = within;
-  unfed = nowhere_kept (is_byte 10) buffer.bytes.items (written buffer room seen read more).items buffer.start buffer.searched buffer.end at.ok.high (front_kept buffer room seen read more at) at.ok.unfed;
+  within = omega (arith, within, (written buffer room seen read more).ok.0);
+  unfed = nowhere_kept (is_byte 10) (bytes_of buffer.bytes) (written buffer room seen read more).items buffer.start buffer.searched buffer.end at.ok.high (front_kept buffer room seen read more at) at.ok.unfed;
 }
 
 -- room was made, or there was none to be had
-pub held_in_room : (buffer : Inside) (room : Vec ℕ Global) → take buffer.end room.items ≡ take buffer.end buffer.bytes.items
-    → held_by (record { bytes = room; start = buffer.start; searched = buffer.searched; end = buffer.end }) ≡ held_by buffer
+pub held_in_room : (buffer : Inside) (room : Vec ℕ Global) → take buffer.end room.items ≡ take buffer.end (bytes_of buffer.bytes)
+    → held_by (record { bytes = Own room; start = buffer.start; searched = buffer.searched; end = buffer.end }) ≡ held_by buffer
 held_in_room buffer room front =
-    between_is room.items buffer.start buffer.end ∙ ap (drop buffer.start) front ∙ sym (between_is buffer.bytes.items buffer.start buffer.end)
+    between_is room.items buffer.start buffer.end ∙ ap (drop buffer.start) front ∙ sym (between_is (bytes_of buffer.bytes) buffer.start buffer.end)

@@ -1,5 +1,5 @@
 -- Stacks that are known stay known while more is told, and the bytes that their names join to have those names.
-use Rattle.std.proofs.Common.{◌≡◌, ℕ, ◌<◌, ◌≤◌, ◌+◌, ◌-◌, List, [], ◌∷◌, ◌++◌, length, length-drop, append_assoc, map, take, drop, get_or, All, refl, sym, ap, subst, ◌∙◌, arith}
+use Rattle.std.proofs.Common.{◌≡◌, ℕ, ◌<◌, ◌≤◌, ◌+◌, ◌-◌, List, [], ◌∷◌, ◌++◌, length, length-drop, Option, Some, None, append_assoc, map, take, drop, get_or, All, refl, sym, ap, subst, ◌∙◌, arith}
 use Rattle.std.specs.List.{join_with_byte, slice_split, slice_range}
 use Rattle.std.proofs.Math.Seq.{drop-append_seam}
 use Rattle.std.proofs.lemmas.Grind.{common_steps}
@@ -15,13 +15,14 @@ use Rattle.stack_core.specs.Records.{names_at}
 use Rattle.call_tree.proofs.NameNumbers.{numbers-longer, names_at-longer}
 use Rattle.folded_lines.specs.Lines.{is_semicolon, lossy_text, names_of, onto_kept, without_trailing_empty}
 use Rattle.folded_lines.specs.checked.Cutting.{without_trailing_semicolons}
-use Rattle.folded_lines.specs.checked.KnownStacks.{stack_of, stacks_of, AreWithin, IsKnown, AreKnown}
+use Rattle.folded_lines.specs.checked.KnownStacks.{stack_of, stacks_of, AreWithin, IsKnown, AreKnown, IsMet}
 use Rattle.folded_lines.specs.checked.Telling.{IsNumbered}
 use Rattle.folded_lines.specs.declared.known_stacks.KnownRow.{KnownRow}
 use Rattle.folded_lines.proofs.JoinLemmas.{join_with_byte-first, join_with_byte-later}
 use Rattle.folded_lines.proofs.LossyLemmas.{IsUtf8-lossy_text}
 use Rattle.folded_lines.proofs.NameLemmas.{LastIsSome, names_end_some}
 use Rattle.folded_lines.proofs.OnePassLemmas.{slice_split-lossy_text}
+use Rattle.folded_lines.proofs.ToldHeads.{IsToldAs-later}
 use Rattle.folded_lines.proofs.SplitLemmas.{names_of-nothing, names_of-something}
 
 -- ---- joined names
@@ -86,6 +87,14 @@ pub AreKnown-told : (names names' stacks : List (List ℕ)) (frames head : List 
     → AreKnown names' (stacks ++ frames ∷ [])
 AreKnown-told names names' stacks frames head numbered known =
     All-push (IsKnown names') stacks frames known (IsKnown-named names' frames head numbered.numbers numbered.named)
+
+-- ---- a head that is kept
+
+pub IsMet-later : (names names' stacks stacks' more : List (List ℕ)) (head : List ℕ) (row : Option ℕ) → IsPrefixOf names names' → stacks' ≡ stacks ++ more
+    → IsMet names stacks head row → IsMet names' stacks' head row
+IsMet-later names names' stacks stacks' more head None prefix same met = tt
+IsMet-later names names' stacks stacks' more head (Some row) prefix same met =
+    IsToldAs-later (record { names = names; stacks = stacks }) (record { names = names'; stacks = stacks' }) head row more prefix same met
 
 -- ---- a head, compared name by name
 

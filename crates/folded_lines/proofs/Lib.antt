@@ -6,6 +6,7 @@ pub mod Computing
 pub mod CountLemmas
 pub mod Cuts
 pub mod DecimalLemmas
+mod EndNumbers
 pub mod FoundLines
 pub mod JoinLemmas
 pub mod KnownStackLemmas

@@ -2,24 +2,19 @@
 use Rattle.std.proofs.Common.{◌≡◌, ℕ, zero, suc, ◌+◌, ◌≤◌, Bool, true, false, cond, nat_lt, Option, Some, None, List, [], ◌∷◌, length, drop, length-drop, sum_by, All, refl, ap, arith}
 use Rattle.std.specs.Str.Parse.{digits_value}
 use Rattle.std.proofs.lemmas.Bool.{ltb-false}
-use Rattle.std.proofs.lemmas.List.{length-map}
 use Rattle.std.proofs.lemmas.List.Elements.{All-nil, All-cons}
 use Rattle.std.proofs.lemmas.List.Sums.{sum_by-cons}
-use Rattle.bstr.specs.Text.{line_len, lines_of, without_terminator}
+use Rattle.bstr.specs.Text.{line_len, lines_of}
 use Rattle.bstr.proofs.lemmas.LineLemmas.{line_len-bounds, lines-step, lines-nil}
 use Rattle.sample_tables.specs.Samples.{IsLimited}
 use Rattle.stack_core.specs.Reading.{IsSourceLimited}
 use Rattle.sample_tables.specs.declared.samples.TheConstants.{FRAME_LIMIT, WEIGHT_LIMIT}
 use Rattle.sample_tables.specs.declared.samples.Sample.{Sample as StackSample}
 use Rattle.stack_core.specs.declared.endings.ReadKind.TheVariants.{DecimalWeight, TwoColumns, TooDeep, TotalTooLarge}
-use Rattle.stack_core.specs.declared.endings.SourceEnd.{SourceEnd}
 use Rattle.folded_lines.specs.Line.{Line}
 use Rattle.folded_lines.specs.Line.{Ignored, Fault, Sample}
-use Rattle.folded_lines.specs.declared.cursor.Cursor.{Cursor}
-use Rattle.folded_lines.specs.Lines.{text_lines, columns, has_point, ends_in_number, names_of, sample_of, read_columns, read_line}
-use Rattle.folded_lines.specs.checked.Scanning.{within_total, scan, rest_at, IsWithin}
-use Rattle.sample_tables.specs.Rows.{ToldRows}
-use Rattle.folded_lines.specs.checked.View.{state_at}
+use Rattle.folded_lines.specs.Lines.{columns, has_point, ends_in_number, names_of, sample_of, read_columns, read_line}
+use Rattle.folded_lines.specs.checked.Scanning.{within_total, scan, IsWithin}
 use Rattle.folded_lines.proofs.ScanLemmas.{scan_line}
 
 short_by : (taken ignored total : ℕ) (lines : List (List ℕ)) (read : Line) → ((n i t : ℕ) → length (scan n i t lines).samples ≤ length lines)
@@ -41,22 +36,6 @@ lines_short (suc fuel) (b ∷ bytes) le =
     let bounds = line_len-bounds all (omega arith) in
     let long = length-drop (line_len all) all in
     omega (arith, ap length (lines-step all (omega arith)), lines_short fuel (drop (line_len all) all) (omega arith))
-
--- no more samples than bytes
-pub rest_at-short : (bytes : List ℕ) (cursor : Cursor) → length (rest_at bytes cursor).samples ≤ length bytes
-rest_at-short bytes cursor =
-    let left = drop cursor.position bytes in
-    omega (
-      arith,
-      scan-short (text_lines left) cursor.taken cursor.ignored cursor.total,
-      length-map (lines_of left) without_terminator,
-      lines_short (length left) left (omega arith),
-      length-drop cursor.position bytes,
-    )
-
-pub state_at-short : (bytes : List ℕ) (cursor : Cursor) (ended : Option SourceEnd) (told : ToldRows) → length (state_at bytes cursor ended told).rest.samples ≤ length bytes
-state_at-short bytes cursor None told = rest_at-short bytes cursor
-state_at-short bytes cursor (Some ending) told = omega arith
 
 pub by_test : (P : Line → Type 0) (b : Bool) (x y : Line) → (b ≡ true → P x) → (b ≡ false → P y) → P (cond b x y)
 by_test P true x y when other = when refl

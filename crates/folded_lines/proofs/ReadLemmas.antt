@@ -1,12 +1,10 @@
 -- Reading line after line gives what the whole text is defined to give.
 use Rattle.std.proofs.Common.{◌≡◌, ℕ, ◌+◌, Bool, true, false, cond, nat_lt, Option, Some, None, List, [], ◌∷◌, ◌++◌, length, map, count_by, refl, sym, ap, subst, ◌∙◌, arith, append_assoc, length-append}
-use Rattle.std.specs.Bool.{then_some}
 use Rattle.std.proofs.lemmas.List.{append-nil}
 use Rattle.std.proofs.lemmas.List.Elements.{All-nil}
 use Rattle.std.proofs.lemmas.List.Sums.{sum_by_push}
 use Rattle.stack_core.specs.Reading.{Rest, IsSourceLimited}
 use Rattle.sample_tables.specs.Samples.{IsLimited}
-use Rattle.sample_tables.specs.Rows.{ToldRows}
 use Rattle.sample_tables.specs.declared.samples.TheConstants.{WEIGHT_LIMIT}
 use Rattle.sample_tables.specs.declared.samples.Sample.{Sample as StackSample}
 use Rattle.stack_core.specs.declared.endings.ReadKind.{ReadKind}
@@ -19,7 +17,6 @@ use Rattle.folded_lines.specs.declared.cursor.Cursor.{Cursor}
 use Rattle.folded_lines.specs.Lines.{text_lines, read_line}
 use Rattle.folded_lines.specs.Reading.{samples_of, is_ignored, total_weight, fault_after, cut_short, read_after, begins_compressed, read_folded}
 use Rattle.folded_lines.specs.checked.Scanning.{within_total, scan}
-use Rattle.folded_lines.specs.checked.View.{state_at}
 use Rattle.folded_lines.proofs.ScanLemmas.{scan_line}
 use Rattle.folded_lines.proofs.LimitLemmas.{IsSourceLimited-scan}
 
@@ -103,17 +100,7 @@ read_after-all lines = read_after-scan lines []
 
 -- before the first line
 abbrev pub start : Cursor
-start = record { position = 0; taken = 0; ignored = 0; total = 0 }
-
-at_start : (bytes : List ℕ) (told : ToldRows) (compressed : Bool)
-    → (state_at bytes start (then_some compressed (ends.Fault (record { kind = Compressed; at = 1 }))) told).rest
-    ≡ cond compressed (cut_short [] Compressed) (read_after [] (map read_line (text_lines bytes)))
-at_start bytes told true = refl
-at_start bytes told false = sym (read_after-all (text_lines bytes))
-
-pub read_folded-start : (bytes : List ℕ) (told : ToldRows) (ended : Option SourceEnd) → ended ≡ then_some (begins_compressed bytes) (ends.Fault (record { kind = Compressed; at = 1 }))
-    → (state_at bytes start ended told).rest ≡ read_folded bytes
-read_folded-start bytes told ended is = ap (λ e. (state_at bytes start e told).rest) is ∙ at_start bytes told (begins_compressed bytes)
+start = record { taken = 0; ignored = 0; total = 0 }
 
 limited_at : (bytes : List ℕ) (compressed : Bool)
     → IsSourceLimited (cond compressed (cut_short [] Compressed) (read_after [] (map read_line (text_lines bytes)))).samples

@@ -15,9 +15,10 @@ use Rattle.folded_lines.specs.Reading.{begins_compressed, cut_short, read_folded
 use Rattle.folded_lines.specs.Streams.{Coming, MayCome, StreamGives, ending_at_failure, read_coming}
 use Rattle.folded_lines.specs.declared.cursor.Cursor.{Cursor}
 use Rattle.folded_lines.specs.declared.row_lines.RowLine.TheVariants as row
-use Rattle.folded_lines.specs.declared.stream_lines.StreamState.TheVariants.{Open}
+use Rattle.folded_lines.specs.declared.stream_lines.StreamState.TheVariants.{Ended, Open}
 use Rattle.folded_lines.specs.declared.stream_lines.StreamLines.{StreamLines}
 use Rattle.folded_lines.specs.declared.stream_steps.TheConstants.{LINE_LIMIT}
+use Rattle.folded_lines.specs.checked.KnownStreams.{coming_of, known_rest}
 use Rattle.folded_lines.specs.checked.RowLines.{TellsLine}
 use Rattle.folded_lines.specs.checked.Scanning.{ended, followed_by, place_after, rest_from, IsWithin}
 use Rattle.folded_lines.specs.checked.StreamLines.{StateMayCome, LinesMayCome, unread_of}
@@ -41,7 +42,6 @@ module _ {I : Type 0} (known known' : Option (List ℕ)) (is_sure is_sure' : Boo
   pub kept_place : AreKept → is_sure' ≡ is_sure → IsStreamPlace known is_sure lines counts → IsStreamPlace known' is_sure' lines' counts
   kept_place kept same place =
       record {
-        position = place.position;
         taken = place.taken;
         ignored = place.ignored;
         total = place.total;
@@ -53,46 +53,41 @@ module _ {I : Type 0} (known known' : Option (List ℕ)) (is_sure is_sure' : Boo
   Passes line = (after : Coming) → LinesMayCome known' is_sure' lines' after
       → (before : Coming) × LinesMayCome known is_sure lines before × (before.fails ≡ after.fails) × (text_lines before.bytes ≡ line ∷ text_lines after.bytes)
 
-  pub passed_gives : (line : List ℕ) (read : Line) (next : Cursor) → IsStreamPlace known is_sure lines counts → Passes line → read ≡ line_at counts line → next ≡ place_after counts 0 read
+  pub passed_gives : (line : List ℕ) (read : Line) (next : Cursor) → IsStreamPlace known is_sure lines counts → Passes line → read ≡ line_at counts line → next ≡ place_after counts read
       → (after : Rest) → GivesAt known' is_sure' lines' next after → GivesAt known is_sure lines counts (rest_from counts read after)
   passed_gives line read next place passes reads places after given =
       let before = passes given.0 given.1 in
-      let later : next.taken ≡ counts.taken + 1 = ap (λ (at : Cursor). at.taken) places ∙ taken_after counts 0 read in (
+      let later : next.taken ≡ counts.taken + 1 = ap (λ (at : Cursor). at.taken) places ∙ taken_after counts read in (
         before.0,
         before.1,
         omega (arith, given.2, later, ap length before.3),
         ap (rest_from counts read) (given.3 ∙ ap (λ at. rest_of at given.0) places)
-            ∙ ap (λ r. rest_from counts r (rest_of (place_after counts 0 r) given.0)) reads
+            ∙ ap (λ r. rest_from counts r (rest_of (place_after counts r) given.0)) reads
             ∙ sym (rest_of-step counts before.0 given.0 line place.ignored before.2 before.3),
       )
 
   passed_place_by : (line : List ℕ) (read : Line) → IsStreamPlace known is_sure lines counts → Passes line → counts.taken < LINE_LIMIT → is_sure' ≡ is_sure → IsWithin counts.total read
-      → IsStreamPlace known' is_sure' lines' (place_after counts 0 read)
+      → IsStreamPlace known' is_sure' lines' (place_after counts read)
   passed_place_by line read place passes room same within =
-      record { position = position read; taken = omega (arith, taken_after counts 0 read); ignored = ignored read; total = total read within; countable = countable }
+      record { taken = omega (arith, taken_after counts read); ignored = ignored read; total = total read within; countable = countable }
     where
-      position : (read : Line) → (place_after counts 0 read).position ≡ 0
-      position Ignored = omega (arith, place.position)
-      position (Fault kind) = omega (arith, place.position)
-      position (Sample sample) = omega (arith, place.position)
-
-      ignored : (read : Line) → (place_after counts 0 read).ignored ≤ (place_after counts 0 read).taken
+      ignored : (read : Line) → (place_after counts read).ignored ≤ (place_after counts read).taken
       ignored Ignored = omega (arith, place.ignored)
       ignored (Fault kind) = omega (arith, place.ignored)
       ignored (Sample sample) = omega (arith, place.ignored)
 
-      total : (read : Line) → IsWithin counts.total read → (place_after counts 0 read).total ≤ WEIGHT_LIMIT
+      total : (read : Line) → IsWithin counts.total read → (place_after counts read).total ≤ WEIGHT_LIMIT
       total Ignored within = place.total
       total (Fault kind) within = place.total
       total (Sample sample) within = within.1
 
-      countable : is_sure' ≡ true → (coming : Coming) → LinesMayCome known' is_sure' lines' coming → CountsBehind (place_after counts 0 read) coming
+      countable : is_sure' ≡ true → (coming : Coming) → LinesMayCome known' is_sure' lines' coming → CountsBehind (place_after counts read) coming
       countable sure coming may =
           let before = passes coming may in
-          omega (arith, place.countable (sym same ∙ sure) before.0 before.1, taken_after counts 0 read, ap length before.3)
+          omega (arith, place.countable (sym same ∙ sure) before.0 before.1, taken_after counts read, ap length before.3)
 
   pub passed_place : (line : List ℕ) (read : Line) (next : Cursor) → IsStreamPlace known is_sure lines counts → Passes line → counts.taken < LINE_LIMIT → is_sure' ≡ is_sure
-      → IsWithin counts.total read → next ≡ place_after counts 0 read → IsStreamPlace known' is_sure' lines' next
+      → IsWithin counts.total read → next ≡ place_after counts read → IsStreamPlace known' is_sure' lines' next
   passed_place line read next place passes room same within places =
       subst (IsStreamPlace known' is_sure' lines') (sym places) (passed_place_by line read place passes room same within)
 
@@ -174,9 +169,25 @@ module _ {I : Type 0} (known : Option (List ℕ)) (is_sure : Bool) (lines : Stre
   pub start_place : (is_sure ≡ true → IsSomeAnd known (λ known. length known < 2 ^ 64)) → IsStreamPlace known is_sure lines start
   start_place small =
       record {
-        position = refl;
         taken = omega arith;
         ignored = omega arith;
         total = omega arith;
         countable = λ sure coming may. countable_at known is_sure coming.fails coming.bytes sure (small sure) (may_start coming may);
       }
+
+-- bytes that are all there
+module _ {I : Type 0} (known : Option (List ℕ)) (is_sure : Bool) (lines : StreamLines I) (state : lines.state ≡ Ended) where
+  pub whole_place : length (unread_of lines) < 2 ^ 63 → IsStreamPlace known is_sure lines start
+  whole_place small =
+      record {
+        taken = omega arith;
+        ignored = omega arith;
+        total = omega arith;
+        countable = λ sure coming may.
+            let came = subst (λ s. StateMayCome s known is_sure (unread_of lines) coming) state may in
+            omega (arith, small, few_lines coming.bytes, ap length came.1);
+      }
+
+pub whole_rest : {I : Type 0} (left bytes : List ℕ) (lines : StreamLines I) → lines.state ≡ Ended → unread_of lines ≡ bytes → known_rest left lines start None ≡ read_folded bytes
+whole_rest left bytes lines state unread =
+    ap (λ s. rest_of start (coming_of s left (unread_of lines))) state ∙ start_rest (record { bytes = unread_of lines; fails = false }) ∙ ap read_folded unread

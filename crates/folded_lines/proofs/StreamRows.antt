@@ -69,3 +69,14 @@ last_by (step.End ending) last = refl
 pub on_err : {T E : Type 0} (P : Type 0) (result : Result T E) → P → OnErr result P
 on_err P (Ok value) holds = tt
 on_err P (Err fault) holds = holds
+
+-- ---- a stream that may give one rest
+
+module _ {gives gives' : Rest → Type 0} {rest rest' : Rest} (no_other : (other : Rest) → gives other → other ≡ rest) (given : gives' rest') where
+  pub among_known : (told told' : ToldRows) (step : RowStep) → StepsAmong gives gives' told step told' → StepsAmong (λ r. r ≡ rest) (λ r. r ≡ rest') told step told'
+  among_known told told' step among after is =
+      let before = among after (subst gives' (sym is) given) in
+      record { rest = before.rest; is_given = no_other before.rest before.is_given; holds = before.holds }
+
+  pub refused_known : ((r : Rest) → gives' r → gives r) → (r : Rest) → r ≡ rest' → r ≡ rest
+  refused_known kept r is = no_other r (kept r (subst gives' (sym is) given))

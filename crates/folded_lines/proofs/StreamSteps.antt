@@ -30,29 +30,29 @@ later_plain : (taken : ℕ) (test : Bool) → (taken + 1 == 0 && test) ≡ false
 later_plain taken test = ap (λ b. b && test) (ne_eqb (taken + 1) 0 (λ e. omega arith))
 
 rest_behind : (counts : Cursor) (read : Line) (bytes : List ℕ)
-    → rest_of_bytes (place_after counts 0 read) bytes
-    ≡ scan (place_after counts 0 read).taken (place_after counts 0 read).ignored (place_after counts 0 read).total (text_lines bytes)
+    → rest_of_bytes (place_after counts read) bytes
+    ≡ scan (place_after counts read).taken (place_after counts read).ignored (place_after counts read).total (text_lines bytes)
 rest_behind counts Ignored bytes = cond-false _ _ _ (later_plain counts.taken (begins_compressed bytes))
 rest_behind counts (Fault kind) bytes = cond-false _ _ _ (later_plain counts.taken (begins_compressed bytes))
 rest_behind counts (Sample sample) bytes = cond-false _ _ _ (later_plain counts.taken (begins_compressed bytes))
 
 bytes_step_by : (counts : Cursor) (bytes line after : List ℕ) (read : Line) (test : Bool) → text_lines bytes ≡ line ∷ text_lines after → is_compressed_at counts bytes ≡ test
     → (test ≡ true → read ≡ Fault Compressed) → (test ≡ false → within_total counts.total (read_line line) ≡ read)
-    → rest_of_bytes counts bytes ≡ rest_from counts read (rest_of_bytes (place_after counts 0 read) after)
+    → rest_of_bytes counts bytes ≡ rest_from counts read (rest_of_bytes (place_after counts read) after)
 bytes_step_by counts bytes line after read true lines is gzip plain =
     let first : counts.taken ≡ 0 = eqb-true counts.taken 0 (and_parts (counts.taken == 0) (begins_compressed bytes) is).0 in
     cond-true _ _ _ is
     ∙ ap (λ n. ended (ends.Fault (record { kind = Compressed; at = n + 1 }))) (sym first)
-    ∙ ap (λ r. rest_from counts r (rest_of_bytes (place_after counts 0 r) after)) (sym (gzip refl))
+    ∙ ap (λ r. rest_from counts r (rest_of_bytes (place_after counts r) after)) (sym (gzip refl))
 bytes_step_by counts bytes line after read false lines is gzip plain =
     cond-false _ _ _ is
     ∙ ap (scan counts.taken counts.ignored counts.total) lines
-    ∙ scan_by counts 0 line (text_lines after) read (plain refl)
+    ∙ scan_by counts line (text_lines after) read (plain refl)
     ∙ ap (rest_from counts read) (sym (rest_behind counts read after))
 
 -- the bytes of a line and of what is behind it
 bytes_step : (counts : Cursor) (bytes line after : List ℕ) → text_lines bytes ≡ line ∷ text_lines after
-    → rest_of_bytes counts bytes ≡ rest_from counts (line_at counts line) (rest_of_bytes (place_after counts 0 (line_at counts line)) after)
+    → rest_of_bytes counts bytes ≡ rest_from counts (line_at counts line) (rest_of_bytes (place_after counts (line_at counts line)) after)
 bytes_step counts bytes line after lines =
     let same : is_compressed_at counts bytes ≡ is_compressed_at counts line = ap (λ b. counts.taken == 0 && b) (compressed_by_line bytes line (text_lines after) lines) in
     bytes_step_by counts bytes line after (line_at counts line) (is_compressed_at counts line) lines same
@@ -62,7 +62,7 @@ bytes_step counts bytes line after lines =
 -- how many samples came, with a line
 up_to_step : (fails : Bool) (counts : Cursor) (read : Line) (rest : Rest) → counts.ignored ≤ counts.taken
     → rest_up_to fails (counts.taken - counts.ignored) (rest_from counts read rest)
-    ≡ rest_from counts read (rest_up_to fails ((place_after counts 0 read).taken - (place_after counts 0 read).ignored) rest)
+    ≡ rest_from counts read (rest_up_to fails ((place_after counts read).taken - (place_after counts read).ignored) rest)
 up_to_step false counts Ignored rest fits = refl
 up_to_step false counts (Fault kind) rest fits = refl
 up_to_step false counts (Sample sample) rest fits = refl
@@ -75,10 +75,10 @@ up_to_step true counts (Sample sample) rest fits =
     same taken ignored few fits = omega arith
 
 pub rest_of-step : (counts : Cursor) (before after : Coming) (line : List ℕ) → counts.ignored ≤ counts.taken → before.fails ≡ after.fails → text_lines before.bytes ≡ line ∷ text_lines after.bytes
-    → rest_of counts before ≡ rest_from counts (line_at counts line) (rest_of (place_after counts 0 (line_at counts line)) after)
+    → rest_of counts before ≡ rest_from counts (line_at counts line) (rest_of (place_after counts (line_at counts line)) after)
 rest_of-step counts before after line fits fails lines =
     let read : Line = line_at counts line in
-    let next : Cursor = place_after counts 0 read in
+    let next : Cursor = place_after counts read in
     ap (λ f. rest_up_to f (counts.taken - counts.ignored) (rest_of_bytes counts before.bytes)) fails
     ∙ ap (rest_up_to after.fails (counts.taken - counts.ignored)) (bytes_step counts before.bytes line after.bytes lines)
     ∙ up_to_step after.fails counts read (rest_of_bytes next after.bytes) fits

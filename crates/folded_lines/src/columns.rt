@@ -1,10 +1,12 @@
 //! The columns of a folded line, and the numbers in them.
 
-ghost use Rattle.std.specs.Prelude.{◌≡◌, ◌||◌, IsTrue, min, slice_index, count_by};
+ghost use Rattle.std.specs.Prelude.{◌≡◌, ◌<◌, ◌≤◌, ◌-◌, ◌||◌, true, false, IsTrue, min, length, drop, slice_index, count_by};
 ghost use Rattle.std.specs.List.{list_all};
 ghost use Rattle.std.specs.Str.Parse.{digits_value};
 ghost use Rattle.std.specs.Char.{is_ascii_digit};
 ghost use Rattle.std.specs.Option.{option_map};
+ghost use Rattle.memchr.specs.Find.{is_byte2};
+ghost use Rattle.folded_lines.specs.checked.Cutting.{is_digit_or_point};
 ghost use Rattle.folded_lines.specs.Lines.{columns, is_number, is_point, has_point, ends_in_number};
 
 use memchr::memrchr2;
@@ -28,9 +30,9 @@ fn begins_with_digit(text: &[u8]) -> bool
 }
 
 fn is_digits_and_points(text: &[u8]) -> bool
-    ensures { result ≡ list_all (λ b. is_ascii_digit b || is_point b) text.now }
+    ensures { result ≡ list_all is_digit_or_point text.now }
 {
-    text.iter().all(|b| b.is_ascii_digit() || *b == b'.')
+    text.iter().all(|b| is_digit_or_point(*b))
 }
 
 fn points(text: &[u8]) -> usize
@@ -53,14 +55,40 @@ pub(crate) fn has_point(text: &[u8]) -> bool
     text.iter().any(|b| *b == b'.')
 }
 
-/// Whether a head has a count at its own end.
+fn is_blank(b: u8) -> bool
+    ensures { result ≡ is_byte2 32 9 b }
+{
+    b == b' ' || b == b'\t'
+}
+
+fn is_digit_or_point(b: u8) -> bool
+    ensures { result ≡ is_digit_or_point b }
+{
+    b.is_ascii_digit() || b == b'.'
+}
+
+/// Where the digits and points at the end of a text begin.
+fn number_start(text: &[u8]) -> usize
+    ensures within { result ≤ length text.now }
+    ensures number { list_all is_digit_or_point (drop result text.now) ≡ true }
+    ensures apart { 0 < result → is_digit_or_point (slice_index text.now (result - 1)) ≡ false }
+{
+    let mut start = text.len();
+    while start > 0 && is_digit_or_point(text[start - 1]) {
+        start -= 1;
+    }
+    start
+}
+
+/// Whether a head has a count at its own end. It is looked for from there, so that long names cost nothing.
 pub(crate) fn ends_in_number(head: &[u8]) -> bool
     ensures { result ≡ ends_in_number (columns head.now) }
 {
-    match columns(head) {
-        None => false,
-        Some((_, count)) => is_number(count),
+    let start = number_start(head);
+    if start == 0 || !is_blank(head[start - 1]) {
+        return false;
     }
+    is_number(&head[start..])
 }
 
 /// More than any weight may be.

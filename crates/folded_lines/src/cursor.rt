@@ -5,12 +5,10 @@ ghost use Rattle.bstr.specs.Text.{line_len, no_cr, without_terminator};
 
 use bstr::ByteSlice;
 
-/// A place in a text, before one of its lines.
+/// A place between the lines of a text, by what stands before it.
 #[derive(Clone, Copy, Debug)]
 pub(crate) struct Cursor {
-    /// Where the next line begins.
-    pub(crate) position: usize,
-    /// The lines before it.
+    /// The lines.
     pub(crate) taken: u64,
     /// Those of them that are ignored.
     pub(crate) ignored: u64,
@@ -21,7 +19,6 @@ pub(crate) struct Cursor {
 impl Cursor {
     /// Before the first line.
     pub(crate) const START: Cursor = Cursor {
-        position: 0,
         taken: 0,
         ignored: 0,
         total: 0,

@@ -6,7 +6,6 @@ ghost use Rattle.folded_lines.specs.checked.KnownStacks.{AreKnown, IsRowOf, IsSp
 
 use call_tree::FrameTable;
 use call_tree::slots::{PROBES, put, slot_of};
-use call_tree::spelling_hash::hash_of;
 use std::alloc::{AllocError, Global};
 use std::marker::Model;
 
@@ -33,8 +32,6 @@ pub(crate) struct KnownStacks {
     rows: Vec<KnownRow>,
     /// In each the number of a row, from 1, or 0.
     slots: Vec<u32>,
-    /// The row that was found last.
-    last: usize,
 }
 
 impl Model for KnownStacks {
@@ -94,7 +91,6 @@ impl KnownStacks {
             numbers: Vec::new(alloc),
             rows: Vec::new(alloc),
             slots: Vec::new(alloc),
-            last: 0,
         }
     }
 
@@ -109,15 +105,10 @@ impl KnownStacks {
         spells(names, &self.numbers[known.start..end], head)
     }
 
-    /// The row whose stack's names a head is: the one that was found last is looked at first, since many samples have the stack of
-    /// the sample before.
-    fn row_of(&self, names: &FrameTable, head: &[u8]) -> Option<usize>
+    /// The row whose stack's names a head is.
+    fn row_of(&self, names: &FrameTable, head: &[u8], hash: u32) -> Option<usize>
         ensures { IfSome result (IsSpelledAt names.now self.now head.now) }
     {
-        if self.is_at(names, head, self.last) {
-            return Some(self.last);
-        }
-        let hash = hash_of(head);
         for probe in 0..PROBES {
             let number = *self.slots.get(slot_of(hash, probe, self.slots.len()))?;
             let row = (number as usize).checked_sub(1)?;
@@ -128,23 +119,20 @@ impl KnownStacks {
         None
     }
 
-    /// The row of the stack whose names, joined by `;`, are these bytes: those of a head without a `;` at its end. `None` says nothing.
-    pub(crate) fn find(&mut self, names: &FrameTable, head: &[u8]) -> Option<usize>
-        requires { AreKnown names.now self.old }
-        ensures row { IfSome result (λ row. IsRowOf names.now self.old row head.now) }
-        ensures same { self.new ≡ self.old }
+    /// The row of the stack whose names, joined by `;`, are these bytes: those of a head without a `;` at its end, and their hash. `None`
+    /// says nothing.
+    pub(crate) fn find(&self, names: &FrameTable, head: &[u8], hash: u32) -> Option<usize>
+        requires { AreKnown names.now self.now }
+        ensures { IfSome result (λ row. IsRowOf names.now self.now row head.now) }
     {
-        let row = self.row_of(names, head)?;
-        self.last = row;
-        Some(row)
+        self.row_of(names, head, hash)
     }
 
-    /// Remembers the stack of a head as the next row. A number past the 2^32nd is refused as memory is.
-    pub(crate) fn remember(&mut self, head: &[u8], frames: &[usize]) -> Result<(), AllocError>
+    /// Remembers the stack of a head, by the hash of the head, as the next row. A number past the 2^32nd is refused as memory is.
+    pub(crate) fn remember(&mut self, hash: u32, frames: &[usize]) -> Result<(), AllocError>
         ensures ok { OnOk result (self.new ≡ self.old ++ frames.now ∷ []) }
         ensures err { OnErr result (self.new ≡ self.old) }
     {
-        let hash = hash_of(head);
         let len = small_number(frames.len())?;
         let number = small_number(self.rows.len() + 1)?;
         make_room(self.alloc, &mut self.slots, self.rows.as_slice())?;

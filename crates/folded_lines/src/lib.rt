@@ -2,7 +2,6 @@
 //! write them. Read as samples, and written.
 #![tactic(auto)]
 
-mod ahead;
 mod columns;
 mod cursor;
 mod known_stacks;
@@ -13,14 +12,12 @@ mod numbering;
 mod parts;
 mod reader;
 mod row_lines;
-mod row_steps;
 mod rows;
 mod stream_lines;
 mod stream_steps;
 mod stream_telling;
 mod streams;
 mod strictness;
-mod telling;
 mod writing;
 
 pub use parts::cut_pieces;

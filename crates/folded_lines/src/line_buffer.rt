@@ -3,21 +3,23 @@
 ghost use Rattle.std.specs.Prelude.{◌≡◌, ◌+◌, ◌<◌, ◌≤◌, ◌^◌, [], length, take, drop, vec_len, IfOk, OnOk, OnErr};
 ghost use Rattle.std.specs.List.{SameBelow};
 ghost use Rattle.memchr.specs.Find.{IsFirstByte, is_byte};
+ghost use Rattle.stack_core.specs.Parts.{bytes_of};
 ghost use Rattle.folded_lines.specs.checked.StreamLines.{Brings};
 
 use bstr::ByteSlice;
 use byte_io::Inlet;
-use std::alloc::{AllocError, Global};
+use stack_core::SourceBytes;
+use std::alloc::AllocError;
 use std::marker::Model;
 
 /// How long the buffer is at first.
 const FIRST: usize = 64 * 1024;
 
 /// Bytes that were read and not given. They stand in a buffer whose rest has room for more, and in which no LF is looked for twice where
-/// none stood. Contracts see the bytes.
+/// none stood. A text that is all there is the buffer itself: where it is shared, it has no room. Contracts see the bytes.
 #[derive(Drop)]
 pub(crate) struct LineBuffer {
-    bytes: Vec<u8>,
+    bytes: SourceBytes,
     start: usize,
     /// No LF stands between `start` and here.
     searched: usize,
@@ -51,15 +53,17 @@ fn make_room(bytes: &mut Vec<u8>, end: usize) -> Result<(), AllocError>
 }
 
 impl LineBuffer {
-    /// No bytes. It takes no memory.
-    pub(crate) fn new(alloc: Global) -> LineBuffer
-        ensures { result ≡ [] }
+    /// These bytes. It takes no memory.
+    pub(crate) fn of(bytes: SourceBytes) -> LineBuffer
+        ensures bytes { result ≡ bytes_of bytes }
+        ensures short { length result < 2 ^ 63 }
     {
+        let end = bytes.as_slice().len();
         LineBuffer {
-            bytes: Vec::new(alloc),
+            bytes,
             start: 0,
             searched: 0,
-            end: 0,
+            end,
         }
     }
 
@@ -75,7 +79,7 @@ impl LineBuffer {
         ensures feed { IsFirstByte (is_byte 10) self.old result }
         ensures same { self.new ≡ self.old }
     {
-        let new = &self.bytes[self.searched..self.end];
+        let new = &self.bytes.as_slice()[self.searched..self.end];
         let Some(at) = new.find_byte(b'\n') else {
             self.searched = self.end;
             return None;
@@ -89,7 +93,7 @@ impl LineBuffer {
         requires { len ≤ length self.now }
         ensures { result.now ≡ take len self.now }
     {
-        &self.bytes[self.start..self.start + len]
+        &self.bytes.as_slice()[self.start..self.start + len]
     }
 
     /// Takes so many bytes off their front.
@@ -105,28 +109,34 @@ impl LineBuffer {
     fn move_to_front(&mut self)
         ensures { self.new ≡ self.old }
     {
+        let SourceBytes::Own(bytes) = &mut self.bytes else {
+            return;
+        };
         if self.start == 0 {
             return;
         }
-        self.bytes.copy_within(self.start..self.end, 0);
+        bytes.copy_within(self.start..self.end, 0);
         self.end -= self.start;
         self.searched -= self.start;
         self.start = 0;
     }
 
-    /// Reads once, and has what came behind the bytes that it had. `None` where the read failed. Where all of the buffer has bytes it is
-    /// doubled before.
+    /// Reads once, and has what came behind the bytes that it had. `None` where the read failed. Where all
+    /// of the buffer has bytes it is doubled before.
     pub(crate) fn read<I: Inlet>(&mut self, inlet: &mut I) -> Result<Option<usize>, AllocError>
         ensures brings { IfOk result (λ read. Brings (I.remaining inlet.old) (I.remaining inlet.new)
             (I.is_sure inlet.old) self.old read self.new) }
         ensures bytes { OnErr result (self.new ≡ self.old) }
         ensures unread { OnErr result (I.remaining inlet.new ≡ I.remaining inlet.old) }
         ensures surety { I.is_sure inlet.new ≡ I.is_sure inlet.old }
-        ensures short { length self.new < 2 ^ 63 }
+        ensures short { OnOk result (length self.new < 2 ^ 63) }
     {
         self.move_to_front();
-        make_room(&mut self.bytes, self.end)?;
-        match inlet.read(&mut self.bytes[self.end..]) {
+        let SourceBytes::Own(bytes) = &mut self.bytes else {
+            return Err(AllocError);
+        };
+        make_room(bytes, self.end)?;
+        match inlet.read(&mut bytes[self.end..]) {
             Ok(count) => {
                 self.end += count;
                 Ok(Some(count))

@@ -1,17 +1,13 @@
 //! A folded line, read by a reader of rows.
 
-ghost use Rattle.std.specs.Prelude.{◌≡◌, ◌≤◌, ◌<◌, ◌^◌, length, slice_range, count_by, IsTrue, ◌↔◌, IfOk, OnErr};
-ghost use Rattle.stack_core.specs.Prefixes.{IsPrefixOf};
-ghost use Rattle.folded_lines.specs.Lines.{is_semicolon, names_of, read_line};
-ghost use Rattle.folded_lines.specs.checked.Scanning.{within_total, IsWithin};
-ghost use Rattle.folded_lines.specs.checked.Telling.{head_fault, told_of, IsTelling};
-ghost use Rattle.folded_lines.specs.checked.RowLines.{IsCountOf, line_of_head, line_by, TellsLine};
+ghost use Rattle.std.specs.Prelude.{◌≡◌, ◌<◌, length, count_by, IsTrue, ◌↔◌};
+ghost use Rattle.folded_lines.specs.Lines.{is_semicolon, names_of};
+ghost use Rattle.folded_lines.specs.checked.Telling.{head_fault};
+ghost use Rattle.folded_lines.specs.checked.RowLines.{IsCountOf};
 
 use crate::columns::{columns, ends_in_number, has_point, is_number, weight_of};
 use crate::names::without_trailing_semicolons;
-use crate::telling::Telling;
-use stack_core::{FRAME_LIMIT, Listed, ReadKind, Text, WEIGHT_LIMIT};
-use std::alloc::{AllocError, Global};
+use stack_core::{FRAME_LIMIT, Listed, ReadKind, Text};
 
 /// What a line is to a reader of rows.
 #[derive(Drop)]
@@ -85,80 +81,4 @@ pub(crate) fn fault_of(head: &[u8]) -> Option<ReadKind>
         return Some(ReadKind::TwoColumns);
     }
     is_deep(head).then_some(ReadKind::TooDeep)
-}
-
-impl Telling {
-    /// The line of a head, which stands from `start` up to `end`, and a weight, after weights that add up to the total.
-    fn read_head(
-        &mut self,
-        alloc: Global,
-        bytes: &[u8],
-        start: usize,
-        end: usize,
-        weight: u64,
-        total: u64,
-    ) -> Result<RowLine, AllocError>
-        requires telling { IsTelling bytes.now self.old }
-        requires order { start ≤ end }
-        requires within { end ≤ length bytes.now }
-        requires fits { total ≤ WEIGHT_LIMIT }
-        requires room { length self.old.history < 2 ^ 63 }
-        ensures line { IfOk result (λ line. line_by (told_of self.new) line
-            ≡ within_total total (line_of_head (slice_range bytes.now start end) weight)) }
-        ensures within { IfOk result (λ line. IsWithin total (line_by (told_of self.new) line)) }
-        ensures tells { IfOk result (λ line. TellsLine (told_of self.old) line (told_of self.new)) }
-        ensures telling { IsTelling bytes.now self.new }
-        ensures stacks { OnErr result (self.new.history ≡ self.old.history) }
-        ensures names { OnErr result (IsPrefixOf self.old.names self.new.names) }
-    {
-        let known = self.heads.find_next(bytes, start, end);
-        if known.is_none()
-            && let Some(kind) = fault_of(&bytes[start..end])
-        {
-            return Ok(RowLine::Fault(kind));
-        }
-        if weight > WEIGHT_LIMIT - total {
-            return Ok(RowLine::Fault(ReadKind::TotalTooLarge));
-        }
-        if let Some(row) = known {
-            return Ok(RowLine::Again { row, weight });
-        }
-        let stack = self.tell(alloc, bytes, start, end)?;
-        Ok(RowLine::New {
-            names: stack.names,
-            frames: stack.frames,
-            weight,
-        })
-    }
-}
-
-/// Reads the line that stands from `start` up to `end`, after weights that add up to the total.
-pub(crate) fn read_row_line(
-    alloc: Global,
-    bytes: &[u8],
-    start: usize,
-    end: usize,
-    total: u64,
-    telling: &mut Telling,
-) -> Result<RowLine, AllocError>
-    requires telling { IsTelling bytes.now telling.old }
-    requires order { start ≤ end }
-    requires within { end ≤ length bytes.now }
-    requires fits { total ≤ WEIGHT_LIMIT }
-    requires room { length telling.old.history < 2 ^ 63 }
-    ensures line { IfOk result (λ line. line_by (told_of telling.new) line
-        ≡ within_total total (read_line (slice_range bytes.now start end))) }
-    ensures within { IfOk result (λ line. IsWithin total (line_by (told_of telling.new) line)) }
-    ensures tells { IfOk result (λ line. TellsLine (told_of telling.old) line (told_of telling.new)) }
-    ensures telling { IsTelling bytes.now telling.new }
-    ensures stacks { OnErr result (telling.new.history ≡ telling.old.history) }
-    ensures names { OnErr result (IsPrefixOf telling.old.names telling.new.names) }
-{
-    match count_of(&bytes[start..end]) {
-        Count::Ignored => Ok(RowLine::Ignored),
-        Count::Fault(kind) => Ok(RowLine::Fault(kind)),
-        Count::Weight { head, weight } => {
-            telling.read_head(alloc, bytes, start, start + head, weight, total)
-        }
-    }
 }

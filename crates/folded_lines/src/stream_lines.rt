@@ -2,12 +2,15 @@
 
 ghost use Rattle.std.specs.Prelude.{◌≡◌, ◌≢◌, ◌<◌, ◌≤◌, ◌^◌, ◌∷◌, [], true, false, length, take, drop, Some, None, Ok, IfOk, IfSome, OnErr, OnOk};
 ghost use Rattle.memchr.specs.Find.{IsFirstByte, is_byte};
+ghost use Rattle.stack_core.specs.Parts.{bytes_of};
 ghost use Rattle.folded_lines.specs.Streams.{Coming};
 ghost use Rattle.folded_lines.specs.Lines.{text_lines};
 
 use crate::cursor::without_cr;
 use crate::line_buffer::LineBuffer;
+use crate::row_lines::{Count, count_of};
 use byte_io::Inlet;
+use stack_core::SourceBytes;
 use std::alloc::{AllocError, Global};
 
 /// Whether more may come of a stream.
@@ -40,6 +43,11 @@ pub(crate) struct StreamLines<I> {
     ghost short: { length buffer < 2 ^ 63 },
 }
 
+/// Whether no count stands at the end of a line.
+fn is_ignored(line: &[u8]) -> bool {
+    matches!(count_of(line), Count::Ignored)
+}
+
 impl<I: Inlet> StreamLines<I> {
     ghost use Rattle.folded_lines.specs.checked.StreamLines.{LinesMayCome, IsLineOf, HasNone, line_of_found, unread_of};
 
@@ -52,7 +60,20 @@ impl<I: Inlet> StreamLines<I> {
         StreamLines {
             inlet,
             state: StreamState::Open,
-            buffer: LineBuffer::new(alloc),
+            buffer: LineBuffer::of(SourceBytes::Own(Vec::new(alloc))),
+        }
+    }
+
+    /// The lines of bytes that are all there, and behind which none is read. It takes no memory.
+    pub(crate) fn whole(inlet: I, bytes: SourceBytes) -> Self
+        ensures inlet { result.inlet ≡ inlet }
+        ensures unread { unread_of result ≡ bytes_of bytes }
+        ensures state { result.state ≡ StreamState.Ended }
+    {
+        StreamLines {
+            inlet,
+            state: StreamState::Ended,
+            buffer: LineBuffer::of(bytes),
         }
     }
 
@@ -77,6 +98,19 @@ impl<I: Inlet> StreamLines<I> {
             if !self.read_more()? {
                 return Ok(self.last_line());
             }
+        }
+    }
+
+    /// Whether more may be read before a line comes that has a count.
+    pub(crate) fn may_read(&mut self) -> bool
+        ensures { self.new ≡ self.old }
+    {
+        if self.state != StreamState::Open {
+            return false;
+        }
+        match self.buffer.find_feed() {
+            Some(at) => is_ignored(without_cr(self.buffer.front(at))),
+            None => true,
         }
     }
 

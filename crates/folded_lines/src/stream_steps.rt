@@ -1,17 +1,17 @@
 //! The lines of a stream, one after another, for a reader of rows.
 
-ghost use Rattle.std.specs.Prelude.{◌≡◌, ◌≢◌, ◌+◌, ◌<◌, ◌≤◌, IfOk, OnOk, OnErr};
+ghost use Rattle.std.specs.Prelude.{◌≡◌, ◌≢◌, ◌+◌, ◌<◌, ◌≤◌, ◌^◌, IfOk, OnOk, OnErr};
+ghost use Rattle.sample_tables.specs.Rows.{ToldRows};
 ghost use Rattle.stack_core.specs.Prefixes.{IsPrefixOf};
 ghost use Rattle.stack_core.specs.Reading.{Rest};
 ghost use Rattle.stack_core.specs.RowReading.{GivesSuch, StepsAmong, IsLimitedStep};
-ghost use Rattle.folded_lines.specs.checked.Scanning.{rest_from, ended, IsWithin};
-ghost use Rattle.folded_lines.specs.checked.RowLines.{line_by, TellsLine};
+ghost use Rattle.folded_lines.specs.checked.Scanning.{place_after, rest_from, ended, IsWithin};
+ghost use Rattle.folded_lines.specs.checked.RowLines.{line_by, weight_by, TellsLine};
 ghost use Rattle.folded_lines.specs.checked.StreamLines.{HasNone, IsLineOf};
 ghost use Rattle.folded_lines.specs.checked.StreamPlaces.{GivesAt, GivesBehind, IsStreamPlace};
 
 use crate::cursor::Cursor;
 use crate::row_lines::RowLine;
-use crate::row_steps::after;
 use crate::stream_lines::{FoundLine, StreamLines, StreamState};
 use crate::stream_telling::StreamTelling;
 use byte_io::Inlet;
@@ -20,6 +20,30 @@ use std::alloc::{AllocError, Global};
 
 /// How many lines are read at most, so that the next ones, too, can be counted in 64 bits.
 pub(crate) const LINE_LIMIT: u64 = 1 << 63;
+
+/// The counts after a line.
+fn after(cursor: Cursor, line: &RowLine) -> Cursor
+    requires taken { cursor.taken + 1 < 2 ^ 64 }
+    requires ignored { cursor.ignored + 1 < 2 ^ 64 }
+    requires total { cursor.total + weight_by line.now ≤ WEIGHT_LIMIT }
+    ensures { (told : ToldRows) → result ≡ place_after cursor (line_by told line.now) }
+{
+    let next = Cursor {
+        taken: cursor.taken + 1,
+        ..cursor
+    };
+    match line {
+        RowLine::Ignored => Cursor {
+            ignored: cursor.ignored + 1,
+            ..next
+        },
+        RowLine::Fault(_) => next,
+        RowLine::New { weight, .. } | RowLine::Again { weight, .. } => Cursor {
+            total: cursor.total + *weight,
+            ..next
+        },
+    }
+}
 
 /// Reads the line that was found, and then takes it off.
 fn take_line<I: Inlet>(
@@ -48,7 +72,7 @@ fn take_line<I: Inlet>(
 {
     let line = telling.read_line(alloc, lines.line(found), *counts)?;
     lines.pass(found);
-    *counts = after(*counts, 0, &line);
+    *counts = after(*counts, &line);
     Ok(line)
 }
 

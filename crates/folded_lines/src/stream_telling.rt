@@ -1,12 +1,13 @@
 //! What a reader of a stream told, and the line of a head that it meets.
 
-ghost use Rattle.std.specs.Prelude.{◌≡◌, ◌≤◌, ◌==◌, ◌&&◌, [], length, IfOk, IfSome, MatchOption, OnErr};
+ghost use Rattle.std.specs.Prelude.{◌≡◌, ◌≤◌, ◌==◌, ◌&&◌, [], None, length, IfOk, IfSome, MatchOption, OnErr};
 ghost use Rattle.sample_tables.specs.Rows.{name_at};
 ghost use Rattle.stack_core.specs.Prefixes.{IsPrefixOf};
 ghost use Rattle.folded_lines.specs.Lines.{names_of};
+ghost use Rattle.folded_lines.specs.Reading.{begins_compressed};
 ghost use Rattle.folded_lines.specs.checked.KnownStacks.{IsRowOf};
 ghost use Rattle.folded_lines.specs.checked.Scanning.{within_total, IsWithin};
-ghost use Rattle.folded_lines.specs.checked.Telling.{TellsStack};
+ghost use Rattle.folded_lines.specs.checked.Telling.{head_fault, IsToldAs, TellsStack};
 ghost use Rattle.folded_lines.specs.checked.RowLines.{line_of_head, line_by, TellsLine};
 ghost use Rattle.folded_lines.specs.checked.StreamReading.{line_at};
 
@@ -15,30 +16,42 @@ use crate::known_stacks::KnownStacks;
 use crate::names::without_trailing_semicolons;
 use crate::numbering::{NewStack, new_stack};
 use crate::row_lines::{Count, RowLine, count_of, fault_of};
-use crate::rows::begins_compressed;
 use call_tree::FrameTable;
+use call_tree::spelling_hash::hash_of;
 use stack_core::{ReadKind, WEIGHT_LIMIT};
 use std::alloc::{AllocError, Global};
 use std::marker::Model;
 
-/// The names and stacks that were told. Of the lines that told them no byte is kept: a stack is known by its names.
+/// The names and stacks that were told. Of the lines no byte is kept but one head: a stack is known by its names.
 #[derive(Drop)]
 pub(crate) struct StreamTelling {
     names: FrameTable,
     stacks: KnownStacks,
     /// The numbers of the stack that was told last.
     frames: Vec<usize>,
+    /// A head of a stack that is known, and its row: that of the line before, or of one before that, since many samples have the stack of
+    /// the sample before.
+    head: Vec<u8>,
+    row: Option<usize>,
 }
 
 impl Model for StreamTelling {
     ghost use Rattle.sample_tables.specs.Rows.{ToldRows};
-    ghost use Rattle.folded_lines.specs.checked.KnownStacks.{AreKnown};
+    ghost use Rattle.folded_lines.specs.checked.KnownStacks.{AreKnown, IsMet};
 
     ghost Value = { ToldRows };
 
     ghost view = { λ telling. record { names = telling.names; stacks = telling.stacks } };
 
-    ghost invariant = { λ telling. AreKnown telling.names telling.stacks };
+    ghost invariant = { λ telling. AreKnown telling.names telling.stacks
+        × IsMet telling.names telling.stacks telling.head.items telling.row };
+}
+
+/// Whether the bytes begin as gzip does.
+fn begins_compressed(bytes: &[u8]) -> bool
+    ensures { result ≡ begins_compressed bytes.now }
+{
+    bytes.first() == Some(&0x1f) && bytes.get(1) == Some(&0x8b)
 }
 
 impl StreamTelling {
@@ -50,6 +63,8 @@ impl StreamTelling {
             names: FrameTable::new(alloc),
             stacks: KnownStacks::new(alloc),
             frames: Vec::new(alloc),
+            head: Vec::new(alloc),
+            row: None,
         }
     }
 
@@ -65,25 +80,47 @@ impl StreamTelling {
         }
     }
 
+    /// The row of a head that is the same as the one that is kept. It has no fault.
+    fn row_again(&self, head: &[u8]) -> Option<usize>
+        ensures { IfSome result (IsToldAs self.now head.now) }
+    {
+        if self.head.as_slice() == head {
+            self.row
+        } else {
+            None
+        }
+    }
+
     /// The row of a head's stack, where it is known.
-    fn row_of(&mut self, head: &[u8]) -> Option<usize>
-        ensures row { IfSome result (λ row. IsRowOf self.old.names self.old.stacks row head.now) }
-        ensures same { self.new ≡ self.old }
+    fn row_of(&self, head: &[u8], hash: u32) -> Option<usize>
+        ensures { IfSome result (λ row. IsRowOf self.now.names self.now.stacks row head.now) }
     {
         self.stacks
-            .find(&self.names, without_trailing_semicolons(head))
+            .find(&self.names, without_trailing_semicolons(head), hash)
+    }
+
+    /// Keeps a head without fault, and its row. Where memory is wanting it keeps none.
+    fn keep(&mut self, head: &[u8], row: usize)
+        requires row { IsRowOf self.old.names self.old.stacks row head.now }
+        requires faultless { head_fault head.now ≡ None }
+        ensures { self.new ≡ self.old }
+    {
+        self.row = None;
+        self.head.clear();
+        if self.head.extend_from_slice(head).is_ok() {
+            self.row = Some(row);
+        }
     }
 
     /// Tells the stack of a head, and remembers it.
-    fn tell(&mut self, alloc: Global, head: &[u8]) -> Result<NewStack, AllocError>
+    fn tell(&mut self, alloc: Global, head: &[u8], hash: u32) -> Result<NewStack, AllocError>
         ensures tells { IfOk result (λ stack.
             TellsStack (names_of head.now) self.old stack.names stack.frames self.new) }
         ensures stacks { OnErr result (self.new.stacks ≡ self.old.stacks) }
         ensures names { OnErr result (IsPrefixOf self.old.names self.new.names) }
     {
         let stack = new_stack(alloc, &mut self.names, &mut self.frames, head)?;
-        self.stacks
-            .remember(without_trailing_semicolons(head), stack.frames.get())?;
+        self.stacks.remember(hash, stack.frames.get())?;
         Ok(stack)
     }
 
@@ -104,16 +141,24 @@ impl StreamTelling {
         ensures stacks { OnErr result (self.new.stacks ≡ self.old.stacks) }
         ensures names { OnErr result (IsPrefixOf self.old.names self.new.names) }
     {
-        if let Some(kind) = fault_of(head) {
+        let again = self.row_again(head);
+        if again.is_none()
+            && let Some(kind) = fault_of(head)
+        {
             return Ok(RowLine::Fault(kind));
         }
         if weight > WEIGHT_LIMIT - total {
             return Ok(RowLine::Fault(ReadKind::TotalTooLarge));
         }
-        if let Some(row) = self.row_of(head) {
+        if let Some(row) = again {
             return Ok(RowLine::Again { row, weight });
         }
-        let stack = self.tell(alloc, head)?;
+        let hash = hash_of(without_trailing_semicolons(head));
+        if let Some(row) = self.row_of(head, hash) {
+            self.keep(head, row);
+            return Ok(RowLine::Again { row, weight });
+        }
+        let stack = self.tell(alloc, head, hash)?;
         Ok(RowLine::New {
             names: stack.names,
             frames: stack.frames,

@@ -9,11 +9,11 @@ use crate::stream_lines::StreamLines;
 use crate::stream_steps::next_stream_step;
 use crate::stream_telling::StreamTelling;
 use byte_io::{BytesInlet, Inlet};
-use stack_core::{KnownRows, RowReader, RowStep, SourceEnd};
+use stack_core::{KnownRows, RowReader, RowStep, SourceBytes, SourceEnd};
 use std::alloc::{AllocError, Global};
 
-/// Reads folded text while it comes by an inlet, as `FoldedRows` reads bytes that are there. No byte of a line is kept that was read: a
-/// stack is known again by the names of its frames. A line is given as soon as its end came. Where a read fails, the lines before it count,
+/// Reads folded text while it comes by an inlet. Of the lines that were read no byte is kept, but those of one head: a stack is known again
+/// by the names of its frames. A line is given as soon as its end came. Where a read fails, the lines before it count,
 /// and the ending says how many samples they gave. It counts lines in 64 bits, and wants memory where it can't.
 #[derive(Drop)]
 pub struct FoldedStream<I: Inlet> {
@@ -59,6 +59,25 @@ impl<I: Inlet> FoldedStream<I> {
     }
 }
 
+impl FoldedStream<BytesInlet> {
+    ghost use Rattle.std.specs.Prelude.{◌≡◌, []};
+    ghost use Rattle.stack_core.specs.Parts.{bytes_of};
+    ghost use Rattle.folded_lines.specs.Reading.{read_folded};
+
+    /// A reader of folded text whose bytes are all there. They are not copied, and it takes no memory.
+    pub(crate) fn whole(alloc: Global, bytes: SourceBytes) -> Self
+        ensures rest { ⟦<FoldedStream<BytesInlet> as KnownRows>⟧.rest result ≡ read_folded (bytes_of bytes) }
+        ensures told { ⟦<FoldedStream<BytesInlet> as RowReader>⟧.told result ≡ record { names = []; stacks = [] } }
+    {
+        FoldedStream {
+            lines: StreamLines::whole(BytesInlet::new(Vec::new(alloc)), bytes),
+            counts: Cursor::START,
+            ended: None,
+            telling: StreamTelling::new(alloc),
+        }
+    }
+}
+
 impl<I: Inlet> RowReader for FoldedStream<I> {
     ghost use Rattle.std.specs.Prelude.{IsSome};
     ghost use Rattle.folded_lines.specs.checked.StreamPlaces.{GivesBy};
@@ -76,6 +95,11 @@ impl<I: Inlet> RowReader for FoldedStream<I> {
         let step = next_stream_step(alloc, &mut self.lines, &mut self.counts, &mut self.telling)?;
         self.ended = ending_of(&step);
         Ok(step)
+    }
+
+    /// It may wait unless a line with a count is there.
+    fn may_wait(&mut self) -> bool {
+        self.ended.is_none() && self.lines.may_read()
     }
 
     fn name(&self, number: usize) -> Option<&str> {

@@ -9,9 +9,9 @@ use Rattle.std.proofs.lemmas.List.Folds.{list_any-append}
 use Rattle.std.proofs.lemmas.List.Sums.{sum_by-append, sum_by-cons, sum_by-take-le}
 use Rattle.std.proofs.lemmas.Option.{get_or_from_slice_get, slice_get-get_or, slice_get_within}
 use Rattle.sample_tables.specs.declared.samples.Sample.{Sample}
-use Rattle.sample_tables.specs.Rows.{name_at, named, row_at}
+use Rattle.sample_tables.specs.Rows.{name_at, sample_at}
 use Rattle.merged_stacks.specs.Order.{AreRising}
-use Rattle.merged_stacks.specs.RankedStacks.{Ranking, ranked_samples, NamesEachRank}
+use Rattle.merged_stacks.specs.RankedStacks.{Ranking, ranked_samples, ranks_at, sample_of}
 use Rattle.merged_stacks.proofs.JoinedStacks.{names_distinct}
 use Rattle.merged_stacks.specs.Timeline.{Stack, total_weight}
 use Rattle.function_sums.specs.declared.counts.Count.{Count}
@@ -168,14 +168,13 @@ stack_room stacks at s more =
     omega (arith, sum_by-take-le weight stacks (at + 1), ap (sum_by weight) more, sum_by-append weight (take at stacks) (s ∷ []), sum_by-cons weight s [])
 
 -- the stack that is counted next
-pub stack_more : (ranking : Ranking) (at weight : ℕ) (ranks : List ℕ) → at < length ranking.rows → weight ≡ (row_at ranking.rows at).weight → ranks ≡ (row_at ranking.rows at).frames
-    → take (at + 1) (ranked_samples ranking) ≡ take at (ranked_samples ranking) ++ record { stack = map (name_at ranking.names) ranks; weight = weight } ∷ []
-stack_more ranking at weight ranks within w r =
-    take-map (named ranking.names) (at + 1) ranking.rows ∙ map_more (named ranking.names) ranking.rows at (record { frames = []; weight = 0 }) within
-    ∙ (λ i. sym (take-map (named ranking.names) at ranking.rows) i ++ record { stack = map (name_at ranking.names) (sym r i); weight = sym w i } ∷ [])
-
-pub ranks_below : (ranking : Ranking) (at : ℕ) (ranks : List ℕ) → NamesEachRank ranking → at < length ranking.rows → ranks ≡ (row_at ranking.rows at).frames → All (λ rank. rank < length ranking.names) ranks
-ranks_below ranking at ranks known within r = subst (λ xs. All (λ rank. rank < length ranking.names) xs) (sym r) (known at (record { frames = []; weight = 0 }) within)
+pub stack_more : (all : Ranking) (at weight : ℕ) (ranks : List ℕ) → at < length (ranked_samples all) → weight ≡ (sample_at (ranked_samples all) at).weight → ranks ≡ ranks_at all at
+    → take (at + 1) (ranked_samples all) ≡ take at (ranked_samples all) ++ record { stack = map (name_at all.names) ranks; weight = weight } ∷ []
+stack_more all at weight ranks lt w r =
+    let f = sample_of all.names in
+    let within : at < length all.rows = omega (arith, lt, length-map all.rows f) in
+    let here = w ∙ ap (λ (s : Sample). s.weight) (get_or-map f all.rows at ([], 0) (record { stack = []; weight = 0 }) within) in
+    take-map f (at + 1) all.rows ∙ map_more f all.rows at ([], 0) within ∙ (λ i. sym (take-map f at all.rows) i ++ record { stack = map (name_at all.names) (sym r i); weight = sym here i } ∷ [])
 
 pub last_below : (ranks : List ℕ) (count last : ℕ) → All (λ rank. rank < count) ranks → slice_get ranks (length ranks - 1) ≡ Some last → last < count
 last_below ranks count last below e =

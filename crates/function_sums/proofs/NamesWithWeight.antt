@@ -8,7 +8,8 @@ use Rattle.std.proofs.lemmas.List.Elements.{All-head, All-tail, filter_more, fil
 use Rattle.std.proofs.lemmas.List.Sums.{sum_by-cons}
 use Rattle.std.proofs.lemmas.Map.Views.{any-filter_same}
 use Rattle.sample_tables.specs.declared.samples.Sample.{Sample}
-use Rattle.sample_tables.specs.Rows.{Row, name_at, named}
+use Rattle.sample_tables.specs.Rows.{name_at}
+use Rattle.merged_stacks.specs.RankedStacks.{sample_of}
 use Rattle.function_sums.specs.FunctionSums.{stands_in, total_of}
 use Rattle.function_sums.specs.checked.Counted.{has_weight, names_with_weight}
 use Rattle.function_sums.proofs.Counting.{same_name, among-at}
@@ -60,13 +61,13 @@ away name names (rank ∷ ranks) below miss =
     let other : bytes_eq name (name_at names rank) ≡ false = false_from_ne_true _ (λ hit. true≢false (sym (among-at name names rank (All-head P rank ranks below) (same_name name (name_at names rank) hit)) ∙ miss)) in
     λ i. other i || away name names ranks (All-tail P rank ranks below) miss i
 
-pub weightless : (name : List ℕ) (names : List (List ℕ)) (rows : List Row) → All (λ row. All (λ rank. rank < length names) row.frames) rows → list_any (bytes_eq name) names ≡ false → total_of name (map (named names) rows) ≡ 0
+pub weightless : (name : List ℕ) (names : List (List ℕ)) (rows : List (List ℕ × ℕ)) → All (λ row. All (λ rank. rank < length names) row.0) rows → list_any (bytes_eq name) names ≡ false → total_of name (map (sample_of names) rows) ≡ 0
 weightless name names [] known miss = refl
 weightless name names (row ∷ rows) known miss =
-    let P = λ (row : Row). All (λ rank. rank < length names) row.frames in
+    let P = λ (row : List ℕ × ℕ). All (λ rank. rank < length names) row.0 in
     omega (
       arith,
-      sum_by-cons (λ (sample : Sample). cond (stands_in name sample.stack) sample.weight 0) (named names row) (map (named names) rows),
-      ap (λ b. cond b row.weight 0) (away name names row.frames (All-head P row rows known) miss),
+      sum_by-cons (λ (sample : Sample). cond (stands_in name sample.stack) sample.weight 0) (sample_of names row) (map (sample_of names) rows),
+      ap (λ b. cond b row.1 0) (away name names row.0 (All-head P row rows known) miss),
       weightless name names rows (All-tail P row rows known) miss,
     )

@@ -6,7 +6,7 @@ ghost use Rattle.sample_tables.specs.Rows.{name_at};
 ghost use Rattle.function_sums.specs.Calls.{beside, beside_in};
 
 use crate::call_sides::CallSide;
-use merged_stacks::RankedStacks;
+use merged_stacks::MergedStacks;
 use std::alloc::{AllocError, Global};
 
 /// The calls of a function, of which one side is looked at.
@@ -21,19 +21,19 @@ impl Call<'_> {
     pub(crate) fn beside(
         &self,
         alloc: Global,
-        stacks: &RankedStacks<'_>,
+        merged: &MergedStacks,
         ranks: &[u32],
     ) -> Result<Vec<u32>, AllocError>
-        requires { All (λ rank. rank < length stacks.now.names) ranks.now }
-        ensures known { IfOk result (λ found. All (λ rank. rank < length stacks.now.names) found.items) }
-        ensures names { IfOk result (λ found. map (name_at stacks.now.names) found.items
-            ≡ beside_in self.now.side self.now.name.now (map (name_at stacks.now.names) ranks.now)) }
+        requires { All (λ rank. rank < length merged.now.names) ranks.now }
+        ensures known { IfOk result (λ found. All (λ rank. rank < length merged.now.names) found.items) }
+        ensures names { IfOk result (λ found. map (name_at merged.now.names) found.items
+            ≡ beside_in self.now.side self.now.name.now (map (name_at merged.now.names) ranks.now)) }
     {
         let mut found = Vec::new(alloc);
         for at in 1..ranks.len() {
             let (above, below) = (ranks[at - 1], ranks[at]);
             let (named, other) = self.pair(above, below);
-            if self.name == stacks.name(named as usize) {
+            if self.name == merged.name_of(named as usize) {
                 found.push(other)?;
             }
         }

@@ -21,6 +21,7 @@ pub use changes::{Change, ChangeOrder, FunctionChange};
 pub use growth::grown;
 pub use listed_calls::first_calls;
 pub use run_options::FunctionOrder as Order;
+pub use shares::{share_after, share_before};
 pub use sides::named_sum;
 pub use sums::FunctionSum;
 pub use tables::{function_calls, function_sums};

@@ -2,6 +2,7 @@
 
 ghost use Rattle.std.specs.Prelude.{◌≡◌, ◌∷◌, List, IfOk, take};
 ghost use Rattle.sample_tables.specs.declared.samples.Sample.{Sample};
+ghost use Rattle.merged_stacks.specs.RankedStacks.{ranked_samples};
 ghost use Rattle.flame_layout.specs.Paths.{SameOwn};
 ghost use Rattle.function_sums.specs.Calls.{calls_of};
 ghost use Rattle.function_sums.specs.FunctionSums.{sums_of};
@@ -22,7 +23,7 @@ pub fn first_calls(
     side: CallSide,
     rows: u64,
 ) -> Result<Vec<FunctionSum>, AllocError>
-    ensures { IfOk result (λ sums. (samples : List Sample) → SameOwn samples merged.now
+    ensures { IfOk result (λ sums. (samples : List Sample) → SameOwn samples (ranked_samples merged.now)
         → sums.items ≡ sums_of samples name.now ∷ take rows (calls_of side name.now samples)) }
 {
     let mut sums = function_calls(alloc, merged, name, side)?;

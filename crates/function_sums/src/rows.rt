@@ -9,7 +9,7 @@ ghost use Rattle.function_sums.specs.checked.Rows.{row_sum};
 use crate::Order;
 use crate::counts::Count;
 use crate::sums::FunctionSum;
-use merged_stacks::RankedStacks;
+use merged_stacks::MergedStacks;
 use stack_core::Text;
 use std::alloc::{AllocError, Global};
 use std::cmp::Reverse;
@@ -21,22 +21,22 @@ pub(crate) type Row<'a> = (Reverse<u64>, &'a str, u64, u64);
 /// The row of each name that stands in a stack, in the order of their ranks.
 pub(crate) fn rows<'a>(
     alloc: Global,
-    stacks: &RankedStacks<'a>,
+    merged: &'a MergedStacks,
     counts: &[Count],
     by: Order,
 ) -> Result<Vec<Row<'a>>, AllocError>
-    requires { length counts.now ≡ length stacks.now.names }
+    requires { length counts.now ≡ length merged.now.names }
     ensures keys { IfOk result (λ rows. All (λ row. row.0.0 ≡ weight_of by (row_sum row)) rows.items) }
     ensures sums { IfOk result (λ rows. (lasts samples : List Sample) (stamp : ℕ)
-        → AreCounts stacks.now.names counts.now lasts samples [] 0 stamp
+        → AreCounts merged.now.names counts.now lasts samples [] 0 stamp
         → map row_sum rows.items
-        ≡ map (sums_by lasts samples) (names_with_weight samples stacks.now.names)) }
+        ≡ map (sums_by lasts samples) (names_with_weight samples merged.now.names)) }
 {
     let mut rows = Vec::with_capacity(alloc, counts.len())?;
     for rank in 0..counts.len() {
         let count = counts[rank];
         if count.total > 0 {
-            rows.push(row(stacks.name(rank), count, by))?;
+            rows.push(row(merged.name_of(rank), count, by))?;
         }
     }
     Ok(rows)

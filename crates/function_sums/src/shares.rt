@@ -36,13 +36,16 @@ fn limit(points: u64, whole: Change) -> u128
         .saturating_add(points * left / 100)
 }
 
-fn share_before(whole: Change, change: Change) -> u128
+/// What compares as the share before does with what `share_after` gives: each is the weight times what the other side weighs, if it weighs
+/// anything, so that of nothing each share is nothing.
+pub fn share_before(whole: Change, change: Change) -> u128
     ensures { result ≡ share_before whole change }
 {
     u128::from(change.before) * u128::from(divisor(whole.after))
 }
 
-fn share_after(whole: Change, change: Change) -> u128
+/// What compares as the share after does with what `share_before` gives.
+pub fn share_after(whole: Change, change: Change) -> u128
     ensures { result ≡ share_after whole change }
 {
     u128::from(change.after) * u128::from(divisor(whole.before))

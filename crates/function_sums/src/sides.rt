@@ -2,6 +2,7 @@
 
 ghost use Rattle.std.specs.Prelude.{◌≡◌, IfOk, List};
 ghost use Rattle.sample_tables.specs.declared.samples.Sample.{Sample};
+ghost use Rattle.merged_stacks.specs.RankedStacks.{ranked_samples};
 ghost use Rattle.flame_layout.specs.Paths.{SameOwn};
 ghost use Rattle.run_options.specs.declared.orders.FunctionOrder.{FunctionOrder as Order};
 ghost use Rattle.function_sums.specs.FunctionChanges.{change_of, size_of};
@@ -90,7 +91,7 @@ pub fn named_sum(
     merged: &MergedStacks,
     name: &str,
 ) -> Result<FunctionSum, AllocError>
-    ensures { IfOk result (λ sum. (samples : List Sample) → SameOwn samples merged.now
+    ensures { IfOk result (λ sum. (samples : List Sample) → SameOwn samples (ranked_samples merged.now)
         → sum ≡ sums_of samples name.now) }
 {
     let sums = function_sums(alloc, merged, Order::Own)?;

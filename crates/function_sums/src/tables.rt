@@ -17,7 +17,7 @@ use crate::calls::Call;
 use crate::counts::{Count, count_stack};
 use crate::rows::{rows, sums};
 use crate::sums::FunctionSum;
-use merged_stacks::{MergedStacks, RankedStacks};
+use merged_stacks::{MergedStacks, StackRows};
 use std::alloc::{AllocError, Global};
 
 /// The sums of all functions of some samples, the heaviest first: of every list of samples whose
@@ -27,7 +27,7 @@ pub fn function_sums(
     merged: &MergedStacks,
     by: Order,
 ) -> Result<Vec<FunctionSum>, AllocError>
-    ensures { IfOk result (λ sums. (samples : List Sample) → SameOwn samples merged.now
+    ensures { IfOk result (λ sums. (samples : List Sample) → SameOwn samples (ranked_samples merged.now)
         → AreFunctionSums by samples sums.items) }
 {
     table(alloc, merged, None, by)
@@ -42,7 +42,7 @@ pub fn function_calls(
     name: &str,
     side: CallSide,
 ) -> Result<Vec<FunctionSum>, AllocError>
-    ensures { IfOk result (λ sums. (samples : List Sample) → SameOwn samples merged.now
+    ensures { IfOk result (λ sums. (samples : List Sample) → SameOwn samples (ranked_samples merged.now)
         → AreCalls side name.now samples sums.items) }
 {
     table(alloc, merged, Some(Call { name, side }), Order::Total)
@@ -55,12 +55,11 @@ fn table(
     call: Option<Call<'_>>,
     by: Order,
 ) -> Result<Vec<FunctionSum>, AllocError>
-    ensures { IfOk result (λ sums. (samples : List Sample) → SameOwn samples merged.now
+    ensures { IfOk result (λ sums. (samples : List Sample) → SameOwn samples (ranked_samples merged.now)
         → AreCut call.entry by samples sums.items) }
 {
-    let stacks = merged.by_rank();
-    let counts = count_all(alloc, merged, &stacks, call)?;
-    let mut rows = rows(alloc, &stacks, &counts, by)?;
+    let counts = count_all(alloc, merged, call)?;
+    let mut rows = rows(alloc, merged, &counts, by)?;
     rows.sort_unstable();
     sums(alloc, &rows)
 }
@@ -69,23 +68,21 @@ fn table(
 fn count_all(
     alloc: Global,
     merged: &MergedStacks,
-    stacks: &RankedStacks<'_>,
     call: Option<Call<'_>>,
 ) -> Result<Vec<Count>, AllocError>
-    requires samples { ranked_samples stacks.now ≡ merged.now }
-    requires rising { AreRising stacks.now.names }
-    requires known { NamesEachRank stacks.now }
-    ensures { IfOk result (λ counts. (stamp : ℕ) × AreCounts stacks.now.names counts.items
-        (lasts_of call.entry merged.now) (counted_of call.entry merged.now) [] 0 stamp) }
+    ensures counts { IfOk result (λ counts. (stamp : ℕ) × AreCounts merged.now.names counts.items
+        (lasts_of call.entry (ranked_samples merged.now)) (counted_of call.entry (ranked_samples merged.now)) [] 0 stamp) }
+    ensures rising { IfOk result (λ _. AreRising merged.now.names) }
+    ensures known { IfOk result (λ _. NamesEachRank merged.now) }
 {
     let none = Count {
         own: 0,
         total: 0,
         stamp: 0,
     };
-    let mut counts = vec![in alloc; none; stacks.name_count()]?;
+    let mut counts = vec![in alloc; none; merged.name_count()]?;
     for at in 0..merged.len() {
-        count_at(alloc, &mut counts, stacks, at, call)?;
+        count_at(alloc, &mut counts, merged, at, call)?;
     }
     Ok(counts)
 }
@@ -94,28 +91,27 @@ fn count_all(
 fn count_at(
     alloc: Global,
     counts: &mut [Count],
-    stacks: &RankedStacks<'_>,
+    merged: &MergedStacks,
     at: usize,
     call: Option<Call<'_>>,
 ) -> Result<(), AllocError>
-    requires at { at < length stacks.now.rows }
+    requires at { at < length (ranked_samples merged.now) }
     requires small { at + 1 < 2 ^ 64 }
-    requires total { total_weight (ranked_samples stacks.now) < 2 ^ 64 }
-    requires rising { AreRising stacks.now.names }
-    requires known { NamesEachRank stacks.now }
-    requires counted { AreCounts stacks.now.names counts.old (lasts_of call (take at (ranked_samples stacks.now)))
-        (counted_of call (take at (ranked_samples stacks.now))) [] 0 (at + 1) }
-    ensures { OnOk result (AreCounts stacks.now.names counts.new
-        (lasts_of call.entry (take (at + 1) (ranked_samples stacks.now)))
-        (counted_of call.entry (take (at + 1) (ranked_samples stacks.now))) [] 0 (at + 1 + 1)) }
+    requires total { total_weight (ranked_samples merged.now) < 2 ^ 64 }
+    requires rising { AreRising merged.now.names }
+    requires counted { AreCounts merged.now.names counts.old (lasts_of call (take at (ranked_samples merged.now)))
+        (counted_of call (take at (ranked_samples merged.now))) [] 0 (at + 1) }
+    ensures { OnOk result (AreCounts merged.now.names counts.new
+        (lasts_of call.entry (take (at + 1) (ranked_samples merged.now)))
+        (counted_of call.entry (take (at + 1) (ranked_samples merged.now))) [] 0 (at + 1 + 1)) }
 {
-    let ranks = stacks.ranks(at);
-    let weight = stacks.weight(at);
+    let ranks = merged.ranks(at);
+    let weight = merged.weight(at);
     match call {
         None => count_stack(counts, ranks, ranks.last().copied(), weight, at + 1),
         Some(call) => {
-            let found = call.beside(alloc, stacks, ranks)?;
-            let ending = call.beside(alloc, stacks, last_two(ranks))?;
+            let found = call.beside(alloc, merged, ranks)?;
+            let ending = call.beside(alloc, merged, last_two(ranks))?;
             count_stack(counts, &found, ending.last().copied(), weight, at + 1);
         }
     }

@@ -1,3 +1,4 @@
+mod DrawnLists
 pub mod GraphLemmas
 mod LineLemmas
 mod MergeLemmas

@@ -8,6 +8,7 @@ ghost use Rattle.flame_layout.specs.Boxes.{span_of};
 ghost use Rattle.flame_layout.specs.Graph.{graph_of};
 ghost use Rattle.merged_stacks.specs.Timeline.{total_weight};
 ghost use Rattle.merging.specs.Snapshots.{samples_of_pairs};
+ghost use Rattle.sample_tables.specs.Rows.{named, row_by};
 ghost use Rattle.source_views.specs.Texts.{graph_line};
 ghost use Rattle.live_lines.specs.Lines.{live_line_at};
 ghost use Rattle.live_lines.specs.checked.Merges.{HasRoom};
@@ -15,8 +16,7 @@ ghost use Rattle.live_lines.specs.checked.Merges.{HasRoom};
 use byte_io::{Outlet, PieceFault, send_pieces};
 use flame_layout::{DrawnBox, Width, draw_tree};
 use merging::TreeSink;
-use sample_tables::{FRAME_LIMIT, Sample};
-use stack_core::Sink;
+use stack_core::{Ledger, RowSink};
 use std::alloc::{AllocError, Global};
 use std::marker::Model;
 use view_texts::{Scale, drawn_line, drawn_snapshot_line};
@@ -66,30 +66,42 @@ impl LiveMerge {
         self.at
     }
 
-    /// Merges a sample. One with which no line could be drawn is refused as memory is: where the weights don't fit in 64 bits, or a
-    /// stack is too deep. A refusal leaves what was taken.
-    pub fn take(&mut self, alloc: Global, source: u32, sample: &Sample) -> Result<(), AllocError>
-        ensures ok { OnOk result (self.new.taken ≡ self.old.taken ++ (source, sample.now) ∷ []) }
+    /// Merges a sample of the stack that this ledger of the source keeps under this number. One with which no line could be drawn is refused
+    /// as memory is: where the weights don't fit in 64 bits. A refusal leaves what was taken.
+    pub fn take(
+        &mut self,
+        alloc: Global,
+        source: u32,
+        ledger: &Ledger,
+        row: usize,
+        weight: u64,
+    ) -> Result<(), AllocError>
+        requires { row < length ledger.now.stacks }
+        ensures ok { OnOk result (self.new.taken ≡ self.old.taken ++ (
+          source,
+          named ledger.now.told
+              (row_by ledger.now.stacks (record { stack = row; weight = weight })),
+        ) ∷ []) }
         ensures refused { OnErr result (self.new.taken ≡ self.old.taken) }
         ensures sources { self.new.sources ≡ self.old.sources }
     {
-        if !self.has_room(sample) {
+        if !self.has_room(weight) {
             return Err(AllocError);
         }
-        self.merged.take(alloc, source, sample)?;
+        // Contracts read here that it is no deeper than can be drawn.
+        let _stack = ledger.stack(row);
+        self.merged.take_row(alloc, source, ledger, row, weight)?;
         count_source(&mut self.counts, source);
         self.at += 1;
-        self.total += sample.weight;
+        self.total += weight;
         Ok(())
     }
 
-    /// Whether lines can be drawn with this sample, too.
-    fn has_room(&self, sample: &Sample) -> bool
-        ensures { IsTrue result → HasRoom self.now sample.now }
+    /// Whether lines can be drawn with a sample of this weight, too.
+    fn has_room(&self, weight: u64) -> bool
+        ensures { IsTrue result → HasRoom self.now weight }
     {
-        self.at < u64::MAX
-            && sample.weight <= u64::MAX - self.total
-            && sample.stack.get().len() <= FRAME_LIMIT
+        self.at < u64::MAX && weight <= u64::MAX - self.total
     }
 
     /// The boxes of the graph of what was taken.

@@ -1,9 +1,10 @@
 //! A sink that writes a line each time that so many samples more came.
 
-ghost use Rattle.std.specs.Prelude.{◌≡◌, ◌≢◌, ◌≤◌, ◌++◌, ◌∷◌, ◌&&◌, ℕ, List, [], OnOk, OnErr, IsErrOf, None, is_none, length};
+ghost use Rattle.std.specs.Prelude.{◌≡◌, ◌≢◌, ◌≤◌, ◌<◌, ◌++◌, ◌∷◌, ◌&&◌, ℕ, List, [], OnOk, OnErr, IsErrOf, None, is_none, length};
 ghost use Rattle.std.specs.Io.KnownBytes.{Appends};
 ghost use Rattle.byte_io.specs.Calls.{one_more};
 ghost use Rattle.byte_io.specs.Pieces.{AppendsFront};
+ghost use Rattle.sample_tables.specs.Rows.{named, row_by};
 ghost use Rattle.sample_tables.specs.declared.samples.Sample.{Sample as TakenSample};
 ghost use Rattle.stack_core.specs.Interleaving.{IsInterleaving, interleaved};
 ghost use Rattle.merging.specs.checked.Merging.{is_due};
@@ -18,7 +19,7 @@ use crate::gate::LiveGate;
 use crate::merge::LiveMerge;
 use byte_io::{Outlet, PieceFault};
 use flame_layout::Width;
-use stack_core::{Sample, Sink};
+use stack_core::{Ledger, RowSink};
 use std::alloc::{AllocError, Global};
 use std::snapshot::Snapshot;
 use std::sync::Arc;
@@ -135,15 +136,30 @@ impl<W: Outlet> LiveLines<W> {
     }
 }
 
-impl<W: Outlet> Sink for LiveSink<'_, W> {
+impl<W: Outlet> RowSink for LiveSink<'_, W> {
     ghost taken = { λ sink. sink.lines.merge.taken };
 
     ghost setting = { λ sink. live_setting sink.out.ghost_name (W.contents sink.lines.start.value)
         (W.failures sink.lines.start.value) sink.lines.merge.sources sink.lines.width sink.lines.every };
 
     /// Merges one sample, and sends the line that is due then. A failure of the line is kept, since the sample was taken.
-    fn take(&mut self, alloc: Global, source: u32, sample: &Sample) -> Result<(), AllocError> {
-        take_sample(alloc, &mut self.lines, source, sample, self.out)
+    fn take_row(
+        &mut self,
+        alloc: Global,
+        source: u32,
+        ledger: &Ledger,
+        row: usize,
+        weight: u64,
+    ) -> Result<(), AllocError> {
+        take_sample(
+            alloc,
+            &mut self.lines,
+            source,
+            ledger,
+            row,
+            weight,
+            self.out,
+        )
     }
 }
 
@@ -153,9 +169,12 @@ fn take_sample<W: Outlet>(
     alloc: Global,
     lines: &mut LiveLines<W>,
     source: u32,
-    sample: &Sample,
+    ledger: &Ledger,
+    row: usize,
+    weight: u64,
     out: &mut W,
 ) -> Result<(), AllocError>
+    requires kept { row < length ledger.now.stacks }
     requires positive { 1 ≤ lines.old.every }
     requires written { AreWritten
         (live_lines lines.old.merge.sources lines.old.width lines.old.every lines.old.merge.taken)
@@ -164,8 +183,11 @@ fn take_sample<W: Outlet>(
         (W.failures lines.old.start.value) (W.failures out.old) }
     requires flushed { lines.old.failure ≡ None → lines.old.every ≤ length lines.old.merge.taken
         → ∥ W.is_flushed out.old ∥₁ }
-    ensures ok { OnOk result
-        (lines.new.merge.taken ≡ lines.old.merge.taken ++ (source, sample.now) ∷ []) }
+    ensures ok { OnOk result (lines.new.merge.taken ≡ lines.old.merge.taken ++ (
+      source,
+      named ledger.now.told
+          (row_by ledger.now.stacks (record { stack = row; weight = weight })),
+    ) ∷ []) }
     ensures refused { OnErr result (lines.new.merge.taken ≡ lines.old.merge.taken) }
     ensures sources { lines.new.merge.sources ≡ lines.old.merge.sources }
     ensures width { lines.new.width ≡ lines.old.width }
@@ -179,7 +201,7 @@ fn take_sample<W: Outlet>(
     ensures flushed { lines.new.failure ≡ None → lines.new.every ≤ length lines.new.merge.taken
         → ∥ W.is_flushed out.new ∥₁ }
 {
-    if let Err(refusal) = lines.merge.take(alloc, source, sample) {
+    if let Err(refusal) = lines.merge.take(alloc, source, ledger, row, weight) {
         lines.gate.close();
         return Err(refusal);
     }

@@ -22,8 +22,9 @@ use Rattle.sample_tables.specs.Rows.{name_at, sample_at}
 use Rattle.merged_stacks.specs.Order.{stack_cmp, AreRising}
 use Rattle.merged_stacks.specs.Timeline.{Stack, total_weight, samples_of}
 use Rattle.merged_stacks.specs.Merged.{weighed, Weighed, sum_at, merged, merged_samples, all_samples, are_in_order, weight_at, if_positive}
+use Rattle.merged_stacks.specs.RankedStacks.{Ranking, ranked_samples, ranks_at, sample_of}
 use Rattle.merged_stacks.specs.checked.Ranks.{AreRanks, all_told}
-use Rattle.merged_stacks.specs.checked.Ranked.{Ranked, join_front, joined, AreAscending, named_row, named_rows, sample_of, IsRankedStack, IsNamedBy, HasSums, AreMerged}
+use Rattle.merged_stacks.specs.checked.Ranked.{Ranked, join_front, joined, AreAscending, named_row, named_rows, IsRankedStack, IsNamedBy, HasSums, AreMerged}
 use Rattle.ranked_rows.proofs.JoinedRows.{joined-total}
 use Rattle.ranked_rows.proofs.RankedNames.{above}
 use Rattle.merged_stacks.proofs.MergedRows.{stack_cmp_total, sum_at-cons, sum_at-append, sum_at-one, sum_at-rows, merged-only, is_true, as_true, first, second}
@@ -340,46 +341,22 @@ names_distinct names rising r s lr ls e = by (nat_cmp r s) refl
     by Equal h = ranked r s Equal h
     by Greater h = let no : Greater ≡ Equal = h ∙ sym (names_rise names rising r s lr ls) ∙ same in cc
 
--- the ranks of a stack that callers see
-pub stack_named : (names : List (List ℕ)) (rows : List Ranked) (all : List Sample) (at : ℕ) (ranks : List ℕ) → map (sample_of names) rows ≡ all → at < length all → ranks ≡ (get_or rows at ([], 0)).0
-    → (sample_at all at).stack ≡ map (name_at names) ranks
-stack_named names rows all at ranks view lt is =
-    let within : at < length rows = omega (arith, ap length view, length-map rows (sample_of names)) in
-    let here : sample_at all at ≡ sample_of names (get_or rows at ([], 0)) =
-    ap (λ xs. sample_at xs at) (sym view) ∙ get_or-map (sample_of names) rows at ([], 0) (record { stack = []; weight = 0 }) within in
-    ap (λ (s : Sample). s.stack) here ∙ ap (map (name_at names)) (sym is)
+-- a stack that callers see has the names of its ranks
+pub stack_named : (all : Ranking) (at : ℕ) → at < length (ranked_samples all) → (sample_at (ranked_samples all) at).stack ≡ map (name_at all.names) (ranks_at all at)
+stack_named all at lt = ap (λ (s : Sample). s.stack) (get_or-map (sample_of all.names) all.rows at ([], 0) (record { stack = []; weight = 0 }) (omega (arith, lt, length-map all.rows (sample_of all.names))))
 
-pub ranked_at : (names : List (List ℕ)) (rows : List Ranked) (all : List Sample) (at : ℕ) → AllByRecursion (IsRankedStack names) rows → map (sample_of names) rows ≡ all → at < length all → IsRankedStack names (get_or rows at ([], 0))
-ranked_at names rows all at each view lt = All-from_recursion (IsRankedStack names) rows each at ([], 0) (omega (arith, ap length view, length-map rows (sample_of names)))
+-- a frame that callers see has the name of its rank
+pub record IsFrame (all : Ranking) (at frame : ℕ) : Type 0 where
+  pub row : at < length all.rows
+  pub inside : frame < length (ranks_at all at)
+  pub name : name_at (sample_at (ranked_samples all) at).stack frame ≡ name_at all.names (slice_index (ranks_at all at) frame)
 
-pub seen_within : (names : List (List ℕ)) (rows : List Ranked) (all : List Sample) (at : ℕ) → map (sample_of names) rows ≡ all → at < length all → at < length rows
-seen_within names rows all at view lt = omega (arith, lt, ap length view, length-map rows (sample_of names))
-
--- a frame lies among the ranks of its stack
-pub record IsRankedFrame (ranks : List ℕ) (frame : ℕ) : Type 0 where
-  pub inside : frame < length ranks
-  pub limit : length ranks ≤ FRAME_LIMIT
-
-pub ranked_deep : (names : List (List ℕ)) (rows : List Ranked) (all : List Sample) (at frame : ℕ) (ranks : List ℕ) → AllByRecursion (IsRankedStack names) rows → map (sample_of names) rows ≡ all → at < length all
-    → ranks ≡ (get_or rows at ([], 0)).0 → frame < length (sample_at all at).stack → IsRankedFrame ranks frame
-ranked_deep names rows all at frame ranks each view lt is deep =
-    let row = ranked_at names rows all at each view lt in
+pub frame_at : (all : Ranking) (at frame : ℕ) → at < length (ranked_samples all) → frame < length (sample_at (ranked_samples all) at).stack → IsFrame all at frame
+frame_at all at frame lt deep =
+    let stack = stack_named all at lt in
+    let inside : frame < length (ranks_at all at) = omega (arith, deep, ap length stack, length-map (ranks_at all at) (name_at all.names)) in
     record {
-      inside = omega (arith, deep, ap length (stack_named names rows all at ranks view lt is), length-map ranks (name_at names));
-      limit = omega (arith, row.depth, ap length is);
-    }
-
--- the name of a frame, by its rank
-pub record IsNamedFrame (names : List (List ℕ)) (all : List Sample) (at frame rank : ℕ) : Type 0 where
-  pub name : name_at (sample_at all at).stack frame ≡ name_at names rank
-  pub below : rank < length names
-
-pub named_frame : (names : List (List ℕ)) (rows : List Ranked) (all : List Sample) (at frame : ℕ) (ranks : List ℕ) → AllByRecursion (IsRankedStack names) rows → map (sample_of names) rows ≡ all → at < length all
-    → ranks ≡ (get_or rows at ([], 0)).0 → frame < length (sample_at all at).stack → IsNamedFrame names all at frame (get_or ranks frame 0)
-named_frame names rows all at frame ranks each view lt is deep =
-    let stack : (sample_at all at).stack ≡ map (name_at names) ranks = stack_named names rows all at ranks view lt is in
-    let inside = (ranked_deep names rows all at frame ranks each view lt is deep).inside in
-    record {
-      name = ap (λ xs. name_at xs frame) stack ∙ get_or-map (name_at names) ranks frame 0 [] inside;
-      below = subst (λ xs. All (λ rank. rank < length names) xs) (sym is) (ranked_at names rows all at each view lt).below frame 0 inside;
+      row = omega (arith, lt, length-map all.rows (sample_of all.names));
+      inside = inside;
+      name = ap (λ xs. name_at xs frame) stack ∙ get_or-map (name_at all.names) (ranks_at all at) frame 0 [] inside;
     }

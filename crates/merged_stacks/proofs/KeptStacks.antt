@@ -1,5 +1,5 @@
 -- The sums of the stacks that a list keeps are those of its samples.
-use Rattle.std.proofs.Common.{◌≡◌, ℕ, zero, suc, ◌+◌, ◌<◌, ◌≤◌, List, [], ◌∷◌, ◌++◌, Bool, true, false, cond, length, take, get_or, set, map, replicate, sum_by, add-one, All, IsPermutation, refl, sym, ap, ◌∙◌, arith}
+use Rattle.std.proofs.Common.{◌≡◌, ℕ, zero, suc, ◌+◌, ◌<◌, ◌≤◌, List, [], ◌∷◌, ◌++◌, Bool, true, false, cond, length, take, get_or, set, map, replicate, sum_by, All, IsPermutation, refl, sym, ap, ◌∙◌, arith}
 use Rattle.std.specs.List.{range_with_len}
 use Rattle.std.specs.Ordering.{is_eq}
 use Rattle.std.proofs.lemmas.List.{map-append, get_or-map, take-map}
@@ -96,8 +96,8 @@ kept_same told stacks sums rows samples is h = record {
 }
 
 -- the kept stacks have the sums of a list's first samples
-pub came_same : (list : ListState) (sums : List ℕ) (count : ℕ) → IsSummed list sums count → HaveSameSums (kept_samples list.told list.stacks sums) (take count list.samples)
-came_same list sums count h =
+came_kept : (list : ListState) (order sums : List ℕ) (count : ℕ) → IsSummed list order sums count → HaveSameSums (kept_samples list.told list.stacks sums) (take count list.samples)
+came_kept list order sums count h =
     kept_same list.told list.stacks sums (take count list.rows) (take count list.samples) (ap (take count) h.samples_named ∙ take-map (named list.told) count list.rows) h.picked
 
 -- there is room for a row's weight
@@ -106,18 +106,6 @@ pub picked_room : (told stacks : List (List ℕ)) (sums : List ℕ) (rows : List
 picked_room told stacks sums rows samples i k w is e li weight h =
     let g = λ (frames : List ℕ). true in
     omega (arith, member_le stacks sums k e, h g, sum_by_more (picked_weight g) rows i (record { frames = []; weight = 0 }) li, sum_by-take-le (picked_weight g) rows (i + 1), named_total told rows, ap total_weight is)
-
--- one kept stack more
-pub kept_more : (told stacks : List (List ℕ)) (sums : List ℕ) (i : ℕ) → i < length stacks → i < length sums
-    → kept_samples told (take (i + 1) stacks) (take (i + 1) sums) ≡ kept_samples told (take i stacks) (take i sums) ++ named told (record { frames = get_or stacks i []; weight = get_or sums i 0 }) ∷ []
-kept_more told stacks sums i lk ls = rw (add-one i) (by stacks sums i lk ls)
-  where
-    by : (stacks : List (List ℕ)) (sums : List ℕ) (i : ℕ) → i < length stacks → i < length sums
-        → kept_samples told (take (suc i) stacks) (take (suc i) sums) ≡ kept_samples told (take i stacks) (take i sums) ++ named told (record { frames = get_or stacks i []; weight = get_or sums i 0 }) ∷ []
-    by [] sums i lk ls = absurd (omega arith)
-    by (frames ∷ stacks) [] i lk ls = absurd (omega arith)
-    by (frames ∷ stacks) (sum ∷ sums) zero lk ls = refl
-    by (frames ∷ stacks) (sum ∷ sums) (suc i) lk ls = ap (λ all. named told (record { frames = frames; weight = sum }) ∷ all) (by stacks sums i (omega arith) (omega arith))
 
 -- rows that have the sums of samples have those of others that are the same
 pub sums_of_same : (names : List (List ℕ)) (samples one other : List Sample) (rows : List Ranked) → HaveSameSums one other → HasSums names (samples ++ one) rows → HasSums names (samples ++ other) rows
@@ -143,7 +131,7 @@ kept_at told (frames ∷ stacks) (sum ∷ sums) zero d e lt = refl
 kept_at told (frames ∷ stacks) (sum ∷ sums) (suc k) d e lt = kept_at told stacks sums k d (omega arith) (omega arith)
 
 -- in another order they have the same sums
-pub ordered_same : (told stacks : List (List ℕ)) (sums order : List ℕ) (samples : List Sample) → length sums ≡ length stacks → IsPermutation (range_with_len 0 (length stacks)) order
+ordered_same : (told stacks : List (List ℕ)) (sums order : List ℕ) (samples : List Sample) → length sums ≡ length stacks → IsPermutation (range_with_len 0 (length stacks)) order
     → HaveSameSums (kept_samples told stacks sums) samples → HaveSameSums (map (kept_sample told stacks sums) order) samples
 ordered_same told stacks sums order samples e moved same =
     let f = kept_sample told stacks sums in
@@ -156,6 +144,9 @@ ordered_same told stacks sums order samples e moved same =
       sums = λ q. sorted-sum_at (weighed (map f numbers)) (weighed (map f order)) q (IsPermutation-map weigh (map f numbers) (map f order) both) ∙ ap (λ all. sum_at (weighed all) q) (sym is) ∙ same.sums q;
       total = sum_by-IsPermutation (λ (sample : Sample). sample.weight) (map f numbers) (map f order) both ∙ ap total_weight (sym is) ∙ same.total;
     }
+
+pub came_same : (list : ListState) (order sums : List ℕ) (count : ℕ) → IsSummed list order sums count → HaveSameSums (map (kept_sample list.told list.stacks sums) order) (take count list.samples)
+came_same list order sums count h = ordered_same list.told list.stacks sums order (take count list.samples) h.len h.ordered (came_kept list order sums count h)
 
 -- the numbers are those of stacks
 pub ordered_within : (n : ℕ) (order : List ℕ) → IsPermutation (range_with_len 0 n) order → All (λ number. number < n) order

@@ -1,7 +1,6 @@
 pub mod GrowingLists
 pub mod JoinedStacks
 pub mod KeptStacks
-pub mod LentStacks
 pub mod MergedRows
 mod SideSamples
 mod SweepSteps

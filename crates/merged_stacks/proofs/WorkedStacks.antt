@@ -24,7 +24,7 @@ unfolding sum_at stacks_of merged
 stacks_of_lines = refl
 
 -- each rank is replaced by its name
-stacks_by_rank : ranked_samples (record { names = a ∷ b ∷ []; rows = record { frames = 1 ∷ 0 ∷ 1 ∷ []; weight = 5 } ∷ record { frames = []; weight = 2 } ∷ [] })
+stacks_by_rank : ranked_samples (record { names = a ∷ b ∷ []; rows = (1 ∷ 0 ∷ 1 ∷ [], 5) ∷ ([], 2) ∷ [] })
     ≡ taken (b ∷ a ∷ b ∷ []) 5 ∷ taken [] 2 ∷ []
 stacks_by_rank = refl
 

@@ -1,16 +1,17 @@
 //! Lists whose samples come one after another, and their merged stacks at any moment.
 
-ghost use Rattle.std.specs.Prelude.{◌≡◌, ◌+◌, ◌<◌, ◌^◌, ℕ, List, IfOk, length, map, replicate, slice_index, slice_set};
+ghost use Rattle.std.specs.Prelude.{◌≡◌, ◌+◌, ◌<◌, ◌^◌, ℕ, List, IfOk, OnOk, length, map, replicate, slice_index, slice_set};
 ghost use Rattle.stack_core.specs.Interleaving.{list_of};
 ghost use Rattle.merged_stacks.specs.Timeline.{total_weight, samples_of};
 ghost use Rattle.merged_stacks.specs.Merged.{all_samples, merged_samples};
 ghost use Rattle.merged_stacks.specs.Fronts.{fronts};
+ghost use Rattle.merged_stacks.specs.RankedStacks.{ranked_samples};
 ghost use Rattle.merged_stacks.specs.checked.Ranks.{all_told};
 ghost use Rattle.merged_stacks.specs.checked.Ranked.{HasSums, IsNamedBy};
 ghost use Rattle.merged_stacks.specs.checked.Growing.{not_begun, came, lists_in};
 
-use crate::growing_list::GrowingList;
-use crate::moment_stacks::MomentStacks;
+use crate::list_sums::ListSums;
+use crate::merged::MergedStacks;
 use ranked_rows::{Alone, NameRanks, RankedRows};
 use stack_core::SourceList;
 use std::alloc::{AllocError, Global};
@@ -21,23 +22,22 @@ use std::marker::Model;
 /// comes takes no memory. Contracts see the samples of each list, and how many of them came.
 #[derive(Drop)]
 pub struct GrowingStacks<'a> {
-    names: Vec<String>,
+    merged: MergedStacks,
     ranks: Vec<u32>,
-    parts: Vec<GrowingList<'a>>,
+    parts: Vec<ListSums<'a>>,
     counts: Vec<u64>,
 }
 
 impl<'a> Model for GrowingStacks<'a> {
-    ghost use Rattle.std.specs.Prelude.{map, string_bytes};
     ghost use Rattle.merged_stacks.specs.Fronts.{GrowingState};
     ghost use Rattle.merged_stacks.specs.Timeline.{samples_of};
     ghost use Rattle.merged_stacks.specs.checked.Growing.{lists_in, AreGrowing};
 
     ghost Value = { GrowingState };
 
-    ghost view = { λ g. record { lists = samples_of (lists_in g.parts.items); counts = g.counts.items } };
+    ghost view = { λ g. record { lists = samples_of (lists_in g.parts.items); counts = g.counts.items; merged = g.merged } };
 
-    ghost invariant = { λ g. AreGrowing g.parts.items g.counts.items (map string_bytes g.names.items) g.ranks.items };
+    ghost invariant = { λ g. AreGrowing g.parts.items g.counts.items g.merged.names g.ranks.items };
 }
 
 impl<'a> GrowingStacks<'a> {
@@ -51,7 +51,7 @@ impl<'a> GrowingStacks<'a> {
         let parts = parts_of(alloc, lists, &ranks)?;
         let counts = vec![in alloc; 0; lists.len()]?;
         Ok(GrowingStacks {
-            names,
+            merged: MergedStacks::none(alloc, names),
             ranks,
             parts,
             counts,
@@ -77,14 +77,24 @@ impl<'a> GrowingStacks<'a> {
         &self.counts
     }
 
-    /// The stacks of what came, each with weight once, in order.
-    pub fn merged(&self, alloc: Global) -> Result<MomentStacks<'_>, AllocError>
-        ensures { IfOk result (λ moment. moment
-            ≡ merged_samples (all_samples (fronts self.now.lists self.now.counts))) }
+    /// Merges the stacks of what came, each with weight once, in order.
+    pub fn merge(&mut self, alloc: Global) -> Result<(), AllocError>
+        ensures merged { OnOk result (ranked_samples self.new.merged
+            ≡ merged_samples (all_samples (fronts self.old.lists self.old.counts))) }
+        ensures lists { self.new.lists ≡ self.old.lists }
+        ensures counts { self.new.counts ≡ self.old.counts }
     {
         let rows = came_rows(alloc, &self.parts, &self.ranks)?;
-        let rows = rows.merged(alloc, &Alone)?;
-        Ok(MomentStacks::over(&self.names, rows))
+        self.merged.put(rows.merged(alloc, &Alone)?);
+        Ok(())
+    }
+
+    /// The stacks that were merged last.
+    pub fn merged(&self) -> &MergedStacks
+        ensures { result.now ≡ self.now.merged }
+    {
+        let _parts = &self.parts;
+        &self.merged
     }
 }
 
@@ -93,7 +103,7 @@ fn parts_of<'a>(
     alloc: Global,
     lists: &'a [SourceList],
     ranks: &[u32],
-) -> Result<Vec<GrowingList<'a>>, AllocError>
+) -> Result<Vec<ListSums<'a>>, AllocError>
     requires total { total_weight (all_samples (samples_of lists.now)) < 2 ^ 64 }
     requires ranks { length ranks.now ≡ length (all_told lists.now) }
     ensures { IfOk result (λ parts. parts.items ≡ map not_begun lists.now) }
@@ -102,18 +112,14 @@ fn parts_of<'a>(
     let mut rest = ranks;
     for list in lists {
         let (own, others) = rest.split_at(list.told());
-        parts.push(GrowingList::of(alloc, list, own)?)?;
+        parts.push(ListSums::sorted(alloc, list, own)?)?;
         rest = others;
     }
     Ok(parts)
 }
 
 /// The samples that came of all lists, by the ranks of their names.
-fn came_rows(
-    alloc: Global,
-    parts: &[GrowingList<'_>],
-    ranks: &[u32],
-) -> Result<RankedRows, AllocError>
+fn came_rows(alloc: Global, parts: &[ListSums<'_>], ranks: &[u32]) -> Result<RankedRows, AllocError>
     requires { length ranks.now ≡ length (all_told (lists_in parts.now)) }
     ensures { IfOk result (λ rows. (names : List (List ℕ))
         → IsNamedBy names ranks.now (all_told (lists_in parts.now))

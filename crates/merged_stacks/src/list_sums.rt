@@ -7,7 +7,7 @@ ghost use Rattle.sample_tables.specs.declared.samples.TheConstants.{FRAME_LIMIT}
 ghost use Rattle.sample_tables.specs.Rows.{named};
 ghost use Rattle.merged_stacks.specs.Timeline.{total_weight};
 ghost use Rattle.merged_stacks.specs.checked.Growing.{not_begun, came};
-ghost use Rattle.merged_stacks.specs.checked.Kept.{kept_sample, kept_samples};
+ghost use Rattle.merged_stacks.specs.checked.Kept.{kept_sample};
 ghost use Rattle.merged_stacks.specs.checked.Ranked.{HasSums, IsNamedBy};
 
 use ranked_rows::RankedRows;
@@ -15,11 +15,13 @@ use stack_core::SourceList;
 use std::alloc::{AllocError, Global};
 use std::marker::Model;
 
-/// For each stack that a list keeps the sum of those of its samples that came. Contracts see the list,
-/// and how many samples came.
+/// For each stack that a list keeps the sum of those of its samples that came, and the numbers of the stacks in the
+/// order in which they are appended: the rows of stacks that come in order take less time to sort. Contracts see the
+/// list, and how many samples came.
 #[derive(Drop)]
 pub(crate) struct ListSums<'a> {
     list: &'a SourceList,
+    order: Vec<u64>,
     sums: Vec<u64>,
     count: u64,
 }
@@ -31,22 +33,36 @@ impl<'a> Model for ListSums<'a> {
 
     ghost view = { λ s. record { list = s.list.now; count = s.count } };
 
-    ghost invariant = { λ s. IsSummed s.list.now s.sums.items s.count };
+    ghost invariant = { λ s. IsSummed s.list.now s.order.items s.sums.items s.count };
 }
 
 impl<'a> ListSums<'a> {
-    /// Of this list nothing came yet.
-    pub(crate) fn of(alloc: Global, list: &'a SourceList) -> Result<ListSums<'a>, AllocError>
-        requires { total_weight list.now.samples < 2 ^ 64 }
+    fn of(alloc: Global, list: &'a SourceList, order: Vec<u64>) -> Result<ListSums<'a>, AllocError>
+        requires total { total_weight list.now.samples < 2 ^ 64 }
+        requires order { IsPermutation (range_with_len 0 (length list.now.stacks)) order.items }
         ensures { IfOk result (λ front. front ≡ not_begun list.now) }
     {
         let _count = list.len();
         let sums = vec![in alloc; 0; list.stack_count()]?;
         Ok(ListSums {
             list,
+            order,
             sums,
             count: 0,
         })
+    }
+
+    /// Of this list nothing came yet. Its stacks are in the order of these ranks of its told names.
+    pub(crate) fn sorted(
+        alloc: Global,
+        list: &'a SourceList,
+        ranks: &[u32],
+    ) -> Result<ListSums<'a>, AllocError>
+        requires total { total_weight list.now.samples < 2 ^ 64 }
+        requires ranks { length ranks.now ≡ length list.now.told }
+        ensures { IfOk result (λ front. front ≡ not_begun list.now) }
+    {
+        ListSums::of(alloc, list, sorted_stacks(alloc, list, ranks)?)
     }
 
     /// The next sample of the list comes.
@@ -81,43 +97,8 @@ impl<'a> ListSums<'a> {
             → IsNamedBy names ranks.now self.now.list.told → HasSums names samples rows.old
             → HasSums names (samples ++ came self.now) rows.new) }
     {
-        add_sums(rows, self.list, ranks, &self.sums)
+        add_numbered(rows, self.list, ranks, &self.sums, &self.order)
     }
-
-    /// Appends the samples that came, with the list's stacks in this order.
-    pub(crate) fn add_in_order(
-        &self,
-        rows: &mut RankedRows,
-        ranks: &[u32],
-        order: &[u64],
-    ) -> Result<(), AllocError>
-        requires ranks { length ranks.now ≡ length self.now.list.told }
-        requires order { IsPermutation (range_with_len 0 (length self.now.list.stacks)) order.now }
-        ensures { OnOk result ((names : List (List ℕ)) (samples : List Sample)
-            → IsNamedBy names ranks.now self.now.list.told → HasSums names samples rows.old
-            → HasSums names (samples ++ came self.now) rows.new) }
-    {
-        add_numbered(rows, self.list, ranks, &self.sums, order)
-    }
-}
-
-/// Appends the stacks of a list, each with its sum.
-fn add_sums(
-    rows: &mut RankedRows,
-    list: &SourceList,
-    ranks: &[u32],
-    sums: &[u64],
-) -> Result<(), AllocError>
-    requires ranks { length ranks.now ≡ length list.now.told }
-    requires sums { length sums.now ≡ length list.now.stacks }
-    ensures { OnOk result ((names : List (List ℕ)) (samples : List Sample)
-        → IsNamedBy names ranks.now list.now.told → HasSums names samples rows.old
-        → HasSums names (samples ++ kept_samples list.now.told list.now.stacks sums.now) rows.new) }
-{
-    for number in 0..list.stack_count() {
-        add_row(rows, list.stack(number), ranks, sums[number])?;
-    }
-    Ok(())
 }
 
 /// Appends the stacks of these numbers, each with its sum.
@@ -159,4 +140,38 @@ fn add_row(
         return Ok(());
     }
     rows.push(numbers, ranks, weight)
+}
+
+/// The numbers of the stacks that a list keeps, by the ranks of their names.
+fn sorted_stacks(alloc: Global, list: &SourceList, ranks: &[u32]) -> Result<Vec<u64>, AllocError>
+    requires { length ranks.now ≡ length list.now.told }
+    ensures { IfOk result (λ order. IsPermutation (range_with_len 0 (length list.now.stacks)) order.items) }
+{
+    let mut rows = RankedRows::new(alloc);
+    for number in 0..list.stack_count() {
+        rows.push(list.stack(number), ranks, number as u64)?;
+    }
+    rows.weights_in_order(alloc)
+}
+
+/// Appends the samples of a list, by the ranks of its told names.
+pub(crate) fn add_list(
+    alloc: Global,
+    rows: &mut RankedRows,
+    list: &SourceList,
+    ranks: &[u32],
+) -> Result<(), AllocError>
+    requires ranks { length ranks.now ≡ length list.now.told }
+    requires total { total_weight list.now.samples < 2 ^ 64 }
+    ensures { OnOk result ((names : List (List ℕ)) (samples : List Sample)
+        → IsNamedBy names ranks.now list.now.told → HasSums names samples rows.old
+        → HasSums names (samples ++ list.now.samples) rows.new) }
+{
+    let mut order = Vec::new(alloc);
+    order.extend(0..list.stack_count() as u64)?;
+    let mut sums = ListSums::of(alloc, list, order)?;
+    for _at in 0..list.len() {
+        sums.take();
+    }
+    sums.add_to(rows, ranks)
 }

@@ -9,13 +9,12 @@ ghost use Rattle.merged_stacks.specs.Order.{AreRising};
 ghost use Rattle.merged_stacks.specs.checked.Ranked.{IsNamedBy};
 ghost use Rattle.merged_stacks.specs.checked.Swept.{HasStacks};
 
-use crate::merged::add_list;
+use crate::list_sums::add_list;
 use crate::sweeps::{Place, place_ranks, sweep, weight_after, weight_before};
-use ranked_rows::{Alone, InThreads, NameRanks, RankedRows, Sorting};
+use ranked_rows::{NameRanks, RankedRows, Sorting};
 use stack_core::SourceList;
 use std::alloc::{AllocError, Global};
 use std::marker::Model;
-use std::thread::Threads;
 
 /// The stacks of two lists side by side: each stack with weight in either list once, sorted by the
 /// names, with the sums of its samples in both. Contracts see them as a list.
@@ -41,33 +40,7 @@ impl Model for PairedStacks {
 
 impl PairedStacks {
     /// The stacks of both lists.
-    pub fn of(
-        alloc: Global,
-        before: &SourceList,
-        after: &SourceList,
-    ) -> Result<PairedStacks, AllocError>
-        requires before { total_weight before.now.samples < 2 ^ 64 }
-        requires after { total_weight after.now.samples < 2 ^ 64 }
-        ensures { IfOk result (λ paired. paired ≡ paired_stacks before.now.samples after.now.samples) }
-    {
-        PairedStacks::sorted(alloc, before, after, &Alone)
-    }
-
-    /// The same, sorted in a few threads where there are many stacks.
-    pub fn of_in_threads(
-        rt: &impl Threads,
-        alloc: Global,
-        before: &SourceList,
-        after: &SourceList,
-    ) -> Result<PairedStacks, AllocError>
-        requires before { total_weight before.now.samples < 2 ^ 64 }
-        requires after { total_weight after.now.samples < 2 ^ 64 }
-        ensures { IfOk result (λ paired. paired ≡ paired_stacks before.now.samples after.now.samples) }
-    {
-        PairedStacks::sorted(alloc, before, after, &InThreads { rt })
-    }
-
-    fn sorted<S: Sorting>(
+    pub fn of<S: Sorting>(
         alloc: Global,
         before: &SourceList,
         after: &SourceList,

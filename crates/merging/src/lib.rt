@@ -4,6 +4,8 @@
 mod collection;
 pub mod laws;
 mod list_samples;
+mod named_stacks;
+mod noted_numbers;
 mod snapshots;
 mod taken_rows;
 mod tally;

@@ -1,12 +1,14 @@
 //! The samples that a sink took, under the numbers of their names. Contracts alone see them, so a
 //! sample costs no memory of its own.
 
-ghost use Rattle.std.specs.Prelude.{◌≡◌, ◌++◌, ◌∷◌, [], OnOk, map, string_bytes};
+ghost use Rattle.std.specs.Prelude.{◌≡◌, ◌++◌, ◌∷◌, [], OnOk};
 ghost use Rattle.call_tree.specs.FrameTable.{HasDistinctNames};
 ghost use Rattle.ring_collect.specs.NamesInOrder.{with_stack, GrowsTo};
 ghost use Rattle.merging.specs.checked.Merging.{IsRowFor};
 ghost use Rattle.merging.specs.checked.TakenRows.{AreNumbersOf, row_of, rows_of};
 
+use crate::named_stacks::NamedStack;
+use crate::noted_numbers::number_name;
 use call_tree::FrameTable;
 use std::alloc::{AllocError, Global};
 // Not a snapshot of this crate, but a value of no bytes, which contracts alone read.
@@ -32,22 +34,22 @@ impl NumberedSample {
 
     /// Puts a sample in the place of the one before, into its memory. New names are put into the
     /// table. Want of memory may leave names behind, and numbers here that stand for nothing.
-    pub fn set(
+    pub fn set<S: NamedStack>(
         &mut self,
         table: &mut FrameTable,
+        noted: &mut Vec<usize>,
         source: u32,
-        stack: &[String],
+        stack: &S,
         weight: u64,
     ) -> Result<(), AllocError>
         requires { HasDistinctNames table.old }
-        ensures row { OnOk result (IsRowFor table.new source (map string_bytes stack.now) weight
-            (row_of self.new)) }
+        ensures row { OnOk result
+            (IsRowFor table.new source (S.names stack.now) weight (row_of self.new)) }
         ensures grows { GrowsTo table.old table.new }
-        ensures in_order { OnOk result
-            (table.new ≡ with_stack table.old (map string_bytes stack.now)) }
+        ensures in_order { OnOk result (table.new ≡ with_stack table.old (S.names stack.now)) }
         ensures distinct { HasDistinctNames table.new }
     {
-        number_names(table, &mut self.numbers, stack)?;
+        number_names(table, noted, &mut self.numbers, stack)?;
         self.source = source;
         self.weight = weight;
         Ok(())
@@ -76,23 +78,23 @@ impl TakenRows {
     }
 }
 
-/// Puts the numbers of some names in the place of others.
-fn number_names(
+/// Puts the numbers of the names of a stack in the place of others.
+fn number_names<S: NamedStack>(
     table: &mut FrameTable,
+    noted: &mut Vec<usize>,
     numbers: &mut Vec<usize>,
-    names: &[String],
+    stack: &S,
 ) -> Result<(), AllocError>
     requires { HasDistinctNames table.old }
     ensures numbers { OnOk result
-        (AreNumbersOf (map string_bytes names.now) table.new numbers.new.items) }
+        (AreNumbersOf (S.names stack.now) table.new numbers.new.items) }
     ensures grows { GrowsTo table.old table.new }
-    ensures in_order { OnOk result
-        (table.new ≡ with_stack table.old (map string_bytes names.now)) }
+    ensures in_order { OnOk result (table.new ≡ with_stack table.old (S.names stack.now)) }
     ensures distinct { HasDistinctNames table.new }
 {
     numbers.clear();
-    for name in names {
-        let number = table.intern(name.as_str())?;
+    for at in 0..stack.len() {
+        let number = number_name(table, noted, stack.note(at), stack.name(at))?;
         numbers.push(number)?;
     }
     Ok(())

@@ -1,7 +1,8 @@
 //! A sink that merges what it takes.
 
-ghost use Rattle.std.specs.FinMap as map;
-ghost use Rattle.std.specs.Prelude.{◌≡◌, ◌≤◌, ◌<◌, ◌++◌, ◌∷◌, [], IfOk, IfSome, OnOk, OnErr, OnSome, vec_len, vec_capacity};
+ghost use Rattle.std.specs.FinMap as tree;
+ghost use Rattle.std.specs.Prelude.{◌≡◌, ◌≤◌, ◌<◌, ◌++◌, ◌∷◌, [], IfOk, IfSome, OnOk, OnErr, OnSome, length, map, vec_len, vec_capacity};
+ghost use Rattle.sample_tables.specs.Rows.{name_at, named, row_by, stack_at};
 ghost use Rattle.std.specs.Option.{option_to_list};
 ghost use Rattle.stack_core.specs.Interleaving.{sources_of};
 ghost use Rattle.call_tree.specs.FrameTable.{HasDistinctNames};
@@ -9,11 +10,13 @@ ghost use Rattle.ring_collect.specs.NamesInOrder.{with_stack, GrowsTo};
 ghost use Rattle.merging.specs.Snapshots.{samples_of_pairs, first_samples, AreSnapshots};
 ghost use Rattle.merging.specs.Sums.{HasSumsOf};
 
+use crate::named_stacks::{KeptStack, NamedStack};
+use crate::noted_numbers::NotedNumbers;
 use crate::snapshots::{Snapshot, due_snapshot};
 use crate::taken_rows::NumberedSample;
 use crate::tally::Tally;
 use call_tree::{CallTree, FrameTable};
-use stack_core::{Sample, Sink};
+use stack_core::{Ledger, RowSink, Sample, Sink};
 use std::alloc::{AllocError, Global};
 use std::marker::Model;
 
@@ -28,6 +31,7 @@ pub struct TreeSink {
     snapshots: Vec<Snapshot>,
     /// The sample that is being taken.
     sample: NumberedSample,
+    noted: NotedNumbers,
 }
 
 impl Model for TreeSink {
@@ -62,7 +66,7 @@ impl TreeSink {
           every = every;
           taken = [];
           names = [];
-          tree = map.empty;
+          tree = tree.empty;
           snapshots = [];
         }) }
     {
@@ -72,6 +76,7 @@ impl TreeSink {
             tree: CallTree::new(alloc)?,
             snapshots: Vec::new(alloc),
             sample: NumberedSample::new(alloc),
+            noted: NotedNumbers::new(alloc),
         })
     }
 
@@ -120,29 +125,32 @@ impl TreeSink {
     }
 }
 
-impl Sink for TreeSink {
-    ghost use Rattle.std.specs.Option.{option_to_list};
+impl TreeSink {
+    ghost use Rattle.std.specs.Prelude.{◌≡◌, ◌++◌, ◌∷◌, [], OnOk, OnErr};
+    ghost use Rattle.ring_collect.specs.NamesInOrder.{with_stack, GrowsTo};
 
-    ghost taken = { λ sink. sink.taken };
-
-    ghost setting = { λ sink. option_to_list sink.every };
-
-    /// Merges one sample. All that needs memory comes first, so a refusal leaves the tree and the
-    /// snapshots too; the table may have gained names.
-    fn take(&mut self, alloc: Global, source: u32, sample: &Sample) -> Result<(), AllocError>
-        ensures ok { OnOk result (self.new.taken ≡ self.old.taken ++ (source, sample.now) ∷ []) }
+    /// Merges one sample. All that needs memory comes first, so a refusal leaves the tree and the snapshots too; the table may have gained
+    /// names.
+    fn merge<S: NamedStack>(
+        &mut self,
+        alloc: Global,
+        source: u32,
+        stack: &S,
+        weight: u64,
+    ) -> Result<(), AllocError>
+        ensures ok { OnOk result (self.new.taken ≡ self.old.taken
+            ++ (source, record { stack = S.names stack.now; weight = weight }) ∷ []) }
         ensures refused { OnErr result (self.new.taken ≡ self.old.taken) }
         ensures tree { OnErr result (self.new.tree ≡ self.old.tree) }
         ensures snapshots { OnErr result (self.new.snapshots ≡ self.old.snapshots) }
         ensures names { GrowsTo self.old.names self.new.names }
         ensures in_order { OnOk result
-            (self.new.names ≡ with_stack self.old.names sample.now.stack) }
+            (self.new.names ≡ with_stack self.old.names (S.names stack.now)) }
         ensures every { self.new.every ≡ self.old.every }
-        ensures setting { option_to_list self.new.every ≡ option_to_list self.old.every }
     {
-        let stack = sample.stack.get();
+        let noted = self.noted.of(alloc, source)?;
         self.sample
-            .set(&mut self.table, source, stack, sample.weight)?;
+            .set(&mut self.table, noted, source, stack, weight)?;
         self.tally.reserve(source)?;
         let due = due_snapshot(
             alloc,
@@ -155,6 +163,68 @@ impl Sink for TreeSink {
         self.tally.count(&self.sample);
         append_due(&mut self.snapshots, due);
         Ok(())
+    }
+}
+
+impl Sink for TreeSink {
+    ghost use Rattle.std.specs.Option.{option_to_list};
+
+    ghost taken = { λ sink. sink.taken };
+
+    ghost setting = { λ sink. option_to_list sink.every };
+
+    /// Merges one sample. A refusal leaves the tree and the snapshots too; the table may have gained names.
+    fn take(&mut self, alloc: Global, source: u32, sample: &Sample) -> Result<(), AllocError>
+        ensures ok { OnOk result (self.new.taken ≡ self.old.taken ++ (source, sample.now) ∷ []) }
+        ensures refused { OnErr result (self.new.taken ≡ self.old.taken) }
+        ensures tree { OnErr result (self.new.tree ≡ self.old.tree) }
+        ensures snapshots { OnErr result (self.new.snapshots ≡ self.old.snapshots) }
+        ensures names { GrowsTo self.old.names self.new.names }
+        ensures in_order { OnOk result
+            (self.new.names ≡ with_stack self.old.names sample.now.stack) }
+        ensures every { self.new.every ≡ self.old.every }
+        ensures setting { option_to_list self.new.every ≡ option_to_list self.old.every }
+    {
+        self.merge(alloc, source, &sample.stack, sample.weight)
+    }
+}
+
+impl RowSink for TreeSink {
+    ghost use Rattle.std.specs.Option.{option_to_list};
+
+    ghost taken = { λ sink. sink.taken };
+
+    ghost setting = { λ sink. option_to_list sink.every };
+
+    /// Merges one sample of a stack that a ledger keeps, as `take` merges it by its names. A name that was noted costs a comparison.
+    fn take_row(
+        &mut self,
+        alloc: Global,
+        source: u32,
+        ledger: &Ledger,
+        row: usize,
+        weight: u64,
+    ) -> Result<(), AllocError>
+        requires { row < length ledger.now.stacks }
+        ensures ok { OnOk result (self.new.taken ≡ self.old.taken ++ (
+          source,
+          named ledger.now.told
+              (row_by ledger.now.stacks (record { stack = row; weight = weight })),
+        ) ∷ []) }
+        ensures refused { OnErr result (self.new.taken ≡ self.old.taken) }
+        ensures tree { OnErr result (self.new.tree ≡ self.old.tree) }
+        ensures snapshots { OnErr result (self.new.snapshots ≡ self.old.snapshots) }
+        ensures names { GrowsTo self.old.names self.new.names }
+        ensures in_order { OnOk result (self.new.names ≡ with_stack self.old.names
+            (map (name_at ledger.now.told) (stack_at ledger.now.stacks row))) }
+        ensures every { self.new.every ≡ self.old.every }
+        ensures setting { option_to_list self.new.every ≡ option_to_list self.old.every }
+    {
+        let stack = KeptStack {
+            ledger,
+            frames: ledger.stack(row),
+        };
+        self.merge(alloc, source, &stack, weight)
     }
 }
 

@@ -1,1 +1,2 @@
+pub mod MessageTexts
 mod OpenedSources

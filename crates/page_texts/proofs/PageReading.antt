@@ -1,5 +1,5 @@
 -- The value of a page: its keys rise, and where its numbers have 64 bits, it reads back.
-use Rattle.std.proofs.Common.{◌≡◌, ℕ, suc, ◌+◌, ◌-◌, ◌^◌, ◌<◌, ◌≤◌, Bool, true, false, cond, List, [], ◌∷◌, length, map, Option, Some, None, All, IfSome, ◌∙◌, arith, rules}
+use Rattle.std.proofs.Common.{codes, ◌≡◌, ℕ, suc, ◌+◌, ◌-◌, ◌^◌, ◌<◌, ◌≤◌, Bool, true, false, cond, List, [], ◌∷◌, length, map, Option, Some, None, All, IfSome, ◌∙◌, arith, rules}
 use Rattle.std.proofs.lemmas.List.Sums.{prefix_len-le-length}
 use Rattle.std.proofs.Math.Nat.{mod-lt}
 use Rattle.std.specs.List.{AllByRecursion}
@@ -11,7 +11,7 @@ use Rattle.view_texts.proofs.JsonReading.{HasWholeNumbers, MembersHaveWholeNumbe
 use Rattle.view_texts.proofs.JsonValues.{each_of, whole_items, rising_items, items_depth-le}
 use Rattle.flame_layout.specs.declared.boxes.SpanBox.{SpanBox}
 use Rattle.page_texts.specs.Columns.{minus, no_span, end_of, is_on, front_of, tail_of, rest_of}
-use Rattle.page_texts.specs.Page.{PageBox, ToldBox, told_boxes, drawing_boxes, is_under, below_members, later_members, Moment, PageDrawing, PageSource, Page, whole_number, list_data, kept, left_out, page_names, place_of, column, moment_members, other_members, last_members, box_members, drawing_data, source_data, page_value, page_text}
+use Rattle.page_texts.specs.Page.{PageBox, ToldBox, told_boxes, drawing_boxes, is_under, member_if, opening_members, later_members, Moment, PageDrawing, PageSource, Page, whole_number, list_data, kept, left_out, page_names, place_of, column, moment_members, other_members, last_members, box_members, drawing_data, source_data, page_value, page_text}
 use Rattle.page_texts.specs.PageLaws.{IsSmallBox, IsSmallMoment, IsSmallDrawing, IsSmallPage}
 use Rattle.page_texts.specs.ScriptSafe.{page_data_text}
 use Rattle.page_texts.proofs.SafeReading.{reads_as_plain}
@@ -114,20 +114,32 @@ rising_source : (source : PageSource) → HasRisingKeys (source_data source)
 unfolding IsStrictlySortedBy
 rising_source source = search rules
 
-abbrev page_with : List PageDrawing → List PageSource → List ℕ → List ℕ → ℕ → Bool → Page
-page_with drawings sources title view whole is_below =
-    record { drawings = drawings; sources = sources; title = title; view = view; whole = whole; is_root_below = is_below }
+abbrev page_with : List PageDrawing → List PageSource → List ℕ → List ℕ → ℕ → Bool → Bool → Page
+page_with drawings sources title view whole is_below is_share =
+    record { drawings = drawings; sources = sources; title = title; view = view; whole = whole; is_root_below = is_below; is_share = is_share }
 
 module _ (all : List PageDrawing) (files : List PageSource) (title view : List ℕ) (whole : ℕ) where
-  rising_page_with : (is_below : Bool) → HasRisingKeys (page_value (page_with all files title view whole is_below))
+  rising_page_with : (is_below is_share : Bool) → HasRisingKeys (page_value (page_with all files title view whole is_below is_share))
   unfolding IsStrictlySortedBy
-  rising_page_with false =
+  rising_page_with false false =
       let names = page_names all in
       let drawings = rising_items (drawing_data names) (rising_drawing names) all in
       let texts = rising_items string (λ name. tt) names in
       let sources = rising_items source_data rising_source files in
       search (rules, drawings, texts, sources)
-  rising_page_with true =
+  rising_page_with false true =
+      let names = page_names all in
+      let drawings = rising_items (drawing_data names) (rising_drawing names) all in
+      let texts = rising_items string (λ name. tt) names in
+      let sources = rising_items source_data rising_source files in
+      search (rules, drawings, texts, sources)
+  rising_page_with true false =
+      let names = page_names all in
+      let drawings = rising_items (drawing_data names) (rising_drawing names) all in
+      let texts = rising_items string (λ name. tt) names in
+      let sources = rising_items source_data rising_source files in
+      search (rules, drawings, texts, sources)
+  rising_page_with true true =
       let names = page_names all in
       let drawings = rising_items (drawing_data names) (rising_drawing names) all in
       let texts = rising_items string (λ name. tt) names in
@@ -135,7 +147,7 @@ module _ (all : List PageDrawing) (files : List PageSource) (title view : List �
       search (rules, drawings, texts, sources)
 
 pub rising_page : (page : Page) → HasRisingKeys (page_value page)
-rising_page page = rising_page_with page.drawings page.sources page.title page.view page.whole page.is_root_below
+rising_page page = rising_page_with page.drawings page.sources page.title page.view page.whole page.is_root_below page.is_share
 
 -- ---- depths
 
@@ -160,9 +172,12 @@ shallow_drawing names drawing =
     let others = left_out drawing.least drawing.boxes in
     omega (arith, shallow_moment drawing.moment (box_members drawing boxes others) (shallow_boxes drawing boxes others))
 
-shallow_below : (is_below : Bool) (later : Members) → members_depth later ≤ 2 → members_depth (below_members is_below later) ≤ 2
-shallow_below true later h = omega (arith, h)
-shallow_below false later h = h
+shallow_if : (is_said : Bool) (key : List ℕ) (later : Members) → members_depth later ≤ 2 → members_depth (member_if is_said key later) ≤ 2
+shallow_if true key later h = omega (arith, h)
+shallow_if false key later h = h
+
+shallow_opening : (is_below is_share : Bool) (later : Members) → members_depth later ≤ 2 → members_depth (opening_members is_below is_share later) ≤ 2
+shallow_opening is_below is_share later h = shallow_if is_below (codes "root_below") (member_if is_share (codes "share") later) (shallow_if is_share (codes "share") later h)
 
 shallow_later : (sources : List PageSource) (title view : List ℕ) (whole : ℕ) → members_depth (later_members sources title view whole) ≤ 2
 shallow_later sources title view whole = omega (arith, items_depth-le source_data 1 (λ source. omega arith) sources)
@@ -174,7 +189,7 @@ shallow_page page =
       arith,
       items_depth-le (drawing_data names) 2 (shallow_drawing names) page.drawings,
       items_depth-le string 0 (λ name. omega arith) names,
-      shallow_below page.is_root_below (later_members page.sources page.title page.view page.whole) (shallow_later page.sources page.title page.view page.whole),
+      shallow_opening page.is_root_below page.is_share (later_members page.sources page.title page.view page.whole) (shallow_later page.sources page.title page.view page.whole),
     )
 
 -- ---- numbers
@@ -208,11 +223,12 @@ whole_page page h =
     let drawings = whole_items (drawing_data names) page.drawings (each_of IsSmallDrawing (λ drawing. HasWholeNumbers (drawing_data names drawing)) page.drawings (whole_drawing names h.names) h.drawings) in
     let texts = whole_items string names (every_text names) in
     let sources = whole_items source_data page.sources (each_of (λ source. source.weight < 2 ^ 64) (λ source. HasWholeNumbers (source_data source)) page.sources (λ source small. (tt, (tt, (tt, (small, tt))))) h.sources) in
-    (drawings, (texts, whole_below page.is_root_below (later_members page.sources page.title page.view page.whole) (sources, (tt, (tt, (h.whole, tt))))))
+    let later = later_members page.sources page.title page.view page.whole in
+    (drawings, (texts, whole_if page.is_root_below (codes "root_below") (member_if page.is_share (codes "share") later) (whole_if page.is_share (codes "share") later (sources, (tt, (tt, (h.whole, tt)))))))
   where
-    whole_below : (is_below : Bool) (later : Members) → MembersHaveWholeNumbers later → MembersHaveWholeNumbers (below_members is_below later)
-    whole_below true later more = (tt, more)
-    whole_below false later more = more
+    whole_if : (is_said : Bool) (key : List ℕ) (later : Members) → MembersHaveWholeNumbers later → MembersHaveWholeNumbers (member_if is_said key later)
+    whole_if true key later more = (tt, more)
+    whole_if false key later more = more
 
     every_text : (names : List (List ℕ)) → AllByRecursion (λ name. HasWholeNumbers (string name)) names
     every_text [] = tt

@@ -4,11 +4,11 @@ use Rattle.std.specs.List.{flat_map}
 use Rattle.json.specs.Print.{escape_byte, quoted}
 use Rattle.serde_json.specs.Data.{Data, string, object, member, no_members}
 use Rattle.stack_core.specs.NamesInOrder.{with_name, with_stack}
-use Rattle.page_texts.specs.Page.{PageDrawing, PageSource, Page, page_text, page_value, below_members, kept_names, page_names, whole_number, list_data, drawing_data, source_data}
+use Rattle.page_texts.specs.Page.{PageDrawing, PageSource, Page, page_text, page_value, kept_names, opening_members, page_names, whole_number, list_data, drawing_data, source_data}
 use Rattle.page_texts.specs.ScriptSafe.{script_safe}
 use Rattle.page_texts.specs.Drawn.{source_of}
 use Rattle.page_texts.specs.declared.pages.Source.{Source}
-use Rattle.page_texts.specs.checked.Kept.{below_text, number_text}
+use Rattle.page_texts.specs.checked.Kept.{number_text, opening_text}
 use Rattle.page_texts.specs.checked.SafeText.{safe_text}
 use Rattle.page_texts.proofs.SafeText.{safe-value}
 use Rattle.page_texts.proofs.Names.{grown}
@@ -64,26 +64,28 @@ abbrev pub list_after : List ℕ → List Data → List ℕ
 list_after key values = key ++ safe_text (list_data values)
 
 -- what stands behind the drawings and the names
-abbrev later_text : Bool → List Data → List ℕ → List ℕ → ℕ → List ℕ
-later_text is_below sources title view whole =
-    below_text is_below ++ (list_after (codes ",\"sources\":") sources ++ (text_after (codes ",\"title\":") title ++ (text_after (codes ",\"view\":") view ++ (number_text (codes ",\"whole\":") whole ++ 125 ∷ []))))
+abbrev later_text : Bool → Bool → List Data → List ℕ → List ℕ → ℕ → List ℕ
+later_text is_below is_share sources title view whole =
+    opening_text is_below is_share ++ (list_after (codes ",\"sources\":") sources ++ (text_after (codes ",\"title\":") title ++ (text_after (codes ",\"view\":") view ++ (number_text (codes ",\"whole\":") whole ++ 125 ∷ []))))
 
-page_shape : (drawings names : List Data) (is_below : Bool) (sources : List Data) (title view : List ℕ) (whole : ℕ)
-    → safe_text (object (member (codes "drawings") (list_data drawings) (member (codes "names") (list_data names) (below_members is_below (member (codes "sources") (list_data sources) (member (codes "title") (string title) (member (codes "view") (string view) (member (codes "whole") (whole_number whole) no_members))))))))
-    ≡ codes "{\"drawings\":" ++ (safe_text (list_data drawings) ++ (list_after (codes ",\"names\":") names ++ later_text is_below sources title view whole))
+page_shape : (drawings names : List Data) (is_below is_share : Bool) (sources : List Data) (title view : List ℕ) (whole : ℕ)
+    → safe_text (object (member (codes "drawings") (list_data drawings) (member (codes "names") (list_data names) (opening_members is_below is_share (member (codes "sources") (list_data sources) (member (codes "title") (string title) (member (codes "view") (string view) (member (codes "whole") (whole_number whole) no_members))))))))
+    ≡ codes "{\"drawings\":" ++ (safe_text (list_data drawings) ++ (list_after (codes ",\"names\":") names ++ later_text is_below is_share sources title view whole))
 unfolding script_safe escape_byte
-page_shape drawings names true sources title view whole = refl
-page_shape drawings names false sources title view whole = refl
+page_shape drawings names true true sources title view whole = refl
+page_shape drawings names true false sources title view whole = refl
+page_shape drawings names false true sources title view whole = refl
+page_shape drawings names false false sources title view whole = refl
 
 pub page_parts : (page : Page) (names : List (List ℕ)) → names ≡ page_names page.drawings → page_text page
     ≡ codes "{\"drawings\":" ++ (safe_text (list_data (map (drawing_data names) page.drawings)) ++ (list_after (codes ",\"names\":") (map string names)
-    ++ later_text page.is_root_below (map source_data page.sources) page.title page.view page.whole))
+    ++ later_text page.is_root_below page.is_share (map source_data page.sources) page.title page.view page.whole))
 unfolding page_text
 page_parts page names are =
     safe-value (page_value page)
-    ∙ page_shape (map (drawing_data (page_names page.drawings)) page.drawings) (map string (page_names page.drawings)) page.is_root_below (map source_data page.sources) page.title page.view page.whole
+    ∙ page_shape (map (drawing_data (page_names page.drawings)) page.drawings) (map string (page_names page.drawings)) page.is_root_below page.is_share (map source_data page.sources) page.title page.view page.whole
     ∙ sym (ap (λ ns. codes "{\"drawings\":" ++ (safe_text (list_data (map (drawing_data ns) page.drawings)) ++ (list_after (codes ",\"names\":") (map string ns)
-    ++ later_text page.is_root_below (map source_data page.sources) page.title page.view page.whole))) are)
+    ++ later_text page.is_root_below page.is_share (map source_data page.sources) page.title page.view page.whole))) are)
 
 pub sources_same : (sources : List Source) → map (λ source. source_data (source_of source)) sources ≡ map source_data (map source_of sources)
 sources_same [] = refl

@@ -40,4 +40,5 @@ page_of boxes page = record {
   view = page.view.now;
   whole = page.whole;
   is_root_below = page.is_root_below;
+  is_share = page.is_share;
 }

@@ -35,7 +35,7 @@ pub record PageSource : Type 0 where
   pub weight : ℕ
 
 -- what a page shows; `whole` is the weight of all samples of all sources, also of those that a filter leaves out, and it opens
--- with the root below where that is said
+-- with the root below, and by shares, where that is said
 pub record Page : Type 0 where
   pub drawings : List PageDrawing
   pub sources : List PageSource
@@ -43,6 +43,7 @@ pub record Page : Type 0 where
   pub view : List ℕ
   pub whole : ℕ
   pub is_root_below : Bool
+  pub is_share : Bool
 
 -- ---- boxes
 
@@ -174,10 +175,13 @@ source_data source =
 
 -- ---- the whole
 
--- in pages that open with the root below alone
-abbrev pub below_members : Bool → Members → Members
-below_members is_below later =
-    if is_below then member (codes "root_below") (boolean true) later else later
+-- in pages that open so alone
+abbrev pub member_if : Bool → List ℕ → Members → Members
+member_if is_said key later = if is_said then member key (boolean true) later else later
+
+-- a page opens with the root below, and by shares
+abbrev pub opening_members : Bool → Bool → Members → Members
+opening_members is_below is_share later = member_if is_below (codes "root_below") (member_if is_share (codes "share") later)
 
 abbrev pub later_members : List PageSource → List ℕ → List ℕ → ℕ → Members
 later_members sources title view whole =
@@ -192,7 +196,7 @@ page_value page =
     object
     (member (codes "drawings") (list_data (map (drawing_data (page_names page.drawings)) page.drawings))
     (member (codes "names") (list_data (map string (page_names page.drawings)))
-    (below_members page.is_root_below (later_members page.sources page.title page.view page.whole))))
+    (opening_members page.is_root_below page.is_share (later_members page.sources page.title page.view page.whole))))
 
 -- the data of a page
 unfoldable pub page_text : Page → List ℕ

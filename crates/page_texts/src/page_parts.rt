@@ -3,7 +3,7 @@ ghost use Rattle.std.specs.Prelude.{◌≡◌, ◌++◌, ◌∷◌, List, ℕ, c
 ghost use Rattle.serde_json.specs.Data.{string};
 ghost use Rattle.page_texts.specs.Page.{drawing_data, list_data, page_text, source_data};
 ghost use Rattle.page_texts.specs.Drawn.{drawing_of, page_of, source_of};
-ghost use Rattle.page_texts.specs.checked.Kept.{AreAllKept, AreKept, below_text};
+ghost use Rattle.page_texts.specs.checked.Kept.{AreAllKept, AreKept, opening_text, text_if};
 ghost use Rattle.page_texts.specs.checked.Parts.{parts_text};
 ghost use Rattle.page_texts.specs.checked.SafeText.{safe_text};
 
@@ -29,7 +29,7 @@ pub(crate) fn push_page<'p, 'k, L: FlameBoxes>(
     push_literal(parts, b"{\"drawings\":")?;
     push_drawings(parts, page.drawings, &kept.drawings)?;
     push_names(parts, &kept.names)?;
-    push_root_below(parts, page.is_root_below)?;
+    push_opening(parts, page.is_root_below, page.is_share)?;
     push_sources(parts, page.sources)?;
     push_text(parts, b",\"title\":", page.title)?;
     push_text(parts, b",\"view\":", page.view)?;
@@ -69,13 +69,30 @@ fn push_names<'k>(parts: &mut Vec<Part<'_, 'k>>, names: &'k FrameTable) -> Resul
     push_literal(parts, b"]")
 }
 
-// Adds what only a page has that opens with the root below.
-fn push_root_below(parts: &mut Vec<Part<'_, '_>>, is_below: bool) -> Result<(), AllocError>
+// Adds what only a page has that opens with the root below, or by shares.
+fn push_opening(
+    parts: &mut Vec<Part<'_, '_>>,
+    is_below: bool,
+    is_share: bool,
+) -> Result<(), AllocError>
     ensures { OnOk result
-        (parts_text parts.new.items ≡ parts_text parts.old.items ++ below_text is_below) }
+        (parts_text parts.new.items ≡ parts_text parts.old.items ++ opening_text is_below is_share) }
 {
-    if is_below {
-        push_literal(parts, b",\"root_below\":true")?;
+    push_if(parts, is_below, b",\"root_below\":true")?;
+    push_if(parts, is_share, b",\"share\":true")
+}
+
+// Adds a literal where it is said.
+fn push_if(
+    parts: &mut Vec<Part<'_, '_>>,
+    is_said: bool,
+    text: &'static [u8],
+) -> Result<(), AllocError>
+    ensures { OnOk result
+        (parts_text parts.new.items ≡ parts_text parts.old.items ++ text_if is_said text.now) }
+{
+    if is_said {
+        push_literal(parts, text)?;
     }
     Ok(())
 }

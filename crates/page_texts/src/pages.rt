@@ -48,6 +48,8 @@ pub struct Page<'a, L> {
     pub whole: u128,
     /// It opens with the root below.
     pub is_root_below: bool,
+    /// It opens by shares of what each profile weighs, and not by weights.
+    pub is_share: bool,
 }
 
 /// Sends a page: the document that a browser opens. No name and no title can be read as markup in it. It

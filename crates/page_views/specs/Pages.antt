@@ -22,13 +22,14 @@ least_of None total = total / 1200000
 least_of (Some least) total = least
 
 -- what a page says beside its drawings, the least weight of a box that it keeps, if one is given, the weight of
--- all samples of all sources, also of those that a filter leaves out, and whether it opens with the root below
+-- all samples of all sources, also of those that a filter leaves out, and whether it opens with the root below, and by shares
 pub record PageHeading : Type 0 where
   pub title : List ℕ
   pub sources : List PageSource
   pub least : Option ℕ
   pub whole : ℕ
   pub is_root_below : Bool
+  pub is_share : Bool
 
 abbrev pub heading_of : Heading → PageHeading
 heading_of heading = record {
@@ -37,6 +38,7 @@ heading_of heading = record {
   least = heading.least;
   whole = heading.whole;
   is_root_below = heading.is_root_below;
+  is_share = heading.is_share;
 }
 
 abbrev pub page_with : PageHeading → List ℕ → List PageDrawing → Page
@@ -47,6 +49,7 @@ page_with heading view drawings = record {
   view = view;
   whole = heading.whole;
   is_root_below = heading.is_root_below;
+  is_share = heading.is_share;
 }
 
 -- these boxes, of samples with this total, and in a snapshot its moment

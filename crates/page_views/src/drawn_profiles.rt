@@ -8,7 +8,7 @@ ghost use Rattle.page_views.specs.checked.DrawnProfiles.{IsDrawnOf, pair_list, p
 
 use crate::headings::Heading;
 use flame_layout::{DrawnPair, draw_paired};
-use merged_stacks::PairedStacks;
+use merged_stacks::{Alone, PairedStacks};
 use page_texts::Drawing;
 use stack_core::SourceList;
 use std::alloc::{AllocError, Global};
@@ -50,8 +50,8 @@ pub(crate) fn pair_profiles(
         stacks.after ≡ paired_stacks before.now.samples after.now.samples) }
 {
     Ok(PairedProfiles {
-        before: PairedStacks::of(alloc, after, before)?,
-        after: PairedStacks::of(alloc, before, after)?,
+        before: PairedStacks::of(alloc, after, before, &Alone)?,
+        after: PairedStacks::of(alloc, before, after, &Alone)?,
     })
 }
 

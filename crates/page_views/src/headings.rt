@@ -24,6 +24,8 @@ pub struct Heading<'a> {
     pub whole: u128,
     /// The page opens with the root below.
     pub is_root_below: bool,
+    /// The page opens by shares of what each profile weighs, and not by weights.
+    pub is_share: bool,
 }
 
 impl Heading<'_> {
@@ -69,6 +71,7 @@ impl Heading<'_> {
             view,
             whole: self.whole,
             is_root_below: self.is_root_below,
+            is_share: self.is_share,
         }
     }
 }

@@ -11,7 +11,7 @@ use flame_layout::{FlameBoxes, draw_merged};
 use opened_sources::Failure;
 use page_texts::{Page, send_page};
 use source_lists::SourceLists;
-use source_views::{Alone, Workers, lend_chart};
+use source_views::{Alone, lend_chart, merge};
 use std::alloc::Global;
 
 /// Sends the page of the flame graph of all samples, as `send_page` does.
@@ -26,7 +26,7 @@ pub fn send_graph_page<W: Outlet>(
     ensures flushed { Flushes (W.is_flushed out.new) (W.failures out.old) (W.failures out.new)
         result }
 {
-    let merged = Alone.merge(alloc, sources)?;
+    let merged = merge(&Alone, alloc, sources)?;
     let chart = draw_merged(alloc, &merged)?;
     let drawing = heading.drawing(&chart, false, sources.total(), None);
     send_whole_page(alloc, &heading.page("graph", &[drawing]), out)

@@ -20,7 +20,6 @@ mod running_sources;
 mod runs;
 mod sample_runs;
 mod settlement;
-mod stream_runs;
 mod tellers;
 
 pub use faults::CollectFault;
@@ -29,4 +28,3 @@ pub use run_options::{LARGEST_RING, RingSize};
 pub use runs::Collected;
 pub use sample_runs::collect;
 pub use stack_core::RingRecord;
-pub use stream_runs::collect_streams;

@@ -88,7 +88,7 @@ impl Outlet {
     }
 
     /// Sends what is pending.
-    fn flush<W: Wait>(&mut self, rt: &W, alloc: Global)
+    pub fn flush<W: Wait>(&mut self, rt: &W, alloc: Global)
         ensures ring { SameProducer self.old.producer self.new.producer }
         ensures sent { records_of_all (sent self.new.producer) ≡ told_to self.old }
         ensures pending { self.new.pending.items ≡ [] }

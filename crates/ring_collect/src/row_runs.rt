@@ -19,9 +19,12 @@ use std::thread::Threads;
 /// the samples come out of the rings, in `order`, by the numbers of their stacks: a stack that a reader tells again costs no memory
 /// but what the lists keep of each sample. At most 64 readers, of which none has told anything.
 ///
+/// A reader may wait for bytes that are still to come. What it gave is sent before it does, so each sample reaches the sink without the
+/// bytes behind it.
+///
 /// A reader asks the gate before each of its samples; where the gate says Stop, its list has the samples before, and the ending
-/// `Stopped`. Samples that go may wait in the reader's thread for others, so a gate must not wait for the sink to take them, as it may with
-/// `collect`. Whatever the answer, every started thread is joined before, and the readers are used up.
+/// `Stopped`. One that waits for bytes asks it only once they came. Samples that go may wait in the reader's thread for others that are
+/// there, so a gate must not wait for the sink to take them, as it may with `collect`. Whatever the answer, every started thread is joined before, and the readers are used up.
 pub fn collect_rows<
     T: Threads + Wait + Copy + Send + 'static,
     R: RowReader + Send + Drop + 'static,

@@ -8,10 +8,11 @@ ghost use Rattle.ring_collect.specs.NamesInOrder.{names_in_order};
 ghost use Rattle.ring_collect.specs.checked.Numbering.{told_of, with_waiting};
 ghost use Rattle.stack_core.specs.Interleaving.{IsInterleaving, AreOf, interleaved};
 
+use crate::batches::Handover;
 use crate::faults::CollectFault;
 use crate::numbering::NumberingReader;
-use crate::runs::Collected;
-use crate::stream_runs::collect_streams;
+use crate::row_samples::BySamples;
+use crate::runs::{Collected, RingedReaders};
 use run_options::RingSize;
 use stack_core::{Gate, SampleReader, Sink};
 use std::alloc::{AllocError, Global};
@@ -89,5 +90,7 @@ pub fn collect<
     ensures setting { S.setting sink.new ≡ S.setting sink.old }
 {
     let readers = number_all(alloc, readers)?;
-    collect_streams(rt, alloc, readers, ring, gate, sink)
+    let handover = Handover::one_by_one(ring);
+    let mut feed = BySamples::new(alloc);
+    RingedReaders { readers, handover }.collect_by(rt, alloc, gate, &mut feed, sink)
 }

@@ -81,7 +81,7 @@ struct SampleNumber {
 }
 
 impl<R: RowReader> Teller<R> {
-    ghost use Rattle.std.specs.Prelude.{◌≡◌, ◌<◌, ◌++◌, ◌∷◌, ◌^◌, [], IfNone, IfSome, length};
+    ghost use Rattle.std.specs.Prelude.{◌≡◌, ◌<◌, ◌++◌, ◌∷◌, ◌^◌, ◌↔◌, [], IfNone, IfSome, length};
     ghost use Rattle.rtrb.specs.Ring.{sent, SameProducer};
     ghost use Rattle.ring_collect.specs.checked.Batches.{records_of_all, told_to};
     ghost use Rattle.ring_collect.specs.checked.Tellers.{AreNamesOf, TellsOne, TellsAll, Closes, told_by};
@@ -90,6 +90,18 @@ impl<R: RowReader> Teller<R> {
     ghost use Rattle.stack_core.specs.RowReading.{GivesSome, GivesSuch};
     ghost use Rattle.stack_core.specs.Told.{IsToldUnder};
     ghost use Rattle.stack_core.specs.declared.endings.Item.TheVariants as item;
+
+    /// Sends what is pending, where the reader may wait for bytes that are still to come: then no sample waits for them.
+    fn send_before_wait<W: Wait>(&mut self, rt: &W, alloc: Global)
+        ensures ring { SameProducer self.old.outlet.producer self.new.outlet.producer }
+        ensures gives { (rest : Rest) → R.gives self.new.reader rest ↔ R.gives self.old.reader rest }
+        ensures rows { R.told self.new.reader ≡ R.told self.old.reader }
+        ensures told { told_to self.new.outlet ≡ told_to self.old.outlet }
+    {
+        if self.reader.may_wait() {
+            self.outlet.flush(rt, alloc);
+        }
+    }
 
     /// Tells the next sample of the reader, where the gate lets it go. `None` where that was done, and else the close that comes
     /// next.
@@ -115,6 +127,7 @@ impl<R: RowReader> Teller<R> {
             (told_to self.old.outlet) (told_to self.new.outlet) close)) }
     {
         let SampleNumber { source, index } = number;
+        self.send_before_wait(rt, alloc);
         let Ok(step) = self.reader.next_row(alloc) else {
             return Some(Close::NoMemory);
         };

@@ -35,7 +35,7 @@ source_of_the_input : sources_of None [] [] ((weighing 2 ∷ []) ∷ []) ≡ nam
 source_of_the_input = refl
 
 -- a title that the words set is taken as it is
-asked_title : (asked_heading default_plan (record { whole = 0; types = [] }) (record { title = Some (codes "t"); least = None; is_root_below = false }) []).title ≡ codes "t"
+asked_title : (asked_heading default_plan (record { whole = 0; types = [] }) (record { title = Some (codes "t"); least = None; is_root_below = false; is_share = false }) []).title ≡ codes "t"
 asked_title = refl
 
 -- without snapshots a graph has the page of the graph alone, whatever the order

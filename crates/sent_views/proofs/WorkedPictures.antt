@@ -26,10 +26,10 @@ weighing weight = record { stack = codes "a" ∷ []; weight = weight }
 abbrev counting : SampleType
 counting = record { name = codes "cpu"; unit = codes "nanoseconds" }
 
-asked : asked_frame (record default_plan { files = codes "x.pb" ∷ [] }) (record { whole = 2; types = counting ∷ [] }) (record { title = None; is_root_below = true }) ((weighing 2 ∷ []) ∷ [])
-    ≡ record { title = codes "x.pb"; unit = codes "nanoseconds"; is_root_below = true }
+asked : asked_frame (record default_plan { files = codes "x.pb" ∷ [] }) (record { whole = 2; types = counting ∷ [] }) (record { title = None; is_root_below = true; is_share = false }) ((weighing 2 ∷ []) ∷ [])
+    ≡ record { title = codes "x.pb"; unit = codes "nanoseconds"; is_root_below = true; is_share = false }
 asked = refl
 
 -- a title that the words set is taken as it is
-titled : (asked_frame default_plan (record { whole = 0; types = [] }) (record { title = Some (codes "t"); is_root_below = false }) []).title ≡ codes "t"
+titled : (asked_frame default_plan (record { whole = 0; types = [] }) (record { title = Some (codes "t"); is_root_below = false; is_share = false }) []).title ≡ codes "t"
 titled = refl

@@ -29,7 +29,7 @@ use Rattle.source_lists.specs.Types.{type_or_none}
 use Rattle.sent_views.specs.Facts.{told_whole}
 use Rattle.sent_views.specs.Pictures.{PictureFrame, common_unit, framed_text, types_with_weight, units_with_weight}
 use Rattle.sent_views.specs.declared.run_facts.RunFacts.{RunFacts}
-use Rattle.source_views.specs.Texts.{calls_text, told_text, view_text}
+use Rattle.source_views.specs.Texts.{calls_text, peek_text, told_text, view_text}
 
 -- the unit of a source, or that which the words give to weights without one
 abbrev pub unit_or : Option WeightUnit → List ℕ → List ℕ
@@ -64,6 +64,7 @@ asked_heading plan facts page lists = record {
   least = page.least;
   whole = facts.whole;
   is_root_below = page.is_root_below;
+  is_share = page.is_share;
 }
 
 -- the page of a view with boxes, and of a graph with a drawing for each snapshot; the others have none, and no words ask for a page
@@ -86,6 +87,7 @@ asked_frame plan facts picture lists = record {
   title = unwrap_or picture.title (default_title plan.files);
   unit = common_unit (units_with_weight (asked_sources plan facts lists));
   is_root_below = picture.is_root_below;
+  is_share = picture.is_share;
 }
 
 abbrev pub picture_text : Plan → RunFacts → PictureForm → List (List Sample) → List ℕ
@@ -107,6 +109,10 @@ asked_text plan facts lists order every = told_text (told_in plan facts lists) p
 abbrev pub called_text : CallSide → CallTable → Plan → RunFacts → List (List Sample) → List ℕ
 called_text side table plan facts lists = calls_text (told_in plan facts lists) side table (all_samples lists)
 
+-- and that with both
+abbrev pub peeked_text : CallTable → Plan → RunFacts → List (List Sample) → List ℕ
+peeked_text table plan facts lists = peek_text (told_in plan facts lists) table (all_samples lists)
+
 abbrev pub text_in : Form → Plan → RunFacts → List (List Sample) → List ℕ → Option ℕ → List ℕ
 text_in form.Text plan facts lists order every = asked_text plan facts lists order every
 text_in (form.Page page) plan facts lists order every = page_text plan facts page lists order every
@@ -115,6 +121,7 @@ text_in form.Types plan facts lists order every = asked_text plan facts lists or
 text_in form.Live plan facts lists order every = asked_text plan facts lists order every
 text_in (form.Callers table) plan facts lists order every = called_text Callers table plan facts lists
 text_in (form.Callees table) plan facts lists order every = called_text Callees table plan facts lists
+text_in (form.Peek table) plan facts lists order every = peeked_text table plan facts lists
 
 -- the text that a plan asks for: its page, its picture, the calls of a function, or the text of its view
 abbrev pub shown_text : Plan → RunFacts → List (List Sample) → List ℕ → Option ℕ → List ℕ

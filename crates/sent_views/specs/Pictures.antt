@@ -1,5 +1,5 @@
 -- The picture of a view with boxes, of the lists of its samples.
-use Rattle.std.specs.Prelude.{ℕ, Bool, List, [], ◌∷◌, filter, map, nat_lt, None, if◌then◌else◌}
+use Rattle.std.specs.Prelude.{ℕ, Bool, List, [], ◌∷◌, filter, map, nat_lt, None, Some, if◌then◌else◌}
 use Rattle.std.specs.List.{list_all}
 use Rattle.std.specs.Str.{bytes_eq}
 use Rattle.sample_tables.specs.declared.samples.Sample.{Sample}
@@ -35,14 +35,22 @@ pub record PictureFrame : Type 0 where
   pub title : List ℕ
   pub unit : List ℕ
   pub is_root_below : Bool
+  pub is_share : Bool
 
 abbrev pub picture_in : PictureFrame → ℕ → ℕ → Picture
 picture_in frame width total = record {
   title = frame.title;
   unit = frame.unit;
   total = total;
+  total_before = None;
   width = width;
   root_below = frame.is_root_below;
+}
+
+-- that of a comparison, where both profiles weigh so much
+abbrev pub compared_in : PictureFrame → ℕ → ℕ → ℕ → Picture
+compared_in frame width before after = record (picture_in frame width after) {
+  total_before = if frame.is_share then Some before else None;
 }
 
 -- the picture of the graph, of the chart, and of the comparison of the first two lists; other views have none, and no words ask for one
@@ -54,6 +62,6 @@ framed_text frame (Chart width) lists =
     plain_svg (picture_in frame width (total_weight (timeline lists))) (chart_of (timeline lists))
 framed_text frame Pairs lists = view_text Pairs lists [] None
 framed_text frame (PairBoxes width) lists =
-    compared_svg (picture_in frame width (total_weight (list_of lists 1))) (compared_boxes_of (list_of lists 0) (list_of lists 1))
+    compared_svg (compared_in frame width (total_weight (list_of lists 0)) (total_weight (list_of lists 1))) (compared_boxes_of (list_of lists 0) (list_of lists 1))
 framed_text frame (Top top) lists = view_text (Top top) lists [] None
 framed_text frame (Diff table) lists = view_text (Diff table) lists [] None

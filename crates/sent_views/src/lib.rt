@@ -10,4 +10,4 @@ mod sent_texts;
 pub use run_facts::RunFacts;
 pub use sent_pages::send_asked_page;
 pub use sent_pictures::{AskedPicture, send_asked_picture};
-pub use sent_texts::{AskedCalls, send_asked_calls, send_asked_view};
+pub use sent_texts::{AskedCalls, send_asked_calls, send_asked_peek, send_asked_view};

@@ -58,6 +58,7 @@ fn heading_with<'a>(
       least = page.now.least;
       whole = facts.now.whole;
       is_root_below = page.now.is_root_below;
+      is_share = page.now.is_share;
     } }
 {
     Heading {
@@ -66,6 +67,7 @@ fn heading_with<'a>(
         least: page.least,
         whole: u128::from(facts.whole),
         is_root_below: page.is_root_below,
+        is_share: page.is_share,
     }
 }
 

@@ -9,7 +9,7 @@ ghost use Rattle.command_line.specs.Plans.{IsComparison};
 ghost use Rattle.svg_texts.specs.Drawn.{picture_of};
 ghost use Rattle.svg_texts.specs.Svg.{compared_svg, plain_svg};
 ghost use Rattle.sent_views.specs.Pages.{picture_text};
-ghost use Rattle.sent_views.specs.Pictures.{framed_text, picture_in};
+ghost use Rattle.sent_views.specs.Pictures.{compared_in, framed_text, picture_in};
 ghost use Rattle.sent_views.specs.checked.Frames.{frame_of};
 ghost use Rattle.opened_sources.specs.Failures.{Flushes, Sends};
 
@@ -22,7 +22,7 @@ use flame_layout::{Width, draw_merged, draw_paired};
 use merged_stacks::PairedStacks;
 use opened_sources::Failure;
 use source_lists::SourceLists;
-use source_views::{InThreads, Workers, lend_chart, send_long_text};
+use source_views::{InThreads, lend_chart, merge, send_long_text};
 use stack_core::SourceList;
 use std::alloc::Global;
 use std::thread::Threads;
@@ -43,6 +43,7 @@ struct Frame<'a> {
     title: &'a str,
     unit: &'a str,
     is_root_below: bool,
+    is_share: bool,
 }
 
 impl<'a> Frame<'a> {
@@ -54,8 +55,20 @@ impl<'a> Frame<'a> {
             title: self.title,
             unit: self.unit,
             total,
+            total_before: None,
             width,
             root_below: self.is_root_below,
+        }
+    }
+
+    // That of a comparison, where both profiles weigh so much.
+    fn compared(&self, width: Width, before: u64, after: u64) -> Picture<'a>
+        ensures { picture_of result ≡ compared_in (frame_of self.now) width before after }
+    {
+        let picture = self.picture(width, after);
+        Picture {
+            total_before: if self.is_share { Some(before) } else { None },
+            ..picture
         }
     }
 }
@@ -82,6 +95,7 @@ pub fn send_asked_picture<T: Threads, W: Outlet>(
         title: &title,
         unit: common(&described, Said::Unit),
         is_root_below: asked.form.is_root_below,
+        is_share: asked.form.is_share,
     };
     send_framed(rt, alloc, sources, asked.plan.view, &frame, out)
 }
@@ -112,7 +126,8 @@ fn send_framed<T: Threads, W: Outlet>(
         }
         View::PairBoxes(width) => {
             let lists = sources.lists();
-            let picture = frame.picture(width, lists[1].total() as u64);
+            let (before, after) = (lists[0].total() as u64, lists[1].total() as u64);
+            let picture = frame.compared(width, before, after);
             send_compared(rt, alloc, &lists[0], &lists[1], &picture, out)
         }
         View::Fold | View::Pairs | View::Top(_) | View::Diff(_) => {
@@ -137,7 +152,7 @@ fn send_graph<T: Threads, W: Outlet>(
 {
     // The own weights add up to the total, which has 64 bits.
     let _total = picture.total;
-    let merged = InThreads { rt }.merge(alloc, sources)?;
+    let merged = merge(&InThreads { rt }, alloc, sources)?;
     let chart = draw_merged(alloc, &merged)?;
     let svg = Svg::of(alloc, picture, &chart)?;
     send_long_text(rt, alloc, &svg, out)
@@ -181,7 +196,7 @@ fn send_compared<T: Threads, W: Outlet>(
     ensures flushed { Flushes (W.is_flushed out.new) (W.failures out.old) (W.failures out.new)
         result }
 {
-    let stacks = PairedStacks::of_in_threads(rt, alloc, before, after)?;
+    let stacks = PairedStacks::of(alloc, before, after, &InThreads { rt })?;
     let boxes = draw_paired(alloc, &stacks, before, after)?;
     let svg = Svg::of(alloc, picture, boxes.as_slice())?;
     send_long_text(rt, alloc, &svg, out)

@@ -4,7 +4,7 @@ ghost use Rattle.merged_stacks.specs.Timeline.{samples_of};
 ghost use Rattle.command_line.specs.Plans.{IsComparison};
 ghost use Rattle.sum_texts.specs.Told.{nothing_told};
 ghost use Rattle.source_views.specs.Texts.{told_text};
-ghost use Rattle.sent_views.specs.Pages.{asked_text, called_text};
+ghost use Rattle.sent_views.specs.Pages.{asked_text, called_text, peeked_text};
 ghost use Rattle.opened_sources.specs.Failures.{Flushes, Sends};
 
 use crate::headings::described_sources;
@@ -14,7 +14,7 @@ use command_line::{CallTable, Plan, View};
 use function_sums::CallSide;
 use opened_sources::Failure;
 use source_lists::SourceLists;
-use source_views::{AskedText, Workers, send_calls, send_view};
+use source_views::{AskedText, Workers, send_calls, send_peek, send_view};
 use std::alloc::Global;
 use sum_texts::Telling;
 
@@ -79,6 +79,27 @@ pub fn send_asked_calls<H: Workers, W: Outlet>(
         &telling,
         out,
     )
+}
+
+/// Sends the text of a function with its callers and its callees, as a plan asks for it.
+pub fn send_asked_peek<H: Workers, W: Outlet>(
+    workers: &H,
+    alloc: Global,
+    sources: &SourceLists,
+    plan: &Plan,
+    facts: &RunFacts,
+    table: &CallTable,
+    out: &mut W,
+) -> Result<(), Failure>
+    ensures sent { Sends (peeked_text table.now plan.now facts.now (samples_of sources.now.lists))
+        (W.contents out.old) (W.contents out.new) result }
+    ensures flushed { Flushes (W.is_flushed out.new) (W.failures out.old) (W.failures out.new)
+        result }
+{
+    let (files, types) = (plan.files.get(), facts.types.get());
+    let described = described_sources(alloc, files, plan.unit, types, sources)?;
+    let telling = telling(plan, facts, &described);
+    send_peek(workers, alloc, sources, table, &telling, out)
 }
 
 // Sends the text of a view without snapshots.

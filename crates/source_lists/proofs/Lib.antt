@@ -1,5 +1,5 @@
 pub mod BackLemmas
-mod CutLemmas
+pub mod CutLemmas
 mod FaultLemmas
 mod FilteredSources
 pub mod JoinLemmas
@@ -10,3 +10,4 @@ pub mod PartLemmas
 pub mod ReaderThreads
 pub mod StrictLemmas
 mod WorkedFromNames
+mod WorkedOmittedNames

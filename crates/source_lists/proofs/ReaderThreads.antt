@@ -13,7 +13,10 @@ use Rattle.stack_core.specs.contracts.source_bytes.SourceBytes as source_bytes
 use Rattle.call_tree.specs.contracts.frame_table.FrameTable as table
 use Rattle.call_tree.specs.contracts.spellings.SpellingCache as cache
 use Rattle.call_tree.specs.contracts.histories.StackHistory as history
-use Rattle.folded_lines.specs.contracts.telling.Telling as telling
+use Rattle.folded_lines.specs.contracts.known_stacks.KnownStacks as known
+use Rattle.folded_lines.specs.contracts.line_buffer.LineBuffer as buffer
+use Rattle.folded_lines.specs.contracts.line_buffer.LineBuffer.TheInside as buffer_inside
+use Rattle.folded_lines.specs.contracts.stream_telling.StreamTelling as telling
 use Rattle.folded_lines.specs.contracts.rows.FoldedRows as folded
 use Rattle.folded_lines.specs.contracts.rows.FoldedRows.TheInside as folded_inside
 use Rattle.profile_tables.specs.contracts.outline.Outline as outline
@@ -34,17 +37,29 @@ cache_send = search (sendable, crosses, maps.crosses) depth 30
 history_send : IsSend history.the_row
 history_send = search (sendable, crosses, maps.crosses) depth 30
 
-telling_send : IsSend (telling.the_field).row
-telling_send = search (sendable, crosses, maps.crosses, table_send, cache_send, history_send) depth 30
-
 seen_send : IsSend seen.the_row
 seen_send = owning_send seen.the_type tt (λ s. seen_owns-keyless s.life (drop s.at s.names) s.ptr s.items) (λ k x w. tt)
 
 bytes_send : IsSend (source_bytes.the_field).row
 bytes_send = search (view_send, sendable, crosses, crossing.send, crossing.frees, block-send, block-sync, seen_send) depth 60
 
+known_send : IsSend known.the_row
+known_send = search (sendable, crosses) depth 30
+
+telling_send : IsSend telling.the_row
+telling_send = search (sendable, crosses, maps.crosses, table_send, known_send) depth 30
+
+buffer_fields_send : AllSend (shape buffer_inside.the_type).fields
+buffer_fields_send = (bytes_send, (search sendable depth 20, (search sendable depth 20, (search sendable depth 20, tt))))
+
+buffer_inside_send : IsSend buffer_inside.the_row
+buffer_inside_send = recorded_send _ _ _ (buffer_inside.the_type).to_one (struct_send (shape buffer_inside.the_type) buffer_fields_send)
+
+buffer_send : IsSend buffer.the_row
+buffer_send = search (view_send, buffer_inside_send)
+
 folded_fields_send : AllSend (shape folded_inside.the_type).fields
-folded_fields_send = (bytes_send, (search (sendable, crosses) depth 20, (search sendable depth 90 fits 30000, (telling_send, tt))))
+folded_fields_send = (search (sendable, crosses, buffer_send, telling_send) depth 60 fits 30000, tt)
 
 folded_inside_send : IsSend folded_inside.the_row
 folded_inside_send = recorded_send _ _ _ (folded_inside.the_type).to_one (struct_send (shape folded_inside.the_type) folded_fields_send)

@@ -1,6 +1,7 @@
 -- The definitions that the contracts of source_lists cite.
 pub mod FromNames
 pub mod Lists
+pub mod OmittedNames
 pub mod Runs
 pub mod Sources
 pub mod Strictness

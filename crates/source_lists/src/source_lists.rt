@@ -1,14 +1,17 @@
 //! What a run collected of its sources.
 
 ghost use Rattle.std.specs.Prelude.{◌≡◌, ◌<◌, ◌^◌, ◌∷◌, [], IfOk, length, map};
+ghost use Rattle.std.specs.List.{list_any};
 ghost use Rattle.stack_core.specs.Interleaving.{IsInterleaving};
 ghost use Rattle.stack_core.specs.Reading.{IsSourceLimited};
 ghost use Rattle.merged_stacks.specs.Merged.{all_samples};
 ghost use Rattle.merged_stacks.specs.Timeline.{samples_of, timeline, total_weight};
 ghost use Rattle.ring_collect.specs.Collection.{seen_as_rest};
 ghost use Rattle.run_options.specs.Filters.{kept_rest};
-ghost use Rattle.source_lists.specs.FromNames.{rest_from, rests_from};
 ghost use Rattle.source_lists.specs.Lists.{AreLimited};
+ghost use Rattle.source_lists.specs.OmittedNames.{shown_rests};
+ghost use Rattle.source_lists.specs.checked.CutStacks.{begins, edited_rest, shown_stack};
+ghost use Rattle.source_lists.specs.checked.KeptStacks.{passing_rest};
 
 use crate::cut_lists::cut_lists;
 use crate::cut_stacks::all_stacks_with;
@@ -18,7 +21,7 @@ use crate::kept_stacks::all_kept_stacks;
 use merged_stacks::total_weight;
 use ring_collect::Collected;
 use run_options::Filter;
-use stack_core::{SourceList, Text};
+use stack_core::{Names, SourceList, Text};
 use std::alloc::{AllocError, Global};
 use std::marker::Model;
 
@@ -78,31 +81,54 @@ impl SourceLists {
         Ok(SourceLists { lists, order })
     }
 
-    /// The samples with a frame of this whole name, each from its first such frame on, in the order in which they came.
-    fn from_name(self, alloc: Global, name: &str) -> Result<SourceLists, AllocError>
+    /// The samples with a frame at which a stack may begin, in the order in which they came.
+    fn with_frame(self, alloc: Global, from: &Option<Text>) -> Result<SourceLists, AllocError>
         ensures { IfOk result (λ left. map seen_as_rest left.lists
-            ≡ map (rest_from name.now) (map seen_as_rest self.lists)) }
+            ≡ map (passing_rest (list_any (begins from.now))) (map seen_as_rest self.lists)) }
     {
         let SourceLists { lists, order } = self;
-        let kept = all_stacks_with(alloc, &lists, name)?;
+        let kept = all_stacks_with(alloc, &lists, from)?;
         let order = kept_order(alloc, &order, &lists, &kept)?;
-        let with_frame = kept_lists(alloc, &lists, &kept)?;
-        let lists = cut_lists(alloc, &with_frame, name)?;
+        let lists = kept_lists(alloc, &lists, &kept)?;
         Ok(SourceLists { lists, order })
     }
 
-    /// The samples from their first frame of a whole name on, without those that have none; all of them where no name is given. They
-    /// stay in the order in which they came.
-    pub fn beginning_at(self, alloc: Global, name: &Option<Text>) -> Result<SourceLists, AllocError>
+    /// The same samples in the same order, with each stack cut.
+    fn cut(
+        self,
+        alloc: Global,
+        from: &Option<Text>,
+        omitted: &Names,
+    ) -> Result<SourceLists, AllocError>
+        ensures { IfOk result (λ left. map seen_as_rest left.lists
+            ≡ map (edited_rest (shown_stack from.now omitted.now)) (map seen_as_rest self.lists)) }
+    {
+        let SourceLists { lists, order } = self;
+        let lists = cut_lists(alloc, &lists, from, omitted)?;
+        Ok(SourceLists { lists, order })
+    }
+
+    /// The samples from their first frame of a whole name on, without those that have none; all of them where no name is given. The
+    /// frames of the names that are omitted are taken out of what is left of each stack. The samples stay in the order in which they
+    /// came.
+    pub fn shown(
+        self,
+        alloc: Global,
+        from: &Option<Text>,
+        omitted: &Names,
+    ) -> Result<SourceLists, AllocError>
         ensures lists { IfOk result (λ left. map seen_as_rest left.lists
-            ≡ rests_from name.now (map seen_as_rest self.lists)) }
+            ≡ shown_rests from.now omitted.now (map seen_as_rest self.lists)) }
         ensures count { IfOk result (λ left. length left.lists ≡ length self.lists) }
         ensures order { IfOk result (λ left.
             IsInterleaving left.order (samples_of left.lists)) }
     {
-        match name {
-            Some(name) => self.from_name(alloc, name.get()),
-            None => Ok(self),
+        if from.is_some() {
+            self.with_frame(alloc, from)?.cut(alloc, from, omitted)
+        } else if omitted.get().is_empty() {
+            Ok(self)
+        } else {
+            self.cut(alloc, from, omitted)
         }
     }
 

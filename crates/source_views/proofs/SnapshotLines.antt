@@ -1,22 +1,20 @@
 -- The lines of snapshots one after another, as the samples come.
-use Rattle.std.proofs.Common.{◌≡◌, ◌∙◌, ◌+◌, ◌-◌, ◌<◌, ◌≤◌, ◌++◌, ◌∷◌, [], ℕ, suc, zero, List, append-nil, append_assoc, ap, arith, cond, get_or, length, refl, set, sym, subst, take, drop, take-append-drop, map, All}
+use Rattle.std.proofs.Common.{◌≡◌, ◌∙◌, ◌+◌, ◌-◌, ◌*◌, ◌<◌, ◌≤◌, ◌++◌, ◌∷◌, [], ℕ, suc, zero, List, append-nil, append_assoc, ap, arith, cond, get_or, length, refl, replicate, set, sym, subst, take, drop, take-append-drop, map, All}
+use Rattle.std.proofs.Math.Nat.{zero-div}
 use Rattle.std.proofs.Math.Seq.{take-append_seam}
 use Rattle.std.proofs.KnownBytes.{Appends-nil, Appends-trans}
 use Rattle.std.proofs.lemmas.Grind.{flat_map-append}
-use Rattle.std.proofs.lemmas.List.{ext_get_or, length-set, take_more}
-use Rattle.std.proofs.lemmas.List.Elements.{All-map}
+use Rattle.std.proofs.lemmas.List.{ext_get_or, length-replicate, length-set, take_more}
 use Rattle.std.proofs.lemmas.List.FromFn.{get_or-map-range_with_len, length-map-range_with_len}
 use Rattle.std.specs.Io.KnownBytes.{Appends}
-use Rattle.std.specs.List.{flat_map}
+use Rattle.std.specs.List.{flat_map, range_with_len}
 use Rattle.std.specs.Prelude.{Bool, true, false, Option, Some}
 use Rattle.byte_io.specs.Pieces.{AppendsFront}
 use Rattle.flame_layout.specs.Graph.{graph_of}
 use Rattle.flame_layout.specs.Paths.{SameOwn}
 use Rattle.flame_layout.specs.declared.boxes.SpanBox.{SpanBox}
-use Rattle.flame_layout.specs.Boxes.{SeenBox, plain_box, span_of}
-use Rattle.flame_layout.specs.declared.boxes.DrawnBox.{DrawnBox}
-use Rattle.flame_layout.proofs.DrawnBoxes.{drawn_within}
 use Rattle.flame_layout.proofs.MergedSums.{merged_own}
+use Rattle.merged_stacks.proofs.KeptStacks.{zero_at}
 use Rattle.merged_stacks.specs.Merged.{merged_samples}
 use Rattle.merged_stacks.specs.Timeline.{total_weight}
 use Rattle.view_texts.specs.Json.{snapshot_line}
@@ -38,6 +36,10 @@ use Rattle.source_views.specs.checked.Moments.{due_line, moment_line}
 pub record AreCounted (counts : List ℕ) (m : ℕ) (order : List ℕ) (lists : List (List Sample)) : Type 0 where
   pub count : length counts ≡ length lists
   pub each : (source : ℕ) → source < length lists → get_or counts source 0 ≡ counts_at m order source
+
+-- before any came
+pub none_counted : (counts : List ℕ) (lists : List (List Sample)) (order : List ℕ) → counts ≡ replicate (length lists) 0 → AreCounted counts 0 order lists
+none_counted counts lists order is = record { count = ap length is ∙ length-replicate (length lists) 0; each = λ source below. ap (λ all. get_or all source 0) is ∙ zero_at (length lists) source }
 
 -- the next sample of an order, as it is lent, stands in its list
 pub next_lent : (order lent : List ℕ) (m : ℕ) (lists : List (List Sample)) → IsInterleaving order lists → lent ≡ order → m < length lent
@@ -101,20 +103,29 @@ moment_is_snapshot width m growing order lists same counted =
     line counts firsts = snapshot_line m counts (total_weight (all_samples firsts)) width (graph_of (all_samples firsts))
 
 -- the parts of the line of what came so far
-pub moment_text : (width at total : ℕ) (growing : GrowingState) (counts : List ℕ) (moment stacks : List Sample) (boxes : List SpanBox) → moment ≡ merged_samples (all_samples (fronts growing.lists growing.counts)) → stacks ≡ moment
-    → counts ≡ growing.counts → total ≡ total_weight moment → ((samples : List Sample) → SameOwn samples stacks → boxes ≡ graph_of samples) → snapshot_line at counts total width boxes ≡ moment_line width at growing
-moment_text width at total growing counts moment stacks boxes merged ranked counted weighed drawn =
+pub moment_text : (width at total : ℕ) (growing : GrowingState) (counts : List ℕ) (stacks : List Sample) (boxes : List SpanBox) → stacks ≡ merged_samples (all_samples (fronts growing.lists growing.counts))
+    → counts ≡ growing.counts → total ≡ total_weight stacks → ((samples : List Sample) → SameOwn samples stacks → boxes ≡ graph_of samples) → snapshot_line at counts total width boxes ≡ moment_line width at growing
+moment_text width at total growing counts stacks boxes merged counted weighed drawn =
     let samples = all_samples (fronts growing.lists growing.counts) in
     let own = subst (λ (all : List Sample). SameOwn samples all) (sym merged) (merged_own samples) in
-    let weight = weighed ∙ sym (same_weight samples moment own) in
-    let boxed = drawn samples (subst (λ (all : List Sample). SameOwn samples all) (sym ranked) own) in
+    let weight = weighed ∙ sym (same_weight samples stacks own) in
+    let boxed = drawn samples own in
     λ i. snapshot_line at (counted i) (weight i) width (boxed i)
+
+-- a moment is that of its lists and counts
+pub same_due : (width every at : ℕ) (one other : GrowingState) → one.lists ≡ other.lists → one.counts ≡ other.counts → due_line width every at one ≡ due_line width every at other
+same_due width every at one other lists counts i =
+    let came = all_samples (fronts (lists i) (counts i)) in
+    cond (is_due (Some every) at) (snapshot_line at (counts i) (total_weight came) width (graph_of came)) []
 
 -- ---- the lines so far
 
 -- the lines of the snapshots of the first n samples
 abbrev pub lines_upto : ℕ → ℕ → List (List Sample) → List ℕ → ℕ → List ℕ
 lines_upto width every lists order n = snapshot_lines width lists order (snapshot_places (Some every) n)
+
+pub no_lines : (width every : ℕ) (lists : List (List Sample)) (order : List ℕ) → lines_upto width every lists order 0 ≡ []
+no_lines width every lists order = ap (λ n. flat_map (snapshot_line_at width order lists) (map (λ k. k * every) (range_with_len 1 n))) (zero-div every)
 
 due_is_snapshot : (width every m : ℕ) (growing : GrowingState) (order : List ℕ) (lists : List (List Sample)) (due : Bool) → moment_line width m growing ≡ snapshot_line_at width order lists m
     → cond due (moment_line width m growing) [] ≡ flat_map (snapshot_line_at width order lists) (cond due (m ∷ []) [])
@@ -175,13 +186,3 @@ lines_front width every n m end growing lists order old mid new some next within
     ap (lines_upto width every lists order) (omega arith) ∙ later.1 ∙ ap (λ text. text ++ later.0) (sym (lines_more width every n m growing lists order some next same counted)) in
     subst (λ text. AppendsFront text old new) (sym whole)
     (front_more (lines_upto width every lists order n ++ due_line width every m growing) later.0 old new (front_after (lines_upto width every lists order n) (due_line width every m growing) old mid new sent gone))
-
--- ---- boxes that were copied
-
-pub drawn_list : (boxes : List DrawnBox) → map (λ drawn. plain_box (span_of drawn)) boxes ≡ map plain_box (map span_of boxes)
-drawn_list [] = refl
-drawn_list (box ∷ boxes) = ap (λ more. plain_box (span_of box) ∷ more) (drawn_list boxes)
-
-pub drawn_boxes_within : (boxes : List DrawnBox) (spans : List SpanBox) (total : ℕ) → map span_of boxes ≡ spans → All (λ span. span.start + span.weight ≤ total) spans
-    → All (λ box. box.span.start + box.span.weight ≤ total) (map (λ drawn. plain_box (span_of drawn)) boxes)
-drawn_boxes_within boxes spans total same h = All-map (λ (box : SeenBox). box.span.start + box.span.weight ≤ total) (λ drawn. plain_box (span_of drawn)) boxes (drawn_within boxes spans total same h)

@@ -21,6 +21,7 @@ use Rattle.sum_texts.specs.GrownLine.{grown_line}
 use Rattle.sum_texts.specs.Told.{Told, nothing_told}
 use Rattle.sum_texts.specs.TopTexts.{top_table, top_line}
 use Rattle.function_sums.specs.declared.call_sides.CallSide.{CallSide}
+use Rattle.function_sums.specs.declared.call_sides.CallSide.TheVariants.{Callers, Callees}
 use Rattle.command_line.specs.Plans.{limit_of}
 use Rattle.command_line.specs.declared.plans.CallTable.{CallTable}
 use Rattle.command_line.specs.declared.plans.DiffTable.{DiffTable}
@@ -112,6 +113,10 @@ growth_line view lists = limit_line (limit_of view) (grown_names view lists)
 abbrev pub calls_text : Told → CallSide → CallTable → List Sample → List ℕ
 calls_text told side table samples =
     if table.is_json then calls_line told side table.name table.rows samples else calls_table table.is_exact told side table.name table.rows samples
+
+-- the function with both: the text of its callers and then that of its callees
+abbrev pub peek_text : Told → CallTable → List Sample → List ℕ
+peek_text told table samples = calls_text told Callers table samples ++ calls_text told Callees table samples
 
 abbrev pub view_text : View → List (List Sample) → List ℕ → Option ℕ → List ℕ
 view_text Fold lists order every = fold_text (all_samples lists)

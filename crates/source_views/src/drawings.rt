@@ -1,14 +1,13 @@
 //! The boxes of what was collected.
-ghost use Rattle.std.specs.Prelude.{◌≡◌, IfOk, map};
-ghost use Rattle.flame_layout.specs.Boxes.{span_of};
+ghost use Rattle.std.specs.Prelude.{◌≡◌, IfOk};
 ghost use Rattle.flame_layout.specs.Chart.{chart_of};
 ghost use Rattle.flame_layout.specs.Graph.{graph_of};
 ghost use Rattle.merged_stacks.specs.Timeline.{samples_of, timeline};
 ghost use Rattle.merging.specs.Sums.{all_samples};
 
-use crate::workers::{Alone, Workers};
-use flame_layout::{Chart, DrawnBox, SpanBox, chart_boxes, merged_boxes};
-use merged_stacks::StackRows;
+use crate::workers::merge;
+use flame_layout::{Chart, SpanBox, chart_boxes, merged_boxes};
+use merged_stacks::Alone;
 use source_lists::SourceLists;
 use stack_core::SourceList;
 use std::alloc::{AllocError, Global};
@@ -18,7 +17,7 @@ pub(crate) fn draw_graph(alloc: Global, sources: &SourceLists) -> Result<Vec<Spa
     ensures { IfOk result (λ boxes.
         boxes.items ≡ graph_of (all_samples (samples_of sources.now.lists))) }
 {
-    let merged = Alone.merge(alloc, sources)?;
+    let merged = merge(&Alone, alloc, sources)?;
     merged_boxes(alloc, &merged)
 }
 
@@ -38,18 +37,4 @@ pub fn lend_chart<'a>(
     ensures { IfOk result (λ chart. chart ≡ chart_of (timeline (samples_of sources.now.lists))) }
 {
     Chart::of(alloc, sources.lists())
-}
-
-// The boxes of a chart in a vector. No line takes a chart of stacks that borrow: the borrow checker does not cover its type.
-pub(crate) fn copied<'n, S: StackRows>(
-    alloc: Global,
-    chart: &Chart<'n, S>,
-) -> Result<Vec<DrawnBox<'n>>, AllocError>
-    ensures { IfOk result (λ boxes. map span_of boxes.items ≡ chart.now) }
-{
-    let mut boxes = Vec::with_capacity(alloc, chart.len())?;
-    for at in 0..chart.len() {
-        boxes.push(chart.get(at))?;
-    }
-    Ok(boxes)
 }

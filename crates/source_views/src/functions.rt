@@ -5,9 +5,9 @@ ghost use Rattle.function_sums.specs.FunctionSums.{AreFunctionSums};
 ghost use Rattle.merged_stacks.specs.Timeline.{samples_of, total_weight};
 ghost use Rattle.merging.specs.Sums.{all_samples};
 
-use crate::workers::Workers;
+use crate::workers::merge;
 use function_sums::{ChangeOrder, FunctionChange, FunctionSum, function_changes, function_sums};
-use merged_stacks::MergedStacks;
+use merged_stacks::{Alone, MergedStacks, Sorting};
 use run_options::FunctionOrder;
 use source_lists::SourceLists;
 use stack_core::SourceList;
@@ -15,8 +15,8 @@ use std::alloc::{AllocError, Global};
 use std::slice;
 
 // The weights of the functions of all samples, the heaviest first.
-pub(crate) fn weigh_functions<H: Workers>(
-    workers: &H,
+pub(crate) fn weigh_functions<S: Sorting>(
+    sorting: &S,
     alloc: Global,
     sources: &SourceLists,
     by: FunctionOrder,
@@ -24,7 +24,7 @@ pub(crate) fn weigh_functions<H: Workers>(
     ensures { IfOk result (λ sums.
         AreFunctionSums by (all_samples (samples_of sources.now.lists)) sums.items) }
 {
-    let merged = workers.merge(alloc, sources)?;
+    let merged = merge(sorting, alloc, sources)?;
     function_sums(alloc, &merged, by)
 }
 
@@ -54,6 +54,6 @@ fn weigh_list(
     requires { total_weight list.now.samples < 2 ^ 64 }
     ensures { IfOk result (λ sums. AreFunctionSums by list.now.samples sums.items) }
 {
-    let stacks = MergedStacks::of(alloc, slice::from_ref(list))?;
+    let stacks = MergedStacks::of(alloc, slice::from_ref(list), &Alone)?;
     function_sums(alloc, &stacks, by)
 }

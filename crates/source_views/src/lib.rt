@@ -15,11 +15,12 @@ mod view_text;
 mod whole_run;
 mod workers;
 
-pub use call_texts::send_calls;
+pub use call_texts::{send_calls, send_peek};
 pub use drawings::lend_chart;
 pub use growth::growth_line;
 pub use long_texts::{LongText, OneOf};
+pub use merged_stacks::{Alone, InThreads};
 pub use view_set::Views;
 pub use view_text::{AskedText, render, send_view};
 pub use whole_run::views;
-pub use workers::{Alone, InThreads, Workers, send_long_text, send_text};
+pub use workers::{Workers, merge, send_long_text, send_text};

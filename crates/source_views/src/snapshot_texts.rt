@@ -4,6 +4,9 @@ ghost use Rattle.std.specs.Io.KnownBytes.{Appends};
 ghost use Rattle.byte_io.specs.Calls.{one_more};
 ghost use Rattle.byte_io.specs.Pieces.{AppendsFront};
 ghost use Rattle.flame_layout.specs.Graph.{graph_of};
+ghost use Rattle.merged_stacks.specs.Fronts.{fronts};
+ghost use Rattle.merged_stacks.specs.Merged.{merged_samples};
+ghost use Rattle.merged_stacks.specs.RankedStacks.{ranked_samples};
 ghost use Rattle.merged_stacks.specs.Timeline.{samples_of};
 ghost use Rattle.merging.specs.Snapshots.{snapshot_places};
 ghost use Rattle.merging.specs.Sums.{all_samples};
@@ -11,12 +14,11 @@ ghost use Rattle.opened_sources.specs.Failures.{Flushes, Sends};
 ghost use Rattle.source_views.specs.Texts.{graph_text, snapshot_lines};
 ghost use Rattle.source_views.specs.checked.Moments.{due_line, moment_line};
 
-use crate::drawings::copied;
 use crate::drawn_texts::drawn_graph;
-use crate::workers::Workers;
+use crate::workers::merge;
 use byte_io::{Outlet, PieceFault, send_pieces};
-use flame_layout::{Chart, Width, draw_merged, draw_ordered};
-use merged_stacks::{GrowingStacks, MergedStacks};
+use flame_layout::{Chart, Width, draw_merged};
+use merged_stacks::{GrowingStacks, MergedStacks, Sorting};
 use opened_sources::Failure;
 use source_lists::SourceLists;
 use std::alloc::Global;
@@ -24,8 +26,8 @@ use view_texts::{Scale, drawn_snapshot_line};
 
 // Sends the lines of the snapshots of a graph, one each time that so many samples more came, and then the graph's
 // own. Each snapshot is drawn when the one before it is out, and goes out at once.
-pub(crate) fn send_snapshots<H: Workers, W: Outlet>(
-    workers: &H,
+pub(crate) fn send_snapshots<S: Sorting, W: Outlet>(
+    sorting: &S,
     alloc: Global,
     sources: &SourceLists,
     width: Width,
@@ -38,7 +40,7 @@ pub(crate) fn send_snapshots<H: Workers, W: Outlet>(
     ensures flushed { Flushes (W.is_flushed out.new) (W.failures out.old) (W.failures out.new)
         result }
 {
-    let merged = workers.merge(alloc, sources)?;
+    let merged = merge(sorting, alloc, sources)?;
     let chart = draw_merged(alloc, &merged)?;
     send_lines(alloc, sources, &chart, width, every, out)?;
     Ok(())
@@ -94,7 +96,7 @@ fn send_moments<W: Outlet>(
     for source in sources.order() {
         growing.take(*source as usize);
         at += 1;
-        send_due(alloc, &growing, at, every, width, out)?;
+        send_due(alloc, &mut growing, at, every, width, out)?;
     }
     Ok(())
 }
@@ -102,7 +104,7 @@ fn send_moments<W: Outlet>(
 // Sends the line of the samples that came so far, if a snapshot is due after so many.
 fn send_due<W: Outlet>(
     alloc: Global,
-    growing: &GrowingStacks<'_>,
+    growing: &mut GrowingStacks<'_>,
     at: u64,
     every: u64,
     width: Width,
@@ -110,20 +112,23 @@ fn send_due<W: Outlet>(
 ) -> Result<(), PieceFault>
     requires { 1 ≤ every }
     ensures ok { OnOk result
-        (Appends (W.contents out.old) (W.contents out.new) (due_line width every at growing.now)) }
+        (Appends (W.contents out.old) (W.contents out.new) (due_line width every at growing.old)) }
     ensures front { OnErr result
-        (AppendsFront (due_line width every at growing.now) (W.contents out.old) (W.contents out.new)) }
+        (AppendsFront (due_line width every at growing.old) (W.contents out.old) (W.contents out.new)) }
     ensures output { IsErrOf result PieceFault.Output
         → W.failures out.new ≡ one_more (W.failures out.old) }
     ensures unfailed { result ≢ Err PieceFault.Output → W.failures out.new ≡ W.failures out.old }
+    ensures lists { growing.new.lists ≡ growing.old.lists }
+    ensures counts { growing.new.counts ≡ growing.old.counts }
 {
     if at % every == 0 {
+        growing.merge(alloc)?;
         send_moment(alloc, growing, at, width, out)?;
     }
     Ok(())
 }
 
-// Sends the line of the samples that came so far.
+// Sends the line of the samples that came so far, whose stacks were merged.
 fn send_moment<W: Outlet>(
     alloc: Global,
     growing: &GrowingStacks<'_>,
@@ -131,6 +136,8 @@ fn send_moment<W: Outlet>(
     width: Width,
     out: &mut W,
 ) -> Result<(), PieceFault>
+    requires { ranked_samples growing.now.merged
+        ≡ merged_samples (all_samples (fronts growing.now.lists growing.now.counts)) }
     ensures ok { OnOk result
         (Appends (W.contents out.old) (W.contents out.new) (moment_line width at growing.now)) }
     ensures front { OnErr result
@@ -139,12 +146,9 @@ fn send_moment<W: Outlet>(
         → W.failures out.new ≡ one_more (W.failures out.old) }
     ensures unfailed { result ≢ Err PieceFault.Output → W.failures out.new ≡ W.failures out.old }
 {
-    let moment = growing.merged(alloc)?;
-    let total = moment.total();
-    let stacks = moment.by_rank();
-    let chart = draw_ordered(alloc, &stacks, total)?;
-    let boxes = copied(alloc, &chart)?;
-    let scale = Scale { total, width };
-    let line = drawn_snapshot_line(at, growing.counts(), boxes.as_slice(), scale);
+    let stacks = growing.merged();
+    let chart = draw_merged(alloc, stacks)?;
+    let total = stacks.total();
+    let line = drawn_snapshot_line(at, growing.counts(), &chart, Scale { total, width });
     send_pieces(alloc, &line, out)
 }

@@ -17,10 +17,11 @@ use crate::functions::weigh_functions;
 use crate::long_texts::OneOf;
 use crate::snapshot_texts::send_snapshots;
 use crate::view_set::Views;
-use crate::workers::{Alone, Workers, send_text};
+use crate::workers::{Workers, merge, send_text};
 use byte_io::{CountedWriter, Outlet, truncate_on_error};
 use command_line::{TopTable, View};
 use flame_layout::{Width, draw_merged, draw_paired};
+use merged_stacks::{Alone, PairedStacks};
 use opened_sources::Failure;
 use source_lists::SourceLists;
 use stack_core::SourceList;
@@ -112,7 +113,7 @@ fn send_fold<H: Workers, W: Outlet>(
     ensures flushed { Flushes (W.is_flushed out.new) (W.failures out.old) (W.failures out.new)
         result }
 {
-    let merged = workers.merge(alloc, sources)?;
+    let merged = merge(workers, alloc, sources)?;
     workers.send(alloc, &OneOf::First(FoldedText::of(&merged)), out)
 }
 
@@ -150,7 +151,7 @@ fn send_graph<H: Workers, W: Outlet>(
     ensures flushed { Flushes (W.is_flushed out.new) (W.failures out.old) (W.failures out.new)
         result }
 {
-    let merged = workers.merge(alloc, sources)?;
+    let merged = merge(workers, alloc, sources)?;
     let chart = draw_merged(alloc, &merged)?;
     let line = drawn_graph(sources, &chart, width);
     workers.send(alloc, &OneOf::Second(OneOf::First(line)), out)
@@ -192,7 +193,7 @@ fn send_pairs<H: Workers, W: Outlet>(
         result }
 {
     let lists = sources.lists();
-    let stacks = workers.pair(alloc, &lists[0], &lists[1])?;
+    let stacks = PairedStacks::of(alloc, &lists[0], &lists[1], workers)?;
     send_text(alloc, &PairedText::of(&stacks), out)
 }
 
@@ -212,7 +213,7 @@ fn send_compared<H: Workers, W: Outlet>(
     ensures flushed { Flushes (W.is_flushed out.new) (W.failures out.old) (W.failures out.new)
         result }
 {
-    let stacks = workers.pair(alloc, before, after)?;
+    let stacks = PairedStacks::of(alloc, before, after, workers)?;
     let boxes = draw_paired(alloc, &stacks, before, after)?;
     let total = after.total() as u64;
     let scale = Scale { total, width };

@@ -1,38 +1,22 @@
 //! Who makes a text: this thread alone, or a few where there is much to do.
-ghost use Rattle.std.specs.Prelude.{◌≡◌, ◌<◌, ◌^◌, IfOk, length};
+ghost use Rattle.std.specs.Prelude.{◌<◌, ◌^◌, IfOk, length};
 ghost use Rattle.std.specs.List.{concat};
 ghost use Rattle.flame_layout.specs.Paths.{SameOwn};
-ghost use Rattle.merged_stacks.specs.Paired.{paired_stacks};
-ghost use Rattle.merged_stacks.specs.Timeline.{samples_of, total_weight};
+ghost use Rattle.merged_stacks.specs.RankedStacks.{ranked_samples};
+ghost use Rattle.merged_stacks.specs.Timeline.{samples_of};
 ghost use Rattle.merging.specs.Sums.{all_samples};
 ghost use Rattle.opened_sources.specs.Failures.{Flushes, Sends};
 
 use crate::long_texts::LongText;
 use byte_io::{Outlet, Pieces, send_pieces, send_pieces_in_threads};
-use merged_stacks::{MergedStacks, PairedStacks};
+use merged_stacks::{Alone, InThreads, MergedStacks, Sorting};
 use opened_sources::Failure;
 use source_lists::SourceLists;
-use stack_core::SourceList;
 use std::alloc::{AllocError, Global};
 use std::thread::Threads;
 
-/// What merges stacks and sends texts.
-pub trait Workers {
-    /// The stacks of all samples, each once.
-    fn merge(&self, alloc: Global, sources: &SourceLists) -> Result<MergedStacks, AllocError>
-        ensures { IfOk result (SameOwn (all_samples (samples_of sources.now.lists))) };
-
-    /// The stacks of two lists, side by side.
-    fn pair(
-        &self,
-        alloc: Global,
-        before: &SourceList,
-        after: &SourceList,
-    ) -> Result<PairedStacks, AllocError>
-        requires before { total_weight before.now.samples < 2 ^ 64 }
-        requires after { total_weight after.now.samples < 2 ^ 64 }
-        ensures { IfOk result (λ stacks. stacks ≡ paired_stacks before.now.samples after.now.samples) };
-
+/// What sorts stacks and sends texts: this thread alone, or a few where there is much to do.
+pub trait Workers: Sorting {
     /// Sends a text while it is made.
     fn send<W: Outlet>(
         &self,
@@ -47,24 +31,7 @@ pub trait Workers {
             result };
 }
 
-/// This thread alone.
-#[derive(Clone, Copy, Debug)]
-pub struct Alone;
-
 impl Workers for Alone {
-    fn merge(&self, alloc: Global, sources: &SourceLists) -> Result<MergedStacks, AllocError> {
-        MergedStacks::of(alloc, sources.lists())
-    }
-
-    fn pair(
-        &self,
-        alloc: Global,
-        before: &SourceList,
-        after: &SourceList,
-    ) -> Result<PairedStacks, AllocError> {
-        PairedStacks::of(alloc, before, after)
-    }
-
     fn send<W: Outlet>(
         &self,
         alloc: Global,
@@ -75,27 +42,7 @@ impl Workers for Alone {
     }
 }
 
-/// A few threads where there are many stacks, or the text is long.
-#[derive(Clone, Copy)]
-pub struct InThreads<'a, R> {
-    /// What starts the threads.
-    pub rt: &'a R,
-}
-
 impl<R: Threads> Workers for InThreads<'_, R> {
-    fn merge(&self, alloc: Global, sources: &SourceLists) -> Result<MergedStacks, AllocError> {
-        MergedStacks::of_in_threads(self.rt, alloc, sources.lists())
-    }
-
-    fn pair(
-        &self,
-        alloc: Global,
-        before: &SourceList,
-        after: &SourceList,
-    ) -> Result<PairedStacks, AllocError> {
-        PairedStacks::of_in_threads(self.rt, alloc, before, after)
-    }
-
     fn send<W: Outlet>(
         &self,
         alloc: Global,
@@ -104,6 +51,18 @@ impl<R: Threads> Workers for InThreads<'_, R> {
     ) -> Result<(), Failure> {
         send_long_text(self.rt, alloc, text, out)
     }
+}
+
+/// The stacks of all samples, each once.
+pub fn merge<S: Sorting>(
+    sorting: &S,
+    alloc: Global,
+    sources: &SourceLists,
+) -> Result<MergedStacks, AllocError>
+    ensures { IfOk result (λ merged.
+        SameOwn (all_samples (samples_of sources.now.lists)) (ranked_samples merged)) }
+{
+    MergedStacks::of(alloc, sources.lists(), sorting)
 }
 
 /// Sends a text while it is made.

@@ -1,6 +1,6 @@
 //! What gives the samples of a source, one after another.
 
-ghost use Rattle.std.specs.Prelude.{◌≡◌, ◌<◌, ◌≤◌, ◌^◌, length, IfOk, OnOk, OnErr, IsOk, MatchOption};
+ghost use Rattle.std.specs.Prelude.{◌≡◌, ◌<◌, ◌≤◌, ◌^◌, ◌↔◌, length, IfOk, OnOk, OnErr, IsOk, MatchOption};
 ghost use Rattle.stack_core.specs.Prefixes.{IsPrefixOf};
 ghost use Rattle.stack_core.specs.Reading.{Steps, IsEnd, IsWithinLimits, Rest};
 ghost use Rattle.stack_core.specs.RowReading.{GivesSome, StepsAmong, IsLastStep, IsLimitedStep};
@@ -84,6 +84,16 @@ pub trait RowReader {
         ensures possible { GivesSome (gives self.new) }
         ensures ended { IfOk result (λ step. IsLastStep step → has_ended self.new) }
         ensures repeats { has_ended self.old → IsOk result };
+
+    /// Whether the next `next_row` may wait for bytes that are still to come; never, unless the reader knows better. What it may give and
+    /// what it told stay.
+    fn may_wait(&mut self) -> bool
+        ensures gives { (rest : Rest) → gives self.new rest ↔ gives self.old rest }
+        ensures told { told self.new ≡ told self.old }
+        ensures ended { has_ended self.old → has_ended self.new }
+    {
+        false
+    }
 
     /// The name of this number, also where want of memory kept a step from giving it.
     fn name(&self, number: usize) -> Option<&str>

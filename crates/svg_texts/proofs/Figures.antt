@@ -1,16 +1,20 @@
 -- Bytes of numbers, colours and the literal parts of a picture.
-use Rattle.std.proofs.Common.{◌≡◌, ℕ, zero, suc, ◌+◌, ◌*◌, ◌/◌, ◌%◌, ◌^◌, ◌<◌, ◌≤◌, ◌⊎◌, inl, inr, Bool, true, false, not, cond, ◌&&◌, ◌||◌, ◌==◌, eqb, List, [], ◌∷◌, ◌++◌, length, decimal, refl, subst, arith, pow-suc, mod-lt, div-lt_iff_lt-mul, lt-ltb, le-ltb, nat_lt, ◌-◌}
+use Rattle.std.proofs.Common.{◌≡◌, ℕ, zero, suc, ◌+◌, ◌*◌, ◌/◌, ◌%◌, ◌^◌, ◌<◌, ◌≤◌, ◌⊎◌, inl, inr, Bool, true, false, not, cond, ◌&&◌, ◌||◌, ◌==◌, eqb, List, [], ◌∷◌, ◌++◌, length, decimal, Option, Some, None, refl, subst, arith, pow-suc, mod-lt, div-lt_iff_lt-mul, lt-ltb, le-ltb, nat_lt, ◌-◌}
 use Rattle.std.proofs.lemmas.Bool.{and_from, and_parts, cases_Bool, cases_lt, or_right}
 use Rattle.std.proofs.lemmas.Bool.Decides.{nat_tests}
 use Rattle.std.specs.Fmt.{digits, digits_onto, digit_glyph}
-use Rattle.std.specs.Int.{is_in_range}
+use Rattle.std.specs.Int.{abs_diff, is_in_range}
 use Rattle.std.specs.List.{list_all}
 use Rattle.std.specs.Prelude.{codes}
 use Rattle.weight_texts.proofs.Places.{ten_some}
 use Rattle.weight_texts.specs.Quotients.{comma_before, with_commas, grouped, fraction, placed, decimals, nearest, quotient_text}
-use Rattle.weight_texts.specs.Shares.{percent_text}
+use Rattle.weight_texts.specs.Shares.{percent_text, points_sign, points_text}
+use Rattle.function_sums.specs.FunctionChanges.{share_after, share_before}
+use Rattle.function_sums.specs.declared.changes.Change.{Change}
+use Rattle.svg_texts.specs.Changes.{colour_by, compared_fill}
 use Rattle.svg_texts.specs.Fills.{name_fill, fill_of_number, colour_of, hash_of, saturation, fill_of_shade, shade, change_fill}
 use Rattle.svg_texts.specs.Shown.{hexadecimal, number_text}
+use Rattle.svg_texts.specs.declared.changes.Compared.{Compared}
 use Rattle.svg_texts.proofs.Inert.{is_calm}
 
 -- ---- tests of each byte
@@ -159,6 +163,15 @@ quiet-percent parts =
     both (decimal (parts / 100)) _ (quiet-decimal (parts / 100))
     (more 46 _ refl (more (48 + parts / 10 % 10) _ (figure (48 + parts / 10 % 10) (omega arith) (omega arith)) (more (48 + parts % 10) _ (figure (48 + parts % 10) (omega arith) (omega arith)) (quiet (37 ∷ []) refl))))
 
+pub quiet-points : (before after : ℕ) → AreQuiet (points_text before after)
+quiet-points before after =
+    both (points_sign before after) _ (sign (nat_lt before after) (nat_lt after before)) (quiet-percent (abs_diff before after))
+  where
+    sign : (more less : Bool) → AreQuiet (cond more (codes "+") (cond less (codes "-") []))
+    sign true less = quiet (codes "+") refl
+    sign false true = quiet (codes "-") refl
+    sign false false = none
+
 -- ---- the number of a character
 
 quiet-hexadecimal : (digit : ℕ) → digit < 16 → is_quiet (hexadecimal digit) ≡ true
@@ -201,3 +214,10 @@ quiet-change before after = by (before == after)
     by : (b : Bool) → AreQuiet (cond b (fill_of_shade 6 0) (fill_of_shade (cond (nat_lt before after) 6 213) (shade before after)))
     by true = quiet-of_shade 6 0
     by false = quiet-of_shade (cond (nat_lt before after) 6 213) (shade before after)
+
+pub quiet-compared : (compared : Compared) → AreQuiet (compared_fill compared)
+quiet-compared compared = by compared.whole
+  where
+    by : (whole : Option Change) → AreQuiet (colour_by whole compared.weights)
+    by None = quiet-change compared.weights.before compared.weights.after
+    by (Some whole) = quiet-change (share_before whole compared.weights) (share_after whole compared.weights)

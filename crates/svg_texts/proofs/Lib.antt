@@ -13,6 +13,7 @@ pub mod PicturePieces
 pub mod PictureTags
 pub mod Plain
 pub mod SaidTexts
+pub mod Shades
 pub mod Tags
 pub mod Utf8
 pub mod Visible

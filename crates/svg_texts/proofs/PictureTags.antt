@@ -6,17 +6,18 @@ use lib.Utf8.{encode}
 use Rattle.std.specs.List.{flat_map, list_all}
 use Rattle.std.specs.Prelude.{codes, IsUtf8}
 use Rattle.std.specs.Str.{bytes_eq}
-use Rattle.weight_texts.specs.WeightTexts.{change_text}
 use Rattle.weight_texts.specs.Shares.{share_text}
 use Rattle.flame_layout.specs.Boxes.{SeenBox}
+use Rattle.svg_texts.specs.Changes.{said_change}
 use Rattle.svg_texts.specs.Fills.{root_fill, name_fill}
 use Rattle.svg_texts.specs.Labels.{room_on}
 use Rattle.svg_texts.specs.Shown.{shown}
-use Rattle.svg_texts.specs.Svg.{Picture, drawn, left_out, rows_of, height_of, left_of, right_of, top_of, is_drawn, weight_in, name_in_tip, weights_in_tip, tip, change_of, fill_with, fill_of, title_element, rect_element, text_tag, text_element, label_element, rectangle_of, written_on, box_line, svg_tag, paper_element, heading, narrower_boxes, told_left_out, own_weight, foot_text, foot, svg_text}
+use Rattle.svg_texts.specs.Svg.{Picture, drawn, left_out, rows_of, height_of, left_of, right_of, top_of, is_drawn, weight_in, name_in_tip, part_in, compared_in, both_in_tip, weights_in_tip, tip, change_of, fill_with, fill_of, title_element, rect_element, text_tag, text_element, label_element, rectangle_of, written_on, box_line, svg_tag, paper_element, heading, narrower_boxes, told_left_out, own_weight, foot_text, foot, svg_text}
+use Rattle.svg_texts.specs.declared.changes.Compared.{Compared}
 use Rattle.svg_texts.specs.SvgLaws.{is_inert, IsXmlText}
 use Rattle.svg_texts.specs.SvgTags.{tags, svg_tags, heading_tags, box_tags, label_tags, foot_tags, rectangles}
-use Rattle.svg_texts.proofs.Figures.{is_printed, is_inside, AreQuiet, quiet, quiet_inside, quiet-decimal, quiet-name, quiet-change}
-use Rattle.svg_texts.proofs.SaidTexts.{OfXml, is_xml, xml-both, xml-printed, IsSaid, said-both, literal as said-literal, said-quiet, said-none, said-shown, said-weight, said-share, said-change, said-label}
+use Rattle.svg_texts.proofs.Figures.{is_printed, is_inside, AreQuiet, quiet, quiet_inside, quiet-decimal, quiet-name, quiet-compared}
+use Rattle.svg_texts.proofs.SaidTexts.{OfXml, is_xml, xml-both, xml-printed, IsSaid, said-both, literal as said-literal, said-quiet, said-none, said-shown, said-weight, said-share, said-compared, said-label}
 use Rattle.svg_texts.proofs.Tags.{HasTags, is_closed, is_tag_rest, rest-more, tags-both, tags-inert, tags-tag, printed-rest}
 
 -- ---- what is said
@@ -34,24 +35,36 @@ said-name : {given : Type 0} (name : List ℕ) → (given → IsUtf8 name) → I
 said-name [] is = said-literal (codes "(empty name)") refl
 said-name (byte ∷ rest) is = said-shown (byte ∷ rest) is
 
-said-weights : {given : Type 0} (picture : Picture) (weight : ℕ) (before : Option ℕ) → (given → IsUtf8 picture.unit) → IsSaid given (weights_in_tip picture weight before)
-said-weights picture weight None unit = said-in picture weight unit
-said-weights picture weight (Some before) unit =
+said-part : {given : Type 0} (picture : Picture) (whole weight : ℕ) → (given → IsUtf8 picture.unit) → IsSaid given (part_in picture whole weight)
+said-part picture whole weight unit =
+    said-both (weight_in picture weight) _ (said-in picture weight unit) (said-both (codes ", ") (share_text whole weight) (said-literal (codes ", ") refl) (said-share whole weight))
+
+said-both_in : {given : Type 0} (picture : Picture) (total_before : Option ℕ) (before after : ℕ) → (given → IsUtf8 picture.unit) → IsSaid given (both_in_tip picture total_before before after)
+said-both_in picture None before after unit =
+    let change = said_change (compared_in picture before after) in
     said-both (codes "before ") _ (said-literal (codes "before ") refl) (said-both (weight_in picture before) _ (said-in picture before unit)
-    (said-both (codes ", after ") _ (said-literal (codes ", after ") refl) (said-both (weight_in picture weight) _ (said-in picture weight unit)
-    (said-both (codes ", ") (change_text before weight) (said-literal (codes ", ") refl) (said-change before weight)))))
+    (said-both (codes ", after ") _ (said-literal (codes ", after ") refl) (said-both (weight_in picture after) _ (said-in picture after unit)
+    (said-both (codes ", ") _ (said-literal (codes ", ") refl) (said-both change _ (said-compared (compared_in picture before after))
+    (said-both (codes ", ") (share_text picture.total after) (said-literal (codes ", ") refl) (said-share picture.total after)))))))
+said-both_in picture (Some total_before) before after unit =
+    said-both (codes "before ") _ (said-literal (codes "before ") refl) (said-both (part_in picture total_before before) _ (said-part picture total_before before unit)
+    (said-both (codes ", after ") _ (said-literal (codes ", after ") refl) (said-both (part_in picture picture.total after) _ (said-part picture picture.total after unit)
+    (said-both (codes ", points ") (said_change (compared_in picture before after)) (said-literal (codes ", points ") refl) (said-compared (compared_in picture before after))))))
+
+said-weights : {given : Type 0} (picture : Picture) (weight : ℕ) (before : Option ℕ) → (given → IsUtf8 picture.unit) → IsSaid given (weights_in_tip picture weight before)
+said-weights picture weight None unit = said-part picture picture.total weight unit
+said-weights picture weight (Some before) unit = said-both_in picture picture.total_before before weight unit
 
 pub said-tip : {given : Type 0} (picture : Picture) (box : SeenBox) → (given → IsUtf8 picture.unit) → (given → IsUtf8 box.span.name) → IsSaid given (tip picture box)
 unfolding tip
 said-tip picture box unit name =
     let span = box.span in
     said-both (name_in_tip span.name) _ (said-name span.name name) (said-both (codes ": ") _ (said-literal (codes ": ") refl)
-    (said-both (weights_in_tip picture span.weight box.before) _ (said-weights picture span.weight box.before unit) (said-both (codes ", ") _ (said-literal (codes ", ") refl)
-    (said-both (share_text picture.total span.weight) _ (said-share picture.total span.weight)
-    (said-both (codes ", own ") (weight_in picture span.own) (said-literal (codes ", own ") refl) (said-in picture span.own unit))))))
+    (said-both (weights_in_tip picture span.weight box.before) _ (said-weights picture span.weight box.before unit)
+    (said-both (codes ", own ") (weight_in picture span.own) (said-literal (codes ", own ") refl) (said-in picture span.own unit))))
 
 pub said-written : {given : Type 0} (picture : Picture) (box : SeenBox) → (given → IsUtf8 box.span.name) → IsSaid given (written_on picture box)
-said-written picture box name = said-label (room_on (right_of picture box - left_of picture box)) box.span.name (change_of box) name
+said-written picture box name = said-label (room_on (right_of picture box - left_of picture box)) box.span.name (change_of picture box) name
 
 dot : {given : Type 0} → IsSaid given (32 ∷ 194 ∷ 183 ∷ 32 ∷ [])
 unfolding encode
@@ -131,16 +144,16 @@ text-tag left base = tag _ (part (codes "text x=\"") _ refl (number left _ (part
 text : {given : Type 0} (left base : ℕ) (shows : List ℕ) → IsSaid given shows → Marks given (text_element left base shows) (text_tag left base ∷ codes "</text>" ∷ [])
 text left base shows is = marks-both (text_tag left base) _ (text-tag left base) (marks-both shows (codes "</text>") (said shows is) (literal (codes "</text>") refl))
 
-quiet-fill : (box : SeenBox) → AreQuiet (fill_of box)
-quiet-fill box = by box.before
+quiet-fill : (picture : Picture) (box : SeenBox) → AreQuiet (fill_of picture box)
+quiet-fill picture box = by (change_of picture box)
   where
     plain : (b : Bool) → AreQuiet (cond b root_fill (name_fill box.span.name))
     plain true = quiet root_fill refl
     plain false = quiet-name box.span.name
 
-    by : (before : Option ℕ) → AreQuiet (fill_with box.span before)
+    by : (compared : Option Compared) → AreQuiet (fill_with box.span compared)
     by None = plain (box.span.depth == 0)
-    by (Some before) = quiet-change before box.span.weight
+    by (Some compared) = quiet-compared compared
 
 rect-tag : {given : Type 0} (left top width : ℕ) (fill : List ℕ) → AreQuiet fill → Marks given (rect_element left top width fill) (rect_element left top width fill ∷ [])
 unfolding rect_element
@@ -169,7 +182,7 @@ box-marks : {given : Type 0} (picture : Picture) (rows : ℕ) (box : SeenBox) �
 unfolding box_line
 box-marks picture rows box unit name =
     marks-both (codes "<g>") _ (literal (codes "<g>") refl) (marks-both (title_element (tip picture box)) _ (title (tip picture box) (said-tip picture box unit name))
-    (marks-both (rectangle_of picture rows box) _ (rect-tag (left_of picture box) (top_of picture rows box) (right_of picture box - left_of picture box) (fill_of box) (quiet-fill box))
+    (marks-both (rectangle_of picture rows box) _ (rect-tag (left_of picture box) (top_of picture rows box) (right_of picture box - left_of picture box) (fill_of picture box) (quiet-fill picture box))
     (marks-both (label_element (left_of picture box + 4) (top_of picture rows box + 13) (written_on picture box)) (codes "</g>\n")
     (label-element (left_of picture box + 4) (top_of picture rows box + 13) (written_on picture box) (said-written picture box name)) (literal (codes "</g>\n") refl))))
 

@@ -10,12 +10,15 @@ use Rattle.std.specs.List.{flat_map, list_all, AllByRecursion}
 use Rattle.std.specs.Prelude.{codes, IsUtf8}
 use Rattle.std.specs.Str.{all_scalars, bytes_eq, chars, encode_utf8_all}
 use Rattle.weight_texts.specs.Quotients.{grouped, quotient_text}
-use Rattle.weight_texts.specs.Shares.{hundredths, share_text}
+use Rattle.function_sums.specs.declared.changes.Change.{Change}
+use Rattle.weight_texts.specs.Shares.{hundredths, points_text, share_text}
 use Rattle.weight_texts.specs.WeightTexts.{Step, step, step_of, stepped, time_steps, size_steps, unit_after, measure_of, measured_text, weight_text, change_sign, percent_change, change_text}
+use Rattle.svg_texts.specs.Changes.{said_change, said_of}
 use Rattle.svg_texts.specs.Labels.{places, places_of, front, cut, change_label, count_characters, label, label_of}
 use Rattle.svg_texts.specs.Shown.{is_unseen, number_text, visible, visible_character, xml_text, shown}
+use Rattle.svg_texts.specs.declared.changes.Compared.{Compared}
 use Rattle.svg_texts.specs.SvgLaws.{is_inert, is_of_xml, is_seen, IsXmlText}
-use Rattle.svg_texts.proofs.Figures.{all-append, all-weaker, is_printed, is_quiet, AreQuiet, quiet, quiet_printed, quiet_calm, quiet-grouped, quiet-quotient, quiet-percent, quiet-number}
+use Rattle.svg_texts.proofs.Figures.{all-append, all-weaker, is_printed, is_quiet, AreQuiet, quiet, quiet_printed, quiet_calm, quiet-grouped, quiet-quotient, quiet-percent, quiet-points, quiet-number}
 use Rattle.svg_texts.proofs.Inert.{inert-append, inert-calm, inert-xml}
 use Rattle.svg_texts.proofs.Utf8.{escaped, all_encoded}
 
@@ -339,6 +342,16 @@ said-change {given = given} before after = by (before == after) (before == 0) (a
     by false false true = literal (codes "gone") refl
     by false false false = said-percent before after
 
+pub said-compared : {given : Type 0} (compared : Compared) → IsSaid given (said_change compared)
+said-compared {given = given} compared = by compared.whole
+  where
+    by : (whole : Option Change) → IsSaid given (said_of whole compared.weights)
+    by None = said-change compared.weights.before compared.weights.after
+    by (Some whole) =
+        let before = hundredths whole.before compared.weights.before in
+        let after = hundredths whole.after compared.weights.after in
+        said-quiet (points_text before after) (quiet-points before after)
+
 -- ---- labels
 
 front-xml : (room : ℕ) (characters : List ℕ) → list_all is_fit characters ≡ true → list_all is_fit (front room characters) ≡ true
@@ -355,22 +368,22 @@ cut-xml : (characters : List ℕ) → list_all is_fit characters ≡ true → li
 cut-xml [] all = refl
 cut-xml (c ∷ rest) all = all-append is_fit (c ∷ rest) (8230 ∷ []) all refl
 
-said-change_label : {given : Type 0} (room : ℕ) (change : Option (ℕ × ℕ)) → IsSaid given (change_label room change)
+said-change_label : {given : Type 0} (room : ℕ) (change : Option Compared) → IsSaid given (change_label room change)
 said-change_label room None = said-none
-said-change_label {given = given} room (Some (before, after)) = by (nat_le (count_characters (change_text before after) + 1) room)
+said-change_label {given = given} room (Some compared) = by (nat_le (count_characters (said_change compared) + 1) room)
   where
-    by : (b : Bool) → IsSaid given (cond b (32 ∷ change_text before after) [])
-    by true = said-both (32 ∷ []) (change_text before after) (literal (32 ∷ []) refl) (said-change before after)
+    by : (b : Bool) → IsSaid given (cond b (32 ∷ said_change compared) [])
+    by true = said-both (32 ∷ []) (said_change compared) (literal (32 ∷ []) refl) (said-compared compared)
     by false = said-none
 
-said-label_of : {given : Type 0} (room : ℕ) (characters : List ℕ) (change : Option (ℕ × ℕ)) → (given → list_all is_fit characters ≡ true) → IsSaid given (label_of room characters change)
+said-label_of : {given : Type 0} (room : ℕ) (characters : List ℕ) (change : Option Compared) → (given → list_all is_fit characters ≡ true) → IsSaid given (label_of room characters change)
 said-label_of {given = given} room characters change all = by (nat_le (places_of characters) room)
   where
     by : (b : Bool) → IsSaid given (cond b (xml_text characters ++ change_label (room - places_of characters) change) (xml_text (cut (front (room - 1) characters))))
     by true = said-both (xml_text characters) _ (said-xml characters all) (said-change_label (room - places_of characters) change)
     by false = said-xml (cut (front (room - 1) characters)) (λ names. cut-xml (front (room - 1) characters) (front-xml (room - 1) characters (all names)))
 
-pub said-label : {given : Type 0} (room : ℕ) (name : List ℕ) (change : Option (ℕ × ℕ)) → (given → IsUtf8 name) → IsSaid given (label room name change)
+pub said-label : {given : Type 0} (room : ℕ) (name : List ℕ) (change : Option Compared) → (given → IsUtf8 name) → IsSaid given (label room name change)
 unfolding label
 said-label {given = given} room name change is = by (nat_lt room 2 || (length name == 0))
   where

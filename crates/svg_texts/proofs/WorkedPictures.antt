@@ -21,7 +21,7 @@ abbrev graph-boxes : List SeenBox
 graph-boxes =
     box 0 (codes "all") 0 10 0 None ∷ box 1 (codes "main") 0 10 1 None ∷ box 2 (codes "parse") 1 6 6 None ∷ box 2 (codes "read<int>") 7 3 3 None ∷ []
 
-graph : svg_text (record { title = (codes "three.folded"); unit = []; total = 10; width = 120; root_below = false }) graph-boxes
+graph : svg_text (record { title = (codes "three.folded"); unit = []; total = 10; total_before = None; width = 120; root_below = false }) graph-boxes
     ≡ (codes "<svg xmlns=\"http://www.w3.org/2000/svg\" width=\"120\" height=\"90\" viewBox=\"0 0 120 90\" font-family=\"monospace\" font-size=\"12\">\n"
     ++ (codes "<title>three.folded</title>\n"
     ++ (codes "<rect width=\"120\" height=\"90\" fill=\"#fbfbf9\"/>\n"
@@ -40,7 +40,7 @@ abbrev root_below-boxes : List SeenBox
 root_below-boxes =
     box 0 (codes "all") 0 100 0 None ∷ box 1 (codes "main") 0 100 1 None ∷ box 2 (codes "tiny") 1 1 1 None ∷ box 2 (codes "work") 2 98 98 None ∷ []
 
-root_below : svg_text (record { title = (codes "work"); unit = (codes "milliseconds"); total = 100; width = 30; root_below = true }) root_below-boxes
+root_below : svg_text (record { title = (codes "work"); unit = (codes "milliseconds"); total = 100; total_before = None; width = 30; root_below = true }) root_below-boxes
     ≡ (codes "<svg xmlns=\"http://www.w3.org/2000/svg\" width=\"30\" height=\"90\" viewBox=\"0 0 30 90\" font-family=\"monospace\" font-size=\"12\">\n"
     ++ (codes "<title>work</title>\n"
     ++ (codes "<rect width=\"30\" height=\"90\" fill=\"#fbfbf9\"/>\n"
@@ -58,7 +58,7 @@ abbrev comparison-boxes : List SeenBox
 comparison-boxes =
     box 0 (codes "all") 0 8 0 (Some 10) ∷ box 1 (codes "a") 0 3 3 (Some 8) ∷ box 1 (codes "b") 3 4 4 (Some 0) ∷ box 1 (codes "c") 7 1 1 (Some 1) ∷ []
 
-comparison : svg_text (record { title = (codes "before and after"); unit = (codes "bytes"); total = 8; width = 480; root_below = false }) comparison-boxes
+comparison : svg_text (record { title = (codes "before and after"); unit = (codes "bytes"); total = 8; total_before = None; width = 480; root_below = false }) comparison-boxes
     ≡ (codes "<svg xmlns=\"http://www.w3.org/2000/svg\" width=\"480\" height=\"72\" viewBox=\"0 0 480 72\" font-family=\"monospace\" font-size=\"12\">\n"
     ++ (codes "<title>before and after</title>\n"
     ++ (codes "<rect width=\"480\" height=\"72\" fill=\"#fbfbf9\"/>\n"
@@ -72,12 +72,27 @@ comparison : svg_text (record { title = (codes "before and after"); unit = (code
 unfolding svg_text heading foot box_line tip label shown svg_tag paper_element title_element rect_element text_tag name_fill change_fill weight_text quotient_text decimals change_text digits chars encode
 comparison = refl
 
+-- the same by shares: of 10 before, and of 8 after
+shares : svg_text (record { title = (codes "before and after"); unit = (codes "bytes"); total = 8; total_before = Some 10; width = 480; root_below = false }) comparison-boxes
+    ≡ (codes "<svg xmlns=\"http://www.w3.org/2000/svg\" width=\"480\" height=\"72\" viewBox=\"0 0 480 72\" font-family=\"monospace\" font-size=\"12\">\n"
+    ++ (codes "<title>before and after</title>\n"
+    ++ (codes "<rect width=\"480\" height=\"72\" fill=\"#fbfbf9\"/>\n"
+    ++ (codes "<text x=\"4\" y=\"15\">before and after</text>\n"
+    ++ (codes "<g><title>all: before 10 B, 100.00%, after 8 B, 100.00%, points 0.00%, own 0 B</title><rect x=\"0\" y=\"18\" width=\"480\" height=\"17\" fill=\"hsl(6, 0.0%, 88.0%)\"/><text x=\"4\" y=\"31\">all 0.00%</text></g>\n"
+    ++ (codes "<g><title>a: before 8 B, 80.00%, after 3 B, 37.50%, points -42.50%, own 3 B</title><rect x=\"0\" y=\"36\" width=\"180\" height=\"17\" fill=\"hsl(213, 54.8%, 76.0%)\"/><text x=\"4\" y=\"49\">a -42.50%</text></g>\n"
+    ++ (codes "<g><title>b: before 0 B, 0.00%, after 4 B, 50.00%, points +50.00%, own 4 B</title><rect x=\"180\" y=\"36\" width=\"240\" height=\"17\" fill=\"hsl(6, 74.0%, 68.0%)\"/><text x=\"184\" y=\"49\">b +50.00%</text></g>\n"
+    ++ (codes "<g><title>c: before 1 B, 10.00%, after 1 B, 12.50%, points +2.50%, own 1 B</title><rect x=\"420\" y=\"36\" width=\"60\" height=\"17\" fill=\"hsl(6, 35.5%, 84.0%)\"/><text x=\"424\" y=\"49\">c</text></g>\n"
+    ++ (codes "<text x=\"4\" y=\"67\">total 8 B</text>\n"
+    ++ codes "</svg>\n")))))))))
+unfolding svg_text heading foot box_line tip label shown svg_tag paper_element title_element rect_element text_tag name_fill change_fill weight_text quotient_text decimals change_text digits chars encode
+shares = refl
+
 -- an empty name, one with markup and a bell, wide letters that have room, and more than have
 abbrev hostile-boxes : List SeenBox
 hostile-boxes =
     box 0 (codes "all") 0 9 0 None ∷ box 1 [] 0 3 0 None ∷ box 2 (codes "a<b>&\"'" ++ 7 ∷ []) 0 3 3 None ∷ box 1 (encode_utf8_all (codes "日本語")) 3 3 3 None ∷ box 1 (encode_utf8_all (codes "日本語日本語")) 6 3 3 None ∷ []
 
-hostile : svg_text (record { title = (codes "<t>"); unit = (codes "req<s>"); total = 9; width = 270; root_below = false }) hostile-boxes
+hostile : svg_text (record { title = (codes "<t>"); unit = (codes "req<s>"); total = 9; total_before = None; width = 270; root_below = false }) hostile-boxes
     ≡ (codes "<svg xmlns=\"http://www.w3.org/2000/svg\" width=\"270\" height=\"90\" viewBox=\"0 0 270 90\" font-family=\"monospace\" font-size=\"12\">\n"
     ++ (codes "<title>&lt;t&gt;</title>\n"
     ++ (codes "<rect width=\"270\" height=\"90\" fill=\"#fbfbf9\"/>\n"
@@ -97,7 +112,7 @@ abbrev nothing-boxes : List SeenBox
 nothing-boxes =
     []
 
-nothing : svg_text (record { title = (codes "empty"); unit = []; total = 0; width = 200; root_below = false }) nothing-boxes
+nothing : svg_text (record { title = (codes "empty"); unit = []; total = 0; total_before = None; width = 200; root_below = false }) nothing-boxes
     ≡ (codes "<svg xmlns=\"http://www.w3.org/2000/svg\" width=\"200\" height=\"36\" viewBox=\"0 0 200 36\" font-family=\"monospace\" font-size=\"12\">\n"
     ++ (codes "<title>empty</title>\n"
     ++ (codes "<rect width=\"200\" height=\"36\" fill=\"#fbfbf9\"/>\n"

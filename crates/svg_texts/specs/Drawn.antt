@@ -7,6 +7,7 @@ picture_of picture = record {
   title = picture.title.now;
   unit = picture.unit.now;
   total = picture.total;
+  total_before = picture.total_before;
   width = picture.width;
   root_below = picture.root_below;
 }

@@ -24,7 +24,7 @@ fill_of_number number = codes "hsl(" ++ (decimal (10 * (number % 36)) ++ (codes 
 unfoldable pub name_fill : List ℕ → List ℕ
 name_fill name = fill_of_number (colour_of (hash_of name))
 
--- how much a weight changed, in tenths of the greater one, rounded up
+-- how much a weight or a share changed, in tenths of the greater one, rounded up
 abbrev pub shade : ℕ → ℕ → ℕ
 shade before after = (10 * (max before after - min before after) + max before after - 1) / max before after
 

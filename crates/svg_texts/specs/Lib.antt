@@ -1,4 +1,5 @@
 -- The definitions that the contracts of svg_texts cite.
+pub mod Changes
 pub mod Drawn
 pub mod Fills
 pub mod Labels

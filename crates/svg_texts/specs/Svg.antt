@@ -5,17 +5,22 @@ use Rattle.flame_layout.specs.declared.boxes.SpanBox.{SpanBox}
 use Rattle.flame_layout.specs.declared.boxes.ComparedBox.{ComparedBox}
 use Rattle.flame_layout.specs.Boxes.{SeenBox, paired_box, plain_box}
 use Rattle.flame_layout.specs.Edges.{left_edge, right_edge}
+use Rattle.function_sums.specs.declared.changes.Change.{Change}
 use Rattle.weight_texts.specs.WeightTexts.{weight_text, change_text}
 use Rattle.weight_texts.specs.Shares.{share_text}
+use Rattle.svg_texts.specs.Changes.{compared_fill, said_change}
 use Rattle.svg_texts.specs.Shown.{shown}
 use Rattle.svg_texts.specs.Labels.{room_on, label}
-use Rattle.svg_texts.specs.Fills.{root_fill, name_fill, change_fill}
+use Rattle.svg_texts.specs.Fills.{root_fill, name_fill}
+use Rattle.svg_texts.specs.declared.changes.Compared.{Compared}
 
--- what stands round the boxes, and how they are placed; the boxes span the total
+-- what stands round the boxes, and how they are placed; the boxes span the total, and where shares are compared, and not weights, the
+-- profile before has one too
 pub record Picture : Type 0 where
   pub title : List ℕ
   pub unit : List ℕ
   pub total : ℕ
+  pub total_before : Option ℕ
   pub width : ℕ
   pub root_below : Bool
 
@@ -58,32 +63,54 @@ abbrev pub name_in_tip : List ℕ → List ℕ
 name_in_tip [] = codes "(empty name)"
 name_in_tip (byte ∷ rest) = shown (byte ∷ rest)
 
+-- a weight, and its part of a whole
+abbrev pub part_in : Picture → ℕ → ℕ → List ℕ
+part_in picture whole weight = weight_in picture weight ++ (codes ", " ++ share_text whole weight)
+
+-- what both profiles weigh, where shares of that are compared
+abbrev pub whole_of : Picture → Option Change
+whole_of picture = option_map (λ before. record { before = before; after = picture.total }) picture.total_before
+
+-- a path's weights before and after, with what is compared of them
+abbrev pub compared_in : Picture → ℕ → ℕ → Compared
+compared_in picture before after = record {
+  weights = record { before = before; after = after };
+  whole = whole_of picture;
+}
+
+-- the weights of a path in both profiles and the change, with the part of the whole after, or where shares are compared with both
+abbrev pub both_in_tip : Picture → Option ℕ → ℕ → ℕ → List ℕ
+both_in_tip picture None before after =
+    codes "before " ++ (weight_in picture before ++ (codes ", after " ++ (weight_in picture after
+    ++ (codes ", " ++ (said_change (compared_in picture before after) ++ (codes ", " ++ share_text picture.total after))))))
+both_in_tip picture (Some total_before) before after =
+    codes "before " ++ (part_in picture total_before before ++ (codes ", after " ++ (part_in picture picture.total after
+    ++ (codes ", points " ++ said_change (compared_in picture before after)))))
+
 abbrev pub weights_in_tip : Picture → ℕ → Option ℕ → List ℕ
-weights_in_tip picture weight None = weight_in picture weight
-weights_in_tip picture weight (Some before) =
-    codes "before " ++ (weight_in picture before ++ (codes ", after " ++ (weight_in picture weight ++ (codes ", " ++ change_text before weight))))
+weights_in_tip picture weight None = part_in picture picture.total weight
+weights_in_tip picture weight (Some before) = both_in_tip picture picture.total_before before weight
 
 -- what is shown of a box while it is pointed at
 unfoldable pub tip : Picture → SeenBox → List ℕ
 tip picture box =
     name_in_tip box.span.name
     ++ (codes ": " ++ (weights_in_tip picture box.span.weight box.before
-    ++ (codes ", " ++ (share_text picture.total box.span.weight
-    ++ (codes ", own " ++ weight_in picture box.span.own)))))
+    ++ (codes ", own " ++ weight_in picture box.span.own)))
 
--- its path's weights before and after, where it is one of a comparison
-abbrev pub change_of : SeenBox → Option (ℕ × ℕ)
-change_of box = option_map (λ before. (before, box.span.weight)) box.before
+-- what is compared of its path, where it is one of a comparison
+abbrev pub change_of : Picture → SeenBox → Option Compared
+change_of picture box = option_map (λ before. compared_in picture before box.span.weight) box.before
 
 abbrev pub plain_fill : SpanBox → List ℕ
 plain_fill span = if span.depth == 0 then root_fill else name_fill span.name
 
-abbrev pub fill_with : SpanBox → Option ℕ → List ℕ
+abbrev pub fill_with : SpanBox → Option Compared → List ℕ
 fill_with span None = plain_fill span
-fill_with span (Some before) = change_fill before span.weight
+fill_with span (Some compared) = compared_fill compared
 
-abbrev pub fill_of : SeenBox → List ℕ
-fill_of box = fill_with box.span box.before
+abbrev pub fill_of : Picture → SeenBox → List ℕ
+fill_of picture box = fill_with box.span (change_of picture box)
 
 -- ---- the elements
 
@@ -107,11 +134,11 @@ label_element left base [] = []
 label_element left base (byte ∷ rest) = text_element left base (byte ∷ rest)
 
 abbrev pub rectangle_of : Picture → ℕ → SeenBox → List ℕ
-rectangle_of picture rows box = rect_element (left_of picture box) (top_of picture rows box) (right_of picture box - left_of picture box) (fill_of box)
+rectangle_of picture rows box = rect_element (left_of picture box) (top_of picture rows box) (right_of picture box - left_of picture box) (fill_of picture box)
 
 -- what stands on the rectangle
 abbrev pub written_on : Picture → SeenBox → List ℕ
-written_on picture box = label (room_on (right_of picture box - left_of picture box)) box.span.name (change_of box)
+written_on picture box = label (room_on (right_of picture box - left_of picture box)) box.span.name (change_of picture box)
 
 -- the line of a box
 unfoldable pub box_line : Picture → ℕ → SeenBox → List ℕ

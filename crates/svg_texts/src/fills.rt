@@ -1,9 +1,12 @@
 //! The colours of boxes.
-ghost use Rattle.std.specs.Prelude.{◌≡◌, ◌≢◌, ◌≤◌, ◌<◌, ◌++◌, OnOk, codes};
+ghost use Rattle.std.specs.Prelude.{◌≡◌, ◌≢◌, ◌*◌, ◌/◌, ◌≤◌, ◌<◌, ◌++◌, OnOk, codes};
 ghost use Rattle.std.specs.Io.{StartsWith};
+ghost use Rattle.svg_texts.specs.Changes.{compared_fill};
 ghost use Rattle.svg_texts.specs.Fills.{change_fill, colour_of, fill_of_number, fill_of_shade, hash_of, hash_step, name_fill, root_fill, saturation, shade};
 
+use crate::changes::Compared;
 use crate::numbers::append_number;
+use function_sums::{share_after, share_before};
 use std::alloc::AllocError;
 
 // Appends the colour of the root of a picture of one profile.
@@ -57,12 +60,26 @@ fn colour_of(hash: u32) -> u32
     (u64::from(hash) * 2_654_435_769 % 0x1_0000_0000 / 0x1_0000 % 108) as u32
 }
 
+// Appends the colour of how a path changed.
+pub(crate) fn append_compared_fill(out: &mut Vec<u8>, compared: Compared) -> Result<(), AllocError>
+    ensures ok { OnOk result (out.new.items ≡ out.old.items ++ compared_fill compared) }
+    ensures front { StartsWith out.new.items out.old.items }
+{
+    let Compared { weights, whole } = compared;
+    match whole {
+        None => append_change_fill(out, u128::from(weights.before), u128::from(weights.after)),
+        Some(whole) => {
+            append_change_fill(
+                out,
+                share_before(whole, weights),
+                share_after(whole, weights),
+            )
+        }
+    }
+}
+
 // Appends the colour of a change.
-pub(crate) fn append_change_fill(
-    out: &mut Vec<u8>,
-    before: u64,
-    after: u64,
-) -> Result<(), AllocError>
+fn append_change_fill(out: &mut Vec<u8>, before: u128, after: u128) -> Result<(), AllocError>
     ensures ok { OnOk result (out.new.items ≡ out.old.items ++ change_fill before after) }
     ensures front { StartsWith out.new.items out.old.items }
 {
@@ -73,14 +90,28 @@ pub(crate) fn append_change_fill(
     append_fill_of_shade(out, hue, shade(before, after))
 }
 
-// How much a weight changed, in tenths of the greater one, rounded up.
-fn shade(before: u64, after: u64) -> u64
+// How much a weight or a share changed, in tenths of the greater one, rounded up.
+fn shade(before: u128, after: u128) -> u64
     requires { before ≢ after }
     ensures shade { result ≡ shade before after }
     ensures most { result ≤ 10 }
 {
-    let most = u128::from(before.max(after));
-    ((10 * u128::from(before.abs_diff(after)) + most - 1) / most) as u64
+    let most = before.max(after);
+    let change = before.abs_diff(after);
+    let mut shade = 0;
+    while shade < 10 && tenths(most, shade) < change {
+        shade += 1;
+    }
+    shade
+}
+
+// So many tenths of a number, rounded down.
+fn tenths(number: u128, count: u64) -> u128
+    requires { count ≤ 10 }
+    ensures { result ≡ count * number / 10 }
+{
+    let count = u128::from(count);
+    count * (number / 10) + count * (number % 10) / 10
 }
 
 fn append_fill_of_shade(out: &mut Vec<u8>, hue: u64, shade: u64) -> Result<(), AllocError>

@@ -1,13 +1,12 @@
 //! What stands on a box.
-ghost use Rattle.std.specs.Prelude.{◌≡◌, ℕ, ◌-◌, ◌≤◌, ◌++◌, ◌<◌, ◌^◌, nat_le, Option, Some, None, OnOk, if◌then◌else◌};
+ghost use Rattle.std.specs.Prelude.{◌≡◌, ◌-◌, ◌≤◌, ◌++◌, ◌<◌, ◌^◌, nat_le, Some, None, OnOk, if◌then◌else◌};
 ghost use Rattle.std.specs.Io.{StartsWith};
-ghost use Rattle.weight_texts.specs.WeightTexts.{change_text};
 ghost use Rattle.svg_texts.specs.Labels.{change_label, change_within, count_characters, cut, front, label, places, places_of, room_on};
 ghost use Rattle.svg_texts.specs.Shown.{visible, visible_character, xml_text};
 
+use crate::changes::{Compared, append_said_change};
 use crate::shown_texts::{append_shown, append_xml, is_unseen, number_text};
 use std::alloc::AllocError;
-use weight_texts::append_change;
 
 // What an ellipsis is in UTF-8.
 const ELLIPSIS: [u8; 3] = [0xe2, 0x80, 0xa6];
@@ -20,13 +19,12 @@ pub(crate) fn room_on(pixels: u64) -> usize
     (pixels.saturating_sub(8) * 5 / 36) as usize
 }
 
-// Appends what stands on a box with room for so many characters: its name, and where there is room, how its weight changed
-// from before to after.
+// Appends what stands on a box with room for so many characters: its name, and where there is room, how it changed.
 pub(crate) fn append_label(
     out: &mut Vec<u8>,
     room: usize,
     name: &str,
-    change: Option<(u64, u64)>,
+    change: Option<Compared>,
 ) -> Result<(), AllocError>
     ensures ok { OnOk result (out.new.items ≡ out.old.items ++ label room name.now change) }
     ensures front { StartsWith out.new.items out.old.items }
@@ -76,17 +74,17 @@ fn places(character: char) -> usize
 fn append_change_label(
     out: &mut Vec<u8>,
     room: usize,
-    change: Option<(u64, u64)>,
+    change: Option<Compared>,
 ) -> Result<(), AllocError>
     ensures ok { OnOk result (out.new.items ≡ out.old.items ++ change_label room change) }
     ensures front { StartsWith out.new.items out.old.items }
 {
-    let Some((before, after)) = change else {
+    let Some(compared) = change else {
         return Ok(());
     };
     let start = out.len();
     out.push(b' ')?;
-    append_change(out, before, after)?;
+    append_said_change(out, compared)?;
     if count_characters(&out[start..]) > room {
         out.truncate(start);
     }

@@ -1,6 +1,7 @@
 //! Pictures in SVG: each box a rectangle with what is said of it, between a heading and a foot.
 #![tactic(auto)]
 
+mod changes;
 mod elements;
 mod fills;
 mod frames;

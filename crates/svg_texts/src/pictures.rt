@@ -11,6 +11,8 @@ pub struct Picture<'a> {
     pub unit: &'a str,
     /// The weight that the boxes span.
     pub total: u64,
+    /// What all samples of the profile before weigh, where a comparison is of shares of that and of the total, and not of weights.
+    pub total_before: Option<u64>,
     /// The width of the picture.
     pub width: Width,
     /// Whether the root is the lowest row. Else it is the highest.

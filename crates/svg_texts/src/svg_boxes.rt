@@ -4,19 +4,22 @@ ghost use Rattle.std.specs.Io.{StartsWith};
 ghost use Rattle.flame_layout.specs.Boxes.{seen_of, span_of};
 ghost use Rattle.svg_texts.specs.Labels.{label};
 ghost use Rattle.svg_texts.specs.Drawn.{picture_of};
-ghost use Rattle.svg_texts.specs.Svg.{box_line, change_of, fill_of, label_element, left_of, name_in_tip, plain_fill, rect_element, right_of, tip, title_element, top_of, weights_in_tip};
+ghost use Rattle.svg_texts.specs.Svg.{both_in_tip, box_line, change_of, compared_in, fill_of, label_element, left_of, name_in_tip, part_in, plain_fill, rect_element, right_of, tip, title_element, top_of, weights_in_tip, whole_of};
 ghost use Rattle.svg_texts.specs.checked.Pieces.{box_piece};
 
+use crate::changes::{Compared, append_said_change};
 use crate::elements::append_text_tag;
-use crate::fills::{append_change_fill, append_name_fill, append_root_fill};
+use crate::fills::{append_compared_fill, append_name_fill, append_root_fill};
 use crate::frames::Frame;
 use crate::labels::{append_label, room_on};
 use crate::numbers::append_number;
+use crate::pictures::Picture;
 use crate::said_weights::append_weight_in;
 use crate::shown_texts::append_shown;
 use flame_layout::{DrawnBox, PictureBox, edges};
+use function_sums::Change;
 use std::alloc::AllocError;
-use weight_texts::{append_change, append_share};
+use weight_texts::append_share;
 
 // Appends the line of a box, or nothing where its edges fall together.
 pub(crate) fn append_box(
@@ -55,8 +58,8 @@ fn append_box_line(
     let top = top_of(&one.drawn, frame);
     out.extend_from_slice(b"<g>")?;
     append_tip_element(out, one, frame)?;
-    append_rect_element(out, left, top, width, one)?;
-    append_label_element(out, left + 4, top + 13, room_on(width), one)?;
+    append_rect_element(out, left, top, width, one, frame.picture)?;
+    append_label_element(out, left + 4, top + 13, room_on(width), one, frame.picture)?;
     out.extend_from_slice(b"</g>\n")
 }
 
@@ -98,8 +101,6 @@ fn append_tip(out: &mut Vec<u8>, one: &PictureBox<'_>, frame: &Frame<'_>) -> Res
     append_name_in_tip(out, one.drawn.name)?;
     out.extend_from_slice(b": ")?;
     append_weights_in_tip(out, one.drawn.weight, one.before, frame)?;
-    out.extend_from_slice(b", ")?;
-    append_share(out, one.drawn.weight, frame.picture.total)?;
     append_weight_in(out, b", own ", one.drawn.own, frame)
 }
 
@@ -124,13 +125,58 @@ fn append_weights_in_tip(
         ++ weights_in_tip (picture_of frame.now.picture.now) weight before) }
     ensures front { StartsWith out.new.items out.old.items }
 {
-    let Some(before) = before else {
-        return append_weight_in(out, b"", weight, frame);
-    };
-    append_weight_in(out, b"before ", before, frame)?;
-    append_weight_in(out, b", after ", weight, frame)?;
+    let total = frame.picture.total;
+    match before {
+        None => append_part_in(out, b"", weight, total, frame),
+        Some(before) => append_both_in_tip(out, before, weight, frame),
+    }
+}
+
+// Appends the weights of a path in both profiles, and the change.
+fn append_both_in_tip(
+    out: &mut Vec<u8>,
+    before: u64,
+    after: u64,
+    frame: &Frame<'_>,
+) -> Result<(), AllocError>
+    ensures ok { OnOk result (out.new.items ≡ out.old.items
+        ++ both_in_tip (picture_of frame.now.picture.now) frame.now.picture.now.total_before before after) }
+    ensures front { StartsWith out.new.items out.old.items }
+{
+    let compared = compared_in(frame.picture, before, after);
+    match frame.picture.total_before {
+        None => {
+            append_weight_in(out, b"before ", before, frame)?;
+            append_weight_in(out, b", after ", after, frame)?;
+            out.extend_from_slice(b", ")?;
+            append_said_change(out, compared)?;
+            out.extend_from_slice(b", ")?;
+            append_share(out, after, frame.picture.total)
+        }
+        Some(total_before) => {
+            append_part_in(out, b"before ", before, total_before, frame)?;
+            append_part_in(out, b", after ", after, frame.picture.total, frame)?;
+            out.extend_from_slice(b", points ")?;
+            append_said_change(out, compared)
+        }
+    }
+}
+
+// Appends a literal piece, a weight, and its part of a whole.
+fn append_part_in(
+    out: &mut Vec<u8>,
+    piece: &[u8],
+    weight: u64,
+    whole: u64,
+    frame: &Frame<'_>,
+) -> Result<(), AllocError>
+    ensures ok { OnOk result (out.new.items
+        ≡ out.old.items ++ (piece.now ++ part_in (picture_of frame.now.picture.now) whole weight)) }
+    ensures front { StartsWith out.new.items out.old.items }
+{
+    append_weight_in(out, piece, weight, frame)?;
     out.extend_from_slice(b", ")?;
-    append_change(out, before, weight)
+    append_share(out, weight, whole)
 }
 
 // Appends the rectangle of a box.
@@ -141,34 +187,43 @@ fn append_rect_element(
     top: u64,
     width: u64,
     one: &PictureBox<'_>,
+    picture: &Picture<'_>,
 ) -> Result<(), AllocError>
     ensures ok { OnOk result (out.new.items ≡ out.old.items
-        ++ rect_element left top width (fill_of (seen_of one.now))) }
+        ++ rect_element left top width (fill_of (picture_of picture.now) (seen_of one.now))) }
     ensures front { StartsWith out.new.items out.old.items }
 {
     append_number(out, b"<rect x=\"", left)?;
     append_number(out, b"\" y=\"", top)?;
     append_number(out, b"\" width=\"", width)?;
-    append_fill_attribute(out, one)
+    append_fill_attribute(out, one, picture)
 }
 
 // Appends what stands behind the width of a box: its height and its colour.
-fn append_fill_attribute(out: &mut Vec<u8>, one: &PictureBox<'_>) -> Result<(), AllocError>
+fn append_fill_attribute(
+    out: &mut Vec<u8>,
+    one: &PictureBox<'_>,
+    picture: &Picture<'_>,
+) -> Result<(), AllocError>
     ensures ok { OnOk result (out.new.items ≡ out.old.items
-        ++ (codes "\" height=\"17\" fill=\"" ++ (fill_of (seen_of one.now) ++ codes "\"/>"))) }
+        ++ (codes "\" height=\"17\" fill=\"" ++ (fill_of (picture_of picture.now) (seen_of one.now) ++ codes "\"/>"))) }
     ensures front { StartsWith out.new.items out.old.items }
 {
     out.extend_from_slice(b"\" height=\"17\" fill=\"")?;
-    append_fill(out, one)?;
+    append_fill(out, one, picture)?;
     out.extend_from_slice(b"\"/>")
 }
 
-fn append_fill(out: &mut Vec<u8>, one: &PictureBox<'_>) -> Result<(), AllocError>
-    ensures ok { OnOk result (out.new.items ≡ out.old.items ++ fill_of (seen_of one.now)) }
+fn append_fill(
+    out: &mut Vec<u8>,
+    one: &PictureBox<'_>,
+    picture: &Picture<'_>,
+) -> Result<(), AllocError>
+    ensures ok { OnOk result (out.new.items ≡ out.old.items ++ fill_of (picture_of picture.now) (seen_of one.now)) }
     ensures front { StartsWith out.new.items out.old.items }
 {
-    match one.before {
-        Some(before) => append_change_fill(out, before, one.drawn.weight),
+    match change_of(one, picture) {
+        Some(compared) => append_compared_fill(out, compared),
         None => append_plain_fill(out, &one.drawn),
     }
 }
@@ -191,15 +246,16 @@ fn append_label_element(
     base: u64,
     room: usize,
     one: &PictureBox<'_>,
+    picture: &Picture<'_>,
 ) -> Result<(), AllocError>
     ensures ok { OnOk result (out.new.items ≡ out.old.items
-        ++ label_element left base (label room one.now.drawn.name.now (change_of (seen_of one.now)))) }
+        ++ label_element left base (label room one.now.drawn.name.now (change_of (picture_of picture.now) (seen_of one.now)))) }
     ensures front { StartsWith out.new.items out.old.items }
 {
     let start = out.len();
     append_text_tag(out, left, base)?;
     let inside = out.len();
-    append_label(out, room, one.drawn.name, change_of(one))?;
+    append_label(out, room, one.drawn.name, change_of(one, picture))?;
     if out.len() > inside {
         return out.extend_from_slice(b"</text>");
     }
@@ -207,10 +263,28 @@ fn append_label_element(
     Ok(())
 }
 
-// The weights of a box's path before and after, in a comparison.
-fn change_of(one: &PictureBox<'_>) -> Option<(u64, u64)>
-    ensures { result ≡ change_of (seen_of one.now) }
+// What is compared of a box's path, in a comparison.
+fn change_of(one: &PictureBox<'_>, picture: &Picture<'_>) -> Option<Compared>
+    ensures { result ≡ change_of (picture_of picture.now) (seen_of one.now) }
 {
     let before = one.before?;
-    Some((before, one.drawn.weight))
+    Some(compared_in(picture, before, one.drawn.weight))
+}
+
+// The weights of a path before and after, and what both profiles weigh, where shares are compared.
+fn compared_in(picture: &Picture<'_>, before: u64, after: u64) -> Compared
+    ensures { result ≡ compared_in (picture_of picture.now) before after }
+{
+    Compared {
+        weights: Change { before, after },
+        whole: whole_of(picture),
+    }
+}
+
+fn whole_of(picture: &Picture<'_>) -> Option<Change>
+    ensures { result ≡ whole_of (picture_of picture.now) }
+{
+    let before = picture.total_before?;
+    let after = picture.total;
+    Some(Change { before, after })
 }

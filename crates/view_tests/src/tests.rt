@@ -2,6 +2,7 @@
 mod faults;
 mod formats;
 mod gates;
+mod ledgers;
 mod live;
 mod readings;
 mod refusals;

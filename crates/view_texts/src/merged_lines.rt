@@ -6,6 +6,7 @@ ghost use Rattle.sample_tables.specs.declared.samples.Sample.{Sample};
 ghost use Rattle.sample_tables.specs.Rows.{sample_at};
 ghost use Rattle.flame_layout.specs.Paths.{SameOwn};
 ghost use Rattle.folded_lines.specs.Writing.{column_of, line_of};
+ghost use Rattle.merged_stacks.specs.RankedStacks.{ranked_samples};
 ghost use Rattle.view_texts.specs.Fold.{fold_text};
 ghost use Rattle.view_texts.specs.Pieces.{stack_lines};
 ghost use Rattle.view_texts.specs.checked.Joined.{joint};
@@ -27,9 +28,9 @@ impl<'a> FoldedText<'a> {
     /// The text of these stacks.
     pub fn of(merged: &'a MergedStacks) -> FoldedText<'a>
         ensures stacks { result.merged.now ≡ merged.now }
-        ensures text { (samples : List Sample) → SameOwn samples merged.now
-            → concat (stack_lines merged.now) ≡ fold_text samples }
-        ensures few { length merged.now < 2 ^ 64 }
+        ensures text { (samples : List Sample) → SameOwn samples (ranked_samples merged.now)
+            → concat (stack_lines (ranked_samples merged.now)) ≡ fold_text samples }
+        ensures few { length (ranked_samples merged.now) < 2 ^ 64 }
     {
         let _count = merged.len();
         FoldedText { merged }
@@ -37,7 +38,7 @@ impl<'a> FoldedText<'a> {
 }
 
 impl Pieces for FoldedText<'_> {
-    ghost pieces = { λ text. stack_lines text.merged.now };
+    ghost pieces = { λ text. stack_lines (ranked_samples text.merged.now) };
 
     fn count(&self) -> usize {
         self.merged.len()
@@ -50,9 +51,9 @@ impl Pieces for FoldedText<'_> {
 
 // Appends the line of a stack, or its front.
 fn append_stack(out: &mut Vec<u8>, merged: &MergedStacks, at: usize) -> Result<(), AllocError>
-    requires { at < length merged.now }
+    requires { at < length (ranked_samples merged.now) }
     ensures ok { OnOk result (out.new.items ≡ out.old.items
-        ++ line_of (sample_at merged.now at).stack (sample_at merged.now at).weight) }
+        ++ line_of (sample_at (ranked_samples merged.now) at).stack (sample_at (ranked_samples merged.now) at).weight) }
     ensures front { StartsWith out.new.items out.old.items }
 {
     append_names(out, merged, at)?;

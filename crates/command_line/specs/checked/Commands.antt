@@ -2,7 +2,7 @@
 use Rattle.std.specs.Prelude.{codes}
 use Rattle.clap.specs.Simple.{Shape}
 use Rattle.clap.specs.Walk.{Rule}
-use Rattle.command_line.specs.CommandLine.{any_files, boxes_flag, by_option, callees_command, callers_command, chart_command, compare_command, diff_command, every_option, exact_flag, fail_over_option, focus_option, fold_command, format_option, from_option, graph_command, hide_option, json_flag, least_option, lines_flag, live_command, one_value, output_option, page_flag, quiet_flag, ring_option, root_below_flag, rows_option, share_flag, strict_flag, svg_flag, title_option, top_command, type_option, types_command, unit_option, width_option}
+use Rattle.command_line.specs.CommandLine.{any_files, boxes_flag, by_option, callees_command, callers_command, chart_command, compare_command, diff_command, every_option, exact_flag, fail_over_option, focus_option, fold_command, format_option, from_option, graph_command, hide_option, json_flag, least_option, lines_flag, live_command, omit_option, one_value, output_option, page_flag, peek_command, quiet_flag, ring_option, root_below_flag, rows_option, share_flag, strict_flag, svg_flag, title_option, top_command, type_option, types_command, unit_option, width_option}
 use Rattle.command_line.specs.declared.argument_lists.Argument.{Argument}
 use Rattle.command_line.specs.declared.argument_lists.Argument.TheVariants as argument
 use Rattle.command_line.specs.declared.commands.Subcommand.{Subcommand}
@@ -15,6 +15,7 @@ rule_at argument.Format = format_option
 rule_at argument.Focus = focus_option
 rule_at argument.Hide = hide_option
 rule_at argument.From = from_option
+rule_at argument.Omit = omit_option
 rule_at argument.Ring = ring_option
 rule_at argument.Every = every_option
 rule_at argument.LiveEvery = every_option
@@ -34,6 +35,7 @@ rule_at argument.Page = page_flag
 rule_at argument.Svg = svg_flag
 rule_at argument.Title = title_option
 rule_at argument.RootBelow = root_below_flag
+rule_at argument.FormShare = share_flag
 rule_at argument.Least = least_option
 rule_at argument.Function = one_value (codes "function")
 rule_at argument.Files = any_files (codes "file")
@@ -52,4 +54,5 @@ shape_at subcommand.Top = top_command
 shape_at subcommand.Diff = diff_command
 shape_at subcommand.Callers = callers_command
 shape_at subcommand.Callees = callees_command
+shape_at subcommand.Peek = peek_command
 shape_at subcommand.Types = types_command

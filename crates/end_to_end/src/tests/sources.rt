@@ -123,9 +123,47 @@ fn begins_at_b<T: Threads + Wait + Copy + Send + 'static>(
 ) -> Result<bool, CollectFault> {
     let run = read_text(rt, alloc, b"a;b 2\nc 5\nd;b;c;b 4\na;bb 8\n", options)?;
     let name = Some(Text::from_str(alloc, "b")?);
-    let cut = run.kept.beginning_at(alloc, &name)?;
+    let cut = run.kept.shown(alloc, &name, &Names::of(Vec::new(alloc)))?;
     let lists = cut.lists();
     Ok(lists.len() == 1 && cut.order().len() == 2 && cut.total() == 6 && has_two_from_b(&lists[0]))
+}
+
+fn has_three_without_b(list: &SourceList) -> bool {
+    list.len() == 3
+        && list.weight(0) == 2
+        && list.depth(0) == 1
+        && list.name(0, 0) == "a"
+        && list.weight(1) == 5
+        && list.depth(1) == 0
+        && list.depth(2) == 2
+        && list.name(2, 0) == "d"
+        && list.name(2, 1) == "c"
+}
+
+/// Whether the frames `b` are taken out of the stacks of three samples, each of which stays.
+fn leaves_out_b<T: Threads + Wait + Copy + Send + 'static>(
+    rt: &T,
+    alloc: Global,
+    options: &Options,
+) -> Result<bool, CollectFault> {
+    let run = read_text(rt, alloc, b"a;b 2\nb 5\nd;b;c;b 4\n", options)?;
+    let shown = run
+        .kept
+        .shown(alloc, &None, &Names::from_strs(alloc, &["b"])?)?;
+    let lists = shown.lists();
+    Ok(
+        lists.len() == 1
+            && shown.order().len() == 3
+            && shown.total() == 11
+            && has_three_without_b(&lists[0]),
+    )
+}
+
+#[test]
+fn leaves_out_frames(rt: HostRuntime) -> Result<(), Fail> {
+    let filter = Filter::everything(rt.alloc());
+    let options = options_of(RingSize::of(8).unwrap(), filter);
+    holds(&rt, leaves_out_b(&rt, rt.alloc(), &options))
 }
 
 #[test]

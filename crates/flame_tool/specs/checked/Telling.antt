@@ -24,3 +24,4 @@ form_tells form.Types view = view_tells view
 form_tells form.Live view = view_tells view
 form_tells (form.Callers table) view = true
 form_tells (form.Callees table) view = true
+form_tells (form.Peek table) view = true

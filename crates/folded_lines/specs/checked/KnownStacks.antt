@@ -1,9 +1,10 @@
 -- Stacks that are known by the numbers of their names, and what a head has to do with them.
-use Rattle.std.specs.Prelude.{◌≡◌, ◌<◌, ◌≤◌, ◌+◌, ℕ, List, length, map, All, slice_range}
+use Rattle.std.specs.Prelude.{◌≡◌, ◌<◌, ◌≤◌, ◌+◌, ℕ, List, length, map, All, IfSome, Option, slice_range}
 use Rattle.std.specs.List.{join_with_byte}
 use Rattle.sample_tables.specs.Rows.{stack_at}
 use Rattle.stack_core.specs.Records.{names_at}
 use Rattle.folded_lines.specs.Lines.{names_of}
+use Rattle.folded_lines.specs.checked.Telling.{IsToldAs}
 use Rattle.folded_lines.specs.declared.known_stacks.KnownRow.{KnownRow}
 
 -- the stack of a row, among the numbers of all
@@ -39,3 +40,7 @@ pub record IsSpelled (names : List (List ℕ)) (frames bytes : List ℕ) : Type 
 pub record IsSpelledAt (names stacks : List (List ℕ)) (bytes : List ℕ) (row : ℕ) : Type 0 where
   pub known : row < length stacks
   pub spelled : IsSpelled names (stack_at stacks row) bytes
+
+-- a head that is kept was told as its row
+abbrev pub IsMet : List (List ℕ) → List (List ℕ) → List ℕ → Option ℕ → Type 0
+IsMet names stacks head row = IfSome row (IsToldAs (record { names = names; stacks = stacks }) head)

@@ -1,8 +1,10 @@
 -- A reader of a stream of bytes in memory gives one rest, with the proofs that its impl of KnownRows cites.
-use Rattle.std.proofs.Common.{◌≡◌, ◌<◌, ◌^◌, ℕ, ◌+◌, Bool, true, false, Option, Some, None, List, [], ◌++◌, length, refl, sym, ap, ◌∙◌}
+use Rattle.std.proofs.Common.{◌≡◌, ℕ, Bool, true, false, Option, Some, None, List, [], ◌++◌, refl, sym, ap, ◌∙◌}
 use borrow.Author.Tests.{clash}
+use Rattle.sample_tables.specs.Rows.{ToldRows}
 use Rattle.stack_core.specs.Reading.{Rest}
 use Rattle.stack_core.specs.declared.endings.SourceEnd.{SourceEnd}
+use Rattle.folded_lines.specs.State.{State}
 use Rattle.folded_lines.specs.Streams.{Coming, MayCome}
 use Rattle.folded_lines.specs.declared.cursor.Cursor.{Cursor}
 use Rattle.folded_lines.specs.declared.stream_lines.StreamState.{StreamState}
@@ -23,6 +25,14 @@ coming_of Failed left unread = record { bytes = []; fails = true }
 abbrev pub known_rest : {I : Type 0} → List ℕ → StreamLines I → Cursor → Option SourceEnd → Rest
 known_rest left lines counts None = rest_of counts (coming_of lines.state left (unread_of lines))
 known_rest left lines counts (Some ending) = ended ending
+
+abbrev pub has_ended : Option SourceEnd → Bool
+has_ended None = false
+has_ended (Some ending) = true
+
+-- what contracts see of a reader of them
+abbrev pub stream_state : {I : Type 0} → List ℕ → StreamLines I → Cursor → Option SourceEnd → ToldRows → State
+stream_state left lines counts at_end told = record { rest = known_rest left lines counts at_end; has_ended = has_ended at_end; told = told }
 
 coming_may : (state : StreamState) (left unread : List ℕ) → StateMayCome state (Some left) true unread (coming_of state left unread)
 coming_may Open left unread = record { later = left; of_known = refl; whole = λ fails. refl; failing = λ fails. absurd (clash fails) }

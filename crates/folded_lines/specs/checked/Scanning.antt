@@ -1,5 +1,5 @@
 -- What is left of a text at some line, by the counts of what stands before it.
-use Rattle.std.specs.Prelude.{◌≡◌, ◌≤◌, ℕ, ◌+◌, nat_lt, if◌then◌else◌, List, [], ◌∷◌, length, drop}
+use Rattle.std.specs.Prelude.{◌≤◌, ℕ, ◌+◌, nat_lt, if◌then◌else◌, List, [], ◌∷◌}
 use Rattle.stack_core.specs.Reading.{Rest}
 use Rattle.sample_tables.specs.Samples.{IsLimited}
 use Rattle.sample_tables.specs.declared.samples.TheConstants.{WEIGHT_LIMIT}
@@ -10,7 +10,7 @@ use Rattle.stack_core.specs.declared.endings.SourceEnd.TheVariants as ends
 use Rattle.folded_lines.specs.Line.{Line}
 use Rattle.folded_lines.specs.Line.{Ignored, Fault, Sample}
 use Rattle.folded_lines.specs.declared.cursor.Cursor.{Cursor}
-use Rattle.folded_lines.specs.Lines.{text_lines, read_line}
+use Rattle.folded_lines.specs.Lines.{read_line}
 
 -- a line after weights that add up to the total
 abbrev pub within_total : ℕ → Line → Line
@@ -36,24 +36,14 @@ scan taken ignored total (line ∷ lines) =
       | Sample sample ↦ followed_by sample (scan (taken + 1) ignored (total + sample.weight) lines)
     ]
 
-abbrev pub rest_at : List ℕ → Cursor → Rest
-rest_at bytes cursor = scan cursor.taken cursor.ignored cursor.total (text_lines (drop cursor.position bytes))
-
--- a place that a reader may have come to
-pub record IsPlace (bytes : List ℕ) (cursor : Cursor) : Type 0 where
-  pub within : cursor.position ≤ length bytes
-  pub lines : cursor.taken ≤ cursor.position
-  pub ignored : cursor.ignored ≤ cursor.taken
-  pub total : cursor.total ≤ WEIGHT_LIMIT
-
--- the place after a line that takes so many bytes
-abbrev pub place_after : Cursor → ℕ → Line → Cursor
-place_after cursor len Ignored =
-    record { position = cursor.position + len; taken = cursor.taken + 1; ignored = cursor.ignored + 1; total = cursor.total }
-place_after cursor len (Fault kind) =
-    record { position = cursor.position + len; taken = cursor.taken + 1; ignored = cursor.ignored; total = cursor.total }
-place_after cursor len (Sample sample) =
-    record { position = cursor.position + len; taken = cursor.taken + 1; ignored = cursor.ignored; total = cursor.total + sample.weight }
+-- the counts after a line
+abbrev pub place_after : Cursor → Line → Cursor
+place_after cursor Ignored =
+    record { taken = cursor.taken + 1; ignored = cursor.ignored + 1; total = cursor.total }
+place_after cursor (Fault kind) =
+    record { taken = cursor.taken + 1; ignored = cursor.ignored; total = cursor.total }
+place_after cursor (Sample sample) =
+    record { taken = cursor.taken + 1; ignored = cursor.ignored; total = cursor.total + sample.weight }
 
 -- what is left at a line, by what is left after it
 abbrev pub rest_from : Cursor → Line → Rest → Rest

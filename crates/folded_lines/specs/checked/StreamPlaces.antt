@@ -25,7 +25,6 @@ GivesAt known is_sure lines counts rest =
 
 -- a place that a reader may have come to; where no read fails, all that may come can be counted
 pub record IsStreamPlace {I : Type 0} (known : Option (List ℕ)) (is_sure : Bool) (lines : StreamLines I) (counts : Cursor) : Type 0 where
-  pub position : counts.position ≡ 0
   pub taken : counts.taken ≤ LINE_LIMIT
   pub ignored : counts.ignored ≤ counts.taken
   pub total : counts.total ≤ WEIGHT_LIMIT

@@ -1,14 +1,12 @@
--- What a reader of rows told, and what it knows of the heads that it met.
-use Rattle.std.specs.Prelude.{◌≡◌, ◌<◌, ℕ, ◌∷◌, ◌++◌, nat_lt, if◌then◌else◌, List, [], length, All, Contains, slice_range, Option, Some, None}
+-- What a reader of rows told, and the heads that were told.
+use Rattle.std.specs.Prelude.{◌≡◌, ◌<◌, ℕ, ◌∷◌, ◌++◌, nat_lt, if◌then◌else◌, List, [], length, All, Option, Some, None}
 use Rattle.stack_core.specs.NamesInOrder.{with_stack}
 use Rattle.stack_core.specs.Records.{names_at}
 use Rattle.sample_tables.specs.Rows.{ToldRows, stack_at}
 use Rattle.sample_tables.specs.declared.samples.TheConstants.{FRAME_LIMIT}
 use Rattle.stack_core.specs.declared.endings.ReadKind.{ReadKind}
 use Rattle.stack_core.specs.declared.endings.ReadKind.TheVariants.{TwoColumns, TooDeep}
-use Rattle.call_tree.specs.SpellingCache.{Spelling}
 use Rattle.folded_lines.specs.Lines.{columns, ends_in_number, names_of}
-use Rattle.folded_lines.specs.declared.telling.Telling.{Telling}
 
 -- what is wrong with a head, whatever its count
 abbrev pub head_fault : List ℕ → Option ReadKind
@@ -20,9 +18,6 @@ pub record IsNumbered (stack names names' : List (List ℕ)) (frames : List ℕ)
   pub named : names_at names' frames ≡ stack
   pub numbers : All (λ k. k < length names') frames
   pub in_order : names' ≡ with_stack names stack
-
-abbrev pub told_of : Telling → ToldRows
-told_of telling = record { names = telling.names; stacks = telling.history }
 
 -- a stack is told: those of its names that are new, and the numbers of all
 pub record TellsStack (stack : List (List ℕ)) (told : ToldRows) (names : List (List ℕ)) (frames : List ℕ) (told' : ToldRows) : Type 0 where
@@ -36,12 +31,3 @@ pub record IsToldAs (told : ToldRows) (head : List ℕ) (row : ℕ) : Type 0 whe
   pub numbers : All (λ k. k < length told.names) (stack_at told.stacks row)
   pub named : names_at told.names (stack_at told.stacks row) ≡ names_of head
   pub faultless : head_fault head ≡ None
-
--- each head that is known was told under its row
-abbrev pub AreToldAs : List ℕ → ToldRows → List Spelling → Type 0
-AreToldAs bytes told heads =
-    (spelling : Spelling) → Contains heads spelling → IsToldAs told (slice_range bytes spelling.start spelling.end) spelling.row
-
-pub record IsTelling (bytes : List ℕ) (telling : Telling) : Type 0 where
-  pub count : telling.stacks ≡ length telling.history
-  pub heads : AreToldAs bytes (told_of telling) telling.heads

@@ -10,7 +10,7 @@ use super::of_function_calls::append_calls;
 use super::of_function_sums::append_functions;
 use super::sources::{Lines, assert_light, assert_light_list, lists_of};
 use function_sums::{CallSide, Order};
-use merged_stacks::MergedStacks;
+use merged_stacks::{Alone, MergedStacks};
 use stack_core::SourceList;
 use std::alloc::AllocError;
 use std::process::Abort;
@@ -95,7 +95,7 @@ fn append_of_merged(
     lists: &[SourceList],
 ) -> Result<(), AllocError> {
     assert_light(rt, lists, 1_000);
-    let merged = MergedStacks::of(rt.alloc(), lists)?;
+    let merged = MergedStacks::of(rt.alloc(), lists, &Alone)?;
     append_merged(rt, text, told, &merged)
 }
 

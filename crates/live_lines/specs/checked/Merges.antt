@@ -15,8 +15,7 @@ pub record IsLiveMerge (pairs : List (ℕ × Sample)) (counts : List ℕ) (at to
   pub fits : total < 2 ^ 64
   pub depths : All (λ sample. length sample.stack ≤ FRAME_LIMIT) (samples_of_pairs pairs)
 
--- lines can be drawn with this sample, too
-pub record HasRoom (merge : LiveState) (sample : Sample) : Type 0 where
+-- lines can be drawn with a sample of this weight, too
+pub record HasRoom (merge : LiveState) (weight : ℕ) : Type 0 where
   pub more : length merge.taken + 1 < 2 ^ 64
-  pub fits : total_weight (samples_of_pairs merge.taken) + sample.weight < 2 ^ 64
-  pub depth : length sample.stack ≤ FRAME_LIMIT
+  pub fits : total_weight (samples_of_pairs merge.taken) + weight < 2 ^ 64

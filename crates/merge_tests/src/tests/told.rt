@@ -3,7 +3,7 @@
 use super::of_merged_stacks::pairs::{append_of_paired, append_pairs};
 use super::of_merged_stacks::{append_stacks, append_total};
 use super::sources::{Lines, assert_light, assert_light_list, lists_of};
-use merged_stacks::{MergedStacks, Side};
+use merged_stacks::{Alone, MergedStacks, Side};
 use stack_core::SourceList;
 use std::alloc::AllocError;
 use std::process::Abort;
@@ -55,7 +55,7 @@ fn append_of_merged(
     lists: &[SourceList],
 ) -> Result<(), AllocError> {
     assert_light(rt, lists, 1_000);
-    let merged = MergedStacks::of(rt.alloc(), lists)?;
+    let merged = MergedStacks::of(rt.alloc(), lists, &Alone)?;
     append_merged(text, told, &merged)
 }
 

@@ -1,5 +1,6 @@
 -- Lists of which some samples came, with the sums of the stacks that the lists keep.
-use Rattle.std.specs.Prelude.{◌≡◌, ℕ, ◌<◌, ◌^◌, List, length, map, take}
+use Rattle.std.specs.Prelude.{◌≡◌, ℕ, ◌<◌, ◌^◌, List, IsPermutation, length, map, take}
+use Rattle.std.specs.List.{range_with_len}
 use Rattle.sample_tables.specs.declared.samples.Sample.{Sample}
 use Rattle.sample_tables.specs.Rows.{named}
 use Rattle.stack_core.specs.Ledgers.{ListState}
@@ -27,8 +28,9 @@ lists_in parts = map (λ front. front.list) parts
 abbrev pub counts_in : List ListFront → List ℕ
 counts_in parts = map (λ front. front.count) parts
 
--- the sums are those of a list's first samples, and there is room for those of all
-pub record IsSummed (list : ListState) (sums : List ℕ) (count : ℕ) : Type 0 where
+-- the order is one of all stacks, the sums are those of a list's first samples, and there is room for those of all
+pub record IsSummed (list : ListState) (order sums : List ℕ) (count : ℕ) : Type 0 where
+  pub ordered : IsPermutation (range_with_len 0 (length list.stacks)) order
   pub len : length sums ≡ length list.stacks
   pub fits : length list.samples < 2 ^ 64
   pub total : total_weight list.samples < 2 ^ 64

@@ -3,12 +3,11 @@ use Rattle.std.specs.Prelude.{◌≡◌, ℕ, ◌<◌, ◌≤◌, ◌^◌, List,
 use Rattle.std.specs.List.{AllByRecursion}
 use Rattle.sample_tables.specs.declared.samples.Sample.{Sample}
 use Rattle.sample_tables.specs.declared.samples.TheConstants.{FRAME_LIMIT}
-use Rattle.sample_tables.specs.Rows.{Row, name_at}
+use Rattle.sample_tables.specs.Rows.{name_at}
 pub use Rattle.ranked_rows.specs.Joined.{Ranked, join_front, joined, AreAscending}
 use Rattle.merged_stacks.specs.Timeline.{Stack, total_weight}
 use Rattle.merged_stacks.specs.Merged.{weighed, Weighed, sum_at, are_in_order}
 use Rattle.merged_stacks.specs.Order.{AreRising}
-use Rattle.merged_stacks.specs.RankedStacks.{Ranking}
 
 -- a row by its names
 abbrev pub named_row : List (List ℕ) → Ranked → Weighed
@@ -16,17 +15,6 @@ named_row names row = (map (name_at names) row.0, row.1)
 
 abbrev pub named_rows : List (List ℕ) → List Ranked → List Weighed
 named_rows names rows = map (named_row names) rows
-
--- the same as a sample
-abbrev pub sample_of : List (List ℕ) → Ranked → Sample
-sample_of names row = record { stack = map (name_at names) row.0; weight = row.1 }
-
--- names and rows as what is lent of them
-abbrev pub lent_row : Ranked → Row
-lent_row row = record { frames = row.0; weight = row.1 }
-
-abbrev pub ranking_of : List (List ℕ) → List Ranked → Ranking
-ranking_of names rows = record { names = names; rows = map lent_row rows }
 
 -- a row with weight, within the limits, whose ranks all have names
 pub record IsRankedStack (names : List (List ℕ)) (row : Ranked) : Type 0 where

@@ -326,7 +326,7 @@ if (state.order !== 'place') words.push(`order=${state.order}`);
 if (state.drawing !== page.drawingCount - 1) words.push(`drawing=${state.drawing}`);
 if (state.below !== page.isBelow) words.push(state.below ? 'root=below' : 'root=above');
 if (state.lists >= 0) words.push(`lists=${state.lists}`);
-if (state.share) words.push('share=1');
+if (state.share !== page.isShare) words.push(state.share ? 'share=1' : 'share=0');
 if (state.heavy) words.push('heavy=1');
 if (state.beside) words.push('beside=1');
 if (state.packages) words.push('colours=package');
@@ -396,7 +396,7 @@ by: by === 'name' || by === 'regexp' ? by : 'text',
 order: words.get('order') === 'weight' ? 'weight' : 'place',
 below: page.isBelow ? words.get('root') !== 'above' : words.get('root') === 'below',
 lists: wholeNumber(words.get('lists'), WIDEST_LISTS),
-share: page.view === 'compare' && words.get('share') === '1',
+share: page.view === 'compare' && (page.isShare ? words.get('share') !== '0' : words.get('share') === '1'),
 packages: page.view !== 'compare' && words.get('colours') === 'package',
 };
 return { state, isDead: box < 0 };

@@ -31,6 +31,7 @@ const HEADING: Heading<'static> = Heading {
     least: None,
     whole: 3,
     is_root_below: false,
+    is_share: false,
 };
 
 // A source of folded text.

@@ -81,9 +81,13 @@ AreKept drawings kept = (kept.names ≡ page_names drawings) × AreAllKept kept.
 
 -- ---- the text of a drawing, in the parts in which it is written
 
--- what stands behind the names of a page that opens with the root below
-abbrev pub below_text : Bool → List ℕ
-below_text is_below = if is_below then codes ",\"root_below\":true" else []
+-- a text, where it is said
+abbrev pub text_if : Bool → List ℕ → List ℕ
+text_if is_said text = if is_said then text else []
+
+-- what stands behind the names of a page: whether it opens with the root below, and by shares
+abbrev pub opening_text : Bool → Bool → List ℕ
+opening_text is_below is_share = text_if is_below (codes ",\"root_below\":true") ++ text_if is_share (codes ",\"share\":true")
 
 -- a column after its key
 abbrev pub column_text : List ℕ → Column → List KeptBox → List ℕ

@@ -3,4 +3,9 @@ use Rattle.sent_views.specs.Pictures.{PictureFrame}
 use Rattle.sent_views.specs.declared.sent_pictures.Frame.{Frame}
 
 abbrev pub frame_of : Frame → PictureFrame
-frame_of frame = record { title = frame.title.now; unit = frame.unit.now; is_root_below = frame.is_root_below }
+frame_of frame = record {
+  title = frame.title.now;
+  unit = frame.unit.now;
+  is_root_below = frame.is_root_below;
+  is_share = frame.is_share;
+}

@@ -1,34 +1,20 @@
 //! The lines of a graph, written while its samples come.
 ghost use Rattle.std.specs.Prelude.{◌≤◌};
 
+use super::ledgers::ledger_of;
 use super::shown::{Given, see};
 use crate::tests::worked::{FIVE_LINES, SNAPSHOT_LINES};
 use flame_layout::Width;
 use flame_tool::{CountedWriter, Format, Outlet, View, Views, render};
 use live_lines::{LiveGate, LiveMerge, LiveSink};
 use ring_collect::CollectFault;
-use stack_core::{Names, Sample, Sink, SourceList};
+use stack_core::{Ledger, RowSink, SourceList};
 use std::alloc::{AllocError, Global};
 use std::sync::Arc;
 use std::test::Fail;
 
 /// How wide the graphs are.
 const WIDTH: u32 = 10;
-
-/// A sample of a list.
-fn sample_of(alloc: Global, list: &SourceList, at: usize) -> Result<Option<Sample>, AllocError> {
-    if at >= list.len() {
-        return Ok(None);
-    }
-    let mut names: Vec<String> = Vec::new(alloc);
-    for depth in 0..list.depth(at) {
-        names.push(String::from_str(alloc, list.name(at, depth))?)?;
-    }
-    Ok(Some(Sample {
-        stack: Names::of(names),
-        weight: list.weight(at),
-    }))
-}
 
 /// How many samples of a source came before this place of the order.
 fn came_before(order: &[u32], place: usize) -> usize {
@@ -41,18 +27,46 @@ fn came_before(order: &[u32], place: usize) -> usize {
         .count()
 }
 
+/// The ledgers of lists.
+fn ledgers_of(alloc: Global, lists: &[SourceList]) -> Result<Vec<Ledger>, AllocError> {
+    let mut ledgers = Vec::new(alloc);
+    for list in lists {
+        ledgers.push(ledger_of(alloc, list)?)?;
+    }
+    Ok(ledgers)
+}
+
+/// Hands the sink a sample of a list.
+fn feed_one<W: Outlet>(
+    alloc: Global,
+    sink: &mut LiveSink<'_, W>,
+    source: u32,
+    list: &SourceList,
+    ledger: &Ledger,
+    at: usize,
+) -> Result<(), AllocError> {
+    if at >= list.len() {
+        return Err(AllocError);
+    }
+    let row = list.stack_number(at);
+    if row >= ledger.stack_count() {
+        return Err(AllocError);
+    }
+    sink.take_row(alloc, source, ledger, row, list.weight(at))
+}
+
 /// Hands the sink the samples of a run in their order.
 fn feed<W: Outlet>(
     alloc: Global,
     views: &Views,
     sink: &mut LiveSink<'_, W>,
 ) -> Result<(), AllocError> {
+    let ledgers = ledgers_of(alloc, views.lists())?;
     for (place, source) in views.order().iter().enumerate() {
-        if let Some(list) = views.lists().get(*source as usize) {
+        let number = *source as usize;
+        if let (Some(list), Some(ledger)) = (views.lists().get(number), ledgers.get(number)) {
             let at = came_before(views.order(), place);
-            if let Some(sample) = sample_of(alloc, list, at)? {
-                sink.take(alloc, *source, &sample)?;
-            }
+            feed_one(alloc, sink, *source, list, ledger, at)?;
         }
     }
     Ok(())

@@ -8,6 +8,7 @@ mod gates;
 mod lists;
 mod refusals;
 mod rows;
+mod streams;
 
 use self::fakes::{CLEAN, Counts, Recorder, Tape};
 use self::lists::is_run;

@@ -8,20 +8,20 @@ use Rattle.command_line.proofs.refusals.check_entries.Goals as goal
 pub returns-then-not-knows_format-clause-refused : goal.returns-then-not-knows_format-clause-refused
 returns-then-not-knows_format-clause-refused c =
     let format : knows_format (entries_of c.args.entries.now) ≡ false = search rules in
-    refused_for (entries_of c.args.entries.now) kind.InvalidValue _ (refused_format (entries_of c.args.entries.now) format) c.refused_value.ensures
+    refused_for c.args.name.now (entries_of c.args.entries.now) kind.InvalidValue _ (refused_format c.args.name.now (entries_of c.args.entries.now) format) c.refused_value.ensures
 
 pub returns-then-not-knows_order-clause-refused : goal.returns-then-not-knows_order-clause-refused
 returns-then-not-knows_order-clause-refused c =
     let format : knows_format (entries_of c.args.entries.now) ≡ true = search rules in
     let order : knows_order (entries_of c.args.entries.now) ≡ false = search rules in
-    refused_for (entries_of c.args.entries.now) kind.InvalidValue _ (refused_order (entries_of c.args.entries.now) format order) c.refused_value-then-not-knows_order.ensures
+    refused_for c.args.name.now (entries_of c.args.entries.now) kind.InvalidValue _ (refused_order c.args.name.now (entries_of c.args.entries.now) format order) c.refused_value-then-not-knows_order.ensures
 
 pub returns-then-not-knows_unit-clause-refused : goal.returns-then-not-knows_unit-clause-refused
 returns-then-not-knows_unit-clause-refused c =
     let format : knows_format (entries_of c.args.entries.now) ≡ true = search rules in
     let order : knows_order (entries_of c.args.entries.now) ≡ true = search rules in
     let unit : knows_unit (entries_of c.args.entries.now) ≡ false = search rules in
-    refused_for (entries_of c.args.entries.now) kind.InvalidValue _ (refused_unit (entries_of c.args.entries.now) format order unit) c.refused_value-then-not-knows_unit.ensures
+    refused_for c.args.name.now (entries_of c.args.entries.now) kind.InvalidValue _ (refused_unit c.args.name.now (entries_of c.args.entries.now) format order unit) c.refused_value-then-not-knows_unit.ensures
 
 pub returns-in-Some-clause-refused : goal.returns-in-Some-clause-refused
 returns-in-Some-clause-refused c =
@@ -29,7 +29,7 @@ returns-in-Some-clause-refused c =
     let order : knows_order (entries_of c.args.entries.now) ≡ true = search rules in
     let unit : knows_unit (entries_of c.args.entries.now) ≡ true = search rules in
     let conflict : has_conflict (entries_of c.args.entries.now) ≡ true = search rules in
-    refused_for (entries_of c.args.entries.now) kind.ArgumentConflict _ (refused_conflict (entries_of c.args.entries.now) format order unit conflict) c.refused.ensures
+    refused_for c.args.name.now (entries_of c.args.entries.now) kind.ArgumentConflict _ (refused_conflict c.args.name.now (entries_of c.args.entries.now) format order unit conflict) c.refused.ensures
 
 pub returns-then-not-has_its_page-clause-refused : goal.returns-then-not-has_its_page-clause-refused
 returns-then-not-has_its_page-clause-refused c =
@@ -38,7 +38,7 @@ returns-then-not-has_its_page-clause-refused c =
     let unit : knows_unit (entries_of c.args.entries.now) ≡ true = search rules in
     let alone : has_conflict (entries_of c.args.entries.now) ≡ false = search rules in
     let page : has_its_page (entries_of c.args.entries.now) ≡ false = search rules in
-    refused_for (entries_of c.args.entries.now) kind.MissingRequiredArgument _ (refused_page (entries_of c.args.entries.now) format order unit alone page) c.refused-then-not-has_its_page.ensures
+    refused_for c.args.name.now (entries_of c.args.entries.now) kind.MissingRequiredArgument _ (refused_page c.args.name.now (entries_of c.args.entries.now) format order unit alone page) c.refused-then-not-has_its_page.ensures
 
 pub returns-then-not-has_its_form-clause-refused : goal.returns-then-not-has_its_form-clause-refused
 returns-then-not-has_its_form-clause-refused c =
@@ -47,5 +47,5 @@ returns-then-not-has_its_form-clause-refused c =
     let unit : knows_unit (entries_of c.args.entries.now) ≡ true = search rules in
     let alone : has_conflict (entries_of c.args.entries.now) ≡ false = search rules in
     let page : has_its_page (entries_of c.args.entries.now) ≡ true = search rules in
-    let formed : has_its_form (entries_of c.args.entries.now) ≡ false = search rules in
-    refused_for (entries_of c.args.entries.now) kind.MissingRequiredArgument _ (refused_form (entries_of c.args.entries.now) format order unit alone page formed) c.refused-then-not-has_its_form.ensures
+    let formed : has_its_form c.args.name.now (entries_of c.args.entries.now) ≡ false = search rules in
+    refused_for c.args.name.now (entries_of c.args.entries.now) kind.MissingRequiredArgument _ (refused_form c.args.name.now (entries_of c.args.entries.now) format order unit alone page formed) c.refused-then-not-has_its_form.ensures

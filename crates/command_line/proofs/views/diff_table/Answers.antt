@@ -1,10 +1,9 @@
 use Rattle.std.proofs.Common.{arith, codes, refl}
 use Rattle.command_line.specs.declared.arguments.TheConstants.{MOST_HUNDREDTHS}
-use Rattle.command_line.proofs.ReadEntries.{count_given, flag_given}
+use Rattle.command_line.proofs.ReadEntries.{count_given}
 use Rattle.command_line.proofs.views.diff_table.Goals as goal
 
 pub returns : goal.returns
 returns c =
-    let share = flag_given c.args.entries.now (codes "share") c.get_flag.result c.requires.share c.get_flag.ensures.none c.get_flag.ensures.value c.get_flag.ensures.other in
     let over = count_given c.args.entries.now (codes "fail-over") MOST_HUNDREDTHS c.get_one.result (omega arith) c.requires.over c.get_one.ensures.none c.get_one.ensures.value in
-    rw (c.table.ensures, share, over) refl
+    rw (c.table.ensures, c.is_share.ensures, over) refl

@@ -1,18 +1,23 @@
 //! Worked command lines of the calls of a function.
 
 use super::lines::are_answered;
-use super::wanted::{Calls, NOTHING, REFUSED, Set, Wanted};
+use super::wanted::{Calls, NOTHING, REFUSED, Set, Told, Wanted};
 use std::test::Fail;
 
 const CALLERS: Calls<'static> = Calls {
     name: "f",
-    are_callers: true,
+    told: Told::Callers,
     rows: 10,
     is_json: false,
 };
 
 const CALLEES: Calls<'static> = Calls {
-    are_callers: false,
+    told: Told::Callees,
+    ..CALLERS
+};
+
+const BOTH: Calls<'static> = Calls {
+    told: Told::Both,
     ..CALLERS
 };
 
@@ -21,6 +26,9 @@ const TABLES: &[(&str, Wanted<'static>)] = &[
     ("callers f", Wanted::Calls(CALLERS)),
     ("callers f", Wanted::Files(&[])),
     ("callees f", Wanted::Calls(CALLEES)),
+    ("peek f", Wanted::Calls(BOTH)),
+    ("peek f f -n3", Wanted::Calls(Calls { rows: 3, ..BOTH })),
+    ("peek f f -n3", Wanted::Files(&["f"])),
     ("callers f f", Wanted::Calls(CALLERS)),
     ("callers f f", Wanted::Files(&["f"])),
     (
@@ -71,6 +79,8 @@ fn options_of_calls(rt: HostRuntime) -> Result<(), Fail> {
 const REFUSED_LINES: &[(&str, Wanted<'static>)] = &[
     ("callers", REFUSED),
     ("callees --json", REFUSED),
+    ("peek", REFUSED),
+    ("peek --by own f", REFUSED),
     ("callers -n 0 f", REFUSED),
     ("callers -n 1000000001 f", REFUSED),
     ("callers --by own f", REFUSED),

@@ -29,11 +29,31 @@ const FROM_A_NAME: &[(&str, Wanted<'static>)] = &[
     ("diff a --from b;c b", FROM),
     ("callers --from b;c f", FROM),
     ("callees f --from b;c", FROM),
+    ("peek f --from b;c", FROM),
 ];
 
 #[test]
 fn stacks_from_a_name(rt: HostRuntime) -> Result<(), Fail> {
     are_answered(&rt, FROM_A_NAME)
+}
+
+const OMIT: Wanted<'static> = Wanted::Omit(&["b;c", "d"]);
+
+const OMITTED: &[(&str, Wanted<'static>)] = &[
+    ("fold --omit b;c --omit d", OMIT),
+    ("graph x --omit=b;c --omit=d", OMIT),
+    ("chart --omit b;c x --omit d", OMIT),
+    ("compare a b --omit b;c --omit d", OMIT),
+    ("top --omit b;c --omit d", OMIT),
+    ("diff a --omit b;c b --omit d", OMIT),
+    ("callers --omit b;c f --omit d", OMIT),
+    ("callees f --omit b;c --omit d", OMIT),
+    ("peek f --omit b;c --omit d", OMIT),
+];
+
+#[test]
+fn frames_that_are_left_out(rt: HostRuntime) -> Result<(), Fail> {
+    are_answered(&rt, OMITTED)
 }
 
 const REFUSED_LINES: &[(&str, Wanted<'static>)] = &[
@@ -43,6 +63,8 @@ const REFUSED_LINES: &[(&str, Wanted<'static>)] = &[
     ("fold --from=", REFUSED),
     ("top --from a --from b", REFUSED),
     ("types --from a x", REFUSED),
+    ("fold --omit=", REFUSED),
+    ("types --omit a x", REFUSED),
 ];
 
 #[test]

@@ -97,6 +97,25 @@ fn pictures(rt: HostRuntime) -> Result<(), Fail> {
     are_answered(&rt, PICTURES)
 }
 
+const SHARES: &[(&str, Wanted<'static>)] = &[
+    ("compare a b --page --share", Wanted::Share(true)),
+    ("compare --share --svg a b", Wanted::Share(true)),
+    ("compare a b --page", Wanted::Share(false)),
+    ("compare a b --svg", Wanted::Share(false)),
+    ("graph --page", Wanted::Share(false)),
+    ("chart --svg", Wanted::Share(false)),
+    ("compare a b --share --page", Wanted::Page(None, None)),
+    (
+        "compare a b --share --svg --title t",
+        Wanted::Picture(Some("t"), false),
+    ),
+];
+
+#[test]
+fn shares_of_comparisons(rt: HostRuntime) -> Result<(), Fail> {
+    are_answered(&rt, SHARES)
+}
+
 const TYPES: &[(&str, Wanted<'static>)] = &[
     ("types cpu.pprof", Wanted::Types("cpu.pprof")),
     ("types x.folded", Wanted::Types("x.folded")),
@@ -131,6 +150,10 @@ const REFUSED_LINES: &[(&str, Wanted<'static>)] = &[
     ("graph --root-below", REFUSED),
     ("compare a b --boxes --root-below", REFUSED),
     ("graph --page --root-below --root-below", REFUSED),
+    ("compare a b --svg --share --share", REFUSED),
+    ("compare a b --svg --share=yes", REFUSED),
+    ("graph --page --share", REFUSED),
+    ("chart --svg --share", REFUSED),
     ("fold --svg", REFUSED),
     ("top --svg", REFUSED),
     ("types a --svg", REFUSED),
@@ -162,6 +185,8 @@ const WITHOUT_A_FORM: &[(&str, Wanted<'static>)] = &[
     ("chart --least 5 --title t --root-below", NO_PAGE),
     ("graph --title t", NO_FORM),
     ("compare a b --root-below", NO_FORM),
+    ("compare a b --share", NO_FORM),
+    ("compare a --boxes --share b", NO_FORM),
 ];
 
 #[test]

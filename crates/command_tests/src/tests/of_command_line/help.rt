@@ -44,6 +44,10 @@ const USAGES: &[(&str, Wanted<'static>)] = &[
         Wanted::Help("\nUsage: flamecollect callees [OPTIONS] <NAME> [FILE]...\n"),
     ),
     (
+        "peek --help",
+        Wanted::Help("\nUsage: flamecollect peek [OPTIONS] <NAME> [FILE]...\n"),
+    ),
+    (
         "types --help",
         Wanted::Help("\nUsage: flamecollect types [OPTIONS] <FILE>\n"),
     ),
@@ -69,6 +73,7 @@ const COMMANDS: &[(&str, Wanted<'static>)] = &[
     ("--help", Wanted::Help("\n  diff ")),
     ("--help", Wanted::Help("\n  callers ")),
     ("--help", Wanted::Help("\n  callees ")),
+    ("--help", Wanted::Help("\n  peek ")),
     ("--help", Wanted::Help("\n  types ")),
 ];
 
@@ -126,6 +131,7 @@ const PARTS: &[(&str, Wanted<'static>)] = &[
     ),
     ("chart --help", Wanted::Help("\n      --svg ")),
     ("compare --help", Wanted::Help("\n      --root-below ")),
+    ("compare --help", Wanted::Help("\n      --share ")),
     (
         "fold --help",
         Wanted::Help("\nRarely needed:\n      --ring <N> "),

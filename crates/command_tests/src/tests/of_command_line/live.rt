@@ -44,6 +44,7 @@ const REFUSED_LINES: &[(&str, Wanted<'static>)] = &[
     ("live --focus f", REFUSED),
     ("live --hide f", REFUSED),
     ("live --from f", REFUSED),
+    ("live --omit f", REFUSED),
     ("live --strict", REFUSED),
     ("live --page", REFUSED),
     ("live --svg", REFUSED),

@@ -33,11 +33,19 @@ pub(crate) const NOTHING: Set<'static> = Set {
     every: None,
 };
 
+/// Which calls of a function are told.
+#[derive(Clone, Copy)]
+pub(crate) enum Told {
+    Callers,
+    Callees,
+    Both,
+}
+
 /// What is asked of the calls of a function.
 #[derive(Clone, Copy)]
 pub(crate) struct Calls<'a> {
     pub(crate) name: &'a str,
-    pub(crate) are_callers: bool,
+    pub(crate) told: Told,
     pub(crate) rows: u64,
     pub(crate) is_json: bool,
 }
@@ -57,6 +65,8 @@ pub(crate) enum Wanted<'a> {
     Filter(&'a [&'a str], &'a [&'a str]),
     /// The name of the frame at which stacks begin, with no other option.
     From(&'a str),
+    /// The names whose frames are left out, with no other option.
+    Omit(&'a [&'a str]),
     /// This format, with no other option.
     Format(Option<Format>),
     /// A text, and progress.
@@ -71,9 +81,11 @@ pub(crate) enum Wanted<'a> {
     PageBelow,
     /// A picture, with this title, and with the root below or above.
     Picture(Option<&'a str>, bool),
+    /// A page or a picture that compares shares, or weights.
+    Share(bool),
     /// The sample types of this file, with progress and no other option.
     Types(&'a str),
-    /// The callers of this function, or its callees, so many and as JSON or not, in place of a view.
+    /// The callers of this function, its callees, or both, so many and as JSON or not, in place of a view.
     Calls(Calls<'a>),
     /// The graphs of streams, of this width and after so many samples, of these files.
     Live(u32, u64, &'a [&'a str]),
@@ -135,6 +147,7 @@ fn has_defaults(plan: &Plan) -> bool {
     options_are(&plan.options, &NOTHING)
         && plan.options.filter.is_everything()
         && plan.from.is_none()
+        && are(&plan.omit, &[])
         && plan.output.is_none()
 }
 
@@ -142,6 +155,14 @@ fn begins_at(plan: &Plan, name: &str) -> bool {
     options_are(&plan.options, &NOTHING)
         && plan.options.filter.is_everything()
         && is_titled(&plan.from, Some(name))
+        && are(&plan.omit, &[])
+}
+
+fn leaves_out(plan: &Plan, names: &[&str]) -> bool {
+    options_are(&plan.options, &NOTHING)
+        && plan.options.filter.is_everything()
+        && plan.from.is_none()
+        && are(&plan.omit, names)
 }
 
 fn is_filtered(plan: &Plan, focus: &[&str], hide: &[&str]) -> bool {
@@ -173,6 +194,14 @@ fn is_picture(form: &Form, title: Option<&str>, is_below: bool) -> bool {
     }
 }
 
+fn is_of_shares(form: &Form, is_share: bool) -> bool {
+    match form {
+        Form::Page(page) => page.is_share == is_share,
+        Form::Picture(picture) => picture.is_share == is_share,
+        _ => false,
+    }
+}
+
 fn is_of_types(plan: &Plan, file: &str) -> bool {
     !plan.is_quiet
         && matches!(&plan.form, Form::Types)
@@ -188,14 +217,16 @@ fn is_live(plan: &Plan, width: u32, every: u64, files: &[&str]) -> bool {
         && plan.options.every == Some(every)
         && plan.options.filter.is_everything()
         && plan.from.is_none()
+        && are(&plan.omit, &[])
         && are(&plan.files, files)
 }
 
 fn are_calls(plan: &Plan, calls: &Calls<'_>) -> bool {
     plan.view == View::Fold
         && match &plan.form {
-            Form::Callers(table) => calls.are_callers && is_table(table, calls),
-            Form::Callees(table) => !calls.are_callers && is_table(table, calls),
+            Form::Callers(table) => matches!(calls.told, Told::Callers) && is_table(table, calls),
+            Form::Callees(table) => matches!(calls.told, Told::Callees) && is_table(table, calls),
+            Form::Peek(table) => matches!(calls.told, Told::Both) && is_table(table, calls),
             _ => false,
         }
 }
@@ -215,6 +246,7 @@ pub(crate) fn has(plan: &Plan, wanted: &Wanted<'_>) -> bool {
         Wanted::Options(set) => options_are(&plan.options, &set),
         Wanted::Filter(focus, hide) => is_filtered(plan, focus, hide),
         Wanted::From(name) => begins_at(plan, name),
+        Wanted::Omit(names) => leaves_out(plan, names),
         Wanted::Format(format) => plan.format == format && has_defaults(plan),
         Wanted::LoudText => !plan.is_quiet && matches!(&plan.form, Form::Text),
         Wanted::Quiet => plan.is_quiet && has_defaults(plan),
@@ -222,6 +254,7 @@ pub(crate) fn has(plan: &Plan, wanted: &Wanted<'_>) -> bool {
         Wanted::Page(title, least) => is_page(&plan.form, title, least, false),
         Wanted::PageBelow => is_page(&plan.form, None, None, true),
         Wanted::Picture(title, is_below) => is_picture(&plan.form, title, is_below),
+        Wanted::Share(is_share) => is_of_shares(&plan.form, is_share),
         Wanted::Types(file) => is_of_types(plan, file),
         Wanted::Calls(calls) => are_calls(plan, &calls),
         Wanted::Live(width, every, files) => is_live(plan, width, every, files),

@@ -1,4 +1,4 @@
-use Rattle.std.proofs.Common.{◌≡◌, ◌∙◌, ◌++◌, ◌+◌, drop, map, ap, sym, refl, arith}
+use Rattle.std.proofs.Common.{◌∙◌, ◌++◌, ◌+◌, drop, map, ap, sym, refl, arith}
 use Rattle.flame_layout.specs.Boxes.{compared_of, span_of}
 use Rattle.flame_layout.specs.checked.Paired.{paired_boxes}
 use Rattle.flame_layout.proofs.PairedRows.{boxes_all, boxes_more, boxes_same}

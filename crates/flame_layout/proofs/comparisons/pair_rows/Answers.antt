@@ -1,4 +1,4 @@
-use Rattle.std.proofs.Common.{◌≡◌, ◌∙◌, ap, arith}
+use Rattle.std.proofs.Common.{◌∙◌, ap, arith}
 use Rattle.flame_layout.specs.Boxes.{span_of}
 use Rattle.flame_layout.specs.checked.Paired.{names_now, paired_row}
 use Rattle.flame_layout.proofs.PairedRows.{rows_all, rows_more}

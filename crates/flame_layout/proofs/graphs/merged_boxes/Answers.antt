@@ -1,6 +1,7 @@
 use Rattle.std.proofs.Common.{◌≡◌, ◌∙◌, ◌+◌, ◌≤◌, List, All, IfOk, length, ap, sym, subst, arith}
 use Rattle.std.proofs.lemmas.Result.{IfOk-weaker}
 use Rattle.merged_stacks.specs.Timeline.{total_weight}
+use Rattle.merged_stacks.specs.RankedStacks.{ranked_samples}
 use Rattle.flame_layout.specs.declared.boxes.SpanBox.{SpanBox}
 use Rattle.flame_layout.proofs.DrawnBoxes.{plain_spans}
 use Rattle.flame_layout.proofs.graphs.merged_boxes.Goals as goal
@@ -14,7 +15,7 @@ returns-clause-graph c = IfOk-weaker c.span_boxes.result _ _ (λ boxes e samples
 
 pub returns-clause-within : goal.returns-clause-within
 returns-clause-within c =
-    IfOk-weaker c.span_boxes.result _ _ (λ boxes e. subst (λ (all : List SpanBox). All (λ span. span.start + span.weight ≤ total_weight c.args.merged.now) all) (sym e) c.in_ok-chart.ensures.within) (copied c)
+    IfOk-weaker c.span_boxes.result _ _ (λ boxes e. subst (λ (all : List SpanBox). All (λ span. span.start + span.weight ≤ total_weight (ranked_samples c.args.merged.now)) all) (sym e) c.in_ok-chart.ensures.within) (copied c)
 
 pub returns-clause-positive : goal.returns-clause-positive
 returns-clause-positive c = IfOk-weaker c.span_boxes.result _ _ (λ boxes e some. c.in_ok-chart.ensures.positive (omega (arith, some, ap length e))) (copied c)

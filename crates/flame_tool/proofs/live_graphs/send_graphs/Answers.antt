@@ -24,9 +24,9 @@ pub returns-in_err-run-clause-err : goal.returns-in_err-run-clause-err
 returns-in_err-run-clause-err g c =
     let answer = c.in_err-run.ensures.answer in
     let sink = c.new-sink.result in
-    let left = c.collect_streams-collected.new.sink in
+    let left = c.collect_rows-collected.new.sink in
     let same = same_setting sink.out.ghost_name left.out.ghost_name (g.W.Outlet.contents sink.lines.start.value) (g.W.Outlet.contents left.lines.start.value) (g.W.Outlet.failures sink.lines.start.value)
-    (g.W.Outlet.failures left.lines.start.value) sink.lines.merge.sources left.lines.merge.sources sink.lines.width left.lines.width sink.lines.every left.lines.every c.collect_streams-collected.ensures.setting in
+    (g.W.Outlet.failures left.lines.start.value) sink.lines.merge.sources left.lines.merge.sources sink.lines.width left.lines.width sink.lines.every left.lines.every c.collect_rows-collected.ensures.setting in
     let graph : c.args.plan.now.view ≡ Graph sink.lines.width = c.in-Graph.is ∙ ap (λ width. Graph width) (sym c.new-sink.ensures.width) in
     let often : c.args.plan.now.options.every ≡ Some sink.lines.every = c.in-Some.is ∙ ap (λ every. Some every) (sym c.new-sink.ensures.every) in
     let merge = c.new-sink.ensures.merge ∙ c.in_ok-gate.ensures in
@@ -49,9 +49,9 @@ pub returns-in_err-finish-clause-err : goal.returns-in_err-finish-clause-err
 returns-in_err-finish-clause-err g c =
     let answer = c.in_ok-run.ensures.answer in
     let sink = c.new-sink.result in
-    let left = c.collect_streams-collected.new.sink in
+    let left = c.collect_rows-collected.new.sink in
     let same = same_setting sink.out.ghost_name left.out.ghost_name (g.W.Outlet.contents sink.lines.start.value) (g.W.Outlet.contents left.lines.start.value) (g.W.Outlet.failures sink.lines.start.value)
-    (g.W.Outlet.failures left.lines.start.value) sink.lines.merge.sources left.lines.merge.sources sink.lines.width left.lines.width sink.lines.every left.lines.every c.collect_streams-collected.ensures.setting in
+    (g.W.Outlet.failures left.lines.start.value) sink.lines.merge.sources left.lines.merge.sources sink.lines.width left.lines.width sink.lines.every left.lines.every c.collect_rows-collected.ensures.setting in
     let graph : c.args.plan.now.view ≡ Graph sink.lines.width = c.in-Graph.is ∙ ap (λ width. Graph width) (sym c.new-sink.ensures.width) in
     let often : c.args.plan.now.options.every ≡ Some sink.lines.every = c.in-Some.is ∙ ap (λ every. Some every) (sym c.new-sink.ensures.every) in
     let merge = c.new-sink.ensures.merge ∙ c.in_ok-gate.ensures in
@@ -77,9 +77,9 @@ pub returns-clause-ok : goal.returns-clause-ok
 returns-clause-ok g c =
     let answer = c.in_ok-run.ensures.answer in
     let sink = c.new-sink.result in
-    let left = c.collect_streams-collected.new.sink in
+    let left = c.collect_rows-collected.new.sink in
     let same = same_setting sink.out.ghost_name left.out.ghost_name (g.W.Outlet.contents sink.lines.start.value) (g.W.Outlet.contents left.lines.start.value) (g.W.Outlet.failures sink.lines.start.value)
-    (g.W.Outlet.failures left.lines.start.value) sink.lines.merge.sources left.lines.merge.sources sink.lines.width left.lines.width sink.lines.every left.lines.every c.collect_streams-collected.ensures.setting in
+    (g.W.Outlet.failures left.lines.start.value) sink.lines.merge.sources left.lines.merge.sources sink.lines.width left.lines.width sink.lines.every left.lines.every c.collect_rows-collected.ensures.setting in
     let graph : c.args.plan.now.view ≡ Graph sink.lines.width = c.in-Graph.is ∙ ap (λ width. Graph width) (sym c.new-sink.ensures.width) in
     let often : c.args.plan.now.options.every ≡ Some sink.lines.every = c.in-Some.is ∙ ap (λ every. Some every) (sym c.new-sink.ensures.every) in
     let merge = c.new-sink.ensures.merge ∙ c.in_ok-gate.ensures in

@@ -1,8 +1,9 @@
 use Rattle.std.proofs.Common.{arith, rules, ◌≡◌, inl, inr, length, map, string_bytes, Some, true, false}
 use Rattle.std.specs.Vec.{vec_len}
 use Rattle.command_line.specs.Plans.{plan_of}
-use Rattle.flame_tool.proofs.RunEndings.{accepted_none, accepted_some, among_words, are_refused, asked_callees, asked_callers, asked_exactly, asked_faulty, asked_many, asked_page, asked_partly, asked_shown, asked_svg, asked_types, asked_types_faulty, asked_types_partly, asked_types_untouched, asked_untouched, asked_with_facts, asks_if_help, faultless_words, input_clean, input_fault, input_front, input_text, none_asked, partly_by_plan, partly_help, some_asked, some_faultless, asked_grown, asked_not_grown, within_three}
+use Rattle.flame_tool.proofs.RunEndings.{accepted_none, accepted_some, among_words, are_refused, asked_callees, asked_callers, asked_exactly, asked_faulty, asked_many, asked_page, asked_peek, asked_partly, asked_shown, asked_svg, asked_types, asked_types_faulty, asked_types_partly, asked_types_untouched, asked_untouched, asked_with_facts, asks_if_help, faultless_words, input_clean, input_fault, input_front, input_text, none_asked, partly_by_plan, partly_help, some_asked, some_faultless, asked_grown, asked_not_grown, within_three}
 use Rattle.flame_tool.proofs.StrictEndings.{asked_strict, asked_strict_untouched}
+use Rattle.flame_tool.proofs.ToldEndings.{asked_told}
 use Rattle.flame_tool.proofs.UntouchedOutputs.{no_help, whatever_is_read, whatever_is_strict, whatever_types_are_read}
 use Rattle.flame_tool.proofs.program.run.Goals as goal
 
@@ -35,6 +36,12 @@ returns-in-Ok-clause-shown_callees g c =
     let some : length c.args.words.items ≡ 0 → ⊥ = search rules in
     let planned : plan_of (map string_bytes c.args.words.items) ≡ Some c.in-Ok.plan = search rules in
     λ zero. inr (asked_callees (map string_bytes c.args.words.items) c.in-Ok.plan (g.F.Files.known_input c.args.files.now) (g.F.Files.known_file c.args.files.now) _ _ (some_asked string_bytes c.args.words.items c.in-Ok.plan some planned) (c.run_plan-in-Ok.ensures.shown zero))
+
+pub returns-in-Ok-clause-shown_peek : goal.returns-in-Ok-clause-shown_peek
+returns-in-Ok-clause-shown_peek g c =
+    let some : length c.args.words.items ≡ 0 → ⊥ = search rules in
+    let planned : plan_of (map string_bytes c.args.words.items) ≡ Some c.in-Ok.plan = search rules in
+    λ zero. inr (asked_peek (map string_bytes c.args.words.items) c.in-Ok.plan (g.F.Files.known_input c.args.files.now) (g.F.Files.known_file c.args.files.now) _ _ (some_asked string_bytes c.args.words.items c.in-Ok.plan some planned) (c.run_plan-in-Ok.ensures.shown zero))
 
 pub returns-in-Ok-clause-shown_callers : goal.returns-in-Ok-clause-shown_callers
 returns-in-Ok-clause-shown_callers g c =
@@ -111,6 +118,12 @@ returns-clause-shown_callers g c =
 
 pub returns-clause-shown_callees : goal.returns-clause-shown_callees
 returns-clause-shown_callees g c =
+    let some : length c.args.words.items ≡ 0 → ⊥ = search rules in
+    let among = among_words string_bytes c.in-Err.fault c.as_slice-2.ensures.value c.in-Err.ensures.refused in
+    λ zero. inl (asks_if_help string_bytes c.args.words.items c.in-Err.fault some among (c.refuse.ensures.help (omega (arith, zero))))
+
+pub returns-clause-shown_peek : goal.returns-clause-shown_peek
+returns-clause-shown_peek g c =
     let some : length c.args.words.items ≡ 0 → ⊥ = search rules in
     let among = among_words string_bytes c.in-Err.fault c.as_slice-2.ensures.value c.in-Err.ensures.refused in
     λ zero. inl (asks_if_help string_bytes c.args.words.items c.in-Err.fault some among (c.refuse.ensures.help (omega (arith, zero))))
@@ -377,6 +390,12 @@ returns-then-is_empty-clause-shown_callees g c =
     let asked = none_asked string_bytes c.args.words.items c.plan_without_words-plan.result none c.plan_without_words-plan.ensures.plan in
     λ zero. inr (asked_callees (map string_bytes c.args.words.items) c.plan_without_words-plan.result (g.F.Files.known_input c.args.files.now) (g.F.Files.known_file c.args.files.now) _ _ asked (c.run_plan.ensures.shown zero))
 
+pub returns-then-is_empty-clause-shown_peek : goal.returns-then-is_empty-clause-shown_peek
+returns-then-is_empty-clause-shown_peek g c =
+    let none : length c.args.words.items ≡ 0 = search rules in
+    let asked = none_asked string_bytes c.args.words.items c.plan_without_words-plan.result none c.plan_without_words-plan.ensures.plan in
+    λ zero. inr (asked_peek (map string_bytes c.args.words.items) c.plan_without_words-plan.result (g.F.Files.known_input c.args.files.now) (g.F.Files.known_file c.args.files.now) _ _ asked (c.run_plan.ensures.shown zero))
+
 pub returns-then-is_empty-clause-shown_callers : goal.returns-then-is_empty-clause-shown_callers
 returns-then-is_empty-clause-shown_callers g c =
     let none : length c.args.words.items ≡ 0 = search rules in
@@ -578,3 +597,21 @@ returns-clause-grown g c = λ four. absurd (omega (arith, c.refuse.ensures.statu
 
 pub returns-clause-flushed_grown : goal.returns-clause-flushed_grown
 returns-clause-flushed_grown g c = λ four. absurd (omega (arith, c.refuse.ensures.status, four))
+
+pub returns-clause-told : goal.returns-clause-told
+returns-clause-told g c =
+    let some : length c.args.words.items ≡ 0 → ⊥ = search rules in
+    let among = among_words string_bytes c.in-Err.fault c.as_slice-2.ensures.value c.in-Err.ensures.refused in
+    λ _ low. inl (asks_if_help string_bytes c.args.words.items c.in-Err.fault some among (c.refuse.ensures.help low))
+
+pub returns-in-Ok-clause-told : goal.returns-in-Ok-clause-told
+returns-in-Ok-clause-told g c =
+    let some : length c.args.words.items ≡ 0 → ⊥ = search rules in
+    let planned : plan_of (map string_bytes c.args.words.items) ≡ Some c.in-Ok.plan = search rules in
+    λ none low. inr (asked_told (map string_bytes c.args.words.items) c.in-Ok.plan (some_asked string_bytes c.args.words.items c.in-Ok.plan some planned) (g.F.Files.known_input c.args.files.now) (g.F.Files.known_file c.args.files.now) _ _ _ _ (c.run_plan-in-Ok.ensures.told none low))
+
+pub returns-then-is_empty-clause-told : goal.returns-then-is_empty-clause-told
+returns-then-is_empty-clause-told g c =
+    let none : length c.args.words.items ≡ 0 = search rules in
+    let asked = none_asked string_bytes c.args.words.items c.plan_without_words-plan.result none c.plan_without_words-plan.ensures.plan in
+    λ none low. inr (asked_told (map string_bytes c.args.words.items) c.plan_without_words-plan.result asked (g.F.Files.known_input c.args.files.now) (g.F.Files.known_file c.args.files.now) _ _ _ _ (c.run_plan.ensures.told none low))

@@ -1,4 +1,3 @@
-use Rattle.std.proofs.Common.{arith}
 use Rattle.folded_lines.specs.Line.{Line}
 use Rattle.folded_lines.specs.checked.RowLines.{line_by}
 use Rattle.folded_lines.specs.checked.StreamLines.{line_of_found}
@@ -6,9 +5,6 @@ use Rattle.folded_lines.specs.checked.StreamReading.{line_at}
 use Rattle.std.proofs.Common.{◌≡◌, ap, ◌∙◌}
 use Rattle.folded_lines.proofs.StreamPlaceLemmas.{passed_gives, passed_place}
 use Rattle.folded_lines.proofs.stream_steps.take_line.Goals as goal
-
-pub after-requires-clause-position : goal.after-requires-clause-position
-after-requires-clause-position g c = omega (arith, c.requires.place.position)
 
 pub returns-clause-line : goal.returns-clause-line
 returns-clause-line g c =

@@ -1,22 +1,17 @@
-use Rattle.std.proofs.Common.{◌≡◌, ℕ, ◌+◌, List, ◌∷◌, ◌++◌, Some, Bool, cond, length, map, take, drop, drop-drop, length-drop, sym, ap, ◌∙◌, arith}
+use Rattle.std.proofs.Common.{◌≡◌, ℕ, ◌+◌, List, ◌∷◌, ◌++◌, Some, cond, map, take, drop, drop-drop, length-drop, sym, ap, ◌∙◌, arith}
 use Rattle.bstr.specs.Text.{line_len, without_terminator}
 use Rattle.folded_lines.specs.Line.{Line}
 use Rattle.folded_lines.specs.Lines.{read_line}
 use Rattle.folded_lines.specs.Reading.{is_ignored}
 use Rattle.folded_lines.specs.checked.Strictness.{first_ignored, lines_in}
-use Rattle.folded_lines.specs.declared.cursor.Cursor.{Cursor}
 use Rattle.folded_lines.proofs.ScanLemmas.{left-whole, line_len-fits, text_lines-step}
 use Rattle.folded_lines.proofs.strictness.look_at.Goals as goal
-
--- the place alone
-abbrev place : ℕ → Cursor
-place position = record { position = position; taken = 0; ignored = 0; total = 0 }
 
 pub overflow_add-result : goal.overflow_add-result
 overflow_add-result c =
     let bytes = c.args.bytes.now in
-    let fits = line_len-fits bytes (place c.args.position) c.requires in
-    let len = c.first_line-len.ensures.len ∙ ap line_len (left-whole bytes (place c.args.position)) in
+    let fits = line_len-fits bytes c.args.position c.requires in
+    let len = c.first_line-len.ensures.len ∙ ap line_len (left-whole bytes c.args.position) in
     omega arith
 
 pub returns-clause-first : goal.returns-clause-first
@@ -24,7 +19,7 @@ returns-clause-first c = λ before more.
     let bytes = c.args.bytes.now in
     let at = c.args.position in
     let left = drop at bytes in
-    let whole = left-whole bytes (place at) in
+    let whole = left-whole bytes at in
     let line : List ℕ = without_terminator (take (line_len left) left) in
     let len : c.first_line-len.result.1 ≡ line_len left = c.first_line-len.ensures.len ∙ ap line_len whole in
     let text : c.first_line-len.result.0.now ≡ line = c.first_line-len.ensures.text ∙ ap (λ (l : List ℕ). without_terminator (take (line_len l) l)) whole in
@@ -37,13 +32,13 @@ returns-clause-first c = λ before more.
 pub returns-clause-nearer : goal.returns-clause-nearer
 returns-clause-nearer c =
     let bytes = c.args.bytes.now in
-    let fits = line_len-fits bytes (place c.args.position) c.requires in
-    let len = c.first_line-len.ensures.len ∙ ap line_len (left-whole bytes (place c.args.position)) in
+    let fits = line_len-fits bytes c.args.position c.requires in
+    let len = c.first_line-len.ensures.len ∙ ap line_len (left-whole bytes c.args.position) in
     omega arith
 
 pub returns-clause-within : goal.returns-clause-within
 returns-clause-within c =
     let bytes = c.args.bytes.now in
-    let fits = line_len-fits bytes (place c.args.position) c.requires in
-    let len = c.first_line-len.ensures.len ∙ ap line_len (left-whole bytes (place c.args.position)) in
+    let fits = line_len-fits bytes c.args.position c.requires in
+    let len = c.first_line-len.ensures.len ∙ ap line_len (left-whole bytes c.args.position) in
     omega arith

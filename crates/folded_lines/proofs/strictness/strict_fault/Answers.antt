@@ -1,8 +1,6 @@
-use Rattle.std.proofs.Common.{◌≡◌, ap, sym, ◌∙◌}
+use Rattle.std.proofs.Common.{ap, sym, ◌∙◌}
 use Rattle.std.specs.List.{concat}
-use Rattle.stack_core.specs.declared.endings.SourceEnd.TheVariants as ends
-use Rattle.folded_lines.specs.Reading.{read_folded}
-use Rattle.folded_lines.specs.checked.Strictness.{earlier, first_ignored, is_counted, lines_in}
+use Rattle.folded_lines.specs.checked.Strictness.{earlier, first_ignored, lines_in}
 use Rattle.folded_lines.proofs.StrictLemmas.{counted_clean, not_counted, strict_counted, strict_looked}
 use Rattle.folded_lines.proofs.strictness.strict_fault.Goals as goal
 

@@ -6,4 +6,4 @@ use Rattle.function_sums.proofs.tables.count_all.Given as goal
 
 abbrev pub invariant-loop-at : goal.invariant-loop-at
 invariant-loop-at l =
-    AreCounts l.stacks.names l.counts.items (lasts_of l.call (take l.at (ranked_samples l.stacks))) (counted_of l.call (take l.at (ranked_samples l.stacks))) [] 0 (l.at + 1)
+    AreCounts l.merged.names l.counts.items (lasts_of l.call (take l.at (ranked_samples l.merged))) (counted_of l.call (take l.at (ranked_samples l.merged))) [] 0 (l.at + 1)

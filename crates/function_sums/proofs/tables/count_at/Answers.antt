@@ -27,22 +27,22 @@ room_at ranking counts call at weight ranks more total are =
 
 pub count_stack-requires-clause-room : goal.count_stack-requires-clause-room
 count_stack-requires-clause-room c =
-    let more = stack_more c.args.stacks.now c.args.at c.weight-weight.result c.ranks-ranks.result.now c.requires.at c.weight-weight.ensures c.ranks-ranks.ensures in
-    room_at c.args.stacks.now c.args.counts.now c.args.call c.args.at c.weight-weight.result c.ranks-ranks.result.now more c.requires.total c.requires.counted
+    let more = stack_more c.args.merged.now c.args.at c.weight-weight.result c.ranks-ranks.result.now c.requires.at c.weight-weight.ensures.value c.ranks-ranks.ensures.value in
+    room_at c.args.merged.now c.args.counts.now c.args.call c.args.at c.weight-weight.result c.ranks-ranks.result.now more c.requires.total c.requires.counted
 
 pub count_stack-requires-in-Some-clause-room : goal.count_stack-requires-in-Some-clause-room
 count_stack-requires-in-Some-clause-room c =
-    let more = stack_more c.args.stacks.now c.args.at c.weight-weight.result c.ranks-ranks.result.now c.requires.at c.weight-weight.ensures c.ranks-ranks.ensures in
-    room_at c.args.stacks.now c.args.counts.now c.args.call c.args.at c.weight-weight.result c.ranks-ranks.result.now more c.requires.total c.requires.counted
+    let more = stack_more c.args.merged.now c.args.at c.weight-weight.result c.ranks-ranks.result.now c.requires.at c.weight-weight.ensures.value c.ranks-ranks.ensures.value in
+    room_at c.args.merged.now c.args.counts.now c.args.call c.args.at c.weight-weight.result c.ranks-ranks.result.now more c.requires.total c.requires.counted
 
 pub returns-in-None : goal.returns-in-None
 returns-in-None c =
-    let names = c.args.stacks.now.names in
+    let names = c.args.merged.now.names in
     let ranks = c.ranks-ranks.result.now in
-    let samples = ranked_samples c.args.stacks.now in
+    let samples = ranked_samples c.args.merged.now in
     let done = take c.args.at samples in
     let s = by_name names ranks c.weight-weight.result in
-    let more = stack_more c.args.stacks.now c.args.at c.weight-weight.result ranks c.requires.at c.weight-weight.ensures c.ranks-ranks.ensures in
+    let more = stack_more c.args.merged.now c.args.at c.weight-weight.result ranks c.requires.at c.weight-weight.ensures.value c.ranks-ranks.ensures.value in
     let is = c.in-None.is in
     let are = c.count_stack.ensures names (lasts_of c.args.call done) (counted_of c.args.call done) s c.requires.rising c.requires.counted refl
     (λ name. ended_by names ranks name ∙ ap (λ it. ended names it name) (sym (c.copied.ensures ∙ c.last.ensures.value))) in
@@ -53,13 +53,13 @@ returns-in-None c =
 
 pub returns-in_ok-ending-in-Some : goal.returns-in_ok-ending-in-Some
 returns-in_ok-ending-in-Some c =
-    let names = c.args.stacks.now.names in
+    let names = c.args.merged.now.names in
     let ranks = c.ranks-ranks.result.now in
-    let samples = ranked_samples c.args.stacks.now in
+    let samples = ranked_samples c.args.merged.now in
     let done = take c.args.at samples in
     let weight = c.weight-weight.result in
     let s = by_name names ranks weight in
-    let more = stack_more c.args.stacks.now c.args.at weight ranks c.requires.at c.weight-weight.ensures c.ranks-ranks.ensures in
+    let more = stack_more c.args.merged.now c.args.at weight ranks c.requires.at c.weight-weight.ensures.value c.ranks-ranks.ensures.value in
     let call = c.in-Some.call in
     let is : c.args.call ≡ Some call = c.in-Some.is in
     let ending = c.in_ok-ending-in-Some.ending.items in

@@ -7,7 +7,7 @@ use super::drawn::append_edges_in;
 use crate::tests::sources::Lines;
 use crate::tests::told::{OfTwo, Telling, Told, are_told};
 use flame_layout::{DrawnPair, PairRow, Width, compare, draw_paired};
-use merged_stacks::PairedStacks;
+use merged_stacks::{Alone, PairedStacks};
 use stack_core::SourceList;
 use std::alloc::{AllocError, Global};
 use std::test::Fail;
@@ -93,7 +93,7 @@ pub(in crate::tests) fn append_compared_boxes(
     requires before { total_weight before.now.samples < 2 ^ 64 }
     requires after { total_weight after.now.samples < 2 ^ 64 }
 {
-    let stacks = PairedStacks::of(alloc, before, after)?;
+    let stacks = PairedStacks::of(alloc, before, after, &Alone)?;
     let boxes = draw_paired(alloc, &stacks, before, after)?;
     append_all_compared(text, &boxes, total, width)
 }

@@ -1,5 +1,7 @@
 use Rattle.std.proofs.Common.{◌≡◌, ◌∙◌, ◌++◌, ◌∷◌, [], ap, length, rules, subst, sym}
 use Rattle.std.specs.Prelude.{Some}
+use Rattle.sample_tables.specs.Rows.{named, row_by}
+use Rattle.sample_tables.specs.declared.samples.Sample.{Sample}
 use Rattle.merging.specs.checked.Merging.{is_due}
 use Rattle.live_lines.specs.Lines.{live_line_at, live_lines}
 use Rattle.live_lines.specs.checked.Writes.{AreWritten}
@@ -16,8 +18,9 @@ returns-then-is_due-clause-written g c =
     let n = c.send_due.new.lines in
     let known = g.W.Outlet.contents in
     let failures = g.W.Outlet.failures in
-    let taken : c.take.new.self.taken ≡ c.args.lines.now.merge.taken ++ (c.args.source, c.args.sample.now) ∷ [] = search rules in
-    let longer = lines_more m.sources old.width old.every t.sources m.taken t.taken (c.args.source, c.args.sample.now) c.requires.positive c.take.ensures.sources taken in
+    let sample : Sample = named c.args.ledger.now.told (row_by c.args.ledger.now.stacks (record { stack = c.args.row; weight = c.args.weight })) in
+    let taken : c.take.new.self.taken ≡ c.args.lines.now.merge.taken ++ (c.args.source, sample) ∷ [] = search rules in
+    let longer = lines_more m.sources old.width old.every t.sources m.taken t.taken (c.args.source, sample) c.requires.positive c.take.ensures.sources taken in
     let same : live_lines c.send_due.new.lines.merge.sources c.send_due.new.lines.width c.send_due.new.lines.every c.send_due.new.lines.merge.taken
     ≡ live_lines c.take.new.self.sources c.args.lines.now.width c.args.lines.now.every c.take.new.self.taken =
     λ i. live_lines (c.send_due.ensures.merge i).sources (c.send_due.ensures.width i) (c.send_due.ensures.every i) (c.send_due.ensures.merge i).taken in
@@ -33,8 +36,9 @@ returns-else-is_due-clause-written g c =
     let t = c.take.new.self in
     let known = g.W.Outlet.contents in
     let failures = g.W.Outlet.failures in
-    let taken : c.take.new.self.taken ≡ c.args.lines.now.merge.taken ++ (c.args.source, c.args.sample.now) ∷ [] = search rules in
-    let longer = lines_more m.sources old.width old.every t.sources m.taken t.taken (c.args.source, c.args.sample.now) c.requires.positive c.take.ensures.sources taken in
+    let sample : Sample = named c.args.ledger.now.told (row_by c.args.ledger.now.stacks (record { stack = c.args.row; weight = c.args.weight })) in
+    let taken : c.take.new.self.taken ≡ c.args.lines.now.merge.taken ++ (c.args.source, sample) ∷ [] = search rules in
+    let longer = lines_more m.sources old.width old.every t.sources m.taken t.taken (c.args.source, sample) c.requires.positive c.take.ensures.sources taken in
     written_idle (live_lines m.sources old.width old.every m.taken) (live_line_at t.sources old.width t.taken (length t.taken)) (live_lines t.sources old.width old.every t.taken)
     (is_due (Some old.every) (length t.taken)) old.failure (known old.start.value) (known c.args.out.now) (failures old.start.value) (failures c.args.out.now)
     (sym c.is_due.ensures ∙ c.if-is_due.false) longer c.requires.written
@@ -45,7 +49,8 @@ returns-then-is_due-clause-flushed g c none some = ∣ c.send_due.ensures.flushe
 pub returns-else-is_due-clause-flushed : goal.returns-else-is_due-clause-flushed
 returns-else-is_due-clause-flushed g c none some =
     let old = c.args.lines.now in
-    let taken : c.take.new.self.taken ≡ c.args.lines.now.merge.taken ++ (c.args.source, c.args.sample.now) ∷ [] = search rules in
+    let sample : Sample = named c.args.ledger.now.told (row_by c.args.ledger.now.stacks (record { stack = c.args.row; weight = c.args.weight })) in
+    let taken : c.take.new.self.taken ≡ c.args.lines.now.merge.taken ++ (c.args.source, sample) ∷ [] = search rules in
     c.requires.flushed none
-    (due_before old.every (length old.merge.taken) (length c.take.new.self.taken) old.failure (ap length taken ∙ length_push old.merge.taken (c.args.source, c.args.sample.now)) none
+    (due_before old.every (length old.merge.taken) (length c.take.new.self.taken) old.failure (ap length taken ∙ length_push old.merge.taken (c.args.source, sample)) none
     (sym c.is_due.ensures ∙ c.if-is_due.false) some)

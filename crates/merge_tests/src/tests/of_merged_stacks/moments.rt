@@ -51,17 +51,21 @@ fn take_all(
 fn append_moment(
     alloc: Global,
     text: &mut String,
-    growing: &GrowingStacks<'_>,
-) -> Result<(), AllocError> {
-    let moment = growing.merged(alloc)?;
-    append_stacks(text, &moment.by_rank())
+    growing: &mut GrowingStacks<'_>,
+) -> Result<(), AllocError>
+    ensures { growing.new.lists ≡ growing.old.lists }
+{
+    growing.merge(alloc)?;
+    append_stacks(text, growing.merged())
 }
 
 fn shows_moment(
     rt: &(impl Abort + AllocGlobal),
-    growing: &GrowingStacks<'_>,
+    growing: &mut GrowingStacks<'_>,
     wanted: &str,
-) -> Result<(), AllocError> {
+) -> Result<(), AllocError>
+    ensures { growing.new.lists ≡ growing.old.lists }
+{
     let mut text = String::new(rt.alloc());
     append_moment(rt.alloc(), &mut text, growing)?;
     is_text(rt, &text, wanted);

@@ -5,7 +5,7 @@ ghost use Rattle.sample_tables.specs.Samples.{total_weight};
 use super::{append_names, append_stacks};
 use crate::tests::sources::Lines;
 use crate::tests::told::{OfPaired, OfTwo, Telling, Told, are_told};
-use merged_stacks::{PairedSide, PairedStacks, Side, StackRows};
+use merged_stacks::{Alone, InThreads, PairedSide, PairedStacks, Side, StackRows};
 use stack_core::SourceList;
 use std::alloc::{AllocError, Global};
 use std::test::Fail;
@@ -39,7 +39,7 @@ pub(in crate::tests) fn append_pairs(
     requires before { total_weight before.now.samples < 2 ^ 64 }
     requires after { total_weight after.now.samples < 2 ^ 64 }
 {
-    let paired = PairedStacks::of(alloc, before, after)?;
+    let paired = PairedStacks::of(alloc, before, after, &Alone)?;
     append_all(text, &paired)
 }
 
@@ -99,7 +99,7 @@ pub(in crate::tests) fn append_of_paired(
     requires before { total_weight before.now.samples < 2 ^ 64 }
     requires after { total_weight after.now.samples < 2 ^ 64 }
 {
-    let stacks = PairedStacks::of_in_threads(rt, rt.alloc(), before, after)?;
+    let stacks = PairedStacks::of(rt.alloc(), before, after, &InThreads { rt })?;
     append_paired(text, &stacks, told)
 }
 

@@ -3,7 +3,7 @@
 use super::append_stacks;
 use crate::tests::sources::{assert_light, falling_lists};
 use crate::tests::told::is_text;
-use merged_stacks::MergedStacks;
+use merged_stacks::{Alone, InThreads, MergedStacks, StackRows};
 use stack_core::SourceList;
 use std::alloc::AllocError;
 use std::process::Abort;
@@ -16,7 +16,7 @@ fn append_alone(
     lists: &[SourceList],
 ) -> Result<(), AllocError> {
     assert_light(rt, lists, 10_000);
-    let merged = MergedStacks::of(rt.alloc(), lists)?;
+    let merged = MergedStacks::of(rt.alloc(), lists, &Alone)?;
     append_stacks(text, &merged)
 }
 
@@ -30,7 +30,7 @@ fn append_in_threads(
     lists: &[SourceList],
 ) -> Result<(), AllocError> {
     assert_light(rt, lists, 10_000);
-    let merged = MergedStacks::of_in_threads(rt, rt.alloc(), lists)?;
+    let merged = MergedStacks::of(rt.alloc(), lists, &InThreads { rt })?;
     has_all(rt, &merged);
     append_stacks(text, &merged)
 }

@@ -13,11 +13,11 @@ split_at-requires c =
     let more = all_told-more lists i list (omega arith) c.list-item.is in
     omega (arith, c.told.ensures, c.loop-list.invariant.long, ap length more, length-append list.told (all_told (drop (i + 1) lists)))
 
-pub of-requires-clause-total : goal.of-requires-clause-total
-of-requires-clause-total c = omega (arith, c.requires.total, list_total c.args.lists.now c.loop-list.list-index c.list-item.result (omega arith) c.list-item.is)
+pub sorted-requires-clause-total : goal.sorted-requires-clause-total
+sorted-requires-clause-total c = omega (arith, c.requires.total, list_total c.args.lists.now c.loop-list.list-index c.list-item.result (omega arith) c.list-item.is)
 
-pub of-requires-clause-ranks : goal.of-requires-clause-ranks
-of-requires-clause-ranks c =
+pub sorted-requires-clause-ranks : goal.sorted-requires-clause-ranks
+sorted-requires-clause-ranks c =
     let i = c.loop-list.list-index in
     let lists = c.args.lists.now in
     let list = c.list-item.result in
@@ -42,6 +42,6 @@ loop-list-preserved c =
     let others : c.split_at.result.1.now ≡ drop (length own_told) ranks = c.split_at.ensures.back ∙ ap (λ n. drop n ranks) told in
     record {
       long = omega (arith, ap length others, length-drop (length own_told) ranks, c.loop-list.invariant.long, ap length more, length-append own_told rest);
-      begun = c.in_ok-push.ensures.items ∙ (λ k. c.loop-list.invariant.begun k ++ (c.in_ok-of.ensures ∙ ap not_begun c.list-item.is) k ∷ [])
+      begun = c.in_ok-push.ensures.items ∙ (λ k. c.loop-list.invariant.begun k ++ (c.in_ok-sorted.ensures ∙ ap not_begun c.list-item.is) k ∷ [])
           ∙ sym (map_more not_begun lists i list (omega arith));
     }

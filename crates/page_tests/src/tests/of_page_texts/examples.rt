@@ -40,6 +40,7 @@ struct Case<'a> {
     view: &'a str,
     whole: u128,
     is_root_below: bool,
+    is_share: bool,
 }
 
 fn drawing_of<'a, L>(boxes: L, case: &Case<'a>) -> Drawing<'a, L> {
@@ -60,6 +61,7 @@ fn page_with<'a, L: FlameBoxes>(drawings: &'a [Drawing<'a, L>], case: &Case<'a>)
         view: case.view,
         whole: case.whole,
         is_root_below: case.is_root_below,
+        is_share: case.is_share,
     }
 }
 
@@ -112,6 +114,7 @@ const EXAMPLE: &Case<'static> = &Case {
     view: "graph",
     whole: 5,
     is_root_below: false,
+    is_share: false,
 };
 
 #[test]
@@ -130,6 +133,7 @@ const BELOW: &Case<'static> = &Case {
     view: "graph",
     whole: 3,
     is_root_below: true,
+    is_share: false,
 };
 
 #[test]
@@ -137,6 +141,25 @@ fn root_below_is_told(rt: HostRuntime) -> Result<(), Fail> {
     let wanted =
         b"{\"drawings\":[{\"gap\":[],\"least\":4,\"left_out\":{\"boxes\":3,\"weight\":3},\"name\":[],\"rest\":[],\"tail\":[],\"total\":3,\"up\":[]}],\"names\":[],\"root_below\":true,\"sources\":[],\"title\":\"small\",\"view\":\"graph\",\"whole\":3}";
     data_are(&rt, BELOW, wanted)
+}
+
+const SHARE: &Case<'static> = &Case {
+    least: 4,
+    total: 3,
+    moment: None,
+    sources: &[],
+    title: "small",
+    view: "compare",
+    whole: 3,
+    is_root_below: false,
+    is_share: true,
+};
+
+#[test]
+fn shares_are_told(rt: HostRuntime) -> Result<(), Fail> {
+    let wanted =
+        b"{\"drawings\":[{\"gap\":[],\"least\":4,\"left_out\":{\"boxes\":3,\"weight\":3},\"name\":[],\"other\":[],\"rest\":[],\"tail\":[],\"total\":3,\"up\":[]}],\"names\":[],\"share\":true,\"sources\":[],\"title\":\"small\",\"view\":\"compare\",\"whole\":3}";
+    data_are(&rt, SHARE, wanted)
 }
 
 const NARROW: &Case<'static> = &Case {
@@ -151,6 +174,7 @@ const NARROW: &Case<'static> = &Case {
     view: "graph",
     whole: 5,
     is_root_below: false,
+    is_share: false,
 };
 
 #[test]
@@ -185,6 +209,7 @@ const COMPARED: &Case<'static> = &Case {
     view: "compare",
     whole: 5,
     is_root_below: false,
+    is_share: false,
 };
 
 fn append_compared(alloc: Global, out: &mut Vec<u8>) -> Result<(), AllocError> {
@@ -220,6 +245,7 @@ const LONG: &Case<'static> = &Case {
     view: "chart",
     whole: 5,
     is_root_below: false,
+    is_share: false,
 };
 
 // Appends the data of a page of more numbers than a part has.
@@ -250,6 +276,7 @@ const README: &Case<'static> = &Case {
     view: "graph",
     whole: 3,
     is_root_below: false,
+    is_share: false,
 };
 
 // Appends the data of the page of the README.

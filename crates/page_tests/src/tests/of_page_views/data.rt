@@ -77,6 +77,7 @@ const SMALL: Heading<'static> = Heading {
     least: Some(0),
     whole: 3,
     is_root_below: false,
+    is_share: false,
 };
 
 const OF_SCRIPTS: Heading<'static> = Heading {
@@ -85,6 +86,7 @@ const OF_SCRIPTS: Heading<'static> = Heading {
     least: Some(10),
     whole: 57,
     is_root_below: false,
+    is_share: false,
 };
 
 // Whether there is what a view asks for.

@@ -88,16 +88,16 @@ const TOLD: &[Telling<'static>] = &[
     Telling::New(&["a", "b"], &[0, 1], 1),
     Telling::Again(0, 2),
     Telling::New(&["c"], &[1, 2, 1], 3),
-    Telling::New(&[], &[0, 1], 4),
+    Telling::Again(0, 4),
     Telling::Again(1, 5),
     Telling::New(&[], &[], 6),
-    Telling::Again(2, 7),
-    Telling::Again(3, 8),
+    Telling::Again(0, 7),
+    Telling::Again(2, 8),
     Telling::End,
     Telling::End,
 ];
 
-/// A name is told once, and a head that was met is known by its bytes. Its weight is that of its own line.
+/// A name is told once, and a stack that was told is known by its names. Its weight is that of its own line.
 #[test]
 fn rows_are_told_once(rt: HostRuntime) -> Result<(), Fail> {
     let text = b"a;b 1\na;b 2\nno count\nb;c;b 3\na;b; 4\r\nb;c;b\t5\n 6\na;b; 7\n 8\n";

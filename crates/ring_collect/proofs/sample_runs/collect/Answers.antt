@@ -29,35 +29,35 @@ returns-in_err-readers g c = record {
 pub returns : goal.returns
 returns g c =
     let taken = g.S.Sink.taken c.args.sink.now in
-    let taken' = g.S.Sink.taken c.collect_streams.new.sink in
+    let taken' = g.S.Sink.taken c.collect_by.new.sink in
     let gate = arc_value c.args.gate in
     let rest = g.R.SampleReader.rest in
-    let answers = λ (rests : List Rest). AnswersRun (g.G.Gate.may_stop gate) (g.G.Gate.may_go gate) rests taken taken' c.collect_streams.result in
-    let answer = subst answers c.in_ok-readers.ensures.rests (known_such (λ one given. given ≡ with_waiting one.waiting (rest one.reader)) (λ one. with_waiting one.waiting (rest one.reader)) (λ one other is. is) c.in_ok-readers.readers.items answers c.collect_streams.ensures.answer) in
+    let answers = λ (rests : List Rest). AnswersRun (g.G.Gate.may_stop gate) (g.G.Gate.may_go gate) rests taken taken' c.collect_by.result in
+    let answer = subst answers c.in_ok-readers.ensures.rests (known_such (λ one given. given ≡ with_waiting one.waiting (rest one.reader)) (λ one. with_waiting one.waiting (rest one.reader)) (λ one other is. is) c.in_ok-readers.readers.items answers c.collect_by.ensures.answer) in
     record {
-      lists = IfOk-weaker c.collect_streams.result _ _ (λ run collected. collected.lists) answer.run;
-      whole = λ never. IfOk-weaker c.collect_streams.result _ _ (λ run collected. collected.whole never) answer.run;
-      told = IfOk-weaker c.collect_streams.result _ _ (λ run collected. collected.told) answer.run;
-      distinct = IfOk-weaker c.collect_streams.result _ _ (λ run collected. collected.distinct) answer.run;
-      order = IfOk-weaker c.collect_streams.result _ _ (λ run collected. collected.order) answer.run;
-      sink = IfOk-weaker c.collect_streams.result _ _ (λ run collected. collected.sink) answer.run;
-      by_source = IfOk-weaker c.collect_streams.result _ _ (λ run collected. collected.by_source) answer.run;
+      lists = IfOk-weaker c.collect_by.result _ _ (λ run collected. collected.lists) answer.run;
+      whole = λ never. IfOk-weaker c.collect_by.result _ _ (λ run collected. collected.whole never) answer.run;
+      told = IfOk-weaker c.collect_by.result _ _ (λ run collected. collected.told) answer.run;
+      distinct = IfOk-weaker c.collect_by.result _ _ (λ run collected. collected.distinct) answer.run;
+      order = IfOk-weaker c.collect_by.result _ _ (λ run collected. collected.order) answer.run;
+      sink = IfOk-weaker c.collect_by.result _ _ (λ run collected. collected.sink) answer.run;
+      by_source = IfOk-weaker c.collect_by.result _ _ (λ run collected. collected.by_source) answer.run;
       refused = answer.refused;
       popped = answer.popped;
       unfinished = λ source fault. subst (λ n. Unfinishes n source taken taken') (length-map c.args.readers.items g.R.SampleReader.rest) (answer.unfinished source fault);
-      setting = c.collect_streams.ensures.setting;
+      setting = c.collect_by.ensures.setting;
     }
 
-pub collect_streams-requires-clause-few : goal.collect_streams-requires-clause-few
-collect_streams-requires-clause-few g c = λ κs within.
+pub collect_by-requires-clause-few : goal.collect_by-requires-clause-few
+collect_by-requires-clause-few g c = λ κs within.
     let count = sym (length-map _ _) ∙ ap length c.in_ok-readers.ensures.rests ∙ length-map c.args.readers.items g.R.SampleReader.rest in
     subst (λ n. n ≤ 64) (sym count) c.requires
 
-pub collect_streams-requires-clause-nothing_told : goal.collect_streams-requires-clause-nothing_told
-collect_streams-requires-clause-nothing_told g c = λ κs within. c.in_ok-readers.ensures.nothing_told
+pub collect_by-requires-clause-nothing_told : goal.collect_by-requires-clause-nothing_told
+collect_by-requires-clause-nothing_told g c = λ κs within. c.in_ok-readers.ensures.nothing_told
 
 -- a reader that numbers a reader's samples gives their rest
-pub collect_streams-requires-clause-possible : goal.collect_streams-requires-clause-possible
-collect_streams-requires-clause-possible g c = λ κs within. λ source one below.
+pub collect_by-requires-clause-possible : goal.collect_by-requires-clause-possible
+collect_by-requires-clause-possible g c = λ κs within. λ source one below.
     let numbering = get_or c.in_ok-readers.readers.items source one in
     record { rest = with_waiting numbering.waiting (g.R.SampleReader.rest numbering.reader); is_given = refl }

@@ -12,4 +12,4 @@ returns-clause-sent g c =
     let title = c.deref.ensures ∙ c.in_ok-title.ensures ∙ ap (λ (files : List (List ℕ)). unwrap_or c.args.page.now.title (default_title files)) c.get-files.ensures in
     let sources = ap (map source_of) c.deref-2.ensures.value ∙ c.in_ok-described.ensures ∙ (λ i. sources_of c.args.plan.now.unit (c.get-files.ensures i) (c.get.ensures i) lists) in
     subst (λ (heading : PageHeading). Sends (headed_text heading c.args.plan.now.view lists c.args.sources.order c.args.plan.now.options.every) (g.W.Outlet.contents c.args.out.now) (g.W.Outlet.contents c.send_headed.new.out) c.send_headed.result)
-    (c.heading_with-heading.ensures ∙ (λ i. record { title = title i; sources = sources i; least = c.args.page.now.least; whole = c.args.facts.now.whole; is_root_below = c.args.page.now.is_root_below })) c.send_headed.ensures.sent
+    (c.heading_with-heading.ensures ∙ (λ i. record { title = title i; sources = sources i; least = c.args.page.now.least; whole = c.args.facts.now.whole; is_root_below = c.args.page.now.is_root_below; is_share = c.args.page.now.is_share })) c.send_headed.ensures.sent

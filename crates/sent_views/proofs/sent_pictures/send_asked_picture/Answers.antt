@@ -14,4 +14,4 @@ returns-clause-sent g c =
     let sources = ap (map source_of) c.deref-2.ensures.value ∙ c.in_ok-described.ensures ∙ (λ i. sources_of asked.plan.now.unit (c.get-files.ensures i) (c.get-types.ensures i) lists) in
     let unit = c.common.ensures ∙ ap (λ all. common_unit (units_with_weight all)) sources in
     subst (λ (frame : PictureFrame). Sends (framed_text frame asked.plan.now.view lists) (g.W.Outlet.contents c.args.out.now) (g.W.Outlet.contents c.send_framed.new.out) c.send_framed.result)
-    (λ i. record { title = title i; unit = unit i; is_root_below = asked.form.now.is_root_below }) c.send_framed.ensures.sent
+    (λ i. record { title = title i; unit = unit i; is_root_below = asked.form.now.is_root_below; is_share = asked.form.now.is_share }) c.send_framed.ensures.sent

@@ -9,14 +9,14 @@ use Rattle.svg_texts.specs.Svg.{compared_svg, svg_text}
 use Rattle.svg_texts.proofs.OwnWeights.{comparison-own, own_paired}
 use Rattle.sent_views.proofs.sent_pictures.send_compared.Goals as goal
 
-pub of-requires-clause-within : goal.of-requires-clause-within
-of-requires-clause-within g c =
+pub of-requires-2-clause-within : goal.of-requires-2-clause-within
+of-requires-2-clause-within g c =
     let total = c.args.picture.now.total in
     paired_within c.as_slice.result.now total (subst (λ (all : List DrawnPair). All (λ pair. pair.drawn.start + pair.drawn.weight ≤ total) all) (sym c.as_slice.ensures.value)
     (subst (λ n. All (λ (pair : DrawnPair). pair.drawn.start + pair.drawn.weight ≤ n) c.in_ok-boxes.boxes.items) (sym c.requires.total) c.in_ok-boxes.ensures.within))
 
-pub of-requires-clause-own : goal.of-requires-clause-own
-of-requires-clause-own g c =
+pub of-requires-2-clause-own : goal.of-requires-2-clause-own
+of-requires-2-clause-own g c =
     let before = c.args.before.now.samples in
     let after = c.args.after.now.samples in
     own_paired c.as_slice.result.now _ (total_weight after) (ap (map compared_of) c.as_slice.ensures.value ∙ c.in_ok-boxes.ensures.boxes) (comparison-own before after) c.requires.after

@@ -1,34 +1,58 @@
-use Rattle.std.proofs.Common.{◌∙◌, ◌<◌, ◌-◌, [], ap, arith, drop, get_or, length, map, sym, take}
+use Rattle.std.proofs.Common.{◌∙◌, ◌≡◌, ◌<◌, ◌-◌, ℕ, Bool, List, [], All, ap, arith, drop, get_or, length, map, subst, sym, take}
 use Rattle.std.proofs.lemmas.Result.{IfOk-from_err}
 use Rattle.std.proofs.lemmas.List.{length-drop, map_push, take_all, take_more}
-use Rattle.stack_core.specs.Ledgers.{keeping}
-use Rattle.source_lists.specs.checked.CutStacks.{from_marked}
+use Rattle.stack_core.specs.Ledgers.{LedgerState, keeping}
+use Rattle.source_lists.specs.checked.CutStacks.{from_marked, shown_numbers, unmarked}
 use Rattle.source_lists.specs.checked.KeptStacks.{begun}
+use Rattle.source_lists.proofs.CutLemmas.{all_shown_numbers, numbers_shorter}
 use Rattle.source_lists.proofs.cut_lists.keep_cut_stacks.Goals as goal
 
-pub returns-in_err-numbers_of : goal.returns-in_err-numbers_of
-returns-in_err-numbers_of c = IfOk-from_err c.from_residual.result _ c.from_residual.ensures.0
+pub returns-in_err-unmarked : goal.returns-in_err-unmarked
+returns-in_err-unmarked c = IfOk-from_err c.from_residual.result _ c.from_residual.ensures.0
 
 pub returns-in_err-keep : goal.returns-in_err-keep
 returns-in_err-keep c = IfOk-from_err c.from_residual-in_err-keep.result _ c.from_residual-in_err-keep.ensures.0
 
+-- the numbers that are kept are those that are shown of the stack
+shown_of_stack : (starts left_out : List Bool) (stack kept : List ℕ) (first : ℕ) → kept ≡ unmarked left_out (take (length stack - first) (drop first stack)) → drop first stack ≡ from_marked starts stack
+    → kept ≡ shown_numbers starts left_out stack
+shown_of_stack starts left_out stack kept first is begins =
+    is ∙ ap (unmarked left_out) (take_all (length stack - first) (drop first stack) (omega (arith, length-drop first stack)) ∙ begins)
+
+pub keep-requires-clause-depth : goal.keep-requires-clause-depth
+keep-requires-clause-depth c =
+    let stack = c.stack-stack.result.now in
+    let starts = c.args.starts.now in
+    let left_out = c.args.left_out.now in
+    let is = shown_of_stack starts left_out stack c.deref.result.now c.first_marked-first.result (c.deref.ensures.value ∙ c.in_ok-unmarked.ensures) c.first_marked-first.ensures.first in
+    omega (arith, ap length is, numbers_shorter starts left_out stack, c.stack-stack.ensures.limit)
+
+pub keep-requires-clause-numbers : goal.keep-requires-clause-numbers
+keep-requires-clause-numbers c =
+    let stack = c.stack-stack.result.now in
+    let starts = c.args.starts.now in
+    let left_out = c.args.left_out.now in
+    let is = shown_of_stack starts left_out stack c.deref.result.now c.first_marked-first.result (c.deref.ensures.value ∙ c.in_ok-unmarked.ensures) c.first_marked-first.ensures.first in
+    let told = ap (λ (ledger : LedgerState). ledger.told) c.loop-number.invariant in
+    subst (λ (told : List (List ℕ)). All (λ k. k < length told) c.deref.result.now) (sym told)
+    (subst (λ (kept : List ℕ). All (λ k. k < length c.args.list.now.told) kept) (sym is) (all_shown_numbers (λ k. k < length c.args.list.now.told) starts left_out stack c.stack-stack.ensures.told))
+
 pub loop-number-preserved : goal.loop-number-preserved
 loop-number-preserved c =
     let list = c.args.list.now in
-    let marks = c.args.marks.now in
+    let starts = c.args.starts.now in
+    let left_out = c.args.left_out.now in
     let n = c.loop-number.number in
     let within : n < length list.stacks = omega arith in
-    let cut = from_marked marks in
-    let stack_now = c.stack-stack.result.now in
-    let first = c.first_marked-first.result in
+    let shown = shown_numbers starts left_out in
     let stack =
-    c.deref.ensures.value
-    ∙ (c.in_ok-numbers_of.ensures ∙ (take_all (length stack_now - first) (drop first stack_now) (omega (arith, length-drop first stack_now)) ∙ (c.first_marked-first.ensures.first ∙ ap cut c.stack-stack.ensures.value))) in
+    shown_of_stack starts left_out c.stack-stack.result.now c.deref.result.now c.first_marked-first.result (c.deref.ensures.value ∙ c.in_ok-unmarked.ensures) c.first_marked-first.ensures.first
+    ∙ ap shown c.stack-stack.ensures.value in
     c.in_ok-keep.ensures.ok
     ∙ ((λ i. keeping (c.loop-number.invariant i) (stack i))
-    ∙ ap (begun list.told) (sym (map_push cut (take n list.stacks) (get_or list.stacks n [])) ∙ ap (map cut) (sym (take_more list.stacks n [] within))))
+    ∙ ap (begun list.told) (sym (map_push shown (take n list.stacks) (get_or list.stacks n [])) ∙ ap (map shown) (sym (take_more list.stacks n [] within))))
 
 pub returns : goal.returns
 returns c =
     let list = c.args.list.now in
-    c.loop-number.invariant ∙ ap (λ stacks. begun list.told (map (from_marked c.args.marks.now) stacks)) (take_all c.loop-number.number list.stacks (omega arith))
+    c.loop-number.invariant ∙ ap (λ stacks. begun list.told (map (shown_numbers c.args.starts.now c.args.left_out.now) stacks)) (take_all c.loop-number.number list.stacks (omega arith))

@@ -1,7 +1,8 @@
 use Rattle.std.proofs.Common.{◌∙◌, ◌<◌, ◌++◌, ◌∷◌, [], ap, arith, length, map, sym, take}
 use Rattle.std.proofs.lemmas.Result.{IfOk-from_err}
 use Rattle.std.proofs.lemmas.List.{map_push, take_all, take_more}
-use Rattle.source_lists.specs.FromNames.{has_name}
+use Rattle.std.specs.List.{list_any}
+use Rattle.source_lists.specs.checked.CutStacks.{begins}
 use Rattle.source_lists.specs.checked.KeptStacks.{all_are_passing, are_passing}
 use Rattle.source_lists.proofs.cut_stacks.all_stacks_with.Goals as goal
 
@@ -19,7 +20,7 @@ loop-list-preserved c =
     let lists = c.args.lists.now in
     let n = c.loop-list.list-index in
     let list = c.list-item.result in
-    let passes = has_name c.args.name.now in
+    let passes = list_any (begins c.args.from.now) in
     let within : n < length lists = omega arith in
     let one_more = take_more lists n list within ∙ ap (λ last. take n lists ++ last ∷ []) (sym c.list-item.is) in
     ap (map (λ marks. marks.items)) c.in_ok-push.ensures.items
@@ -28,4 +29,4 @@ loop-list-preserved c =
 
 pub returns : goal.returns
 returns c =
-    c.loop-list.invariant ∙ ap (all_are_passing (has_name c.args.name.now)) (take_all c.loop-list.list-index c.args.lists.now (omega arith))
+    c.loop-list.invariant ∙ ap (all_are_passing (list_any (begins c.args.from.now))) (take_all c.loop-list.list-index c.args.lists.now (omega arith))

@@ -3,23 +3,23 @@ use Rattle.std.specs.List.{list_any}
 use Rattle.std.proofs.lemmas.List.{map_push, take_more, take_all}
 use Rattle.sample_tables.specs.Rows.{name_at}
 use Rattle.source_lists.specs.checked.KeptStacks.{is_marked}
-use Rattle.source_lists.specs.FromNames.{has_name}
-use Rattle.source_lists.proofs.CutLemmas.{any_named}
+use Rattle.source_lists.specs.checked.CutStacks.{begins}
+use Rattle.source_lists.proofs.CutLemmas.{any_passing}
 use Rattle.std.proofs.lemmas.Result.{IfOk-from_err}
 use Rattle.source_lists.proofs.cut_stacks.stacks_with.Goals as goal
 
 pub loop-number-preserved : goal.loop-number-preserved
 loop-number-preserved c =
-    let name = c.args.name.now in
+    let from = c.args.from.now in
     let told = c.args.list.now.told in
     let stacks = c.args.list.now.stacks in
     let n = c.loop-number.number in
     let frames = c.stack.result.now in
-    let keep_one : List ℕ → Bool = λ frames. has_name name (map (name_at told) frames) in
+    let keep_one : List ℕ → Bool = λ frames. list_any (begins from) (map (name_at told) frames) in
     let by_marks =
     c.has_mark.ensures
     ∙ (ap (λ marks. list_any (is_marked marks) frames) (c.deref.ensures.value ∙ c.in_ok-marks.ensures)
-    ∙ (any_named name told frames c.stack.ensures.told ∙ ap keep_one c.stack.ensures.value)) in
+    ∙ (any_passing (begins from) told frames c.stack.ensures.told ∙ ap keep_one c.stack.ensures.value)) in
     let within : n < length stacks = omega (arith, c.stack_count-count.ensures) in
     c.in_ok-push.ensures.items
     ∙ ((λ i. c.loop-number.invariant i ++ by_marks i ∷ [])
@@ -38,4 +38,4 @@ pub returns : goal.returns
 returns c =
     let list = c.args.list.now in
     c.loop-number.invariant
-    ∙ ap (map (λ frames. has_name c.args.name.now (map (name_at list.told) frames))) (take_all c.loop-number.number list.stacks (omega (arith, c.stack_count-count.ensures)))
+    ∙ ap (map (λ frames. list_any (begins c.args.from.now) (map (name_at list.told) frames))) (take_all c.loop-number.number list.stacks (omega (arith, c.stack_count-count.ensures)))

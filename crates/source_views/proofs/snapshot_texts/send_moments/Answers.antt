@@ -1,13 +1,25 @@
-use Rattle.std.proofs.Common.{◌≡◌, ◌∙◌, ◌+◌, ap, arith, get_or, length, rules, subst, List}
-use Rattle.std.proofs.KnownBytes.{Appends-trans}
+use Rattle.std.proofs.Common.{◌≡◌, ◌∙◌, ◌+◌, ap, arith, get_or, length, replicate, rules, subst, sym, List}
+use Rattle.std.proofs.KnownBytes.{Appends-nil, Appends-trans}
 use Rattle.std.specs.Io.KnownBytes.{Appends}
 use Rattle.sample_tables.specs.declared.samples.Sample.{Sample}
+use Rattle.stack_core.specs.Ledgers.{ListState}
+use Rattle.std.proofs.lemmas.List.{length-map}
 use Rattle.stack_core.specs.Interleaving.{list_of}
 use Rattle.byte_io.proofs.PieceTexts.{on_err}
 use Rattle.merged_stacks.specs.Timeline.{samples_of}
 use Rattle.source_views.specs.checked.Moments.{due_line}
-use Rattle.source_views.proofs.SnapshotLines.{counted_next, lines_front, lines_more, lines_upto, next_lent}
+use Rattle.source_views.proofs.SnapshotLines.{AreCounted, counted_next, lines_front, none_counted, lines_more, lines_upto, next_lent, no_lines}
 use Rattle.source_views.proofs.snapshot_texts.send_moments.Goals as goal
+
+pub loop-source-init : goal.loop-source-init
+loop-source-init g c = record {
+  lists = c.in_ok-growing.ensures.lists ∙ ap samples_of c.lists.ensures.lists;
+  counted = none_counted _ (samples_of c.args.sources.now.lists) c.args.sources.now.order
+      (c.in_ok-growing.ensures.counts ∙ ap (λ n. replicate n 0) (ap length c.lists.ensures.lists ∙ sym (length-map c.args.sources.now.lists (λ (list : ListState). list.samples))));
+  moment = search rules;
+  sent = subst (Appends (g.W.Outlet.contents c.args.out.now) (g.W.Outlet.contents c.args.out.now)) (sym (no_lines c.args.width c.args.every (samples_of c.args.sources.now.lists) c.args.sources.now.order)) (Appends-nil (g.W.Outlet.contents c.args.out.now));
+  unfailed = search rules;
+}
 
 pub take-requires-clause-source : goal.take-requires-clause-source
 take-requires-clause-source g c =
@@ -46,8 +58,8 @@ loop-source-preserved g c =
     let counted = counted_next c.loop-source.growing.counts c.take.new.self.counts p run.order c.order-source-items.result.now lists lent.ordered lent.order (omega arith) c.take.ensures.counts c.loop-source.invariant.counted in
     let moment : c.loop-source.at + 1 ≡ p + 1 = ap (λ n. n + 1) c.loop-source.invariant.moment in
     record {
-      lists = same;
-      counted = counted;
+      lists = c.in_ok-send_due.ensures.lists ∙ same;
+      counted = subst (λ counts. AreCounted counts (p + 1) run.order lists) (sym c.in_ok-send_due.ensures.counts) counted;
       moment = moment;
       sent =
           subst (Appends (g.W.Outlet.contents c.args.out.now) (g.W.Outlet.contents c.send_due.new.out)) (lines_more c.args.width c.args.every p (c.loop-source.at + 1) c.take.new.self lists run.order c.requires moment same counted)

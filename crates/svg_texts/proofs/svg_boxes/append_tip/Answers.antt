@@ -9,7 +9,7 @@ pub returns-clause-ok : goal.returns-clause-ok
 unfolding tip
 returns-clause-ok c =
     on_ok_weaker c.append_weight_in.result
-    (λ is. is ∙ rw (c.in_ok-append_share.ensures.ok, c.in_ok-extend_from_slice-2.ensures.items, c.in_ok-append_weights_in_tip.ensures.ok, c.in_ok-extend_from_slice.ensures.items, c.in_ok-append_name_in_tip.ensures.ok) (simp append_assoc))
+    (λ is. is ∙ rw (c.in_ok-append_weights_in_tip.ensures.ok, c.in_ok-extend_from_slice.ensures.items, c.in_ok-append_name_in_tip.ensures.ok) (simp append_assoc))
     c.append_weight_in.ensures.ok
 
 pub returns-clause-front : goal.returns-clause-front
@@ -17,6 +17,4 @@ returns-clause-front c =
     let start = c.args.out.now.items in
     let one = front_more c.extend_from_slice.new.self.items c.append_name_in_tip.new.out.items start (codes ": ") c.in_ok-extend_from_slice.ensures.items c.append_name_in_tip.ensures.front in
     let two = front_trans c.append_weights_in_tip.new.out.items c.extend_from_slice.new.self.items start c.append_weights_in_tip.ensures.front one in
-    let three = front_more c.extend_from_slice-2.new.self.items c.append_weights_in_tip.new.out.items start (codes ", ") c.in_ok-extend_from_slice-2.ensures.items two in
-    let four = front_more c.append_share.new.out.items c.extend_from_slice-2.new.self.items start _ c.in_ok-append_share.ensures.ok three in
-    front_trans c.append_weight_in.new.out.items c.append_share.new.out.items start c.append_weight_in.ensures.front four
+    front_trans c.append_weight_in.new.out.items c.append_weights_in_tip.new.out.items start c.append_weight_in.ensures.front two

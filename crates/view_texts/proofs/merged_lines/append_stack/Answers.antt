@@ -1,5 +1,6 @@
 use Rattle.std.proofs.Common.{rules}
 use Rattle.sample_tables.specs.Rows.{sample_at}
+use Rattle.merged_stacks.specs.RankedStacks.{ranked_samples}
 use Rattle.byte_io.proofs.PieceTexts.{further}
 use Rattle.view_texts.proofs.Fronts.{longer_front, same_front}
 use Rattle.view_texts.proofs.MergedLines.{line_written}
@@ -18,7 +19,7 @@ returns-in_err-push-clause-front c =
 
 pub returns-clause-ok : goal.returns-clause-ok
 returns-clause-ok c =
-    let sample = sample_at c.args.merged.now c.args.at in
+    let sample = sample_at (ranked_samples c.args.merged.now) c.args.at in
     line_written sample.stack _ sample.weight _ _ _ _ (search rules) c.in_ok-append_names.ensures.ok c.in_ok-append_column.ensures.ok c.in_ok-push.ensures.items
 
 pub returns-clause-front : goal.returns-clause-front

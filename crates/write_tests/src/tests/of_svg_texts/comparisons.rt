@@ -52,3 +52,71 @@ fn root_below(rt: HostRuntime) -> Result<(), Fail> {
 "##;
     makes(&rt, &around, &BELOW, wanted)
 }
+
+// The totals are the greatest that differ. A share that is greater by nearly nothing has a colour, and no points.
+const SHARES: Boxes<'static> = Boxes::Shares(
+    &[
+        ((0, "all", 0, 18446744073709551615, 0), 18446744073709551614),
+        ((1, "new", 0, 9223372036854775807, 9223372036854775807), 0),
+        (
+            (
+                1,
+                "less",
+                9223372036854775807,
+                4611686018427387904,
+                4611686018427387904,
+            ),
+            9223372036854775807,
+        ),
+        (
+            (
+                1,
+                "grown",
+                13835058055282163711,
+                4611686018427387904,
+                4611686018427387904,
+            ),
+            4611686018427387903,
+        ),
+    ],
+    18446744073709551614,
+);
+
+#[test]
+fn shares_of_long_profiles(rt: HostRuntime) -> Result<(), Fail> {
+    let around = ("shares", "", 18446744073709551615, 480, false);
+    let wanted =
+        r##"<svg xmlns="http://www.w3.org/2000/svg" width="480" height="72" viewBox="0 0 480 72" font-family="monospace" font-size="12">
+<title>shares</title>
+<rect width="480" height="72" fill="#fbfbf9"/>
+<text x="4" y="15">shares</text>
+<g><title>all: before 18,446,744,073,709,551,614, 100.00%, after 18,446,744,073,709,551,615, 100.00%, points 0.00%, own 0</title><rect x="0" y="18" width="480" height="17" fill="hsl(6, 0.0%, 88.0%)"/><text x="4" y="31">all 0.00%</text></g>
+<g><title>new: before 0, 0.00%, after 9,223,372,036,854,775,807, 50.00%, points +50.00%, own 9,223,372,036,854,775,807</title><rect x="0" y="36" width="239" height="17" fill="hsl(6, 74.0%, 68.0%)"/><text x="4" y="49">new +50.00%</text></g>
+<g><title>less: before 9,223,372,036,854,775,807, 50.00%, after 4,611,686,018,427,387,904, 25.00%, points -25.00%, own 4,611,686,018,427,387,904</title><rect x="239" y="36" width="120" height="17" fill="hsl(213, 50.0%, 78.0%)"/><text x="243" y="49">less -25.00%</text></g>
+<g><title>grown: before 4,611,686,018,427,387,903, 25.00%, after 4,611,686,018,427,387,904, 25.00%, points 0.00%, own 4,611,686,018,427,387,904</title><rect x="359" y="36" width="121" height="17" fill="hsl(6, 30.7%, 86.0%)"/><text x="363" y="49">grown 0.00%</text></g>
+<text x="4" y="67">total 18,446,744,073,709,551,615</text>
+</svg>
+"##;
+    makes(&rt, &around, &SHARES, wanted)
+}
+
+const OF_NOTHING: Boxes<'static> = Boxes::Shares(
+    &[((0, "all", 0, 4, 0), 0), ((1, "a", 0, 4, 4), 0)],
+    0,
+);
+
+#[test]
+fn shares_of_nothing(rt: HostRuntime) -> Result<(), Fail> {
+    let around = ("", "", 4, 200, false);
+    let wanted =
+        r##"<svg xmlns="http://www.w3.org/2000/svg" width="200" height="72" viewBox="0 0 200 72" font-family="monospace" font-size="12">
+<title></title>
+<rect width="200" height="72" fill="#fbfbf9"/>
+<text x="4" y="15"></text>
+<g><title>all: before 0, 0.00%, after 4, 100.00%, points +100.00%, own 0</title><rect x="0" y="18" width="200" height="17" fill="hsl(6, 74.0%, 68.0%)"/><text x="4" y="31">all +100.00%</text></g>
+<g><title>a: before 0, 0.00%, after 4, 100.00%, points +100.00%, own 4</title><rect x="0" y="36" width="200" height="17" fill="hsl(6, 74.0%, 68.0%)"/><text x="4" y="49">a +100.00%</text></g>
+<text x="4" y="67">total 4</text>
+</svg>
+"##;
+    makes(&rt, &around, &OF_NOTHING, wanted)
+}

@@ -15,6 +15,8 @@ pub(super) enum Boxes<'a> {
     Graph(&'a [Row<'a>]),
     /// Those of a comparison, each with what its path weighed before.
     Compared(&'a [(Row<'a>, u64)]),
+    /// Those of a comparison of shares, of so much before.
+    Shares(&'a [(Row<'a>, u64)], u64),
 }
 
 /// What stands round boxes: the title, the unit, the total, the width, and whether the root is below.
@@ -27,6 +29,7 @@ pub(super) fn picture_of<'a>(around: &Around<'a>) -> Option<Picture<'a>> {
         title,
         unit,
         total: *total,
+        total_before: None,
         width: Width::of(*width)?,
         root_below: *root_below,
     })
@@ -76,6 +79,13 @@ fn append(
     match boxes {
         Boxes::Graph(rows) => append_graph(alloc, out, &picture, rows, &mut Vec::new(alloc)),
         Boxes::Compared(rows) => {
+            append_comparison(alloc, out, &picture, rows, &mut Vec::new(alloc))
+        }
+        Boxes::Shares(rows, before) => {
+            let picture = Picture {
+                total_before: Some(*before),
+                ..picture
+            };
             append_comparison(alloc, out, &picture, rows, &mut Vec::new(alloc))
         }
     }

@@ -8,7 +8,7 @@ use crate::tests::sources::{Rows, add_lists, are_light};
 use crate::tests::texts::refuse;
 use byte_io::append_pieces;
 use flame_layout::{Chart, MergedStacks, Width, total_weight};
-use merged_stacks::PairedStacks;
+use merged_stacks::{Alone, PairedStacks};
 use stack_core::SourceList;
 use std::alloc::{AllocError, Global};
 use view_texts::{FoldedText, PairedText, Scale, drawn_line};
@@ -26,7 +26,7 @@ pub(super) enum Joined {
 fn append_merged(alloc: Global, out: &mut Vec<u8>, lists: &[SourceList]) -> Result<(), AllocError>
     requires { total_weight (all_samples (samples_of lists.now)) < 2 ^ 64 }
 {
-    let merged = MergedStacks::of(alloc, lists)?;
+    let merged = MergedStacks::of(alloc, lists, &Alone)?;
     append_pieces(alloc, &FoldedText::of(&merged), out)
 }
 
@@ -39,7 +39,7 @@ fn append_paired(
     requires before { list_weight before.now.samples < 2 ^ 64 }
     requires after { list_weight after.now.samples < 2 ^ 64 }
 {
-    let stacks = PairedStacks::of(alloc, before, after)?;
+    let stacks = PairedStacks::of(alloc, before, after, &Alone)?;
     append_pieces(alloc, &PairedText::of(&stacks), out)
 }
 

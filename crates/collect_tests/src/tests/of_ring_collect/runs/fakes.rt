@@ -1,12 +1,15 @@
 //! Readers, gates and sinks of which a test knows what they do.
 
-ghost use Rattle.std.specs.Prelude.{◌≡◌};
+ghost use Rattle.std.specs.Prelude.{◌≡◌, None};
 
-use stack_core::{Gate, Names, Sample, SampleReader, Sink, SourceEnd, Step, Turn};
+use byte_io::{BytesInlet, Inlet};
+use stack_core::{
+    Gate, Ledger, Names, NoSink, RowSink, Sample, SampleReader, Sink, SourceEnd, Step, Turn,
+};
 use std::alloc::{AllocError, Global};
 use std::sync::Arc;
 use std::sync::atomic::{AtomicU64, Ordering};
-use std::thread;
+use std::{io, thread};
 
 /// How often one looks for what another thread is to do.
 pub const TURNS: u32 = 50_000_000;
@@ -285,5 +288,57 @@ impl Sink for Recorder {
         self.pairs.push((source, sample.clone()?))?;
         self.counts.takes.fetch_add(1, Ordering::SeqCst);
         Ok(())
+    }
+}
+
+/// Counts the samples that it takes by rows.
+#[derive(Drop)]
+pub struct Taker {
+    pub taken: NoSink,
+    pub counts: Arc<Counts>,
+}
+
+impl RowSink for Taker {
+    ghost taken = { λ sink. sink.taken };
+
+    fn take_row(
+        &mut self,
+        alloc: Global,
+        source: u32,
+        ledger: &Ledger,
+        row: usize,
+        weight: u64,
+    ) -> Result<(), AllocError> {
+        self.taken.take_row(alloc, source, ledger, row, weight)?;
+        self.counts.takes.fetch_add(1, Ordering::SeqCst);
+        Ok(())
+    }
+}
+
+/// Gives a piece at each read. Before, it waits a bounded time until the sink took a sample of each piece before, and counts the pieces
+/// for which that came, but the first.
+#[derive(Drop)]
+pub struct HeldBack {
+    pub pieces: Vec<BytesInlet>,
+    pub at: usize,
+    pub counts: Arc<Counts>,
+}
+
+impl Inlet for HeldBack {
+    ghost remaining = { λ _. None };
+
+    ghost failures = { λ _. 0 };
+
+    fn read(&mut self, buf: &mut [u8]) -> io::Result<usize> {
+        if self.at > 0 && waited(&self.counts.takes, self.at as u64) == Turn::Go {
+            self.counts.given.fetch_add(1, Ordering::SeqCst);
+        }
+        match self.pieces.get_mut(self.at) {
+            Some(piece) => {
+                self.at += 1;
+                piece.read(buf)
+            }
+            None => Ok(0),
+        }
     }
 }

@@ -20,6 +20,9 @@ returns-in-Hide c = c.filter_option-in-Hide.ensures ∙ sym (ap rule_at c.in-Hid
 pub returns-in-From : goal.returns-in-From
 returns-in-From c = c.from_option.ensures ∙ sym (ap rule_at c.in-From.is)
 
+pub returns-in-Omit : goal.returns-in-Omit
+returns-in-Omit c = c.filter_option-in-Omit.ensures ∙ sym (ap rule_at c.in-Omit.is)
+
 pub returns-in-Ring : goal.returns-in-Ring
 returns-in-Ring c = c.ring_option.ensures ∙ sym (ap rule_at c.in-Ring.is)
 
@@ -70,6 +73,9 @@ returns-in-Title c = c.title_option.ensures ∙ sym (ap rule_at c.in-Title.is)
 
 pub returns-in-RootBelow : goal.returns-in-RootBelow
 returns-in-RootBelow c = c.form_flag-in-RootBelow.ensures ∙ sym (ap rule_at c.in-RootBelow.is)
+
+pub returns-in-FormShare : goal.returns-in-FormShare
+returns-in-FormShare c = c.form_flag-in-FormShare.ensures ∙ sym (ap rule_at c.in-FormShare.is)
 
 pub returns-in-Least : goal.returns-in-Least
 returns-in-Least c = c.least_option.ensures ∙ sym (ap rule_at c.in-Least.is)

@@ -19,7 +19,7 @@ returns-clause-ok c =
     let numbers = c.self.inside.numbers.items in
     let rows = c.self.inside.rows.items in
     let frames = c.args.frames.now in
-    let row : KnownRow = record { start = c.len-start.result; len = c.in_ok-len.len; hash = c.hash_of-hash.result } in
+    let row : KnownRow = record { start = c.len-start.result; len = c.in_ok-len.len; hash = c.args.hash } in
     let pushed : c.push.new.self.items ≡ rows ++ row ∷ [] = cc (c.in_ok-push.ensures.items, c.in_ok-reserve.ensures.items) in
     let len : c.in_ok-len.len ≡ length frames = search rules in
     ap (λ all. stacks_of all c.push.new.self.items) c.in_ok-append_numbers.ensures.ok ∙ ap (stacks_of (numbers ++ frames)) pushed

@@ -9,18 +9,18 @@ invariant_of-self c =
       low = omega (arith, ok.low, ok.high);
       high = omega arith;
       within = ok.within;
-      unfed = none_new c.self.inside c.deref.result.now ok c.deref.ensures.value c.in_default.ensures;
+      unfed = none_new c.self.inside c.as_slice.result.now ok c.as_slice.ensures c.in_default.ensures;
     }
 
 pub returns-in_default-clause-feed : goal.returns-in_default-clause-feed
 returns-in_default-clause-feed c =
     let ok = c.self.invariant in
-    none_held c.self.inside c.args.self.now ok c.self.view_is (none_new c.self.inside c.deref.result.now ok c.deref.ensures.value c.in_default.ensures)
+    none_held c.self.inside c.args.self.now ok c.self.view_is (none_new c.self.inside c.as_slice.result.now ok c.as_slice.ensures c.in_default.ensures)
 
 pub invariant_of-self-2 : goal.invariant_of-self-2
 invariant_of-self-2 c =
     let ok = c.self.invariant in
-    let found = found_new c.self.inside c.deref.result.now c.in-Some.at ok c.deref.ensures.value c.in-Some.ensures in
+    let found = found_new c.self.inside c.as_slice.result.now c.in-Some.at ok c.as_slice.ensures c.in-Some.ensures in
     record {
       low = omega (arith, ok.low);
       high = omega (arith, found.0);
@@ -29,4 +29,4 @@ invariant_of-self-2 c =
     }
 
 pub returns-clause-feed : goal.returns-clause-feed
-returns-clause-feed c = found_held c.self.inside c.deref.result.now c.args.self.now c.in-Some.at c.self.invariant c.deref.ensures.value c.in-Some.ensures c.self.view_is
+returns-clause-feed c = found_held c.self.inside c.as_slice.result.now c.args.self.now c.in-Some.at c.self.invariant c.as_slice.ensures c.in-Some.ensures c.self.view_is

@@ -7,12 +7,12 @@ use Rattle.function_sums.proofs.FoundCalls.{found_all, found_more, found_same}
 use Rattle.function_sums.proofs.calls.Call.beside.Goals as goal
 use Rattle.function_sums.proofs.calls.Call.beside.Goals.{then-eq+in_ok-push, else-eq}
 
-pub name-requires : goal.name-requires
-name-requires c = (c.pair-named.ensures.known (length c.args.stacks.now.names) (c.requires (c.loop-at.at - 1) 0 (omega (arith, c.loop-at-test.true))) (c.requires c.loop-at.at 0 c.loop-at-test.true)).0
+pub name_of-requires : goal.name_of-requires
+name_of-requires c = (c.pair-named.ensures.known (length c.args.merged.now.names) (c.requires (c.loop-at.at - 1) 0 (omega (arith, c.loop-at-test.true))) (c.requires c.loop-at.at 0 c.loop-at-test.true)).0
 
 pub loop-at-preserved : goal.loop-at-preserved
 loop-at-preserved c =
-    let names = c.args.stacks.now.names in
+    let names = c.args.merged.now.names in
     let call = c.args.self.now in
     let ranks = c.args.ranks.now in
     let at = c.loop-at.at in
@@ -20,7 +20,7 @@ loop-at-preserved c =
     let other = c.pair-named.result.1 in
     let below = c.pair-named.ensures.known (length names) (c.requires (at - 1) 0 (omega (arith, c.loop-at-test.true))) (c.requires at 0 c.loop-at-test.true) in
     let is = c.pair-named.ensures.other (name_at names) call.name.now in
-    let same : c.eq.result ≡ bytes_eq call.name.now (name_at names c.pair-named.result.0) = c.eq.ensures ∙ ap (bytes_eq call.name.now) c.name.ensures in
+    let same : c.eq.result ≡ bytes_eq call.name.now (name_at names c.pair-named.result.0) = c.eq.ensures ∙ ap (bytes_eq call.name.now) c.name_of.ensures in
     elim c.if-eq.branch [
       | then-eq+in_ok-push w ↦
           let all : c.if-eq.found.items ≡ found ++ other ∷ [] = (λ i. (w.found-is i).items) ∙ w.in_ok-push.ensures.items in
@@ -42,4 +42,4 @@ loop-at-preserved c =
 
 pub returns-clause-names : goal.returns-clause-names
 returns-clause-names c =
-    found_all c.args.stacks.now.names c.args.self.now.side c.args.self.now.name.now c.args.ranks.now c.loop-at.at c.loop-at.found.items c.loop-at.auto.at c.loop-at-test.false c.loop-at.invariant.names
+    found_all c.args.merged.now.names c.args.self.now.side c.args.self.now.name.now c.args.ranks.now c.loop-at.at c.loop-at.found.items c.loop-at.auto.at c.loop-at-test.false c.loop-at.invariant.names

@@ -6,7 +6,7 @@ use Rattle.function_sums.proofs.calls.Call.beside.Given as goal
 
 abbrev pub invariant-loop-at : goal.invariant-loop-at
 invariant-loop-at l = record {
-  known : All (λ rank. rank < length l.stacks.names) l.found.items;
-  names : map (name_at l.stacks.names) l.found.items ++ beside_in l.self.side l.self.name.now (map (name_at l.stacks.names) (drop (l.at - 1) l.ranks))
-      ≡ beside_in l.self.side l.self.name.now (map (name_at l.stacks.names) l.ranks);
+  known : All (λ rank. rank < length l.merged.names) l.found.items;
+  names : map (name_at l.merged.names) l.found.items ++ beside_in l.self.side l.self.name.now (map (name_at l.merged.names) (drop (l.at - 1) l.ranks))
+      ≡ beside_in l.self.side l.self.name.now (map (name_at l.merged.names) l.ranks);
 }

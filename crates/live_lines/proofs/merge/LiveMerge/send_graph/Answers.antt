@@ -6,7 +6,7 @@ use Rattle.flame_layout.specs.Boxes.{plain_box, span_of}
 use Rattle.flame_layout.specs.Graph.{graph_of}
 use Rattle.flame_layout.proofs.DrawnBoxes.{drawn_positive}
 use Rattle.merging.specs.Snapshots.{samples_of_pairs}
-use Rattle.source_views.proofs.SnapshotLines.{drawn_boxes_within, drawn_list}
+use Rattle.live_lines.proofs.DrawnLists.{drawn_boxes_within, drawn_list}
 use Rattle.source_views.proofs.TextLemmas.{graph_positive, graph_within}
 use Rattle.view_texts.specs.Json.{boxes_line}
 use Rattle.source_views.specs.Texts.{graph_line}

@@ -1,5 +1,8 @@
-use Rattle.std.proofs.Common.{◌+◌, List, ℕ, arith, refl, rules, subst, sym}
+use Rattle.std.proofs.Common.{◌+◌, ◌≤◌, List, ℕ, ap, arith, length, refl, rules, subst, sym}
+use Rattle.std.proofs.lemmas.List.{length-map}
+use Rattle.sample_tables.specs.Rows.{name_at, named, row_by, stack_at}
 use Rattle.sample_tables.specs.declared.samples.Sample.{Sample}
+use Rattle.sample_tables.specs.declared.samples.TheConstants.{FRAME_LIMIT}
 use Rattle.live_lines.specs.LiveState.{LiveState}
 use Rattle.live_lines.specs.checked.Merges.{HasRoom, IsLiveMerge}
 use Rattle.live_lines.proofs.MergeLemmas.{count_few, merge_push}
@@ -8,16 +11,19 @@ use Rattle.live_lines.proofs.merge.LiveMerge.take.Goals as goal
 pub count_source-requires : goal.count_source-requires
 count_source-requires c =
     let s = c.self.inside in
-    let room : HasRoom c.args.self.now c.args.sample.now = search rules in
-    let here = subst (λ (state : LiveState). HasRoom state c.args.sample.now) (sym c.self.view_is) room in
+    let room : HasRoom c.args.self.now c.args.weight = search rules in
+    let here = subst (λ (state : LiveState). HasRoom state c.args.weight) (sym c.self.view_is) room in
     omega (arith, count_few s.merged.taken s.counts.items s.at s.total c.args.source c.self.invariant, here.more, c.self.invariant.at_is)
 
 pub invariant_of-self-2 : goal.invariant_of-self-2
 invariant_of-self-2 c =
     let s = c.self.inside in
-    let sample = c.args.sample.now in
-    let room : HasRoom c.args.self.now c.args.sample.now = search rules in
-    let here = subst (λ (state : LiveState). HasRoom state sample) (sym c.self.view_is) room in
-    subst (λ (pairs : List (ℕ × Sample)). IsLiveMerge pairs c.count_source.new.counts.items (s.at + 1) (s.total + sample.weight)) (sym c.in_ok-take.ensures.ok)
-    (merge_push s.merged.taken c.args.source sample s.counts.items c.count_source.new.counts.items s.at s.total (s.at + 1) (s.total + sample.weight) c.self.invariant c.count_source.ensures refl refl
-    (omega (arith, here.fits, c.self.invariant.total_is)) here.depth)
+    let ledger = c.args.ledger.now in
+    let frames = stack_at ledger.stacks c.args.row in
+    let sample : Sample = named ledger.told (row_by ledger.stacks (record { stack = c.args.row; weight = c.args.weight })) in
+    let room : HasRoom c.args.self.now c.args.weight = search rules in
+    let here = subst (λ (state : LiveState). HasRoom state c.args.weight) (sym c.self.view_is) room in
+    let deep : length sample.stack ≤ FRAME_LIMIT = omega (arith, length-map frames (name_at ledger.told), ap length c.stack-stack.ensures.value, c.stack-stack.ensures.limit) in
+    subst (λ (pairs : List (ℕ × Sample)). IsLiveMerge pairs c.count_source.new.counts.items (s.at + 1) (s.total + c.args.weight)) (sym c.in_ok-take_row.ensures.ok)
+    (merge_push s.merged.taken c.args.source sample s.counts.items c.count_source.new.counts.items s.at s.total (s.at + 1) (s.total + c.args.weight) c.self.invariant c.count_source.ensures refl refl
+    (omega (arith, here.fits, c.self.invariant.total_is)) deep)

@@ -15,12 +15,11 @@ parts_of-requires-clause-ranks c =
 
 pub invariant_of-result : goal.invariant_of-result
 invariant_of-result c =
-    let names = map string_bytes c.in_ok-names.field-0.names.items in
     let lists = c.args.lists.now in
     let same : lists_in c.in_ok-parts.parts.items ≡ lists = ap lists_in c.in_ok-parts.ensures ∙ lists_begun lists in
     record {
       counted = c.in_ok-counts.ensures.items_if_clones_equal (λ y e. e) ∙ none_counted lists ∙ ap counts_in (sym c.in_ok-parts.ensures);
-      ranked = subst (λ all. AreRanks (all_told all) names c.in_ok-names.field-0.ranks.items) (sym same) c.in_ok-names.ensures;
+      ranked = subst (λ all. AreRanks (all_told all) c.none.result.names c.in_ok-names.field-0.ranks.items) (sym same) (subst (λ names. AreRanks (all_told lists) names c.in_ok-names.field-0.ranks.items) (sym c.none.ensures) c.in_ok-names.ensures);
       total = subst (λ all. total_weight (all_samples (samples_of all)) < 2 ^ 64) (sym same) c.requires;
     }
 

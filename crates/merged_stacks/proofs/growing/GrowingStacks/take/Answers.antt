@@ -1,4 +1,4 @@
-use Rattle.std.proofs.Common.{◌≡◌, ◌∙◌, ◌<◌, ◌^◌, ℕ, List, sym, ap, subst, length, get_or, map, set, string_bytes, arith}
+use Rattle.std.proofs.Common.{◌≡◌, ◌∙◌, ◌<◌, ◌^◌, ℕ, List, sym, ap, subst, length, get_or, set, arith}
 use Rattle.std.proofs.lemmas.List.{get_or_default, get_or-set_same, length-map}
 use Rattle.sample_tables.specs.declared.samples.Sample.{Sample}
 use Rattle.stack_core.specs.Interleaving.{list_of}
@@ -50,7 +50,7 @@ invariant_of-self c =
     let source = c.args.source in
     let part = c.index_mut.result.now in
     let now = c.take.new.self in
-    let names = map string_bytes c.self.inside.names.items in
+    let names = c.self.inside.merged.names in
     let within = has_part parts c.args.self.now.lists source (ap (λ (growing : GrowingState). growing.lists) c.self.view_is) c.requires.source in
     let lists = lists_same parts source now (same_list parts source part now within c.index_mut.ensures.value (ap (λ (front : ListFront). front.list) c.take.ensures)) in
     let count : c.count.result ≡ now.count = c.count.ensures ∙ ap (λ (front : ListFront). front.count) (c.index.ensures ∙ get_or-set_same parts source now c.index.result.now within) in

@@ -8,8 +8,8 @@ use Rattle.merged_stacks.proofs.KeptStacks.{picked_more, picked_room, row_weight
 use Rattle.merged_stacks.proofs.list_sums.ListSums.take.Goals as goal
 
 -- the next sample is that of a row
-next_row : (list : ListState) (sums : List ℕ) (i : ℕ) (front : ListFront) → IsSummed list sums i → record { list = list; count = i } ≡ front → front.count < length front.list.samples → i < length list.rows
-next_row list sums i front h is more =
+next_row : (list : ListState) (order sums : List ℕ) (i : ℕ) (front : ListFront) → IsSummed list order sums i → record { list = list; count = i } ≡ front → front.count < length front.list.samples → i < length list.rows
+next_row list order sums i front h is more =
     omega (arith, more, ap (λ (f : ListFront). f.count) is, ap (λ (f : ListFront). length f.list.samples) is, ap length h.samples_named, length-map list.rows (named list.told))
 
 pub overflow_add-index_mut : goal.overflow_add-index_mut
@@ -19,7 +19,7 @@ overflow_add-index_mut c =
     let sums = c.self.inside.sums.items in
     let k = c.stack_number.result in
     let h = c.self.invariant in
-    let within = next_row list sums i c.args.self.now h c.self.view_is c.requires in
+    let within = next_row list c.self.inside.order.items sums i c.args.self.now h c.self.view_is c.requires in
     let kept : k < length sums = omega (arith, c.stack_number.ensures.kept, h.len) in
     let old : c.index_mut.result.now ≡ get_or sums k 0 = c.index_mut.ensures.value ∙ get_or_default sums k c.index_mut.result.now 0 kept in
     let weight = c.weight.ensures.value ∙ row_weight list.told list.rows list.samples i h.samples_named within in
@@ -32,11 +32,12 @@ invariant_of-self c =
     let sums = c.self.inside.sums.items in
     let k = c.stack_number.result in
     let h = c.self.invariant in
-    let within = next_row list sums i c.args.self.now h c.self.view_is c.requires in
+    let within = next_row list c.self.inside.order.items sums i c.args.self.now h c.self.view_is c.requires in
     let kept : k < length sums = omega (arith, c.stack_number.ensures.kept, h.len) in
     let old : c.index_mut.result.now ≡ get_or sums k 0 = c.index_mut.ensures.value ∙ get_or_default sums k c.index_mut.result.now 0 kept in
     let weight = c.weight.ensures.value ∙ row_weight list.told list.rows list.samples i h.samples_named within in
     record {
+      ordered = h.ordered;
       len = length-set sums k (c.index_mut.result.now + c.weight.result) ∙ h.len;
       fits = h.fits;
       total = h.total;

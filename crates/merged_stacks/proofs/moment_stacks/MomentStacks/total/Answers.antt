@@ -1,6 +1,0 @@
-use Rattle.std.proofs.Common.{◌∙◌, map, string_bytes, sym}
-use Rattle.merged_stacks.proofs.JoinedStacks.{seen_total}
-use Rattle.merged_stacks.proofs.moment_stacks.MomentStacks.total.Goals as goal
-
-pub returns : goal.returns
-returns c = c.total.ensures ∙ sym (seen_total (map string_bytes c.self.inside.names.now) c.self.inside.rows c.args.self.now c.self.view_is)
