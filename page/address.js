@@ -69,7 +69,7 @@ export function fragmentOf(page, state) {
     if (state.share !== page.isShare) words.push(state.share ? 'share=1' : 'share=0');
     if (state.heavy) words.push('heavy=1');
     if (state.beside) words.push('beside=1');
-    if (state.packages) words.push('colours=package');
+    if (state.byName) words.push('colours=name');
     return `#${words.join('&')}`;
 }
 
@@ -160,7 +160,7 @@ export function linkedOf(page, words) {
         below: page.isBelow ? words.get('root') !== 'above' : words.get('root') === 'below',
         lists: wholeNumber(words.get('lists'), WIDEST_LISTS),
         share: page.view === 'compare' && (page.isShare ? words.get('share') !== '0' : words.get('share') === '1'),
-        packages: page.view !== 'compare' && words.get('colours') === 'package',
+        byName: page.view !== 'compare' && words.get('colours') === 'name',
     };
     return { state, isDead: box < 0 };
 }

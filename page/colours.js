@@ -83,10 +83,11 @@ export function nameShade(name) {
     return Math.floor(spread / 65536) % (HUES * SHADES);
 }
 
-// The place of a name's colour by its package: with the hue that the package would have as a name, and as light as the name's own.
+// The place of a name's colour by its package: with the hue that the package would have as a name, and as light as the name's own. A name without
+// a package has a hue of its own.
 /** @type {(name: string) => number} */
 export function packageShade(name) {
-    const hue = nameShade(packageOf(name)) % HUES;
+    const hue = nameShade(packageOf(name) || name) % HUES;
     return Math.floor(nameShade(name) / HUES) * HUES + hue;
 }
 

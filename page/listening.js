@@ -67,7 +67,7 @@ function listenToPrint(viewer) {
 /** @type {(viewer: Viewer) => void} */
 function listenToTools(viewer) {
     const [below, snapshot, before, share] = ['below', 'snapshot', 'before', 'share'].map(input);
-    const [heavy, beside, packages] = ['heavy', 'beside', 'packages'].map(input);
+    const [heavy, beside, byName] = ['heavy', 'beside', 'by-name'].map(input);
     button('back').addEventListener('click', () => viewer.goBack());
     below.addEventListener('change', () => viewer.change({ below: below.checked }, false));
     snapshot.addEventListener('input', () => viewer.turnTo({ drawing: Number(snapshot.value) }));
@@ -75,7 +75,7 @@ function listenToTools(viewer) {
     heavy.addEventListener('change', () => viewer.turnTo({ heavy: heavy.checked }));
     beside.addEventListener('change', () => viewer.turnTo({ beside: beside.checked, from: -1, to: -1 }));
     button('callers').addEventListener('click', () => viewer.showCallersOfFocus());
-    packages.addEventListener('change', () => viewer.change({ packages: packages.checked }, false));
+    byName.addEventListener('change', () => viewer.change({ byName: byName.checked }, false));
     share.addEventListener('change', () => viewer.change({ share: share.checked }, false));
     const scene = () => viewer.stage.wholeScene(viewer.view, false);
     button('save-svg').addEventListener('click', () => saveSvg(scene()));

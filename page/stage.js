@@ -47,7 +47,7 @@ export class Stage {
     scene(view, part, colours) {
         const { page, drawing, span, matches, state, isShare } = view;
         const { lettering, sourceLettering } = this;
-        const shadeOf = state.packages ? this.byPackage : this.byName;
+        const shadeOf = state.byName ? this.byName : this.byPackage;
         return { page, drawing, span, matches, isShare, below: state.below, ...part, colours, shadeOf, lettering, sourceLettering };
     }
 

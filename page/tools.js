@@ -60,8 +60,8 @@ export function showTools(view) {
     input('heavy').checked = state.heavy;
     element('beside-label').hidden = !hasLanes(page);
     input('beside').checked = state.beside;
-    element('packages-label').hidden = page.view === 'compare';
-    input('packages').checked = state.packages;
+    element('by-name-label').hidden = page.view === 'compare';
+    input('by-name').checked = state.byName;
     for (const arranging of ['heavy', 'beside']) input(arranging).disabled = state.callers >= 0;
     input('below').checked = state.below;
     element('snapshot-label').hidden = page.view === 'compare' || page.drawingCount === 1;

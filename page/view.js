@@ -15,8 +15,8 @@ import { spanOf } from './spans.js';
  * What a reader chose: the drawing, what of it is zoomed (a source of a chart, or none, -1, and a box, or a part of a chart from one weight to
  * another, -1 without), the words of the search and how they are meant, whether the root is below, how wide the lists are (0 where they are closed,
  * -1 as they are at first), whether a comparison is of shares, the name of the function whose callers and callees are looked at (-1 without),
- * whether of a graph the heaviest boxes come first, whether the sources of a chart stand side by side, whether boxes are coloured by package, and
- * the focused box.
+ * whether of a graph the heaviest boxes come first, whether the sources of a chart stand side by side, whether boxes are coloured by name alone,
+ * and the focused box.
  * @typedef {object} State
  * @property {number} drawing
  * @property {number} source
@@ -32,7 +32,7 @@ import { spanOf } from './spans.js';
  * @property {number} callers
  * @property {boolean} heavy
  * @property {boolean} beside
- * @property {boolean} packages
+ * @property {boolean} byName
  * @property {number} focus
  */
 

@@ -106,7 +106,7 @@ def beside_saved(check):
 
 
 def colours_by_package(check):
-    """Functions of one package have one hue. A comparison has colours of changes alone."""
+    """Functions of one package have one hue, or each name has one of its own. A comparison has colours of changes alone."""
     browser = check.browser
     path = check.place(check.show('graph', check.write('packages.folded', 'net/http.serve 1\nnet/http.write 1\nos.read 1\nos.write 1\n')))
 
@@ -115,18 +115,18 @@ def colours_by_package(check):
         return [round(36 * colorsys.rgb_to_hls(*(part / 255 for part in colour))[0]) for colour in colours]
 
     browser.open(path)
-    one, two, three, four = hues()
-    same(len({one, two, three, four}), 4, 'hues by name')
-    browser.click_on('#packages')
     first, second, third, fourth = hues()
     same([first == second, third == fourth, first == third], [True, True, False], 'hues by package')
-    same(fragment(browser), '#colours=package', 'fragment')
-    browser.open(path, '#colours=package')
-    same(hues(), [first, second, third, fourth], 'hues of a link')
-    browser.click_on('#packages')
-    same([hues(), fragment(browser)], [[one, two, three, four], ''], 'by name again')
-    check.show('compare', 'parse.folded', 'faster.folded', fragment='#colours=package')
-    same([fragment(browser), browser.value("document.getElementById('packages-label').hidden")], ['', True], 'a comparison')
+    browser.click_on('#by-name')
+    one, two, three, four = hues()
+    same(len({one, two, three, four}), 4, 'hues by name')
+    same(fragment(browser), '#colours=name', 'fragment')
+    browser.open(path, '#colours=name')
+    same(hues(), [one, two, three, four], 'hues of a link')
+    browser.click_on('#by-name')
+    same([hues(), fragment(browser)], [[first, second, third, fourth], ''], 'by package again')
+    check.show('compare', 'parse.folded', 'faster.folded', fragment='#colours=name')
+    same([fragment(browser), browser.value("document.getElementById('by-name-label').hidden")], ['', True], 'a comparison')
 
 
 TESTS = [beside, beside_zoomed, beside_by_links, beside_saved, colours_by_package]

@@ -66,8 +66,8 @@
         saved_with_other_sources() {
             bend.saved = (text) => text.replace('</g>\n</svg>', '<rect x="0" y="34" width="90" height="17" fill="#9aa0a8"/></g>\n</svg>');
         },
-        packages_as_names() {
-            bend.fragment = (fragment) => fragment.replace('&colours=package', '');
+        names_as_packages() {
+            bend.fragment = (fragment) => fragment.replace('&colours=name', '');
         },
         callers_of_another() {
             bend.fragment = (fragment) => fragment.replace(/callers=([^&]*)/, (word, name) => {

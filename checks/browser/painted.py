@@ -117,7 +117,7 @@ def arrangements(drawn: random.Random, watched: Watched) -> Iterator[list[Fault]
     if drawing.count > 1:
         yield watched.compare_saved()
     if document.kind != 'compare':
-        yield watched.go(View(drawing.number, below=watched.setting.below, packages=True))
+        yield watched.go(View(drawing.number, below=watched.setting.below, by_name=True))
         yield watched.compare_saved()
     if document.kind == 'chart' and drawing.count > 1:
         yield from sources_beside(drawn, watched)

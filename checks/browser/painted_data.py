@@ -30,7 +30,7 @@ class View:
     part: tuple[float, float] | None = None
     heavy: bool = False
     beside: bool = False
-    packages: bool = False
+    by_name: bool = False
 
     def at(self, **changed: Any) -> View:
         return replace(self, **changed)

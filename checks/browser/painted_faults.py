@@ -66,7 +66,7 @@ FAULTS = [
     PutBack('callers stand below what they call', 'c', 'callers_below_callees'),
     PutBack('what is joined has the colour of a box', 'd', 'joined_as_the_first'),
     PutBack('what is joined and matches in part has the colour of what is joined without a search', 'd', 'joined_matches_as_joined'),
-    PutBack('colours are by name where they are to be by package', 'd', 'packages_as_names', like_go),
+    PutBack('colours are by package where they are to be by name', 'd', 'names_as_packages', like_go),
     PutBack('colours are those of the box before', 'd', 'colours_of_the_box_before'),
     PutBack('matches have the colour of what does not match', 'd', 'matches_as_the_others'),
     PutBack('a row is left out', 'e', 'a_row_left_out'),
@@ -95,7 +95,7 @@ def looks(watched: Watched) -> Iterator[list[Fault]]:
         yield watched.compare_svg()
         yield watched.go(watched.view.at(source=-1, beside=False))
     if watched.document.kind != 'compare':
-        yield watched.go(watched.view.at(find='', packages=True))
+        yield watched.go(watched.view.at(find='', by_name=True))
     drawing = watched.document.drawing(watched.view)
     heaviest = max((box for box in range(drawing.count) if drawing.depth[box] == 2), key=lambda box: drawing.weight[box])
     yield watched.go(watched.view.at(find='', callers=watched.document.name(drawing, heaviest)))

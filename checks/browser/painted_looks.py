@@ -95,7 +95,7 @@ class Watched:
             parts += [f'find={urllib.parse.quote(view.find, safe="")}', f'by={view.by}']
         switches = [f'{name}=1' for name in ('heavy', 'beside') if getattr(view, name)]
         switches += [] if view.share == self.document.opens_by_shares else [f'share={int(view.share)}']
-        switches += ['colours=package'] if view.packages else []
+        switches += ['colours=name'] if view.by_name else []
         return '#' + '&'.join([*parts, f'drawing={view.drawing}', *self.root_words(view.below), *switches])
 
     def root_words(self, below: bool) -> list[str]:

@@ -86,7 +86,7 @@ class Sight:
         name = drawing.name[box]
         if name not in self.of_names:
             text = self.document.names[name]
-            self.of_names[name] = of_package(self.palette, words.package(text), text) if self.view.packages else of_name(self.palette, text)
+            self.of_names[name] = of_name(self.palette, text) if self.view.by_name else of_package(self.palette, words.package(text), text)
         return [self.of_names[name]]
 
     def ink(self, box: int) -> Colour:

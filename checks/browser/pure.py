@@ -156,7 +156,7 @@ FAULTS = {
     'colours': [
         ('colours.js', 'Math.imul(hash, 31) + byte', 'Math.imul(hash, 33) + byte'),
         ('colours.js', 'Math.ceil(Math.abs', 'Math.round(Math.abs'),
-        ('colours.js', 'nameShade(packageOf(name)) % HUES', 'nameShade(name) % HUES'),
+        ('colours.js', 'nameShade(packageOf(name) || name) % HUES', 'nameShade(name) % HUES'),
         ('colours.js', 'Math.floor(nameShade(name) / HUES) * HUES', 'Math.floor(nameShade(packageOf(name)) / HUES) * HUES'),
     ],
     'address': [

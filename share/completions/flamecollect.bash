@@ -11,13 +11,14 @@ _flamecollect() {
         --every|--fail-over|--focus|--from|--hide|--least|--number|--omit|--output|--ring|--title|--type|--width|-n|-o) return ;;
     esac
     if [ "$COMP_CWORD" = 1 ]; then
-        COMPREPLY=($(compgen -W 'fold graph chart live compare top diff callers callees peek types help -h --help -V --version' -- "$word"))
+        COMPREPLY=($(compgen -W 'fold graph chart svg live compare top diff callers callees peek types help -h --help -V --version' -- "$word"))
         return
     fi
     case ${COMP_WORDS[1]} in
         fold) options='--type --format --lines --strict -o --output --quiet -h --help --focus --hide --from --omit --ring' ;;
         graph) options='--width --type --unit --format --every --lines --strict -o --output --quiet -h --help --focus --hide --from --omit --ring --page --svg --title --root-below --least' ;;
         chart) options='--width --type --unit --format --lines --strict -o --output --quiet -h --help --focus --hide --from --omit --ring --page --svg --title --root-below --least' ;;
+        svg) options='--width --type --unit --format --lines --strict -o --output --quiet -h --help --focus --hide --from --omit --ring --title --root-below' ;;
         live) options='--width --every -o --output -h --help --ring' ;;
         compare) options='--width --type --unit --format --boxes --lines --strict -o --output --quiet -h --help --focus --hide --from --omit --ring --page --svg --title --root-below --least --share' ;;
         top) options='-n --number --by --json --exact --type --unit --format --lines --strict -o --output --quiet -h --help --focus --hide --from --omit --ring' ;;
@@ -26,7 +27,7 @@ _flamecollect() {
         callees) options='-n --number --json --exact --type --unit --format --lines --strict -o --output --quiet -h --help --focus --hide --from --omit --ring' ;;
         peek) options='-n --number --json --exact --type --unit --format --lines --strict -o --output --quiet -h --help --focus --hide --from --omit --ring' ;;
         types) options='-o --output -h --help' ;;
-        help) COMPREPLY=($(compgen -W 'fold graph chart live compare top diff callers callees peek types' -- "$word")); return ;;
+        help) COMPREPLY=($(compgen -W 'fold graph chart svg live compare top diff callers callees peek types' -- "$word")); return ;;
         *) return ;;
     esac
     case $word in

@@ -145,8 +145,9 @@ function colours() {
         same(nameShade(name), plainShade(name), `the shade of ${name}`);
         // The hue is that of the package, and the step of lightness that of the name.
         const packaged = `${name.replace(/\s/g, '')}.f${round}`;
-        const [own, its] = [plainShade(packaged), plainShade(packaged.slice(0, packaged.lastIndexOf('.')))];
+        const [own, its] = [plainShade(packaged), plainShade(packaged.slice(0, packaged.lastIndexOf('.')) || packaged)];
         same(packageShade(packaged), own - (own % 36) + (its % 36), `the shade of ${packaged} by its package`);
+        same(packageShade(`f${round}`), plainShade(`f${round}`), `the shade of f${round}, which has no package`);
         const [before, after] = [random.below(50), random.below(50)];
         // Each tenth of the larger weight is a shade.
         let tenths = 0;
@@ -168,7 +169,7 @@ function boxBelow(drawing, random) {
 function address() {
     forPages(12, (page, random, what) => {
         same(linkedOf(page, wordsOf('#share=1')).state.share, page.view === 'compare', `${what}: shares are of comparisons`);
-        same(linkedOf(page, wordsOf('#colours=package')).state.packages, page.view !== 'compare', `${what}: comparisons have colours of changes`);
+        same(linkedOf(page, wordsOf('#colours=name')).state.byName, page.view !== 'compare', `${what}: comparisons have colours of changes`);
         same(linkedOf(page, wordsOf('#heavy=1')).state.heavy, page.view !== 'chart', `${what}: charts go by time`);
         same(linkedOf(page, wordsOf('#beside=1')).state.beside, page.view === 'chart', `${what}: sources of charts stand side by side`);
         for (let round = 0; round < 20; round++) {
@@ -189,14 +190,14 @@ function address() {
                 by: find === '' ? 'text' : random.choose(['text', 'name', 'regexp']), order: random.choose(['place', 'weight']),
                 below: random.below(2) === 0,
                 lists: random.choose([-1, 0, 9999, random.below(2000)]), share: page.view === 'compare' && random.below(2) === 0,
-                packages: page.view !== 'compare' && random.below(2) === 0,
+                byName: page.view !== 'compare' && random.below(2) === 0,
             };
             const fragment = fragmentOf(page, { ...state, focus: 0 });
             holds(/^#[\x21-\x7e]*$/.test(fragment), `${what}: ${fragment}`);
             same(linkedOf(page, wordsOf(fragment)), { state, isDead: false }, `${what}: ${fragment}`);
             const dead = fragment.replace(/(zoom|up)=([^&]*)/, '$1=$2/nothing');
             if (dead !== fragment) same(linkedOf(page, wordsOf(dead)), { state: { ...state, box: 0 }, isDead: true }, `${what}: ${dead}`);
-            const turned = { find: 'z', order: 'weight', below: !state.below, lists: 300, share: !state.share, heavy: !state.heavy, beside: !beside, packages: !state.packages };
+            const turned = { find: 'z', order: 'weight', below: !state.below, lists: 300, share: !state.share, heavy: !state.heavy, beside: !beside, byName: !state.byName };
             const other = fragmentOf(page, { ...state, ...turned, box: 0, source: -1, from: -1, to: -1, focus: 0 });
             const [made, now] = [wordsOf(fragment), wordsOf(other)];
             const wanted = { zoom: 'main', from: '1', find: 'q', drawing: '0', root: 'below' };

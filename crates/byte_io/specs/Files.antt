@@ -1,5 +1,5 @@
 -- What a clause reads of files in memory and of the machine's.
-use Rattle.std.specs.Prelude.{ℕ, List, Option, None, nat_eq, string_bytes, find, option_map}
+use Rattle.std.specs.Prelude.{ℕ, Bool, List, Option, None, nat_eq, string_bytes, find, option_map}
 use Rattle.std.specs.Cmp.Lexicographic.{pointwise}
 use Rattle.byte_io.specs.declared.memory_files.MemoryFiles.{MemoryFiles}
 use Rattle.byte_io.specs.declared.memory_files.NamedFile.{NamedFile}
@@ -16,9 +16,9 @@ named_files files = files.named.items
 abbrev pub byte_limit : MemoryFiles → ℕ
 byte_limit files = files.limit
 
--- how long the pieces are that a file is given in, if it is
-abbrev pub piece_length : MemoryFiles → Option ℕ
-piece_length files = files.piece_length
+-- whether a file is given as a stored text
+abbrev pub gives_stored : MemoryFiles → Bool
+gives_stored files = files.gives_stored
 
 -- the first file of a path
 abbrev pub file_at : List NamedFile → List ℕ → Option NamedFile

@@ -5,4 +5,5 @@ pub mod Files
 pub mod Inlet
 pub mod Outlet
 pub mod Pieces
+pub mod Stored
 pub mod checked

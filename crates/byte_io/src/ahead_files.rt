@@ -88,15 +88,12 @@ pub(crate) fn are_plain<R: rt::Files>(rt: &R, paths: &[String]) -> bool {
 }
 
 /// How many bytes a plain file has that is not too large.
-pub(crate) fn plain_length<R: rt::Files>(rt: &R, path: &str) -> Option<usize> {
+pub(crate) fn plain_length<R: rt::Files>(rt: &R, path: &str) -> Option<usize>
+    ensures { IfSome result (λ length. length ≤ SOURCE_LIMIT) }
+{
     let metadata = fs::metadata(rt, path).ok()?;
     let is_plain = metadata.is_file() && metadata.len() <= SOURCE_LIMIT as u64;
     is_plain.then_some(metadata.len() as usize)
-}
-
-/// Whether the file of a path is among them.
-pub(crate) fn is_ahead(files: &[AheadFile], path: &str) -> bool {
-    files.iter().any(|file| file.path.as_str() == path)
 }
 
 /// Takes out the first file of a path, and answers its bytes, if it was loaded.

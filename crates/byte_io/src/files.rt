@@ -1,7 +1,8 @@
 //! Where a run gets its sources: named files and the input.
-ghost use Rattle.std.specs.Prelude.{◌≡◌, ℕ, Bool, List, false, true, map, Option, IfOk, IfSome};
-ghost use Rattle.std.specs.List.{concat};
+ghost use Rattle.std.specs.Prelude.{◌≡◌, ℕ, Bool, List, false, true, Option, Some, IfOk, IfSome};
 
+use crate::refusals::Refusal;
+use crate::stored_text::StoredText;
 use crate::whole_input::LoadFault;
 use std::alloc::Global;
 
@@ -37,11 +38,11 @@ pub trait Files {
         ensures files { known_file self.new ≡ known_file self.old }
     {}
 
-    /// The bytes of the file of a path in pieces, one after another, where the file is long and can be loaded by
-    /// several threads at the same time. `None` where it is to be asked for by `named`, which also tells a fault.
-    fn pieces(&mut self, _alloc: Global, _path: &str) -> Option<Vec<Vec<u8>>>
-        ensures bytes { IfSome result (λ pieces. IfSome (known_file self.old _path.now) (λ known.
-            concat (map (λ piece. piece.items) pieces.items) ≡ known)) }
+    /// The text of a path as bytes that several threads read at the same time, where it is a plain file that is long enough for that and
+    /// not too large. `None` where it is to be asked for by `named`, which also tells a fault.
+    fn stored(&mut self, _alloc: Global, _path: &str) -> Option<StoredText>
+        ensures bytes { IfSome result (λ text.
+            IfSome (known_file self.old _path.now) (λ known. text ≡ Some known)) }
         ensures input { known_input self.new ≡ known_input self.old }
         ensures files { known_file self.new ≡ known_file self.old }
     {
@@ -60,5 +61,10 @@ pub trait Files {
         ensures terminal { result ≡ true → may_have_terminal ≡ true }
     {
         false
+    }
+
+    /// Why the system did not give the last file, or the input, that was `LoadFault::Io`. Unless an implementation knows, it is unknown.
+    fn refusal(&self) -> Refusal {
+        Refusal::Unknown
     }
 }

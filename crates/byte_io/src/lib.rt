@@ -1,14 +1,13 @@
 //! Bytes in, and bytes out: readers and writers that count their failed calls, whole inputs and outputs
-//! over them, texts that go out piece by piece, and the files and streams of a run.
+//! over them, texts that go out piece by piece, texts that are read where they are stored, and the files
+//! and streams of a run.
 #![tactic(auto)]
 
 mod ahead_files;
 mod bytes_inlet;
 mod failure_counts;
-mod file_pieces;
 mod files;
 mod inlet;
-mod long_files;
 mod machine_files;
 mod machine_inlet;
 mod memory_files;
@@ -18,14 +17,16 @@ mod piece_output;
 mod piece_threads;
 mod pieces;
 mod positioned_read;
-mod range_reader;
+mod refusals;
 mod rollback;
+mod stored_bytes;
+mod stored_range;
+mod stored_text;
 mod streams;
 mod whole_input;
 mod whole_output;
 
 pub use bytes_inlet::BytesInlet;
-pub use file_pieces::load_in_pieces;
 pub use files::Files;
 pub use inlet::{CountedReader, Inlet};
 pub use machine_files::{MachineFiles, SOURCE_LIMIT};
@@ -37,7 +38,10 @@ pub use piece_output::{PieceFault, append_pieces, send_pieces};
 pub use piece_threads::send_pieces_in_threads;
 pub use pieces::{Chain, Literal, Pieces};
 pub use positioned_read::PositionedRead;
+pub use refusals::Refusal;
 pub use rollback::truncate_on_error;
+pub use stored_range::StoredRange;
+pub use stored_text::StoredText;
 pub use streams::Streams;
 pub use whole_input::{LoadFault, load};
 pub use whole_output::{SendFault, send};

@@ -1,23 +1,26 @@
 //! The files and the standard input of the machine.
-ghost use Rattle.std.specs.Prelude.{◌≡◌, ◌≤◌, length, map, true, vec_len, IfOk, IfSome};
-ghost use Rattle.std.specs.List.{concat};
+ghost use Rattle.std.specs.Prelude.{◌≡◌, ◌≤◌, true, vec_len, IfOk, IfSome};
 ghost use Rattle.byte_io.specs.Files.{unknown, unknown_files};
 
-use crate::ahead_files::{AheadFile, are_plain, is_ahead, load_ahead, take_loaded};
+use crate::ahead_files::{AheadFile, are_plain, load_ahead, plain_length, take_loaded};
 use crate::files::Files;
 use crate::inlet::CountedReader;
-use crate::long_files::load_long;
 use crate::machine_inlet::{MachineInlet, StreamFile};
+use crate::refusals::{NotedReader, Refusal};
+use crate::stored_text::StoredText;
 use crate::streams::Streams;
 use crate::whole_input::{LoadFault, load};
 use std::alloc::Global;
 use std::fs::File;
-use std::io::IsTerminal;
+use std::io::{IsTerminal, Read};
 use std::thread::Threads;
 use std::{fs, rt};
 
 /// The most bytes of one source.
 pub const SOURCE_LIMIT: usize = 1 << 30;
+
+// A file of fewer bytes is loaded at once.
+const LONG: usize = 64 * 1024;
 
 /// The files and the standard input of the machine, at most `SOURCE_LIMIT` bytes of each.
 #[derive(Drop)]
@@ -25,6 +28,8 @@ pub struct MachineFiles<'a, T> {
     rt: &'a T,
     is_error_terminal: bool,
     ahead: Option<Vec<AheadFile>>,
+    // Of the last file that was not given.
+    refusal: Refusal,
 }
 
 impl<'a, T: rt::Files + Input> MachineFiles<'a, T> {
@@ -34,6 +39,7 @@ impl<'a, T: rt::Files + Input> MachineFiles<'a, T> {
             rt,
             is_error_terminal: false,
             ahead: None,
+            refusal: Refusal::Unknown,
         }
     }
 
@@ -43,6 +49,7 @@ impl<'a, T: rt::Files + Input> MachineFiles<'a, T> {
             rt,
             is_error_terminal: error.is_terminal(),
             ahead: None,
+            refusal: Refusal::Unknown,
         }
     }
 }
@@ -68,11 +75,11 @@ where
             return Ok(bytes);
         }
         match fs::open(self.rt, path) {
-            Ok(file) => {
-                let mut reader = CountedReader::new(file);
-                load(alloc, &mut reader, SOURCE_LIMIT)
+            Ok(file) => load_noted(alloc, file, &mut self.refusal),
+            Err(e) => {
+                self.refusal = Refusal::of(e.kind());
+                Err(LoadFault::Io)
             }
-            Err(_) => Err(LoadFault::Io),
         }
     }
 
@@ -82,8 +89,7 @@ where
         ensures files { unknown_files ≡ unknown_files }
         ensures within { IfOk result (λ bytes. vec_len bytes ≤ SOURCE_LIMIT) }
     {
-        let mut reader = CountedReader::new(self.rt.reader());
-        load(alloc, &mut reader, SOURCE_LIMIT)
+        load_noted(alloc, self.rt.reader(), &mut self.refusal)
     }
 
     // A single file is read as soon where it is asked for.
@@ -96,20 +102,14 @@ where
         }
     }
 
-    // `named` gives what was loaded ahead.
-    fn pieces(&mut self, alloc: Global, path: &str) -> Option<Vec<Vec<u8>>>
-        ensures bytes { IfSome result (λ pieces. IfSome unknown (λ known.
-            concat (map (λ piece. piece.items) pieces.items) ≡ known)) }
-        ensures input { unknown ≡ unknown }
-        ensures files { unknown_files ≡ unknown_files }
-        ensures within { IfSome result (λ pieces.
-            length (concat (map (λ piece. piece.items) pieces.items)) ≤ SOURCE_LIMIT) }
-    {
-        let ahead = self.ahead.as_ref();
-        if ahead.is_some_and(|files| is_ahead(files, path)) {
+    // It is opened once, since another file can have its path afterwards.
+    fn stored(&mut self, alloc: Global, path: &str) -> Option<StoredText> {
+        let length = plain_length(self.rt, path)?;
+        if length < LONG {
             return None;
         }
-        load_long(self.rt, alloc, path)
+        let file = fs::open(self.rt, path).ok()?;
+        StoredText::of_file(alloc, file, length as u64).ok()
     }
 
     fn is_input_terminal(&self) -> bool {
@@ -119,6 +119,22 @@ where
     fn is_error_terminal(&self) -> bool {
         self.is_error_terminal
     }
+
+    fn refusal(&self) -> Refusal {
+        self.refusal
+    }
+}
+
+// Loads the bytes of a reader, and notes why a read of it failed.
+fn load_noted<R: Read + Drop>(
+    alloc: Global,
+    reader: R,
+    refusal: &mut Refusal,
+) -> Result<Vec<u8>, LoadFault>
+    ensures { IfOk result (λ bytes. vec_len bytes ≤ SOURCE_LIMIT) }
+{
+    let mut reader = CountedReader::new(NotedReader { reader, refusal });
+    load(alloc, &mut reader, SOURCE_LIMIT)
 }
 
 impl<T: rt::Files<File = File> + Input + Copy + Send + 'static> Streams for MachineFiles<'_, T>

@@ -1,11 +1,12 @@
 //! Files and an input in memory.
-ghost use Rattle.std.specs.Prelude.{◌≡◌, ◌≢◌, ◌-◌, ◌^◌, ◌<◌, ◌≤◌, [], ◌∷◌, ◌++◌, max, All, length, map, take, vec_len, false, Some, None, OnOk, OnErr, IfOk, IfSome, IsErrOf, IsNone};
-ghost use Rattle.byte_io.specs.Files.{input_bytes, named_files, byte_limit, piece_length, file_at, bytes_at};
-ghost use Rattle.std.specs.List.{concat};
+ghost use Rattle.std.specs.Prelude.{◌≡◌, ◌≢◌, ◌^◌, ◌<◌, ◌≤◌, [], ◌∷◌, ◌++◌, length, vec_len, false, true, Some, OnOk, OnErr, IfOk, IfSome, IsErrOf, IsNone};
+ghost use Rattle.byte_io.specs.Files.{input_bytes, named_files, byte_limit, gives_stored, file_at, bytes_at};
 ghost use Rattle.std.specs.Option.{is_none, option_copied};
 
 use crate::bytes_inlet::BytesInlet;
 use crate::files::Files;
+use crate::refusals::Refusal;
+use crate::stored_text::StoredText;
 use crate::streams::Streams;
 use crate::whole_input::LoadFault;
 use std::alloc::{AllocError, Global};
@@ -23,8 +24,8 @@ pub struct MemoryFiles {
     input: Vec<u8>,
     named: Vec<NamedFile>,
     limit: usize,
-    // How long the pieces of a file are, where it is to be given in pieces.
-    piece_length: Option<usize>,
+    // Whether `stored` gives files.
+    gives_stored: bool,
 }
 
 impl MemoryFiles {
@@ -33,24 +34,24 @@ impl MemoryFiles {
         ensures input { input_bytes result ≡ input.items }
         ensures files { named_files result ≡ [] }
         ensures limit { byte_limit result ≡ limit }
-        ensures pieces { piece_length result ≡ None }
+        ensures stored { gives_stored result ≡ false }
     {
         MemoryFiles {
             input,
             named: Vec::new(alloc),
             limit,
-            piece_length: None,
+            gives_stored: false,
         }
     }
 
-    /// The same, but that `pieces` gives a file of more than `length` bytes in pieces of so many, 0 counting as 1.
-    pub fn in_pieces_of(mut self, length: usize) -> MemoryFiles
-        ensures pieces { piece_length result ≡ Some length }
+    /// The same, but that `stored` gives each file that is not too large.
+    pub fn with_stored(mut self) -> MemoryFiles
+        ensures stored { gives_stored result ≡ true }
         ensures input { input_bytes result ≡ input_bytes self }
         ensures files { named_files result ≡ named_files self }
         ensures limit { byte_limit result ≡ byte_limit self }
     {
-        self.piece_length = Some(length);
+        self.gives_stored = true;
         self
     }
 
@@ -60,7 +61,7 @@ impl MemoryFiles {
         ensures err { OnErr result (named_files self.new ≡ named_files self.old) }
         ensures input { input_bytes self.new ≡ input_bytes self.old }
         ensures limit { byte_limit self.new ≡ byte_limit self.old }
-        ensures pieces { piece_length self.new ≡ piece_length self.old }
+        ensures stored { gives_stored self.new ≡ gives_stored self.old }
     {
         self.named.push(file)?;
         Ok(())
@@ -117,25 +118,23 @@ impl Files for MemoryFiles {
         // They are in memory already.
     }
 
-    fn pieces(&mut self, alloc: Global, path: &str) -> Option<Vec<Vec<u8>>>
-        ensures bytes { IfSome result (λ pieces. IfSome (bytes_at self.old path.now) (λ known.
-            concat (map (λ piece. piece.items) pieces.items) ≡ known)) }
+    fn stored(&mut self, alloc: Global, path: &str) -> Option<StoredText>
+        ensures bytes { IfSome result (λ text.
+            IfSome (bytes_at self.old path.now) (λ known. text ≡ Some known)) }
         ensures input { Some (input_bytes self.new) ≡ Some (input_bytes self.old) }
         ensures files { bytes_at self.new ≡ bytes_at self.old }
         ensures unchanged { self.new ≡ self.old }
         ensures absent { IsNone (file_at (named_files self.old) path.now) → IsNone result }
-        ensures unasked { IsNone (piece_length self.old) → IsNone result }
-        ensures within { IfSome result (λ pieces.
-            length (concat (map (λ piece. piece.items) pieces.items)) ≤ byte_limit self.old) }
-        ensures full { IfSome result (λ pieces. IfSome (piece_length self.old) (λ length.
-            All (λ piece. vec_len piece ≡ max 1 length) (take (vec_len pieces - 1) pieces.items))) }
+        ensures unasked { gives_stored self.old ≡ false → IsNone result }
+        ensures within { IfSome result (λ text.
+            IfSome text (λ all. length all ≤ byte_limit self.old)) }
     {
-        let length = self.piece_length?.max(1);
-        let file = first_at(self.named.as_slice(), path)?;
-        if file.bytes.len() <= length || file.bytes.len() > self.limit {
+        if !self.gives_stored {
             return None;
         }
-        cut(alloc, file.bytes.as_slice(), length).ok()
+        let file = first_at(self.named.as_slice(), path)?;
+        let copy = copied(alloc, file.bytes.as_slice(), self.limit).ok()?;
+        StoredText::in_memory(alloc, copy).ok()
     }
 
     fn is_input_terminal(&self) -> bool
@@ -148,6 +147,13 @@ impl Files for MemoryFiles {
         ensures never { result ≡ false }
     {
         false
+    }
+
+    // No other file is `LoadFault::Io`.
+    fn refusal(&self) -> Refusal
+        ensures absent { result ≡ Refusal.Absent }
+    {
+        Refusal::Absent
     }
 }
 
@@ -201,23 +207,4 @@ fn copied(alloc: Global, bytes: &[u8], limit: usize) -> Result<Vec<u8>, LoadFaul
         return Err(LoadFault::TooLarge);
     }
     Ok(Vec::from_slice(alloc, bytes)?)
-}
-
-// The bytes again, in pieces of a length and a last one of what is left.
-fn cut(alloc: Global, bytes: &[u8], length: usize) -> Result<Vec<Vec<u8>>, AllocError>
-    requires { 0 < length }
-    ensures same { IfOk result (λ pieces.
-        concat (map (λ piece. piece.items) pieces.items) ≡ bytes.now) }
-    ensures full { IfOk result (λ pieces.
-        All (λ piece. vec_len piece ≡ length) (take (vec_len pieces - 1) pieces.items)) }
-{
-    let mut pieces = Vec::new(alloc);
-    let mut rest = bytes;
-    'each: while rest.len() > length {
-        let (piece, others) = rest.split_at(length);
-        pieces.push(Vec::from_slice(alloc, piece)?)?;
-        rest = others;
-    }
-    pieces.push(Vec::from_slice(alloc, rest)?)?;
-    Ok(pieces)
 }

@@ -68,7 +68,7 @@ pub fn load<R: Inlet>(alloc: Global, reader: &mut R, limit: usize) -> Result<Vec
 }
 
 // A buffer of `count` bytes.
-fn zeros(alloc: Global, count: usize) -> Result<Vec<u8>, AllocError>
+pub(crate) fn zeros(alloc: Global, count: usize) -> Result<Vec<u8>, AllocError>
     ensures { IfOk result (λ buffer. vec_len buffer ≡ count) }
 {
     vec![in alloc; 0u8; count]

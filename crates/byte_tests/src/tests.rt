@@ -3,9 +3,11 @@ mod ahead;
 mod asked;
 mod edge;
 mod fakes;
-mod files_in_pieces;
 mod page;
 mod pieces;
+mod refusals;
+mod stored_files;
+mod stored_texts;
 mod streams;
 mod threads;
 

@@ -95,6 +95,7 @@ pub with_all_arguments : (s : Subcommand) → command (shape_at s).name (shape_a
 with_all_arguments subcommand.Fold = refl
 with_all_arguments subcommand.Graph = refl
 with_all_arguments subcommand.Chart = refl
+with_all_arguments subcommand.Svg = refl
 with_all_arguments subcommand.Live = refl
 with_all_arguments subcommand.Compare = refl
 with_all_arguments subcommand.Top = refl
@@ -120,6 +121,7 @@ command_is_plain : (s : Subcommand) → (shape_at s).is_plain ≡ true
 command_is_plain subcommand.Fold = refl
 command_is_plain subcommand.Graph = refl
 command_is_plain subcommand.Chart = refl
+command_is_plain subcommand.Svg = refl
 command_is_plain subcommand.Live = refl
 command_is_plain subcommand.Compare = refl
 command_is_plain subcommand.Top = refl

@@ -17,7 +17,7 @@ use Rattle.clap.specs.declared.parser.matches.ArgMatches.{ArgMatches}
 use Rattle.command_line.specs.CommandLine.{command_line}
 use Rattle.command_line.specs.EarlyValues.{told_kind, told_kinds}
 use Rattle.command_line.specs.checked.Entries.{IsFaultOf, IsNumberAt, IsRead, compares}
-use Rattle.command_line.specs.Plans.{IsComparison, IsDrawn, IsFaultAmong, IsOfOneProfile, IsOfStreams, IsPage, IsPicture, IsRequest, call_table_of, command_plan, compared_view, diff_table_of, entered_plan, entries_fault, fault_of, form_of, has_conflict, has_its_form, has_its_page, is_set, is_used, knows_format, knows_order, knows_unit, live_every, live_plan, number_at, own_fault, page_of, picture_of, plan_with, table_of, text_form, types_plan, view_of, width_of}
+use Rattle.command_line.specs.Plans.{IsComparison, IsDrawn, IsFaultAmong, IsOfOneProfile, IsOfStreams, IsPage, IsPicture, IsRequest, call_table_of, command_plan, compared_view, diff_table_of, entered_plan, entries_fault, fault_of, form_of, has_conflict, has_its_form, has_its_page, is_set, is_used, knows_format, knows_order, knows_unit, live_every, live_plan, number_at, own_fault, page_of, picture_of, plan_with, svg_plan, table_of, text_form, types_plan, view_of, width_of}
 use Rattle.command_line.specs.declared.plans.Form.{Form}
 use Rattle.command_line.specs.declared.plans.Form.TheVariants as form
 use Rattle.command_line.specs.declared.arguments.TheConstants.{MOST_BETWEEN_SNAPSHOTS}
@@ -190,6 +190,9 @@ live_asks name entries read = record {
   live = λ _. record { width = width_of entries; every = live_every entries; view = refl; options = refl; format = refl; from = refl; omit = refl };
 }
 
+svg_asks : (name : Text) (entries : List Row) → IsRead name entries → Asks (svg_plan entries)
+svg_asks name entries read = record { pair = λ compares. absurd compares; every = tt; page = λ page. absurd page; picture = λ _. tt; alone = λ _. refl; types = λ types. cc; live = λ live. cc }
+
 -- entries without a fault
 pub none_in : (kinds : Kinds) → is_empty kinds ≡ true → kinds ≡ []
 none_in [] is = refl
@@ -213,7 +216,7 @@ no_conflict name entries = go (knows_format entries && (knows_order entries && k
     go true false formed e = refl
 
 command_asks : (name : Text) (entries : List Row) (plan : Plan) → IsRead name entries → command_plan name entries ≡ Some plan → Asks plan
-command_asks name entries plan read is = of_name (bytes_eq name (codes "types")) (bytes_eq name (codes "live")) refl (with_no_fault (entries_fault name entries) _ plan is).1
+command_asks name entries plan read is = of_name (bytes_eq name (codes "types")) (bytes_eq name (codes "live")) (bytes_eq name (codes "svg")) refl (with_no_fault (entries_fault name entries) _ plan is).1
   where
     alone : has_conflict entries ≡ false
     alone = no_conflict name entries (with_no_fault (entries_fault name entries) _ plan is).0
@@ -225,11 +228,12 @@ command_asks name entries plan read is = of_name (bytes_eq name (codes "types"))
     of_view None known at = cc
     of_view (Some view) known at = same (plan_with name entries view) at (view_asks name entries view read alone known)
 
-    of_name : (types live : Bool) → bytes_eq name (codes "types") ≡ types
-        → cond types (Some (types_plan entries)) (cond live (Some (live_plan entries)) (option_map (plan_with name entries) (view_of name entries))) ≡ Some plan → Asks plan
-    of_name true live named at = same (types_plan entries) at (types_asks name entries read named)
-    of_name false true named at = same (live_plan entries) at (live_asks name entries read)
-    of_name false false named at = of_view (view_of name entries) refl at
+    of_name : (types live svg : Bool) → bytes_eq name (codes "types") ≡ types
+        → cond types (Some (types_plan entries)) (cond live (Some (live_plan entries)) (cond svg (Some (svg_plan entries)) (option_map (plan_with name entries) (view_of name entries)))) ≡ Some plan → Asks plan
+    of_name true live svg named at = same (types_plan entries) at (types_asks name entries read named)
+    of_name false true svg named at = same (live_plan entries) at (live_asks name entries read)
+    of_name false false true named at = same (svg_plan entries) at (svg_asks name entries read)
+    of_name false false false named at = of_view (view_of name entries) refl at
 
 pub plan_asks : (entered : Option (Text × List Row)) (plan : Plan) → IsSomeAnd entered (λ p. IsRead p.0 p.1)
     → entered_plan entered ≡ Some plan → Asks plan
@@ -296,9 +300,13 @@ pub planned_live : (name : Text) (entries : List Row) → entries_fault name ent
     → command_plan name entries ≡ Some (live_plan entries)
 planned_live name entries none types live = rw (none, types, live) refl
 
-pub planned_view : (name : Text) (entries : List Row) → entries_fault name entries ≡ [] → bytes_eq name (codes "types") ≡ false → bytes_eq name (codes "live") ≡ false
+pub planned_svg : (name : Text) (entries : List Row) → entries_fault name entries ≡ [] → bytes_eq name (codes "types") ≡ false → bytes_eq name (codes "live") ≡ false → bytes_eq name (codes "svg") ≡ true
+    → command_plan name entries ≡ Some (svg_plan entries)
+planned_svg name entries none types live svg = rw (none, types, live, svg) refl
+
+pub planned_view : (name : Text) (entries : List Row) → entries_fault name entries ≡ [] → bytes_eq name (codes "types") ≡ false → bytes_eq name (codes "live") ≡ false → bytes_eq name (codes "svg") ≡ false
     → command_plan name entries ≡ option_map (plan_with name entries) (view_of name entries)
-planned_view name entries none types live = rw (none, types, live) refl
+planned_view name entries none types live svg = rw (none, types, live, svg) refl
 
 -- words that `clap` takes have the faults of their entries alone
 pub own_alone : (words : List Text) (entered : Option (Text × List Row)) → parsing_fault command_line words ≡ [] → entered ≡ subcommand_of command_line words

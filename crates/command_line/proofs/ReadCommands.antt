@@ -234,7 +234,7 @@ module _ (s : Shape) (known : KnowsArguments s.rules) (once : s.args_override_se
   checked : check_fault s rows false ≡ []
   checked = (level_holds s [] known.firsts once words false [] fault).3
 
-  reads_command : (bytes_eq s.name (codes "types") ≡ false → bytes_eq s.name (codes "live") ≡ false → IsSome (view_of s.name rows))
+  reads_command : (bytes_eq s.name (codes "types") ≡ false → bytes_eq s.name (codes "live") ≡ false → bytes_eq s.name (codes "svg") ≡ false → IsSome (view_of s.name rows))
       → (compares s.name ≡ true → length (files_of rows) ≡ 2)
       → (is_set (codes "page") rows ≡ true → IfSome (view_of s.name rows) IsDrawn)
       → (is_set (codes "svg") rows ≡ true → IfSome (view_of s.name rows) IsDrawn)
@@ -287,29 +287,32 @@ built_graph = slice_index_or built_line.subs 1 no_shape
 abbrev built_chart : Shape
 built_chart = slice_index_or built_line.subs 2 no_shape
 
+abbrev built_svg : Shape
+built_svg = slice_index_or built_line.subs 3 no_shape
+
 abbrev built_live : Shape
-built_live = slice_index_or built_line.subs 3 no_shape
+built_live = slice_index_or built_line.subs 4 no_shape
 
 abbrev built_compare : Shape
-built_compare = slice_index_or built_line.subs 4 no_shape
+built_compare = slice_index_or built_line.subs 5 no_shape
 
 abbrev built_top : Shape
-built_top = slice_index_or built_line.subs 5 no_shape
+built_top = slice_index_or built_line.subs 6 no_shape
 
 abbrev built_diff : Shape
-built_diff = slice_index_or built_line.subs 6 no_shape
+built_diff = slice_index_or built_line.subs 7 no_shape
 
 abbrev built_callers : Shape
-built_callers = slice_index_or built_line.subs 7 no_shape
+built_callers = slice_index_or built_line.subs 8 no_shape
 
 abbrev built_callees : Shape
-built_callees = slice_index_or built_line.subs 8 no_shape
+built_callees = slice_index_or built_line.subs 9 no_shape
 
 abbrev built_peek : Shape
-built_peek = slice_index_or built_line.subs 9 no_shape
+built_peek = slice_index_or built_line.subs 10 no_shape
 
 abbrev built_types : Shape
-built_types = slice_index_or built_line.subs 10 no_shape
+built_types = slice_index_or built_line.subs 11 no_shape
 
 fold_known : KnowsArguments built_fold.rules
 fold_known = record {
@@ -372,6 +375,27 @@ chart_known = record {
   svg = refl;
   below = refl;
   least = refl;
+}
+
+svg_known : KnowsArguments built_svg.rules
+svg_known = record {
+  firsts = (refl, (refl, (refl, (refl, (refl, (refl, (refl, (refl, (refl, (refl, (refl, (refl, (refl, (refl, (refl, (refl, (refl, tt)))))))))))))))));
+  width = refl;
+  ring = refl;
+  every = tt;
+  lines = refl;
+  boxes = tt;
+  rows = tt;
+  json = tt;
+  exact = tt;
+  share = tt;
+  over = tt;
+  strict = refl;
+  quiet = refl;
+  page = tt;
+  svg = tt;
+  below = refl;
+  least = tt;
 }
 
 live_known : KnowsArguments built_live.rules
@@ -513,56 +537,63 @@ not_named P same = absurd (true≢false (sym same))
 fold_reads : ReadsCommand built_fold
 fold_reads = (
   refl,
-  λ words other fault. reads_command built_fold fold_known refl words fault (λ _ _. refl) (not_named _)
+  λ words other fault. reads_command built_fold fold_known refl words fault (λ _ _ _. refl) (not_named _)
       (draws_none built_fold fold_known refl words fault (codes "page") _ refl) (draws_none built_fold fold_known refl words fault (codes "svg") _ refl) (not_named _),
 )
 
 graph_reads : ReadsCommand built_graph
 graph_reads = (
   refl,
-  λ words other fault. reads_command built_graph graph_known refl words fault (λ _ _. refl) (not_named _)
+  λ words other fault. reads_command built_graph graph_known refl words fault (λ _ _ _. refl) (not_named _)
       (λ _. tt) (λ _. tt) (not_named _),
 )
 
 chart_reads : ReadsCommand built_chart
 chart_reads = (
   refl,
-  λ words other fault. reads_command built_chart chart_known refl words fault (λ _ _. refl) (not_named _)
+  λ words other fault. reads_command built_chart chart_known refl words fault (λ _ _ _. refl) (not_named _)
       (λ _. tt) (λ _. tt) (not_named _),
+)
+
+svg_reads : ReadsCommand built_svg
+svg_reads = (
+  refl,
+  λ words other fault. reads_command built_svg svg_known refl words fault (λ _ _ e. absurd (true≢false e)) (not_named _)
+      (draws_none built_svg svg_known refl words fault (codes "page") _ refl) (draws_none built_svg svg_known refl words fault (codes "svg") _ refl) (not_named _),
 )
 
 live_reads : ReadsCommand built_live
 live_reads = (
   refl,
-  λ words other fault. reads_command built_live live_known refl words fault (λ other e. absurd (true≢false e)) (not_named _)
+  λ words other fault. reads_command built_live live_known refl words fault (λ _ e _. absurd (true≢false e)) (not_named _)
       (λ _. tt) (λ _. tt) (not_named _),
 )
 
 top_reads : ReadsCommand built_top
 top_reads = (
   refl,
-  λ words other fault. reads_command built_top top_known refl words fault (λ _ _. refl) (not_named _)
+  λ words other fault. reads_command built_top top_known refl words fault (λ _ _ _. refl) (not_named _)
       (draws_none built_top top_known refl words fault (codes "page") _ refl) (draws_none built_top top_known refl words fault (codes "svg") _ refl) (not_named _),
 )
 
 callers_reads : ReadsCommand built_callers
 callers_reads = (
   refl,
-  λ words other fault. reads_command built_callers callers_known refl words fault (λ _ _. refl) (not_named _)
+  λ words other fault. reads_command built_callers callers_known refl words fault (λ _ _ _. refl) (not_named _)
       (draws_none built_callers callers_known refl words fault (codes "page") _ refl) (draws_none built_callers callers_known refl words fault (codes "svg") _ refl) (not_named _),
 )
 
 callees_reads : ReadsCommand built_callees
 callees_reads = (
   refl,
-  λ words other fault. reads_command built_callees callees_known refl words fault (λ _ _. refl) (not_named _)
+  λ words other fault. reads_command built_callees callees_known refl words fault (λ _ _ _. refl) (not_named _)
       (draws_none built_callees callees_known refl words fault (codes "page") _ refl) (draws_none built_callees callees_known refl words fault (codes "svg") _ refl) (not_named _),
 )
 
 peek_reads : ReadsCommand built_peek
 peek_reads = (
   refl,
-  λ words other fault. reads_command built_peek peek_known refl words fault (λ _ _. refl) (not_named _)
+  λ words other fault. reads_command built_peek peek_known refl words fault (λ _ _ _. refl) (not_named _)
       (draws_none built_peek peek_known refl words fault (codes "page") _ refl) (draws_none built_peek peek_known refl words fault (codes "svg") _ refl) (not_named _),
 )
 
@@ -592,7 +623,7 @@ picture_is_drawn entries set = compared_is_drawn entries (either (is_set (codes 
 compare_reads : ReadsCommand built_compare
 compare_reads = (
   refl,
-  λ words other fault. reads_command built_compare compare_known refl words fault (λ _ _. refl) (λ _. two words fault)
+  λ words other fault. reads_command built_compare compare_known refl words fault (λ _ _ _. refl) (λ _. two words fault)
       (page_is_drawn (rows_after built_compare.rules [] words)) (picture_is_drawn (rows_after built_compare.rules [] words)) (not_named _),
 )
   where
@@ -608,7 +639,7 @@ compare_reads = (
 diff_reads : ReadsCommand built_diff
 diff_reads = (
   refl,
-  λ words other fault. reads_command built_diff diff_known refl words fault (λ _ _. refl) (λ _. two words fault)
+  λ words other fault. reads_command built_diff diff_known refl words fault (λ _ _ _. refl) (λ _. two words fault)
       (draws_none built_diff diff_known refl words fault (codes "page") _ refl) (draws_none built_diff diff_known refl words fault (codes "svg") _ refl) (not_named _),
 )
   where
@@ -628,7 +659,7 @@ one_given false e = absurd (true≢false e)
 types_reads : ReadsCommand built_types
 types_reads = (
   refl,
-  λ words other fault. reads_command built_types types_known refl words fault (λ e other. absurd (true≢false e)) (not_named _)
+  λ words other fault. reads_command built_types types_known refl words fault (λ e _ _. absurd (true≢false e)) (not_named _)
       (draws_none built_types types_known refl words fault (codes "page") _ refl) (draws_none built_types types_known refl words fault (codes "svg") _ refl) (λ _. one words fault),
 )
   where
@@ -640,11 +671,11 @@ types_reads = (
         let given = one_given (is_given (codes "file") found) (checks_pass false false wants (checked built_types types_known refl words fault)).1 in
         single_at built_types.rules found each _ refl (refl, refl, refl, refl) given refl refl
 
-help_reads : ReadsCommand (slice_index_or built_line.subs 11 no_shape)
+help_reads : ReadsCommand (slice_index_or built_line.subs 12 no_shape)
 help_reads = (refl, λ words other fault. absurd (true≢false other))
 
 commands_read : Each ReadsCommand built_line.subs
-commands_read = (fold_reads, (graph_reads, (chart_reads, (live_reads, (compare_reads, (top_reads, (diff_reads, (callers_reads, (callees_reads, (peek_reads, (types_reads, (help_reads, tt))))))))))))
+commands_read = (fold_reads, (graph_reads, (chart_reads, (svg_reads, (live_reads, (compare_reads, (top_reads, (diff_reads, (callers_reads, (callees_reads, (peek_reads, (types_reads, (help_reads, tt)))))))))))))
 
 -- ---- the command line
 

@@ -1,5 +1,5 @@
 -- What the getters of matches read of the entries.
-use Rattle.std.proofs.Common.{◌≡◌, ◌∙◌, ◌<◌, ◌≤◌, ◌^◌, ◌⊎◌, inl, inr, ℕ, Bool, true, false, not, refl, sym, ap, arith, List, [], Option, Some, None, Result, option_map, codes, is_some}
+use Rattle.std.proofs.Common.{◌≡◌, ◌∙◌, ◌<◌, ◌≤◌, ◌^◌, ◌⊎◌, inl, inr, ℕ, Bool, true, false, not, refl, sym, ap, arith, List, [], ◌++◌, Option, Some, None, Result, option_map, codes, is_some}
 use Rattle.std.specs.Prelude.{option_and_then, unwrap_or, IfSome, SomeIff}
 use Rattle.std.specs.Option.{option_map_or}
 use Rattle.std.specs.Str.{bytes_eq}
@@ -16,7 +16,7 @@ use Rattle.run_options.specs.Formats.{named_format}
 use Rattle.run_options.specs.Orders.{named_order}
 use Rattle.command_line.specs.Units.{named_unit}
 use Rattle.run_options.specs.declared.orders.FunctionOrder.TheVariants.{Own}
-use Rattle.command_line.specs.Plans.{asked_format, asked_unit, draws_shares, form_of, function_of, has_conflict, has_its_form, has_its_page, is_drawn, is_root_below, is_set, is_used, knows_format, knows_order, knows_unit, number_at, order_of, page_of, pick_of, picture_of, shows_boxes, text_form, values_at}
+use Rattle.command_line.specs.Plans.{asked_format, asked_unit, draws_shares, form_of, function_of, has_conflict, has_its_form, has_its_page, is_drawn, is_root_below, is_set, is_used, knows_format, knows_order, knows_unit, number_at, order_of, page_of, pick_of, picture_of, picture_path, shows_boxes, text_form, values_at}
 use Rattle.command_line.specs.declared.plans.Form.TheVariants as form
 
 -- how `u32` reads a text
@@ -141,6 +141,17 @@ used_given m id r is = is ∙ mapped (matched_of (found_of m) id) ∙ ap is_some
     mapped None = refl
     mapped (Some a) = refl
 
+-- `get_str`, of the first source
+pub beside_given : (m : ArgMatches) (file : Option Text) → file ≡ first_value (found_of m) (codes "file")
+    → option_map (λ file. file ++ codes ".svg") (first_of (codes "file") (entries_of m)) ≡ option_map (λ file. file ++ codes ".svg") file
+beside_given m file is = ap (option_map (λ (file : Text). file ++ codes ".svg")) (first_given m (codes "file") file is)
+
+pub path_given : (entries : List Row) → is_used (codes "output") entries ≡ true → picture_path entries ≡ first_of (codes "output") entries
+path_given entries used = rw used refl
+
+pub path_beside : (entries : List Row) → is_used (codes "output") entries ≡ false → picture_path entries ≡ option_map (λ file. file ++ codes ".svg") (first_of (codes "file") entries)
+path_beside entries unused = rw unused refl
+
 -- ---- pages and pictures
 
 pub paged : (name : Text) (entries : List Row) → is_set (codes "page") entries ≡ true → form_of name entries ≡ form.Page (page_of entries)
@@ -173,19 +184,22 @@ asked_page entries set = rw set refl
 pub by_no_page : (entries : List Row) → is_set (codes "page") entries ≡ false → has_its_page entries ≡ not (is_used (codes "least") entries)
 by_no_page entries unset = rw unset refl
 
-pub asked_form : (name : Text) (entries : List Row) → is_drawn entries ≡ true → has_its_form name entries ≡ true
-asked_form name entries drawn = rw drawn refl
+pub asked_picture : (name : Text) (entries : List Row) → bytes_eq name (codes "svg") ≡ true → has_its_form name entries ≡ true
+asked_picture name entries svg = rw svg refl
 
-pub titled_alone : (name : Text) (entries : List Row) → is_drawn entries ≡ false → is_used (codes "title") entries ≡ true → has_its_form name entries ≡ false
-titled_alone name entries undrawn title = rw (undrawn, title) refl
+pub asked_form : (name : Text) (entries : List Row) → bytes_eq name (codes "svg") ≡ false → is_drawn entries ≡ true → has_its_form name entries ≡ true
+asked_form name entries other drawn = rw (other, drawn) refl
 
-pub below_alone : (name : Text) (entries : List Row) → is_drawn entries ≡ false → is_used (codes "title") entries ≡ false
+pub titled_alone : (name : Text) (entries : List Row) → bytes_eq name (codes "svg") ≡ false → is_drawn entries ≡ false → is_used (codes "title") entries ≡ true → has_its_form name entries ≡ false
+titled_alone name entries other undrawn title = rw (other, undrawn, title) refl
+
+pub below_alone : (name : Text) (entries : List Row) → bytes_eq name (codes "svg") ≡ false → is_drawn entries ≡ false → is_used (codes "title") entries ≡ false
     → is_root_below entries ≡ true → has_its_form name entries ≡ false
-below_alone name entries undrawn title below = rw (undrawn, title, below) refl
+below_alone name entries other undrawn title below = rw (other, undrawn, title, below) refl
 
-pub shared_alone : (name : Text) (entries : List Row) → is_drawn entries ≡ false → is_used (codes "title") entries ≡ false
+pub shared_alone : (name : Text) (entries : List Row) → bytes_eq name (codes "svg") ≡ false → is_drawn entries ≡ false → is_used (codes "title") entries ≡ false
     → is_root_below entries ≡ false → has_its_form name entries ≡ not (draws_shares name entries)
-shared_alone name entries undrawn title below = rw (undrawn, title, below) refl
+shared_alone name entries other undrawn title below = rw (other, undrawn, title, below) refl
 
 pub drawn_by_page : (entries : List Row) → is_set (codes "page") entries ≡ true → is_drawn entries ≡ true
 drawn_by_page entries page = rw page refl

@@ -1,5 +1,5 @@
 -- Worked command lines, computed on the definitions.
-use Rattle.std.proofs.Common.{◌≡◌, ℕ, false, true, refl, List, [], ◌∷◌, Some, None, codes}
+use Rattle.std.proofs.Common.{◌≡◌, ℕ, false, true, refl, List, [], ◌∷◌, Option, Some, None, codes}
 use Rattle.clap.proofs.OnLiterals.{clap_on_literals}
 use Rattle.clap.specs.Faults.{is_simple_and_free}
 use Rattle.clap.specs.Walk.{Text}
@@ -114,6 +114,26 @@ picture_in_a_file : plan_of (codes "graph" ∷ codes "--svg" ∷ codes "-o" ∷ 
     ≡ Some (record (plan_with (Graph 1200) defaults (codes "x" ∷ [])) { form = form.Picture (record { title = None; is_root_below = false; is_share = false }); output = Some (codes "x.svg") })
 unfolding clap_on_literals
 picture_in_a_file = refl
+
+abbrev svg_of : List Text → Option Text → Plan
+svg_of files output = record (plan_with (Graph 1200) defaults files) { form = form.Picture (record { title = None; is_root_below = false; is_share = false }); output = output }
+
+svg_beside_its_file : plan_of (codes "svg" ∷ codes "cpu.pb" ∷ codes "b" ∷ []) ≡ Some (svg_of (codes "cpu.pb" ∷ codes "b" ∷ []) (Some (codes "cpu.pb.svg")))
+unfolding clap_on_literals
+svg_beside_its_file = refl
+
+svg_in_a_file : plan_of (codes "svg" ∷ codes "cpu.pb" ∷ codes "-ox" ∷ codes "--root-below" ∷ codes "--title=t" ∷ codes "--width" ∷ codes "9" ∷ [])
+    ≡ Some (record (plan_with (Graph 9) defaults (codes "cpu.pb" ∷ [])) { form = form.Picture (record { title = Some (codes "t"); is_root_below = true; is_share = false }); output = Some (codes "x") })
+unfolding clap_on_literals
+svg_in_a_file = refl
+
+svg_of_the_input : plan_of (codes "svg" ∷ codes "--format" ∷ codes "pprof" ∷ []) ≡ Some (record (svg_of [] None) { format = Some Pprof })
+unfolding clap_on_literals
+svg_of_the_input = refl
+
+no_snapshots_of_svg : fault_of command_line (codes "svg" ∷ codes "--every" ∷ codes "2" ∷ []) ≡ kind.UnknownArgument ∷ []
+unfolding clap_on_literals
+no_snapshots_of_svg = refl
 
 types_in_a_file : plan_of (codes "types" ∷ codes "x" ∷ codes "--output=types.json" ∷ [])
     ≡ Some (record (plan_with Fold defaults (codes "x" ∷ [])) { output = Some (codes "types.json"); format = Some Pprof; form = form.Types })

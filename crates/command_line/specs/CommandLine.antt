@@ -132,6 +132,11 @@ chart_command = command (codes "chart") (width_option ∷ type_option ∷ unit_o
     ∷ focus_option ∷ hide_option ∷ from_option ∷ omit_option ∷ ring_option ∷ lines_flag ∷ strict_flag ∷ output_option ∷ quiet_flag
     ∷ page_flag ∷ svg_flag ∷ title_option ∷ root_below_flag ∷ least_option ∷ any_files (codes "file") ∷ [])
 
+abbrev pub svg_command : Shape
+svg_command = command (codes "svg") (width_option ∷ type_option ∷ unit_option ∷ format_option
+    ∷ focus_option ∷ hide_option ∷ from_option ∷ omit_option ∷ ring_option ∷ lines_flag ∷ strict_flag ∷ output_option ∷ quiet_flag
+    ∷ title_option ∷ root_below_flag ∷ any_files (codes "file") ∷ [])
+
 abbrev pub live_command : Shape
 live_command = command (codes "live") (width_option ∷ every_option ∷ ring_option ∷ output_option ∷ any_files (codes "file") ∷ [])
 
@@ -177,6 +182,6 @@ command_line = record {
     has_version = true;
     subcommand_required = true;
   };
-  subs = fold_command ∷ graph_command ∷ chart_command ∷ live_command ∷ compare_command ∷ top_command ∷ diff_command
+  subs = fold_command ∷ graph_command ∷ chart_command ∷ svg_command ∷ live_command ∷ compare_command ∷ top_command ∷ diff_command
       ∷ callers_command ∷ callees_command ∷ peek_command ∷ types_command ∷ [];
 }

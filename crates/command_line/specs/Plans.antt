@@ -229,8 +229,8 @@ abbrev pub draws_shares : Text → List Row → Bool
 draws_shares name entries = bytes_eq name (codes "compare") && is_share entries
 
 abbrev pub has_its_form : Text → List Row → Bool
-has_its_form name entries = is_drawn entries
-    || not (is_used (codes "title") entries || (is_root_below entries || draws_shares name entries))
+has_its_form name entries = bytes_eq name (codes "svg") || (is_drawn entries
+    || not (is_used (codes "title") entries || (is_root_below entries || draws_shares name entries)))
 
 -- a command has either FILEs or BEFORE and AFTER
 abbrev pub files_of : List Row → List Text
@@ -296,6 +296,19 @@ live_plan entries = record {
   unit = None;
 }
 
+-- the file that the picture of `svg` goes to: the one that the words set, else one beside the first source, if that is no input
+abbrev pub picture_path : List Row → Option Text
+picture_path entries = if is_used (codes "output") entries then output_of entries
+    else option_map (λ file. file ++ codes ".svg") (first_of (codes "file") entries)
+
+-- the plan of `svg`: the picture that `graph --svg` draws
+abbrev pub svg_plan : List Row → Plan
+svg_plan entries = record (plan_with (codes "svg") entries (Graph (width_of entries))) {
+  options = record (options_of entries) { every = None };
+  output = picture_path entries;
+  form = form.Picture (picture_of entries);
+}
+
 -- the faults of a command's entries that `clap` takes: a format, an order or a unit that there is not, else a picture beside what it excludes, else
 -- what is said of a page or a picture where none is asked for
 abbrev pub entries_fault : Text → List Row → Kinds
@@ -310,7 +323,8 @@ abbrev pub command_plan : Text → List Row → Option Plan
 command_plan name entries =
     if is_empty (entries_fault name entries) then (if bytes_eq name (codes "types") then Some (types_plan entries)
     else (if bytes_eq name (codes "live") then Some (live_plan entries)
-    else option_map (plan_with name entries) (view_of name entries)))
+    else (if bytes_eq name (codes "svg") then Some (svg_plan entries)
+    else option_map (plan_with name entries) (view_of name entries))))
     else None
 
 -- the plan of the command that was entered

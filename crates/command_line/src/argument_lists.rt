@@ -110,6 +110,25 @@ pub(crate) const CHART: &[Argument] = &[
     Argument::Files,
 ];
 
+pub(crate) const SVG: &[Argument] = &[
+    Argument::Width,
+    Argument::Type,
+    Argument::Unit,
+    Argument::Format,
+    Argument::Focus,
+    Argument::Hide,
+    Argument::From,
+    Argument::Omit,
+    Argument::Ring,
+    Argument::Lines,
+    Argument::Strict,
+    Argument::Output,
+    Argument::Quiet,
+    Argument::Title,
+    Argument::RootBelow,
+    Argument::Files,
+];
+
 pub(crate) const LIVE: &[Argument] = &[
     Argument::Width,
     Argument::LiveEvery,

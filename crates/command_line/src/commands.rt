@@ -5,12 +5,14 @@ ghost use Rattle.command_line.specs.CommandLine.{command_line};
 ghost use Rattle.command_line.specs.checked.Apps.{as_app, program};
 ghost use Rattle.command_line.specs.checked.Commands.{rule_at, shape_at};
 
-use crate::argument_lists::{Argument, CALLS, CHART, COMPARE, DIFF, FOLD, GRAPH, LIVE, TOP, TYPES};
+use crate::argument_lists::{
+    Argument, CALLS, CHART, COMPARE, DIFF, FOLD, GRAPH, LIVE, SVG, TOP, TYPES,
+};
 use clap::Command;
 use std::alloc::{AllocError, Global};
 
 // The day of the newest entry in CHANGELOG.md.
-const VERSION: &str = "2026-11-28";
+const VERSION: &str = "2026-11-29";
 
 const NOTES: &str = "\
 Formats:
@@ -31,6 +33,10 @@ Compressed: gzip -dc cpu.pb.gz | flamecollect graph --page --format pprof > grap
 const CHART_EXAMPLE: &str = "\
 Example: flamecollect chart --page trace.folded > chart.html
 Compressed: gzip -dc cpu.pb.gz | flamecollect chart --page --format pprof > chart.html";
+
+const SVG_EXAMPLE: &str = "\
+Example: flamecollect svg cpu.pb writes cpu.pb.svg
+Compressed: gzip -dc cpu.pb.gz | flamecollect svg --format pprof > cpu.svg";
 
 const LIVE_EXAMPLE: &str = "\
 Example: tail -n +1 -f samples.folded | flamecollect live --every 500
@@ -69,6 +75,7 @@ pub(crate) enum Subcommand {
     Fold,
     Graph,
     Chart,
+    Svg,
     Live,
     Compare,
     Top,
@@ -84,6 +91,7 @@ const COMMANDS: &[Subcommand] = &[
     Subcommand::Fold,
     Subcommand::Graph,
     Subcommand::Chart,
+    Subcommand::Svg,
     Subcommand::Live,
     Subcommand::Compare,
     Subcommand::Top,
@@ -102,6 +110,7 @@ impl Subcommand {
             Subcommand::Fold => "fold",
             Subcommand::Graph => "graph",
             Subcommand::Chart => "chart",
+            Subcommand::Svg => "svg",
             Subcommand::Live => "live",
             Subcommand::Compare => "compare",
             Subcommand::Top => "top",
@@ -119,6 +128,7 @@ impl Subcommand {
                 "Write each stack once with the sum of its weights, as folded lines",
             Subcommand::Graph => "Write the flame graph as a line of JSON",
             Subcommand::Chart => "Write the flame chart as a line of JSON",
+            Subcommand::Svg => "Write the flame graph as an SVG, to FILE.svg beside the first FILE",
             Subcommand::Live =>
                 "Write the flame graph of streams while they grow, a line of JSON each time",
             Subcommand::Compare => "Write each stack of two profiles with its weight in both",
@@ -136,6 +146,7 @@ impl Subcommand {
             Subcommand::Fold => FOLD_EXAMPLE,
             Subcommand::Graph => GRAPH_EXAMPLE,
             Subcommand::Chart => CHART_EXAMPLE,
+            Subcommand::Svg => SVG_EXAMPLE,
             Subcommand::Live => LIVE_EXAMPLE,
             Subcommand::Compare => COMPARE_EXAMPLE,
             Subcommand::Top => TOP_EXAMPLE,
@@ -154,6 +165,7 @@ impl Subcommand {
             Subcommand::Fold => FOLD,
             Subcommand::Graph => GRAPH,
             Subcommand::Chart => CHART,
+            Subcommand::Svg => SVG,
             Subcommand::Live => LIVE,
             Subcommand::Compare => COMPARE,
             Subcommand::Top => TOP,

@@ -1,17 +1,20 @@
 //! The plan of the command that was entered.
 ghost use Rattle.std.specs.Prelude.{◌≡◌, [], IfErr, IfOk, IsSome, IsSomeAnd, Some, codes, option_map};
 ghost use Rattle.clap.specs.Words.{subcommand_rows_of};
-ghost use Rattle.command_line.specs.Plans.{IsFaultAmong, command_plan, entered_plan, entries_fault, live_plan, own_fault, plan_with, types_plan, view_of};
+ghost use Rattle.command_line.specs.Plans.{IsFaultAmong, command_plan, entered_plan, entries_fault, live_plan, own_fault, plan_with, svg_plan, types_plan, view_of};
 ghost use Rattle.command_line.specs.checked.Entries.{IsNumberAt, IsRead, entries_of};
 ghost use Rattle.command_line.specs.declared.arguments.TheConstants.{MOST_BETWEEN_SNAPSHOTS};
 ghost use Rattle.command_line.specs.declared.plans.PlanFault.TheVariants.{OutOfMemory};
 ghost use Rattle.run_options.specs.declared.ring_sizes.TheConstants.{LARGEST_RING};
 ghost use Rattle.run_options.specs.declared.widths.TheConstants.{MAX_WIDTH};
 
-use crate::entries::{default_options, files, first, format, live_options, options, unit, values};
+use crate::entries::{
+    default_options, files, first, format, live_options, options, picture_path, still_options,
+    unit, values,
+};
 use crate::plans::{Form, Plan, PlanFault, View};
 use crate::refusals::check_entries;
-use crate::views::{form, view, width};
+use crate::views::{form, picture, view, width};
 use clap::ArgMatches;
 use run_options::Format;
 use stack_core::Names;
@@ -45,6 +48,8 @@ fn command_plan(alloc: Global, name: &str, entries: &ArgMatches<'_>) -> Result<P
         Ok(types_plan(alloc, entries)?)
     } else if name == "live" {
         Ok(live_plan(alloc, entries)?)
+    } else if name == "svg" {
+        Ok(svg_plan(alloc, entries)?)
     } else {
         Ok(view_plan(alloc, name, entries)?)
     }
@@ -57,8 +62,21 @@ fn view_plan(alloc: Global, name: &str, entries: &ArgMatches<'_>) -> Result<Plan
     ensures { IfOk result (λ plan. option_map (plan_with name.now (entries_of entries.now))
         (view_of name.now (entries_of entries.now)) ≡ Some plan) }
 {
+    plan_with(alloc, name, entries, view(name, entries))
+}
+
+// The plan with the view.
+fn plan_with(
+    alloc: Global,
+    name: &str,
+    entries: &ArgMatches<'_>,
+    view: View,
+) -> Result<Plan, AllocError>
+    requires { IsRead name.now (entries_of entries.now) }
+    ensures { IfOk result (λ plan. plan ≡ plan_with name.now (entries_of entries.now) view) }
+{
     Ok(Plan {
-        view: view(name, entries),
+        view,
         format: format(entries),
         is_strict: entries.get_flag("strict"),
         is_quiet: entries.get_flag("quiet"),
@@ -88,6 +106,19 @@ fn types_plan(alloc: Global, entries: &ArgMatches<'_>) -> Result<Plan, AllocErro
         form: Form::Types,
         files: files(alloc, entries)?,
         options: default_options(alloc),
+    })
+}
+
+// The plan of `svg`.
+fn svg_plan(alloc: Global, entries: &ArgMatches<'_>) -> Result<Plan, AllocError>
+    requires { IsRead (codes "svg") (entries_of entries.now) }
+    ensures { IfOk result (λ plan. plan ≡ svg_plan (entries_of entries.now)) }
+{
+    Ok(Plan {
+        form: Form::Picture(picture(alloc, entries)?),
+        output: picture_path(alloc, entries)?,
+        options: still_options(alloc, entries)?,
+        ..plan_with(alloc, "svg", entries, View::Graph(width(entries)))?
     })
 }
 

@@ -1,7 +1,7 @@
 //! What the entries of a command ask for, beside the view.
-ghost use Rattle.std.specs.Prelude.{◌≡◌, ◌++◌, IfOk, OnOk, codes};
+ghost use Rattle.std.specs.Prelude.{◌≡◌, ◌++◌, IfOk, None, OnOk, codes, option_map, string_bytes};
 ghost use Rattle.clap.specs.Walk.{first_of, texts};
-ghost use Rattle.command_line.specs.Plans.{asked_format, asked_unit, default_options, files_of, filter_of, live_every, live_options, naming_of, number_at, options_of, pick_of, values_at};
+ghost use Rattle.command_line.specs.Plans.{asked_format, asked_unit, default_options, files_of, filter_of, live_every, live_options, naming_of, number_at, options_of, pick_of, picture_path, values_at};
 ghost use Rattle.command_line.specs.checked.Entries.{IsFlagAt, IsNumberAt, entries_of};
 ghost use Rattle.command_line.specs.declared.arguments.TheConstants.{MOST_BETWEEN_SNAPSHOTS};
 ghost use Rattle.run_options.specs.declared.ring_sizes.TheConstants.{LARGEST_RING};
@@ -132,6 +132,50 @@ pub(crate) fn first(
         Some(value) => Ok(Some(Text::from_str(alloc, value)?)),
         None => Ok(None),
     }
+}
+
+// The file that the picture of `svg` goes to: the one that the words set, else one beside the first source.
+pub(crate) fn picture_path(
+    alloc: Global,
+    entries: &ArgMatches<'_>,
+) -> Result<Option<Text>, AllocError>
+    ensures { IfOk result (λ path. path ≡ picture_path (entries_of entries.now)) }
+{
+    if entries.contains_id("output") {
+        first(alloc, entries, "output")
+    } else {
+        beside_first(alloc, entries)
+    }
+}
+
+// The picture beside the first source, if that is no input.
+fn beside_first(alloc: Global, entries: &ArgMatches<'_>) -> Result<Option<Text>, AllocError>
+    ensures { IfOk result (λ path. path
+        ≡ option_map (λ file. file ++ codes ".svg") (first_of (codes "file") (entries_of entries.now))) }
+{
+    match entries.get_str("file") {
+        Some(file) => Ok(Some(Text::of(picture_beside(alloc, file)?))),
+        None => Ok(None),
+    }
+}
+
+fn picture_beside(alloc: Global, file: &str) -> Result<String, AllocError>
+    ensures { IfOk result (λ path. string_bytes path ≡ file.now ++ codes ".svg") }
+{
+    format!(in alloc; "{file}.svg")
+}
+
+// The options of a picture, which has no snapshots.
+pub(crate) fn still_options(alloc: Global, entries: &ArgMatches<'_>) -> Result<Options, AllocError>
+    requires ring { IsNumberAt (codes "ring") LARGEST_RING (entries_of entries.now) }
+    requires every { IsNumberAt (codes "every") MOST_BETWEEN_SNAPSHOTS (entries_of entries.now) }
+    requires lines { IsFlagAt (codes "lines") (entries_of entries.now) }
+    ensures { IfOk result (λ options. options ≡ record (options_of (entries_of entries.now)) { every = None }) }
+{
+    Ok(Options {
+        every: None,
+        ..options(alloc, entries)?
+    })
 }
 
 // The format that the words set.

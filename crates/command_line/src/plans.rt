@@ -119,7 +119,7 @@ pub struct Plan {
     pub from: Option<Text>,
     /// The whole names of the frames that are taken out of each stack, once it begins where it is to begin.
     pub omit: Names,
-    /// The file that what is written goes to, if the words set one, and not standard output.
+    /// The file that what is written goes to, and not standard output: the one that the words set, or of `svg` one beside the first source.
     pub output: Option<Text>,
     /// The format of every source. None leaves it to the name of each.
     pub format: Option<Format>,

@@ -181,7 +181,9 @@ fn has_its_form(name: &str, entries: &ArgMatches<'_>) -> bool
     requires share { IsFlagAt (codes "share") (entries_of entries.now) }
     ensures { result ≡ has_its_form name.now (entries_of entries.now) }
 {
-    if is_drawn(entries) {
+    if name == "svg" {
+        true
+    } else if is_drawn(entries) {
         true
     } else if entries.contains_id("title") {
         false

@@ -198,7 +198,7 @@ fn page(alloc: Global, entries: &ArgMatches<'_>) -> Result<PageForm, AllocError>
     })
 }
 
-fn picture(alloc: Global, entries: &ArgMatches<'_>) -> Result<PictureForm, AllocError>
+pub(crate) fn picture(alloc: Global, entries: &ArgMatches<'_>) -> Result<PictureForm, AllocError>
     requires below { IsFlagAt (codes "root-below") (entries_of entries.now) }
     requires share { IsFlagAt (codes "share") (entries_of entries.now) }
     ensures { IfOk result (λ picture. picture ≡ picture_of (entries_of entries.now)) }

@@ -6,7 +6,6 @@ use Rattle.std.proofs.lemmas.List.Folds.{Any-from_list_any}
 use Rattle.std.specs.Prelude.{Bool, option_and_then, option_map, unwrap_or}
 use Rattle.std.specs.List.{list_any, AllZip}
 use Rattle.std.specs.Io.KnownBytes.{Appends}
-use Rattle.byte_io.specs.Pieces.{AppendsFront}
 use Rattle.stack_core.specs.Interleaving.{IsInterleaving}
 use Rattle.stack_core.specs.Ledgers.{ListState}
 use Rattle.stack_core.specs.Reading.{Rest}
@@ -26,14 +25,16 @@ use Rattle.merged_stacks.specs.Timeline.{samples_of}
 use Rattle.command_line.specs.declared.plans.Plan.{Plan}
 use Rattle.source_lists.specs.FromNames.{rest_from}
 use Rattle.source_lists.specs.OmittedNames.{rest_without, shown_rests}
-use Rattle.source_lists.specs.Sources.{asked_rest, asked_rests, read_bytes}
+use Rattle.source_lists.specs.Sources.{all_found, asked_rest, asked_rests, known_inputs, read_bytes}
 use Rattle.opened_sources.specs.Opening.{AreLoaded, IsLoaded, IsLoadedInput}
 use Rattle.sent_views.specs.declared.run_facts.RunFacts.{RunFacts}
 use Rattle.flame_tool.specs.KnownFacts.{bytes_at, bytes_in, bytes_of, facts_of, known_facts}
-use Rattle.flame_tool.specs.Requests.{all_found, rest_of, rest_at, rest_in, rests_at, known_rests}
+use Rattle.flame_tool.specs.Requests.{rest_of, rest_at, rest_in, rests_at, known_rests}
 use Rattle.sent_views.specs.Pages.{shown_text}
 use Rattle.flame_tool.specs.Runs.{IsClean, IsFault, lists_of, IsTextOf, Shows, HasFault}
-use Rattle.flame_tool.specs.StrictRuns.{has_strict_fault}
+use Rattle.flame_tool.specs.StrictRuns.{has_strict_fault, known_sources}
+use Rattle.flame_tool.specs.ToldRuns.{known_endings}
+use Rattle.flame_tool.specs.checked.Wanted.{wanted_rests}
 use Rattle.flame_tool.specs.checked.Failures.{Fails, FailsToShow, TellsGrowth}
 use Rattle.flame_tool.proofs.StrictSources.{clean_sources}
 use Rattle.flame_tool.proofs.GrownFunctions.{is_said, tells_growth}
@@ -44,60 +45,102 @@ use Rattle.opened_sources.specs.declared.failures.Failure.TheVariants.{TooManyFi
 
 -- ---- what is known of loaded sources
 
-known_first : (options : Options) (format : Format) (known : Option (List ℕ)) (found : Option (List Rest)) (source : Format × List ℕ) (sources : List (Format × List ℕ))
-    → source.0 ≡ format → IfSome known (λ bytes. source.1 ≡ bytes) → IfSome found (λ rests. asked_rests options sources ≡ rests)
-    → IfSome (option_and_then (λ rest. option_map (λ more. rest ∷ more) found) (rest_of options format known)) (λ rests. asked_rests options (source ∷ sources) ≡ rests)
-known_first options format None found source sources formed same more = tt
-known_first options format (Some bytes) None source sources formed same more = tt
-known_first options format (Some bytes) (Some rests) source sources formed same more =
-    λ i. asked_rest options (formed i) (same i) ∷ more i
+known_first : (format : Format) (known : Option (List ℕ)) (found : Option (List (Format × List ℕ))) (source : Format × Option (List ℕ)) (sources : List (Format × Option (List ℕ)))
+    → source.0 ≡ format → IfSome known (λ bytes. source.1 ≡ Some bytes) → IfSome found (λ all. known_inputs sources ≡ Some all)
+    → IfSome (option_and_then (λ one. option_map (λ more. one ∷ more) found) (option_map (λ bytes. (format, bytes)) known)) (λ all. known_inputs (source ∷ sources) ≡ Some all)
+known_first format None found source sources formed same more = tt
+known_first format (Some bytes) None source sources formed same more = tt
+known_first format (Some bytes) (Some all) source sources formed same more =
+    λ i. option_and_then (λ one. option_map (λ more. one ∷ more) (more i)) (option_map (λ bytes. (formed i, bytes)) (same i))
 
-known_files : (options : Options) (asked : Option Format) (files : List ℕ → Option (List ℕ)) (paths : List (List ℕ)) (sources : List (Format × List ℕ)) → AllZip (IsLoaded asked files) paths sources
-    → IfSome (all_found (rest_at options asked files) paths) (λ rests. asked_rests options sources ≡ rests)
-known_files options asked files [] [] loaded = refl
-known_files options asked files [] (source ∷ sources) loaded = absurd loaded
-known_files options asked files (path ∷ paths) [] loaded = absurd loaded
-known_files options asked files (path ∷ paths) (source ∷ sources) ((formed, same), more) =
-    known_first options (unwrap_or asked (format_at path)) (files path) (all_found (rest_at options asked files) paths) source sources formed same (known_files options asked files paths sources more)
+known_files : (asked : Option Format) (files : List ℕ → Option (List ℕ)) (paths : List (List ℕ)) (sources : List (Format × Option (List ℕ))) → AllZip (IsLoaded asked files) paths sources
+    → IfSome (all_found (bytes_at asked files) paths) (λ all. known_inputs sources ≡ Some all)
+known_files asked files [] [] loaded = refl
+known_files asked files [] (source ∷ sources) loaded = absurd loaded
+known_files asked files (path ∷ paths) [] loaded = absurd loaded
+known_files asked files (path ∷ paths) (source ∷ sources) ((formed, same), more) =
+    known_first (unwrap_or asked (format_at path)) (files path) (all_found (bytes_at asked files) paths) source sources formed same (known_files asked files paths sources more)
 
-known_input : (options : Options) (asked : Option Format) (input : Option (List ℕ)) (sources : List (Format × List ℕ)) → IfSome input (IsLoadedInput asked sources)
-    → IfSome (option_map (λ rest. rest ∷ []) (rest_in options asked input)) (λ rests. asked_rests options sources ≡ rests)
-known_input options asked None sources loaded = tt
-known_input options asked (Some bytes) [] loaded = absurd loaded
-known_input options asked (Some bytes) (source ∷ []) (folded, same) = λ i. asked_rest options (folded i) (same i) ∷ []
-known_input options asked (Some bytes) (source ∷ other ∷ more) loaded = absurd loaded
+known_input : (asked : Option Format) (input : Option (List ℕ)) (sources : List (Format × Option (List ℕ))) → IfSome input (IsLoadedInput asked sources)
+    → IfSome (option_map (λ source. source ∷ []) (bytes_in asked input)) (λ all. known_inputs sources ≡ Some all)
+known_input asked None sources loaded = tt
+known_input asked (Some bytes) [] loaded = absurd loaded
+known_input asked (Some bytes) (source ∷ []) (folded, same) = λ i. option_and_then (λ one. Some (one ∷ [])) (option_map (λ bytes. (folded i, bytes)) (same i))
+known_input asked (Some bytes) (source ∷ other ∷ more) loaded = absurd loaded
 
-pub loaded_rests : (options : Options) (asked : Option Format) (input : Option (List ℕ)) (files : List ℕ → Option (List ℕ)) (paths : List (List ℕ)) (sources : List (Format × List ℕ)) → AreLoaded asked input files paths sources
-    → IfSome (rests_at options asked paths input files) (λ rests. asked_rests options sources ≡ rests)
-loaded_rests options asked input files [] sources loaded = known_input options asked input sources loaded
-loaded_rests options asked input files (path ∷ paths) sources loaded = known_files options asked files (path ∷ paths) sources loaded
+-- where the bytes of all are known, they are those that were loaded
+loaded_known : (asked : Option Format) (input : Option (List ℕ)) (files : List ℕ → Option (List ℕ)) (paths : List (List ℕ)) (sources : List (Format × Option (List ℕ))) → AreLoaded asked input files paths sources
+    → IfSome (bytes_of asked paths input files) (λ all. known_inputs sources ≡ Some all)
+loaded_known asked input files [] sources loaded = known_input asked input sources loaded
+loaded_known asked input files (path ∷ paths) sources loaded = known_files asked files (path ∷ paths) sources loaded
 
-bytes_first : (format : Format) (known : Option (List ℕ)) (found : Option (List (Format × List ℕ))) (source : Format × List ℕ) (sources : List (Format × List ℕ))
-    → source.0 ≡ format → IfSome known (λ bytes. source.1 ≡ bytes) → IfSome found (λ all. sources ≡ all)
-    → IfSome (option_and_then (λ one. option_map (λ more. one ∷ more) found) (option_map (λ bytes. (format, bytes)) known)) (λ all. source ∷ sources ≡ all)
-bytes_first format None found source sources formed same more = tt
-bytes_first format (Some bytes) None source sources formed same more = tt
-bytes_first format (Some bytes) (Some all) source sources formed same more = λ i. (formed i, same i) ∷ more i
+-- what bytes stand for is known where they are
+rests_first : (options : Options) (format : Format) (known : Option (List ℕ)) (rests : Option (List Rest)) (found : Option (List (Format × List ℕ))) → rests ≡ option_map (asked_rests options) found
+    → option_and_then (λ rest. option_map (λ more. rest ∷ more) rests) (rest_of options format known)
+    ≡ option_map (asked_rests options) (option_and_then (λ one. option_map (λ more. one ∷ more) found) (option_map (λ bytes. (format, bytes)) known))
+rests_first options format None rests found same = refl
+rests_first options format (Some bytes) rests None same = ap (option_map (λ more. asked_rest options format bytes ∷ more)) same
+rests_first options format (Some bytes) rests (Some all) same = ap (option_map (λ more. asked_rest options format bytes ∷ more)) same
 
-bytes_files : (asked : Option Format) (files : List ℕ → Option (List ℕ)) (paths : List (List ℕ)) (sources : List (Format × List ℕ)) → AllZip (IsLoaded asked files) paths sources
-    → IfSome (all_found (bytes_at asked files) paths) (λ all. sources ≡ all)
-bytes_files asked files [] [] loaded = refl
-bytes_files asked files [] (source ∷ sources) loaded = absurd loaded
-bytes_files asked files (path ∷ paths) [] loaded = absurd loaded
-bytes_files asked files (path ∷ paths) (source ∷ sources) ((formed, same), more) =
-    bytes_first (unwrap_or asked (format_at path)) (files path) (all_found (bytes_at asked files) paths) source sources formed same (bytes_files asked files paths sources more)
+rests_of_files : (options : Options) (asked : Option Format) (files : List ℕ → Option (List ℕ)) (paths : List (List ℕ)) → all_found (rest_at options asked files) paths ≡ option_map (asked_rests options) (all_found (bytes_at asked files) paths)
+rests_of_files options asked files [] = refl
+rests_of_files options asked files (path ∷ paths) =
+    rests_first options (unwrap_or asked (format_at path)) (files path) (all_found (rest_at options asked files) paths) (all_found (bytes_at asked files) paths) (rests_of_files options asked files paths)
 
-bytes_input : (asked : Option Format) (input : Option (List ℕ)) (sources : List (Format × List ℕ)) → IfSome input (IsLoadedInput asked sources)
-    → IfSome (option_map (λ source. source ∷ []) (bytes_in asked input)) (λ all. sources ≡ all)
-bytes_input asked None sources loaded = tt
-bytes_input asked (Some bytes) [] loaded = absurd loaded
-bytes_input asked (Some bytes) (source ∷ []) (folded, same) = λ i. (folded i, same i) ∷ []
-bytes_input asked (Some bytes) (source ∷ other ∷ more) loaded = absurd loaded
+rests_of_input : (options : Options) (asked : Option Format) (input : Option (List ℕ)) → option_map (λ rest. rest ∷ []) (rest_in options asked input) ≡ option_map (asked_rests options) (option_map (λ source. source ∷ []) (bytes_in asked input))
+rests_of_input options asked None = refl
+rests_of_input options asked (Some bytes) = refl
 
-pub bytes_loaded : (asked : Option Format) (input : Option (List ℕ)) (files : List ℕ → Option (List ℕ)) (paths : List (List ℕ)) (sources : List (Format × List ℕ)) → AreLoaded asked input files paths sources
-    → IfSome (bytes_of asked paths input files) (λ all. sources ≡ all)
-bytes_loaded asked input files [] sources loaded = bytes_input asked input sources loaded
-bytes_loaded asked input files (path ∷ paths) sources loaded = bytes_files asked files (path ∷ paths) sources loaded
+rests_by_bytes : (options : Options) (asked : Option Format) (paths : List (List ℕ)) (input : Option (List ℕ)) (files : List ℕ → Option (List ℕ)) → rests_at options asked paths input files ≡ option_map (asked_rests options) (bytes_of asked paths input files)
+rests_by_bytes options asked [] input files = rests_of_input options asked input
+rests_by_bytes options asked (path ∷ paths) input files = rests_of_files options asked files (path ∷ paths)
+
+-- what holds of the sources that were loaded holds of those that are known
+module _ (plan : Plan) (input : Option (List ℕ)) (files : List ℕ → Option (List ℕ)) (sources : List (Format × Option (List ℕ))) (loaded : AreLoaded plan.format input files plan.files sources) where
+  pub bytes_known : (P : List (Format × List ℕ) → Type 0) → IfSome (known_inputs sources) P → IfSome (known_sources plan input files) P
+  bytes_known P holds =
+      elim (bytes_of plan.format plan.files input files) as (λ known. IfSome known (λ all. known_inputs sources ≡ Some all) → IfSome known P) [
+        | None ↦ λ _. tt
+        | Some all ↦ λ same. subst (λ known. IfSome known P) same holds
+      ] (loaded_known plan.format input files plan.files sources loaded)
+
+  -- the same of what they stand for
+  pub shown_known : (P : Option RunFacts → List Rest → Type 0) → IfSome (known_inputs sources) (λ all. P (Some (facts_of plan.options all)) (wanted_rests plan all)) → IfSome (known_rests plan input files) (P (known_facts plan input files))
+  shown_known P holds =
+      subst (λ rests. IfSome (option_map (shown_rests plan.from plan.omit) rests) (P (known_facts plan input files))) (sym (rests_by_bytes plan.options plan.format plan.files input files))
+      (elim (known_sources plan input files) as (λ known. IfSome known (λ all. P (Some (facts_of plan.options all)) (wanted_rests plan all))
+      → IfSome (option_map (shown_rests plan.from plan.omit) (option_map (asked_rests plan.options) known)) (P (option_map (facts_of plan.options) known))) [
+        | None ↦ λ _. tt
+        | Some all ↦ λ holds. holds
+      ] (bytes_known (λ all. P (Some (facts_of plan.options all)) (wanted_rests plan all)) holds))
+
+  -- and of how they end
+  pub endings_known : (P : List SourceEnd → Type 0) → IfSome (known_inputs sources) (λ all. P (map (λ rest. rest.ending) (asked_rests plan.options all))) → IfSome (known_endings plan input files) P
+  endings_known P holds =
+      subst (λ rests. IfSome (option_map (λ rests. map (λ rest. rest.ending) rests) rests) P) (sym (rests_by_bytes plan.options plan.format plan.files input files))
+      (elim (known_sources plan input files) as (λ known. IfSome known (λ all. P (map (λ rest. rest.ending) (asked_rests plan.options all))) → IfSome (option_map (λ rests. map (λ rest. rest.ending) rests) (option_map (asked_rests plan.options) known)) P) [
+        | None ↦ λ _. tt
+        | Some all ↦ λ holds. holds
+      ] (bytes_known (λ all. P (map (λ rest. rest.ending) (asked_rests plan.options all))) holds))
+
+-- what a clause says of what is known
+pub at_known : {A : Type 0} {known : Option A} (P : A → Type 0) (x : A) → known ≡ Some x → IfSome known P → P x
+at_known P x is holds = subst (λ known. IfSome known P) is holds
+
+pub if_known : {A : Type 0} (known : Option A) (P : A → Type 0) → ((x : A) → known ≡ Some x → P x) → IfSome known P
+if_known None P says = tt
+if_known (Some x) P says = says x refl
+
+-- what a result says of all that may be known
+pub ok_if_known : {T E A : Type 0} (result : Result T E) (known : Option A) (P : T → A → Type 0) → ((x : A) → known ≡ Some x → IfOk result (λ done. P done x)) → IfOk result (λ done. IfSome known (P done))
+ok_if_known (Ok done) None P says = tt
+ok_if_known (Ok done) (Some x) P says = says x refl
+ok_if_known (Err error) known P says = tt
+
+pub err_if_known : {T E A : Type 0} (result : Result T E) (known : Option A) (P : E → A → Type 0) → ((x : A) → known ≡ Some x → IfErr result (λ error. P error x)) → IfErr result (λ error. IfSome known (P error))
+err_if_known (Ok done) known P says = tt
+err_if_known (Err error) None P says = tt
+err_if_known (Err error) (Some x) P says = says x refl
 
 -- something is found
 abbrev pub IsKnown : {A : Type 0} → Option A → Type 0
@@ -105,44 +148,13 @@ IsKnown None = ⊥
 IsKnown (Some x) = Unit {0}
 
 -- where the samples are known, so are the facts
-both_found : {X A B : Type 0} (one : X → Option A) (other : X → Option B) → ((x : X) → IfSome (one x) (λ _. IsKnown (other x))) → (xs : List X) → IfSome (all_found one xs) (λ _. IsKnown (all_found other xs))
-both_found one other h [] = tt
-both_found {X} {A} {B} one other h (x ∷ xs) = go (one x) (other x) (all_found one xs) (all_found other xs) (h x) (both_found one other h xs)
-  where
-    go : (a : Option A) (b : Option B) (found : Option (List A)) (others : Option (List B)) → IfSome a (λ _. IsKnown b) → IfSome found (λ _. IsKnown others)
-        → IfSome (option_and_then (λ first. option_map (λ more. first ∷ more) found) a) (λ _. IsKnown (option_and_then (λ first. option_map (λ more. first ∷ more) others) b))
-    go None b found others some more = tt
-    go (Some a) None found others some more = absurd some
-    go (Some a) (Some b) None others some more = tt
-    go (Some a) (Some b) (Some found) None some more = absurd more
-    go (Some a) (Some b) (Some found) (Some others) some more = tt
-
-both_mapped : {X A B : Type 0} (one : X → A) (other : X → B) (known : Option X) → IfSome (option_map one known) (λ _. IsKnown (option_map other known))
-both_mapped one other None = tt
-both_mapped one other (Some x) = tt
-
-if_mapped : {A B C : Type 0} (f : B → C) (one : Option A) (other : Option B) → IfSome one (λ _. IsKnown other) → IfSome one (λ _. IsKnown (option_map f other))
-if_mapped f None other some = tt
-if_mapped f (Some x) None some = absurd some
-if_mapped f (Some x) (Some y) some = tt
-
-under_map : {A B : Type 0} (Q : Type 0) (f : A → B) (one : Option A) → IfSome one (λ _. Q) → IfSome (option_map f one) (λ _. Q)
-under_map Q f None some = tt
-under_map Q f (Some x) some = some
-
 pub facts_are_known : (plan : Plan) (input : Option (List ℕ)) (files : List ℕ → Option (List ℕ)) → IfSome (known_rests plan input files) (λ _. IsKnown (known_facts plan input files))
 facts_are_known plan input files =
-    under_map (IsKnown (known_facts plan input files)) (shown_rests plan.from plan.omit) (rests_at plan.options plan.format plan.files input files)
-    (if_mapped (facts_of plan.options) (rests_at plan.options plan.format plan.files input files) (bytes_of plan.format plan.files input files) (of_paths plan.files))
-  where
-    of_paths : (paths : List (List ℕ)) → IfSome (rests_at plan.options plan.format paths input files) (λ _. IsKnown (bytes_of plan.format paths input files))
-    of_paths [] = elim input as (λ known. IfSome (rests_at plan.options plan.format [] known files) (λ _. IsKnown (bytes_of plan.format [] known files))) [
+    subst (λ rests. IfSome (option_map (shown_rests plan.from plan.omit) rests) (λ _. IsKnown (known_facts plan input files))) (sym (rests_by_bytes plan.options plan.format plan.files input files))
+    (elim (known_sources plan input files) as (λ known. IfSome (option_map (shown_rests plan.from plan.omit) (option_map (asked_rests plan.options) known)) (λ _. IsKnown (option_map (facts_of plan.options) known))) [
       | None ↦ tt
-      | Some bytes ↦ tt
-    ]
-    of_paths (path ∷ paths) =
-        both_found (rest_at plan.options plan.format files) (bytes_at plan.format files)
-        (λ path. both_mapped (asked_rest plan.options (unwrap_or plan.format (format_at path))) (λ bytes. (unwrap_or plan.format (format_at path), bytes)) (files path)) (path ∷ paths)
+      | Some all ↦ tt
+    ])
 
 -- ---- what no gate stopped is clean or has a fault
 
@@ -210,28 +222,20 @@ lists_faultless plan sources lists none whole =
 
 -- ---- what a run over known sources shows
 
--- a plan's sources were loaded and collected whole
-pub record AreCollected (plan : Plan) (input : Option (List ℕ)) (files : List ℕ → Option (List ℕ)) (sources : List (Format × List ℕ)) (lists : List ListState) (order : List ℕ) (every : Option ℕ) : Type 0 where
-  pub loaded : AreLoaded plan.format input files plan.files sources
-  pub whole : AreWhole (shown_rests plan.from plan.omit (asked_rests plan.options sources)) lists
+-- a plan's sources were collected whole
+pub record AreCollected (plan : Plan) (sources : List (Format × List ℕ)) (lists : List ListState) (order : List ℕ) : Type 0 where
+  pub whole : AreWhole (wanted_rests plan sources) lists
   pub ordered : IsInterleaving order (samples_of lists)
-  pub every_is : every ≡ plan.options.every
 
-pub collected_of : (plan : Plan) (input : Option (List ℕ)) (files : List ℕ → Option (List ℕ)) (paths : List (List ℕ)) (sources : List (Format × List ℕ)) (lists : List ListState) (order : List ℕ) (every : Option ℕ)
-    → paths ≡ plan.files → AreLoaded plan.format input files paths sources → AreWhole (shown_rests plan.from plan.omit (asked_rests plan.options sources)) lists → IsInterleaving order (samples_of lists) → every ≡ plan.options.every
-    → AreCollected plan input files sources lists order every
-collected_of plan input files paths sources lists order every same loaded whole ordered every_is =
-    record { loaded = subst (λ paths. AreLoaded plan.format input files paths sources) same loaded; whole = whole; ordered = ordered; every_is = every_is }
-
-module _ (plan : Plan) (input : Option (List ℕ)) (files : List ℕ → Option (List ℕ)) (sources : List (Format × List ℕ)) (lists : List ListState) (order : List ℕ) (every : Option ℕ) (collected : AreCollected plan input files sources lists order every) where
+module _ (plan : Plan) (sources : List (Format × List ℕ)) (lists : List ListState) (order : List ℕ) (collected : AreCollected plan sources lists order) where
   abbrev facts : RunFacts
   facts = facts_of plan.options sources
 
   abbrev wanted : List Rest
-  wanted = shown_rests plan.from plan.omit (asked_rests plan.options sources)
+  wanted = wanted_rests plan sources
 
   abbrev text : List ℕ
-  text = shown_text plan facts (samples_of lists) order every
+  text = shown_text plan facts (samples_of lists) order plan.options.every
 
   same_samples : samples_of lists ≡ lists_of wanted
   same_samples = samples_of_rests lists ∙ ap lists_of collected.whole
@@ -246,44 +250,21 @@ module _ (plan : Plan) (input : Option (List ℕ)) (files : List ℕ → Option 
         (clean_rests plan.options sources (sym (faults_shown plan.from plan.omit (asked_rests plan.options sources)) ∙ (sym same_faults ∙ faultless)));
     order = order;
     ordered = subst (λ (samples : List (List Sample)). IsInterleaving order samples) same_samples collected.ordered;
-    text_is = λ i. shown_text plan facts (same_samples i) order (collected.every_is i);
+    text_is = ap (λ samples. shown_text plan facts samples order plan.options.every) same_samples;
   }
 
-  -- what holds of the sources that were collected holds of those that are known
-  if_known : (P : List Rest → Type 0) → P wanted → IfSome (known_rests plan input files) P
-  if_known P holds =
-      elim (rests_at plan.options plan.format plan.files input files) as (λ known. IfSome known (λ rests. asked_rests plan.options sources ≡ rests) → IfSome (option_map (shown_rests plan.from plan.omit) known) P) [
-        | None ↦ λ _. tt
-        | Some rests ↦ λ same. subst (λ rests. P (shown_rests plan.from plan.omit rests)) same holds
-      ] (loaded_rests plan.options plan.format input files plan.files sources collected.loaded)
-
-  -- what holds of the facts of the sources holds of those that are known
-  if_facts : (P : RunFacts → Type 0) → P facts → IfSome (known_facts plan input files) P
-  if_facts P holds =
-      elim (bytes_of plan.format plan.files input files) as (λ known. IfSome known (λ all. sources ≡ all) → IfSome (option_map (facts_of plan.options) known) P) [
-        | None ↦ λ _. tt
-        | Some all ↦ λ same. subst (λ all. P (facts_of plan.options all)) same holds
-      ] (bytes_loaded plan.format input files plan.files sources collected.loaded)
-
-  pub ok_shown : {T E : Type 0} (result : Result T E) (old new : Option (List ℕ)) → OnOk result (has_fault lists ≡ false) → OnOk result (Appends old new text)
-      → OnOk result (IfSome (known_rests plan input files) (Shows plan (known_facts plan input files) old new))
-  ok_shown (Ok done) old new faultless appends = if_known (Shows plan (known_facts plan input files) old new) (λ _. if_facts (λ facts. (text : List ℕ) × IsTextOf plan facts wanted text × Appends old new text) (text, is_text faultless, appends))
-  ok_shown (Err error) old new faultless appends = tt
-
-  -- the same of a text that is said in other words
-  pub ok_shown_as : {T E : Type 0} (result : Result T E) (old new : Option (List ℕ)) (other : List ℕ) → other ≡ text → OnOk result (has_fault lists ≡ false) → OnOk result (Appends old new other)
-      → OnOk result (IfSome (known_rests plan input files) (Shows plan (known_facts plan input files) old new))
-  ok_shown_as result old new other same faultless appends = ok_shown result old new faultless (subst (λ said. OnOk result (Appends old new said)) same appends)
+  -- by a text that is said in other words
+  pub ok_shown : {T E : Type 0} (result : Result T E) (old new : Option (List ℕ)) (other : List ℕ) → other ≡ text → OnOk result (has_fault lists ≡ false) → OnOk result (Appends old new other)
+      → OnOk result (Shows plan (Some facts) old new wanted)
+  ok_shown (Ok done) old new other same faultless appends = λ _. (text, is_text faultless, subst (Appends old new) same appends)
+  ok_shown (Err error) old new other same faultless appends = tt
 
   -- whether functions grew, by the line that names them
-  grown_known : (line : List ℕ) (is_over : Bool) → line ≡ growth_line plan.view (samples_of lists) → is_over ≡ is_said line → IfSome (known_rests plan input files) (TellsGrowth is_over plan)
-  grown_known line is_over is says = if_known (TellsGrowth is_over plan) (tells_growth plan wanted line is_over (is ∙ ap (growth_line plan.view) same_samples) says)
-
-  pub growth_shown : (result : Result Bool Failure) → IfOk result (λ is_over. is_over ≡ is_said (growth_line plan.view (samples_of lists))) → IfOk result (λ is_over. IfSome (known_rests plan input files) (TellsGrowth is_over plan))
-  growth_shown (Ok is_over) says = grown_known (growth_line plan.view (samples_of lists)) is_over refl says
+  pub growth_shown : (result : Result Bool Failure) → IfOk result (λ is_over. is_over ≡ is_said (growth_line plan.view (samples_of lists))) → IfOk result (λ is_over. TellsGrowth is_over plan wanted)
+  growth_shown (Ok is_over) says = tells_growth plan wanted (growth_line plan.view (samples_of lists)) is_over (ap (growth_line plan.view) same_samples) says
   growth_shown (Err failure) says = tt
 
-  not_shown : (old new : Option (List ℕ)) (failure : Failure) → FailsToShow lists text old new failure → Fails plan (known_facts plan input files) old new failure wanted
+  not_shown : (old new : Option (List ℕ)) (failure : Failure) → FailsToShow lists text old new failure → Fails plan (Some facts) old new failure wanted
   not_shown old new TooManyFiles fails = tt
   not_shown old new (Unreadable source) fails = tt
   not_shown old new (TooLarge source) fails = tt
@@ -291,13 +272,7 @@ module _ (plan : Plan) (input : Option (List ℕ)) (files : List ℕ → Option 
   not_shown old new NoThread fails = tt
   not_shown old new (Unfinished source) fails = tt
   not_shown old new Faults fails = λ plain. faulty_rests wanted (sym same_faults ∙ fails.0)
-  not_shown old new (Output fault) fails = λ _. if_facts (λ facts. (text : List ℕ) × IsTextOf plan facts wanted text × AppendsFront text old new) (text, is_text fails.0, fails.1)
+  not_shown old new (Output fault) fails = λ _. (text, is_text fails.0, fails.1)
 
-  pub err_shown : {T : Type 0} (result : Result T Failure) (old new : Option (List ℕ)) → IfErr result (FailsToShow lists text old new)
-      → IfErr result (λ failure. IfSome (known_rests plan input files) (Fails plan (known_facts plan input files) old new failure))
-  err_shown (Ok done) old new fails = tt
-  err_shown (Err failure) old new fails = if_known (Fails plan (known_facts plan input files) old new failure) (not_shown old new failure fails)
-
-  pub err_shown_as : {T : Type 0} (result : Result T Failure) (old new : Option (List ℕ)) (other : List ℕ) → other ≡ text → IfErr result (FailsToShow lists other old new)
-      → IfErr result (λ failure. IfSome (known_rests plan input files) (Fails plan (known_facts plan input files) old new failure))
-  err_shown_as result old new other same fails = err_shown result old new (subst (λ said. IfErr result (FailsToShow lists said old new)) same fails)
+  pub err_shown : (old new : Option (List ℕ)) (other : List ℕ) → other ≡ text → (failure : Failure) → FailsToShow lists other old new failure → Fails plan (Some facts) old new failure wanted
+  err_shown old new other same failure fails = not_shown old new failure (subst (λ said. FailsToShow lists said old new failure) same fails)

@@ -24,7 +24,7 @@ use Rattle.opened_sources.specs.Failures.{IsOpening, ends_in_fault, has_fault, s
 use Rattle.opened_sources.specs.declared.failures.Failure.{Failure}
 use Rattle.opened_sources.specs.declared.failures.Failure.TheVariants.{TooManyFiles, Unreadable, TooLarge, OutOfMemory, NoThread, Unfinished, Faults, Output}
 use Rattle.flame_tool.specs.LiveRuns.{AreFirst, ShowsFirst, ShowsLive, ShowsSome, known_texts, lines_of, read_texts}
-use Rattle.flame_tool.specs.Requests.{all_found}
+use Rattle.source_lists.specs.Sources.{all_found}
 use Rattle.flame_tool.specs.Runs.{HasFault, IsClean, lists_of}
 use Rattle.flame_tool.specs.checked.LiveEnds.{EndsLive, FailsLive, TellsTexts, anywhere, is_stopped, live_status, status_by}
 use Rattle.flame_tool.specs.checked.LiveStreams.{AreOpened, IsOfFile, IsOfInput, ReadsAs, ReadsText}

@@ -10,7 +10,6 @@ use Rattle.command_line.specs.CommandLine.{command_line}
 use Rattle.folded_lines.specs.Reading.{read_folded}
 use Rattle.run_options.specs.Filters.{everything, kept_rest}
 use Rattle.run_options.proofs.FilterLemmas.{all_is_kept}
-use Rattle.function_sums.specs.declared.call_sides.CallSide.{CallSide}
 use Rattle.function_sums.specs.declared.call_sides.CallSide.TheVariants.{Callers, Callees}
 use Rattle.merging.specs.Sums.{all_samples}
 use Rattle.view_texts.specs.Fold.{fold_text}

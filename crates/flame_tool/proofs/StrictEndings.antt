@@ -1,12 +1,10 @@
 -- How a run ends that is asked to be strict.
-use Rattle.std.proofs.Common.{◌≡◌, ℕ, List, Option, Some, None, Result, Ok, Err, IfSome, IfErr, OnOk, sym, ◌∙◌, subst, true, false, arith}
+use Rattle.std.proofs.Common.{◌≡◌, ℕ, List, Option, Some, None, Result, Ok, Err, IfSome, IfErr, OnOk, sym, ◌∙◌, true, false, arith}
 use Rattle.std.proofs.lemmas.Bool.{true≢false, false≢true}
-use Rattle.std.specs.Prelude.{Bool, IsSomeAnd, MatchResult}
+use Rattle.std.specs.Prelude.{Bool, IsSomeAnd}
 use Rattle.clap.specs.Walk.{Text}
 use Rattle.stack_core.specs.Ledgers.{ListState}
 use Rattle.stack_core.specs.Reading.{Rest}
-use Rattle.run_options.specs.declared.formats.Format.{Format}
-use Rattle.run_options.specs.declared.options.Options.{Options}
 use Rattle.command_line.specs.declared.plans.Plan.{Plan}
 use Rattle.opened_sources.specs.Failures.{Flushes, IsOpening, has_fault, status_of}
 use Rattle.opened_sources.specs.declared.failures.Failure.{Failure}
@@ -32,7 +30,7 @@ unopened count faulty Faults opening = absurd opening
 unopened count faulty (Output fault) opening = absurd opening
 
 -- the lists have no fault
-unsent : (lists : List ListState) (text : List ℕ) (old new : Option (List ℕ)) (faulty : Bool) → faulty ≡ false → has_fault lists ≡ false → (failure : Failure) → FailsToShow lists text old new failure → FailsStrictly faulty failure
+pub unsent : (lists : List ListState) (text : List ℕ) (old new : Option (List ℕ)) (faulty : Bool) → faulty ≡ false → has_fault lists ≡ false → (failure : Failure) → FailsToShow lists text old new failure → FailsStrictly faulty failure
 unsent lists text old new faulty none clean TooManyFiles fails = absurd fails
 unsent lists text old new faulty none clean (Unreadable source) fails = absurd fails
 unsent lists text old new faulty none clean (TooLarge source) fails = absurd fails
@@ -42,15 +40,9 @@ unsent lists text old new faulty none clean (Unfinished source) fails = absurd f
 unsent lists text old new faulty none clean Faults fails = absurd (false≢true (sym clean ∙ fails.0))
 unsent lists text old new faulty none clean (Output fault) fails = none
 
-pub sent_strictly : {T : Type 0} (lists : List ListState) (text : List ℕ) (old new : Option (List ℕ)) (faulty : Bool) → faulty ≡ false → has_fault lists ≡ false → (result : Result T Failure)
-    → IfErr result (FailsToShow lists text old new) → MatchResult result (λ _. faulty ≡ false) (FailsStrictly faulty)
-sent_strictly lists text old new faulty none clean (Ok done) fails = none
-sent_strictly lists text old new faulty none clean (Err failure) fails = unsent lists text old new faulty none clean failure fails
-
 -- it is asked strictly, so that no plain fault is told
-pub told_strictly : (plan : Plan) (known : Option (List Rest)) → plan.is_strict ≡ true → IfSome known (HasPlainFault plan)
-told_strictly plan None strict = tt
-told_strictly plan (Some rests) strict = λ plain. absurd (true≢false (sym strict ∙ plain))
+pub told_strictly : (plan : Plan) (rests : List Rest) → plan.is_strict ≡ true → HasPlainFault plan rests
+told_strictly plan rests strict = λ plain. absurd (true≢false (sym strict ∙ plain))
 
 strict_failed : (faulty : Bool) (failure : Failure) → status_of failure ≡ 1 → FailsStrictly faulty failure → faulty ≡ true
 strict_failed faulty TooManyFiles one fails = absurd (omega arith)
@@ -94,26 +86,6 @@ module _ {A : Type 0} (has : A → Bool) (known : Option A) where
     strict_untouched (Err failure) clean fails kept flushes =
         if_some known (λ sources. FailsStrictly (has sources) failure) (λ sources. has sources ≡ true → FailsUntouched (status_of failure) old new before after)
         (λ sources failed. left_alone (has sources) failure failed kept flushes) fails
-
--- ---- by what is known of the sources
-
-module _ (known : Option (List (Format × List ℕ))) (sources : List (Format × List ℕ)) (same : IfSome known (λ all. sources ≡ all)) where
-  of_sources : (P : List (Format × List ℕ) → Type 0) → P sources → IfSome known P
-  of_sources P holds =
-      elim known as (λ known. IfSome known (λ all. sources ≡ all) → IfSome known P) [
-        | None ↦ λ _. tt
-        | Some all ↦ λ same. subst P same holds
-      ] same
-
-  pub known_strict : {T : Type 0} (options : Options) (result : Result T Failure) → MatchResult result (λ _. has_strict_fault options sources ≡ false) (FailsStrictly (has_strict_fault options sources))
-      → OnOk result (IfSome known (λ sources. has_strict_fault options sources ≡ false))
-  known_strict options (Ok done) holds = of_sources (λ sources. has_strict_fault options sources ≡ false) holds
-  known_strict options (Err failure) holds = tt
-
-  pub known_strict_err : {T : Type 0} (options : Options) (result : Result T Failure) → MatchResult result (λ _. has_strict_fault options sources ≡ false) (FailsStrictly (has_strict_fault options sources))
-      → IfErr result (λ failure. IfSome known (λ sources. FailsStrictly (has_strict_fault options sources) failure))
-  known_strict_err options (Ok done) holds = tt
-  known_strict_err options (Err failure) holds = of_sources (λ sources. FailsStrictly (has_strict_fault options sources) failure) holds
 
 -- ---- by the words
 

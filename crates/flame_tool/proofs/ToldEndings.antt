@@ -1,9 +1,9 @@
 -- What is told of the sources of a run is what their bytes say of their endings.
 use Rattle.std.proofs.Common.{◌≡◌, ◌≤◌, ◌∙◌, ◌++◌, ◌+◌, ◌<◌, ℕ, take, get_or, length, length-take-le, Bool, List, [], ◌∷◌, Option, Some, None, Result, Ok, Err, IfOk, IfErr, IfSome, map, ap, append-nil, arith, refl, subst, sym, true, false}
-use Rattle.std.specs.Prelude.{IsErrOf, IsSomeAnd, MatchResult, option_map}
+use Rattle.std.specs.Prelude.{IsErrOf, IsSomeAnd, MatchResult}
 use Rattle.clap.specs.Walk.{Text}
 use Rattle.command_line.specs.declared.plans.Plan.{Plan}
-use Rattle.flame_tool.specs.Requests.{asked_plan, rests_at}
+use Rattle.flame_tool.specs.Requests.{asked_plan}
 use Rattle.flame_tool.specs.Runs.{ShowsSamples}
 use Rattle.std.proofs.lemmas.Bool.{true≢false}
 use Rattle.std.proofs.lemmas.List.{length-map, map_push, take_more}
@@ -13,7 +13,6 @@ use Rattle.stack_core.specs.declared.endings.SourceEnd.{SourceEnd}
 use Rattle.run_options.specs.declared.formats.Format.{Format}
 use Rattle.ring_collect.specs.Collection.{AreWhole, seen_as_rest}
 use Rattle.source_lists.specs.Sources.{asked_rests}
-use Rattle.opened_sources.specs.Opening.{AreLoaded}
 use Rattle.opened_sources.specs.Failures.{status_of}
 use Rattle.opened_sources.specs.Messages.{Tells, message_of_failure, said_of_each}
 use Rattle.opened_sources.specs.declared.failures.Failure.{Failure}
@@ -21,29 +20,20 @@ use Rattle.opened_sources.specs.declared.failures.Failure.TheVariants.{TooManyFi
 use Rattle.opened_sources.proofs.MessageTexts.{said_of_more, tells_more}
 use Rattle.flame_tool.specs.ToldRuns.{TellsEndings, known_endings}
 use Rattle.flame_tool.specs.checked.Failures.{exit_status}
-use Rattle.flame_tool.proofs.KnownSources.{loaded_rests}
 
 -- the endings of lists are those of what was read
-pub endings_seen : (rests : List Rest) (lists : List ListState) → map seen_as_rest lists ≡ rests → map (λ list. list.ending) lists ≡ map (λ rest. rest.ending) rests
+endings_seen : (rests : List Rest) (lists : List ListState) → map seen_as_rest lists ≡ rests → map (λ list. list.ending) lists ≡ map (λ rest. rest.ending) rests
 endings_seen rests lists whole = go lists ∙ ap (map (λ rest. rest.ending)) whole
   where
     go : (lists : List ListState) → map (λ list. list.ending) lists ≡ map (λ rest. rest.ending) (map seen_as_rest lists)
     go [] = refl
     go (list ∷ lists) = ap (λ more. list.ending ∷ more) (go lists)
 
--- where what is known of them is what was read
-pub endings_known : (known : Option (List Rest)) (read : List Rest) (P : List SourceEnd → Type 0) → IfSome known (λ rests. read ≡ rests) → P (map (λ rest. rest.ending) read)
-    → IfSome (option_map (λ rests. map (λ rest. rest.ending) rests) known) P
-endings_known None read P same holds = tt
-endings_known (Some rests) read P same holds = subst (λ rests. P (map (λ rest. rest.ending) rests)) same holds
-
-pub told_of_read : (plan : Plan) (input : Option (List ℕ)) (files : List ℕ → Option (List ℕ)) (sources : List (Format × List ℕ)) (lists told : List ListState) (old new : Option (List ℕ)) (before after : ℕ)
-    → AreLoaded plan.format input files plan.files sources → AreWhole (asked_rests plan.options sources) lists → told ≡ lists
-    → TellsEndings plan.files old new before after (map (λ list. list.ending) told) → IfSome (known_endings plan input files) (TellsEndings plan.files old new before after)
-told_of_read plan input files sources lists told old new before after loaded whole is tells =
-    endings_known (rests_at plan.options plan.format plan.files input files) (asked_rests plan.options sources) (TellsEndings plan.files old new before after)
-    (loaded_rests plan.options plan.format input files plan.files sources loaded)
-    (subst (TellsEndings plan.files old new before after) (ap (map (λ list. list.ending)) is ∙ endings_seen (asked_rests plan.options sources) lists whole) tells)
+-- what was told of lists was told of what was read
+pub told_of_read : (plan : Plan) (sources : List (Format × List ℕ)) (lists told : List ListState) (old new : Option (List ℕ)) (before after : ℕ) → AreWhole (asked_rests plan.options sources) lists → told ≡ lists
+    → TellsEndings plan.files old new before after (map (λ list. list.ending) told) → TellsEndings plan.files old new before after (map (λ rest. rest.ending) (asked_rests plan.options sources))
+told_of_read plan sources lists told old new before after whole is tells =
+    subst (TellsEndings plan.files old new before after) (ap (map (λ list. list.ending)) is ∙ endings_seen (asked_rests plan.options sources) lists whole) tells
 
 -- of one list more
 pub said_of_taken : {A B : Type 0} (say : ℕ → B → List ℕ) (see : A → B) (xs : List A) (at : ℕ) (none : A) → at < length xs

@@ -4,11 +4,10 @@ use Rattle.run_options.specs.Formats.{format_at}
 use Rattle.run_options.specs.declared.formats.Format.{Format}
 use Rattle.run_options.specs.declared.formats.Format.TheVariants.{Folded}
 use Rattle.run_options.specs.declared.options.Options.{Options}
-use Rattle.source_lists.specs.Sources.{whole_weight}
+use Rattle.source_lists.specs.Sources.{all_found, whole_weight}
 use Rattle.source_lists.specs.Types.{types_of}
 use Rattle.command_line.specs.declared.plans.Plan.{Plan}
 use Rattle.sent_views.specs.declared.run_facts.RunFacts.{RunFacts}
-use Rattle.flame_tool.specs.Requests.{all_found}
 
 -- the format and the bytes of a file, whose name says its format unless one was asked for
 abbrev pub bytes_at : Option Format → (List ℕ → Option (List ℕ)) → List ℕ → Option (Format × List ℕ)

@@ -8,8 +8,8 @@ use Rattle.stack_core.specs.Prefixes.{IsPrefixOf}
 use Rattle.stack_core.specs.Reading.{Rest}
 use Rattle.folded_lines.specs.Reading.{read_folded}
 use Rattle.command_line.specs.declared.plans.Plan.{Plan}
+use Rattle.source_lists.specs.Sources.{all_found}
 use Rattle.source_views.specs.Texts.{view_text}
-use Rattle.flame_tool.specs.Requests.{all_found}
 use Rattle.flame_tool.specs.Runs.{lists_of}
 
 -- the bytes of the streams of paths, in order, or of the input where there is no path

@@ -13,8 +13,13 @@ use Rattle.opened_sources.specs.declared.failures.Failure.{Failure}
 use Rattle.opened_sources.specs.declared.failures.Failure.TheVariants as failure
 use Rattle.folded_lines.specs.declared.strictness.StrictKind.{StrictKind}
 use Rattle.folded_lines.specs.declared.strictness.StrictKind.TheVariants as strict
+use Rattle.byte_io.specs.declared.refusals.Refusal.{Refusal}
+use Rattle.byte_io.specs.declared.refusals.Refusal.TheVariants as refusal
+use Rattle.profile_messages.specs.declared.types.SampleType.{SampleType}
 use Rattle.flame_tool.specs.declared.next_steps.Remedy.{Remedy}
 use Rattle.flame_tool.specs.declared.next_steps.Remedy.TheVariants as remedy
+use Rattle.flame_tool.specs.declared.next_steps.Seen.{Seen}
+use Rattle.flame_tool.specs.declared.next_steps.Seen.TheVariants as seen
 use Rattle.flame_tool.specs.declared.next_steps.Trouble.{Trouble}
 use Rattle.flame_tool.specs.declared.next_steps.Trouble.TheVariants as trouble
 
@@ -48,6 +53,10 @@ command_text dropped stand_in format [] = codes "flamecollect fold" ++ format
 command_text dropped stand_in format (name ∷ rest) =
     codes "flamecollect " ++ (shell_word name ++ (format ++ flat_map (word_text dropped stand_in) rest))
 
+-- the name of a sample type behind a space
+abbrev pub type_word : SampleType → Text
+type_word type = 32 ∷ shell_word type.name
+
 abbrev pub is_types : List Text → Bool
 is_types [] = false
 is_types (name ∷ rest) = bytes_eq name (codes "types")
@@ -74,6 +83,13 @@ source_word words files path =
 abbrev pub can_pipe : List Text → List Text → Text → Bool
 can_pipe words files path = is_quotable words && ((length files == 0)
     || ((length files == 1) && (length (filter (λ word. bytes_eq word path) words) == 1)))
+
+-- ---- what is seen
+
+-- its first field is a sample type, whose own first field is its name
+abbrev pub begins_profile : List ℕ → Bool
+begins_profile (first ∷ second ∷ third ∷ rest) = (first == 10) && (third == 8)
+begins_profile other = false
 
 -- ---- what is said
 
@@ -108,16 +124,22 @@ fault_meaning kind.TotalTooLarge = codes "its weights add up to more than 720575
 fault_meaning kind.DecimalWeight = codes "a count is no whole number: multiply or round the counts"
 fault_meaning kind.TwoColumns = codes "a line has two counts, as compare writes them: give the profiles that were compared"
 
-abbrev pub failure_meaning : Failure → Text
-failure_meaning failure.TooManyFiles = codes "64 files are read at once: fold parts of them, and then the folds, as docs/RECIPES.md does"
-failure_meaning (failure.Unreadable source) = codes "it is not there, is a folder, or may not be read: ls -l shows which"
-failure_meaning (failure.TooLarge source) = codes "1073741824 bytes of a file are read: fold parts of it, as docs/RECIPES.md does"
-failure_meaning failure.OutOfMemory = no_memory
-failure_meaning failure.NoThread = codes "the system gave no more threads: read fewer files"
-failure_meaning (failure.Unfinished source) = codes "not all of it came through: run it again"
-failure_meaning failure.Faults = []
-failure_meaning (failure.Output piece.OutOfMemory) = no_memory
-failure_meaning (failure.Output piece.Output) = codes "its reader ended, or its disk is full: lead the output elsewhere"
+abbrev pub refusal_meaning : Refusal → Text
+refusal_meaning refusal.Absent = codes "there is no such file: ls shows which there are"
+refusal_meaning refusal.Denied = codes "you may not read it: ls -l shows who may"
+refusal_meaning refusal.Folder = codes "it is a folder: give the files in it"
+refusal_meaning refusal.Unknown = codes "the system can't read it: ls -l shows what it is"
+
+abbrev pub failure_meaning : Failure → Refusal → Text
+failure_meaning failure.TooManyFiles refused = codes "64 files are read at once: fold parts of them, and then the folds, as docs/RECIPES.md does"
+failure_meaning (failure.Unreadable source) refused = refusal_meaning refused
+failure_meaning (failure.TooLarge source) refused = codes "1073741824 bytes of a file are read: fold parts of it, as docs/RECIPES.md does"
+failure_meaning failure.OutOfMemory refused = no_memory
+failure_meaning failure.NoThread refused = codes "the system gave no more threads: read fewer files"
+failure_meaning (failure.Unfinished source) refused = codes "not all of it came through: run it again"
+failure_meaning failure.Faults refused = []
+failure_meaning (failure.Output piece.OutOfMemory) refused = no_memory
+failure_meaning (failure.Output piece.Output) refused = codes "its reader ended, or its disk is full: lead the output elsewhere"
 
 abbrev pub strict_meaning : StrictKind → Text
 strict_meaning strict.NoCount = codes "that line is no stack and a count: without --strict it is ignored"
@@ -128,7 +150,7 @@ abbrev pub meaning : Trouble → Text
 meaning (trouble.Fault k) = fault_meaning k
 meaning (trouble.Strict k) = strict_meaning k
 meaning trouble.NoSamples = codes "no line of it is a stack and a count"
-meaning (trouble.Failed f) = failure_meaning f
+meaning (trouble.Failed f refused) = failure_meaning f refused
 
 abbrev pub fault_remedy : ReadKind → Remedy
 fault_remedy kind.Compressed = remedy.Unpack
@@ -144,7 +166,7 @@ abbrev pub remedy_for : Trouble → Remedy
 remedy_for (trouble.Fault k) = fault_remedy k
 remedy_for (trouble.Strict k) = strict_remedy k
 remedy_for trouble.NoSamples = remedy.ReadAsProfile
-remedy_for (trouble.Failed f) = remedy.Nothing
+remedy_for (trouble.Failed f refused) = remedy.Nothing
 
 -- how what is compressed is read: through a pipe, by the command of the run
 abbrev pub unpacking : List Text → List Text → Text → Text
@@ -153,20 +175,28 @@ unpacking words files path = if can_pipe words files path
     ++ command_text (Some path) (pipe_word words) (format_text words) words))
     else codes ": gzip -dc FILE > FILE.pb, and read FILE.pb in its place"
 
--- how what is no folded text is read
-abbrev pub reading : List Text → List Text → Text
-reading words files = if nat_le (length files) 1 && is_quotable words
-    then codes "; if it is a pprof profile: " ++ command_text None [] (format_text words) words
-    else codes "; pprof profiles are read with --format pprof"
+-- which types there are, or how they are asked for
+abbrev pub naming : List Text → List Text → Text → Seen → Text
+naming words files path (seen.Types types) = codes ", but these:" ++ flat_map type_word types
+naming words files path other = codes "; these are its types: flamecollect types " ++ source_word words files path
 
-abbrev pub what_to_do : List Text → List Text → ℕ → Remedy → Text
-what_to_do words files source remedy.Nothing = []
-what_to_do words files source remedy.Unpack = unpacking words files (source_name files source)
-what_to_do words files source remedy.AskForTypes =
-    codes "; these are its types: flamecollect types " ++ source_word words files (source_name files source)
-what_to_do words files source remedy.ReadAsProfile = reading words files
+-- how what is no folded text is read
+abbrev pub reading_profile : List Text → List Text → Text
+reading_profile words files = if nat_le (length files) 1 && is_quotable words
+    then codes "; it begins as a pprof profile does: " ++ command_text None [] (format_text words) words
+    else codes "; it begins as a pprof profile does, and those are read with --format pprof"
+
+abbrev pub reading : List Text → List Text → Seen → Text
+reading words files seen.Profile = reading_profile words files
+reading words files other = []
+
+abbrev pub what_to_do : List Text → List Text → ℕ → Remedy → Seen → Text
+what_to_do words files source remedy.Nothing look = []
+what_to_do words files source remedy.Unpack look = unpacking words files (source_name files source)
+what_to_do words files source remedy.AskForTypes look = naming words files (source_name files source) look
+what_to_do words files source remedy.ReadAsProfile look = reading words files look
 
 -- the line behind the message
-abbrev pub next_step : List Text → List Text → ℕ → Trouble → Text
-next_step words files source met =
-    codes "  " ++ (meaning met ++ (what_to_do words files source (remedy_for met) ++ 10 ∷ []))
+abbrev pub next_step : List Text → List Text → ℕ → Trouble → Seen → Text
+next_step words files source met look =
+    codes "  " ++ (meaning met ++ (what_to_do words files source (remedy_for met) look ++ 10 ∷ []))

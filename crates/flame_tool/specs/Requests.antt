@@ -1,5 +1,5 @@
 -- What the words of a run ask for, and what is known of the sources that they name.
-use Rattle.std.specs.Prelude.{ℕ, List, [], ◌∷◌, Option, Some, IsSome, IsSomeAnd, option_and_then, option_map, unwrap_or}
+use Rattle.std.specs.Prelude.{ℕ, List, [], ◌∷◌, Option, Some, IsSome, IsSomeAnd, option_map, unwrap_or}
 use Rattle.clap.specs.Kinds.{IsAmong, Kinds}
 use Rattle.clap.specs.Walk.{Text}
 use Rattle.clap.specs.declared.error.kind.ErrorKind.{ErrorKind}
@@ -12,7 +12,7 @@ use Rattle.command_line.specs.CommandLine.{command_line}
 use Rattle.command_line.specs.Plans.{IsRequest, default_plan, fault_of, limit_of, plan_of}
 use Rattle.command_line.specs.declared.plans.Plan.{Plan}
 use Rattle.source_lists.specs.OmittedNames.{shown_rests}
-use Rattle.source_lists.specs.Sources.{asked_rest}
+use Rattle.source_lists.specs.Sources.{all_found, asked_rest}
 
 -- ---- the words
 
@@ -39,12 +39,6 @@ abbrev pub HasLimit : List Text → Type 0
 HasLimit words = IsSomeAnd (asked_plan words) (λ plan. IsSome (limit_of plan.view))
 
 -- ---- the sources
-
--- what is found for each of a list, in order, if something is found for all
-abbrev pub all_found : {A B : Type 0} → (A → Option B) → List A → Option (List B)
-all_found find [] = Some []
-all_found find (x ∷ xs) =
-    option_and_then (λ found. option_map (λ more. found ∷ more) (all_found find xs)) (find x)
 
 -- the samples of known bytes that are asked for, and the ending
 abbrev pub rest_of : Options → Format → Option (List ℕ) → Option Rest

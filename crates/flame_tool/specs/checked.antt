@@ -4,3 +4,4 @@ pub mod LiveEnds
 pub mod LiveStreams
 pub mod Telling
 pub mod TypeFailures
+pub mod Wanted

@@ -2,10 +2,12 @@
 
 ghost use Rattle.std.specs.Prelude.{◌≡◌, false};
 
+use crate::looks::look;
 use crate::next_steps::{Trouble, next_step};
-use byte_io::{Outlet, send};
+use byte_io::{Outlet, Refusal, send};
 use opened_sources::Failure;
 use run_options::Filter;
+use source_lists::Input;
 use stack_core::{SourceEnd, SourceList};
 use std::alloc::Global;
 
@@ -13,6 +15,8 @@ use std::alloc::Global;
 #[derive(Clone, Copy)]
 pub(crate) struct Advice<'a> {
     words: &'a [String],
+    // Where they are there to be looked at.
+    inputs: &'a [Input],
     is_wanted: bool,
 }
 
@@ -21,7 +25,22 @@ impl<'a> Advice<'a> {
     pub(crate) fn new(words: &'a [String], is_wanted: bool) -> Advice<'a>
         ensures { result.is_wanted ≡ is_wanted }
     {
-        Advice { words, is_wanted }
+        Advice {
+            words,
+            inputs: &[],
+            is_wanted,
+        }
+    }
+
+    /// The same of sources that are there to be looked at.
+    pub(crate) fn over<'b>(&'b self, inputs: &'b [Input]) -> Advice<'b>
+        ensures { result.is_wanted ≡ self.now.is_wanted }
+    {
+        Advice {
+            words: self.words,
+            inputs,
+            is_wanted: self.is_wanted,
+        }
     }
 
     /// Whether it is wanted.
@@ -45,7 +64,8 @@ impl<'a> Advice<'a> {
         if !self.is_wanted {
             return;
         }
-        if let Ok(step) = next_step(alloc, self.words, files, source, trouble) {
+        let seen = look(alloc, self.inputs.get(source), trouble);
+        if let Ok(step) = next_step(alloc, self.words, files, source, trouble, &seen) {
             let _ = send(step.as_bytes(), err);
         }
     }
@@ -67,18 +87,19 @@ impl<'a> Advice<'a> {
         }
     }
 
-    /// The same behind the message of a failure, which has one.
+    /// The same behind the message of a failure, which has one. The refusal is that of the last file that was not given.
     pub(crate) fn tell_failure<E: Outlet>(
         &self,
         alloc: Global,
         err: &mut E,
         files: &[String],
         failure: Failure,
+        refusal: Refusal,
     )
         ensures untold { self.now.is_wanted ≡ false → err.new ≡ err.old }
     {
         if failure != Failure::Faults {
-            self.tell(alloc, err, files, 0, Trouble::Failed(failure));
+            self.tell(alloc, err, files, 0, Trouble::Failed(failure, refusal));
         }
     }
 }

@@ -7,7 +7,7 @@ ghost use Rattle.flame_tool.specs.Runs.{FailsUntouched};
 ghost use Rattle.flame_tool.specs.checked.Failures.{IsHelp, IsWords, exit_status};
 
 use crate::advice::Advice;
-use byte_io::{Outlet, PieceFault, send};
+use byte_io::{Outlet, PieceFault, Refusal, send};
 use command_line::PlanFault;
 use opened_sources::{Failure, report_failure};
 use std::alloc::Global;
@@ -48,13 +48,14 @@ pub(crate) fn refuse<W: Outlet, E: Outlet>(fault: PlanFault, out: &mut W, err: &
 }
 
 // Says why a run over these files failed, if it did, and answers its exit status: of one that did not, whether functions
-// grew over its limit.
+// grew over its limit. The refusal is that of the last file that was not given.
 pub(crate) fn end_run<E: Outlet>(
     alloc: Global,
     err: &mut E,
     advice: Advice<'_>,
     files: &[String],
     shown: Result<bool, Failure>,
+    refusal: Refusal,
 ) -> u8
     ensures status { result ≡ exit_status shown }
     ensures untold { advice.entry.is_wanted ≡ false → result ≤ 1 → Tells []
@@ -65,7 +66,7 @@ pub(crate) fn end_run<E: Outlet>(
         Ok(false) => 0,
         Err(failure) => {
             report_failure(err, files, failure);
-            advice.tell_failure(alloc, err, files, failure);
+            advice.tell_failure(alloc, err, files, failure, refusal);
             failure.status()
         }
     }

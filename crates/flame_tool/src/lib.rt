@@ -8,6 +8,7 @@ mod hosts;
 mod live_graphs;
 mod live_run;
 mod live_streams;
+mod looks;
 mod next_steps;
 mod plan_run;
 mod program;
@@ -19,7 +20,7 @@ mod views_run;
 
 pub use byte_io::{
     CountedReader, CountedWriter, Files, Inlet, LoadFault, MachineFiles, MemoryFiles, NamedFile,
-    Outlet, OutputFile, SOURCE_LIMIT, SendFault, Streams, load, send,
+    Outlet, OutputFile, Refusal, SOURCE_LIMIT, SendFault, StoredText, Streams, load, send,
 };
 pub use command_line::{
     CallTable, Destination, DiffTable, Form, PageForm, PictureForm, Plan, PlanFault, TopTable,
@@ -27,7 +28,7 @@ pub use command_line::{
 };
 pub use live_run::{live, live_plan};
 pub use merging::{Gathered, Snapshot, TreeSink};
-pub use next_steps::{Trouble, next_step};
+pub use next_steps::{Seen, Trouble, next_step};
 pub use opened_sources::{Failure, SOURCE_COUNT};
 pub use page_views::{Heading, PageView, Source as PageSource, render_page_data};
 pub use program::run;

@@ -1,14 +1,15 @@
 //! What is said behind a message: what it means, and what to do.
 ghost use Rattle.std.specs.Prelude.{◌≡◌, IfOk, map, string_bytes};
-ghost use Rattle.flame_tool.specs.NextSteps.{fault_meaning, fault_remedy, failure_meaning, meaning, next_step, reading, remedy_for, strict_meaning, strict_remedy, unpacking, what_to_do};
+ghost use Rattle.flame_tool.specs.NextSteps.{fault_meaning, fault_remedy, failure_meaning, meaning, naming, next_step, reading, reading_profile, refusal_meaning, remedy_for, strict_meaning, strict_remedy, unpacking, what_to_do};
 
 use crate::step_commands::{
-    can_pipe, command_text, format_text, is_quotable, pipe_word, source_word,
+    can_pipe, command_text, format_text, is_quotable, pipe_word, source_word, type_words,
 };
-use byte_io::PieceFault;
+use byte_io::{PieceFault, Refusal};
 use opened_sources::{Failure, path_of};
+use profile_messages::SampleType;
 use source_lists::StrictKind;
-use stack_core::ReadKind;
+use stack_core::{Listed, ReadKind};
 use std::alloc::{AllocError, Global};
 
 /// What a message tells of.
@@ -20,8 +21,19 @@ pub enum Trouble {
     Strict(StrictKind),
     /// All lines of a source were ignored.
     NoSamples,
-    /// The run failed.
-    Failed(Failure),
+    /// The run failed. Why the system refused a source, where it did.
+    Failed(Failure, Refusal),
+}
+
+/// What a look at a source shows of it.
+#[derive(Debug, Drop)]
+pub enum Seen {
+    /// Nothing that helps.
+    Nothing,
+    /// It begins as a profile does.
+    Profile,
+    /// Its sample types.
+    Types(Listed<SampleType>),
 }
 
 /// What there is to do beside what is said in words.
@@ -33,19 +45,20 @@ pub(crate) enum Remedy {
     ReadAsProfile,
 }
 
-/// The line behind the message of a run with these words, over these files, that tells of the source at this place.
+/// The line behind the message of a run with these words, over these files, that tells of the source at this place, of which this is seen.
 pub fn next_step(
     alloc: Global,
     words: &[String],
     files: &[String],
     source: usize,
     trouble: Trouble,
+    seen: &Seen,
 ) -> Result<String, AllocError>
     ensures { IfOk result (λ text. string_bytes text
-        ≡ next_step (map string_bytes words.now) (map string_bytes files.now) source trouble) }
+        ≡ next_step (map string_bytes words.now) (map string_bytes files.now) source trouble seen.now) }
 {
     let means = meaning(trouble);
-    let advice = what_to_do(alloc, words, files, source, remedy_for(trouble))?;
+    let advice = what_to_do(alloc, words, files, source, remedy_for(trouble), seen)?;
     format!(in alloc; "  {means}{advice}\n")
 }
 
@@ -56,7 +69,7 @@ fn meaning(trouble: Trouble) -> &'static str
         Trouble::Fault(kind) => fault_meaning(kind),
         Trouble::Strict(kind) => strict_meaning(kind),
         Trouble::NoSamples => "no line of it is a stack and a count",
-        Trouble::Failed(failure) => failure_meaning(failure),
+        Trouble::Failed(failure, refusal) => failure_meaning(failure, refusal),
     }
 }
 
@@ -111,16 +124,14 @@ fn strict_meaning(kind: StrictKind) -> &'static str
     }
 }
 
-fn failure_meaning(failure: Failure) -> &'static str
-    ensures { result.now ≡ failure_meaning failure }
+fn failure_meaning(failure: Failure, refusal: Refusal) -> &'static str
+    ensures { result.now ≡ failure_meaning failure refusal }
 {
     match failure {
         Failure::TooManyFiles => {
             "64 files are read at once: fold parts of them, and then the folds, as docs/RECIPES.md does"
         }
-        Failure::Unreadable { source: _ } => {
-            "it is not there, is a folder, or may not be read: ls -l shows which"
-        }
+        Failure::Unreadable { source: _ } => refusal_meaning(refusal),
         Failure::TooLarge { source: _ } => {
             "1073741824 bytes of a file are read: fold parts of it, as docs/RECIPES.md does"
         }
@@ -136,14 +147,26 @@ fn failure_meaning(failure: Failure) -> &'static str
     }
 }
 
-fn remedy_for(trouble: Trouble) -> Remedy
+fn refusal_meaning(refusal: Refusal) -> &'static str
+    ensures { result.now ≡ refusal_meaning refusal }
+{
+    match refusal {
+        Refusal::Absent => "there is no such file: ls shows which there are",
+        Refusal::Denied => "you may not read it: ls -l shows who may",
+        Refusal::Folder => "it is a folder: give the files in it",
+        Refusal::Unknown => "the system can't read it: ls -l shows what it is",
+    }
+}
+
+/// What there is to do about a trouble.
+pub(crate) fn remedy_for(trouble: Trouble) -> Remedy
     ensures { result ≡ remedy_for trouble }
 {
     match trouble {
         Trouble::Fault(kind) => fault_remedy(kind),
         Trouble::Strict(kind) => strict_remedy(kind),
         Trouble::NoSamples => Remedy::ReadAsProfile,
-        Trouble::Failed(_) => Remedy::Nothing,
+        Trouble::Failed(_, _) => Remedy::Nothing,
     }
 }
 
@@ -175,19 +198,36 @@ fn what_to_do(
     files: &[String],
     source: usize,
     remedy: Remedy,
+    seen: &Seen,
 ) -> Result<String, AllocError>
     ensures { IfOk result (λ text. string_bytes text
-        ≡ what_to_do (map string_bytes words.now) (map string_bytes files.now) source remedy) }
+        ≡ what_to_do (map string_bytes words.now) (map string_bytes files.now) source remedy seen.now) }
 {
     match remedy {
         Remedy::Nothing => Ok(String::new(alloc)),
         Remedy::Unpack => unpacking(alloc, words, files, path_of(files, source)),
-        Remedy::AskForTypes => {
-            let name = source_word(alloc, words, files, path_of(files, source))?;
-            format!(in alloc; "; these are its types: flamecollect types {name}")
-        }
-        Remedy::ReadAsProfile => reading(alloc, words, files),
+        Remedy::AskForTypes => naming(alloc, words, files, path_of(files, source), seen),
+        Remedy::ReadAsProfile => reading(alloc, words, files, seen),
     }
+}
+
+// Which types there are, or how they are asked for.
+fn naming(
+    alloc: Global,
+    words: &[String],
+    files: &[String],
+    path: &str,
+    seen: &Seen,
+) -> Result<String, AllocError>
+    ensures { IfOk result (λ text. string_bytes text
+        ≡ naming (map string_bytes words.now) (map string_bytes files.now) path.now seen.now) }
+{
+    if let Seen::Types(types) = seen {
+        let names = type_words(alloc, types.get())?;
+        return format!(in alloc; ", but these:{names}");
+    }
+    let name = source_word(alloc, words, files, path)?;
+    format!(in alloc; "; these are its types: flamecollect types {name}")
 }
 
 // How what is compressed is read.
@@ -214,14 +254,32 @@ fn unpacking(
 }
 
 // How what is no folded text is read.
-fn reading(alloc: Global, words: &[String], files: &[String]) -> Result<String, AllocError>
+fn reading(
+    alloc: Global,
+    words: &[String],
+    files: &[String],
+    seen: &Seen,
+) -> Result<String, AllocError>
     ensures { IfOk result (λ text. string_bytes text
-        ≡ reading (map string_bytes words.now) (map string_bytes files.now)) }
+        ≡ reading (map string_bytes words.now) (map string_bytes files.now) seen.now) }
+{
+    match seen {
+        Seen::Nothing | Seen::Types(_) => Ok(String::new(alloc)),
+        Seen::Profile => reading_profile(alloc, words, files),
+    }
+}
+
+fn reading_profile(alloc: Global, words: &[String], files: &[String]) -> Result<String, AllocError>
+    ensures { IfOk result (λ text. string_bytes text
+        ≡ reading_profile (map string_bytes words.now) (map string_bytes files.now)) }
 {
     if files.len() <= 1 && is_quotable(words) {
         let command = command_text(alloc, words, None, "", format_text(words))?;
-        format!(in alloc; "; if it is a pprof profile: {command}")
+        format!(in alloc; "; it begins as a pprof profile does: {command}")
     } else {
-        String::from_str(alloc, "; pprof profiles are read with --format pprof")
+        String::from_str(
+            alloc,
+            "; it begins as a pprof profile does, and those are read with --format pprof",
+        )
     }
 }

@@ -102,7 +102,8 @@ pub(crate) fn run_plan<T: Threads + Wait + Copy + Send + 'static, F: Files, W: O
     await_input(&plan, files, err);
     let shown = show_plan(host, &plan, files, out, err, words);
     let advice = Advice::new(words, files.is_error_terminal());
-    end_run(host.alloc, err, advice, plan.files.get(), shown)
+    let refusal = files.refusal();
+    end_run(host.alloc, err, advice, plan.files.get(), shown, refusal)
 }
 
 // Says what is awaited where the input is read, and is a terminal.

@@ -2,8 +2,9 @@
 ghost use Rattle.std.specs.Prelude.{◌≡◌, IfOk, length, map, option_map, string_bytes};
 ghost use Rattle.std.specs.List.{filter, flat_map, list_all, list_any};
 ghost use Rattle.std.specs.Str.{bytes_eq};
-ghost use Rattle.flame_tool.specs.NextSteps.{asks_format, can_pipe, command_text, format_text, has_format, has_quote, is_plain, is_plain_byte, is_quotable, is_types, pipe_word, shell_word, source_word, word_text};
+ghost use Rattle.flame_tool.specs.NextSteps.{asks_format, can_pipe, command_text, format_text, has_format, has_quote, is_plain, is_plain_byte, is_quotable, is_types, pipe_word, shell_word, source_word, type_word, word_text};
 
+use profile_messages::SampleType;
 use std::alloc::{AllocError, Global};
 
 // The command of these words, with this format behind the command's name. The word that is gone has another text in its place.
@@ -106,6 +107,25 @@ pub(crate) fn source_word(
     } else {
         shell_word(alloc, path)
     }
+}
+
+// The names of sample types, each behind a space.
+pub(crate) fn type_words(alloc: Global, types: &[SampleType]) -> Result<String, AllocError>
+    ensures { IfOk result (λ text. string_bytes text ≡ flat_map type_word types.now) }
+{
+    let mut text = String::new(alloc);
+    for sample_type in types {
+        let next = type_word(alloc, sample_type)?;
+        text.push_str(next.as_str())?;
+    }
+    Ok(text)
+}
+
+fn type_word(alloc: Global, sample_type: &SampleType) -> Result<String, AllocError>
+    ensures { IfOk result (λ text. string_bytes text ≡ type_word sample_type.now) }
+{
+    let word = shell_word(alloc, sample_type.name.get())?;
+    format!(in alloc; " {word}")
 }
 
 // No word has the quote in which others are put.

@@ -1,21 +1,21 @@
 //! The samples of the sources of a plan, collected and shown.
-ghost use Rattle.std.specs.Prelude.{◌≡◌, ◌≢◌, ◌≤◌, ◌<◌, ℕ, List, Option, false, IfOk, IfSome, Some, IfErr, IsErrOf, MatchResult, OnOk, is_some, length, map, not, true, ◌==◌, IsSome};
+ghost use Rattle.std.specs.Prelude.{◌≡◌, ◌≢◌, ◌≤◌, ◌<◌, ℕ, false, IfOk, IfSome, Some, IfErr, IsErrOf, OnOk, is_some, length, map, not, true, ◌==◌, IsSome};
 ghost use Rattle.std.specs.List.{list_any};
 ghost use Rattle.std.specs.Io.KnownBytes.{Appends};
 ghost use Rattle.merged_stacks.specs.Timeline.{samples_of};
 ghost use Rattle.command_line.specs.Plans.{IsComparison, limit_of};
 ghost use Rattle.ring_collect.specs.Collection.{AreWhole};
 ghost use Rattle.source_lists.specs.Runs.{ReadsLists};
-ghost use Rattle.source_lists.specs.Sources.{asked_rests, whole_weight};
+ghost use Rattle.source_lists.specs.Sources.{asked_rests, known_inputs, whole_weight};
 ghost use Rattle.flame_tool.specs.ToldRuns.{TellsEndings, known_endings};
 ghost use Rattle.source_lists.specs.Types.{types_of};
-ghost use Rattle.flame_tool.specs.KnownFacts.{known_facts};
+ghost use Rattle.flame_tool.specs.KnownFacts.{facts_of, known_facts};
 ghost use Rattle.flame_tool.specs.Requests.{known_rests};
 ghost use Rattle.sent_views.specs.Pages.{shown_text};
 ghost use Rattle.flame_tool.specs.Runs.{Shows, ShowsSamples};
 ghost use Rattle.flame_tool.specs.StrictRuns.{has_strict_fault, known_sources};
-ghost use Rattle.opened_sources.specs.Opening.{AreLoaded};
 ghost use Rattle.flame_tool.specs.checked.Failures.{Fails, FailsStrictly, FailsToShow, KeepsOutput, TellsGrowth};
+ghost use Rattle.flame_tool.specs.checked.Wanted.{wanted_rests};
 ghost use Rattle.source_views.specs.Texts.{growth_line};
 ghost use Rattle.flame_tool.specs.checked.Telling.{form_tells, view_tells};
 ghost use Rattle.opened_sources.specs.Failures.{has_fault, Flushes, Sends};
@@ -35,7 +35,7 @@ use sent_views::{
     send_asked_picture, send_asked_view,
 };
 use source_lists::{
-    Gating, Input, Run, SourceLists, StrictFault, chosen_types, read, strict_faults,
+    Gating, Input, Run, RunFault, SourceLists, StrictFault, chosen_types, read, strict_faults,
 };
 use source_views::{InThreads, growth_line};
 use stack_core::{Listed, NoSink, OpenGate, SourceList};
@@ -89,7 +89,8 @@ pub(crate) fn show_views<T: Threads + Wait + Copy + Send + 'static, F: Files, W:
     ensures flushed { Flushes (W.is_flushed out.new) (W.failures out.old) (W.failures out.new)
         result }
 {
-    let inputs = load_sources(host.alloc, files, plan.files.get(), plan.format)?;
+    let streams = !plan.is_strict;
+    let inputs = load_sources(host.alloc, files, plan.files.get(), plan.format, streams)?;
     let advice = Advice::new(words, files.is_error_terminal());
     show_sources(host, plan, inputs, out, err, advice)
 }
@@ -106,43 +107,39 @@ fn show_sources<T: Threads + Wait + Copy + Send + 'static, W: Outlet, E: Outlet>
     requires few { length inputs.items ≤ 64 }
     requires pairs { IsComparison plan.now.view → length inputs.items ≡ 2 }
     requires every { IfSome plan.now.options.every (λ every. 1 ≤ every) }
-    ensures ok { (input : Option (List ℕ)) (files : List ℕ → Option (List ℕ))
-        → AreLoaded plan.now.format input files plan.now.files inputs.items
-        → OnOk result (IfSome (known_rests plan.now input files)
-        (Shows plan.now (known_facts plan.now input files)
-        (W.contents out.old) (W.contents out.new))) }
-    ensures err { (input : Option (List ℕ)) (files : List ℕ → Option (List ℕ))
-        → AreLoaded plan.now.format input files plan.now.files inputs.items
-        → IfErr result (λ failure. IfSome (known_rests plan.now input files)
-        (Fails plan.now (known_facts plan.now input files) (W.contents out.old) (W.contents out.new) failure)) }
+    ensures ok { OnOk result (IfSome (known_inputs inputs.items) (λ sources.
+        Shows plan.now (Some (facts_of plan.now.options sources))
+        (W.contents out.old) (W.contents out.new) (wanted_rests plan.now sources))) }
+    ensures err { IfErr result (λ failure. IfSome (known_inputs inputs.items) (λ sources.
+        Fails plan.now (Some (facts_of plan.now.options sources))
+        (W.contents out.old) (W.contents out.new) failure (wanted_rests plan.now sources))) }
     ensures kept { IfErr result (λ failure.
         KeepsOutput (W.contents out.old) (W.contents out.new) failure) }
-    ensures strict { plan.now.is_strict ≡ true → MatchResult result
-        (λ _. has_strict_fault plan.now.options inputs.items ≡ false)
-        (FailsStrictly (has_strict_fault plan.now.options inputs.items)) }
-    ensures grown { (input : Option (List ℕ)) (files : List ℕ → Option (List ℕ))
-        → AreLoaded plan.now.format input files plan.now.files inputs.items
-        → IfOk result (λ is_over. IfSome (known_rests plan.now input files) (TellsGrowth is_over plan.now)) }
+    ensures strict { plan.now.is_strict ≡ true → OnOk result (IfSome (known_inputs inputs.items)
+        (λ sources. has_strict_fault plan.now.options sources ≡ false)) }
+    ensures strict_err { plan.now.is_strict ≡ true → IfErr result (λ failure.
+        IfSome (known_inputs inputs.items)
+        (λ sources. FailsStrictly (has_strict_fault plan.now.options sources) failure)) }
+    ensures grown { IfOk result (λ is_over. IfSome (known_inputs inputs.items) (λ sources.
+        TellsGrowth is_over plan.now (wanted_rests plan.now sources))) }
     ensures limit { IfOk result (λ is_over. is_over ≡ true → IsSome (limit_of plan.now.view)) }
     ensures told { plan.now.is_strict ≡ false → advice.entry.is_wanted ≡ false
-        → (input : Option (List ℕ)) (files : List ℕ → Option (List ℕ))
-        → AreLoaded plan.now.format input files plan.now.files inputs.items
-        → IfOk result (λ is_over. is_over ≡ false → IfSome (known_endings plan.now input files)
-        (TellsEndings plan.now.files
-        (E.contents err.old) (E.contents err.new) (E.failures err.old) (E.failures err.new))) }
+        → IfOk result (λ is_over. is_over ≡ false → IfSome (known_inputs inputs.items) (λ sources.
+        TellsEndings plan.now.files
+        (E.contents err.old) (E.contents err.new) (E.failures err.old) (E.failures err.new)
+        (map (λ rest. rest.ending) (asked_rests plan.now.options sources)))) }
     ensures told_faults { plan.now.is_strict ≡ false → advice.entry.is_wanted ≡ false
-        → (input : Option (List ℕ)) (files : List ℕ → Option (List ℕ))
-        → AreLoaded plan.now.format input files plan.now.files inputs.items
-        → IsErrOf result Failure.Faults → IfSome (known_endings plan.now input files)
-        (TellsEndings plan.now.files
-        (E.contents err.old) (E.contents err.new) (E.failures err.old) (E.failures err.new)) }
+        → IsErrOf result Failure.Faults → IfSome (known_inputs inputs.items) (λ sources.
+        TellsEndings plan.now.files
+        (E.contents err.old) (E.contents err.new) (E.failures err.old) (E.failures err.new)
+        (map (λ rest. rest.ending) (asked_rests plan.now.options sources))) }
     ensures few_files { IsErrOf result Failure.TooManyFiles → ⊥ }
     ensures flushed { Flushes (W.is_flushed out.new) (W.failures out.old) (W.failures out.new)
         result }
 {
     let alloc = host.alloc;
     let types = told_types(alloc, plan, &inputs)?;
-    let kept = kept_inputs(alloc, plan, &inputs)?;
+    let kept = kept_inputs(alloc, plan, &inputs, advice)?;
     let run = read_sources(host, plan, inputs, err, advice)?;
     if !report_sources(alloc, plan, kept, run.kept.lists(), err, advice)? {
         return Err(Failure::Faults);
@@ -165,13 +162,18 @@ fn read_sources<T: Threads + Wait + Copy + Send + 'static, E: Outlet>(
     inputs: Vec<Input>,
     err: &mut E,
     advice: Advice<'_>,
-) -> Result<Run, CollectFault>
+) -> Result<Run, RunFault>
     requires { length inputs.items ≤ 64 }
-    ensures reads { IfOk result (λ run. ReadsLists (λ _ _. ⊥) (λ _ _. Unit {0})
-        (asked_rests plan.now.options inputs.items) run.kept.lists run.kept.order) }
-    ensures weight { IfOk result (λ run.
-        run.whole_weight ≡ Some (whole_weight plan.now.options inputs.items)) }
-    ensures refused { (source : ℕ) → IsErrOf result (CollectFault.Unfinished source)
+    ensures reads { IfOk result (λ run. IfSome (known_inputs inputs.items) (λ sources.
+        ReadsLists (λ _ _. ⊥) (λ _ _. Unit {0})
+        (asked_rests plan.now.options sources) run.kept.lists run.kept.order)) }
+    ensures weight { IfOk result (λ run. IfSome (known_inputs inputs.items) (λ sources.
+        run.whole_weight ≡ Some (whole_weight plan.now.options sources))) }
+    ensures weighed { IfOk result (λ run. IsSome run.whole_weight) }
+    ensures count { IfOk result (λ run. length run.kept.lists ≡ length inputs.items) }
+    ensures refused { (source : ℕ) → IsErrOf result (RunFault.Collect (CollectFault.Unfinished source))
+        → source < length inputs.items }
+    ensures unreadable { (source : ℕ) → IsErrOf result (RunFault.Unreadable source)
         → source < length inputs.items }
     ensures untold { advice.entry.is_wanted ≡ false → err.new ≡ err.old }
 {
@@ -186,11 +188,16 @@ fn read_sources<T: Threads + Wait + Copy + Send + 'static, E: Outlet>(
     run
 }
 
-// The sources, to be looked at again where they are read strictly.
-fn kept_inputs(alloc: Global, plan: &Plan, inputs: &[Input]) -> Result<Vec<Input>, AllocError>
+// The sources, to be looked at again where they are read strictly or advice is wanted.
+fn kept_inputs(
+    alloc: Global,
+    plan: &Plan,
+    inputs: &[Input],
+    advice: Advice<'_>,
+) -> Result<Vec<Input>, AllocError>
     ensures { IfOk result (λ kept. plan.now.is_strict ≡ true → kept.items ≡ inputs.now) }
 {
-    if plan.is_strict {
+    if plan.is_strict || advice.is_wanted() {
         Input::share_all(alloc, inputs)
     } else {
         Ok(Vec::new(alloc))
@@ -206,15 +213,16 @@ fn report_sources<E: Outlet>(
     lists: &[SourceList],
     err: &mut E,
     advice: Advice<'_>,
-) -> Result<bool, AllocError>
+) -> Result<bool, RunFault>
     ensures told { plan.now.is_strict ≡ false → advice.entry.is_wanted ≡ false → TellsEndings plan.now.files
         (E.contents err.old) (E.contents err.new) (E.failures err.old) (E.failures err.new)
         (map (λ list. list.ending) lists.now) }
     ensures loose { plan.now.is_strict ≡ false → IfOk result (λ sound. sound ≡ true) }
-    ensures strict { plan.now.is_strict ≡ true
-        → AreWhole (asked_rests plan.now.options kept.items) lists.now
-        → IfOk result (λ sound. sound ≡ not (has_strict_fault plan.now.options kept.items)) }
+    ensures strict { plan.now.is_strict ≡ true → IfSome (known_inputs kept.items) (λ sources.
+        AreWhole (asked_rests plan.now.options sources) lists.now
+        → IfOk result (λ sound. sound ≡ not (has_strict_fault plan.now.options sources))) }
 {
+    let advice = advice.over(&kept);
     if plan.is_strict {
         let faults = strict_faults(alloc, &kept, lists)?;
         report_strict_faults(alloc, err, plan.files.get(), &faults, advice);
@@ -247,7 +255,8 @@ fn is_told(fault: &Option<StrictFault>) -> bool
 // The sample types of the weights of sources, where what is written tells them.
 fn told_types(alloc: Global, plan: &Plan, inputs: &[Input]) -> Result<Vec<SampleType>, AllocError>
     ensures { IfOk result (λ types. form_tells plan.now.form plan.now.view ≡ true
-        → types.items ≡ types_of plan.now.options inputs.now) }
+        → IfSome (known_inputs inputs.now) (λ sources.
+        types.items ≡ types_of plan.now.options sources)) }
 {
     if form_tells(&plan.form, plan.view) {
         chosen_types(alloc, inputs, &plan.options)

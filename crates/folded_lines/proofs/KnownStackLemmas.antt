@@ -19,7 +19,7 @@ use Rattle.folded_lines.specs.checked.KnownStacks.{stack_of, stacks_of, AreWithi
 use Rattle.folded_lines.specs.checked.Telling.{IsNumbered}
 use Rattle.folded_lines.specs.declared.known_stacks.KnownRow.{KnownRow}
 use Rattle.folded_lines.proofs.JoinLemmas.{join_with_byte-first, join_with_byte-later}
-use Rattle.folded_lines.proofs.LossyLemmas.{IsUtf8-lossy_text}
+use Rattle.folded_lines.proofs.LossyLemmas.{lossy_text-nil, IsUtf8-lossy_text}
 use Rattle.folded_lines.proofs.NameLemmas.{LastIsSome, names_end_some}
 use Rattle.folded_lines.proofs.OnePassLemmas.{slice_split-lossy_text}
 use Rattle.folded_lines.proofs.ToldHeads.{IsToldAs-later}
@@ -43,19 +43,29 @@ parts_of_text text names is_text parts some =
     ap (λ all. map lossy_text (without_trailing_empty all)) parts ∙ ap (map lossy_text) (all_kept names some) ∙ ap (map lossy_text) (sym parts)
     ∙ sym (slice_split-lossy_text text) ∙ ap (slice_split is_semicolon) is_text ∙ parts
 
+-- the text of a head has its names, which are joined in it
+abbrev IsTextOf : List ℕ → List ℕ → Type 0
+IsTextOf head text = (names_of text ≡ names_of head) × (join_with_byte 59 (names_of head) ≡ text)
+
+text_is : (head left : List ℕ) → left ≡ without_trailing_semicolons head → IsTextOf head (lossy_text left)
+text_is head [] is =
+    let none = names_of-nothing head [] is refl in
+    (ap names_of lossy_text-nil ∙ sym none, ap (join_with_byte 59) none ∙ sym lossy_text-nil)
+text_is head (b ∷ bytes) is =
+    let text = lossy_text (b ∷ bytes) in
+    let parts : slice_split is_semicolon text ≡ names_of head = slice_split-lossy_text (b ∷ bytes) ∙ sym (names_of-something head (b ∷ bytes) is (omega arith)) in (
+      parts_of_text text (names_of head) (lossy_chars-utf8 text (IsUtf8-lossy_text (b ∷ bytes))) parts (names_end_some head),
+      ap (join_with_byte 59) (sym parts) ∙ join_with_byte-slice_split 59 text,
+    )
+
+pub names_of-text : (head : List ℕ) → names_of (lossy_text (without_trailing_semicolons head)) ≡ names_of head
+names_of-text head = (text_is head (without_trailing_semicolons head) refl).0
+
 -- the names of a head read back where they are joined
 pub names_of-joined : (head : List ℕ) → names_of (join_with_byte 59 (names_of head)) ≡ names_of head
-names_of-joined head = by (without_trailing_semicolons head) refl
-  where
-    by : (left : List ℕ) → left ≡ without_trailing_semicolons head → names_of (join_with_byte 59 (names_of head)) ≡ names_of head
-    by [] is =
-        let none = names_of-nothing head [] is refl in
-        ap (λ names. names_of (join_with_byte 59 names)) none ∙ sym none
-    by (b ∷ bytes) is =
-        let text = lossy_text (b ∷ bytes) in
-        let parts : slice_split is_semicolon text ≡ names_of head = slice_split-lossy_text (b ∷ bytes) ∙ sym (names_of-something head (b ∷ bytes) is (omega arith)) in
-        let whole : join_with_byte 59 (names_of head) ≡ text = ap (join_with_byte 59) (sym parts) ∙ join_with_byte-slice_split 59 text in
-        ap names_of whole ∙ parts_of_text text (names_of head) (lossy_chars-utf8 text (IsUtf8-lossy_text (b ∷ bytes))) parts (names_end_some head)
+names_of-joined head =
+    let text = text_is head (without_trailing_semicolons head) refl in
+    ap names_of text.1 ∙ text.0
 
 -- ---- stacks that are known
 

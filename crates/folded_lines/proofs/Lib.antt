@@ -23,6 +23,7 @@ pub mod ReadLemmas
 pub mod RowLemmas
 pub mod ScanLemmas
 pub mod SplitLemmas
+pub mod StoredParts
 pub mod StreamPlaceLemmas
 pub mod StreamRows
 pub mod StreamSteps

@@ -1,7 +1,7 @@
 -- Readers of the parts of a text give what the whole stands for.
-use Rattle.std.proofs.Common.{◌≡◌, ℕ, ◌+◌, ◌<◌, ◌≤◌, List, [], ◌∷◌, ◌++◌, append_assoc, length, map, take, drop, sum_by, All, refl, sym, ap, subst, ◌∙◌, arith, inl, inr}
+use Rattle.std.proofs.Common.{◌≡◌, ℕ, ◌+◌, ◌≤◌, List, [], ◌∷◌, ◌++◌, append_assoc, map, take, drop, sum_by, All, refl, sym, ap, subst, ◌∙◌}
 use Rattle.std.specs.List.{concat}
-use Rattle.std.proofs.lemmas.List.{append-nil, drop-append-le, length-take-le, take-append-drop}
+use Rattle.std.proofs.lemmas.List.{append-nil, take-append-drop}
 use Rattle.std.proofs.lemmas.List.Elements.{All-nil, All-cons, All-head, All-tail}
 use Rattle.std.proofs.lemmas.List.Folds.{flat_map-map}
 use Rattle.std.proofs.lemmas.List.Sums.{sum_by-cons}
@@ -59,25 +59,3 @@ whole_with parts all text left last rest n so_far front behind more =
 -- what is left is the last part
 pub whole_at_end : (parts all : List (List ℕ)) (text last : List ℕ) → concat parts ++ last ≡ text → all ≡ parts ++ last ∷ [] → concat all ≡ text
 whole_at_end parts all text last so_far more = ap concat more ∙ (concat_push parts last ∙ so_far)
-
--- ---- pieces, cut anew
-
--- what ends a line ends it also behind something
-pub lines_behind : (front lines : List ℕ) → IsWholeLines lines → 0 < length lines → IsWholeLines (front ++ lines)
-lines_behind front lines (inl none) some = absurd (omega (arith, ap length none, some))
-lines_behind front lines (inr (line, is)) some = inr (front ++ line, ap (λ t. front ++ t) is ∙ sym (append_assoc front line (10 ∷ [])))
-
--- the part that ends in the front of a piece
-pub part_of_cut : (last piece : List ℕ) (begin end : ℕ) → begin ≤ length last → end ≤ length piece → 0 < end → IsWholeLines (take end piece) → IsWholeLines (drop begin (last ++ take end piece))
-part_of_cut last piece begin end within fits some lines =
-    subst IsWholeLines (sym (drop-append-le begin last (take end piece) within))
-    (lines_behind (drop begin last) (take end piece) lines (omega (arith, length-take-le end piece fits, some)))
-
--- nothing is lost at a seam
-pub seam : (parts : List (List ℕ)) (last piece : List ℕ) (begin end : ℕ) → begin ≤ length last
-    → concat (parts ++ drop begin (last ++ take end piece) ∷ []) ++ drop end piece ≡ (concat parts ++ drop begin last) ++ piece
-seam parts last piece begin end within =
-    ap (λ t. t ++ drop end piece) (concat_push parts (drop begin (last ++ take end piece)) ∙ ap (λ t. concat parts ++ t) (drop-append-le begin last (take end piece) within))
-    ∙ (append_assoc (concat parts) (drop begin last ++ take end piece) (drop end piece)
-    ∙ (ap (λ t. concat parts ++ t) (append_assoc (drop begin last) (take end piece) (drop end piece) ∙ ap (λ t. drop begin last ++ t) (take-append-drop end piece))
-    ∙ sym (append_assoc (concat parts) (drop begin last) piece)))

@@ -1,11 +1,11 @@
 -- What a stream of folded text may give, where its bytes are known.
-use Rattle.std.proofs.Common.{◌≡◌, ◌≢◌, ◌<◌, ◌≤◌, ◌^◌, ℕ, ◌+◌, Bool, true, false, Option, Some, None, IfSome, IsSomeAnd, List, [], ◌∷◌, ◌++◌, length, map, refl, sym, ap, subst, ◌∙◌, arith, inl}
+use Rattle.std.proofs.Common.{◌≡◌, ◌≢◌, ◌⊎◌, ◌<◌, ◌≤◌, ◌^◌, ℕ, ◌+◌, Bool, true, false, Option, Some, None, IfSome, IsSomeAnd, List, [], ◌∷◌, ◌++◌, length, map, refl, sym, ap, subst, ◌∙◌, arith, inl, inr}
 use Rattle.std.proofs.lemmas.Bool.{cond-true, cond-false}
 use Rattle.std.proofs.lemmas.List.{append-nil, map-append, length-map}
 use Rattle.bstr.specs.Text.{lines_of, without_terminator}
 use Rattle.bstr.proofs.lemmas.LineLemmas.{EndsLine, lines-append, lines-nil}
 use Rattle.stack_core.specs.Prefixes.{IsPrefixOf}
-use Rattle.stack_core.specs.Reading.{Rest}
+use Rattle.stack_core.specs.Reading.{IsSourceLimited, Rest}
 use Rattle.stack_core.specs.RowReading.{GivesSome}
 use Rattle.stack_core.specs.declared.endings.ReadKind.TheVariants.{Compressed}
 use Rattle.stack_core.specs.declared.endings.ReadFault.{ReadFault}
@@ -21,7 +21,7 @@ use Rattle.folded_lines.specs.TextParts.{IsWholeLines}
 use Rattle.folded_lines.specs.checked.Scanning.{ended, followed_by, scan, within_total}
 use Rattle.folded_lines.proofs.LimitLemmas.{lines_short}
 use Rattle.folded_lines.proofs.PartReading.{ends_line, one_feed}
-use Rattle.folded_lines.proofs.ReadLemmas.{read_after-all}
+use Rattle.folded_lines.proofs.ReadLemmas.{IsSourceLimited-read_folded, read_after-all}
 use Rattle.folded_lines.proofs.ScanLemmas.{scan_line}
 
 -- ---- the front of a text
@@ -162,3 +162,21 @@ first_by known bytes is_sure true rest may is =
 
 pub stream_first : (known : List ℕ) (is_sure : Bool) (rest : Rest) → StreamGives (Some known) is_sure rest → IsPrefixOf rest.samples (read_folded known).samples
 stream_first known is_sure rest gives = first_by known gives.0.bytes is_sure gives.0.fails rest gives.1 gives.3
+
+-- the samples are within the limits of a source, whatever comes
+limits_by : (coming : Coming) (fails : Bool) → coming.fails ≡ fails → IsSourceLimited (read_coming coming).samples
+limits_by coming true is = subst (λ (rest : Rest). IsSourceLimited rest.samples) (sym (cond-true _ _ _ is)) (IsSourceLimited-read_folded coming.bytes)
+limits_by coming false is = subst (λ (rest : Rest). IsSourceLimited rest.samples) (sym (cond-false _ _ _ is)) (IsSourceLimited-read_folded coming.bytes)
+
+pub stream_limits : (known : Option (List ℕ)) (is_sure : Bool) (rest : Rest) → StreamGives known is_sure rest → IsSourceLimited rest.samples
+stream_limits known is_sure rest gives =
+    subst (λ (rest : Rest). IsSourceLimited rest.samples) (sym gives.3) (limits_by gives.0 gives.0.fails refl)
+
+-- where a read failed it ends so, and otherwise it is what the known bytes read as
+pub stream_or_stopped : (known : List ℕ) (is_sure : Bool) (rest : Rest) → StreamGives (Some known) is_sure rest → ((after : ℕ) × (rest.ending ≡ ends.Stopped after)) ⊎ (rest ≡ read_folded known)
+stream_or_stopped known is_sure rest gives = by rest.ending refl
+  where
+    by : (ending : SourceEnd) → rest.ending ≡ ending → ((after : ℕ) × (rest.ending ≡ ends.Stopped after)) ⊎ (rest ≡ read_folded known)
+    by (ends.Clean ignored) is = inr (stream_whole known is_sure rest gives (λ after stopped. cc))
+    by (ends.Fault fault) is = inr (stream_whole known is_sure rest gives (λ after stopped. cc))
+    by (ends.Stopped after) is = inl (after, is)

@@ -1,8 +1,7 @@
 -- The first fault of a text that is read strictly, by its first line that is ignored and by the ending to which it reads.
-use Rattle.std.proofs.Common.{◌≡◌, ◌≢◌, ℕ, ◌+◌, ◌<◌, ◌≤◌, ◌==◌, nat_lt, true, false, Bool, cond, Option, Some, None, List, [], ◌∷◌, ◌++◌, length, map, count_by, All, refl, sym, ap, ◌∙◌, arith, length-append}
+use Rattle.std.proofs.Common.{◌≡◌, ◌≢◌, ℕ, ◌+◌, ◌<◌, ◌≤◌, nat_lt, true, false, Bool, cond, Option, Some, None, List, [], ◌∷◌, ◌++◌, length, map, count_by, All, refl, sym, ap, ◌∙◌, arith, length-append}
 use Rattle.std.specs.Prelude.{option_map, unwrap_or}
-use Rattle.std.specs.List.{concat, list_all}
-use Rattle.std.proofs.lemmas.Bool.{and_parts, cond-false, cond-true, eqb-true, false≢true, le-ltb, lt-ltb, true≢false}
+use Rattle.std.proofs.lemmas.Bool.{cond-false, cond-true, eqb-true, false≢true, le-ltb, lt-ltb, true≢false}
 use Rattle.std.proofs.lemmas.List.Elements.{All-head, All-tail}
 use Rattle.std.proofs.lemmas.List.Sums.{sum_by-cons}
 use Rattle.bstr.specs.Text.{without_terminator}
@@ -261,15 +260,3 @@ reads_the_same (byte ∷ text) some counted =
     strict_text bytes ∙ ap (λ found. by_rest (length (lines_in bytes)) found rest) first
     ∙ same_by (length (lines_in bytes)) rest.samples rest.ending
     (λ ignored clean empty. some_lines byte text (no_text bytes ignored clean (sym (counted_is bytes ignored clean) ∙ none_counted (lines_in bytes) 0 first) empty)) (unstopped-read_folded bytes)
-
--- ---- parts that are empty
-
-pub all_empty : (parts : List (List ℕ)) → list_all (λ part. length part == 0) parts ≡ true → concat parts ≡ []
-all_empty [] empty = refl
-all_empty ([] ∷ parts) empty = all_empty parts empty
-all_empty ((byte ∷ part) ∷ parts) empty = absurd (omega (arith, eqb-true (length (byte ∷ part)) 0 (and_parts _ _ empty).0))
-
-pub some_not_empty : (parts : List (List ℕ)) → list_all (λ part. length part == 0) parts ≡ false → fault_of_counted (concat parts) ≡ None
-some_not_empty [] other = absurd (true≢false other)
-some_not_empty ([] ∷ parts) other = some_not_empty parts other
-some_not_empty ((byte ∷ part) ∷ parts) other = refl

@@ -3,7 +3,6 @@ pub mod Cutting
 pub mod KnownStacks
 pub mod KnownStreams
 pub mod LineBuffers
-pub mod Pieces
 pub mod RowLines
 pub mod Scanning
 pub mod StreamLines

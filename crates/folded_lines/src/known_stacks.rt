@@ -22,8 +22,7 @@ const FIRST_SLOTS: usize = 1024;
 
 /// The stacks that were told, by number. One is found by the bytes of a head, of which no copy is kept: the names are compared where
 /// they are, in a table that the caller holds. It takes 4 bytes for each name of a stack, and 24 to 32 for the stack.
-/// It may forget, since it looks for a stack in a few slots only. A name is text, so a head that is not is found never: its stack, of
-/// names with U+FFFD, is told anew each time.
+/// It may forget, since it looks for a stack in a few slots only. A name is text, so a head that is not UTF-8 is found as its text.
 #[derive(Drop)]
 pub(crate) struct KnownStacks {
     alloc: Global,

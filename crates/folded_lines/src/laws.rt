@@ -6,7 +6,7 @@ ghost use Rattle.sample_tables.specs.Samples.{total_weight};
 ghost use Rattle.sample_tables.specs.declared.samples.TheConstants.{WEIGHT_LIMIT};
 ghost use Rattle.sample_tables.specs.declared.samples.Sample.{Sample};
 ghost use Rattle.stack_core.specs.Prefixes.{IsPrefixOf};
-ghost use Rattle.stack_core.specs.Reading.{Rest};
+ghost use Rattle.stack_core.specs.Reading.{IsSourceLimited, Rest};
 ghost use Rattle.stack_core.specs.RowReading.{GivesSome};
 ghost use Rattle.stack_core.specs.declared.endings.SourceEnd.TheVariants as ends;
 ghost use Rattle.folded_lines.specs.LastNames.{last_ends_in_number, is_open};
@@ -60,7 +60,8 @@ pub fn strict_text_reads_the_same()
 {}
 
 /// What comes by a stream of known bytes reads as they do, unless a read fails. Then the samples are those in front of theirs. A stream
-/// may always give something, where a read may fail, or its bytes are known and fewer than 2^64.
+/// may always give something, where a read may fail, or its bytes are known and fewer than 2^64. The samples are within the limits of a
+/// source.
 pub fn streams_read_as_texts()
     ensures sure { (bytes : List ℕ) (rest : Rest) → StreamGives (Some bytes) true rest → rest ≡ read_folded bytes }
     ensures whole { (bytes : List ℕ) (is_sure : Bool) (rest : Rest) → StreamGives (Some bytes) is_sure rest
@@ -70,4 +71,6 @@ pub fn streams_read_as_texts()
     ensures possible { (known : Option (List ℕ)) (is_sure : Bool)
         → (is_sure ≡ true → IsSomeAnd known (λ bytes. length bytes < 2 ^ 64))
         → GivesSome (StreamGives known is_sure) }
+    ensures limits { (known : Option (List ℕ)) (is_sure : Bool) (rest : Rest) → StreamGives known is_sure rest
+        → IsSourceLimited rest.samples }
 {}

@@ -13,6 +13,7 @@ mod parts;
 mod reader;
 mod row_lines;
 mod rows;
+mod stored_parts;
 mod stream_lines;
 mod stream_steps;
 mod stream_telling;
@@ -20,7 +21,6 @@ mod streams;
 mod strictness;
 mod writing;
 
-pub use parts::cut_pieces;
 pub use reader::FoldedReader;
 pub use rows::FoldedRows;
 pub use streams::FoldedStream;

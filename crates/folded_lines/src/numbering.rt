@@ -1,7 +1,8 @@
 //! The names of a folded head by their numbers in a table.
 
-ghost use Rattle.std.specs.Prelude.{◌≡◌, ◌≤◌, ◌++◌, [], length, drop, IfOk, OnOk};
+ghost use Rattle.std.specs.Prelude.{◌≡◌, ◌≤◌, ◌++◌, [], length, drop, IfOk, IfSome, OnOk};
 ghost use Rattle.std.specs.List.{slice_split};
+ghost use Rattle.std.specs.String.{string_bytes};
 ghost use Rattle.stack_core.specs.Prefixes.{IsPrefixOf};
 ghost use Rattle.folded_lines.specs.Lines.{is_semicolon, names_of};
 ghost use Rattle.folded_lines.specs.checked.Telling.{IsNumbered};
@@ -11,6 +12,7 @@ use bstr::ByteSlice;
 use call_tree::FrameTable;
 use stack_core::{Listed, Text};
 use std::alloc::{AllocError, Global};
+use std::borrow::CowStr;
 
 /// Puts the numbers of the names between the `;` behind none.
 fn number_parts(
@@ -31,6 +33,17 @@ fn number_parts(
         rest = after;
     }
     Ok(())
+}
+
+/// The text of a head that is not UTF-8. It has the names of the head.
+pub(crate) fn text_of(alloc: Global, head: &[u8]) -> Result<Option<String>, AllocError>
+    ensures { IfOk result (λ text. IfSome text
+        (λ text. names_of (string_bytes text) ≡ names_of head.now)) }
+{
+    match without_trailing_semicolons(head).to_str_lossy(alloc)? {
+        CowStr::Borrowed(_) => Ok(None),
+        CowStr::Owned(text) => Ok(Some(text)),
+    }
 }
 
 /// Puts the numbers of a head's names in the place of others. New names are put into the table.

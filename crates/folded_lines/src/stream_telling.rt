@@ -7,14 +7,14 @@ ghost use Rattle.folded_lines.specs.Lines.{names_of};
 ghost use Rattle.folded_lines.specs.Reading.{begins_compressed};
 ghost use Rattle.folded_lines.specs.checked.KnownStacks.{IsRowOf};
 ghost use Rattle.folded_lines.specs.checked.Scanning.{within_total, IsWithin};
-ghost use Rattle.folded_lines.specs.checked.Telling.{head_fault, IsToldAs, TellsStack};
-ghost use Rattle.folded_lines.specs.checked.RowLines.{line_of_head, line_by, TellsLine};
+ghost use Rattle.folded_lines.specs.checked.Telling.{head_fault, IsToldAs};
+ghost use Rattle.folded_lines.specs.checked.RowLines.{line_of_head, line_of_stack, line_by, TellsLine};
 ghost use Rattle.folded_lines.specs.checked.StreamReading.{line_at};
 
 use crate::cursor::Cursor;
 use crate::known_stacks::KnownStacks;
 use crate::names::without_trailing_semicolons;
-use crate::numbering::{NewStack, new_stack};
+use crate::numbering::{new_stack, text_of};
 use crate::row_lines::{Count, RowLine, count_of, fault_of};
 use call_tree::FrameTable;
 use call_tree::spelling_hash::hash_of;
@@ -112,16 +112,54 @@ impl StreamTelling {
         }
     }
 
-    /// Tells the stack of a head, and remembers it.
-    fn tell(&mut self, alloc: Global, head: &[u8], hash: u32) -> Result<NewStack, AllocError>
-        ensures tells { IfOk result (λ stack.
-            TellsStack (names_of head.now) self.old stack.names stack.frames self.new) }
+    /// Tells the stack of a head, with a weight, and remembers it.
+    fn tell(
+        &mut self,
+        alloc: Global,
+        head: &[u8],
+        hash: u32,
+        weight: u64,
+    ) -> Result<RowLine, AllocError>
+        ensures line { IfOk result (λ line.
+            line_by self.new line ≡ line_of_stack (names_of head.now) weight) }
+        ensures tells { IfOk result (λ line. TellsLine self.old line self.new) }
         ensures stacks { OnErr result (self.new.stacks ≡ self.old.stacks) }
         ensures names { OnErr result (IsPrefixOf self.old.names self.new.names) }
     {
         let stack = new_stack(alloc, &mut self.names, &mut self.frames, head)?;
         self.stacks.remember(hash, stack.frames.get())?;
-        Ok(stack)
+        Ok(RowLine::New {
+            names: stack.names,
+            frames: stack.frames,
+            weight,
+        })
+    }
+
+    /// The line of a head without fault that its bytes did not find, and a weight. A stack is known by names, which are text: so a head
+    /// that is not UTF-8 is looked for as text.
+    fn read_unfound(
+        &mut self,
+        alloc: Global,
+        head: &[u8],
+        hash: u32,
+        weight: u64,
+    ) -> Result<RowLine, AllocError>
+        requires { head_fault head.now ≡ None }
+        ensures line { IfOk result (λ line.
+            line_by self.new line ≡ line_of_stack (names_of head.now) weight) }
+        ensures tells { IfOk result (λ line. TellsLine self.old line self.new) }
+        ensures stacks { OnErr result (self.new.stacks ≡ self.old.stacks) }
+        ensures names { OnErr result (IsPrefixOf self.old.names self.new.names) }
+    {
+        let Some(text) = text_of(alloc, head)? else {
+            return self.tell(alloc, head, hash, weight);
+        };
+        let hash = hash_of(text.as_bytes());
+        if let Some(row) = self.row_of(text.as_bytes(), hash) {
+            self.keep(head, row);
+            return Ok(RowLine::Again { row, weight });
+        }
+        self.tell(alloc, text.as_bytes(), hash, weight)
     }
 
     /// The line of a head and a weight, after weights that add up to the total. A fault of the head is looked for before its stack, since
@@ -158,12 +196,7 @@ impl StreamTelling {
             self.keep(head, row);
             return Ok(RowLine::Again { row, weight });
         }
-        let stack = self.tell(alloc, head, hash)?;
-        Ok(RowLine::New {
-            names: stack.names,
-            frames: stack.frames,
-            weight,
-        })
+        self.read_unfound(alloc, head, hash, weight)
     }
 
     /// Reads the line at a place. The first line tells whether the bytes are compressed.

@@ -1,19 +1,14 @@
 //! What is wrong with a text where each of its lines has to be a stack and a count.
 
-ghost use Rattle.std.specs.Prelude.{◌≡◌, ◌==◌, ◌<◌, ◌≤◌, ◌++◌, ℕ, List, IfOk, IfSome, drop, length};
-ghost use Rattle.std.specs.List.{concat, list_all};
-ghost use Rattle.folded_lines.specs.Line.{Line};
+ghost use Rattle.std.specs.Prelude.{◌≡◌, ◌<◌, ◌≤◌, ℕ, drop, length};
 ghost use Rattle.folded_lines.specs.Lines.{read_line};
 ghost use Rattle.folded_lines.specs.Reading.{is_ignored, read_folded};
 ghost use Rattle.folded_lines.specs.StrictReading.{strict_fault, strict_kind_text};
-ghost use Rattle.folded_lines.specs.TextParts.{AreCutAtLines};
-ghost use Rattle.folded_lines.specs.checked.Strictness.{earlier, fault_of_counted, first_behind, first_from, first_ignored, is_counted, lines_in};
+ghost use Rattle.folded_lines.specs.checked.Strictness.{earlier, fault_of_counted, first_from, first_ignored, is_counted, lines_in};
 
 use crate::columns::{columns, is_number};
 use crate::cursor::first_line;
-use bytes::Bytes;
 use stack_core::{ReadFault, ReadKind, SourceEnd};
-use std::alloc::AllocError;
 
 /// What is wrong with a source that is read strictly.
 #[derive(Clone, Copy, Debug, PartialEq, Eq)]
@@ -63,15 +58,6 @@ impl From<ReadFault> for StrictFault {
     }
 }
 
-/// How far lines were looked through.
-#[derive(Clone, Copy)]
-enum Looked {
-    /// So many lines, all with a count.
-    Counted(u64),
-    /// Up to the line of this number, which has none.
-    Ignored(u64),
-}
-
 fn has_no_count(line: &[u8]) -> bool
     ensures { result ≡ is_ignored (read_line line.now) }
 {
@@ -84,9 +70,8 @@ fn has_no_count(line: &[u8]) -> bool
 /// Whether the line at a place has no count, and where the next one begins.
 fn look_at(bytes: &[u8], position: usize) -> (bool, usize)
     requires { position < length bytes.now }
-    ensures first { (before : ℕ) (more : List Line) →
-        first_ignored before (lines_in (drop position bytes.now) ++ more)
-        ≡ first_from bytes.now result before more }
+    ensures first { (before : ℕ) →
+        first_ignored before (lines_in (drop position bytes.now)) ≡ first_from bytes.now result before }
     ensures nearer { position < result.1 }
     ensures within { result.1 ≤ length bytes.now }
 {
@@ -94,38 +79,21 @@ fn look_at(bytes: &[u8], position: usize) -> (bool, usize)
     (has_no_count(line), position + len)
 }
 
-/// Looks for the first line without a count, where so many lines stand before these. `None` where they can't be counted.
-fn look_through(bytes: &[u8], before: u64) -> Option<Looked>
-    ensures { IfSome result (λ looked. (more : List Line) →
-        first_ignored before (lines_in bytes.now ++ more) ≡ first_behind looked more) }
+/// The number of the first line without a count, if there is one.
+fn first_ignored(bytes: &[u8]) -> Option<u64>
+    ensures { result ≡ first_ignored 0 (lines_in bytes.now) }
 {
-    let mut taken = before;
+    let mut taken = 0;
     let mut position = 0;
     while position < bytes.len() {
         let (is_ignored, next) = look_at(bytes, position);
-        taken = taken.checked_add(1)?;
+        taken += 1;
         if is_ignored {
-            return Some(Looked::Ignored(taken));
+            return Some(taken);
         }
         position = next;
     }
-    Some(Looked::Counted(taken))
-}
-
-/// The number of the first line without a count, if there is one, in a text that is cut at line ends.
-fn first_ignored(parts: &[Bytes]) -> Result<Option<u64>, AllocError>
-    requires { AreCutAtLines parts.now }
-    ensures { IfOk result (λ found. found ≡ first_ignored 0 (lines_in (concat parts.now))) }
-{
-    let mut taken = 0;
-    for part in parts {
-        match look_through(part.as_slice(), taken) {
-            Some(Looked::Counted(lines)) => taken = lines,
-            Some(Looked::Ignored(number)) => return Ok(Some(number)),
-            None => return Err(AllocError),
-        }
-    }
-    Ok(None)
+    None
 }
 
 /// The fault of the first line without a count, unless a text ends in one before it.
@@ -145,17 +113,11 @@ fn earlier(first: Option<u64>, ending: &SourceEnd) -> Option<StrictFault>
     }
 }
 
-fn are_empty(parts: &[Bytes]) -> bool
-    ensures { result ≡ list_all (λ part. length part == 0) parts.now }
-{
-    parts.iter().all(|part| part.is_empty())
-}
-
 /// What is wrong with a text of which each line has a count and that has no fault: that there is no line.
-fn fault_of_counted(parts: &[Bytes]) -> Option<StrictFault>
-    ensures { result ≡ fault_of_counted (concat parts.now) }
+fn fault_of_counted(text: &[u8]) -> Option<StrictFault>
+    ensures { result ≡ fault_of_counted text.now }
 {
-    if are_empty(parts) {
+    if text.is_empty() {
         let kind = StrictKind::NoSamples;
         Some(StrictFault { kind, at: 0 })
     } else {
@@ -174,15 +136,12 @@ fn is_counted(ending: &SourceEnd) -> bool
 }
 
 /// What is wrong with a text where each of its lines has to be a stack and a count, and one has to be there: the first thing in it. It comes
-/// in parts that are cut at line ends, with the ending to which it reads. Its lines are looked at again only where one is ignored, or has a
-/// fault. It fails where there are more lines than 64 bits can count.
-pub fn strict_fault(parts: &[Bytes], ending: &SourceEnd) -> Result<Option<StrictFault>, AllocError>
-    requires { AreCutAtLines parts.now }
-    ensures { ending.now ≡ (read_folded (concat parts.now)).ending
-        → IfOk result (λ fault. fault ≡ strict_fault (concat parts.now)) }
+/// with the ending to which it reads. Its lines are looked at again only where one is ignored, or has a fault.
+pub fn strict_fault(text: &[u8], ending: &SourceEnd) -> Option<StrictFault>
+    ensures { ending.now ≡ (read_folded text.now).ending → result ≡ strict_fault text.now }
 {
     if is_counted(ending) {
-        return Ok(fault_of_counted(parts));
+        return fault_of_counted(text);
     }
-    Ok(earlier(first_ignored(parts)?, ending))
+    earlier(first_ignored(text), ending)
 }

@@ -1,9 +1,8 @@
 -- What is kept beside merged samples.
-use Rattle.std.proofs.Common.{◌≡◌, ◌∙◌, ◌+◌, ◌<◌, ◌≤◌, ◌^◌, ◌++◌, ◌∷◌, [], ℕ, suc, zero, List, All, ap, arith, get_or, length, refl, set, subst, sym, take, inl, inr}
+use Rattle.std.proofs.Common.{◌≡◌, ◌∙◌, ◌+◌, ◌<◌, ◌≤◌, ◌^◌, ◌++◌, ◌∷◌, [], ℕ, suc, zero, List, All, ap, arith, codes, get_or, length, refl, set, subst, sym, take, inl, inr}
 use Rattle.std.proofs.lemmas.Bool.{cases_lt}
 use Rattle.std.proofs.lemmas.List.{ext_get_or, get_or_past, length-map, length-set, length_push, map_push, take_all, get_or-set_other}
 use Rattle.std.proofs.lemmas.List.FromFn.{get_or-map-range_with_len, length-map-range_with_len}
-use Rattle.std.proofs.lemmas.List.Sums.{sum_by-append, sum_by-cons}
 use Rattle.sample_tables.specs.declared.samples.Sample.{Sample}
 use Rattle.sample_tables.specs.declared.samples.TheConstants.{FRAME_LIMIT}
 use Rattle.stack_core.specs.Interleaving.{count_of, counts_at, sources_of}
@@ -16,28 +15,30 @@ use Rattle.flame_layout.specs.Paths.{SameOwn, tree_samples}
 use Rattle.merged_stacks.specs.Timeline.{total_weight}
 use Rattle.flame_layout.specs.Graph.{graph_of}
 use Rattle.flame_layout.specs.declared.boxes.SpanBox.{SpanBox}
-use Rattle.view_texts.specs.Json.{snapshot_line}
+use Rattle.view_texts.specs.Json.{boxes_line, snapshot_line}
 use Rattle.live_lines.specs.LiveState.{LiveState}
-use Rattle.live_lines.specs.Lines.{live_counts, live_line_at}
-use Rattle.live_lines.specs.checked.Merges.{IsLiveMerge}
+use Rattle.live_lines.specs.declared.merge.LiveLine.{LiveLine}
+use Rattle.live_lines.specs.declared.merge.LiveLine.TheVariants.{Graph, Snapshot}
+use Rattle.live_lines.specs.Lines.{line_now, live_counts}
+use Rattle.live_lines.specs.checked.Merges.{IsLiveMerge, shown_text}
 
 -- all that came, by source
 count_at_end : (pairs : List (ℕ × Sample)) (source : ℕ) → counts_at (length pairs) (sources_of pairs) source ≡ count_of source (sources_of pairs)
 count_at_end pairs source = ap (count_of source) (take_all (length pairs) (sources_of pairs) (omega (arith, length-map pairs (λ pair. pair.0))))
 
-pub count_here : (pairs : List (ℕ × Sample)) (counts : List ℕ) (at total source : ℕ) → IsLiveMerge pairs counts at total → source < length counts → get_or counts source 0 ≡ count_of source (sources_of pairs)
-count_here pairs counts at total source h within =
+pub count_here : (pairs : List (ℕ × Sample)) (counts : List ℕ) (at source : ℕ) → IsLiveMerge pairs counts at → source < length counts → get_or counts source 0 ≡ count_of source (sources_of pairs)
+count_here pairs counts at source h within =
     ap (λ (all : List ℕ). get_or all source 0) h.counted
     ∙ get_or-map-range_with_len (counts_at (length pairs) (sources_of pairs)) 0 (length counts) source source 0 within (omega arith)
     ∙ count_at_end pairs source
 
 -- no count is above that of all
-pub count_few : (pairs : List (ℕ × Sample)) (counts : List ℕ) (at total source : ℕ) → IsLiveMerge pairs counts at total → get_or counts source 0 ≤ at
-count_few pairs counts at total source h = elim (cases_lt source (length counts)) [
+pub count_few : (pairs : List (ℕ × Sample)) (counts : List ℕ) (at source : ℕ) → IsLiveMerge pairs counts at → get_or counts source 0 ≤ at
+count_few pairs counts at source h = elim (cases_lt source (length counts)) [
   | inl within ↦
       omega (
         arith,
-        count_here pairs counts at total source h within,
+        count_here pairs counts at source h within,
         count_at_end pairs source,
         h.at_is,
         count_at_most (sources_of pairs) (length pairs) source (omega (arith, length-map pairs (λ pair. pair.0))),
@@ -45,28 +46,26 @@ count_few pairs counts at total source h = elim (cases_lt source (length counts)
   | inr past ↦ omega (arith, get_or_past counts source 0 past)
 ]
 
-pub merge_starts : (counts : List ℕ) → ((k : ℕ) → get_or counts k 0 ≡ 0) → IsLiveMerge [] counts 0 0
+pub merge_starts : (counts : List ℕ) → ((k : ℕ) → get_or counts k 0 ≡ 0) → IsLiveMerge [] counts 0
 merge_starts counts none = record {
   counted =
       ext_get_or 0 counts (live_counts (length counts) [] 0) (sym (length-map-range_with_len (counts_at 0 []) 0 (length counts))) (λ i within.
       none i ∙ sym (get_or-map-range_with_len (counts_at 0 []) 0 (length counts) i i 0 within (omega arith)));
   at_is = refl;
-  total_is = refl;
-  fits = omega arith;
   depths = λ k d l. absurd (omega (arith, l));
 }
 
 -- one sample more
-counted_push : (pairs : List (ℕ × Sample)) (source : ℕ) (sample : Sample) (counts : List ℕ) (at total i : ℕ) → IsLiveMerge pairs counts at total → i < length counts
+counted_push : (pairs : List (ℕ × Sample)) (source : ℕ) (sample : Sample) (counts : List ℕ) (at i : ℕ) → IsLiveMerge pairs counts at → i < length counts
     → get_or (set counts source (get_or counts source 0 + 1)) i 0 ≡ count_of i (sources_of pairs ++ source ∷ [])
-counted_push pairs source sample counts at total i h within = elim (cases_lt source (length counts)) [
+counted_push pairs source sample counts at i h within = elim (cases_lt source (length counts)) [
   | inl below ↦
-      let here = count_here pairs counts at total source h below in
-      counted_more (sources_of pairs) counts source (get_or counts source 0 + 1) below here (ap (λ n. n + 1) here) i (count_here pairs counts at total i h within)
+      let here = count_here pairs counts at source h below in
+      counted_more (sources_of pairs) counts source (get_or counts source 0 + 1) below here (ap (λ n. n + 1) here) i (count_here pairs counts at i h within)
   | inr past ↦
       let apart : source ≡ i → ⊥ = λ e. omega (arith, e, past, within) in
       get_or-set_other counts source i (get_or counts source 0 + 1) 0 (λ e. apart (sym e))
-      ∙ (count_here pairs counts at total i h within ∙ sym ((count_of-push (sources_of pairs) source i).1 apart))
+      ∙ (count_here pairs counts at i h within ∙ sym ((count_of-push (sources_of pairs) source i).1 apart))
 ]
 
 each_push : (P : Sample → Type 0) (samples : List Sample) (sample : Sample) → All P samples → P sample → All P (samples ++ sample ∷ [])
@@ -75,19 +74,17 @@ each_push P [] sample h last (suc k) d l = absurd (omega (arith, l))
 each_push P (first ∷ samples) sample h last zero d l = h 0 d (omega arith)
 each_push P (first ∷ samples) sample h last (suc k) d l = each_push P samples sample (λ j e m. h (suc j) e (omega (arith, m))) last k d (omega (arith, l))
 
-pub merge_push : (pairs : List (ℕ × Sample)) (source : ℕ) (sample : Sample) (counts new : List ℕ) (at total next sum : ℕ) → IsLiveMerge pairs counts at total → new ≡ set counts source (get_or counts source 0 + 1)
-    → next ≡ at + 1 → sum ≡ total + sample.weight → sum < 2 ^ 64 → length sample.stack ≤ FRAME_LIMIT → IsLiveMerge (pairs ++ (source, sample) ∷ []) new next sum
-merge_push pairs source sample counts new at total next sum h more n s fits deep = record {
+pub merge_push : (pairs : List (ℕ × Sample)) (source : ℕ) (sample : Sample) (counts new : List ℕ) (at next : ℕ) → IsLiveMerge pairs counts at → new ≡ set counts source (get_or counts source 0 + 1)
+    → next ≡ at + 1 → length sample.stack ≤ FRAME_LIMIT → IsLiveMerge (pairs ++ (source, sample) ∷ []) new next
+merge_push pairs source sample counts new at next h more n deep = record {
   counted =
       ext_get_or 0 new (live_counts (length new) all (length all)) (sym (length-map-range_with_len (counts_at (length all) (sources_of all)) 0 (length new))) (λ i within.
       ap (λ (cs : List ℕ). get_or cs i 0) more
-      ∙ counted_push pairs source sample counts at total i h (omega (arith, within, long))
+      ∙ counted_push pairs source sample counts at i h (omega (arith, within, long))
       ∙ ap (count_of i) (sym (map_push (λ pair. pair.0) pairs (source, sample)))
       ∙ sym (count_at_end all i)
       ∙ sym (get_or-map-range_with_len (counts_at (length all) (sources_of all)) 0 (length new) i i 0 within (omega arith)));
   at_is = omega (arith, n, h.at_is, length_push pairs (source, sample));
-  total_is = omega (arith, s, h.total_is, ap total_weight samples, sum_by-append (λ (one : Sample). one.weight) (samples_of_pairs pairs) (sample ∷ []), sum_by-cons (λ (one : Sample). one.weight) sample []);
-  fits = fits;
   depths = subst (λ (ss : List Sample). All (λ one. length one.stack ≤ FRAME_LIMIT) ss) (sym samples) (each_push (λ one. length one.stack ≤ FRAME_LIMIT) (samples_of_pairs pairs) sample h.depths deep);
 }
   where
@@ -102,21 +99,21 @@ merge_push pairs source sample counts new at total next sum h more n s fits deep
 
 -- ---- what is drawn of it
 
-pub lent_drawable : (names table : List (List ℕ)) (tree lent : Tree) (pairs : List (ℕ × Sample)) (counts : List ℕ) (at total : ℕ) → table ≡ names → lent ≡ tree → HasSumsOf names tree (samples_of_pairs pairs) → IsLiveMerge pairs counts at total
+pub lent_drawable : (names table : List (List ℕ)) (tree lent : Tree) (samples : List Sample) → table ≡ names → lent ≡ tree → HasSumsOf names tree samples → total_weight samples < 2 ^ 64 → All (λ sample. length sample.stack ≤ FRAME_LIMIT) samples
     → IsDrawable table lent
-lent_drawable names table tree lent pairs counts at total named same sums h =
-    subst (λ (ns : List (List ℕ)). IsDrawable ns lent) (sym named)
-    (subst (λ (t : Tree). IsDrawable names t) (sym same) (drawable_samples names tree (samples_of_pairs pairs) sums h.depths (omega (arith, h.total_is, h.fits))))
+lent_drawable names table tree lent samples named same sums fits depths =
+    subst (λ (ns : List (List ℕ)). IsDrawable ns lent) (sym named) (subst (λ (t : Tree). IsDrawable names t) (sym same) (drawable_samples names tree samples sums depths fits))
 
 pub lent_stacks : (names table : List (List ℕ)) (tree lent : Tree) (samples : List Sample) → table ≡ names → lent ≡ tree → HasSumsOf names tree samples → SameOwn samples (tree_samples table lent)
 lent_stacks names table tree lent samples named same sums =
     subst (λ (ns : List (List ℕ)). SameOwn samples (tree_samples ns lent)) (sym named) (subst (λ (t : Tree). SameOwn samples (tree_samples names t)) (sym same) sums.stacks)
 
--- the line of the snapshot of all that was taken
-pub snapshot_now : (pairs : List (ℕ × Sample)) (counts : List ℕ) (at total width : ℕ) (state : LiveState) (lent : List ℕ) (weight wide : ℕ) (boxes : List SpanBox) → record { sources = length counts; taken = pairs } ≡ state → IsLiveMerge pairs counts at total
-    → lent ≡ counts → weight ≡ total_weight (samples_of_pairs state.taken) → wide ≡ width → boxes ≡ graph_of (samples_of_pairs state.taken) → snapshot_line at lent weight wide boxes ≡ live_line_at state.sources width state.taken (length state.taken)
-snapshot_now pairs counts at total width state lent weight wide boxes view h lends weighs w drawn =
-    (λ i. snapshot_line (here i) (told i) (weighs i) (w i) (drawn i))
+-- the line of all that was taken
+pub shown_now : (line : LiveLine) (pairs : List (ℕ × Sample)) (counts : List ℕ) (at width : ℕ) (state : LiveState) (lent : List ℕ) (weight : ℕ) (boxes : List SpanBox) → record { sources = length counts; taken = pairs } ≡ state → IsLiveMerge pairs counts at
+    → lent ≡ counts → weight ≡ total_weight (samples_of_pairs state.taken) → boxes ≡ graph_of (samples_of_pairs state.taken) → shown_text line at lent weight width boxes ≡ line_now line state.sources width state.taken
+shown_now Graph pairs counts at width state lent weight boxes view h lends weighs drawn = λ i. boxes_line (codes "graph") (weighs i) width (drawn i)
+shown_now Snapshot pairs counts at width state lent weight boxes view h lends weighs drawn =
+    (λ i. snapshot_line (here i) (told i) (weighs i) width (drawn i))
     ∙ (λ i. snapshot_line (length state.taken) (live_counts state.sources state.taken (length state.taken)) (total_weight (samples_of_pairs (sym whole i))) width (graph_of (samples_of_pairs (sym whole i))))
   where
     here : at ≡ length state.taken

@@ -8,6 +8,8 @@ use Rattle.flame_layout.specs.Graph.{graph_of}
 use Rattle.view_texts.specs.Json.{snapshot_line}
 use Rattle.merging.specs.Snapshots.{first_samples, samples_of_pairs, snapshot_places}
 use Rattle.source_views.specs.Texts.{graph_line}
+use Rattle.live_lines.specs.declared.merge.LiveLine.{LiveLine}
+use Rattle.live_lines.specs.declared.merge.LiveLine.TheVariants.{Graph, Snapshot}
 
 -- how many of the first m pairs each source of a run has: an entry for each source
 abbrev pub live_counts : ℕ → List (ℕ × Sample) → ℕ → List ℕ
@@ -27,3 +29,8 @@ live_lines sources width every pairs =
 -- these lines, and then the flame graph of all pairs
 abbrev pub live_text : ℕ → ℕ → ℕ → List (ℕ × Sample) → List ℕ
 live_text sources width every pairs = live_lines sources width every pairs ++ graph_line width (samples_of_pairs pairs)
+
+-- the line of all pairs
+abbrev pub line_now : LiveLine → ℕ → ℕ → List (ℕ × Sample) → List ℕ
+line_now Snapshot sources width pairs = live_line_at sources width pairs (length pairs)
+line_now Graph sources width pairs = graph_line width (samples_of_pairs pairs)

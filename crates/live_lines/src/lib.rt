@@ -7,5 +7,5 @@ mod merge;
 mod sink;
 
 pub use gate::LiveGate;
-pub use merge::LiveMerge;
+pub use merge::{LiveLine, LiveMerge};
 pub use sink::{LiveLines, LiveSink};

@@ -16,7 +16,7 @@ ghost use Rattle.live_lines.specs.checked.Writes.{AreWritten};
 ghost use Rattle.live_lines.specs.checked.WrittenProps.{front_prop, text_prop};
 
 use crate::gate::LiveGate;
-use crate::merge::LiveMerge;
+use crate::merge::{LiveLine, LiveMerge};
 use byte_io::{Outlet, PieceFault};
 use flame_layout::Width;
 use stack_core::{Ledger, RowSink};
@@ -101,38 +101,38 @@ impl<'a, W: Outlet> LiveSink<'a, W> {
 impl<W: Outlet> LiveLines<W> {
     /// Sends the line of the graph of all samples that came, and flushes. Where a line before was not sent whole it sends nothing, and
     /// answers why. It is called with the lines and the outlet of a sink that was taken apart: what the sink keeps of them is required.
-    pub fn finish(&self, alloc: Global, out: &mut W) -> Result<(), PieceFault>
-        requires whole { GrewByText self.now.failure
-            (live_lines self.now.merge.sources self.now.width self.now.every self.now.merge.taken)
-            (W.contents self.now.start.value) (W.contents out.old) }
+    pub fn finish(mut self, alloc: Global, out: &mut W) -> Result<(), PieceFault>
+        requires whole { GrewByText self.failure
+            (live_lines self.merge.sources self.width self.every self.merge.taken)
+            (W.contents self.start.value) (W.contents out.old) }
         requires front { GrewByFront
-            (live_lines self.now.merge.sources self.now.width self.now.every self.now.merge.taken)
-            (W.contents self.now.start.value) (W.contents out.old) }
+            (live_lines self.merge.sources self.width self.every self.merge.taken)
+            (W.contents self.start.value) (W.contents out.old) }
         requires counted { W.failures out.old
-            ≡ failures_after (W.failures self.now.start.value) self.now.failure }
+            ≡ failures_after (W.failures self.start.value) self.failure }
 
         // Since the sink was made the outlet gained the lines of all snapshots, and then that of the graph.
-        ensures ok { OnOk result (Appends (W.contents self.now.start.value) (W.contents out.new)
-            (live_text self.now.merge.sources self.now.width self.now.every self.now.merge.taken)) }
+        ensures ok { OnOk result (Appends (W.contents self.start.value) (W.contents out.new)
+            (live_text self.merge.sources self.width self.every self.merge.taken)) }
         ensures flushed { OnOk result (W.is_flushed out.new) }
         ensures front { OnErr result (AppendsFront
-            (live_text self.now.merge.sources self.now.width self.now.every self.now.merge.taken)
-            (W.contents self.now.start.value) (W.contents out.new)) }
+            (live_text self.merge.sources self.width self.every self.merge.taken)
+            (W.contents self.start.value) (W.contents out.new)) }
         ensures output { IsErrOf result PieceFault.Output
-            → W.failures out.new ≡ one_more (W.failures self.now.start.value) }
+            → W.failures out.new ≡ one_more (W.failures self.start.value) }
         ensures unfailed { result ≢ Err PieceFault.Output
-            → W.failures out.new ≡ W.failures self.now.start.value }
+            → W.failures out.new ≡ W.failures self.start.value }
 
         // That is the text of the graph of the lists of which it took the samples, in their order.
         ensures graph { (lists : List (List TakenSample)) (order : List ℕ) → IsInterleaving order lists
-            → length lists ≡ self.now.merge.sources → self.now.merge.taken ≡ interleaved order lists
-            → live_text self.now.merge.sources self.now.width self.now.every self.now.merge.taken
-            ≡ graph_text self.now.width lists order (Some self.now.every) }
+            → length lists ≡ self.merge.sources → self.merge.taken ≡ interleaved order lists
+            → live_text self.merge.sources self.width self.every self.merge.taken
+            ≡ graph_text self.width lists order (Some self.every) }
     {
         if let Some(fault) = self.failure {
             return Err(fault);
         }
-        self.merge.send_graph(alloc, self.width, out)
+        self.merge.send(alloc, LiveLine::Graph, self.width, out)
     }
 }
 
@@ -201,7 +201,7 @@ fn take_sample<W: Outlet>(
     ensures flushed { lines.new.failure ≡ None → lines.new.every ≤ length lines.new.merge.taken
         → ∥ W.is_flushed out.new ∥₁ }
 {
-    if let Err(refusal) = lines.merge.take(alloc, source, ledger, row, weight) {
+    if let Err(refusal) = lines.merge.take_row(alloc, source, ledger, row, weight) {
         lines.gate.close();
         return Err(refusal);
     }
@@ -236,7 +236,10 @@ fn send_due<W: Outlet>(alloc: Global, lines: &mut LiveLines<W>, out: &mut W)
     ensures counted { W.failures out.new ≡ failures_after (W.failures out.old) lines.new.failure }
     ensures flushed { lines.new.failure ≡ None → W.is_flushed out.new }
 {
-    if let Err(fault) = lines.merge.send_snapshot(alloc, lines.width, out) {
+    if let Err(fault) = lines
+        .merge
+        .send(alloc, LiveLine::Snapshot, lines.width, out)
+    {
         lines.failure = Some(fault);
         lines.gate.close();
     }

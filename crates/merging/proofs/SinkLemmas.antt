@@ -26,7 +26,7 @@ use Rattle.merging.specs.declared.taken_rows.TakenRows.{TakenRows}
 use Rattle.merging.specs.declared.tally.Tally.{Tally}
 use Rattle.merging.specs.checked.TakenRows.{TakenRow, rows_of, pair_of, pairs_of, order_of, paths_of}
 use Rattle.merging.specs.checked.Tallies.{IsTally}
-use Rattle.merging.specs.checked.Merging.{IsNumbered, AreMerged, IsTreeSink, IsRowFor, snapshot_of, snapshots_of, due_after}
+use Rattle.merging.specs.checked.Merging.{IsNumbered, AreMerged, Grown, IsTreeSink, IsRowFor, snapshot_of, snapshots_of, due_after}
 use Rattle.merging.proofs.SumLemmas.{sums-held}
 use Rattle.merging.proofs.SnapshotLemmas.{tree_of-push, snapshots_of-push}
 
@@ -122,7 +122,7 @@ snapshots_of-none : (every : Option ℕ) → snapshots_of every [] ≡ []
 snapshots_of-none None = refl
 snapshots_of-none (Some every) = ap (λ n. map (snapshot_of []) (map (λ i. i * every) (range_with_len 1 n))) (zero-div every)
 
-merged-starts : (every : Option ℕ) → IfSome every (λ k. 1 ≤ k) → AreMerged every [] tree_map.empty [] []
+pub merged-starts : (every : Option ℕ) → IfSome every (λ k. 1 ≤ k) → AreMerged every [] tree_map.empty [] []
 merged-starts every positive = record {
   positive = positive;
   distinct = λ i j l m e. absurd (omega (arith, l));
@@ -141,11 +141,6 @@ sink-starts tally names tree snapshots tallied positive rows n t e = record {
       (subst (λ (tree : Tree). AreMerged tally.every [] tree [] snapshots) (sym t)
       (subst (λ (snapshots : List Snapshot). AreMerged tally.every [] tree_map.empty [] snapshots) (sym e) (merged-starts tally.every positive))));
 }
-
--- what is left of a sink when names and room came
-pub record Grown (tally : Tally) (names : List (List ℕ)) (tree : Tree) (snapshots : List Snapshot) (pairs : List (ℕ × Sample)) : Type 0 where
-  pub sink : IsTreeSink tally names tree snapshots
-  pub pairs_are : pairs_of names (rows_of tally.taken) ≡ pairs
 
 pub sink-grows : (tally more : Tally) (names longer : List (List ℕ)) (tree : Tree) (snapshots : List Snapshot) → IsTreeSink tally names tree snapshots → GrowsTo names longer → HasDistinctNames longer → IsTally more → more.every ≡ tally.every → more.taken ≡ tally.taken
     → Grown more longer tree snapshots (pairs_of names (rows_of tally.taken))

@@ -1,5 +1,6 @@
 -- The definitions that the contracts of merging cite.
 pub mod Gathered
+pub mod RowMergeState
 pub mod Snapshots
 pub mod Sums
 pub mod TreeSinkState

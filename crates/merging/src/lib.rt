@@ -2,15 +2,18 @@
 #![tactic(auto)]
 
 mod collection;
+mod late_tree;
 pub mod laws;
 mod list_samples;
 mod named_stacks;
 mod noted_numbers;
+mod row_merge;
 mod snapshots;
 mod taken_rows;
 mod tally;
 mod tree_sink;
 
 pub use collection::Gathered;
+pub use row_merge::RowMerge;
 pub use snapshots::Snapshot;
 pub use tree_sink::TreeSink;

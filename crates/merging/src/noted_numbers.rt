@@ -33,6 +33,14 @@ impl NotedNumbers {
     }
 }
 
+/// Where a number is noted, for which room is made.
+pub fn note_place(noted: &mut Vec<usize>, note: usize) -> Result<&mut usize, AllocError> {
+    if note >= noted.len() {
+        noted.resize(note.saturating_add(1), 0)?;
+    }
+    noted.get_mut(note).ok_or(AllocError)
+}
+
 /// Whether a name has this number.
 fn has_number(table: &FrameTable, name: &str, number: usize) -> bool
     ensures { IsTrue result ↔ ((number < length table.now) × (slice_index_or table.now number [] ≡ name.now)) }
@@ -59,12 +67,8 @@ pub fn number_name(
     {
         return Ok(number);
     }
-    if note >= noted.len() {
-        noted.resize(note.saturating_add(1), 0)?;
-    }
+    let place = note_place(noted, note)?;
     let number = table.intern(name)?;
-    if let Some(place) = noted.get_mut(note) {
-        *place = number;
-    }
+    *place = number;
     Ok(number)
 }

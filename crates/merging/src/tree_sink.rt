@@ -1,22 +1,25 @@
 //! A sink that merges what it takes.
 
 ghost use Rattle.std.specs.FinMap as tree;
-ghost use Rattle.std.specs.Prelude.{◌≡◌, ◌≤◌, ◌<◌, ◌++◌, ◌∷◌, [], IfOk, IfSome, OnOk, OnErr, OnSome, length, map, vec_len, vec_capacity};
-ghost use Rattle.sample_tables.specs.Rows.{name_at, named, row_by, stack_at};
+ghost use Rattle.std.specs.Prelude.{◌≡◌, ◌≤◌, ◌<◌, ◌++◌, ◌∷◌, [], IfOk, IfSome, List, OnOk, OnErr, OnSome, vec_len, vec_capacity};
 ghost use Rattle.std.specs.Option.{option_to_list};
 ghost use Rattle.stack_core.specs.Interleaving.{sources_of};
 ghost use Rattle.call_tree.specs.FrameTable.{HasDistinctNames};
 ghost use Rattle.ring_collect.specs.NamesInOrder.{with_stack, GrowsTo};
 ghost use Rattle.merging.specs.Snapshots.{samples_of_pairs, first_samples, AreSnapshots};
 ghost use Rattle.merging.specs.Sums.{HasSumsOf};
+ghost use Rattle.call_tree.specs.CallTree.{Tree};
+ghost use Rattle.merging.specs.checked.Merging.{Grown, IsRowFor, IsTreeSink};
+ghost use Rattle.merging.specs.checked.TakenRows.{pairs_of, row_of, rows_of};
+ghost use Rattle.merging.specs.checked.Tallies.{HasRoom, IsTally};
+ghost use Rattle.merging.specs.declared.snapshots.Snapshot.{Snapshot};
 
-use crate::named_stacks::{KeptStack, NamedStack};
 use crate::noted_numbers::NotedNumbers;
 use crate::snapshots::{Snapshot, due_snapshot};
 use crate::taken_rows::NumberedSample;
 use crate::tally::Tally;
 use call_tree::{CallTree, FrameTable};
-use stack_core::{Ledger, RowSink, Sample, Sink};
+use stack_core::{Sample, Sink};
 use std::alloc::{AllocError, Global};
 use std::marker::Model;
 
@@ -125,47 +128,6 @@ impl TreeSink {
     }
 }
 
-impl TreeSink {
-    ghost use Rattle.std.specs.Prelude.{◌≡◌, ◌++◌, ◌∷◌, [], OnOk, OnErr};
-    ghost use Rattle.ring_collect.specs.NamesInOrder.{with_stack, GrowsTo};
-
-    /// Merges one sample. All that needs memory comes first, so a refusal leaves the tree and the snapshots too; the table may have gained
-    /// names.
-    fn merge<S: NamedStack>(
-        &mut self,
-        alloc: Global,
-        source: u32,
-        stack: &S,
-        weight: u64,
-    ) -> Result<(), AllocError>
-        ensures ok { OnOk result (self.new.taken ≡ self.old.taken
-            ++ (source, record { stack = S.names stack.now; weight = weight }) ∷ []) }
-        ensures refused { OnErr result (self.new.taken ≡ self.old.taken) }
-        ensures tree { OnErr result (self.new.tree ≡ self.old.tree) }
-        ensures snapshots { OnErr result (self.new.snapshots ≡ self.old.snapshots) }
-        ensures names { GrowsTo self.old.names self.new.names }
-        ensures in_order { OnOk result
-            (self.new.names ≡ with_stack self.old.names (S.names stack.now)) }
-        ensures every { self.new.every ≡ self.old.every }
-    {
-        let noted = self.noted.of(alloc, source)?;
-        self.sample
-            .set(&mut self.table, noted, source, stack, weight)?;
-        self.tally.reserve(source)?;
-        let due = due_snapshot(
-            alloc,
-            &self.tally,
-            &self.tree,
-            &mut self.snapshots,
-            &self.sample,
-        )?;
-        self.tree.add(&self.sample.numbers, self.sample.weight)?;
-        self.tally.count(&self.sample);
-        append_due(&mut self.snapshots, due);
-        Ok(())
-    }
-}
-
 impl Sink for TreeSink {
     ghost use Rattle.std.specs.Option.{option_to_list};
 
@@ -185,47 +147,52 @@ impl Sink for TreeSink {
         ensures every { self.new.every ≡ self.old.every }
         ensures setting { option_to_list self.new.every ≡ option_to_list self.old.every }
     {
-        self.merge(alloc, source, &sample.stack, sample.weight)
+        let noted = self.noted.of(alloc, source)?;
+        ready_sample(
+            &mut self.tally,
+            &mut self.table,
+            noted,
+            &mut self.sample,
+            source,
+            sample,
+        )?;
+        let due = due_snapshot(
+            alloc,
+            &self.tally,
+            &self.tree,
+            &mut self.snapshots,
+            &self.sample,
+        )?;
+        self.tree.add(&self.sample.numbers, self.sample.weight)?;
+        self.tally.count(&self.sample);
+        append_due(&mut self.snapshots, due);
+        Ok(())
     }
 }
 
-impl RowSink for TreeSink {
-    ghost use Rattle.std.specs.Option.{option_to_list};
-
-    ghost taken = { λ sink. sink.taken };
-
-    ghost setting = { λ sink. option_to_list sink.every };
-
-    /// Merges one sample of a stack that a ledger keeps, as `take` merges it by its names. A name that was noted costs a comparison.
-    fn take_row(
-        &mut self,
-        alloc: Global,
-        source: u32,
-        ledger: &Ledger,
-        row: usize,
-        weight: u64,
-    ) -> Result<(), AllocError>
-        requires { row < length ledger.now.stacks }
-        ensures ok { OnOk result (self.new.taken ≡ self.old.taken ++ (
-          source,
-          named ledger.now.told
-              (row_by ledger.now.stacks (record { stack = row; weight = weight })),
-        ) ∷ []) }
-        ensures refused { OnErr result (self.new.taken ≡ self.old.taken) }
-        ensures tree { OnErr result (self.new.tree ≡ self.old.tree) }
-        ensures snapshots { OnErr result (self.new.snapshots ≡ self.old.snapshots) }
-        ensures names { GrowsTo self.old.names self.new.names }
-        ensures in_order { OnOk result (self.new.names ≡ with_stack self.old.names
-            (map (name_at ledger.now.told) (stack_at ledger.now.stacks row))) }
-        ensures every { self.new.every ≡ self.old.every }
-        ensures setting { option_to_list self.new.every ≡ option_to_list self.old.every }
-    {
-        let stack = KeptStack {
-            ledger,
-            frames: ledger.stack(row),
-        };
-        self.merge(alloc, source, &stack, weight)
-    }
+/// Gives a sample that is to be taken the numbers of its names, and makes room to count it. Want of memory may leave names behind.
+fn ready_sample(
+    tally: &mut Tally,
+    table: &mut FrameTable,
+    noted: &mut Vec<usize>,
+    numbered: &mut NumberedSample,
+    source: u32,
+    sample: &Sample,
+) -> Result<(), AllocError>
+    requires tallied { IsTally tally.old }
+    requires distinct { HasDistinctNames table.old }
+    ensures row { OnOk result
+        (IsRowFor table.new source sample.now.stack sample.now.weight (row_of numbered.new)) }
+    ensures room { OnOk result (HasRoom source tally.new) }
+    ensures in_order { OnOk result (table.new ≡ with_stack table.old sample.now.stack) }
+    ensures names { GrowsTo table.old table.new }
+    ensures every { tally.new.every ≡ tally.old.every }
+    ensures sink { (tree : Tree) (snapshots : List Snapshot)
+        → IsTreeSink tally.old table.old tree snapshots
+        → Grown tally.new table.new tree snapshots (pairs_of table.old (rows_of tally.old.taken)) }
+{
+    numbered.set(table, noted, source, &sample.stack, sample.weight)?;
+    tally.reserve(source)
 }
 
 /// Appends the snapshot that is due, if one is. There is room for it.

@@ -7,7 +7,7 @@ use Rattle.run_options.specs.declared.formats.Format.{Format}
 use Rattle.opened_sources.specs.Opening.{AreLoaded, IsLoaded}
 
 -- the source of one path more
-pub loaded_more : {A : Type 0} (asked : Option Format) (bytes : A → List ℕ) (files : List ℕ → Option (List ℕ)) (paths : List A) (at : ℕ) (path : A) (sources : List (Format × List ℕ)) (source : Format × List ℕ)
+pub loaded_more : {A : Type 0} (asked : Option Format) (bytes : A → List ℕ) (files : List ℕ → Option (List ℕ)) (paths : List A) (at : ℕ) (path : A) (sources : List (Format × Option (List ℕ))) (source : Format × Option (List ℕ))
     → at < length paths → path ≡ get_or paths at path → AllZip (IsLoaded asked files) (map bytes (take at paths)) sources → IsLoaded asked files (bytes path) source
     → AllZip (IsLoaded asked files) (map bytes (take (at + 1) paths)) (sources ++ source ∷ [])
 loaded_more asked bytes files paths at path sources source below is loaded here =
@@ -16,7 +16,7 @@ loaded_more asked bytes files paths at path sources source below is loaded here 
     (all_zipped_more (IsLoaded asked files) (map bytes (take at paths)) sources (bytes path) source loaded here)
 
 -- the sources of all paths, of which there is one
-pub loaded_whole : {A : Type 0} (asked : Option Format) (bytes : A → List ℕ) (input : Option (List ℕ)) (files : List ℕ → Option (List ℕ)) (paths : List A) (at : ℕ) (sources : List (Format × List ℕ))
+pub loaded_whole : {A : Type 0} (asked : Option Format) (bytes : A → List ℕ) (input : Option (List ℕ)) (files : List ℕ → Option (List ℕ)) (paths : List A) (at : ℕ) (sources : List (Format × Option (List ℕ)))
     → 0 < length paths → length paths ≤ at → AllZip (IsLoaded asked files) (map bytes (take at paths)) sources → AreLoaded asked input files (map bytes paths) sources
 loaded_whole asked bytes input files [] at sources some all loaded = absurd (omega arith)
 loaded_whole asked bytes input files (path ∷ paths) at sources some all loaded =

@@ -7,6 +7,8 @@ use Rattle.stack_core.specs.declared.endings.SourceEnd.{SourceEnd}
 use Rattle.stack_core.specs.declared.endings.SourceEnd.TheVariants as ends
 use Rattle.ring_collect.specs.declared.faults.CollectFault.{CollectFault}
 use Rattle.ring_collect.specs.declared.faults.CollectFault.TheVariants as collect
+use Rattle.source_lists.specs.declared.run_faults.RunFault.{RunFault}
+use Rattle.source_lists.specs.declared.run_faults.RunFault.TheVariants as run
 use Rattle.byte_io.specs.declared.whole_input.LoadFault.{LoadFault}
 use Rattle.byte_io.specs.declared.whole_input.LoadFault.TheVariants as load
 use Rattle.byte_io.specs.declared.piece_output.PieceFault.TheVariants as piece
@@ -97,3 +99,8 @@ abbrev pub failure_of_collect : CollectFault → Failure
 failure_of_collect collect.OutOfMemory = OutOfMemory
 failure_of_collect collect.NoThread = NoThread
 failure_of_collect (collect.Unfinished source) = Unfinished source
+
+-- the failure of a run whose sources could not be read
+abbrev pub failure_of_run : RunFault → Failure
+failure_of_run (run.Collect fault) = failure_of_collect fault
+failure_of_run (run.Unreadable source) = Unreadable source

@@ -1,10 +1,11 @@
 //! Why a run fails.
 ghost use Rattle.std.specs.Prelude.{◌≡◌};
-ghost use Rattle.opened_sources.specs.Failures.{status_of, failure_of_load, failure_of_collect};
+ghost use Rattle.opened_sources.specs.Failures.{status_of, failure_of_load, failure_of_collect, failure_of_run};
 ghost use Rattle.opened_sources.specs.declared.failures.Failure.TheVariants.{OutOfMemory, Output};
 
 use byte_io::{LoadFault, PieceFault};
 use ring_collect::CollectFault;
+use source_lists::RunFault;
 use std::alloc::AllocError;
 
 /// Why a run failed. Sources are counted from 0.
@@ -73,6 +74,17 @@ impl From<CollectFault> for Failure {
             CollectFault::OutOfMemory => Failure::OutOfMemory,
             CollectFault::NoThread => Failure::NoThread,
             CollectFault::Unfinished { source } => Failure::Unfinished { source },
+        }
+    }
+}
+
+impl From<RunFault> for Failure {
+    ghost from_gives = { λ fault failure. failure ≡ failure_of_run fault };
+
+    fn from(fault: RunFault) -> Failure {
+        match fault {
+            RunFault::Collect(fault) => Failure::from(fault),
+            RunFault::Unreadable { source } => Failure::Unreadable { source },
         }
     }
 }

@@ -1,12 +1,14 @@
 //! The sources of a run as files that are opened one after another.
-ghost use Rattle.std.specs.Prelude.{◌≡◌, ◌≢◌, ◌≤◌, ℕ, List, [], ◌∷◌, ◌++◌, IfOk, IfErr, IfSome, OnOk, length, map, string_bytes};
+ghost use Rattle.std.specs.Prelude.{◌≡◌, ◌≢◌, ◌≤◌, true, unwrap_or, ℕ, List, Option, [], ◌∷◌, ◌++◌, IfOk, IfErr, IfSome, OnOk, length, map, string_bytes};
+ghost use Rattle.run_options.specs.Formats.{format_at};
 ghost use Rattle.run_options.specs.declared.formats.Format.{Format as SourceFormat};
-ghost use Rattle.source_lists.specs.Sources.{format_and_bytes};
+ghost use Rattle.run_options.specs.declared.formats.Format.TheVariants.{Folded as IsFolded};
+ghost use Rattle.source_lists.specs.Sources.{known_source};
 ghost use Rattle.opened_sources.specs.Opening.{AreLoaded, IsLoaded, IsLoadedInput};
 ghost use Rattle.opened_sources.specs.Failures.{IsOfLoad, IsOpening};
 
 use crate::failures::Failure;
-use byte_io::Files;
+use byte_io::{Files, StoredText};
 use run_options::{Format, format_of};
 use source_lists::{Input, Source};
 use std::alloc::{AllocError, Global};
@@ -14,12 +16,15 @@ use std::alloc::{AllocError, Global};
 /// The most sources of a run.
 pub const SOURCE_COUNT: usize = 64;
 
-/// The sources of these paths or of the input, as `load_sources` has them, each loaded whole.
-pub(crate) fn open_sources<F: Files>(
+/// The sources of these paths, in order, or the input where there is none. The first that fails ends it. All have the format that was
+/// asked for, or each that of its name. With `streams` a folded text whose file can be read as a stream is opened only; every other
+/// source is loaded whole.
+pub fn load_sources<F: Files>(
     alloc: Global,
     files: &mut F,
     paths: &[String],
     asked: Option<Format>,
+    streams: bool,
 ) -> Result<Vec<Input>, Failure>
     ensures few { IfOk result (λ inputs. length inputs.items ≤ 64) }
     ensures count { IfOk result (λ inputs.
@@ -34,46 +39,112 @@ pub(crate) fn open_sources<F: Files>(
     }
     let mut inputs = Vec::new(alloc);
     if paths.is_empty() {
-        add_source(alloc, &mut inputs, input(alloc, files, asked)?)?;
+        let source = input(alloc, files, asked)?;
+        add_input(&mut inputs, Input::of(source)?)?;
         return Ok(inputs);
     }
-    files.prefetch(alloc, paths);
+    load_ahead(alloc, files, paths, asked, streams);
     for path in paths {
-        add_named(alloc, files, path, asked, &mut inputs)?;
+        add_named(alloc, files, path, asked, streams, &mut inputs)?;
     }
     Ok(inputs)
 }
 
-// Adds the source of the path after those that were opened. Where it is not loaded, it is blamed, by its place.
+// Has files loaded ahead where all of them are to be loaded.
+fn load_ahead<F: Files>(
+    alloc: Global,
+    files: &mut F,
+    paths: &[String],
+    asked: Option<Format>,
+    streams: bool,
+)
+    ensures input { F.known_input files.new ≡ F.known_input files.old }
+    ensures files { F.known_file files.new ≡ F.known_file files.old }
+{
+    if !streams || !paths.iter().any(|path| is_text(path, asked)) {
+        files.prefetch(alloc, paths);
+    }
+}
+
+fn is_text(path: &str, asked: Option<Format>) -> bool
+    ensures { result ≡ true → unwrap_or asked (format_at path.now) ≡ IsFolded }
+{
+    asked.unwrap_or(format_of(path)) == Format::Folded
+}
+
+// Adds the source of the path after those that were opened. Where it can't be, it is blamed, by its place.
 fn add_named<F: Files>(
     alloc: Global,
     files: &mut F,
     path: &str,
     asked: Option<Format>,
+    streams: bool,
     inputs: &mut Vec<Input>,
 ) -> Result<(), Failure>
-    ensures loaded { OnOk result ((source : SourceFormat × List ℕ)
+    ensures loaded { OnOk result ((source : SourceFormat × Option (List ℕ))
         × (inputs.new.items ≡ inputs.old.items ++ source ∷ [])
         × IsLoaded asked (F.known_file files.old) path.now source) }
     ensures files { F.known_file files.new ≡ F.known_file files.old }
     ensures err { IfErr result (IsOfLoad (length inputs.old.items)) }
 {
-    let source = open_named(alloc, files, inputs.len(), path, asked)?;
-    add_source(alloc, inputs, source)?;
+    let source = open_source(alloc, files, inputs.len(), path, asked, streams)?;
+    add_input(inputs, source)?;
     Ok(())
 }
 
-fn add_source(alloc: Global, inputs: &mut Vec<Input>, source: Source) -> Result<(), AllocError>
-    ensures { OnOk result (inputs.new.items ≡ inputs.old.items ++ format_and_bytes source ∷ []) }
+fn add_input(inputs: &mut Vec<Input>, input: Input) -> Result<(), AllocError>
+    ensures { OnOk result (inputs.new.items ≡ inputs.old.items ++ input ∷ []) }
 {
-    inputs.push(Input::of(alloc, source)?)?;
+    inputs.push(input)?;
     Ok(())
+}
+
+// The source of the path, as a stream where it may be one.
+fn open_source<F: Files>(
+    alloc: Global,
+    files: &mut F,
+    at: usize,
+    path: &str,
+    asked: Option<Format>,
+    streams: bool,
+) -> Result<Input, Failure>
+    ensures opened { IfOk result (λ source.
+        IsLoaded asked (F.known_file files.old) path.now source) }
+    ensures files { F.known_file files.new ≡ F.known_file files.old }
+    ensures err { IfErr result (IsOfLoad at) }
+{
+    match stored_text(alloc, files, path, asked, streams) {
+        Some(text) => Ok(Input::stored(text)),
+        None => {
+            let source = open_named(alloc, files, at, path, asked)?;
+            Ok(Input::of(source)?)
+        }
+    }
+}
+
+// The text of the path, if it is one that is to be read as a stream.
+fn stored_text<F: Files>(
+    alloc: Global,
+    files: &mut F,
+    path: &str,
+    asked: Option<Format>,
+    streams: bool,
+) -> Option<StoredText>
+    ensures text { IfSome result (λ text.
+        IsLoaded asked (F.known_file files.old) path.now (IsFolded, text)) }
+    ensures files { F.known_file files.new ≡ F.known_file files.old }
+{
+    if streams && is_text(path, asked) {
+        files.stored(alloc, path)
+    } else {
+        None
+    }
 }
 
 // The input, which is folded text unless another format was asked for.
 fn input<F: Files>(alloc: Global, files: &mut F, asked: Option<Format>) -> Result<Source, Failure>
     ensures input { IfOk result (λ source.
-        IfSome (F.known_input files.old) (IsLoadedInput asked (format_and_bytes source ∷ []))) }
+        IfSome (F.known_input files.old) (IsLoadedInput asked (known_source source ∷ []))) }
     ensures err { IfErr result (IsOfLoad 0) }
 {
     match files.input(alloc) {
@@ -94,7 +165,7 @@ pub fn open_named<F: Files>(
     asked: Option<Format>,
 ) -> Result<Source, Failure>
     ensures opened { IfOk result (λ source.
-        IsLoaded asked (F.known_file files.old) path.now (format_and_bytes source)) }
+        IsLoaded asked (F.known_file files.old) path.now (known_source source)) }
     ensures files { F.known_file files.new ≡ F.known_file files.old }
     ensures err { IfErr result (IsOfLoad at) }
 {

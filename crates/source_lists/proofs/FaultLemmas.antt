@@ -1,27 +1,36 @@
--- What a run says of a source that is unfinished.
-use Rattle.std.proofs.Common.{◌≡◌, ◌<◌, ℕ, List, [], ◌∷◌, ap, arith, length, map, Ok, Err, IsErrAnd, IsErrOf, Result}
-use Rattle.std.proofs.lemmas.Result.{err_from_is_err_and}
-use Rattle.std.proofs.lemmas.List.{length-map}
-use Rattle.stack_core.specs.Reading.{Rest}
+-- What a run says of a source that is unfinished, or can't be read.
+use Rattle.std.proofs.Common.{◌≡◌, ◌<◌, ◌≤◌, ℕ, refl, arith, subst, sym, Ok, Err, IfErr, IsErrAnd, IsErrOf, Result}
+use Rattle.std.proofs.lemmas.Result.{IfErr-weaker}
 use Rattle.ring_collect.specs.declared.faults.CollectFault.{CollectFault}
-use Rattle.ring_collect.specs.declared.faults.CollectFault.TheVariants.{OutOfMemory, Unfinished}
+use Rattle.ring_collect.specs.declared.faults.CollectFault.TheVariants.{OutOfMemory, NoThread, Unfinished}
+use Rattle.source_lists.specs.checked.OpenRuns.{IsOfReaders, IsOfRun}
+use Rattle.source_lists.specs.declared.run_faults.RunFault.{RunFault}
+use Rattle.source_lists.specs.declared.run_faults.RunFault.TheVariants.{Collect, Unreadable}
 
--- want of memory is no unfinished source
-pub refused_memory : {T : Type 0} (result : Result T CollectFault) (n source : ℕ) → IsErrAnd result (λ fault. fault ≡ OutOfMemory) → IsErrOf result (Unfinished source) → source < n
-refused_memory result n source refused unfinished =
-    let fault = err_from_is_err_and result refused in
-    cc (fault.1, fault.2)
+pub blamed : {T : Type 0} (result : Result T CollectFault) (count : ℕ) → ((source : ℕ) → IsErrOf result (Unfinished source) → source < count) → IfErr result (IsOfReaders count)
+blamed (Ok run) count below = tt
+blamed (Err OutOfMemory) count below = tt
+blamed (Err NoThread) count below = tt
+blamed (Err (Unfinished source)) count below = below source refl
 
-pub gave_all : {T : Type 0} (given : T) (n source : ℕ) → IsErrOf {T = T} {E = CollectFault} (Ok given) (Unfinished source) → source < n
-gave_all given n source unfinished = cc
+more_readers : (few many : ℕ) → few ≤ many → (fault : CollectFault) → IsOfReaders few fault → IsOfReaders many fault
+more_readers few many fewer OutOfMemory of = tt
+more_readers few many fewer NoThread of = tt
+more_readers few many fewer (Unfinished source) of = omega (arith, fewer, of)
+
+more_inputs : (few many : ℕ) → few ≤ many → (fault : RunFault) → IsOfRun few fault → IsOfRun many fault
+more_inputs few many fewer (Collect fault) of = more_readers few many fewer fault of
+more_inputs few many fewer (Unreadable source) of = omega (arith, fewer, of)
+
+-- of more there are more
+pub of_more_readers : {T : Type 0} (result : Result T CollectFault) (few many : ℕ) → few ≤ many → IfErr result (IsOfReaders few) → IfErr result (IsOfReaders many)
+of_more_readers result few many fewer err = IfErr-weaker result (IsOfReaders few) (IsOfReaders many) (more_readers few many fewer) err
 
 -- a fault that is handed on
-pub handed_on : {T U : Type 0} (run : Result T CollectFault) (result : Result U CollectFault) (fault : CollectFault) (source : ℕ) → run ≡ Err fault → IsErrAnd result (λ other. other ≡ fault)
-    → IsErrOf result (Unfinished source) → IsErrOf run (Unfinished source)
-handed_on run result fault source failed handed unfinished =
-    let other = err_from_is_err_and result handed in
-    cc (other.1, other.2)
+pub handed_on : {T : Type 0} (result : Result T RunFault) (few many : ℕ) (fault : RunFault) → IsErrAnd result (λ found. found ≡ fault) → few ≤ many → IsOfRun few fault → IfErr result (IsOfRun many)
+handed_on (Ok run) few many fault handed fewer of = tt
+handed_on (Err found) few many fault handed fewer of = subst (IsOfRun many) (sym handed) (more_inputs few many fewer fault of)
 
--- the source of a reader that is alone
-pub first_of_lone : {X : Type 0} (rest : X → Rest) (readers : List X) (whole : Rest) → map rest readers ≡ whole ∷ [] → (source : ℕ) → source < length readers → source < 1
-first_of_lone rest readers whole rests source below = omega (arith, below, length-map readers rest, ap length rests)
+-- what is said of any fault is said of one that is answered
+pub said_of : {T : Type 0} (result : Result T RunFault) (count : ℕ) (fault : RunFault) → IfErr result (IsOfRun count) → IsErrOf result fault → IsOfRun count fault
+said_of {T} result count fault err is = subst (λ (result : Result T RunFault). IfErr result (IsOfRun count)) is err

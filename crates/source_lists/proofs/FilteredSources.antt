@@ -1,11 +1,11 @@
 -- What is left of sources where a filter leaves samples out.
-use Rattle.std.proofs.Common.{◌≡◌, ◌∙◌, ◌<◌, ◌^◌, ℕ, true, refl, sym, ap, subst, arith, List, [], ◌∷◌, length, map, All}
+use Rattle.std.proofs.Common.{◌≡◌, ◌∙◌, ◌<◌, ◌^◌, ℕ, suc, true, refl, sym, ap, subst, arith, List, [], ◌∷◌, length, map, All}
 use Rattle.std.specs.List.{slice_get}
 use Rattle.std.specs.Prelude.{Some, option_map}
 use Rattle.std.proofs.lemmas.List.{length-map}
 use Rattle.std.proofs.lemmas.Option.{slice_get-map}
 use Rattle.std.proofs.lemmas.Simd.{map-map}
-use Rattle.std.proofs.lemmas.List.Elements.{All-map}
+use Rattle.std.proofs.lemmas.List.Elements.{All-cons, All-map, All-nil}
 use Rattle.sample_tables.specs.Samples.{total_weight}
 use Rattle.stack_core.specs.Ledgers.{ListState}
 use Rattle.stack_core.specs.Reading.{Rest, IsSourceLimited}
@@ -19,11 +19,13 @@ use Rattle.merged_stacks.specs.Merged.{all_samples}
 use Rattle.merged_stacks.specs.Timeline.{samples_of}
 use Rattle.ring_collect.specs.Collection.{AreWhole, Collects, seen_as_rest}
 use Rattle.run_options.specs.declared.formats.Format.{Format}
+use Rattle.source_lists.specs.Runs.{IsReadOut}
 use Rattle.source_lists.specs.Sources.{asked_rests, whole_rest, whole_rests, whole_weight}
 use Rattle.source_lists.specs.checked.Readers.{known, naming_rest, rows}
 use Rattle.source_lists.specs.declared.source_reader.SourceReader.{SourceReader}
 use Rattle.stack_core.specs.declared.row_samples.NamingReader.{NamingReader}
 use Rattle.source_lists.proofs.KeptLemmas.{samples_of_rests}
+use Rattle.source_lists.proofs.StrictLemmas.{behind_first, first_ending}
 
 -- the filter that asks for nothing leaves nothing out
 pub whole_is_kept : (options : Options) (inputs : List (Format × List ℕ)) → is_everything options.filter ≡ true → whole_rests options inputs ≡ asked_rests options inputs
@@ -74,3 +76,11 @@ whole_collects may_stop may_go rests lists goes whole = record {
       ∙ (sym (slice_get-map seen_as_rest lists source) ∙ (ap (λ (rests : List Rest). slice_get rests source) whole ∙ of_rests)) in
       IsCollected.Whole (λ index below. goes source index) (cc here);
 }
+
+-- what a filter keeps of a list ends as it does
+pub kept_out : (asked : Filter) (lists left : List ListState) → map seen_as_rest left ≡ map (kept_rest asked) (map seen_as_rest lists) → All IsReadOut lists → All IsReadOut left
+kept_out asked lists [] same out = All-nil IsReadOut
+kept_out asked [] (list ∷ left) same out = absurd cc
+kept_out asked (one ∷ lists) (list ∷ left) same out =
+    All-cons IsReadOut list left (λ after is. out 0 one (omega arith) after (sym (ap first_ending same) ∙ is))
+    (kept_out asked lists left (ap behind_first same) (λ k d within. out (suc k) d (omega (arith, within))))

@@ -2,8 +2,10 @@ pub mod BackLemmas
 pub mod CutLemmas
 mod FaultLemmas
 mod FilteredSources
+pub mod InputLemmas
 pub mod JoinLemmas
 mod KeptLemmas
+pub mod KnownInputs
 pub mod ListLemmas
 pub mod OrderLemmas
 pub mod PartLemmas

@@ -1,4 +1,4 @@
--- The readers of both formats may go to other threads.
+-- The readers of inputs may go to other threads.
 use denote.Param.Send.{AllSend, IsSend, IsSync, owning_send, recorded_send, sendable, struct_send, view_send}
 use denote.Struct.Declared.{shape}
 use Rattle.std.proofs.Common.{drop}
@@ -7,6 +7,7 @@ use Rattle.std.proofs.MapsCrossing as maps
 use Rattle.std.proofs.Crossing as crossing
 use Rattle.bytes.proofs.Crosses.{block-send, block-sync, seen_owns-keyless}
 use Rattle.bytes.specs.contracts.block.Seen as seen
+use Rattle.byte_io.proofs.StoredThreads.{range_send}
 use Rattle.stack_core.specs.contracts.row_samples.RowSamples as samples
 use Rattle.stack_core.specs.contracts.row_samples.RowSamples.TheInside as samples_inside
 use Rattle.stack_core.specs.contracts.source_bytes.SourceBytes as source_bytes
@@ -26,6 +27,7 @@ use Rattle.profile_tables.specs.contracts.row_reader.PprofRows as pprof
 use Rattle.profile_tables.specs.contracts.row_reader.PprofRows.TheInside as pprof_inside
 use Rattle.sample_tables.specs.contracts.values.Names as names
 use Rattle.run_options.specs.contracts.filters.Filter as filter
+use Rattle.source_lists.specs.contracts.input_readers.InputReader as input
 use Rattle.source_lists.specs.contracts.source_reader.SourceReader as source
 
 table_send : IsSend table.the_row
@@ -46,7 +48,7 @@ bytes_send = search (view_send, sendable, crosses, crossing.send, crossing.frees
 known_send : IsSend known.the_row
 known_send = search (sendable, crosses) depth 30
 
-telling_send : IsSend telling.the_row
+pub telling_send : IsSend telling.the_row
 telling_send = search (sendable, crosses, maps.crosses, table_send, known_send) depth 30
 
 buffer_fields_send : AllSend (shape buffer_inside.the_type).fields
@@ -55,7 +57,7 @@ buffer_fields_send = (bytes_send, (search sendable depth 20, (search sendable de
 buffer_inside_send : IsSend buffer_inside.the_row
 buffer_inside_send = recorded_send _ _ _ (buffer_inside.the_type).to_one (struct_send (shape buffer_inside.the_type) buffer_fields_send)
 
-buffer_send : IsSend buffer.the_row
+pub buffer_send : IsSend buffer.the_row
 buffer_send = search (view_send, buffer_inside_send)
 
 folded_fields_send : AllSend (shape folded_inside.the_type).fields
@@ -105,3 +107,6 @@ samples_send = search (view_send, samples_inside_send)
 
 pub source_send : IsSend (source.the_field).row
 source_send = search (sendable, folded_send, pprof_send) depth 30
+
+pub input_send : IsSend (input.the_field).row
+input_send = search (sendable, crosses, source_send, range_send, buffer_send, telling_send) depth 60 fits 30000

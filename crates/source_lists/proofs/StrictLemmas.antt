@@ -11,11 +11,11 @@ use Rattle.run_options.specs.declared.options.Options.{Options}
 use Rattle.source_lists.specs.Sources.{asked_rests}
 use Rattle.source_lists.specs.checked.StrictEndings.{EndsAs}
 
-abbrev first_ending : List Rest → SourceEnd
+abbrev pub first_ending : List Rest → SourceEnd
 first_ending [] = ends.Clean 0
 first_ending (rest ∷ rests) = rest.ending
 
-abbrev behind_first : List Rest → List Rest
+abbrev pub behind_first : List Rest → List Rest
 behind_first [] = []
 behind_first (rest ∷ rests) = rests
 

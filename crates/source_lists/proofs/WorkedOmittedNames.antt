@@ -1,6 +1,5 @@
 -- Worked stacks of which frames are left out, computed on the definitions.
 use Rattle.std.proofs.Common.{◌≡◌, ℕ, refl, List, [], ◌∷◌, None, Some, codes}
-use Rattle.sample_tables.specs.declared.samples.Sample.{Sample}
 use Rattle.stack_core.specs.Reading.{Rest}
 use Rattle.stack_core.specs.declared.endings.SourceEnd.TheVariants as ends
 use Rattle.source_lists.specs.OmittedNames.{shown_rests, stack_without}

@@ -1,5 +1,5 @@
 -- Samples of whose stacks the frames of some names are left out.
-use Rattle.std.specs.Prelude.{ℕ, Bool, List, Option, map, not}
+use Rattle.std.specs.Prelude.{ℕ, List, Option, map, not}
 use Rattle.std.specs.List.{filter, list_any}
 use Rattle.std.specs.Str.{bytes_eq}
 use Rattle.stack_core.specs.Reading.{Rest}

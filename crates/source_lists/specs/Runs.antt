@@ -1,9 +1,10 @@
 -- What is read of sources, and which gate is asked.
-use Rattle.std.specs.Prelude.{ℕ, List}
+use Rattle.std.specs.Prelude.{◌≢◌, ℕ, List}
 use Rattle.std.specs.Arc.{arc_value}
 use Rattle.stack_core.specs.Interleaving.{IsInterleaving}
 use Rattle.stack_core.specs.Ledgers.{ListState}
 use Rattle.stack_core.specs.Reading.{Rest}
+use Rattle.stack_core.specs.declared.endings.SourceEnd.TheVariants.{Stopped}
 use Rattle.merged_stacks.specs.Timeline.{samples_of}
 use Rattle.ring_collect.specs.Collection.{AreWhole, Collects}
 use Rattle.source_lists.specs.declared.gating.Gating.{Gating}
@@ -30,3 +31,7 @@ pub record ReadsLists (may_stop may_go : ℕ → ℕ → Type 0) (rests : List R
   pub collected : Collects may_stop may_go rests lists
   pub whole : ((source index : ℕ) → may_stop source index → ⊥) → AreWhole rests lists
   pub ordered : IsInterleaving order (samples_of lists)
+
+-- the list doesn't end before its source does
+abbrev pub IsReadOut : ListState → Type 0
+IsReadOut list = (after : ℕ) → list.ending ≢ Stopped after

@@ -1,7 +1,5 @@
 -- What the bytes of sources stand for.
-use Rattle.std.specs.Prelude.{ℕ, List, Vec, map}
-use Rattle.std.specs.Global.{Global}
-use Rattle.std.specs.List.{concat}
+use Rattle.std.specs.Prelude.{ℕ, List, [], ◌∷◌, Option, Some, map, option_and_then, option_map}
 use Rattle.stack_core.specs.Reading.{Rest}
 use Rattle.folded_lines.specs.Reading.{read_folded}
 use Rattle.run_options.specs.declared.choices.Pick.{Pick}
@@ -15,13 +13,27 @@ use Rattle.run_options.specs.declared.options.Options.{Options}
 use Rattle.sample_tables.specs.Samples.{total_weight}
 use Rattle.merged_stacks.specs.Merged.{all_samples}
 
--- the bytes that come in pieces, one piece after another
-abbrev pub joined_pieces : List (Vec ℕ Global) → List ℕ
-joined_pieces pieces = concat (map (λ piece. piece.items) pieces)
-
 -- a source, by its format and its bytes
 abbrev pub format_and_bytes : Source → Format × List ℕ
 format_and_bytes source = (source.format, source.bytes.items)
+
+-- what is known of it: the format and the bytes
+abbrev pub known_source : Source → Format × Option (List ℕ)
+known_source source = (source.format, Some source.bytes.items)
+
+-- what is found for each of a list, in order, if something is found for all
+abbrev pub all_found : {A B : Type 0} → (A → Option B) → List A → Option (List B)
+all_found find [] = Some []
+all_found find (x ∷ xs) =
+    option_and_then (λ found. option_map (λ more. found ∷ more) (all_found find xs)) (find x)
+
+-- the format and the bytes of an input, where the bytes are known
+abbrev pub known_input : Format × Option (List ℕ) → Option (Format × List ℕ)
+known_input input = option_map (λ bytes. (input.0, bytes)) input.1
+
+-- the same of all inputs, where the bytes of all are known
+abbrev pub known_inputs : List (Format × Option (List ℕ)) → Option (List (Format × List ℕ))
+known_inputs inputs = all_found known_input inputs
 
 -- the samples and the ending for which bytes of a format stand
 abbrev pub read_bytes : Format → List ℕ → Pick → Naming → Rest

@@ -1,84 +1,81 @@
-//! What a run reads: sources as they were loaded.
+//! What a run reads: sources whose bytes are there, and texts that are read where they are stored.
 
-ghost use Rattle.std.specs.Prelude.{◌≡◌, ◌<◌, IfOk, map};
+ghost use Rattle.std.specs.Prelude.{◌≡◌, ◌+◌, IfErr, IfOk, IfSome, length, map, take};
 ghost use Rattle.run_options.specs.declared.formats.Format.TheVariants.{Folded as IsFolded};
-ghost use Rattle.source_lists.specs.Sources.{format_and_bytes, joined_pieces};
-ghost use Rattle.source_lists.specs.checked.Inputs.{IsCut, seen_content};
+ghost use Rattle.source_lists.specs.Sources.{known_input, known_inputs, known_source};
+ghost use Rattle.source_lists.specs.checked.Inputs.{seen_content};
+ghost use Rattle.source_lists.specs.checked.OpenRuns.{IsOfRun};
 
+use crate::loaded_sources::LoadedSource;
+use crate::run_faults::RunFault;
 use crate::sources::Source;
-use bytes::Bytes;
-use folded_lines::cut_pieces;
+use byte_io::{LoadFault, StoredText, load};
 use run_options::Format;
 use std::alloc::{AllocError, Global};
 use std::marker::Model;
 
-/// The bytes of a source, by their form.
+/// The bytes of a source.
 #[derive(Drop)]
 pub(crate) enum Content {
-    /// Folded text in parts, each of which but the last is whole lines.
-    Text(Vec<Bytes>),
-    /// A profile.
-    Profile(Bytes),
+    /// They are all there.
+    Loaded(LoadedSource),
+    /// Folded text.
+    Stored(StoredText),
 }
 
-/// A source that can be read. Contracts see its format and all its bytes, however they came.
+/// A source that can be read. Contracts see its format, and all its bytes where they are known.
 #[derive(Drop)]
 pub struct Input {
     content: Content,
 }
 
 impl Model for Input {
-    ghost use Rattle.std.specs.Prelude.{ℕ, List};
+    ghost use Rattle.std.specs.Prelude.{ℕ, List, Option};
     ghost use Rattle.run_options.specs.declared.formats.Format.{Format as SourceFormat};
 
-    ghost Value = { SourceFormat × List ℕ };
+    ghost Value = { SourceFormat × Option (List ℕ) };
 
-    ghost use Rattle.source_lists.specs.checked.Inputs.{IsCut, seen_content};
+    ghost use Rattle.source_lists.specs.checked.Inputs.{seen_content};
 
     ghost view = { λ input. seen_content input.content };
-
-    ghost invariant = { λ input. IsCut input.content };
 }
 
 impl Input {
     /// A source whose bytes are all there. They are not copied.
-    pub fn of(alloc: Global, source: Source) -> Result<Input, AllocError>
-        ensures { IfOk result (λ input. input ≡ format_and_bytes source) }
+    pub fn of(source: Source) -> Result<Input, AllocError>
+        ensures { IfOk result (λ input. input ≡ known_source source) }
     {
-        let bytes = Bytes::from_vec(source.bytes).map_err(|_| AllocError)?;
-        let content = match source.format {
-            Format::Folded => Content::Text(vec![in alloc; bytes]?),
-            Format::Pprof => Content::Profile(bytes),
-        };
+        let content = Content::Loaded(LoadedSource::of(source)?);
         Ok(Input { content })
     }
 
-    /// Folded text that comes in pieces, one after another. A piece is not copied, but for its first line.
-    pub fn of_text(alloc: Global, pieces: Vec<Vec<u8>>) -> Result<Input, AllocError>
-        ensures { IfOk result (λ input. input ≡ (IsFolded, joined_pieces pieces.items)) }
+    /// Folded text that is read where it is stored.
+    pub fn stored(text: StoredText) -> Input
+        ensures { result ≡ (IsFolded, text) }
     {
-        let content = Content::Text(cut_pieces(alloc, pieces)?);
-        Ok(Input { content })
+        Input {
+            content: Content::Stored(text),
+        }
     }
 
     /// All sources, in their order.
     pub fn all_of(alloc: Global, sources: Vec<Source>) -> Result<Vec<Input>, AllocError>
-        ensures { IfOk result (λ inputs. inputs.items ≡ map format_and_bytes sources.items) }
+        ensures { IfOk result (λ inputs. inputs.items ≡ map known_source sources.items) }
     {
         let mut inputs = Vec::with_capacity(alloc, sources.len())?;
         for source in sources {
-            inputs.push(Input::of(alloc, source)?)?;
+            inputs.push(Input::of(source)?)?;
         }
         Ok(inputs)
     }
 
     /// The same source, with the same bytes. They are not copied.
-    pub fn share(&self, alloc: Global) -> Result<Input, AllocError>
+    pub fn share(&self) -> Result<Input, AllocError>
         ensures { IfOk result (λ input. input ≡ self.now) }
     {
         let content = match &self.content {
-            Content::Text(parts) => Content::Text(shared(alloc, parts.as_slice())?),
-            Content::Profile(bytes) => Content::Profile(bytes.clone()?),
+            Content::Loaded(source) => Content::Loaded(source.share()?),
+            Content::Stored(text) => Content::Stored(text.share()?),
         };
         Ok(Input { content })
     }
@@ -89,32 +86,86 @@ impl Input {
     {
         let mut shared = Vec::with_capacity(alloc, inputs.len())?;
         for input in inputs {
-            shared.push(input.share(alloc)?)?;
+            shared.push(input.share()?)?;
         }
         Ok(shared)
     }
 
+    /// The first bytes, at most so many. None where they can't be read.
+    pub fn front(&self, alloc: Global, count: usize) -> Option<Vec<u8>>
+        ensures { IfSome result (λ front. IfSome self.now.1 (λ all. front.items ≡ take count all)) }
+    {
+        match &self.content {
+            Content::Loaded(source) => front_of(alloc, source.bytes().as_slice(), count),
+            Content::Stored(text) => {
+                let mut range = text.range(0, count as u64).ok()?;
+                load(alloc, &mut range, count).ok()
+            }
+        }
+    }
+
     pub(crate) fn content(&self) -> &Content
-        ensures content { seen_content result.now ≡ self.now }
-        ensures cut { IsCut result.now }
+        ensures { seen_content result.now ≡ self.now }
     {
         &self.content
     }
 
     pub(crate) fn into_content(self) -> Content
-        ensures content { seen_content result ≡ self }
+        ensures { seen_content result ≡ self }
     {
         self.content
     }
+
+    /// The source with all bytes in memory.
+    fn load(self, alloc: Global) -> Result<LoadedSource, LoadFault>
+        ensures { IfOk result (λ source. IfSome (known_input self) (λ known. source ≡ known)) }
+    {
+        match self.content {
+            Content::Loaded(source) => Ok(source),
+            Content::Stored(text) => {
+                let bytes = text.load(alloc)?;
+                let format = Format::Folded;
+                Ok(LoadedSource::of(Source { format, bytes })?)
+            }
+        }
+    }
+    /// The same of each, in their order.
+    pub(crate) fn load_all(alloc: Global, inputs: Vec<Input>) -> Result<Vec<LoadedSource>, RunFault>
+        ensures sources { IfOk result (λ sources.
+            IfSome (known_inputs inputs.items) (λ known. sources.items ≡ known)) }
+        ensures count { IfOk result (λ sources. length sources.items ≡ length inputs.items) }
+        ensures err { IfErr result (IsOfRun (length inputs.items)) }
+    {
+        let mut sources = Vec::with_capacity(alloc, inputs.len())?;
+        for input in inputs {
+            let source = input.load_at(alloc, sources.len())?;
+            let Ok(()) = sources.push(source) else {
+                return Err(RunFault::from(AllocError));
+            };
+        }
+        Ok(sources)
+    }
+
+    /// The same of the source at a place.
+    fn load_at(self, alloc: Global, source: usize) -> Result<LoadedSource, RunFault>
+        ensures loaded { IfOk result (λ loaded. IfSome (known_input self) (λ known. loaded ≡ known)) }
+        ensures err { IfErr result (IsOfRun (source + 1)) }
+    {
+        match self.load(alloc) {
+            Ok(loaded) => Ok(loaded),
+            Err(LoadFault::OutOfMemory) => Err(RunFault::from(AllocError)),
+            Err(LoadFault::Io | LoadFault::TooLarge) => Err(RunFault::Unreadable { source }),
+        }
+    }
 }
 
-/// The parts of a text, which share its bytes.
-fn shared(alloc: Global, parts: &[Bytes]) -> Result<Vec<Bytes>, AllocError>
-    ensures { IfOk result (λ same. same.items ≡ parts.now) }
+fn front_of(alloc: Global, bytes: &[u8], count: usize) -> Option<Vec<u8>>
+    ensures { IfSome result (λ front. front.items ≡ take count bytes.now) }
 {
-    let mut same = Vec::with_capacity(alloc, parts.len())?;
-    for part in parts {
-        same.push(part.clone()?)?;
-    }
-    Ok(same)
+    let front = if bytes.len() <= count {
+        bytes
+    } else {
+        &bytes[..count]
+    };
+    Vec::from_slice(alloc, front).ok()
 }

@@ -1,12 +1,10 @@
 //! The lists of the parts of a source, put together.
 
-ghost use Rattle.std.specs.Prelude.{◌≡◌, ◌≤◌, ◌++◌, [], All, None, IfOk, IfSome, OnOk, map};
-ghost use Rattle.sample_tables.specs.Samples.{total_weight};
-ghost use Rattle.sample_tables.specs.declared.samples.TheConstants.{WEIGHT_LIMIT as MOST};
-ghost use Rattle.stack_core.specs.Parts.{IsClean, joined, samples_of_parts};
+ghost use Rattle.std.specs.Prelude.{◌≡◌, ◌++◌, [], None, IfOk, IfSome, OnOk, map};
+ghost use Rattle.stack_core.specs.Parts.{joined, samples_of_parts};
 ghost use Rattle.ring_collect.specs.Collection.{seen_as_rest};
 ghost use Rattle.source_lists.specs.checked.Joining.{AreFound, named_stacks};
-ghost use Rattle.source_lists.specs.checked.Parts.{ignored_by};
+ghost use Rattle.source_lists.specs.checked.Parts.{AreCleanParts, ignored_by};
 
 use crate::joined_names::numbers_of_names;
 use crate::joined_stacks::numbers_of_stacks;
@@ -16,9 +14,7 @@ use std::alloc::{AllocError, Global};
 
 /// How many lines the parts of a source ignored. `None` where one has a fault, or where all weigh more together than a source may.
 pub(crate) fn ignored_by_clean(parts: &[SourceList]) -> Option<u64>
-    ensures { IfSome result (λ ignored. All IsClean (map seen_as_rest parts.now)
-        × (total_weight (samples_of_parts (map seen_as_rest parts.now)) ≤ MOST)
-        × (ignored ≡ ignored_by (map seen_as_rest parts.now))) }
+    ensures { IfSome result (λ ignored. AreCleanParts (map seen_as_rest parts.now) ignored) }
 {
     let mut ignored = 0u64;
     let mut weight = 0u128;

@@ -1,56 +1,80 @@
-//! A source that comes alone, read in parts at the same time.
+//! The parts of a source that comes alone, read at the same time.
 
-ghost use Rattle.std.specs.Prelude.{◌≡◌, ◌≤◌, ◌<◌, ℕ, [], ◌∷◌, All, IfOk, IfSome, IsErrOf, MatchResult, length, map};
-ghost use Rattle.stack_core.specs.Parts.{ReadsInParts};
-ghost use Rattle.stack_core.specs.Reading.{Rest};
-ghost use Rattle.ring_collect.specs.Collection.{AreWhole};
-ghost use Rattle.source_lists.specs.Sources.{whole_rest, whole_rests};
-ghost use Rattle.source_lists.specs.checked.Parts.{ArePartsOf};
-ghost use Rattle.source_lists.specs.checked.Readers.{reader_rest, reader_told};
+ghost use Rattle.std.specs.Prelude.{◌≡◌, ◌≤◌, ◌<◌, [], All, IfOk, IfSome, Some, length, map, option_map};
+ghost use Rattle.stack_core.specs.RowReading.{GivesSome};
+ghost use Rattle.folded_lines.specs.Reading.{read_folded};
+ghost use Rattle.ring_collect.specs.Collection.{AreGiven, seen_as_rest};
+ghost use Rattle.source_lists.specs.Sources.{known_input, whole_rest};
+ghost use Rattle.source_lists.specs.checked.Parts.{AreCleanParts, ArePartsOf};
 
-use crate::inputs::Input;
-use crate::part_lists::{ignored_by_clean, joined_list};
-use crate::part_readers::{part_count, part_readers};
-use crate::reader_runs::run_rows;
-use crate::source_lists::SourceLists;
-use crate::source_reader::SourceReader;
-use crate::source_readers::readers_of;
+use crate::inputs::{Content, Input};
+use crate::loaded_sources::LoadedSource;
+use crate::part_lists::ignored_by_clean;
+use crate::reader_runs::run_open;
+use byte_io::StoredText;
+use folded_lines::{FoldedRows, FoldedStream};
+use profile_tables::PprofRows;
 use ring_collect::CollectFault;
-use run_options::Options;
-use stack_core::{NoSink, OpenGate, RowSink, SourceList};
+use run_options::{Format, Options};
+use stack_core::{RowReader, RowSink, SourceList};
 use std::alloc::{AllocError, Global};
-use std::sync::{Arc, Wait};
+use std::sync::Wait;
 use std::thread::Threads;
 
-/// The most readers of a run.
-const READERS: usize = 64;
+/// How many readers read the parts of a source at most. A stack that stands in all parts is told once for each.
+const READERS: u64 = 4;
 
-/// The lists of the parts of a source, which have no fault, and how many lines they ignored.
-#[derive(Drop)]
-struct CleanParts {
-    lists: Vec<SourceList>,
-    ignored: u64,
+/// How many bytes there are for each reader. For fewer a thread costs more than it brings.
+const PART_LEN: u64 = 1 << 20;
+
+/// How many readers read so many bytes that come alone.
+fn reader_count(len: u64) -> usize
+    ensures some { 0 < result }
+    ensures few { result ≤ 64 }
+{
+    (len / PART_LEN).clamp(1, READERS) as usize
 }
 
-/// Reads parts of a source at the same time, each by its reader. `None` where the source has to be read as one: where a part has a fault or
-/// all weigh too much together, so that the fault is told where it stands, and where a thread was refused.
-fn read_clean<T: Threads + Wait + Copy + Send + 'static, S: RowSink>(
+/// In how many parts a source is read where it comes alone.
+pub(crate) fn part_count(input: &Input) -> usize {
+    let len = match input.content() {
+        Content::Loaded(source) => source.bytes().len() as u64,
+        Content::Stored(text) => text.len(),
+    };
+    reader_count(len)
+}
+
+/// The lists of the parts of a source, none of which has a fault, and how many lines they ignored.
+#[derive(Drop)]
+pub(crate) struct CleanParts {
+    pub(crate) lists: Vec<SourceList>,
+    pub(crate) ignored: u64,
+}
+
+/// Reads parts of a source at the same time, each by its reader. `None` where the source has to be read as one: where a part has a fault,
+/// can't be read to its end, or all weigh too much together, so that the fault is told where it stands, and where a thread was refused.
+fn read_clean<
+    T: Threads + Wait + Copy + Send + 'static,
+    R: RowReader + Send + Drop + 'static,
+    S: RowSink,
+>(
     rt: &T,
     alloc: Global,
-    readers: Vec<SourceReader>,
+    readers: Vec<R>,
     options: &Options,
     sink: &mut S,
 ) -> Result<Option<CleanParts>, AllocError>
     requires few { length readers.items ≤ 64 }
-    requires told { All (λ reader. reader_told reader ≡ record { names = []; stacks = [] })
+    requires told { All (λ reader. R.told reader ≡ record { names = []; stacks = [] })
         readers.items }
-    ensures parts { (whole : Rest) → ReadsInParts whole (map reader_rest readers.items)
-        → IfOk result (λ found. IfSome found (λ parts.
-        ArePartsOf whole parts.lists.items parts.ignored)) }
+    requires possible { All (λ reader. GivesSome (R.gives reader)) readers.items }
+    ensures given { IfOk result (λ found. IfSome found (λ parts.
+        AreGiven (λ reader. R.gives reader) readers.items (map seen_as_rest parts.lists.items))) }
+    ensures clean { IfOk result (λ found. IfSome found (λ parts.
+        AreCleanParts (map seen_as_rest parts.lists.items) parts.ignored)) }
     ensures setting { S.setting sink.new ≡ S.setting sink.old }
 {
-    let gate = open_gate(alloc)?;
-    match run_rows(rt, alloc, readers, options.ring, gate, sink) {
+    match run_open(rt, alloc, readers, options.ring, sink) {
         Ok(run) => {
             let lists = run.lists;
             match ignored_by_clean(&lists) {
@@ -63,8 +87,51 @@ fn read_clean<T: Threads + Wait + Copy + Send + 'static, S: RowSink>(
     }
 }
 
-/// Reads a source in parts, as `read_clean` does, where there are not too many.
-fn read_parts<T: Threads + Wait + Copy + Send + 'static, S: RowSink>(
+/// The same of a source whose bytes are there.
+fn read_loaded_parts<T: Threads + Wait + Copy + Send + 'static, S: RowSink>(
+    rt: &T,
+    alloc: Global,
+    source: &LoadedSource,
+    options: &Options,
+    sink: &mut S,
+) -> Result<Option<CleanParts>, AllocError>
+    ensures parts { IfOk result (λ found. IfSome found (λ parts.
+        ArePartsOf (Some (whole_rest options.now source.now)) (map seen_as_rest parts.lists.items)
+        parts.ignored)) }
+    ensures setting { S.setting sink.new ≡ S.setting sink.old }
+{
+    let bytes = source.bytes().clone()?;
+    let count = reader_count(bytes.len() as u64);
+    match source.format() {
+        Format::Folded => {
+            let readers = FoldedRows::parts(alloc, bytes, count)?;
+            read_clean(rt, alloc, readers, options, sink)
+        }
+        Format::Pprof => {
+            let readers = PprofRows::parts(alloc, bytes, &options.pick, options.naming, count)?;
+            read_clean(rt, alloc, readers, options, sink)
+        }
+    }
+}
+
+/// The same of a stored text.
+fn read_stored_parts<T: Threads + Wait + Copy + Send + 'static, S: RowSink>(
+    rt: &T,
+    alloc: Global,
+    text: &StoredText,
+    options: &Options,
+    sink: &mut S,
+) -> Result<Option<CleanParts>, AllocError>
+    ensures parts { IfOk result (λ found. IfSome found (λ parts.
+        ArePartsOf (option_map read_folded text.now) (map seen_as_rest parts.lists.items) parts.ignored)) }
+    ensures setting { S.setting sink.new ≡ S.setting sink.old }
+{
+    let readers = FoldedStream::parts(alloc, text, reader_count(text.len()))?;
+    read_clean(rt, alloc, readers, options, sink)
+}
+
+/// The same of an input.
+pub(crate) fn read_parts<T: Threads + Wait + Copy + Send + 'static, S: RowSink>(
     rt: &T,
     alloc: Global,
     input: &Input,
@@ -72,100 +139,12 @@ fn read_parts<T: Threads + Wait + Copy + Send + 'static, S: RowSink>(
     sink: &mut S,
 ) -> Result<Option<CleanParts>, AllocError>
     ensures parts { IfOk result (λ found. IfSome found (λ parts.
-        ArePartsOf (whole_rest options.now input.now) parts.lists.items parts.ignored)) }
+        ArePartsOf (option_map (whole_rest options.now) (known_input input.now))
+        (map seen_as_rest parts.lists.items) parts.ignored)) }
     ensures setting { S.setting sink.new ≡ S.setting sink.old }
 {
-    let readers = part_readers(alloc, input, options)?;
-    if readers.len() > READERS {
-        return Ok(None);
-    }
-    read_clean(rt, alloc, readers, options, sink)
-}
-
-fn open_gate(alloc: Global) -> Result<Arc<OpenGate>, AllocError> {
-    Ok(Arc::new(alloc, OpenGate)?)
-}
-
-/// Collects all samples of the sources, each by one reader.
-fn collect_each<T: Threads + Wait + Copy + Send + 'static, S: RowSink>(
-    rt: &T,
-    alloc: Global,
-    inputs: Vec<Input>,
-    options: &Options,
-    sink: &mut S,
-) -> Result<SourceLists, CollectFault>
-    requires { length inputs.items ≤ 64 }
-    ensures whole { IfOk result (λ run. AreWhole (whole_rests options.now inputs.items) run.lists) }
-    ensures refused { (source : ℕ) → IsErrOf result (CollectFault.Unfinished source)
-        → source < length inputs.items }
-    ensures setting { S.setting sink.new ≡ S.setting sink.old }
-{
-    let readers = readers_of(alloc, inputs, options)?;
-    let gate = open_gate(alloc)?;
-    let run = run_rows(rt, alloc, readers, options.ring, gate, sink)?;
-    Ok(SourceLists::of(run))
-}
-
-/// Collects all samples of a source, in parts if that can be.
-fn collect_in_parts<T: Threads + Wait + Copy + Send + 'static, S: RowSink>(
-    rt: &T,
-    alloc: Global,
-    input: Input,
-    options: &Options,
-    sink: &mut S,
-) -> Result<SourceLists, CollectFault>
-    ensures whole { IfOk result (λ run. AreWhole (whole_rest options.now input ∷ []) run.lists) }
-    ensures refused { (source : ℕ) → IsErrOf result (CollectFault.Unfinished source) → source < 1 }
-    ensures setting { S.setting sink.new ≡ S.setting sink.old }
-{
-    if let Some(CleanParts { lists, ignored }) = read_parts(rt, alloc, &input, options, sink)? {
-        // The bytes are given back before the lists are copied.
-        drop(input);
-        let list = joined_list(alloc, lists, ignored)?;
-        return Ok(SourceLists::of_one(alloc, list)?);
-    }
-    // The sink was fed with the parts.
-    let inputs = alone(alloc, input)?;
-    collect_each(rt, alloc, inputs, options, &mut NoSink::new())
-}
-
-fn alone(alloc: Global, input: Input) -> Result<Vec<Input>, AllocError>
-    ensures { IfOk result (λ inputs. inputs.items ≡ input ∷ []) }
-{
-    Ok(vec![in alloc; input]?)
-}
-
-/// The one source, if it is read in several parts.
-fn one_long(inputs: Vec<Input>) -> Result<Input, Vec<Input>>
-    ensures { MatchResult result (λ input. inputs.items ≡ input ∷ []) (λ same. same ≡ inputs) }
-{
-    match inputs.as_slice() {
-        [input] if part_count(input) > 1 => {}
-        _ => return Err(inputs),
-    }
-    let mut inputs = inputs;
-    match inputs.pop() {
-        Some(input) => Ok(input),
-        None => Err(inputs),
-    }
-}
-
-/// Collects all samples of the sources, whatever the filter.
-pub(crate) fn collect_all<T: Threads + Wait + Copy + Send + 'static, S: RowSink>(
-    rt: &T,
-    alloc: Global,
-    inputs: Vec<Input>,
-    options: &Options,
-    sink: &mut S,
-) -> Result<SourceLists, CollectFault>
-    requires { length inputs.items ≤ 64 }
-    ensures whole { IfOk result (λ run. AreWhole (whole_rests options.now inputs.items) run.lists) }
-    ensures refused { (source : ℕ) → IsErrOf result (CollectFault.Unfinished source)
-        → source < length inputs.items }
-    ensures setting { S.setting sink.new ≡ S.setting sink.old }
-{
-    match one_long(inputs) {
-        Ok(input) => collect_in_parts(rt, alloc, input, options, sink),
-        Err(inputs) => collect_each(rt, alloc, inputs, options, sink),
+    match input.content() {
+        Content::Loaded(source) => read_loaded_parts(rt, alloc, source, options, sink),
+        Content::Stored(text) => read_stored_parts(rt, alloc, text, options, sink),
     }
 }

@@ -1,9 +1,14 @@
 //! Readers that are run in threads. Each run stands alone, since that a reader may go to another thread is found where there is
 //! little else to look through.
 
-ghost use Rattle.std.specs.Prelude.{◌≡◌, ◌≤◌, ◌<◌, ℕ, [], All, IfOk, IsErrOf, length, map};
+ghost use Rattle.std.specs.Prelude.{◌≡◌, ◌≤◌, [], All, IfErr, IfOk, length, map};
 ghost use Rattle.std.specs.Arc.{arc_value};
+ghost use Rattle.stack_core.specs.Interleaving.{IsInterleaving};
+ghost use Rattle.stack_core.specs.RowReading.{GivesSome};
+ghost use Rattle.merged_stacks.specs.Timeline.{samples_of};
+ghost use Rattle.ring_collect.specs.Collection.{AreGiven, seen_as_rest};
 ghost use Rattle.source_lists.specs.Runs.{ReadsLists};
+ghost use Rattle.source_lists.specs.checked.OpenRuns.{IsOfReaders};
 ghost use Rattle.source_lists.specs.checked.Readers.{filtered_rest, reader_rest, reader_told};
 
 use crate::filtered_reader::FilteredReader;
@@ -11,12 +16,43 @@ use crate::source_reader::SourceReader;
 use crate::unkept_samples::UnkeptSamples;
 use ring_collect::{CollectFault, Collected, collect, collect_rows};
 use run_options::RingSize;
-use stack_core::{Gate, NamingReader, RowSink};
-use std::alloc::Global;
+use stack_core::{Gate, NamingReader, OpenGate, RowReader, RowSink};
+use std::alloc::{AllocError, Global};
 use std::sync::{Arc, Wait};
 use std::thread::Threads;
 
-/// Collects what the readers tell, by rows.
+fn open_gate(alloc: Global) -> Result<Arc<OpenGate>, AllocError> {
+    Ok(Arc::new(alloc, OpenGate)?)
+}
+
+/// Collects what the readers tell, by rows, where no gate is asked: each list is what its reader may give.
+pub(crate) fn run_open<
+    T: Threads + Wait + Copy + Send + 'static,
+    R: RowReader + Send + Drop + 'static,
+    S: RowSink,
+>(
+    rt: &T,
+    alloc: Global,
+    readers: Vec<R>,
+    ring: RingSize,
+    sink: &mut S,
+) -> Result<Collected, CollectFault>
+    requires few { length readers.items ≤ 64 }
+    requires told { All (λ reader. R.told reader ≡ record { names = []; stacks = [] })
+        readers.items }
+    requires possible { All (λ reader. GivesSome (R.gives reader)) readers.items }
+    ensures given { IfOk result (λ run. AreGiven (λ reader. R.gives reader) readers.items
+        (map seen_as_rest run.lists.items)) }
+    ensures ordered { IfOk result (λ run.
+        IsInterleaving run.order.items (samples_of run.lists.items)) }
+    ensures err { IfErr result (IsOfReaders (length readers.items)) }
+    ensures setting { S.setting sink.new ≡ S.setting sink.old }
+{
+    let gate = open_gate(alloc)?;
+    collect_rows(rt, alloc, readers, ring, gate, sink)
+}
+
+/// Collects what the readers tell, by rows, as far as a gate lets them.
 pub(crate) fn run_rows<
     T: Threads + Wait + Copy + Send + 'static,
     G: Gate + Send + Sync + Drop + 'static,
@@ -35,8 +71,7 @@ pub(crate) fn run_rows<
     ensures reads { IfOk result (λ run.
         ReadsLists (G.may_stop (arc_value gate)) (G.may_go (arc_value gate))
         (map reader_rest readers.items) run.lists.items run.order.items) }
-    ensures unfinished { (source : ℕ) → IsErrOf result (CollectFault.Unfinished source)
-        → source < length readers.items }
+    ensures err { IfErr result (IsOfReaders (length readers.items)) }
     ensures setting { S.setting sink.new ≡ S.setting sink.old }
 {
     collect_rows(rt, alloc, readers, ring, gate, sink)
@@ -57,8 +92,7 @@ pub(crate) fn run_filtered<
     ensures reads { IfOk result (λ run.
         ReadsLists (G.may_stop (arc_value gate)) (G.may_go (arc_value gate))
         (map filtered_rest readers.items) run.lists.items run.order.items) }
-    ensures unfinished { (source : ℕ) → IsErrOf result (CollectFault.Unfinished source)
-        → source < length readers.items }
+    ensures err { IfErr result (IsOfReaders (length readers.items)) }
 {
     collect(rt, alloc, readers, ring, gate, &mut UnkeptSamples::new())
 }

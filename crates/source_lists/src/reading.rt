@@ -1,6 +1,6 @@
 //! What is read of sources, each to its end or as far as a gate lets it.
 
-ghost use Rattle.std.specs.Prelude.{◌≡◌, ◌≤◌, ◌<◌, ℕ, Some, IfOk, IsErrOf, length, map};
+ghost use Rattle.std.specs.Prelude.{◌≡◌, ◌≤◌, ◌<◌, ℕ, All, Some, IfErr, IfOk, IfSome, IsErrOf, IsSome, length, map};
 ghost use Rattle.std.specs.Arc.{arc_value};
 ghost use Rattle.stack_core.specs.Interleaving.{IsInterleaving};
 ghost use Rattle.merged_stacks.specs.Merged.{all_samples};
@@ -8,13 +8,16 @@ ghost use Rattle.merged_stacks.specs.Timeline.{samples_of, total_weight};
 ghost use Rattle.ring_collect.specs.Collection.{seen_as_rest};
 ghost use Rattle.run_options.specs.Filters.{kept_rest};
 ghost use Rattle.source_lists.specs.Lists.{AreLimited};
-ghost use Rattle.source_lists.specs.Runs.{IsOpen, MayGo, MayStop, ReadsLists};
-ghost use Rattle.source_lists.specs.Sources.{asked_rests, whole_weight};
+ghost use Rattle.source_lists.specs.Runs.{IsOpen, IsReadOut, MayGo, MayStop, ReadsLists};
+ghost use Rattle.source_lists.specs.Sources.{asked_rests, known_inputs, whole_weight};
+ghost use Rattle.source_lists.specs.checked.OpenRuns.{IsOfReaders, IsOfRun};
 
 use crate::gating::Gating;
 use crate::inputs::Input;
-use crate::part_runs::collect_all;
+use crate::loaded_sources::LoadedSource;
+use crate::open_runs::collect_all;
 use crate::reader_runs::{run_filtered, run_rows};
+use crate::run_faults::RunFault;
 use crate::source_lists::SourceLists;
 use crate::source_readers::{filtered_readers_of, readers_of};
 use ring_collect::{CollectFault, Collected};
@@ -42,25 +45,24 @@ fn collect_asked<
 >(
     rt: &T,
     alloc: Global,
-    inputs: Vec<Input>,
+    sources: Vec<LoadedSource>,
     options: &Options,
     gate: Arc<G>,
     sink: &mut S,
 ) -> Result<Collected, CollectFault>
-    requires { length inputs.items ≤ 64 }
+    requires { length sources.items ≤ 64 }
     ensures reads { IfOk result (λ run.
         ReadsLists (G.may_stop (arc_value gate)) (G.may_go (arc_value gate))
-        (asked_rests options.now inputs.items) run.lists.items run.order.items) }
+        (asked_rests options.now sources.items) run.lists.items run.order.items) }
     ensures limits { IfOk result (λ run. AreLimited run.lists.items) }
-    ensures unfinished { (source : ℕ) → IsErrOf result (CollectFault.Unfinished source)
-        → source < length inputs.items }
+    ensures err { IfErr result (IsOfReaders (length sources.items)) }
     ensures setting { S.setting sink.new ≡ S.setting sink.old }
 {
     if options.filter.is_everything() {
-        let readers = readers_of(alloc, inputs, options)?;
+        let readers = readers_of(alloc, sources, options)?;
         run_rows(rt, alloc, readers, options.ring, gate, sink)
     } else {
-        let readers = filtered_readers_of(alloc, inputs, options)?;
+        let readers = filtered_readers_of(alloc, sources, options)?;
         run_filtered(rt, alloc, readers, options.ring, gate)
     }
 }
@@ -85,23 +87,62 @@ fn read_open<T: Threads + Wait + Copy + Send + 'static, S: RowSink>(
     inputs: Vec<Input>,
     options: &Options,
     sink: &mut S,
-) -> Result<Run, CollectFault>
+) -> Result<Run, RunFault>
     requires { length inputs.items ≤ 64 }
-    ensures reads { IfOk result (λ run. ReadsLists (λ _ _. ⊥) (λ _ _. Unit {0})
-        (asked_rests options.now inputs.items) run.kept.lists run.kept.order) }
-    ensures weight { IfOk result (λ run.
-        run.whole_weight ≡ Some (whole_weight options.now inputs.items)) }
-    ensures refused { (source : ℕ) → IsErrOf result (CollectFault.Unfinished source)
-        → source < length inputs.items }
+    ensures reads { IfOk result (λ run. IfSome (known_inputs inputs.items) (λ sources.
+        ReadsLists (λ _ _. ⊥) (λ _ _. Unit {0}) (asked_rests options.now sources)
+        run.kept.lists run.kept.order)) }
+    ensures weight { IfOk result (λ run. IfSome (known_inputs inputs.items) (λ sources.
+        run.whole_weight ≡ Some (whole_weight options.now sources))) }
+    ensures weighed { IfOk result (λ run. IsSome run.whole_weight) }
+    ensures count { IfOk result (λ run. length run.kept.lists ≡ length inputs.items) }
+    ensures ordered { IfOk result (λ run.
+        IsInterleaving run.kept.order (samples_of run.kept.lists)) }
+    ensures unstopped { IfOk result (λ run. All IsReadOut run.kept.lists) }
+    ensures err { IfErr result (IsOfRun (length inputs.items)) }
     ensures setting { S.setting sink.new ≡ S.setting sink.old }
 {
     let whole = collect_all(rt, alloc, inputs, options, sink)?;
     Ok(kept_run(alloc, whole, options)?)
 }
 
+/// Reads sources as far as a gate lets them. Texts are loaded before.
+fn read_asked<
+    T: Threads + Wait + Copy + Send + 'static,
+    G: Gate + Send + Sync + Drop + 'static,
+    S: RowSink,
+>(
+    rt: &T,
+    alloc: Global,
+    inputs: Vec<Input>,
+    options: &Options,
+    gate: Arc<G>,
+    sink: &mut S,
+) -> Result<Run, RunFault>
+    requires { length inputs.items ≤ 64 }
+    ensures reads { IfOk result (λ run. IfSome (known_inputs inputs.items) (λ sources.
+        ReadsLists (G.may_stop (arc_value gate)) (G.may_go (arc_value gate))
+        (asked_rests options.now sources) run.kept.lists run.kept.order)) }
+    ensures count { IfOk result (λ run. length run.kept.lists ≡ length inputs.items) }
+    ensures ordered { IfOk result (λ run.
+        IsInterleaving run.kept.order (samples_of run.kept.lists)) }
+    ensures err { IfErr result (IsOfRun (length inputs.items)) }
+    ensures setting { S.setting sink.new ≡ S.setting sink.old }
+{
+    let sources = Input::load_all(alloc, inputs)?;
+    let kept = SourceLists::of(collect_asked(rt, alloc, sources, options, gate, sink)?);
+    Ok(Run {
+        kept,
+        whole_weight: None,
+    })
+}
+
 /// Reads and collects sources at the same time, each in a thread of its own and through a ring of its own: the lists of the samples that
 /// the filter of the options keeps, and the order in which they came. A stack that comes again costs twelve bytes, and four for the
 /// order. At most 64 sources. A long source that comes alone is read in parts at the same time, if no gate is asked.
+///
+/// A stored text is read where it is, and never all of it at once. One that can't be read to its end is a fault, and nothing is told of the
+/// others: no list ends before its source does unless a gate stopped it.
 ///
 /// A gate is asked before each sample of a source that the filter keeps. Where it says Stop, the source's list has the samples before,
 /// and the ending `Stopped`. Without a gate all samples are collected by rows, whatever the filter, and then each name and each stack of
@@ -120,29 +161,33 @@ pub fn read<
     options: &Options,
     gating: Gating<G>,
     sink: &mut S,
-) -> Result<Run, CollectFault>
+) -> Result<Run, RunFault>
     requires { length inputs.items ≤ 64 }
 
-    // Each list is the samples that the source's bytes stand for, as the options ask for them: all of them, or the first ones where the
-    // gate stopped the source. The order is one of the lists.
-    ensures reads { IfOk result (λ run.
+    // Each list is the samples that the source's bytes stand for, where those are known, as the options ask for them: all of them, or the
+    // first ones where the gate stopped the source. The order is one of the lists.
+    ensures reads { IfOk result (λ run. IfSome (known_inputs inputs.items) (λ sources.
         ReadsLists (MayStop G.may_stop gating) (MayGo G.may_go gating)
-        (asked_rests options.now inputs.items) run.kept.lists run.kept.order) }
-    ensures weight { IsOpen gating → IfOk result (λ run.
-        run.whole_weight ≡ Some (whole_weight options.now inputs.items)) }
+        (asked_rests options.now sources) run.kept.lists run.kept.order)) }
+    ensures weight { IsOpen gating → IfOk result (λ run. IfSome (known_inputs inputs.items)
+        (λ sources. run.whole_weight ≡ Some (whole_weight options.now sources))) }
 
-    ensures refused { (source : ℕ) → IsErrOf result (CollectFault.Unfinished source)
+    // Also where bytes are not known.
+    ensures weighed { IsOpen gating → IfOk result (λ run. IsSome run.whole_weight) }
+    ensures count { IfOk result (λ run. length run.kept.lists ≡ length inputs.items) }
+    ensures ordered { IfOk result (λ run.
+        IsInterleaving run.kept.order (samples_of run.kept.lists)) }
+    ensures unstopped { IsOpen gating → IfOk result (λ run. All IsReadOut run.kept.lists) }
+
+    ensures refused { (source : ℕ)
+        → IsErrOf result (RunFault.Collect (CollectFault.Unfinished source))
+        → source < length inputs.items }
+    ensures unreadable { (source : ℕ) → IsErrOf result (RunFault.Unreadable source)
         → source < length inputs.items }
     ensures setting { S.setting sink.new ≡ S.setting sink.old }
 {
     match gating {
         Gating::Open => read_open(rt, alloc, inputs, options, sink),
-        Gating::Asked(gate) => {
-            let kept = SourceLists::of(collect_asked(rt, alloc, inputs, options, gate, sink)?);
-            Ok(Run {
-                kept,
-                whole_weight: None,
-            })
-        }
+        Gating::Asked(gate) => read_asked(rt, alloc, inputs, options, gate, sink),
     }
 }

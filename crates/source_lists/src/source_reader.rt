@@ -1,19 +1,17 @@
 //! The readers of all formats as one type.
 
 ghost use Rattle.std.specs.Prelude.{◌≡◌, [], IfOk, refl};
-ghost use Rattle.std.specs.List.{concat};
 ghost use Rattle.stack_core.specs.Reading.{IsSourceLimited};
 ghost use Rattle.source_lists.specs.Sources.{whole_rest};
 
-use crate::inputs::{Content, Input};
-use bytes::Bytes;
+use crate::loaded_sources::LoadedSource;
 use folded_lines::FoldedRows;
 use profile_tables::PprofRows;
-use run_options::Options;
+use run_options::{Format, Options};
 use stack_core::{KnownRows, RowReader, RowStep};
 use std::alloc::{AllocError, Global};
 
-/// The reader of a source.
+/// The reader of a source whose bytes are all there.
 #[derive(Drop)]
 pub(crate) enum SourceReader {
     Folded(FoldedRows),
@@ -26,47 +24,26 @@ impl SourceReader {
     /// A reader of the source from its beginning, which has told nothing.
     pub(crate) fn over(
         alloc: Global,
-        input: Input,
+        source: LoadedSource,
         options: &Options,
     ) -> Result<SourceReader, AllocError>
         ensures rest { IfOk result (λ reader.
-            reader_rest reader ≡ whole_rest options.now input) }
+            reader_rest reader ≡ whole_rest options.now source) }
         ensures told { IfOk result (λ reader. reader_told reader ≡ record { names = []; stacks = [] }) }
-        ensures limits { IsSourceLimited (whole_rest options.now input).samples }
+        ensures limits { IsSourceLimited (whole_rest options.now source).samples }
     {
-        match input.into_content() {
-            Content::Text(parts) => {
-                let text = whole_text(alloc, parts)?;
-                Ok(SourceReader::Folded(FoldedRows::over_shared(alloc, text)))
+        match source.format() {
+            Format::Folded => {
+                let reader = FoldedRows::over_shared(alloc, source.into_bytes());
+                Ok(SourceReader::Folded(reader))
             }
-            Content::Profile(bytes) => {
+            Format::Pprof => {
                 let pick = options.pick.copy(alloc)?;
-                let reader = PprofRows::over_shared(bytes, pick, options.naming);
+                let reader = PprofRows::over_shared(source.into_bytes(), pick, options.naming);
                 Ok(SourceReader::Pprof(reader))
             }
         }
     }
-}
-
-/// The parts of a text as one.
-fn whole_text(alloc: Global, parts: Vec<Bytes>) -> Result<Bytes, AllocError>
-    ensures { IfOk result (λ text. text ≡ concat parts.items) }
-{
-    match parts.as_slice() {
-        [text] => text.clone(),
-        _ => joined_text(alloc, parts),
-    }
-}
-
-/// The same of several parts. Each is given back as soon as it is copied.
-fn joined_text(alloc: Global, parts: Vec<Bytes>) -> Result<Bytes, AllocError>
-    ensures { IfOk result (λ text. text ≡ concat parts.items) }
-{
-    let mut text = Vec::new(alloc);
-    for part in parts {
-        text.extend_from_slice(&part)?;
-    }
-    Ok(Bytes::from_vec(text)?)
 }
 
 impl RowReader for SourceReader {

@@ -1,12 +1,14 @@
 //! The sample types whose values are the weights of sources.
 
-ghost use Rattle.std.specs.Prelude.{◌≡◌, IfOk};
+ghost use Rattle.std.specs.Prelude.{◌≡◌, IfOk, IfSome};
 ghost use Rattle.run_options.specs.declared.formats.Format.TheVariants.{Pprof as IsPprof};
+ghost use Rattle.source_lists.specs.Sources.{known_input, known_inputs};
 ghost use Rattle.source_lists.specs.Types.{input_type, no_type, type_of_bytes, types_of};
 
 use crate::inputs::{Content, Input};
+use crate::loaded_sources::LoadedSource;
 use profile_messages::{SampleType, TableFault, chosen_type};
-use run_options::{Options, Pick};
+use run_options::{Format, Options, Pick};
 use stack_core::Text;
 use std::alloc::{AllocError, Global};
 
@@ -31,13 +33,27 @@ fn type_of_profile(alloc: Global, bytes: &[u8], pick: &Pick) -> Result<SampleTyp
     }
 }
 
+fn type_of_source(
+    alloc: Global,
+    source: &LoadedSource,
+    pick: &Pick,
+) -> Result<SampleType, AllocError>
+    ensures { IfOk result (λ found. found ≡ type_of_bytes source.now.0 source.now.1 pick.now) }
+{
+    match source.format() {
+        Format::Folded => Ok(no_type(alloc)),
+        Format::Pprof => type_of_profile(alloc, source.bytes().as_slice(), pick),
+    }
+}
+
 /// The sample type of a source's weights.
 fn type_of_input(alloc: Global, input: &Input, options: &Options) -> Result<SampleType, AllocError>
-    ensures { IfOk result (λ found. found ≡ input_type options.now input.now) }
+    ensures { IfOk result (λ found. IfSome (known_input input.now) (λ source.
+        found ≡ input_type options.now source)) }
 {
     match input.content() {
-        Content::Text(_) => Ok(no_type(alloc)),
-        Content::Profile(bytes) => type_of_profile(alloc, bytes.as_slice(), &options.pick),
+        Content::Loaded(source) => type_of_source(alloc, source, &options.pick),
+        Content::Stored(_) => Ok(no_type(alloc)),
     }
 }
 
@@ -49,7 +65,8 @@ pub fn chosen_types(
     inputs: &[Input],
     options: &Options,
 ) -> Result<Vec<SampleType>, AllocError>
-    ensures { IfOk result (λ types. types.items ≡ types_of options.now inputs.now) }
+    ensures { IfOk result (λ types. IfSome (known_inputs inputs.now) (λ sources.
+        types.items ≡ types_of options.now sources)) }
 {
     let mut types = Vec::with_capacity(alloc, inputs.len())?;
     for input in inputs {

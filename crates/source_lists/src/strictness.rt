@@ -1,6 +1,6 @@
 //! What is wrong with sources that are read strictly.
 
-ghost use Rattle.std.specs.Prelude.{◌≡◌, IfOk, is_some, length, map, slice_get};
+ghost use Rattle.std.specs.Prelude.{◌≡◌, IfOk, IfSome, is_some, length, map, slice_get};
 ghost use Rattle.wire_fields.specs.Field.{seen_field};
 ghost use Rattle.profile_messages.specs.Message.{content_of};
 ghost use Rattle.profile_messages.specs.Tables.{samples_of};
@@ -9,12 +9,15 @@ ghost use Rattle.ring_collect.specs.Collection.{AreWhole};
 ghost use Rattle.run_options.specs.declared.choices.Naming.{Naming as NamingOf};
 ghost use Rattle.run_options.specs.declared.choices.Pick.{Pick as PickOf};
 ghost use Rattle.run_options.specs.declared.options.Options.{Options};
-ghost use Rattle.source_lists.specs.Sources.{asked_rests, whole_rest};
+ghost use Rattle.source_lists.specs.Sources.{asked_rests, known_inputs, whole_rest};
 ghost use Rattle.source_lists.specs.Strictness.{fault_of_rest, source_fault};
 ghost use Rattle.source_lists.specs.checked.StrictEndings.{has_some, EndsAs};
 
-use crate::inputs::{Content, Input};
+use crate::inputs::Input;
+use crate::loaded_sources::LoadedSource;
+use crate::run_faults::RunFault;
 use folded_lines::{StrictFault, StrictKind, strict_fault};
+use run_options::Format;
 use stack_core::{SourceEnd, SourceList};
 use std::alloc::{AllocError, Global};
 use wire_fields::{Field, FieldValue, Fields};
@@ -63,45 +66,53 @@ fn fault_of_profile(profile: &[u8], ending: &SourceEnd) -> Option<StrictFault>
 }
 
 /// What is wrong with a source that reads to this ending.
-fn fault_of(input: &Input, ending: &SourceEnd) -> Result<Option<StrictFault>, AllocError>
-    ensures { (options : Options) → ending.now ≡ (whole_rest options input.now).ending
-        → IfOk result (λ fault. fault ≡ source_fault options input.now) }
+fn fault_of(source: &LoadedSource, ending: &SourceEnd) -> Option<StrictFault>
+    ensures { (options : Options) → ending.now ≡ (whole_rest options source.now).ending
+        → result ≡ source_fault options source.now }
 {
-    match input.content() {
-        Content::Text(parts) => strict_fault(parts.as_slice(), ending),
-        Content::Profile(bytes) => Ok(fault_of_profile(bytes.as_slice(), ending)),
+    let bytes = source.bytes().as_slice();
+    match source.format() {
+        Format::Folded => strict_fault(bytes, ending),
+        Format::Pprof => fault_of_profile(bytes, ending),
     }
 }
 
-fn fault_at(
-    input: &Input,
-    lists: &[SourceList],
-    at: usize,
-) -> Result<Option<StrictFault>, AllocError>
-    ensures { (options : Options) → EndsAs options input.now (slice_get lists.now at)
-        → IfOk result (λ fault. fault ≡ source_fault options input.now) }
+fn fault_at(source: &LoadedSource, lists: &[SourceList], at: usize) -> Option<StrictFault>
+    ensures { (options : Options) → EndsAs options source.now (slice_get lists.now at)
+        → result ≡ source_fault options source.now }
 {
     match lists.get(at) {
-        Some(list) => fault_of(input, list.ending()),
-        None => Ok(None),
+        Some(list) => fault_of(source, list.ending()),
+        None => None,
     }
+}
+
+fn faults_of(
+    alloc: Global,
+    sources: &[LoadedSource],
+    lists: &[SourceList],
+) -> Result<Vec<Option<StrictFault>>, AllocError>
+    ensures { (options : Options) → AreWhole (asked_rests options sources.now) lists.now
+        → IfOk result (λ faults. faults.items ≡ map (source_fault options) sources.now) }
+{
+    let mut faults = Vec::with_capacity(alloc, sources.len())?;
+    for source in sources {
+        faults.push(fault_at(source, lists, faults.len()))?;
+    }
+    Ok(faults)
 }
 
 /// What is wrong with each source where it is read strictly, if anything is, by what was read of it: that a line is ignored, that there is no
-/// sample, or its fault, whichever comes first. What a filter leaves out counts as a sample. It fails for want of memory, and where a text
-/// has more lines than 64 bits can count.
+/// sample, or its fault, whichever comes first. What a filter leaves out counts as a sample. A stored text is loaded for it.
 pub fn strict_faults(
     alloc: Global,
     inputs: &[Input],
     lists: &[SourceList],
-) -> Result<Vec<Option<StrictFault>>, AllocError>
-    ensures { (options : Options) → AreWhole (asked_rests options inputs.now) lists.now
-        → IfOk result (λ faults. faults.items ≡ map (source_fault options) inputs.now) }
+) -> Result<Vec<Option<StrictFault>>, RunFault>
+    ensures { IfSome (known_inputs inputs.now) (λ sources. (options : Options)
+        → AreWhole (asked_rests options sources) lists.now
+        → IfOk result (λ faults. faults.items ≡ map (source_fault options) sources)) }
 {
-    let mut faults = Vec::with_capacity(alloc, inputs.len())?;
-    for input in inputs {
-        let fault = fault_at(input, lists, faults.len())?;
-        faults.push(fault)?;
-    }
-    Ok(faults)
+    let sources = Input::load_all(alloc, Input::share_all(alloc, inputs)?)?;
+    Ok(faults_of(alloc, &sources, lists)?)
 }

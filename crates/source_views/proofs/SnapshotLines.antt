@@ -1,5 +1,5 @@
 -- The lines of snapshots one after another, as the samples come.
-use Rattle.std.proofs.Common.{◌≡◌, ◌∙◌, ◌+◌, ◌-◌, ◌*◌, ◌<◌, ◌≤◌, ◌++◌, ◌∷◌, [], ℕ, suc, zero, List, append-nil, append_assoc, ap, arith, cond, get_or, length, refl, replicate, set, sym, subst, take, drop, take-append-drop, map, All}
+use Rattle.std.proofs.Common.{◌≡◌, ◌∙◌, ◌+◌, ◌-◌, ◌*◌, ◌<◌, ◌≤◌, ◌++◌, ◌∷◌, [], ℕ, suc, zero, List, append-nil, append_assoc, ap, arith, cond, get_or, length, refl, replicate, set, sym, subst, take, drop, take-append-drop, map}
 use Rattle.std.proofs.Math.Nat.{zero-div}
 use Rattle.std.proofs.Math.Seq.{take-append_seam}
 use Rattle.std.proofs.KnownBytes.{Appends-nil, Appends-trans}

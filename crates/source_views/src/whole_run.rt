@@ -7,6 +7,7 @@ ghost use Rattle.ring_collect.specs.Collection.{Collects, AreWhole};
 ghost use Rattle.merged_stacks.specs.Timeline.{samples_of, timeline};
 ghost use Rattle.flame_layout.specs.Chart.{chart_of};
 ghost use Rattle.flame_layout.specs.Graph.{graph_of};
+ghost use Rattle.source_lists.specs.Runs.{ReadsLists};
 ghost use Rattle.source_lists.specs.Sources.{rests_of};
 ghost use Rattle.merging.specs.Snapshots.{snapshot_samples, AreSnapshots};
 ghost use Rattle.merging.specs.Sums.{all_samples, HasSumsOf};
@@ -14,7 +15,7 @@ ghost use Rattle.merging.specs.Sums.{all_samples, HasSumsOf};
 use crate::view_set::Views;
 use ring_collect::CollectFault;
 use run_options::Options;
-use source_lists::{Gating, Input, Source, read};
+use source_lists::{Gating, Input, Run, RunFault, Source, read};
 use stack_core::{Gate, NoSink};
 use std::alloc::Global;
 use std::sync::{Arc, Wait};
@@ -63,8 +64,33 @@ pub fn views<T: Threads + Wait + Copy + Send + 'static, G: Gate + Send + Sync + 
     ensures refused { (source : ℕ) → IsErrOf result (CollectFault.Unfinished source)
         → source < length sources.items }
 {
+    let run = read_loaded(rt, alloc, sources, options, gate)?;
+    Ok(Views::of(alloc, run.kept, options.every)?)
+}
+
+// The lists of sources whose bytes are all there.
+fn read_loaded<T: Threads + Wait + Copy + Send + 'static, G: Gate + Send + Sync + Drop + 'static>(
+    rt: &T,
+    alloc: Global,
+    sources: Vec<Source>,
+    options: &Options,
+    gate: Arc<G>,
+) -> Result<Run, CollectFault>
+    requires { length sources.items ≤ 64 }
+    ensures reads { IfOk result (λ run.
+        ReadsLists (G.may_stop (arc_value gate)) (G.may_go (arc_value gate))
+        (rests_of options.now sources.items) run.kept.lists run.kept.order) }
+    ensures refused { (source : ℕ) → IsErrOf result (CollectFault.Unfinished source)
+        → source < length sources.items }
+{
     let inputs = Input::all_of(alloc, sources)?;
     let gating = Gating::Asked(gate);
-    let run = read(rt, alloc, inputs, options, gating, &mut NoSink::new())?;
-    Ok(Views::of(alloc, run.kept, options.every)?)
+    match read(rt, alloc, inputs, options, gating, &mut NoSink::new()) {
+        Ok(run) => Ok(run),
+        Err(RunFault::Collect(fault)) => Err(fault),
+        // None of them is: that is told of a source that is no more than opened.
+        Err(RunFault::Unreadable { source }) => Err(CollectFault::Unfinished {
+            source: source as u32,
+        }),
+    }
 }

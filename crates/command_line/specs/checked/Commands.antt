@@ -2,7 +2,7 @@
 use Rattle.std.specs.Prelude.{codes}
 use Rattle.clap.specs.Simple.{Shape}
 use Rattle.clap.specs.Walk.{Rule}
-use Rattle.command_line.specs.CommandLine.{any_files, boxes_flag, by_option, callees_command, callers_command, chart_command, compare_command, diff_command, every_option, exact_flag, fail_over_option, focus_option, fold_command, format_option, from_option, graph_command, hide_option, json_flag, least_option, lines_flag, live_command, omit_option, one_value, output_option, page_flag, peek_command, quiet_flag, ring_option, root_below_flag, rows_option, share_flag, strict_flag, svg_flag, title_option, top_command, type_option, types_command, unit_option, width_option}
+use Rattle.command_line.specs.CommandLine.{any_files, boxes_flag, by_option, callees_command, callers_command, chart_command, compare_command, diff_command, every_option, exact_flag, fail_over_option, focus_option, fold_command, format_option, from_option, graph_command, hide_option, json_flag, least_option, lines_flag, live_command, omit_option, one_value, output_option, page_flag, peek_command, quiet_flag, ring_option, root_below_flag, rows_option, share_flag, strict_flag, svg_command, svg_flag, title_option, top_command, type_option, types_command, unit_option, width_option}
 use Rattle.command_line.specs.declared.argument_lists.Argument.{Argument}
 use Rattle.command_line.specs.declared.argument_lists.Argument.TheVariants as argument
 use Rattle.command_line.specs.declared.commands.Subcommand.{Subcommand}
@@ -48,6 +48,7 @@ abbrev pub shape_at : Subcommand → Shape
 shape_at subcommand.Fold = fold_command
 shape_at subcommand.Graph = graph_command
 shape_at subcommand.Chart = chart_command
+shape_at subcommand.Svg = svg_command
 shape_at subcommand.Live = live_command
 shape_at subcommand.Compare = compare_command
 shape_at subcommand.Top = top_command

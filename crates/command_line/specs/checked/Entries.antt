@@ -41,10 +41,10 @@ IsFlagAt id entries =
 abbrev pub compares : Text → Bool
 compares name = bytes_eq name (codes "compare") || bytes_eq name (codes "diff")
 
--- the command is `types` or `live` or shows a view, its values are read as they are meant, a comparison has two files, a page
+-- the command is `types`, `live` or `svg` or shows a view, its values are read as they are meant, a comparison has two files, a page
 -- and a picture are of a view with boxes, and `types` has one file
 pub record IsRead (name : Text) (entries : List Row) : Type 0 where
-  pub command : bytes_eq name (codes "types") ≡ false → bytes_eq name (codes "live") ≡ false → IsSome (view_of name entries)
+  pub command : bytes_eq name (codes "types") ≡ false → bytes_eq name (codes "live") ≡ false → bytes_eq name (codes "svg") ≡ false → IsSome (view_of name entries)
   pub width : IsNumberAt (codes "width") MAX_WIDTH entries
   pub ring : IsNumberAt (codes "ring") LARGEST_RING entries
   pub every : IsNumberAt (codes "every") MOST_BETWEEN_SNAPSHOTS entries

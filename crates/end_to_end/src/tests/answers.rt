@@ -132,13 +132,13 @@ fn ends_so<T: Threads + Wait + Copy + Send + 'static>(
     ends_over(rt, alloc, case, &mut files, &mut Written::nothing(alloc))
 }
 
-/// The same where a file of more than five bytes can be had in pieces of so many.
-fn ends_so_in_pieces<T: Threads + Wait + Copy + Send + 'static>(
+/// The same where a text that is a file is read as a stream.
+fn ends_so_over_streams<T: Threads + Wait + Copy + Send + 'static>(
     rt: &T,
     alloc: Global,
     case: &Case<'_>,
 ) -> Result<bool, AllocError> {
-    let mut files = only_input(alloc, case.input)?.in_pieces_of(5);
+    let mut files = only_input(alloc, case.input)?.with_stored();
     ends_over(rt, alloc, case, &mut files, &mut Written::nothing(alloc))
 }
 
@@ -148,7 +148,7 @@ fn each_ends_so<T: Threads + Wait + Copy + Send + 'static>(
     cases: &[Case<'_>],
 ) -> Result<bool, AllocError> {
     for case in cases {
-        if !ends_so(rt, alloc, case)? || !ends_so_in_pieces(rt, alloc, case)? {
+        if !ends_so(rt, alloc, case)? || !ends_so_over_streams(rt, alloc, case)? {
             return Ok(false);
         }
     }

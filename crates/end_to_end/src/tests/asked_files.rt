@@ -3,13 +3,14 @@ ghost use Rattle.std.specs.Prelude.{None};
 
 use crate::tests::answers::{Written, status_of};
 use crate::tests::holds;
-use flame_tool::{Files, LoadFault};
+use flame_tool::{Files, LoadFault, StoredText};
 use std::alloc::{AllocError, Global};
 use std::sync::Wait;
 use std::test::Fail;
 use std::thread::Threads;
 
-/// Files that note what they are asked for. All of them have the same line, but for those whose path ends in `gone`.
+/// Files that note what they are asked for. All of them have the same line, but for those whose path ends in `gone`. One whose path ends in
+/// `long` may be read as a stream.
 #[derive(Drop)]
 struct NotingFiles {
     calls: String,
@@ -54,6 +55,14 @@ impl Files for NotingFiles {
     fn prefetch(&mut self, _alloc: Global, paths: &[String]) {
         let _ = self.note_all(paths);
     }
+
+    fn stored(&mut self, alloc: Global, path: &str) -> Option<StoredText> {
+        self.note(&["stored ", path]).ok()?;
+        if !path.ends_with("long") {
+            return None;
+        }
+        StoredText::in_memory(alloc, b"a 1\n".to_vec(alloc).ok()?).ok()
+    }
 }
 
 /// A run, and what it is to ask for and to say.
@@ -71,18 +80,29 @@ const ASKING: &[Asking] = &[
     },
     Asking {
         words: &["fold", "x"],
-        calls: "next x\nnamed x\n",
+        calls: "stored x\nnamed x\n",
         err: "",
     },
     Asking {
-        words: &["fold", "x", "y", "x"],
-        calls: "next x y x\nnamed x\nnamed y\nnamed x\n",
+        words: &["fold", "x", "y.long", "x"],
+        calls: "stored x\nnamed x\nstored y.long\nstored x\nnamed x\n",
         err: "",
+    },
+    // No text is read as a stream where it is read strictly, and no profile at all.
+    Asking {
+        words: &["fold", "--strict", "x", "y.long", "x"],
+        calls: "next x y.long x\nnamed x\nnamed y.long\nnamed x\n",
+        err: "",
+    },
+    Asking {
+        words: &["fold", "--format", "pprof", "x.gone", "y.long"],
+        calls: "next x.gone y.long\nnamed x.gone\n",
+        err: "flamecollect: x.gone: cannot be read\n",
     },
     // The first that fails is blamed, and no other is asked for.
     Asking {
         words: &["fold", "x", "b.gone", "a.gone", "y"],
-        calls: "next x b.gone a.gone y\nnamed x\nnamed b.gone\n",
+        calls: "stored x\nnamed x\nstored b.gone\nnamed b.gone\n",
         err: "flamecollect: b.gone: cannot be read\n",
     },
 ];
@@ -116,7 +136,7 @@ fn each_asks_so<T: Threads + Wait + Copy + Send + 'static>(
     Ok(true)
 }
 
-// All paths are told first, and then each file is asked for in its turn.
+// Each file is asked for in its turn. Where all of them are to be loaded, all paths are told first.
 #[test]
 fn files_are_asked_for_in_order(rt: HostRuntime) -> Result<(), Fail> {
     holds(&rt, each_asks_so(&rt, rt.alloc()))

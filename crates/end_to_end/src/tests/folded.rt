@@ -108,6 +108,13 @@ const WEIGHTS: &[Case<'static>] = &[
         ..SILENT
     },
     Case {
+        words: &["graph", "x"],
+        files: &[("x", b"a 72057594037927935\nb 1\nc 1.5\n")],
+        status: 1,
+        err: "flamecollect: x: TotalTooLarge at 2\n",
+        ..SILENT
+    },
+    Case {
         words: MOST,
         files: &[("x", b"a 72057594037927935\n")],
         out: "a 4611686018427387840\n",

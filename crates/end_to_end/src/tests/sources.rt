@@ -3,9 +3,8 @@ ghost use Rattle.std.specs.Prelude.{◌≡◌, IfOk, None, length};
 
 use crate::tests::holds;
 use merging::Gathered;
-use ring_collect::CollectFault;
 use run_options::{Filter, Format, Naming, Options, Pick, RingSize};
-use source_lists::{Gating, Input, Run, Source, read};
+use source_lists::{Gating, Input, Run, RunFault, Source, read};
 use stack_core::{Names, NoSink, OpenGate, SourceList, Text};
 use std::alloc::{AllocError, Global};
 use std::sync::Wait;
@@ -20,7 +19,7 @@ fn one_input(alloc: Global, text: &[u8]) -> Result<Vec<Input>, AllocError>
         format: Format::Folded,
         bytes: text.to_vec(alloc)?,
     };
-    Ok(vec![in alloc; Input::of(alloc, source)?]?)
+    Ok(vec![in alloc; Input::of(source)?]?)
 }
 
 /// The settings of a run, in which nothing else is chosen.
@@ -42,7 +41,7 @@ fn read_text<T: Threads + Wait + Copy + Send + 'static>(
     alloc: Global,
     text: &[u8],
     options: &Options,
-) -> Result<Run, CollectFault> {
+) -> Result<Run, RunFault> {
     let inputs = one_input(alloc, text)?;
     let gating = Gating::<OpenGate>::Open;
     read(rt, alloc, inputs, options, gating, &mut NoSink::new())
@@ -58,7 +57,7 @@ fn gathers_as_on_the_page<T: Threads + Wait + Copy + Send + 'static>(
     rt: &T,
     alloc: Global,
     options: &Options,
-) -> Result<bool, CollectFault>
+) -> Result<bool, RunFault>
     requires { options.now.every ≡ None }
 {
     let run = read_text(rt, alloc, b"a;b 2\na 1\n", options)?;
@@ -99,7 +98,7 @@ fn keeps_two_of_five<T: Threads + Wait + Copy + Send + 'static>(
     rt: &T,
     alloc: Global,
     options: &Options,
-) -> Result<bool, CollectFault> {
+) -> Result<bool, RunFault> {
     let run = read_text(rt, alloc, b"a;b 2\nc 5\na;b 1\nd;a 4\nc;e 8\n", options)?;
     Ok(is_kept_of_a(&run))
 }
@@ -120,7 +119,7 @@ fn begins_at_b<T: Threads + Wait + Copy + Send + 'static>(
     rt: &T,
     alloc: Global,
     options: &Options,
-) -> Result<bool, CollectFault> {
+) -> Result<bool, RunFault> {
     let run = read_text(rt, alloc, b"a;b 2\nc 5\nd;b;c;b 4\na;bb 8\n", options)?;
     let name = Some(Text::from_str(alloc, "b")?);
     let cut = run.kept.shown(alloc, &name, &Names::of(Vec::new(alloc)))?;
@@ -145,7 +144,7 @@ fn leaves_out_b<T: Threads + Wait + Copy + Send + 'static>(
     rt: &T,
     alloc: Global,
     options: &Options,
-) -> Result<bool, CollectFault> {
+) -> Result<bool, RunFault> {
     let run = read_text(rt, alloc, b"a;b 2\nb 5\nd;b;c;b 4\n", options)?;
     let shown = run
         .kept

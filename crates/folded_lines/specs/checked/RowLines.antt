@@ -15,10 +15,14 @@ use Rattle.folded_lines.specs.declared.row_lines.RowLine.TheVariants as row
 use Rattle.folded_lines.specs.checked.Scanning.{within_total, ended}
 use Rattle.folded_lines.specs.checked.Telling.{head_fault, TellsStack}
 
+-- the line of a stack and a weight
+abbrev pub line_of_stack : List (List ℕ) → ℕ → Line
+line_of_stack stack weight = line.Sample (record { stack = stack; weight = weight })
+
 -- the line of a head and a weight
 abbrev pub line_of_head : List ℕ → ℕ → Line
 line_of_head head weight = elim (head_fault head) [
-  | None ↦ line.Sample (record { stack = names_of head; weight = weight })
+  | None ↦ line_of_stack (names_of head) weight
   | Some kind ↦ line.Fault kind
 ]
 

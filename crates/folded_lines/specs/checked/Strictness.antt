@@ -1,5 +1,5 @@
 -- The first line without a count, and which fault comes first.
-use Rattle.std.specs.Prelude.{ℕ, ◌+◌, ◌==◌, nat_lt, if◌then◌else◌, Bool, false, List, [], ◌∷◌, ◌++◌, drop, map, Option, Some, None}
+use Rattle.std.specs.Prelude.{ℕ, ◌+◌, ◌==◌, nat_lt, if◌then◌else◌, Bool, false, List, [], ◌∷◌, drop, map, Option, Some, None}
 use Rattle.sample_tables.specs.declared.samples.Sample.{Sample}
 use Rattle.stack_core.specs.declared.endings.SourceEnd.{SourceEnd}
 use Rattle.stack_core.specs.declared.endings.SourceEnd.TheVariants as ends
@@ -7,8 +7,6 @@ use Rattle.folded_lines.specs.Line.{Line}
 use Rattle.folded_lines.specs.Lines.{text_lines, read_line}
 use Rattle.folded_lines.specs.Reading.{is_ignored}
 use Rattle.folded_lines.specs.StrictReading.{fault_without, strict_at}
-use Rattle.folded_lines.specs.declared.strictness.Looked.{Looked}
-use Rattle.folded_lines.specs.declared.strictness.Looked.TheVariants.{Counted, Ignored}
 use Rattle.folded_lines.specs.declared.strictness.StrictFault.{StrictFault}
 use Rattle.folded_lines.specs.declared.strictness.StrictKind.TheVariants.{NoCount, NoSamples, Read}
 
@@ -20,15 +18,10 @@ first_ignored before (line ∷ lines) = if is_ignored line then Some (before + 1
 abbrev pub lines_in : List ℕ → List Line
 lines_in text = map read_line (text_lines text)
 
--- the same at a place of a text with more behind it, by what the line there is and where the next one begins
-abbrev pub first_from : List ℕ → Bool × ℕ → ℕ → List Line → Option ℕ
-first_from bytes (is_ignored, next) before more =
-    if is_ignored then Some (before + 1) else first_ignored (before + 1) (lines_in (drop next bytes) ++ more)
-
--- the same behind lines that were looked through
-abbrev pub first_behind : Looked → List Line → Option ℕ
-first_behind (Counted taken) more = first_ignored taken more
-first_behind (Ignored number) more = Some number
+-- the same at a place of a text, by what the line there is and where the next one begins
+abbrev pub first_from : List ℕ → Bool × ℕ → ℕ → Option ℕ
+first_from bytes (is_ignored, next) before =
+    if is_ignored then Some (before + 1) else first_ignored (before + 1) (lines_in (drop next bytes))
 
 -- the fault that comes first: that of the first line that is ignored, or that in which a text ends
 abbrev pub earlier : Option ℕ → SourceEnd → Option StrictFault

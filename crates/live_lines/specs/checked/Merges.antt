@@ -1,21 +1,21 @@
 -- What is kept beside the merged samples.
-use Rattle.std.specs.Prelude.{◌≡◌, ℕ, ◌+◌, ◌<◌, ◌≤◌, ◌^◌, List, length, All}
+use Rattle.std.specs.Prelude.{◌≡◌, ℕ, ◌≤◌, List, All, codes, length}
 use Rattle.sample_tables.specs.declared.samples.Sample.{Sample}
 use Rattle.sample_tables.specs.declared.samples.TheConstants.{FRAME_LIMIT}
-use Rattle.merged_stacks.specs.Timeline.{total_weight}
+use Rattle.flame_layout.specs.declared.boxes.SpanBox.{SpanBox}
+use Rattle.view_texts.specs.Json.{boxes_line, snapshot_line}
 use Rattle.merging.specs.Snapshots.{samples_of_pairs}
-use Rattle.live_lines.specs.LiveState.{LiveState}
 use Rattle.live_lines.specs.Lines.{live_counts}
+use Rattle.live_lines.specs.declared.merge.LiveLine.{LiveLine}
+use Rattle.live_lines.specs.declared.merge.LiveLine.TheVariants.{Graph, Snapshot}
 
--- how many there are, of which sources, and what they weigh; and each can be drawn
-pub record IsLiveMerge (pairs : List (ℕ × Sample)) (counts : List ℕ) (at total : ℕ) : Type 0 where
+-- how many there are, and of which sources; and each can be drawn
+pub record IsLiveMerge (pairs : List (ℕ × Sample)) (counts : List ℕ) (at : ℕ) : Type 0 where
   pub counted : counts ≡ live_counts (length counts) pairs (length pairs)
   pub at_is : at ≡ length pairs
-  pub total_is : total ≡ total_weight (samples_of_pairs pairs)
-  pub fits : total < 2 ^ 64
   pub depths : All (λ sample. length sample.stack ≤ FRAME_LIMIT) (samples_of_pairs pairs)
 
--- lines can be drawn with a sample of this weight, too
-pub record HasRoom (merge : LiveState) (weight : ℕ) : Type 0 where
-  pub more : length merge.taken + 1 < 2 ^ 64
-  pub fits : total_weight (samples_of_pairs merge.taken) + weight < 2 ^ 64
+-- the line of boxes
+abbrev pub shown_text : LiveLine → ℕ → List ℕ → ℕ → ℕ → List SpanBox → List ℕ
+shown_text Snapshot at counts total width spans = snapshot_line at counts total width spans
+shown_text Graph at counts total width spans = boxes_line (codes "graph") total width spans

@@ -1,14 +1,16 @@
 -- How the parts of a tree sink follow from its rows.
-use Rattle.std.specs.Prelude.{◌≡◌, ℕ, ◌%◌, ◌<◌, ◌≤◌, ◌^◌, ◌==◌, Bool, false, List, length, map, take, Option, None, Some, IfSome, if◌then◌else◌}
+use Rattle.std.specs.Prelude.{◌≡◌, ℕ, ◌%◌, ◌<◌, ◌≤◌, ◌^◌, ◌==◌, Bool, false, List, [], length, map, take, Option, None, Some, IfSome, if◌then◌else◌}
 use Rattle.std.specs.List.{AllByRecursion}
 use Rattle.call_tree.specs.CallTree.{Tree, tree_of}
 use Rattle.call_tree.specs.FrameTable.{HasDistinctNames}
 use Rattle.call_tree.specs.Listing.{AreIn}
 use Rattle.merging.specs.declared.snapshots.Snapshot.{Snapshot}
+use Rattle.sample_tables.specs.declared.samples.Sample.{Sample}
 use Rattle.merging.specs.declared.tally.Tally.{Tally}
 use Rattle.merging.specs.checked.Tallies.{IsTally}
-use Rattle.merging.specs.Snapshots.{snapshot_counts, snapshot_places}
-use Rattle.merging.specs.checked.TakenRows.{TakenRow, rows_of, pair_of, order_of, paths_of}
+use Rattle.merged_stacks.specs.Timeline.{total_weight}
+use Rattle.merging.specs.Snapshots.{samples_of_pairs, snapshot_counts, snapshot_places}
+use Rattle.merging.specs.checked.TakenRows.{TakenRow, rows_of, pair_of, pairs_of, order_of, paths_of}
 
 -- the snapshot of the first m rows
 abbrev pub snapshot_of : List TakenRow → ℕ → Snapshot
@@ -40,10 +42,21 @@ pub record AreMerged (every : Option ℕ) (names : List (List ℕ)) (tree : Tree
   pub tree_is : tree ≡ tree_of (paths_of rows)
   pub snapshots_are : snapshots ≡ snapshots_of every rows
 
+-- rows that were merged without snapshots, and what they weigh
+pub record AreRows (names : List (List ℕ)) (tree : Tree) (total : ℕ) (rows : List TakenRow) : Type 0 where
+  pub merged : AreMerged None names tree rows []
+  pub total_is : total ≡ total_weight (samples_of_pairs (pairs_of names rows))
+  pub fits : total < 2 ^ 64
+
 -- a sink's parts: what was taken was counted and merged
 pub record IsTreeSink (tally : Tally) (names : List (List ℕ)) (tree : Tree) (snapshots : List Snapshot) : Type 0 where
   pub tallied : IsTally tally
   pub merged : AreMerged tally.every names tree (rows_of tally.taken) snapshots
+
+-- what is left of a sink when names and room came
+pub record Grown (tally : Tally) (names : List (List ℕ)) (tree : Tree) (snapshots : List Snapshot) (pairs : List (ℕ × Sample)) : Type 0 where
+  pub sink : IsTreeSink tally names tree snapshots
+  pub pairs_are : pairs_of names (rows_of tally.taken) ≡ pairs
 
 -- a row that stands for a stack of a source with a weight
 pub record IsRowFor (names : List (List ℕ)) (source : ℕ) (stack : List (List ℕ)) (weight : ℕ) (row : TakenRow) : Type 0 where

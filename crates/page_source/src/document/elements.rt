@@ -30,7 +30,7 @@ pub(crate) const TEXT: &str = r##"</style>
 <label><input type="checkbox" id="below"> Root below</label>
 <label id="heavy-label" title="The heaviest of what a function calls stands first" hidden><input type="checkbox" id="heavy"> Left heavy</label>
 <label id="beside-label" title="Each source from 0 on, in rows of its own" hidden><input type="checkbox" id="beside"> Side by side</label>
-<label id="packages-label" title="What has the same name before the last separator has the same hue" hidden><input type="checkbox" id="packages"> Colours by package</label>
+<label id="by-name-label" title="Each name has a hue of its own, and not its package: what stands before the last separator" hidden><input type="checkbox" id="by-name"> Colours by name</label>
 <label><input type="checkbox" id="listed" checked> Lists</label>
 <label id="snapshot-label" hidden>Snapshot <input type="range" id="snapshot" min="0" step="1"></label>
 <label id="before-label" hidden><input type="checkbox" id="before"> Show before</label>

@@ -6,7 +6,7 @@ pub(crate) const TEXT: &str = r##"<!doctype html>
 <meta charset="utf-8">
 <meta http-equiv="Content-Security-Policy" 
 content="default-src 'none';
-script-src 'sha256-PkHSB1bK9JKZR0USR1hlO5d91W8uDzFrDFP/0vMR/sQ='; style-src 'sha256-JIp4ookJ2kgzTqKwAkE0l4uVY47vE+Uldy0CDbmIH2s='; img-src data: blob:; base-uri 'none'; form-action 'none'">
+script-src 'sha256-8rilS7g9Plpx5hrBnPYIhV9eiqQQa/2N4lYbMvHkJXE='; style-src 'sha256-JIp4ookJ2kgzTqKwAkE0l4uVY47vE+Uldy0CDbmIH2s='; img-src data: blob:; base-uri 'none'; form-action 'none'">
 <meta name="referrer" content="no-referrer">
 <meta name="viewport" content="width=device-width, initial-scale=1">
 <link rel="icon" href="data:,">

@@ -283,7 +283,7 @@ const spread = Math.imul(hash, 2654435769) >>> 0;
 return Math.floor(spread / 65536) % (HUES * SHADES);
 }
 function packageShade(name) {
-const hue = nameShade(packageOf(name)) % HUES;
+const hue = nameShade(packageOf(name) || name) % HUES;
 return Math.floor(nameShade(name) / HUES) * HUES + hue;
 }
 function nameShades(names, shadeOf) {

@@ -195,7 +195,7 @@ button('print').addEventListener('click', () => window.print());
 }
 function listenToTools(viewer) {
 const [below, snapshot, before, share] = ['below', 'snapshot', 'before', 'share'].map(input);
-const [heavy, beside, packages] = ['heavy', 'beside', 'packages'].map(input);
+const [heavy, beside, byName] = ['heavy', 'beside', 'by-name'].map(input);
 button('back').addEventListener('click', () => viewer.goBack());
 below.addEventListener('change', () => viewer.change({ below: below.checked }, false));
 snapshot.addEventListener('input', () => viewer.turnTo({ drawing: Number(snapshot.value) }));
@@ -203,7 +203,7 @@ before.addEventListener('change', () => viewer.turnTo({ drawing: before.checked 
 heavy.addEventListener('change', () => viewer.turnTo({ heavy: heavy.checked }));
 beside.addEventListener('change', () => viewer.turnTo({ beside: beside.checked, from: -1, to: -1 }));
 button('callers').addEventListener('click', () => viewer.showCallersOfFocus());
-packages.addEventListener('change', () => viewer.change({ packages: packages.checked }, false));
+byName.addEventListener('change', () => viewer.change({ byName: byName.checked }, false));
 share.addEventListener('change', () => viewer.change({ share: share.checked }, false));
 const scene = () => viewer.stage.wholeScene(viewer.view, false);
 button('save-svg').addEventListener('click', () => saveSvg(scene()));
@@ -329,7 +329,7 @@ if (state.lists >= 0) words.push(`lists=${state.lists}`);
 if (state.share !== page.isShare) words.push(state.share ? 'share=1' : 'share=0');
 if (state.heavy) words.push('heavy=1');
 if (state.beside) words.push('beside=1');
-if (state.packages) words.push('colours=package');
+if (state.byName) words.push('colours=name');
 return `#${words.join('&')}`;
 }
 function partOfWords(words, length) {
@@ -397,7 +397,7 @@ order: words.get('order') === 'weight' ? 'weight' : 'place',
 below: page.isBelow ? words.get('root') !== 'above' : words.get('root') === 'below',
 lists: wholeNumber(words.get('lists'), WIDEST_LISTS),
 share: page.view === 'compare' && (page.isShare ? words.get('share') !== '0' : words.get('share') === '1'),
-packages: page.view !== 'compare' && words.get('colours') === 'package',
+byName: page.view !== 'compare' && words.get('colours') === 'name',
 };
 return { state, isDead: box < 0 };
 }

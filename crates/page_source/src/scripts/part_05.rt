@@ -236,7 +236,7 @@ return { width: this.picture.clientWidth, height: this.picture.clientHeight, top
 scene(view, part, colours) {
 const { page, drawing, span, matches, state, isShare } = view;
 const { lettering, sourceLettering } = this;
-const shadeOf = state.packages ? this.byPackage : this.byName;
+const shadeOf = state.byName ? this.byName : this.byPackage;
 return { page, drawing, span, matches, isShare, below: state.below, ...part, colours, shadeOf, lettering, sourceLettering };
 }
 wholeScene(view, isPaper) {
@@ -354,8 +354,8 @@ element('heavy-label').hidden = page.view === 'chart';
 input('heavy').checked = state.heavy;
 element('beside-label').hidden = !hasLanes(page);
 input('beside').checked = state.beside;
-element('packages-label').hidden = page.view === 'compare';
-input('packages').checked = state.packages;
+element('by-name-label').hidden = page.view === 'compare';
+input('by-name').checked = state.byName;
 for (const arranging of ['heavy', 'beside']) input(arranging).disabled = state.callers >= 0;
 input('below').checked = state.below;
 element('snapshot-label').hidden = page.view === 'compare' || page.drawingCount === 1;

@@ -2,6 +2,7 @@
 
 mod reading;
 mod rows;
+mod stored;
 mod streams;
 mod told;
 

@@ -1,7 +1,7 @@
 //! The sample types of worked sources.
 
 mod parts;
-mod pieces;
+mod stored;
 
 use super::holds;
 use profile_messages::SampleType;
@@ -27,7 +27,7 @@ const WITH_FAULT: &[u8] = b"\x32\x01a";
 
 fn input_of(alloc: Global, format: Format, bytes: &[u8]) -> Result<Input, AllocError> {
     let bytes = bytes.to_vec(alloc)?;
-    Input::of(alloc, Source { format, bytes })
+    Input::of(Source { format, bytes })
 }
 
 const WORKED: &[(Format, &[u8])] = &[

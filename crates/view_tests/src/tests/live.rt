@@ -1,12 +1,12 @@
 //! The lines of a graph, written while its samples come.
 ghost use Rattle.std.specs.Prelude.{◌≤◌};
 
-use super::ledgers::ledger_of;
+use super::ledgers::{ledger_of, ledger_with};
 use super::shown::{Given, see};
 use crate::tests::worked::{FIVE_LINES, SNAPSHOT_LINES};
 use flame_layout::Width;
 use flame_tool::{CountedWriter, Format, Outlet, View, Views, render};
-use live_lines::{LiveGate, LiveMerge, LiveSink};
+use live_lines::{LiveGate, LiveLine, LiveMerge, LiveSink};
 use ring_collect::CollectFault;
 use stack_core::{Ledger, RowSink, SourceList};
 use std::alloc::{AllocError, Global};
@@ -103,6 +103,66 @@ fn lines_of_five_samples(rt: HostRuntime) -> Result<(), Fail> {
         None,
         &|views: &Views| Ok(written(alloc, views, 2)?.as_slice() == SNAPSHOT_LINES.as_bytes()),
     )
+}
+
+/// The five samples.
+const FIVE: &[(&[&str], u64)] = &[
+    (&["a"], 1),
+    (&["a", "b"], 1),
+    (&["c"], 2),
+    (&["a"], 1),
+    (&["d"], 1),
+];
+
+/// Merges the only stack of a ledger.
+fn merge_one(
+    alloc: Global,
+    merge: &mut LiveMerge,
+    ledger: &Ledger,
+    weight: u64,
+) -> Result<(), AllocError> {
+    if ledger.stack_count() == 0 {
+        return Err(AllocError);
+    }
+    merge.take_row(alloc, 0, ledger, 0, weight)
+}
+
+/// Sends a line of what was merged.
+fn send<W: Outlet>(
+    alloc: Global,
+    merge: &mut LiveMerge,
+    line: LiveLine,
+    out: &mut W,
+) -> Result<(), AllocError> {
+    let width = Width::of(WIDTH).unwrap();
+    merge
+        .send(alloc, line, width, out)
+        .map_err(|_fault| AllocError)
+}
+
+/// What is written of the five as rows of ledgers that number the names each time in another way, and also names that no stack has.
+fn written_anew(alloc: Global) -> Result<Vec<u8>, AllocError> {
+    let unused: &[&str] = &["", "unused", "a"];
+    let mut merge = LiveMerge::new(alloc, 1)?;
+    let mut out = CountedWriter::new(Vec::new(alloc));
+    for (at, (names, weight)) in FIVE.iter().enumerate() {
+        let ledger = ledger_with(alloc, &unused[..at % 4], names)?;
+        merge_one(alloc, &mut merge, &ledger, *weight)?;
+        if merge.count() % 2 == 0 {
+            send(alloc, &mut merge, LiveLine::Snapshot, &mut out)?;
+        }
+    }
+    send(alloc, &mut merge, LiveLine::Graph, &mut out)?;
+    Ok(out.into_inner())
+}
+
+#[test]
+fn rows_of_other_ledgers(rt: HostRuntime) -> Result<(), Fail> {
+    assert_eq!(rt;
+        written_anew(rt.alloc())?.as_slice(),
+        SNAPSHOT_LINES.as_bytes()
+    );
+    Ok(())
 }
 
 /// Two sources of five and of three samples, with a frame that both have.

@@ -2,14 +2,13 @@
 ghost use Rattle.std.specs.Prelude.{◌≡◌, IfOk, length};
 
 use super::gates::{AfterSnapshots, Watched};
-use super::ledgers::ledger_with;
 use super::stated::{Moment, are_made_at, number_of};
 use crate::tests::holds;
 use call_tree::CallTree;
 use flame_tool::TreeSink;
 use folded_lines::FoldedReader;
 use ring_collect::{CollectFault, RingSize, collect};
-use stack_core::{Names, RowSink, Sample, Sink};
+use stack_core::{Names, Sample, Sink};
 use std::alloc::{AllocError, Global};
 use std::sync::atomic::AtomicU64;
 use std::sync::{Arc, Wait};
@@ -69,37 +68,6 @@ fn takes_five(alloc: Global, sink: &mut TreeSink) -> Result<bool, AllocError> {
 fn sink_alone(rt: HostRuntime) -> Result<(), Fail> {
     let mut sink = TreeSink::new(rt.alloc(), Some(2))?;
     holds(&rt, takes_five(rt.alloc(), &mut sink))
-}
-
-/// Takes a sample from a ledger of its own, in which its names have other numbers than in the ledgers before.
-fn take_kept(
-    alloc: Global,
-    sink: &mut TreeSink,
-    unused: &[&str],
-    taken: &Taken,
-) -> Result<(), AllocError> {
-    let (source, names, weight) = *taken;
-    let ledger = ledger_with(alloc, unused, names)?;
-    if ledger.stack_count() == 0 {
-        return Err(AllocError);
-    }
-    sink.take_row(alloc, source, &ledger, 0, weight)
-}
-
-/// The five again, by rows.
-fn takes_five_by_rows(alloc: Global, sink: &mut TreeSink) -> Result<bool, AllocError> {
-    let unused: &[&str] = &["", "unused", "a"];
-    for (at, taken) in FIVE.iter().enumerate() {
-        take_kept(alloc, sink, &unused[..at % 4], taken)?;
-    }
-    Ok(has_five(sink) && are_made_at(sink.snapshots(), MOMENTS))
-}
-
-/// Rows of ledgers that number the names each time in another way, and also names that no stack has.
-#[test]
-fn sink_by_rows(rt: HostRuntime) -> Result<(), Fail> {
-    let mut sink = TreeSink::new(rt.alloc(), Some(2))?;
-    holds(&rt, takes_five_by_rows(rt.alloc(), &mut sink))
 }
 
 const LARGE: Taken = (4_000_000_000, &["a"], u64::MAX);

@@ -3,7 +3,7 @@ use Rattle.std.specs.Str.{bytes_eq}
 use Rattle.command_line.specs.Plans.{IsFaultAmong}
 use Rattle.command_line.specs.checked.Entries.{entries_of}
 use Rattle.command_line.specs.declared.plans.PlanFault.TheVariants.{OutOfMemory}
-use Rattle.command_line.proofs.PlannedWords.{among_none, planned_live, planned_types, planned_view}
+use Rattle.command_line.proofs.PlannedWords.{among_none, planned_live, planned_svg, planned_types, planned_view}
 use Rattle.command_line.proofs.entered.command_plan.Goals as goal
 
 pub returns-in_err-check_entries-clause-passes : goal.returns-in_err-check_entries-clause-passes
@@ -25,9 +25,18 @@ returns-in_ok-live_plan-clause-plan c =
     planned_live c.args.name.now (entries_of c.args.entries.now) c.in_ok-check_entries.ensures.meant types live
     ∙ ap (λ plan. Some plan) (sym c.in_ok-live_plan.ensures)
 
+pub returns-in_ok-svg_plan-clause-plan : goal.returns-in_ok-svg_plan-clause-plan
+returns-in_ok-svg_plan-clause-plan c =
+    let types : bytes_eq c.args.name.now (codes "types") ≡ false = search rules in
+    let live : bytes_eq c.args.name.now (codes "live") ≡ false = search rules in
+    let svg : bytes_eq c.args.name.now (codes "svg") ≡ true = search rules in
+    planned_svg c.args.name.now (entries_of c.args.entries.now) c.in_ok-check_entries.ensures.meant types live svg
+    ∙ ap (λ plan. Some plan) (sym c.in_ok-svg_plan.ensures)
+
 pub returns-in_ok-view_plan-clause-plan : goal.returns-in_ok-view_plan-clause-plan
 returns-in_ok-view_plan-clause-plan c =
     let types : bytes_eq c.args.name.now (codes "types") ≡ false = search rules in
     let live : bytes_eq c.args.name.now (codes "live") ≡ false = search rules in
-    planned_view c.args.name.now (entries_of c.args.entries.now) c.in_ok-check_entries.ensures.meant types live
+    let svg : bytes_eq c.args.name.now (codes "svg") ≡ false = search rules in
+    planned_view c.args.name.now (entries_of c.args.entries.now) c.in_ok-check_entries.ensures.meant types live svg
     ∙ c.in_ok-view_plan.ensures

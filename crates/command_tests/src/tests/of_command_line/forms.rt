@@ -97,6 +97,35 @@ fn pictures(rt: HostRuntime) -> Result<(), Fail> {
     are_answered(&rt, PICTURES)
 }
 
+const SVGS: &[(&str, Wanted<'static>)] = &[
+    ("svg", Wanted::Picture(None, false)),
+    ("svg cpu.pb", Wanted::Picture(None, false)),
+    (
+        "svg a --title t b --root-below",
+        Wanted::Picture(Some("t"), true),
+    ),
+    ("svg a b", Wanted::View(Shown::Graph(1_200))),
+    ("svg --width 9 a b", Wanted::View(Shown::Graph(9))),
+    ("svg a b", Wanted::Files(&["a", "b"])),
+    ("svg", Wanted::Output(None)),
+    ("svg cpu.pb", Wanted::Output(Some("cpu.pb.svg"))),
+    ("svg a/b c", Wanted::Output(Some("a/b.svg"))),
+    ("svg -o x.svg a", Wanted::Output(Some("x.svg"))),
+    ("svg -o x", Wanted::Output(Some("x"))),
+    ("graph --svg a", Wanted::Output(None)),
+    ("graph --svg -o x a", Wanted::Output(Some("x"))),
+    ("svg --every 5", REFUSED),
+    ("svg --page", REFUSED),
+    ("svg --svg", REFUSED),
+    ("svg --least 5", REFUSED),
+    ("svg --json", REFUSED),
+];
+
+#[test]
+fn svgs_beside_their_files(rt: HostRuntime) -> Result<(), Fail> {
+    are_answered(&rt, SVGS)
+}
+
 const SHARES: &[(&str, Wanted<'static>)] = &[
     ("compare a b --page --share", Wanted::Share(true)),
     ("compare --share --svg a b", Wanted::Share(true)),

@@ -20,6 +20,10 @@ const USAGES: &[(&str, Wanted<'static>)] = &[
         Wanted::Help("\nUsage: flamecollect chart [OPTIONS] [FILE]...\n"),
     ),
     (
+        "svg --help",
+        Wanted::Help("\nUsage: flamecollect svg [OPTIONS] [FILE]...\n"),
+    ),
+    (
         "live --help",
         Wanted::Help("\nUsage: flamecollect live [OPTIONS] [FILE]...\n"),
     ),

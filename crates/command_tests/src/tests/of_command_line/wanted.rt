@@ -81,6 +81,8 @@ pub(crate) enum Wanted<'a> {
     PageBelow,
     /// A picture, with this title, and with the root below or above.
     Picture(Option<&'a str>, bool),
+    /// This file for what is written, or none.
+    Output(Option<&'a str>),
     /// A page or a picture that compares shares, or weights.
     Share(bool),
     /// The sample types of this file, with progress and no other option.
@@ -254,6 +256,7 @@ pub(crate) fn has(plan: &Plan, wanted: &Wanted<'_>) -> bool {
         Wanted::Page(title, least) => is_page(&plan.form, title, least, false),
         Wanted::PageBelow => is_page(&plan.form, None, None, true),
         Wanted::Picture(title, is_below) => is_picture(&plan.form, title, is_below),
+        Wanted::Output(path) => is_titled(&plan.output, path),
         Wanted::Share(is_share) => is_of_shares(&plan.form, is_share),
         Wanted::Types(file) => is_of_types(plan, file),
         Wanted::Calls(calls) => are_calls(plan, &calls),

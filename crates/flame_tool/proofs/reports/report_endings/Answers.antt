@@ -1,4 +1,4 @@
-use Rattle.std.proofs.Common.{rules, get_or, ◌≡◌, ◌∙◌, ◌≤◌, ℕ, List, ◌++◌, ◌+◌, arith, length, map, take, take_all, ap, subst, sym, string_bytes}
+use Rattle.std.proofs.Common.{rules, get_or, ◌≡◌, ◌∙◌, ℕ, List, ◌++◌, ◌+◌, arith, map, take, take_all, ap, subst, sym, string_bytes}
 use Rattle.opened_sources.specs.Messages.{Tells, message_of_ending, said_of_each}
 use Rattle.opened_sources.proofs.MessageTexts.{tells_more, tells_nothing}
 use Rattle.flame_tool.specs.ToldRuns.{TellsEndings}

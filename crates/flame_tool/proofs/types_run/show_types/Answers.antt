@@ -1,5 +1,6 @@
-use Rattle.std.proofs.Common.{◌≡◌, ℕ, List, IfSome, IfErr, OnOk, subst, rules, map, get_or, string_bytes}
+use Rattle.std.proofs.Common.{◌≡◌, ℕ, List, Some, IfSome, IfErr, OnOk, subst, rules, map, get_or, string_bytes}
 use Rattle.std.specs.Prelude.{option_and_then, slice_get}
+use Rattle.std.proofs.lemmas.Option.{IfSome_then, same_Some}
 use Rattle.flame_tool.specs.TypeRuns.{ShowsTypes}
 use Rattle.flame_tool.specs.checked.TypeFailures.{FailsTypes}
 use Rattle.flame_tool.proofs.TypeEndings.{first_path, known_err, known_ok, some_path}
@@ -16,7 +17,7 @@ returns-clause-ok g c =
     let some = some_path string_bytes paths c.args.plan.now.files c.get-paths.ensures c.requires.one in
     let is : path ≡ get_or paths 0 path = search rules in
     let named : c.deref.result.now ≡ string_bytes path = search rules in
-    let here = subst (λ (name : List ℕ). IfSome (known name) (λ bytes. read ≡ bytes)) named c.in_ok-source.ensures.opened.1 in
+    let here = IfSome_then (known (string_bytes path)) (subst (λ (name : List ℕ). IfSome (known name) (λ bytes. Some read ≡ Some bytes)) named c.in_ok-source.ensures.opened.1) (same_Some read) in
     let shown = subst (λ (profile : List ℕ). OnOk c.show_types_of.result (ShowsTypes old new profile)) c.deref-2.ensures.value c.show_types_of.ensures.ok in
     subst (λ (files : List (List ℕ)). OnOk c.show_types_of.result (IfSome (option_and_then known (slice_get files 0)) (ShowsTypes old new))) c.get-paths.ensures
     (known_ok (ShowsTypes old new) known (map string_bytes paths) (string_bytes path) read c.show_types_of.result (first_path string_bytes paths path some is) here shown)
@@ -32,7 +33,7 @@ returns-clause-err g c =
     let some = some_path string_bytes paths c.args.plan.now.files c.get-paths.ensures c.requires.one in
     let is : path ≡ get_or paths 0 path = search rules in
     let named : c.deref.result.now ≡ string_bytes path = search rules in
-    let here = subst (λ (name : List ℕ). IfSome (known name) (λ bytes. read ≡ bytes)) named c.in_ok-source.ensures.opened.1 in
+    let here = IfSome_then (known (string_bytes path)) (subst (λ (name : List ℕ). IfSome (known name) (λ bytes. Some read ≡ Some bytes)) named c.in_ok-source.ensures.opened.1) (same_Some read) in
     let shown = subst (λ (profile : List ℕ). IfErr c.show_types_of.result (λ failure. FailsTypes old new failure profile)) c.deref-2.ensures.value c.show_types_of.ensures.err in
     subst (λ (files : List (List ℕ)). IfErr c.show_types_of.result (λ failure. IfSome (option_and_then known (slice_get files 0)) (FailsTypes old new failure))) c.get-paths.ensures
     (known_err (FailsTypes old new) known (map string_bytes paths) (string_bytes path) read c.show_types_of.result (first_path string_bytes paths path some is) here shown)

@@ -1,49 +1,60 @@
-use Rattle.std.proofs.Common.{◌≡◌, ◌∙◌, ap, IfSome, List, map, refl, subst, sym, true, false}
+use Rattle.std.proofs.Common.{◌≡◌, ◌∙◌, ap, IfSome, OnOk, List, Option, Some, Result, Ok, Err, ℕ, map, refl, subst, sym, true, false}
 use Rattle.std.specs.Prelude.{Bool, not}
 use Rattle.std.proofs.lemmas.Bool.{false≢true, true≢false}
+use Rattle.std.proofs.lemmas.Result.{IfErr-weaker}
 use Rattle.ring_collect.specs.Collection.{AreWhole}
 use Rattle.merged_stacks.specs.Timeline.{samples_of}
+use Rattle.run_options.specs.declared.formats.Format.{Format}
 use Rattle.sent_views.specs.declared.run_facts.RunFacts.{RunFacts}
 use Rattle.source_lists.specs.OmittedNames.{shown_rests}
-use Rattle.source_lists.specs.Sources.{asked_rests, whole_weight}
-use Rattle.source_lists.specs.Types.{types_of}
+use Rattle.source_lists.specs.Sources.{asked_rests, known_inputs, whole_weight}
 use Rattle.flame_tool.specs.KnownFacts.{facts_of}
-use Rattle.flame_tool.specs.Requests.{known_rests}
-use Rattle.flame_tool.specs.StrictRuns.{has_strict_fault}
-use Rattle.flame_tool.proofs.KnownSources.{collected_of, err_shown_as, lists_faultless, ok_shown_as, growth_shown}
+use Rattle.flame_tool.specs.Runs.{Shows}
+use Rattle.flame_tool.specs.StrictRuns.{HasPlainFault, has_strict_fault}
+use Rattle.flame_tool.specs.checked.Failures.{Fails, FailsStrictly, TellsGrowth}
+use Rattle.flame_tool.specs.checked.Wanted.{wanted_rests}
+use Rattle.flame_tool.proofs.KnownSources.{AreCollected, at_known, err_if_known, err_shown, if_known, lists_faultless, ok_if_known, ok_shown, growth_shown}
 use Rattle.flame_tool.proofs.GrownFunctions.{limit_told}
 use Rattle.flame_tool.proofs.RunEndings.{same_shown}
-use Rattle.flame_tool.proofs.StrictEndings.{sent_strictly, told_strictly}
+use Rattle.flame_tool.proofs.StrictEndings.{told_strictly, unsent}
 use Rattle.stack_core.specs.declared.endings.SourceEnd.{SourceEnd}
-use Rattle.flame_tool.specs.ToldRuns.{TellsEndings, known_endings}
+use Rattle.flame_tool.specs.ToldRuns.{TellsEndings}
 use Rattle.flame_tool.proofs.ToldEndings.{told_before, told_before_faults, told_of_read}
 use Rattle.flame_tool.proofs.views_run.show_sources.Goals as goal
 
 pub returns-clause-ok : goal.returns-clause-ok
-returns-clause-ok g c = λ input files loaded.
+returns-clause-ok g c =
     let plan = c.args.plan.now in
     let run = c.in_ok-shown.shown in
-    let sources = c.args.inputs.items in
-    let whole : whole_weight plan.options sources ≡ c.in-Some.whole = cc (c.in_ok-run.ensures.weight, c.in-Some.is) in
+    let old = g.W.Outlet.contents c.args.out.now in
+    let new = g.W.Outlet.contents c.send_lists.new.out in
+    ok_if_known c.send_lists.result (known_inputs c.args.inputs.items) (λ _ sources. Shows plan (Some (facts_of plan.options sources)) old new (wanted_rests plan sources))
+    (λ sources is.
+    let reads = at_known _ sources is c.in_ok-run.ensures.reads in
+    let weight : c.in_ok-run.run'.whole_weight ≡ Some (whole_weight plan.options sources) = at_known _ sources is c.in_ok-run.ensures.weight in
+    let whole : whole_weight plan.options sources ≡ c.in-Some.whole = cc (weight, c.in-Some.is) in
+    let told = subst (λ (inputs : List (Format × Option (List ℕ))). known_inputs inputs ≡ Some sources) (sym c.deref.ensures.value) is in
     let facts : RunFacts = record { whole = c.in-Some.whole; types = c.of.result } in
-    let text = same_shown plan (facts_of plan.options sources) facts (samples_of run.lists) run.order plan.options.every whole (λ tells. sym (c.of.ensures ∙ (c.in_ok-types.ensures tells ∙ ap (types_of plan.options) c.deref.ensures.value))) in
-    ok_shown_as plan input files sources run.lists run.order plan.options.every
-    (collected_of plan input files _ sources run.lists run.order plan.options.every refl loaded
-    (c.in_ok-shown.ensures.lists ∙ ap (shown_rests plan.from plan.omit) (c.in_ok-run.ensures.reads.whole (λ source index stops. stops))) c.in_ok-shown.ensures.order refl)
-    c.send_lists.result _ _ _ (sym text) c.send_lists.ensures.faultless c.send_lists.ensures.ok
+    let text = same_shown plan (facts_of plan.options sources) facts (samples_of run.lists) run.order plan.options.every whole (λ tells. sym (c.of.ensures ∙ at_known _ sources told (c.in_ok-types.ensures tells))) in
+    let collected : AreCollected plan sources run.lists run.order = record { whole = c.in_ok-shown.ensures.lists ∙ ap (shown_rests plan.from plan.omit) (reads.whole (λ source index stops. stops)); ordered = c.in_ok-shown.ensures.order } in
+    ok_shown plan sources run.lists run.order collected c.send_lists.result old new _ (sym text) c.send_lists.ensures.faultless c.send_lists.ensures.ok)
 
 pub returns-clause-err : goal.returns-clause-err
-returns-clause-err g c = λ input files loaded.
+returns-clause-err g c =
     let plan = c.args.plan.now in
     let run = c.in_ok-shown.shown in
-    let sources = c.args.inputs.items in
-    let whole : whole_weight plan.options sources ≡ c.in-Some.whole = cc (c.in_ok-run.ensures.weight, c.in-Some.is) in
+    let old = g.W.Outlet.contents c.args.out.now in
+    let new = g.W.Outlet.contents c.send_lists.new.out in
+    err_if_known c.send_lists.result (known_inputs c.args.inputs.items) (λ failure sources. Fails plan (Some (facts_of plan.options sources)) old new failure (wanted_rests plan sources))
+    (λ sources is.
+    let reads = at_known _ sources is c.in_ok-run.ensures.reads in
+    let weight : c.in_ok-run.run'.whole_weight ≡ Some (whole_weight plan.options sources) = at_known _ sources is c.in_ok-run.ensures.weight in
+    let whole : whole_weight plan.options sources ≡ c.in-Some.whole = cc (weight, c.in-Some.is) in
+    let told = subst (λ (inputs : List (Format × Option (List ℕ))). known_inputs inputs ≡ Some sources) (sym c.deref.ensures.value) is in
     let facts : RunFacts = record { whole = c.in-Some.whole; types = c.of.result } in
-    let text = same_shown plan (facts_of plan.options sources) facts (samples_of run.lists) run.order plan.options.every whole (λ tells. sym (c.of.ensures ∙ (c.in_ok-types.ensures tells ∙ ap (types_of plan.options) c.deref.ensures.value))) in
-    err_shown_as plan input files sources run.lists run.order plan.options.every
-    (collected_of plan input files _ sources run.lists run.order plan.options.every refl loaded
-    (c.in_ok-shown.ensures.lists ∙ ap (shown_rests plan.from plan.omit) (c.in_ok-run.ensures.reads.whole (λ source index stops. stops))) c.in_ok-shown.ensures.order refl)
-    c.send_lists.result _ _ _ (sym text) c.send_lists.ensures.err
+    let text = same_shown plan (facts_of plan.options sources) facts (samples_of run.lists) run.order plan.options.every whole (λ tells. sym (c.of.ensures ∙ at_known _ sources told (c.in_ok-types.ensures tells))) in
+    let collected : AreCollected plan sources run.lists run.order = record { whole = c.in_ok-shown.ensures.lists ∙ ap (shown_rests plan.from plan.omit) (reads.whole (λ source index stops. stops)); ordered = c.in_ok-shown.ensures.order } in
+    IfErr-weaker c.send_lists.result _ _ (err_shown plan sources run.lists run.order collected old new _ (sym text)) c.send_lists.ensures.err)
 
 -- the sources are read strictly where they are not sound
 asked_strictly : (is_strict sound : Bool) → (is_strict ≡ false → sound ≡ true) → sound ≡ false → is_strict ≡ true
@@ -58,68 +69,90 @@ sound_faultless : (faulty sound : Bool) → sound ≡ true → sound ≡ not fau
 sound_faultless true sound shown is = absurd (true≢false (sym shown ∙ is))
 sound_faultless false sound shown is = refl
 
-pub returns-then-not-branch-clause-err : goal.returns-then-not-branch-clause-err
-returns-then-not-branch-clause-err g c = λ input files loaded.
-    let plan = c.args.plan.now in
-    told_strictly plan (known_rests plan input files) (asked_strictly plan.is_strict _ c.in_ok-report_sources.ensures.loose c.if-not-branch.true)
+always : {T E P : Type 0} (result : Result T E) → P → OnOk result P
+always (Ok done) holds = holds
+always (Err error) holds = tt
 
-pub returns-then-not-branch-clause-strict : goal.returns-then-not-branch-clause-strict
-returns-then-not-branch-clause-strict g c = λ strict.
+-- by what is known of the sources that are read again
+soundness : (kept inputs : List (Format × Option (List ℕ))) (sources : List (Format × List ℕ)) (Tells : List (Format × List ℕ) → Type 0) → kept ≡ inputs → known_inputs inputs ≡ Some sources → IfSome (known_inputs kept) Tells → Tells sources
+soundness kept inputs sources Tells same is tells = at_known Tells sources (ap known_inputs same ∙ is) tells
+
+pub returns-then-not-branch-clause-err : goal.returns-then-not-branch-clause-err
+returns-then-not-branch-clause-err g c =
     let plan = c.args.plan.now in
-    let whole = c.in_ok-run.ensures.reads.whole (λ source index stops. stops) in
-    let kept = c.in_ok-kept.ensures strict ∙ c.deref-2.ensures.value in
-    let told = subst (λ lists. AreWhole (asked_rests plan.options c.in_ok-kept.kept.items) lists) (sym c.lists.ensures.lists)
-    (subst (λ inputs. AreWhole (asked_rests plan.options inputs) c.in_ok-run.run'.kept.lists) (sym kept) whole) in
-    unsound_faulty (has_strict_fault plan.options c.args.inputs.items) _ c.if-not-branch.true
-    (subst (λ inputs. c.in_ok-report_sources.field-0 ≡ not (has_strict_fault plan.options inputs)) kept (c.in_ok-report_sources.ensures.strict strict told))
+    if_known (known_inputs c.args.inputs.items) (λ sources. HasPlainFault plan (wanted_rests plan sources))
+    (λ sources _. told_strictly plan (wanted_rests plan sources) (asked_strictly plan.is_strict _ c.in_ok-report_sources.ensures.loose c.if-not-branch.true))
+
+pub returns-then-not-branch-clause-strict_err : goal.returns-then-not-branch-clause-strict_err
+returns-then-not-branch-clause-strict_err g c = λ strict.
+    let plan = c.args.plan.now in
+    if_known (known_inputs c.args.inputs.items) (λ sources. has_strict_fault plan.options sources ≡ true)
+    (λ sources is.
+    let reads = at_known _ sources is c.in_ok-run.ensures.reads in
+    let lists = subst (AreWhole (asked_rests plan.options sources)) (sym c.lists.ensures.lists) (reads.whole (λ source index stops. stops)) in
+    let tells = soundness c.in_ok-kept.kept.items c.args.inputs.items sources (λ sources. AreWhole (asked_rests plan.options sources) c.lists.result.now → c.in_ok-report_sources.field-0 ≡ not (has_strict_fault plan.options sources))
+    (c.in_ok-kept.ensures strict ∙ c.deref-2.ensures.value) is (c.in_ok-report_sources.ensures.strict strict) in
+    unsound_faulty (has_strict_fault plan.options sources) _ c.if-not-branch.true (tells lists))
 
 pub returns-clause-strict : goal.returns-clause-strict
 returns-clause-strict g c = λ strict.
     let plan = c.args.plan.now in
-    let sources = c.args.inputs.items in
-    let faulty = has_strict_fault plan.options sources in
-    let whole = c.in_ok-run.ensures.reads.whole (λ source index stops. stops) in
-    let kept = c.in_ok-kept.ensures strict ∙ c.deref-2.ensures.value in
-    let told = subst (λ lists. AreWhole (asked_rests plan.options c.in_ok-kept.kept.items) lists) (sym c.lists.ensures.lists)
-    (subst (λ inputs. AreWhole (asked_rests plan.options inputs) c.in_ok-run.run'.kept.lists) (sym kept) whole) in
-    let none = sound_faultless faulty _ c.if-not-branch.false
-    (subst (λ inputs. c.in_ok-report_sources.field-0 ≡ not (has_strict_fault plan.options inputs)) kept (c.in_ok-report_sources.ensures.strict strict told)) in
-    sent_strictly c.in_ok-shown.shown.lists _ _ _ faulty none
-    (lists_faultless plan sources c.in_ok-shown.shown.lists none (c.in_ok-shown.ensures.lists ∙ ap (shown_rests plan.from plan.omit) whole))
-    c.send_lists.result c.send_lists.ensures.err
+    ok_if_known c.send_lists.result (known_inputs c.args.inputs.items) (λ _ sources. has_strict_fault plan.options sources ≡ false)
+    (λ sources is.
+    let reads = at_known _ sources is c.in_ok-run.ensures.reads in
+    let lists = subst (AreWhole (asked_rests plan.options sources)) (sym c.lists.ensures.lists) (reads.whole (λ source index stops. stops)) in
+    let tells = soundness c.in_ok-kept.kept.items c.args.inputs.items sources (λ sources. AreWhole (asked_rests plan.options sources) c.lists.result.now → c.in_ok-report_sources.field-0 ≡ not (has_strict_fault plan.options sources))
+    (c.in_ok-kept.ensures strict ∙ c.deref-2.ensures.value) is (c.in_ok-report_sources.ensures.strict strict) in
+    always c.send_lists.result (sound_faultless (has_strict_fault plan.options sources) _ c.if-not-branch.false (tells lists)))
+
+pub returns-clause-strict_err : goal.returns-clause-strict_err
+returns-clause-strict_err g c = λ strict.
+    let plan = c.args.plan.now in
+    err_if_known c.send_lists.result (known_inputs c.args.inputs.items) (λ failure sources. FailsStrictly (has_strict_fault plan.options sources) failure)
+    (λ sources is.
+    let reads = at_known _ sources is c.in_ok-run.ensures.reads in
+    let whole = reads.whole (λ source index stops. stops) in
+    let lists = subst (AreWhole (asked_rests plan.options sources)) (sym c.lists.ensures.lists) whole in
+    let tells = soundness c.in_ok-kept.kept.items c.args.inputs.items sources (λ sources. AreWhole (asked_rests plan.options sources) c.lists.result.now → c.in_ok-report_sources.field-0 ≡ not (has_strict_fault plan.options sources))
+    (c.in_ok-kept.ensures strict ∙ c.deref-2.ensures.value) is (c.in_ok-report_sources.ensures.strict strict) in
+    let none = sound_faultless (has_strict_fault plan.options sources) _ c.if-not-branch.false (tells lists) in
+    let clean = lists_faultless plan sources c.in_ok-shown.shown.lists none (c.in_ok-shown.ensures.lists ∙ ap (shown_rests plan.from plan.omit) whole) in
+    IfErr-weaker c.send_lists.result _ _ (unsent c.in_ok-shown.shown.lists _ _ _ (has_strict_fault plan.options sources) none clean) c.send_lists.ensures.err)
 
 pub returns-clause-grown : goal.returns-clause-grown
-returns-clause-grown g c = λ input files loaded.
+returns-clause-grown g c =
     let plan = c.args.plan.now in
     let run = c.in_ok-shown.shown in
-    let sources = c.args.inputs.items in
-    growth_shown plan input files sources run.lists run.order plan.options.every
-    (collected_of plan input files _ sources run.lists run.order plan.options.every refl loaded
-    (c.in_ok-shown.ensures.lists ∙ ap (shown_rests plan.from plan.omit) (c.in_ok-run.ensures.reads.whole (λ source index stops. stops))) c.in_ok-shown.ensures.order refl)
-    c.send_lists.result c.send_lists.ensures.growth
+    ok_if_known c.send_lists.result (known_inputs c.args.inputs.items) (λ is_over sources. TellsGrowth is_over plan (wanted_rests plan sources))
+    (λ sources is.
+    let reads = at_known _ sources is c.in_ok-run.ensures.reads in
+    let collected : AreCollected plan sources run.lists run.order = record { whole = c.in_ok-shown.ensures.lists ∙ ap (shown_rests plan.from plan.omit) (reads.whole (λ source index stops. stops)); ordered = c.in_ok-shown.ensures.order } in
+    growth_shown plan sources run.lists run.order collected c.send_lists.result c.send_lists.ensures.growth)
 
 pub returns-clause-limit : goal.returns-clause-limit
 returns-clause-limit g c = limit_told c.args.plan.now.view (samples_of c.in_ok-shown.shown.lists) c.send_lists.result c.send_lists.ensures.growth
 
 pub returns-clause-told : goal.returns-clause-told
-returns-clause-told g c = λ loose unwanted input files loaded.
+returns-clause-told g c = λ loose unwanted.
     let plan = c.args.plan.now in
     let reported = c.report_sources.new.err in
     let gains : g.row.E.Denot → g.row.E.Denot → List SourceEnd → Type 0 =
     λ from to. TellsEndings plan.files (g.E.Outlet.contents from) (g.E.Outlet.contents to) (g.E.Outlet.failures from) (g.E.Outlet.failures to) in
     let told = subst (λ start. gains start reported (map (λ list. list.ending) c.lists.result.now)) (c.in_ok-run.ensures.untold unwanted) (c.in_ok-report_sources.ensures.told loose unwanted) in
-    told_before (λ err. IfSome (known_endings plan input files) (gains c.args.err.now err)) reported c.send_lists.new.err c.send_lists.result c.send_lists.ensures.untold
-    (told_of_read plan input files c.args.inputs.items c.in_ok-run.run'.kept.lists c.lists.result.now _ _ _ _ loaded (c.in_ok-run.ensures.reads.whole (λ source index stops. stops)) c.lists.ensures.lists told)
+    told_before (λ err. IfSome (known_inputs c.args.inputs.items) (λ sources. gains c.args.err.now err (map (λ rest. rest.ending) (asked_rests plan.options sources)))) reported c.send_lists.new.err c.send_lists.result c.send_lists.ensures.untold
+    (if_known (known_inputs c.args.inputs.items) (λ sources. gains c.args.err.now reported (map (λ rest. rest.ending) (asked_rests plan.options sources)))
+    (λ sources is. told_of_read plan sources c.in_ok-run.run'.kept.lists c.lists.result.now _ _ _ _ ((at_known _ sources is c.in_ok-run.ensures.reads).whole (λ source index stops. stops)) c.lists.ensures.lists told))
 
 pub returns-clause-told_faults : goal.returns-clause-told_faults
-returns-clause-told_faults g c = λ loose unwanted input files loaded.
+returns-clause-told_faults g c = λ loose unwanted.
     let plan = c.args.plan.now in
     let reported = c.report_sources.new.err in
     let gains : g.row.E.Denot → g.row.E.Denot → List SourceEnd → Type 0 =
     λ from to. TellsEndings plan.files (g.E.Outlet.contents from) (g.E.Outlet.contents to) (g.E.Outlet.failures from) (g.E.Outlet.failures to) in
     let told = subst (λ start. gains start reported (map (λ list. list.ending) c.lists.result.now)) (c.in_ok-run.ensures.untold unwanted) (c.in_ok-report_sources.ensures.told loose unwanted) in
-    told_before_faults (λ err. IfSome (known_endings plan input files) (gains c.args.err.now err)) reported c.send_lists.new.err c.send_lists.result c.send_lists.ensures.untold_err
-    (told_of_read plan input files c.args.inputs.items c.in_ok-run.run'.kept.lists c.lists.result.now _ _ _ _ loaded (c.in_ok-run.ensures.reads.whole (λ source index stops. stops)) c.lists.ensures.lists told)
+    told_before_faults (λ err. IfSome (known_inputs c.args.inputs.items) (λ sources. gains c.args.err.now err (map (λ rest. rest.ending) (asked_rests plan.options sources)))) reported c.send_lists.new.err c.send_lists.result c.send_lists.ensures.untold_err
+    (if_known (known_inputs c.args.inputs.items) (λ sources. gains c.args.err.now reported (map (λ rest. rest.ending) (asked_rests plan.options sources)))
+    (λ sources is. told_of_read plan sources c.in_ok-run.run'.kept.lists c.lists.result.now _ _ _ _ ((at_known _ sources is c.in_ok-run.ensures.reads).whole (λ source index stops. stops)) c.lists.ensures.lists told))
 
 pub returns-then-not-branch-clause-told_faults : goal.returns-then-not-branch-clause-told_faults
 returns-then-not-branch-clause-told_faults g c = λ loose. absurd (true≢false (sym (c.in_ok-report_sources.ensures.loose loose) ∙ c.if-not-branch.true))

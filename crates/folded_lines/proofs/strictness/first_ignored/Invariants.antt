@@ -1,9 +1,14 @@
--- the first line without a count is that of the parts that are left
-use Rattle.std.proofs.Common.{◌≡◌, drop}
-use Rattle.std.specs.List.{flat_map}
+-- the first line without a count is that of what is left
+use Rattle.std.proofs.Common.{◌≡◌, ◌-◌, ◌≤◌, drop, length}
 use Rattle.folded_lines.specs.checked.Strictness.{first_ignored, lines_in}
 use Rattle.folded_lines.proofs.strictness.first_ignored.Given as goal
 
-abbrev pub invariant-loop-part : goal.invariant-loop-part
-invariant-loop-part l =
-    first_ignored 0 (flat_map lines_in l.parts) ≡ first_ignored l.taken (flat_map lines_in (drop l.part-index l.parts))
+abbrev pub invariant-loop-position : goal.invariant-loop-position
+invariant-loop-position l = record {
+  few : l.taken ≤ l.position;
+  within : l.position ≤ length l.bytes;
+  same : first_ignored 0 (lines_in l.bytes) ≡ first_ignored l.taken (lines_in (drop l.position l.bytes));
+}
+
+abbrev pub decreases-loop-position : goal.decreases-loop-position
+decreases-loop-position l = length l.bytes - l.position

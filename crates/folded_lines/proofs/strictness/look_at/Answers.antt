@@ -1,6 +1,5 @@
-use Rattle.std.proofs.Common.{◌≡◌, ℕ, ◌+◌, List, ◌∷◌, ◌++◌, Some, cond, map, take, drop, drop-drop, length-drop, sym, ap, ◌∙◌, arith}
+use Rattle.std.proofs.Common.{◌≡◌, ℕ, ◌+◌, List, ◌∷◌, Some, cond, map, take, drop, drop-drop, length-drop, sym, ap, ◌∙◌, arith}
 use Rattle.bstr.specs.Text.{line_len, without_terminator}
-use Rattle.folded_lines.specs.Line.{Line}
 use Rattle.folded_lines.specs.Lines.{read_line}
 use Rattle.folded_lines.specs.Reading.{is_ignored}
 use Rattle.folded_lines.specs.checked.Strictness.{first_ignored, lines_in}
@@ -15,7 +14,7 @@ overflow_add-result c =
     omega arith
 
 pub returns-clause-first : goal.returns-clause-first
-returns-clause-first c = λ before more.
+returns-clause-first c = λ before.
     let bytes = c.args.bytes.now in
     let at = c.args.position in
     let left = drop at bytes in
@@ -26,8 +25,7 @@ returns-clause-first c = λ before more.
     let step : lines_in left ≡ read_line line ∷ lines_in (drop (line_len left) left) = ap (map read_line) (text_lines-step left (omega (arith, length-drop at bytes, c.requires))) in
     let rest : drop (line_len left) left ≡ drop (at + c.first_line-len.result.1) bytes = drop-drop (line_len left) at bytes ∙ ap (λ n. drop (at + n) bytes) (sym len) in
     let ignored : is_ignored (read_line line) ≡ c.has_no_count.result = sym (c.has_no_count.ensures ∙ ap (λ (l : List ℕ). is_ignored (read_line l)) text) in
-    ap (λ (lines : List Line). first_ignored before (lines ++ more)) step
-    ∙ (λ i. cond (ignored i) (Some (before + 1)) (first_ignored (before + 1) (lines_in (rest i) ++ more)))
+    ap (first_ignored before) step ∙ (λ i. cond (ignored i) (Some (before + 1)) (first_ignored (before + 1) (lines_in (rest i))))
 
 pub returns-clause-nearer : goal.returns-clause-nearer
 returns-clause-nearer c =

@@ -8,6 +8,6 @@ pub returns-in_default-clause-front : goal.returns-in_default-clause-front
 returns-in_default-clause-front g c =
     let lines = c.args.lines.now in
     let m = lines.merge in
-    let sent : Appends (g.W.Outlet.contents c.args.out.now) (g.W.Outlet.contents c.send_snapshot.new.out)
+    let sent : Appends (g.W.Outlet.contents c.args.out.now) (g.W.Outlet.contents c.send.new.out)
     (live_line_at c.args.lines.now.merge.sources c.args.lines.now.width c.args.lines.now.merge.taken (length c.args.lines.now.merge.taken)) = search rules in
     whole_front (live_line_at m.sources lines.width m.taken (length m.taken)) _ _ sent

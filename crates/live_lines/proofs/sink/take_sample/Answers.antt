@@ -1,4 +1,4 @@
-use Rattle.std.proofs.Common.{◌≡◌, ◌∙◌, ◌++◌, ◌∷◌, [], ap, length, rules, subst, sym}
+use Rattle.std.proofs.Common.{◌≡◌, ◌∙◌, ◌++◌, ◌∷◌, [], List, ℕ, ap, get_or, length, rules, subst, sym}
 use Rattle.std.specs.Prelude.{Some}
 use Rattle.sample_tables.specs.Rows.{named, row_by}
 use Rattle.sample_tables.specs.declared.samples.Sample.{Sample}
@@ -14,15 +14,16 @@ pub returns-then-is_due-clause-written : goal.returns-then-is_due-clause-written
 returns-then-is_due-clause-written g c =
     let old = c.args.lines.now in
     let m = old.merge in
-    let t = c.take.new.self in
+    let t = c.take_row.new.self in
     let n = c.send_due.new.lines in
     let known = g.W.Outlet.contents in
     let failures = g.W.Outlet.failures in
     let sample : Sample = named c.args.ledger.now.told (row_by c.args.ledger.now.stacks (record { stack = c.args.row; weight = c.args.weight })) in
-    let taken : c.take.new.self.taken ≡ c.args.lines.now.merge.taken ++ (c.args.source, sample) ∷ [] = search rules in
-    let longer = lines_more m.sources old.width old.every t.sources m.taken t.taken (c.args.source, sample) c.requires.positive c.take.ensures.sources taken in
+    let taken : c.take_row.new.self.taken ≡ c.args.lines.now.merge.taken ++ (c.args.source, sample) ∷ [] = search rules in
+    let of = ap (λ (xs : List ℕ). get_or xs 0 0) c.take_row.ensures.setting in
+    let longer = lines_more m.sources old.width old.every t.sources m.taken t.taken (c.args.source, sample) c.requires.positive of taken in
     let same : live_lines c.send_due.new.lines.merge.sources c.send_due.new.lines.width c.send_due.new.lines.every c.send_due.new.lines.merge.taken
-    ≡ live_lines c.take.new.self.sources c.args.lines.now.width c.args.lines.now.every c.take.new.self.taken =
+    ≡ live_lines c.take_row.new.self.sources c.args.lines.now.width c.args.lines.now.every c.take_row.new.self.taken =
     λ i. live_lines (c.send_due.ensures.merge i).sources (c.send_due.ensures.width i) (c.send_due.ensures.every i) (c.send_due.ensures.merge i).taken in
     let made = written_line (live_lines m.sources old.width old.every m.taken) (live_line_at t.sources old.width t.taken (length t.taken)) (live_lines n.merge.sources n.width n.every n.merge.taken)
     (is_due (Some old.every) (length t.taken)) old.failure n.failure (known old.start.value) (known c.args.out.now) (known c.send_due.new.out) (failures old.start.value) (failures c.args.out.now) (failures c.send_due.new.out)
@@ -33,12 +34,13 @@ pub returns-else-is_due-clause-written : goal.returns-else-is_due-clause-written
 returns-else-is_due-clause-written g c =
     let old = c.args.lines.now in
     let m = old.merge in
-    let t = c.take.new.self in
+    let t = c.take_row.new.self in
     let known = g.W.Outlet.contents in
     let failures = g.W.Outlet.failures in
     let sample : Sample = named c.args.ledger.now.told (row_by c.args.ledger.now.stacks (record { stack = c.args.row; weight = c.args.weight })) in
-    let taken : c.take.new.self.taken ≡ c.args.lines.now.merge.taken ++ (c.args.source, sample) ∷ [] = search rules in
-    let longer = lines_more m.sources old.width old.every t.sources m.taken t.taken (c.args.source, sample) c.requires.positive c.take.ensures.sources taken in
+    let taken : c.take_row.new.self.taken ≡ c.args.lines.now.merge.taken ++ (c.args.source, sample) ∷ [] = search rules in
+    let of = ap (λ (xs : List ℕ). get_or xs 0 0) c.take_row.ensures.setting in
+    let longer = lines_more m.sources old.width old.every t.sources m.taken t.taken (c.args.source, sample) c.requires.positive of taken in
     written_idle (live_lines m.sources old.width old.every m.taken) (live_line_at t.sources old.width t.taken (length t.taken)) (live_lines t.sources old.width old.every t.taken)
     (is_due (Some old.every) (length t.taken)) old.failure (known old.start.value) (known c.args.out.now) (failures old.start.value) (failures c.args.out.now)
     (sym c.is_due.ensures ∙ c.if-is_due.false) longer c.requires.written
@@ -50,7 +52,7 @@ pub returns-else-is_due-clause-flushed : goal.returns-else-is_due-clause-flushed
 returns-else-is_due-clause-flushed g c none some =
     let old = c.args.lines.now in
     let sample : Sample = named c.args.ledger.now.told (row_by c.args.ledger.now.stacks (record { stack = c.args.row; weight = c.args.weight })) in
-    let taken : c.take.new.self.taken ≡ c.args.lines.now.merge.taken ++ (c.args.source, sample) ∷ [] = search rules in
+    let taken : c.take_row.new.self.taken ≡ c.args.lines.now.merge.taken ++ (c.args.source, sample) ∷ [] = search rules in
     c.requires.flushed none
-    (due_before old.every (length old.merge.taken) (length c.take.new.self.taken) old.failure (ap length taken ∙ length_push old.merge.taken (c.args.source, sample)) none
+    (due_before old.every (length old.merge.taken) (length c.take_row.new.self.taken) old.failure (ap length taken ∙ length_push old.merge.taken (c.args.source, sample)) none
     (sym c.is_due.ensures ∙ c.if-is_due.false) some)

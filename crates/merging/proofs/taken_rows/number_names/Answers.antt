@@ -1,7 +1,7 @@
-use Rattle.std.proofs.Common.{◌≡◌, ◌+◌, ◌++◌, ◌∷◌, [], ◌∙◌, ap, arith, length, take, get_or, List, ℕ, subst, sym}
-use Rattle.std.proofs.lemmas.List.{take_all, take_more}
+use Rattle.std.proofs.Common.{◌≡◌, ◌+◌, ◌++◌, ◌∷◌, [], ◌∙◌, ap, arith, take, get_or, List, ℕ, subst, sym}
+use Rattle.std.proofs.lemmas.List.{take_more}
 use Rattle.call_tree.specs.FrameTable.{with_name}
-use Rattle.ring_collect.specs.NamesInOrder.{with_stack, GrowsTo}
+use Rattle.ring_collect.specs.NamesInOrder.{with_stack}
 use Rattle.ring_collect.proofs.NameOrder.{with_stack_push}
 use Rattle.flame_layout.proofs.Held.{grows-trans, grows-interned, got}
 use Rattle.merging.specs.checked.TakenRows.{AreNumbersOf}

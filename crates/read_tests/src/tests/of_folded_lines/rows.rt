@@ -103,3 +103,20 @@ fn rows_are_told_once(rt: HostRuntime) -> Result<(), Fail> {
     let text = b"a;b 1\na;b 2\nno count\nb;c;b 3\na;b; 4\r\nb;c;b\t5\n 6\na;b; 7\n 8\n";
     holds(&rt, text_answers(rt.alloc(), text, &Asked::Tellings(TOLD)))
 }
+
+const TEXTS: &[Telling<'static>] = &[
+    Telling::New(&["caf\u{fffd}", "b"], &[0, 1], 1),
+    Telling::New(&["c"], &[2], 2),
+    Telling::Again(0, 3),
+    Telling::Again(0, 4),
+    Telling::Again(1, 5),
+    Telling::Again(0, 6),
+    Telling::End,
+];
+
+/// A stack that is not UTF-8 is known by its text.
+#[test]
+fn text_is_told_once(rt: HostRuntime) -> Result<(), Fail> {
+    let text = b"caf\xe9;b 1\nc 2\ncaf\xe9;b 3\ncaf\xe8;b; 4\nc 5\ncaf\xef\xbf\xbd;b 6\n7\n";
+    holds(&rt, text_answers(rt.alloc(), text, &Asked::Tellings(TEXTS)))
+}

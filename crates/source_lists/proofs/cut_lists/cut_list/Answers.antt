@@ -1,5 +1,5 @@
 use Rattle.std.proofs.Common.{◌∙◌, ◌<◌, ◌++◌, ◌∷◌, [], ap, arith, length, map, take}
-use Rattle.sample_tables.specs.Rows.{named, row_by, sample_at}
+use Rattle.sample_tables.specs.Rows.{named, row_by}
 use Rattle.sample_tables.specs.declared.samples.Sample.{Sample}
 use Rattle.stack_core.specs.Ledgers.{LedgerState}
 use Rattle.source_lists.specs.checked.CutStacks.{edited_sample, shown_numbers, shown_stack}

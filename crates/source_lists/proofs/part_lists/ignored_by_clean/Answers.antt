@@ -32,8 +32,9 @@ loop-part-preserved c =
 pub returns-then-weight : goal.returns-then-weight
 returns-then-weight c =
     let parts = c.args.parts.now in
-    let all = ap (map seen_as_rest) (take_all c.loop-part.part-index parts (omega (arith, c.loop-part-test.false))) in (
-      subst (λ (rests : List Rest). All IsClean rests) all c.loop-part.invariant.clean,
-      omega (arith, ap (λ (rests : List Rest). total_weight (samples_of_parts rests)) all, c.loop-part.invariant.weight, c.if-weight.true),
-      c.loop-part.invariant.ignored ∙ ap ignored_by all,
-    )
+    let all = ap (map seen_as_rest) (take_all c.loop-part.part-index parts (omega (arith, c.loop-part-test.false))) in
+    record {
+      clean = subst (λ (rests : List Rest). All IsClean rests) all c.loop-part.invariant.clean;
+      weight = omega (arith, ap (λ (rests : List Rest). total_weight (samples_of_parts rests)) all, c.loop-part.invariant.weight, c.if-weight.true);
+      ignored_is = c.loop-part.invariant.ignored ∙ ap ignored_by all;
+    }

@@ -7,6 +7,7 @@ use Rattle.ring_collect.specs.Collection.{AnswersRun, CollectsRun}
 use Rattle.ring_collect.proofs.GivenRests.{known_such}
 use Rattle.source_lists.specs.Runs.{ReadsLists}
 use Rattle.source_lists.specs.checked.Readers.{reader_rest}
+use Rattle.source_lists.proofs.FaultLemmas.{blamed}
 use Rattle.source_lists.proofs.ReaderThreads.{folded_send, pprof_send}
 use Rattle.source_lists.proofs.reader_runs.run_rows.Goals as goal
 
@@ -30,12 +31,13 @@ returns-clause-reads g c =
     IfOk-weaker c.collect_rows.result (λ run. CollectsRun stops goes rests taken taken' run.lists.items run.order.items) (λ run. ReadsLists stops goes rests run.lists.items run.order.items)
     (λ run collects. record { collected = collects.lists; whole = collects.whole; ordered = collects.order }) answer.run
 
-pub returns-clause-unfinished : goal.returns-clause-unfinished
-returns-clause-unfinished g c = λ source fault.
+pub returns-clause-err : goal.returns-clause-err
+returns-clause-err g c =
     let readers = c.args.readers.items in
     let stops = g.G.Gate.may_stop (arc_value c.args.gate) in
     let goes = g.G.Gate.may_go (arc_value c.args.gate) in
     let taken = g.S.RowSink.taken c.args.sink.now in
     let taken' = g.S.RowSink.taken c.collect_rows.new.sink in
+    let rests = map reader_rest readers in
     let answer = known_such (λ reader rest. rest ≡ reader_rest reader) reader_rest (λ reader other is. is) readers (λ rests. AnswersRun stops goes rests taken taken' c.collect_rows.result) c.collect_rows.ensures.answer in
-    subst (λ count. source < count) (length-map readers reader_rest) (answer.unfinished source fault).below
+    blamed c.collect_rows.result _ (λ source fault. subst (λ count. source < count) (length-map readers reader_rest) (answer.unfinished source fault).below)

@@ -13,8 +13,8 @@ returns-clause-rests c =
     let readers = c.in_ok-readers.readers.items in
     IfOk-weaker c.filter_all.result
     (λ all. map filtered_rest all.items ≡ map (λ reader. kept_rest options.filter (naming_rest reader)) readers)
-    (λ all. map filtered_rest all.items ≡ asked_rests options c.args.inputs.items)
-    (λ all same. same ∙ kept_by_readers options readers c.args.inputs.items (c.in_ok-readers.ensures ∙ c.in_ok-readers_of.ensures.rests))
+    (λ all. map filtered_rest all.items ≡ asked_rests options c.args.sources.items)
+    (λ all same. same ∙ kept_by_readers options readers c.args.sources.items (c.in_ok-readers.ensures ∙ c.in_ok-readers_of.ensures.rests))
     c.filter_all.ensures
 
 pub returns-clause-limits : goal.returns-clause-limits
@@ -23,6 +23,6 @@ returns-clause-limits c =
     let readers = c.in_ok-readers.readers.items in
     IfOk-weaker c.filter_all.result
     (λ all. map filtered_rest all.items ≡ map (λ reader. kept_rest options.filter (naming_rest reader)) readers)
-    (λ all. All (λ rest. IsSourceLimited rest.samples) (asked_rests options c.args.inputs.items))
-    (λ all same. limited_rests options c.args.inputs.items c.in_ok-readers_of.ensures.limits)
+    (λ all. All (λ rest. IsSourceLimited rest.samples) (asked_rests options c.args.sources.items))
+    (λ all same. limited_rests options c.args.sources.items c.in_ok-readers_of.ensures.limits)
     c.filter_all.ensures

@@ -1,29 +1,31 @@
-use Rattle.std.proofs.Common.{◌∙◌, ◌<◌, ◌++◌, ◌∷◌, [], ap, arith, length, map, sym, take}
-use Rattle.std.proofs.lemmas.Result.{IfOk-from_err}
-use Rattle.std.proofs.lemmas.List.{map_push, take_all, take_more}
+use Rattle.std.proofs.Common.{◌≡◌, ◌∙◌, ◌<◌, ◌+◌, ◌++◌, ◌∷◌, [], IfSome, List, Option, ap, arith, length, subst, sym, take, ℕ}
+use Rattle.std.specs.List.{AllZip}
+use Rattle.std.proofs.lemmas.List.{take_all, take_more}
+use Rattle.run_options.specs.declared.formats.Format.{Format}
+use Rattle.profile_messages.specs.declared.types.SampleType.{SampleType}
+use Rattle.source_lists.specs.Sources.{known_input}
 use Rattle.source_lists.specs.Types.{input_type}
+use Rattle.source_lists.proofs.KnownInputs.{found_all, zip_push}
 use Rattle.source_lists.proofs.source_types.chosen_types.Goals as goal
-
-pub returns-in_err-types : goal.returns-in_err-types
-returns-in_err-types c = IfOk-from_err c.from_residual.result _ c.from_residual.ensures.0
-
-pub returns-in_err-type_of_input : goal.returns-in_err-type_of_input
-returns-in_err-type_of_input c = IfOk-from_err c.from_residual-in_err-type_of_input.result _ c.from_residual-in_err-type_of_input.ensures.0
-
-pub returns-in_err-push : goal.returns-in_err-push
-returns-in_err-push c = IfOk-from_err c.from_residual-in_err-push.result _ c.from_residual-in_err-push.ensures.0
 
 pub loop-input-preserved : goal.loop-input-preserved
 loop-input-preserved c =
+    let options = c.args.options.now in
+    let has_type : Format × Option (List ℕ) → SampleType → Type 0 = λ input found. IfSome (known_input input) (λ source. found ≡ input_type options source) in
     let inputs = c.args.inputs.now in
     let n = c.loop-input.input-index in
     let input = c.input-item.result in
-    let one = input_type c.args.options.now in
+    let types = c.loop-input.types.items in
     let within : n < length inputs = omega arith in
     let one_more = take_more inputs n input within ∙ ap (λ last. take n inputs ++ last ∷ []) (sym c.input-item.is) in
-    c.in_ok-push.ensures.items
-    ∙ ((λ i. c.loop-input.invariant i ++ c.in_ok-type_of_input.ensures i ∷ []) ∙ (sym (map_push one (take n inputs) input) ∙ ap (map one) (sym one_more)))
+    subst (λ (types : List SampleType). AllZip has_type (take (n + 1) inputs) types) (sym c.in_ok-push.ensures.items)
+    (subst (λ (inputs : List (Format × Option (List ℕ))). AllZip has_type inputs (types ++ c.in_ok-type_of_input.field-0 ∷ [])) (sym one_more)
+    (zip_push has_type (take n inputs) types input c.in_ok-type_of_input.field-0 c.loop-input.invariant c.in_ok-type_of_input.ensures))
 
 pub returns : goal.returns
 returns c =
-    c.loop-input.invariant ∙ ap (map (input_type c.args.options.now)) (take_all c.loop-input.input-index c.args.inputs.now (omega arith))
+    let options = c.args.options.now in
+    let types = c.loop-input.types.items in
+    let has_type : Format × Option (List ℕ) → SampleType → Type 0 = λ input found. IfSome (known_input input) (λ source. found ≡ input_type options source) in
+    let all = take_all c.loop-input.input-index c.args.inputs.now (omega arith) in
+    found_all known_input (input_type options) c.args.inputs.now types (subst (λ (inputs : List (Format × Option (List ℕ))). AllZip has_type inputs types) all c.loop-input.invariant)

@@ -1,16 +1,14 @@
-use Rattle.std.proofs.Common.{◌≡◌, ◌∙◌, List, ap, length, subst, sym, ℕ}
-use Rattle.profile_tables.specs.Samples.{read_pprof}
+use Rattle.std.proofs.Common.{◌≡◌, ◌∙◌, List, subst, sym, ℕ}
 use Rattle.run_options.specs.declared.formats.Format.{Format}
-use Rattle.source_lists.specs.Sources.{whole_rest}
-use Rattle.source_lists.specs.Strictness.{fault_of_rest, source_fault}
-use Rattle.source_lists.specs.checked.Inputs.{seen_content}
+use Rattle.run_options.specs.declared.formats.Format.TheVariants.{Pprof}
+use Rattle.source_lists.specs.Sources.{read_bytes}
+use Rattle.source_lists.specs.Strictness.{strict_fault_in}
 use Rattle.source_lists.proofs.strictness.fault_of.Goals as goal
 
-pub returns-in-Profile : goal.returns-in-Profile
-returns-in-Profile c = λ options.
+pub returns-in-Pprof : goal.returns-in-Pprof
+returns-in-Pprof c = λ options.
     let ending = c.args.ending.now in
     let found = c.fault_of_profile.result in
-    subst (λ (input : Format × List ℕ). ending ≡ (whole_rest options input).ending → found ≡ source_fault options input)
-    (ap seen_content (sym c.in-Profile.is) ∙ c.content.ensures.content)
-    (subst (λ (bytes : List ℕ). ending ≡ (read_pprof bytes options.pick options.naming).ending → found ≡ fault_of_rest (length bytes) (read_pprof bytes options.pick options.naming)) c.as_slice-in-Profile.ensures
+    subst (λ (format : Format). ending ≡ (read_bytes format c.args.source.now.1 options.pick options.naming).ending → found ≡ strict_fault_in format c.args.source.now.1 options.pick options.naming) (sym c.in-Pprof.is ∙ c.format.ensures)
+    (subst (λ (bytes : List ℕ). ending ≡ (read_bytes Pprof bytes options.pick options.naming).ending → found ≡ strict_fault_in Pprof bytes options.pick options.naming) (c.as_slice-bytes.ensures ∙ c.bytes.ensures)
     (c.fault_of_profile.ensures options.pick options.naming))

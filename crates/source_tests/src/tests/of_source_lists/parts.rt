@@ -1,17 +1,17 @@
-//! A long source that comes alone, which is read in parts, beside the same source read by one reader.
+//! A long source that comes alone, loaded or stored, which is read in parts, beside the same source read by one reader.
 
-ghost use Rattle.std.specs.Prelude.{◌≡◌, IfOk, length};
+ghost use Rattle.std.specs.Prelude.{◌≡◌, ◌≤◌, IfOk, length};
 
 mod long_sources;
 
+use super::stored::stored_input;
 use super::{input_of, options_with};
 use crate::tests::holds;
 use long_sources::{
     COMPRESSED, Long, PROFILES, Repeated, Section, TEXTS, TOO_HEAVY, WITH_BAD_TABLES, WITH_FAULT,
 };
-use ring_collect::CollectFault;
 use run_options::{Format, Pick};
-use source_lists::{Gating, Input, Run, read};
+use source_lists::{Gating, Input, Run, RunFault, read};
 use stack_core::{NoSink, OpenGate, SourceEnd, SourceList};
 use std::alloc::{AllocError, Global};
 use std::sync::{Arc, Wait};
@@ -24,8 +24,14 @@ fn one_input(alloc: Global, format: Format, bytes: &[u8]) -> Result<Vec<Input>, 
     Ok(vec![in alloc; input_of(alloc, format, bytes)?]?)
 }
 
+pub(super) fn one_stored(alloc: Global, text: &[u8]) -> Result<Vec<Input>, AllocError>
+    ensures { IfOk result (λ inputs. length inputs.items ≡ 1) }
+{
+    Ok(vec![in alloc; stored_input(alloc, text)?]?)
+}
+
 /// A gate that never stops, which makes each source be read by one reader.
-fn one_reader_each(alloc: Global) -> Result<Gating<OpenGate>, AllocError> {
+pub(super) fn one_reader_each(alloc: Global) -> Result<Gating<OpenGate>, AllocError> {
     Ok(Gating::Asked(Arc::new(alloc, OpenGate)?))
 }
 
@@ -34,8 +40,27 @@ fn read_as_parts<T: Threads + Wait + Copy + Send + 'static>(
     alloc: Global,
     format: Format,
     bytes: &[u8],
-) -> Result<Run, CollectFault> {
-    let inputs = one_input(alloc, format, bytes)?;
+) -> Result<Run, RunFault> {
+    read_open(rt, alloc, one_input(alloc, format, bytes)?)
+}
+
+/// The same of a text that is stored.
+fn read_stored_as_parts<T: Threads + Wait + Copy + Send + 'static>(
+    rt: &T,
+    alloc: Global,
+    text: &[u8],
+) -> Result<Run, RunFault> {
+    read_open(rt, alloc, one_stored(alloc, text)?)
+}
+
+/// A run in which no gate is asked.
+pub(super) fn read_open<T: Threads + Wait + Copy + Send + 'static>(
+    rt: &T,
+    alloc: Global,
+    inputs: Vec<Input>,
+) -> Result<Run, RunFault>
+    requires { length inputs.items ≤ 64 }
+{
     let options = options_with(alloc, Pick::Preferred);
     let gating = Gating::<OpenGate>::Open;
     read(rt, alloc, inputs, &options, gating, &mut NoSink::new())
@@ -46,7 +71,7 @@ fn read_as_one<T: Threads + Wait + Copy + Send + 'static>(
     alloc: Global,
     format: Format,
     bytes: &[u8],
-) -> Result<Run, CollectFault> {
+) -> Result<Run, RunFault> {
     let inputs = one_input(alloc, format, bytes)?;
     let options = options_with(alloc, Pick::Preferred);
     let gating = one_reader_each(alloc)?;
@@ -65,7 +90,7 @@ fn has_same_sample(one: &SourceList, other: &SourceList, at: usize) -> bool {
     one.weight(at) == other.weight(at)
 }
 
-fn have_same_samples(one: &SourceList, other: &SourceList) -> bool {
+pub(super) fn have_same_samples(one: &SourceList, other: &SourceList) -> bool {
     for at in 0..one.len() {
         if !has_same_sample(one, other, at) {
             return false;
@@ -95,7 +120,7 @@ pub(super) fn is_as_read_by_one<T: Threads + Wait + Copy + Send + 'static>(
     bytes: &[u8],
     run: &Run,
     ending: SourceEnd,
-) -> Result<bool, CollectFault> {
+) -> Result<bool, RunFault> {
     let one = read_as_one(rt, alloc, format, bytes)?;
     Ok(are_alike(run, &one, ending))
 }
@@ -123,11 +148,37 @@ fn is_read_alike<T: Threads + Wait + Copy + Send + 'static>(
     alloc: Global,
     bytes: &mut Vec<u8>,
     source: &Long,
-) -> Result<bool, CollectFault> {
+) -> Result<bool, RunFault> {
     let (format, sections, ending) = *source;
     append_sections(bytes, sections)?;
     let parts = read_as_parts(rt, alloc, format, bytes)?;
     is_as_read_by_one(rt, alloc, format, bytes, &parts, ending)
+}
+
+/// The same of a text that is stored.
+fn is_stored_alike<T: Threads + Wait + Copy + Send + 'static>(
+    rt: &T,
+    alloc: Global,
+    text: &mut Vec<u8>,
+    source: &Long,
+) -> Result<bool, RunFault> {
+    let (format, sections, ending) = *source;
+    append_sections(text, sections)?;
+    let parts = read_stored_as_parts(rt, alloc, text)?;
+    is_as_read_by_one(rt, alloc, format, text, &parts, ending)
+}
+
+fn are_stored_alike<T: Threads + Wait + Copy + Send + 'static>(
+    rt: &T,
+    alloc: Global,
+    texts: &[Long],
+) -> Result<bool, RunFault> {
+    for text in texts {
+        if !is_stored_alike(rt, alloc, &mut Vec::new(alloc), text)? {
+            return Ok(false);
+        }
+    }
+    Ok(true)
 }
 
 /// Each source, read in parts, is as read by one reader.
@@ -135,7 +186,7 @@ fn are_read_alike<T: Threads + Wait + Copy + Send + 'static>(
     rt: &T,
     alloc: Global,
     sources: &[Long],
-) -> Result<bool, CollectFault> {
+) -> Result<bool, RunFault> {
     for source in sources {
         if !is_read_alike(rt, alloc, &mut Vec::new(alloc), source)? {
             return Ok(false);
@@ -165,6 +216,21 @@ fn long_compressed_text(rt: HostRuntime) -> Result<(), Fail> {
 }
 
 #[test]
+fn long_stored_texts_in_parts(rt: HostRuntime) -> Result<(), Fail> {
+    holds(&rt, are_stored_alike(&rt, rt.alloc(), TEXTS))
+}
+
+#[test]
+fn fault_of_a_long_stored_text(rt: HostRuntime) -> Result<(), Fail> {
+    holds(&rt, are_stored_alike(&rt, rt.alloc(), WITH_FAULT))
+}
+
+#[test]
+fn long_stored_text_that_weighs_too_much(rt: HostRuntime) -> Result<(), Fail> {
+    holds(&rt, are_stored_alike(&rt, rt.alloc(), TOO_HEAVY))
+}
+
+#[test]
 fn long_profiles_in_parts(rt: HostRuntime) -> Result<(), Fail> {
     holds(&rt, are_read_alike(&rt, rt.alloc(), PROFILES))
 }
@@ -188,7 +254,7 @@ fn parts_have_counts<T: Threads + Wait + Copy + Send + 'static>(
     source: &Long,
     names: usize,
     stacks: usize,
-) -> Result<bool, CollectFault> {
+) -> Result<bool, RunFault> {
     let (format, sections, _) = *source;
     append_sections(bytes, sections)?;
     let run = read_as_parts(rt, alloc, format, bytes)?;

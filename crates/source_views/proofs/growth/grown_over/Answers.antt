@@ -1,6 +1,5 @@
 use Rattle.std.proofs.Common.{◌∙◌, ap, map, subst}
 use Rattle.std.proofs.lemmas.Result.{IfOk-weaker}
-use denote.Ref.{Bor}
 use Rattle.function_sums.specs.FunctionChanges.{AreFunctionChanges}
 use Rattle.function_sums.specs.Growth.{grown}
 use Rattle.function_sums.specs.declared.changes.ChangeOrder.{ChangeOrder}

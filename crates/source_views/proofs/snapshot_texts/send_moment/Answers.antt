@@ -1,7 +1,6 @@
 use Rattle.std.proofs.Common.{◌∙◌, ◌+◌, ◌≤◌, ◌<◌, All, List, OnErr, OnOk, ap, length, refl, subst, sym, ℕ}
 use Rattle.std.specs.Io.KnownBytes.{Appends}
-use Rattle.merged_stacks.specs.RankedStacks.{Ranking, ranked_samples}
-use Rattle.merged_stacks.specs.Timeline.{total_weight}
+use Rattle.merged_stacks.specs.RankedStacks.{ranked_samples}
 use Rattle.flame_layout.proofs.DrawnBoxes.{plain_positive, plain_within}
 use Rattle.byte_io.specs.Pieces.{AppendsFront}
 use Rattle.source_views.proofs.SnapshotLines.{moment_text}

@@ -7,5 +7,5 @@ use Rattle.live_lines.proofs.merge.LiveMerge.new.Goals as goal
 pub invariant_of-result : goal.invariant_of-result
 invariant_of-result c =
     let counts = c.in_ok-zeros.field-0.items in
-    let nothing : c.in_ok-new.field-0.taken ≡ [] = λ i. (c.in_ok-new.ensures i).taken in
-    subst (λ (pairs : List (ℕ × Sample)). IsLiveMerge pairs counts 0 0) (sym nothing) (merge_starts counts c.in_ok-zeros.ensures.zero)
+    let nothing : c.in_ok-new.field-0.taken ≡ [] = c.in_ok-new.ensures in
+    subst (λ (pairs : List (ℕ × Sample)). IsLiveMerge pairs counts 0) (sym nothing) (merge_starts counts c.in_ok-zeros.ensures.zero)

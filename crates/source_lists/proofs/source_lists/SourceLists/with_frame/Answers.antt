@@ -5,7 +5,6 @@ use Rattle.stack_core.specs.Interleaving.{IsInterleaving}
 use Rattle.stack_core.specs.Ledgers.{ListState}
 use Rattle.merged_stacks.specs.Timeline.{samples_of}
 use Rattle.ring_collect.specs.Collection.{seen_as_rest}
-use Rattle.source_lists.specs.Lists.{ListsState}
 use Rattle.source_lists.specs.checked.CutStacks.{begins}
 use Rattle.source_lists.specs.checked.KeptStacks.{all_are_passing, passing_rest, passing_samples}
 use Rattle.source_lists.proofs.KeptLemmas.{limited_kept_lists, samples_kept}

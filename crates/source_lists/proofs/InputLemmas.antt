@@ -1,0 +1,71 @@
+-- What readers of inputs may give, and what was read by them.
+use Rattle.std.proofs.Common.{◌≡◌, ◌≢◌, ◌∙◌, ◌⊎◌, ◌↔◌, inl, inr, ℕ, suc, false, List, [], ◌∷◌, Option, Some, None, IfSome, All, arith, map, refl, sym, subst}
+use Rattle.std.specs.List.{AllZip}
+use Rattle.folded_lines.specs.Streams.{StreamGives}
+use Rattle.folded_lines.specs.declared.streams.FoldedStream.{FoldedStream}
+use Rattle.folded_lines.proofs.StreamTexts.{stream_limits, stream_or_stopped, stream_possible}
+use Rattle.byte_io.specs.declared.stored_range.StoredRange.{StoredRange}
+use Rattle.stack_core.specs.Ledgers.{ListState}
+use Rattle.stack_core.specs.Reading.{IsSourceLimited, Rest}
+use Rattle.stack_core.specs.declared.endings.SourceEnd.TheVariants.{Stopped}
+use Rattle.ring_collect.specs.Collection.{AreGiven, seen_as_rest}
+use Rattle.run_options.specs.declared.formats.Format.{Format}
+use Rattle.run_options.specs.declared.formats.Format.TheVariants.{Folded}
+use Rattle.run_options.specs.declared.options.Options.{Options}
+use Rattle.source_lists.specs.Runs.{IsReadOut}
+use Rattle.source_lists.specs.Sources.{known_input, known_inputs, whole_rest, whole_rests}
+use Rattle.source_lists.specs.checked.InputReaders.{IsCutOff, IsReaderOf, input_gives, range, stream_gives}
+use Rattle.source_lists.specs.checked.Readers.{reader_rest, reader_told}
+use Rattle.source_lists.specs.declared.input_readers.InputReader.{InputReader}
+use Rattle.source_lists.specs.declared.input_readers.InputReader.TheVariants.{Loaded, Stored}
+use Rattle.source_lists.specs.declared.source_reader.SourceReader.{SourceReader}
+use Rattle.source_lists.proofs.KnownInputs.{found_all}
+
+-- ---- one reader
+
+pub loaded_reader : (options : Options) (source : Format × List ℕ) (reader : SourceReader) → reader_told reader ≡ record { names = []; stacks = [] } → reader_rest reader ≡ whole_rest options source
+    → IsSourceLimited (whole_rest options source).samples → IsReaderOf options (source.0, Some source.1) (Loaded reader)
+loaded_reader options source reader told same limited = record {
+  told = told;
+  possible = record { rest = reader_rest reader; is_given = refl };
+  limited = λ rest is. subst (λ (rest : Rest). IsSourceLimited rest.samples) (sym (is ∙ same)) limited;
+  reads = λ rest is. inr (is ∙ same);
+}
+
+known_text : (options : Options) (text : Option (List ℕ)) (rest : Rest) → StreamGives text false rest → IsCutOff rest ⊎ IfSome (known_input (Folded, text)) (λ source. rest ≡ whole_rest options source)
+known_text options None rest given = inr tt
+known_text options (Some bytes) rest given = stream_or_stopped bytes false rest given
+
+pub stored_reader : (options : Options) (text : Option (List ℕ)) (reader : FoldedStream StoredRange range) → reader.telling ≡ record { names = []; stacks = [] }
+    → ((rest : Rest) → stream_gives reader rest ↔ StreamGives text false rest) → IsReaderOf options (Folded, text) (Stored reader)
+stored_reader options text reader told gives =
+    let some = stream_possible text false (λ sure. cc) in
+    record {
+      told = told;
+      possible = record { rest = some.rest; is_given = (gives some.rest).1 some.is_given };
+      limited = λ rest given. stream_limits text false rest ((gives rest).0 given);
+      reads = λ rest given. known_text options text rest ((gives rest).0 given);
+    }
+
+-- ---- what was read
+
+read_out : (rest : Rest) (Holds : Type 0) → IsCutOff rest ⊎ Holds → ((after : ℕ) → rest.ending ≢ Stopped after) → Holds
+read_out rest Holds (inl cut) out = absurd (out cut.0 cut.1)
+read_out rest Holds (inr holds) out = holds
+
+each_read : (options : Options) (inputs : List (Format × Option (List ℕ))) (readers : List InputReader) (lists : List ListState) → AllZip (IsReaderOf options) inputs readers → AreGiven input_gives readers (map seen_as_rest lists)
+    → All IsReadOut lists → AllZip (λ input rest. IfSome (known_input input) (λ source. rest ≡ whole_rest options source)) inputs (map seen_as_rest lists)
+each_read options [] [] [] each given out = tt
+each_read options [] (reader ∷ readers) lists each given out = absurd each
+each_read options (input ∷ inputs) [] lists each given out = absurd each
+each_read options [] [] (list ∷ lists) each given out = absurd given
+each_read options (input ∷ inputs) (reader ∷ readers) [] each given out = absurd given
+each_read options (input ∷ inputs) (reader ∷ readers) (list ∷ lists) each given out = (
+  read_out (seen_as_rest list) (IfSome (known_input input) (λ source. seen_as_rest list ≡ whole_rest options source)) (each.0.reads (seen_as_rest list) given.0) (out 0 list (omega arith)),
+  each_read options inputs readers lists each.1 given.1 (λ k d within. out (suc k) d (omega (arith, within))),
+)
+
+-- what was read to its end is what the bytes stand for, where all are known
+pub whole_read : (options : Options) (inputs : List (Format × Option (List ℕ))) (readers : List InputReader) (lists : List ListState) → AllZip (IsReaderOf options) inputs readers → AreGiven input_gives readers (map seen_as_rest lists)
+    → All IsReadOut lists → IfSome (known_inputs inputs) (λ sources. map seen_as_rest lists ≡ whole_rests options sources)
+whole_read options inputs readers lists each given out = found_all known_input (whole_rest options) inputs (map seen_as_rest lists) (each_read options inputs readers lists each given out)

@@ -1,0 +1,81 @@
+//! The readers of inputs as one type.
+
+ghost use Rattle.std.specs.Prelude.{◌≡◌, IfOk};
+ghost use Rattle.std.specs.List.{AllZip};
+ghost use Rattle.source_lists.specs.checked.InputReaders.{IsReaderOf};
+
+use crate::inputs::{Content, Input};
+use crate::source_reader::SourceReader;
+use byte_io::StoredRange;
+use folded_lines::FoldedStream;
+use run_options::Options;
+use stack_core::{RowReader, RowStep};
+use std::alloc::{AllocError, Global};
+
+/// The reader of an input. It waits for nothing: the bytes are there, or stored.
+#[derive(Drop)]
+pub(crate) enum InputReader {
+    Loaded(SourceReader),
+    Stored(FoldedStream<StoredRange>),
+}
+
+impl InputReader {
+    /// A reader of the input from its beginning, which has told nothing.
+    pub(crate) fn over(
+        alloc: Global,
+        input: Input,
+        options: &Options,
+    ) -> Result<InputReader, AllocError>
+        ensures { IfOk result (IsReaderOf options.now input) }
+    {
+        match input.into_content() {
+            Content::Loaded(source) => {
+                let reader = SourceReader::over(alloc, source, options)?;
+                Ok(InputReader::Loaded(reader))
+            }
+            Content::Stored(text) => {
+                let reader = FoldedStream::over(alloc, text.whole()?);
+                Ok(InputReader::Stored(reader))
+            }
+        }
+    }
+}
+
+/// A reader for each input, which has told nothing.
+pub(crate) fn readers_of_inputs(
+    alloc: Global,
+    inputs: Vec<Input>,
+    options: &Options,
+) -> Result<Vec<InputReader>, AllocError>
+    ensures { IfOk result (λ readers. AllZip (IsReaderOf options.now) inputs.items readers.items) }
+{
+    let mut readers = Vec::with_capacity(alloc, inputs.len())?;
+    for input in inputs {
+        readers.push(InputReader::over(alloc, input, options)?)?;
+    }
+    Ok(readers)
+}
+
+impl RowReader for InputReader {
+    ghost use Rattle.source_lists.specs.checked.InputReaders.{input_gives, input_told, HasInputEnded};
+
+    ghost gives = { input_gives };
+
+    ghost told = { input_told };
+
+    ghost has_ended = { HasInputEnded };
+
+    fn next_row(&mut self, alloc: Global) -> Result<RowStep, AllocError> {
+        match self {
+            InputReader::Loaded(reader) => reader.next_row(alloc),
+            InputReader::Stored(reader) => reader.next_row(alloc),
+        }
+    }
+
+    fn name(&self, number: usize) -> Option<&str> {
+        match self {
+            InputReader::Loaded(reader) => reader.name(number),
+            InputReader::Stored(reader) => reader.name(number),
+        }
+    }
+}
