@@ -96,6 +96,16 @@ def random_text(chance: random.Random, lines: int) -> bytes:
     return text.rstrip(b'\r\n') if chance.randrange(2) else text
 
 
+def random_strict(chance: random.Random) -> tuple[list[Sample], bytes, str]:
+    """A text, its samples before its first ignored line, and what is wrong with it where it is read strictly, if anything is."""
+    samples = [random_sample(chance) for _ in range(chance.choice((0, 0, 1, 5, 200)))]
+    text = b''.join(text_of(sample) + chance.choice((b'\n', b'\r\n')) for sample in samples)
+    if chance.randrange(2):
+        text += chance.choice(IGNORED[:-1]) + b'\n' + random_text(chance, chance.randrange(100))
+        return samples, text, f'NoCount at {len(samples) + 1}'
+    return samples, text, '' if samples else 'NoSamples at 0'
+
+
 def pieces_of(chance: random.Random, text: bytes) -> list[bytes]:
     """The text in pieces of all sizes."""
     pieces, at = [], 0

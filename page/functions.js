@@ -1,49 +1,41 @@
 // The table of functions: the weights of each name in what is zoomed, of those that match.
 
-import { boxAt, comparedOf, pathOf, upTo } from './drawing.js';
-import { button, element, elementOf, inside, nameButton, sayAbout, withText } from './elements.js';
+import { comparedTexts, comparedValue, comparisonOf, weightsOf } from './compared.js';
+import { upTo } from './drawing.js';
+import { button, element, inside, nameButton, sayAbout, withText } from './elements.js';
 import { described, nameText, shortened } from './names.js';
-import { spanOf, zoomedWeight } from './spans.js';
-import { sumsOf } from './sums.js';
-import { changeText, differenceText, exactText, percentText, separated, weightText } from './units.js';
+import { zoomedPart } from './sums.js';
+import { exactText, percentText, separated, weightText } from './units.js';
 import { isZoomed, wholeOf } from './view.js';
 
 /**
+ * @typedef {import('./compared.js').Comparison} Comparison
+ * @typedef {import('./compared.js').Kind} Kind
  * @typedef {import('./data.js').Page} Page
- * @typedef {import('./sums.js').Sums} Sums
+ * @typedef {import('./sums.js').Part} Part
  * @typedef {import('./view.js').View} View
  */
 
 /**
- * Of each name its weights in what is zoomed, in a comparison those in both profiles too, and the names that are shown.
- * @typedef {{ here: Sums, compared: Sums[] | null, all: Int32Array }} FunctionRows
+ * What is zoomed, with the weights of each name there, in a comparison those in both profiles too, and the names that are shown.
+ * @typedef {{ here: Part, comparison: Comparison | null, all: Int32Array }} FunctionRows
  */
 
 const TABLE_STEP = 100;
-const NOTHING = { from: 0, to: 0, depth: 0, row: 0 };
-
-// The sums of a drawing of a comparison, in the path that is zoomed.
-/** @type {(view: View, number: number) => Sums} */
-function sumsOfProfile({ page, drawing, span, state }, number) {
-    const profile = page.drawing(number);
-    if (number === drawing.number) return sumsOf(drawing, page.names.length, span);
-    const path = pathOf(page, drawing, state.box);
-    const box = boxAt(page, profile, path, -1, false);
-    const isThere = profile.count > 0 && profile.depth[box] === path.length;
-    return sumsOf(profile, page.names.length, isThere ? spanOf(page, profile, { ...state, box }) : NOTHING);
-}
+/** @type {Kind[]} */
+const KINDS = ['own', 'total'];
+// What is shown of own and of total weights in a comparison: the first of these that leaves names half of the width.
+/** @type {('before' | 'after' | 'change')[][]} */
+const CHOICES = [['before', 'after', 'change'], ['after', 'change'], ['change']];
 
 // The rows of the table: the names in what is zoomed, in a comparison those of either profile, and of these those that match.
 /** @type {(view: View, matching: Uint8Array | null) => FunctionRows} */
 function functionRows(view, matching) {
-    const { page, drawing, span, state } = view;
-    const compared = page.view === 'compare' ? [0, 1].map((number) => sumsOfProfile(view, number)) : null;
-    const here = compared ? compared[state.drawing] : sumsOf(drawing, page.names.length, span);
-    const all = upTo(page.names.length).filter((name) => {
-        const isThere = here.total[name] > 0 || (compared !== null && compared.some(({ total }) => total[name] > 0));
-        return isThere && (!matching || matching[name] === 1);
-    });
-    return { here, compared, all };
+    const { page, state } = view;
+    const comparison = page.view === 'compare' ? comparisonOf(view) : null;
+    const parts = comparison ? comparison.parts : [zoomedPart(view)];
+    const all = upTo(page.names.length).filter((name) => parts.some(({ total }) => total[name] > 0) && (!matching || matching[name] === 1));
+    return { here: comparison ? parts[state.drawing] : parts[0], comparison, all };
 }
 
 // What the table is of.
@@ -53,6 +45,18 @@ function headingText(view, isMatching) {
     const ofBox = state.from >= 0 ? ' in this part' : ' in this box';
     const part = state.source >= 0 ? ` in ${shortened(page.sources[state.source].name, 60)}` : ofBox;
     return `Functions${isZoomed(view) ? part : ''}${isMatching ? ' that match' : ''}`;
+}
+
+// The cells of own or of total weights in a comparison: each has a weight, and percents below.
+/** @type {(comparison: Comparison, name: number, kind: Kind) => HTMLTableCellElement[]} */
+function comparedCells(comparison, name, kind) {
+    const texts = comparedTexts(comparison, name, kind);
+    return CHOICES[0].map((column) => {
+        const cell = document.createElement('td');
+        cell.className = column;
+        cell.append(...texts[column].map((text) => withText('span', text)));
+        return cell;
+    });
 }
 
 export class FunctionTable {
@@ -66,30 +70,28 @@ export class FunctionTable {
         this.page = page;
         this.onChoose = onChoose;
         this.say = say;
-        const section = element('functions');
-        this.body = inside(section, 'tbody');
+        const isCompared = page.view === 'compare';
+        this.section = element('functions');
+        this.table = inside(this.section, 'table');
+        this.body = inside(this.table, 'tbody');
         this.more = button('functions-more');
-        this.heads = [...section.querySelectorAll('th')];
-        // Whose weights are compared: those of their own, or totals.
-        this.kind = elementOf('functions-of', HTMLSelectElement);
-        this.kind.hidden = page.view !== 'compare';
-        this.sort = { key: page.view === 'compare' ? 'change' : 'own', isRising: false };
-        this.whole = 0;
-        this.isShare = false;
+        element('lists').classList.toggle('compared', isCompared);
+        for (const row of this.table.querySelectorAll('thead tr')) if (row.classList.contains('of-comparison') !== isCompared) row.remove();
+        this.heads = [...this.table.querySelectorAll('th')];
+        this.sort = { key: isCompared ? 'own-change' : 'own', isRising: false };
         /** @type {string | null} */
         this.marked = null;
-        const none = { own: new Float64Array(0), total: new Float64Array(0) };
+        const none = new Float64Array(0);
         /** @type {FunctionRows} */
-        this.rows = { here: none, compared: null, all: new Int32Array(0) };
+        this.rows = { here: { own: none, total: none, whole: 0 }, comparison: null, all: new Int32Array(0) };
         /** @type {number[]} */
         this.sorted = [];
-        for (const head of this.heads) {
-            const isOfComparison = head.dataset.of === 'compare';
-            head.hidden = head.dataset.key !== 'name' && isOfComparison !== (page.view === 'compare');
-            inside(head, 'button').addEventListener('click', () => this.sortBy(head.dataset.key || 'own'));
+        for (const { dataset, firstElementChild: sorting } of this.heads) {
+            const { key } = dataset;
+            if (key && sorting) sorting.addEventListener('click', () => this.sortBy(key));
         }
-        this.kind.addEventListener('change', () => this.showSorted());
         this.more.addEventListener('click', () => this.showMore());
+        new ResizeObserver(() => requestAnimationFrame(() => this.fit())).observe(this.section);
     }
 
     // Shows the functions of what is zoomed, of those that match. A name that is searched for as a whole is marked, or the one whose callers are
@@ -100,11 +102,20 @@ export class FunctionTable {
         const { callers, by, find } = seen.state;
         const isMarked = matching !== null && by === 'name';
         this.marked = callers >= 0 ? view.page.names[callers] : isMarked ? find : null;
-        this.isShare = view.isShare;
-        this.whole = isZoomed(view) ? zoomedWeight(view.drawing, view.span.row, view.span) : view.drawing.total;
         this.rows = functionRows(view, isMarked ? null : matching);
+        if (this.rows.comparison) this.nameChanges(view.isShare);
         element('functions-title').textContent = headingText(view, matching !== null && !isMarked);
         this.showSorted();
+    }
+
+    // A change of shares is one in points of percents.
+    /** @type {(isShare: boolean) => void} */
+    nameChanges(isShare) {
+        for (const kind of KINDS) {
+            const sorting = inside(this.table, `[data-key="${kind}-change"] button`);
+            sorting.textContent = isShare ? 'Points' : 'Change';
+            sorting.setAttribute('aria-label', isShare ? `${kind} points` : `${kind} change`);
+        }
     }
 
     // Sorts by a column, and by the same the other way round.
@@ -141,19 +152,8 @@ export class FunctionTable {
     // The number in the column of that key.
     /** @type {(name: number, key: string) => number} */
     valueOf(name, key) {
-        if (key === 'own' || key === 'total') return this.rows.here[key][name];
-        const { before, after } = comparedOf(this.page, this.isShare, this.bothOf(name));
-        if (key === 'before') return before;
-        if (key === 'after') return after;
-        return key === 'change' ? after - before : (after - before) / before;
-    }
-
-    // The weights of a function in both profiles of a comparison: those of its own, or its totals.
-    /** @type {(name: number) => { before: number, after: number }} */
-    bothOf(name) {
-        const kind = this.kind.value === 'total' ? 'total' : 'own';
-        const [before, after] = (this.rows.compared || [this.rows.here, this.rows.here]).map((sums) => sums[kind][name]);
-        return { before, after };
+        const { here, comparison } = this.rows;
+        return comparison ? comparedValue(comparison, name, key) : here[key === 'own' ? 'own' : 'total'][name];
     }
 
     showMore() {
@@ -162,12 +162,25 @@ export class FunctionTable {
         for (const name of sorted.slice(shown, shown + TABLE_STEP)) body.append(this.row(name));
         more.hidden = body.children.length >= sorted.length;
         more.textContent = `Show more of ${separated(sorted.length)}`;
+        this.fit();
+    }
+
+    // Shows as many columns of a comparison as leave names their room. What has no room even then is scrolled to beside the names.
+    fit() {
+        const { table, section, heads, rows } = this;
+        const fits = () => table.offsetWidth <= section.clientWidth;
+        for (const shown of rows.comparison ? CHOICES : []) {
+            table.dataset.shown = shown.join(' ');
+            for (const head of heads) if (head.scope === 'colgroup') head.colSpan = shown.length;
+            if (fits()) break;
+        }
+        section.classList.toggle('scrolled', !fits());
     }
 
     /** @type {(name: number) => HTMLTableRowElement} */
     row(name) {
         const { names } = this.page;
-        const { here, compared } = this.rows;
+        const { here, comparison } = this.rows;
         const chosen = nameButton(nameText(names[name]), () => this.onChoose(name, here.total[name] > 0));
         chosen.title = described(names[name]);
         const first = document.createElement('td');
@@ -175,7 +188,7 @@ export class FunctionTable {
         const row = document.createElement('tr');
         if (names[name] === this.marked) row.setAttribute('aria-current', 'true');
         sayAbout(row, () => this.exactLine(name), this.say);
-        row.append(first, ...(compared ? this.comparedCells(name) : [here.own, here.total].flatMap((sums) => this.weightCells(sums[name]))));
+        row.append(first, ...KINDS.flatMap((kind) => (comparison ? comparedCells(comparison, name, kind) : this.weightCells(here[kind][name]))));
         return row;
     }
 
@@ -183,38 +196,21 @@ export class FunctionTable {
     /** @type {(weight: number) => HTMLTableCellElement[]} */
     weightCells(weight) {
         const { unit } = this.page;
-        return [weightText(weight, unit), percentText(weight, this.whole)].map((text) => withText('td', text));
+        return [weightText(weight, unit), percentText(weight, this.rows.here.whole)].map((text) => withText('td', text));
     }
 
     // What the line below the picture says of a function: its name and its exact weights.
     /** @type {(name: number) => string} */
     exactLine(name) {
-        const { here, compared } = this.rows;
+        const { here, comparison } = this.rows;
         /** @type {(weight: number) => string} */
         const told = (weight) => exactText(weight, this.page.unit);
-        const { before, after } = this.bothOf(name);
-        const kind = this.kind.value === 'total' ? 'total' : 'own';
-        const weights = compared ? [`${kind} before ${told(before)}`, `after ${told(after)}`] : [`own ${told(here.own[name])}`, `total ${told(here.total[name])}`];
-        return [shortened(this.page.names[name], 300) || '(empty name)', ...weights].join(' · ');
-    }
-
-    // The weights before and after, and the change, as a weight and in percent.
-    /** @type {(name: number) => HTMLTableCellElement[]} */
-    comparedCells(name) {
-        const { page, isShare } = this;
-        const { unit } = page;
-        const { before, after } = this.bothOf(name);
-        const compared = comparedOf(page, isShare, { before, after });
-        const weights = [weightText(before, unit), weightText(after, unit), differenceText(before, after, unit)];
-        const texts = isShare ? this.shareTexts(before, after) : weights;
-        return [...texts, changeText(compared.before, compared.after)].map((text) => withText('td', text));
-    }
-
-    // The shares before and after, and how much larger the second is, all in percents of the wholes.
-    /** @type {(before: number, after: number) => string[]} */
-    shareTexts(before, after) {
-        const [first, second] = [before, after].map((weight, number) => weight / (this.page.drawing(number).total || 1));
-        const sign = second > first ? '+' : second < first ? '−' : '';
-        return [percentText(first, 1), percentText(second, 1), sign + percentText(Math.abs(second - first), 1)];
+        /** @type {(kind: Kind) => string} */
+        const weights = (kind) => {
+            if (!comparison) return `${kind} ${told(here[kind][name])}`;
+            const { before, after } = weightsOf(comparison, name, kind);
+            return `${kind} before ${told(before)} · after ${told(after)}`;
+        };
+        return [shortened(this.page.names[name], 300) || '(empty name)', ...KINDS.map(weights)].join(' · ');
     }
 }

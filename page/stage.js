@@ -28,6 +28,7 @@ export class Stage {
     constructor(page) {
         this.page = page;
         this.picture = element('picture');
+        this.picture.style.setProperty('--rows', String(page.drawing(page.drawingCount - 1).rowCount));
         this.canvas = elementOf('canvas', HTMLCanvasElement);
         this.darkness = matchMedia('(prefers-color-scheme: dark)');
         this.byName = nameShades(page.names, nameShade);

@@ -1,15 +1,22 @@
 // The own and the total weight of each function, in a part of a drawing.
 
-import { isInSpan, weightInSpan, zoomedBoxes } from './spans.js';
+import { isInSpan, weightInSpan, zoomedBoxes, zoomedWeight } from './spans.js';
+import { isZoomed } from './view.js';
 
 /**
  * @typedef {import('./drawing.js').Drawing} Drawing
  * @typedef {import('./spans.js').Span} Span
+ * @typedef {import('./view.js').View} View
  */
 
 /**
  * For each name its own weight, and its total, recursion counted once.
  * @typedef {{ own: Float64Array, total: Float64Array }} Sums
+ */
+
+/**
+ * The sums in what is zoomed, and what all of that weighs.
+ * @typedef {Sums & { whole: number }} Part
  */
 
 // How much of the samples that end in a box lies in the span. Where the span cuts the box, what was left out of the data may be in this too.
@@ -40,4 +47,11 @@ export function sumsOf(drawing, nameCount, span) {
         total[name] += weightInSpan(drawing, box, span);
     }
     return { own, total };
+}
+
+/** @type {(view: View) => Part} */
+export function zoomedPart(view) {
+    const { page, drawing, span } = view;
+    const whole = isZoomed(view) ? zoomedWeight(drawing, span.row, span) : drawing.total;
+    return { ...sumsOf(drawing, page.names.length, span), whole };
 }

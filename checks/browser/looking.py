@@ -90,9 +90,9 @@ def fragment(browser):
 
 
 def table(browser):
-    """The rows of the table of functions."""
-    return browser.value("[...document.querySelectorAll('#functions tbody tr')]"
-                         ".map((row) => [...row.cells].map((cell) => cell.textContent))")
+    """The rows of the table of functions. Of two lines in a cell both are told, with a space between them."""
+    return browser.value("""[...document.querySelectorAll('#functions tbody tr')].map((row) => [...row.cells].map((cell) =>
+        [...cell.querySelectorAll('span')].map((line) => line.textContent).join(' ') || cell.textContent))""")
 
 
 def search(browser, text, by='text'):

@@ -19,7 +19,7 @@ from painted_layout import Fault
 from painted_looks import Setting, Watched
 from painted_pages import PAGES
 
-# The windows in which the picture is 368, 588, 1182 and 1912 pixels wide.
+# The windows in which the picture is 368, 588, 1182 and 1912 pixels wide; in a comparison, whose lists are wider, it is narrower in the last two.
 WINDOWS = (390, 610, 1663, 2560)
 ZOOMS, SEARCHES, TIPS, CALLERS = 10, 3, 30, 2
 MOST_TOLD = 5

@@ -6,7 +6,7 @@ import json
 import re
 
 import profiles
-from looking import Picture, contains, fragment, same, search
+from looking import ROW, Picture, contains, fragment, near, same, search
 from painted_colours import DARK, LIGHT, colour, hsl, of_step
 from safety import LETTERS, ratio
 
@@ -95,6 +95,20 @@ def status_in_sight(check):
             same(over, 'status', f'what lies over the status {part} down')
         last = browser.value("document.querySelector('#functions-more:not([hidden]), #functions tbody tr:last-child').getBoundingClientRect().bottom")
         assert last <= top, f'the end of the lists is at {last}, behind the status at {top}'
+
+
+def lists_near(check):
+    """Below a picture of few rows the lists follow at once; a deep one leaves room for them, also while callers are looked at."""
+    with phone(check) as browser:
+        for words, wanted in ((('graph', 'shop.folded'), 15 * ROW), (('chart', 'parse.folded', 'faster.folded'), 168),
+                              (('graph', check.write('deep.folded', ';'.join(['f'] * 90) + ' 1\n')), 0.7 * HEIGHT)):
+            check.show(*words)
+            for asked in ('', '#callers=parse', '#beside=1'):
+                browser.value(f'location.hash = {json.dumps(asked)}')
+                browser.settle()
+                picture, lists = browser.area('#picture'), browser.area('#lists')
+                near(picture[3], wanted, f'the height of the picture of {words} at {asked}')
+                assert 0 < lists[1] - picture[1] - picture[3] < 50, f'the lists of {words} stand at {lists[1]}, below {picture}'
 
 
 def tools_in_place(browser):
@@ -204,7 +218,8 @@ def weights_once(check):
             weighed = ' '.join(part for part in line if not part.startswith('from '))
             same([weighed.count('1.23 s'), weighed.count('2 s')], [2, int(words[0] == 'compare')], f'how often weights are told: {line}')
         browser.move(*middle(browser, '#functions tbody tr:nth-child(1)'))
-        exact = {'compare': 'own before 0 ns · after 2.5 ms (2,500,003 nanoseconds)', 'chart': 'own 3.23 s (3,234,567,908 nanoseconds) · total 3.23 s'}
+        zero = '0 ns · after 2.5 ms (2,500,003 nanoseconds)'
+        exact = {'compare': f'own before {zero} · total before {zero}', 'chart': 'own 3.23 s (3,234,567,908 nanoseconds) · total 3.23 s'}
         contains(browser.text('#status'), exact.get(words[0], 'own 1.23 s (1,234,567,891 nanoseconds) · total 1.23 s'), f'the status of a function of {words[0]}')
         browser.move(1, 1)
     browser.move(*middle(browser, '#gone-list button'))
@@ -221,4 +236,4 @@ def middle(browser, selector):
     return left + width / 2, top + height / 2
 
 
-TESTS = [tapping, status_in_sight, tools_stand_still, contrast, weights_once]
+TESTS = [tapping, status_in_sight, lists_near, tools_stand_still, contrast, weights_once]

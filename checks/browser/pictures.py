@@ -251,18 +251,18 @@ def differences(check):
     same(browser.value("[...document.querySelectorAll('#gone-list button')].map((each) => each.textContent)"),
          ['8  main › old', '1  main › also'], 'the paths that are gone, whose callers are not')
     rows = table(browser)
-    contains(rows, ['more', '5', '20', '+15', '+300%'], 'functions')
-    contains(rows, ['old', '2', '0', '−2', 'gone'], 'functions')
+    contains(rows, ['more', '5 11.4%', '20 51.3%', '+15 +300%', '5 11.4%', '20 51.3%', '+15 +300%'], 'functions')
+    contains(rows, ['old', '2 4.55%', '0 0%', '−2 gone', '8 18.2%', '0 0%', '−8 gone'], 'functions')
     same([row[0] for row in rows], ['more', 'new', 'main', 'same', 'also', 'old', 'part', 'less'], 'by change, the most growth first')
     check.screenshot('comparison')
-    browser.value("""((of) => { of.value = 'total'; of.dispatchEvent(new Event('change')); })(document.getElementById('functions-of'))""")
-    contains(table(browser), ['old', '8', '0', '−8', 'gone'], 'functions by their totals')
+    browser.click_on('th[data-key="total-change"] button')
     same([row[0] for row in table(browser)], ['more', 'new', 'same', 'also', 'main', 'part', 'old', 'less'], 'by change of totals')
     browser.click_on('#gone-list li:nth-child(1) button')
     same(browser.text('#drawing-name'), f'before: {before}', 'a path that is gone is shown in the profile before')
     same(fragment(browser), '#zoom=main/old&drawing=0', 'fragment')
     same(picture.told(3, 0.5)[3], 'after 0: gone', 'tip of what went with it')
-    same(sorted(table(browser)), [['old', '8', '0', '−8', 'gone'], ['part', '6', '0', '−6', 'gone']], 'functions in what is gone')
+    old, part = ['old', '2 25%', '0 0%', '−2 gone', '8 100%', '0 0%', '−8 gone'], ['part', '6 75%', '0 0%', '−6 gone', '6 75%', '0 0%', '−6 gone']
+    same(sorted(table(browser)), [old, part], 'functions in what is gone')
     browser.click_on('#before')
     same(browser.text('#drawing-name'), f'after: {after}', 'back to the profile after')
     browser.value("[...document.querySelectorAll('#functions td button')].find((each) => each.textContent === 'old').click()")
@@ -286,11 +286,13 @@ def shares(check):
     same([picture.told(2, part)[3] for part in (0.1, 0.9)],
          ['before 20, 50% of its whole: −50% of its share', 'before 10, 25% of its whole: ±0% of its share'], 'tips')
     rows = {name: cells for name, *cells in table(browser)}
-    same(rows['more'], ['25%', '50%', '+25%', '+100%'], 'a function that has more of the whole')
-    same(rows['less'], ['50%', '25%', '−25%', '−50%'], 'a function that has less of the whole')
+    same(rows['more'][:3], ['10 25%', '60 50%', '+25% +100%'], 'a function that has more of the whole')
+    same(rows['less'][:3], ['20 50%', '30 25%', '−25% −50%'], 'a function that has less of the whole')
+    same(browser.text('th[data-key="own-change"]'), 'Points', 'what the change is in')
     same(list(rows), ['more', 'main', 'same', 'less'], 'by change of shares')
     browser.click_on('#share')
-    same([fragment(browser), {name: cells for name, *cells in table(browser)}['less']], ['', ['20', '30', '+10', '+50%']], 'weights again')
+    weights = {name: cells for name, *cells in table(browser)}
+    same([fragment(browser), weights['less'][:3]], ['', ['20 50%', '30 25%', '+10 +50%']], 'weights again')
 
 
 def shares_at_first(check):
@@ -303,9 +305,9 @@ def shares_at_first(check):
     for opened in ('', '#share=0', '#share=1'):
         browser.open(path, opened)
         for _ in range(2):
-            turned.append([fragment(browser), {name: cells for name, *cells in table(browser)}['less']])
+            turned.append([fragment(browser), {name: cells for name, *cells in table(browser)}['less'][2]])
             browser.click_on('#share')
-    shares, weights = ['', ['75%', '50%', '−25%', '−33.3%']], ['#share=0', ['30', '30', '0', '±0%']]
+    shares, weights = ['', '−25% −33.3%'], ['#share=0', '0 ±0%']
     same(turned, [shares, weights, weights, shares, shares, weights], 'address and a function, as opened and as turned')
 
 

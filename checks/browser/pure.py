@@ -14,9 +14,10 @@ PURE = pathlib.Path(__file__).resolve().parent / 'pure'
 START = b'''<!doctype html><script type="module">
 import { TESTS as arranged } from './arranged.js';
 import { TESTS as boxes } from './boxes.js';
+import { TESTS as compared } from './compared.js';
 import { TESTS as short } from './short.js';
 import { TESTS as texts } from './texts.js';
-window.tests = { ...arranged, ...boxes, ...short, ...texts };
+window.tests = { ...arranged, ...boxes, ...compared, ...short, ...texts };
 </script>'''
 FAULT_OF = '''(() => { try { tests[%r](); return ''; } catch (fault) { return fault.message; } })()'''
 # For each test some faults: a module, what stands in it, and what is put in its place.
@@ -86,6 +87,28 @@ FAULTS = {
         ('sums.js', 'Math.max(1, span.depth)', '1'),
         ('sums.js', 'rest -= weightInSpan', 'rest += weightInSpan'),
         ('sums.js', 'total[name] += weightInSpan(drawing, box, span)', 'total[name] += drawing.weight[box]'),
+    ],
+    'compared': [
+        ('compared.js', 'const [before, after] = parts.map(', 'const [after, before] = parts.map('),
+        ('compared.js', 'part[kind][name]', 'part.own[name]'),
+        ('compared.js', "kind === 'own' ? 'own' : 'total'", "'own'"),
+        ('compared.js', 'isShare ? page.drawing(number).total : part.whole', 'part.whole'),
+        ('compared.js', 'isShare ? page.drawing(number).total : part.whole', 'page.drawing(number).total'),
+        ('compared.js', 'percentText(after, wholeAfter)', 'percentText(after, whole)'),
+        ('compared.js', '? after - before : (after - before) / before', '? after - before : (after - before) / after'),
+        ('compared.js', "if (column === 'after') return after;", ''),
+        ('compared.js', 'const isThere = profile.count > 0 && profile.depth[box] === path.length;', 'const isThere = true;'),
+        ('compared.js', 'const path = pathOf(page, drawing, state.box);', 'const path = pathOf(page, page.drawing(state.drawing), state.box);'),
+        ('compared.js', 'spanOf(page, profile, there)', 'view.span'),
+        ('compared.js', 'drawing: number, box }', 'drawing: number }'),
+        ('compared.js', 'changeText(compared.before, compared.after)', 'changeText(before, after)'),
+        ('compared.js', 'pointsText(before / (whole || 1), after / (wholeAfter || 1))', 'pointsText(before, after)'),
+        ('compared.js', 'percentText(Math.abs(after - before), 1)', 'percentText(after - before, 1)'),
+    ],
+    'zoomed': [
+        ('sums.js', 'isZoomed(view) ? zoomedWeight(drawing, span.row, span) : drawing.total', 'drawing.total'),
+        ('sums.js', 'sumsOf(drawing, page.names.length, span), whole }', 'sumsOf(drawing, page.names.length, { from: 0, to: drawing.total, depth: 0, row: 0 }), whole }'),
+        ('view.js', 'state.source >= 0 || state.from >= 0', 'state.source >= 0'),
     ],
     'callers': [
         ('callers.js', 'box = drawing.end[box];', 'box++;'),

@@ -74,7 +74,7 @@ def functions(check):
     browser.click_on('th[data-key="total"] button')
     same(table(browser), [main, walk, leaf, other], 'by total weight, recursion counted once')
     same(browser.value("[...document.querySelectorAll('#functions th')].map((head) => head.getAttribute('aria-sort'))"),
-         [None, None, 'descending', None, None, None, None], 'aria-sort')
+         [None, None, 'descending'], 'aria-sort')
     browser.click_on('th[data-key="total"] button')
     same(table(browser), [other, leaf, walk, main], 'rising')
     browser.click_on('th[data-key="name"] button')
@@ -119,10 +119,10 @@ def columns(check):
                 continue
             check.show(*words, fragment=shown)
             cells = browser.value("""[...document.querySelectorAll('#functions tbody tr:first-child td')]
-                .map((cell) => [cell.clientWidth, cell.scrollWidth - cell.clientWidth])""")
+                .filter((cell) => cell.getClientRects().length > 0).map((cell) => [cell.clientWidth, cell.scrollWidth - cell.clientWidth])""")
             room = browser.area('#functions')[2]
             assert cells[0][0] >= 0.5 * room - 1, f'{words[0]}{shown} in {width}: names have {cells[0][0]} of {room}'
-            assert len(cells) == 5 and all(more <= 0 for _, more in cells[1:]), f'{words[0]}{shown} in {width}: {cells}'
+            assert len(cells) in ((3, 5, 7) if words[0] == 'compare' else (5,)) and all(more <= 0 for _, more in cells[1:]), f'{words[0]}{shown} in {width}: {cells}'
             same(browser.value("(({ scrollWidth, clientWidth }) => scrollWidth - clientWidth)(document.getElementById('lists'))"), 0,
                  f'what is out of sight of the lists of {words[0]}{shown} in {width}')
 

@@ -19,7 +19,7 @@ _flamecollect() {
         graph) options='--width --type --unit --format --every --lines --strict -o --output --quiet -h --help --focus --hide --from --omit --ring --page --svg --title --root-below --least' ;;
         chart) options='--width --type --unit --format --lines --strict -o --output --quiet -h --help --focus --hide --from --omit --ring --page --svg --title --root-below --least' ;;
         svg) options='--width --type --unit --format --lines --strict -o --output --quiet -h --help --focus --hide --from --omit --ring --title --root-below' ;;
-        live) options='--width --every -o --output -h --help --ring' ;;
+        live) options='--width --every --strict -o --output -h --help --ring' ;;
         compare) options='--width --type --unit --format --boxes --lines --strict -o --output --quiet -h --help --focus --hide --from --omit --ring --page --svg --title --root-below --least --share' ;;
         top) options='-n --number --by --json --exact --type --unit --format --lines --strict -o --output --quiet -h --help --focus --hide --from --omit --ring' ;;
         diff) options='-n --number --by --json --exact --share --fail-over --type --unit --format --lines --strict -o --output --quiet -h --help --focus --hide --from --omit --ring' ;;

@@ -83,6 +83,7 @@ complete -c flamecollect -n '__fish_seen_subcommand_from svg' -l title -x -d 'Ti
 complete -c flamecollect -n '__fish_seen_subcommand_from svg' -l root-below -d 'Draw the root below in the page or the SVG'
 complete -c flamecollect -n '__fish_seen_subcommand_from live' -l width -x -d 'Width of the image in pixels, 1 to 65536 [default: 1200]'
 complete -c flamecollect -n '__fish_seen_subcommand_from live' -l every -x -d 'Write the graph after every N samples, 1 to 1000000000 [default: 1000]'
+complete -c flamecollect -n '__fish_seen_subcommand_from live' -l strict -d 'End a stream at its first ignored line, as at a fault'
 complete -c flamecollect -n '__fish_seen_subcommand_from live' -s o -l output -x -d 'File for what is written, which takes its place when it is whole'
 complete -c flamecollect -n '__fish_seen_subcommand_from live' -s h -l help -d 'Print help'
 complete -c flamecollect -n '__fish_seen_subcommand_from live' -l ring -x -d 'Size of the ring of each source, 1 to 65536 [default: 1024]'

@@ -4,6 +4,7 @@ pub mod Faults
 pub mod Files
 pub mod Inlet
 pub mod Outlet
+pub mod Outputs
 pub mod Pieces
 pub mod Stored
 pub mod checked

@@ -31,15 +31,8 @@ pub trait Files {
         ensures input { known_input self.new ≡ known_input self.old }
         ensures files { known_file self.new ≡ known_file self.old };
 
-    /// Is told which paths `named` is asked for next, in this order, and may load their files ahead.
-    /// What is not loaded ahead is loaded when it is asked for, and a fault is told only then.
-    fn prefetch(&mut self, _alloc: Global, _paths: &[String])
-        ensures input { known_input self.new ≡ known_input self.old }
-        ensures files { known_file self.new ≡ known_file self.old }
-    {}
-
-    /// The text of a path as bytes that several threads read at the same time, where it is a plain file that is long enough for that and
-    /// not too large. `None` where it is to be asked for by `named`, which also tells a fault.
+    /// The file of a path as bytes that other threads read where they are stored, where it is a plain file that is long enough for that
+    /// and not too large. `None` where it is to be asked for by `named`, which also tells a fault.
     fn stored(&mut self, _alloc: Global, _path: &str) -> Option<StoredText>
         ensures bytes { IfSome result (λ text.
             IfSome (known_file self.old _path.now) (λ known. text ≡ Some known)) }

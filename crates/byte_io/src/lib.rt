@@ -3,16 +3,17 @@
 //! and streams of a run.
 #![tactic(auto)]
 
-mod ahead_files;
 mod bytes_inlet;
 mod failure_counts;
 mod files;
 mod inlet;
 mod machine_files;
 mod machine_inlet;
+mod machine_outputs;
 mod memory_files;
+mod memory_outputs;
 mod outlet;
-mod output_file;
+mod outputs;
 mod piece_output;
 mod piece_threads;
 mod pieces;
@@ -31,9 +32,11 @@ pub use files::Files;
 pub use inlet::{CountedReader, Inlet};
 pub use machine_files::{MachineFiles, SOURCE_LIMIT};
 pub use machine_inlet::{MachineInlet, StreamFile};
+pub use machine_outputs::MachineOutputs;
 pub use memory_files::{MemoryFiles, NamedFile};
+pub use memory_outputs::{MemoryOutputs, OutputStep};
 pub use outlet::{CountedWriter, Outlet};
-pub use output_file::OutputFile;
+pub use outputs::{Draft, Outputs};
 pub use piece_output::{PieceFault, append_pieces, send_pieces};
 pub use piece_threads::send_pieces_in_threads;
 pub use pieces::{Chain, Literal, Pieces};

@@ -2,7 +2,6 @@
 ghost use Rattle.std.specs.Prelude.{◌≡◌, ◌≤◌, true, vec_len, IfOk, IfSome};
 ghost use Rattle.byte_io.specs.Files.{unknown, unknown_files};
 
-use crate::ahead_files::{AheadFile, are_plain, load_ahead, plain_length, take_loaded};
 use crate::files::Files;
 use crate::inlet::CountedReader;
 use crate::machine_inlet::{MachineInlet, StreamFile};
@@ -13,21 +12,19 @@ use crate::whole_input::{LoadFault, load};
 use std::alloc::Global;
 use std::fs::File;
 use std::io::{IsTerminal, Read};
-use std::thread::Threads;
 use std::{fs, rt};
 
 /// The most bytes of one source.
 pub const SOURCE_LIMIT: usize = 1 << 30;
 
 // A file of fewer bytes is loaded at once.
-const LONG: usize = 64 * 1024;
+const LONG: u64 = 64 * 1024;
 
 /// The files and the standard input of the machine, at most `SOURCE_LIMIT` bytes of each.
 #[derive(Drop)]
 pub struct MachineFiles<'a, T> {
     rt: &'a T,
     is_error_terminal: bool,
-    ahead: Option<Vec<AheadFile>>,
     // Of the last file that was not given.
     refusal: Refusal,
 }
@@ -38,7 +35,6 @@ impl<'a, T: rt::Files + Input> MachineFiles<'a, T> {
         MachineFiles {
             rt,
             is_error_terminal: false,
-            ahead: None,
             refusal: Refusal::Unknown,
         }
     }
@@ -48,13 +44,12 @@ impl<'a, T: rt::Files + Input> MachineFiles<'a, T> {
         MachineFiles {
             rt,
             is_error_terminal: error.is_terminal(),
-            ahead: None,
             refusal: Refusal::Unknown,
         }
     }
 }
 
-impl<T: rt::Files<File = File> + Input + Threads> Files for MachineFiles<'_, T>
+impl<T: rt::Files<File = File> + Input> Files for MachineFiles<'_, T>
 where
     T::Reader: IsTerminal,
 {
@@ -70,10 +65,6 @@ where
         ensures files { unknown_files ≡ unknown_files }
         ensures within { IfOk result (λ bytes. vec_len bytes ≤ SOURCE_LIMIT) }
     {
-        let ahead = self.ahead.as_mut();
-        if let Some(bytes) = ahead.and_then(|files| take_loaded(files, path)) {
-            return Ok(bytes);
-        }
         match fs::open(self.rt, path) {
             Ok(file) => load_noted(alloc, file, &mut self.refusal),
             Err(e) => {
@@ -92,24 +83,11 @@ where
         load_noted(alloc, self.rt.reader(), &mut self.refusal)
     }
 
-    // A single file is read as soon where it is asked for.
-    fn prefetch(&mut self, alloc: Global, paths: &[String])
-        ensures input { unknown ≡ unknown }
-        ensures files { unknown_files ≡ unknown_files }
-    {
-        if paths.len() > 1 && are_plain(self.rt, paths) {
-            self.ahead = load_ahead(self.rt, alloc, paths).ok();
-        }
-    }
-
     // It is opened once, since another file can have its path afterwards.
     fn stored(&mut self, alloc: Global, path: &str) -> Option<StoredText> {
-        let length = plain_length(self.rt, path)?;
-        if length < LONG {
-            return None;
-        }
+        let length = long_length(self.rt, path)?;
         let file = fs::open(self.rt, path).ok()?;
-        StoredText::of_file(alloc, file, length as u64).ok()
+        StoredText::of_file(alloc, file, length).ok()
     }
 
     fn is_input_terminal(&self) -> bool {
@@ -123,6 +101,16 @@ where
     fn refusal(&self) -> Refusal {
         self.refusal
     }
+}
+
+// How many bytes a plain file has that is neither short nor too large.
+fn long_length<R: rt::Files>(rt: &R, path: &str) -> Option<u64>
+    ensures { IfSome result (λ length. length ≤ SOURCE_LIMIT) }
+{
+    let metadata = fs::metadata(rt, path).ok()?;
+    let length = metadata.len();
+    let is_long = metadata.is_file() && LONG <= length && length <= SOURCE_LIMIT as u64;
+    is_long.then_some(length)
 }
 
 // Loads the bytes of a reader, and notes why a read of it failed.

@@ -110,14 +110,6 @@ impl Files for MemoryFiles {
         copied(alloc, self.input.as_slice(), self.limit)
     }
 
-    fn prefetch(&mut self, _alloc: Global, _paths: &[String])
-        ensures input { Some (input_bytes self.new) ≡ Some (input_bytes self.old) }
-        ensures files { bytes_at self.new ≡ bytes_at self.old }
-        ensures unchanged { self.new ≡ self.old }
-    {
-        // They are in memory already.
-    }
-
     fn stored(&mut self, alloc: Global, path: &str) -> Option<StoredText>
         ensures bytes { IfSome result (λ text.
             IfSome (bytes_at self.old path.now) (λ known. text ≡ Some known)) }

@@ -1,8 +1,8 @@
 //! Readers and writers that fail, files of the machine, and the page's example.
-mod ahead;
 mod asked;
 mod edge;
 mod fakes;
+mod outputs;
 mod page;
 mod pieces;
 mod refusals;

@@ -65,6 +65,7 @@ argument_is_simple argument.Share = refl
 argument_is_simple argument.FailOver = refl
 argument_is_simple argument.Unit = refl
 argument_is_simple argument.Strict = refl
+argument_is_simple argument.LiveStrict = refl
 argument_is_simple argument.Output = refl
 argument_is_simple argument.Quiet = refl
 argument_is_simple argument.Page = refl

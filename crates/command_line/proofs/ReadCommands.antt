@@ -400,7 +400,7 @@ svg_known = record {
 
 live_known : KnowsArguments built_live.rules
 live_known = record {
-  firsts = (refl, (refl, (refl, (refl, (refl, (refl, tt))))));
+  firsts = (refl, (refl, (refl, (refl, (refl, (refl, (refl, tt)))))));
   width = refl;
   ring = refl;
   every = refl;
@@ -411,7 +411,7 @@ live_known = record {
   exact = tt;
   share = tt;
   over = tt;
-  strict = tt;
+  strict = refl;
   quiet = tt;
   page = tt;
   svg = tt;

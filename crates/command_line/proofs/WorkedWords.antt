@@ -72,6 +72,10 @@ no_page_of_live : fault_of command_line (codes "live" ∷ codes "--page" ∷ [])
 unfolding clap_on_literals
 no_page_of_live = refl
 
+strict_live : plan_of (codes "live" ∷ codes "--strict" ∷ []) ≡ Some (record (live_with 1200 (record defaults { every = Some 1000 }) []) { is_strict = true })
+unfolding clap_on_literals
+strict_live = refl
+
 no_filter_of_live : fault_of command_line (codes "live" ∷ codes "--focus" ∷ codes "f" ∷ []) ≡ kind.UnknownArgument ∷ []
 unfolding clap_on_literals
 no_filter_of_live = refl

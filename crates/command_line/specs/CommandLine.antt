@@ -138,7 +138,7 @@ svg_command = command (codes "svg") (width_option ∷ type_option ∷ unit_optio
     ∷ title_option ∷ root_below_flag ∷ any_files (codes "file") ∷ [])
 
 abbrev pub live_command : Shape
-live_command = command (codes "live") (width_option ∷ every_option ∷ ring_option ∷ output_option ∷ any_files (codes "file") ∷ [])
+live_command = command (codes "live") (width_option ∷ every_option ∷ ring_option ∷ strict_flag ∷ output_option ∷ any_files (codes "file") ∷ [])
 
 abbrev pub compare_command : Shape
 compare_command = command (codes "compare") (width_option ∷ type_option ∷ unit_option ∷ format_option

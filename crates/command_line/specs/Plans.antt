@@ -291,7 +291,7 @@ live_plan entries = record {
   format = Some Folded;
   files = files_of entries;
   form = form.Live;
-  is_strict = false;
+  is_strict = is_set (codes "strict") entries;
   is_quiet = true;
   unit = None;
 }

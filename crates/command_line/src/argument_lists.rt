@@ -34,6 +34,7 @@ pub(crate) enum Argument {
     FailOver,
     Unit,
     Strict,
+    LiveStrict,
     Output,
     Quiet,
     Page,
@@ -133,6 +134,7 @@ pub(crate) const LIVE: &[Argument] = &[
     Argument::Width,
     Argument::LiveEvery,
     Argument::Ring,
+    Argument::LiveStrict,
     Argument::Output,
     Argument::Streams,
 ];
@@ -258,6 +260,7 @@ impl Argument {
             Argument::Unit =>
                 "Unit of weights that have none: nanoseconds, microseconds, milliseconds, seconds, bytes or samples",
             Argument::Strict => "Refuse sources with an ignored line, or without a sample",
+            Argument::LiveStrict => "End a stream at its first ignored line, as at a fault",
             Argument::Output => "File for what is written, which takes its place when it is whole",
             Argument::Quiet => "Show no progress on a terminal",
             Argument::Page => "Write a page for browsers instead",
@@ -303,6 +306,7 @@ impl Argument {
             Argument::FailOver => fail_over_option(alloc, help),
             Argument::Unit => text_option(alloc, "unit", "UNIT", help),
             Argument::Strict => flag(alloc, "strict", help),
+            Argument::LiveStrict => flag(alloc, "strict", help),
             Argument::Output => output_option(alloc, help),
             Argument::Quiet => flag(alloc, "quiet", help),
             Argument::Page => form_flag(alloc, "page", help),

@@ -2,7 +2,7 @@
 ghost use Rattle.std.specs.Prelude.{◌≡◌, [], IfErr, IfOk, IsSome, IsSomeAnd, Some, codes, option_map};
 ghost use Rattle.clap.specs.Words.{subcommand_rows_of};
 ghost use Rattle.command_line.specs.Plans.{IsFaultAmong, command_plan, entered_plan, entries_fault, live_plan, own_fault, plan_with, svg_plan, types_plan, view_of};
-ghost use Rattle.command_line.specs.checked.Entries.{IsNumberAt, IsRead, entries_of};
+ghost use Rattle.command_line.specs.checked.Entries.{IsFlagAt, IsNumberAt, IsRead, entries_of};
 ghost use Rattle.command_line.specs.declared.arguments.TheConstants.{MOST_BETWEEN_SNAPSHOTS};
 ghost use Rattle.command_line.specs.declared.plans.PlanFault.TheVariants.{OutOfMemory};
 ghost use Rattle.run_options.specs.declared.ring_sizes.TheConstants.{LARGEST_RING};
@@ -127,12 +127,14 @@ fn live_plan(alloc: Global, entries: &ArgMatches<'_>) -> Result<Plan, AllocError
     requires width { IsNumberAt (codes "width") MAX_WIDTH (entries_of entries.now) }
     requires ring { IsNumberAt (codes "ring") LARGEST_RING (entries_of entries.now) }
     requires every { IsNumberAt (codes "every") MOST_BETWEEN_SNAPSHOTS (entries_of entries.now) }
+    requires strict { IsFlagAt (codes "strict") (entries_of entries.now) }
     ensures { IfOk result (λ plan. plan ≡ live_plan (entries_of entries.now)) }
 {
+    let is_strict = entries.get_flag("strict");
     Ok(Plan {
         view: View::Graph(width(entries)),
         format: Some(Format::Folded),
-        is_strict: false,
+        is_strict,
         is_quiet: true,
         from: None,
         omit: Names::of(Vec::new(alloc)),

@@ -3,6 +3,7 @@ mod answers;
 mod asked_files;
 mod calls;
 mod changes;
+mod deliveries;
 mod folded;
 mod growths;
 mod live;

@@ -154,7 +154,7 @@ module _ (plan : Plan) (width every : ℕ) (graph : plan.view ≡ Graph width) (
   -- all was collected
   module _ (old new : Option (List ℕ)) (rests : List Rest) (taken : List (ℕ × Sample)) (lists : List ListState) (order : List ℕ) (run : CollectsRun anywhere anywhere rests [] taken lists order)
       (text : List ℕ) (is_text : text ≡ graph_text width (samples_of lists) order (Some every)) where
-    pub all_shown : Appends old new text → EndsLive plan old new (status_of_ends lists) rests
+    pub all_shown : Appends old new text → EndsLive plan old new (status_of_ends plan.is_strict lists) rests
     all_shown gained = record {
       lists = lists;
       collected = run.lists;

@@ -6,39 +6,46 @@ use Rattle.std.proofs.lemmas.List.{map-append, take_more, take_all}
 use Rattle.std.proofs.lemmas.Slice.Zip.{all_zipped_more}
 use Rattle.stack_core.specs.Reading.{Rest}
 use Rattle.stack_core.specs.RowReading.{GivesSome}
-use Rattle.folded_lines.specs.Streams.{StreamGives}
 use Rattle.folded_lines.proofs.StreamTexts.{stream_first, stream_possible, stream_whole}
-use Rattle.flame_tool.specs.checked.LiveStreams.{AreOpened, IsOfFile, ReadsText}
+use Rattle.folded_lines.proofs.StrictStreamTexts.{strict_front_first, strict_possible, strict_whole}
+use Rattle.flame_tool.specs.checked.LiveStreams.{AreOpened, GivesStream, IsOfFile, ReadsAs, ReadsText}
 use Rattle.flame_tool.proofs.KnownSources.{neither}
 
 -- a reader that gives what a stream may give
-module _ (gives : Rest → Type 0) (remaining : Option (List ℕ)) (is_sure : Bool) (same : (rest : Rest) → gives rest ↔ StreamGives remaining is_sure rest) where
+possible_stream : (is_strict : Bool) (remaining : Option (List ℕ)) (is_sure : Bool) → (is_sure ≡ true → IsSomeAnd remaining (λ bytes. length bytes < 2 ^ 64)) → GivesSome (GivesStream is_strict remaining is_sure)
+possible_stream false remaining is_sure small = stream_possible remaining is_sure small
+possible_stream true remaining is_sure small = strict_possible remaining is_sure small
+
+stream_reads : (is_strict : Bool) (text : List ℕ) (is_sure : Bool) (rest : Rest) → GivesStream is_strict (Some text) is_sure rest → ReadsAs is_strict text rest
+stream_reads false text is_sure rest gives = record { whole = stream_whole text is_sure rest gives; first = stream_first text is_sure rest gives }
+stream_reads true text is_sure rest gives = record { whole = strict_whole text is_sure rest gives; first = strict_front_first text is_sure rest gives }
+
+module _ (is_strict : Bool) (gives : Rest → Type 0) (remaining : Option (List ℕ)) (is_sure : Bool) (same : (rest : Rest) → gives rest ↔ GivesStream is_strict remaining is_sure rest) where
   pub possible_reader : (is_sure ≡ true → IsSomeAnd remaining (λ bytes. length bytes < 2 ^ 64)) → GivesSome gives
   possible_reader small =
-      let some = stream_possible remaining is_sure small in
+      let some = possible_stream is_strict remaining is_sure small in
       record { rest = some.rest; is_given = (same some.rest).1 some.is_given }
 
-  pub reader_of_text : (known : Option (List ℕ)) → IfSome known (λ text. remaining ≡ Some text) → IfSome known (ReadsText gives)
+  pub reader_of_text : (known : Option (List ℕ)) → IfSome known (λ text. remaining ≡ Some text) → IfSome known (ReadsText is_strict gives)
   reader_of_text None is = tt
   reader_of_text (Some text) is = λ rest given.
-      let stream = subst (λ bytes. StreamGives bytes is_sure rest) is ((same rest).0 given) in
-      record { whole = stream_whole text is_sure rest stream; first = stream_first text is_sure rest stream }
+      stream_reads is_strict text is_sure rest (subst (λ bytes. GivesStream is_strict bytes is_sure rest) is ((same rest).0 given))
 
 -- the reader of one path more
-pub opened_more : {A R : Type 0} (gives : R → Rest → Type 0) (bytes : A → List ℕ) (files : List ℕ → Option (List ℕ)) (paths : List A) (at : ℕ) (path : A) (readers : List R) (reader : R)
-    → at < length paths → path ≡ get_or paths at path → AllZip (IsOfFile gives files) (map bytes (take at paths)) readers → IsOfFile gives files (bytes path) reader
-    → AllZip (IsOfFile gives files) (map bytes (take (at + 1) paths)) (readers ++ reader ∷ [])
-opened_more gives bytes files paths at path readers reader below is opened here =
-    subst (λ ps. AllZip (IsOfFile gives files) ps (readers ++ reader ∷ []))
+pub opened_more : {A R : Type 0} (is_strict : Bool) (gives : R → Rest → Type 0) (bytes : A → List ℕ) (files : List ℕ → Option (List ℕ)) (paths : List A) (at : ℕ) (path : A) (readers : List R) (reader : R)
+    → at < length paths → path ≡ get_or paths at path → AllZip (IsOfFile is_strict gives files) (map bytes (take at paths)) readers → IsOfFile is_strict gives files (bytes path) reader
+    → AllZip (IsOfFile is_strict gives files) (map bytes (take (at + 1) paths)) (readers ++ reader ∷ [])
+opened_more is_strict gives bytes files paths at path readers reader below is opened here =
+    subst (λ ps. AllZip (IsOfFile is_strict gives files) ps (readers ++ reader ∷ []))
     (sym (ap (map bytes) (take_more paths at path below ∙ ap (λ p. take at paths ++ p ∷ []) (sym is)) ∙ map-append bytes (take at paths) (path ∷ [])))
-    (all_zipped_more (IsOfFile gives files) (map bytes (take at paths)) readers (bytes path) reader opened here)
+    (all_zipped_more (IsOfFile is_strict gives files) (map bytes (take at paths)) readers (bytes path) reader opened here)
 
 -- the readers of all paths, of which there is one
-pub opened_whole : {A R : Type 0} (gives : R → Rest → Type 0) (bytes : A → List ℕ) (input : Option (List ℕ)) (files : List ℕ → Option (List ℕ)) (paths : List A) (at : ℕ) (readers : List R)
-    → 0 < length paths → length paths ≤ at → AllZip (IsOfFile gives files) (map bytes (take at paths)) readers → AreOpened gives input files (map bytes paths) readers
-opened_whole gives bytes input files [] at readers some all opened = absurd (omega arith)
-opened_whole gives bytes input files (path ∷ paths) at readers some all opened =
-    subst (λ ps. AllZip (IsOfFile gives files) (map bytes ps) readers) (take_all at (path ∷ paths) all) opened
+pub opened_whole : {A R : Type 0} (is_strict : Bool) (gives : R → Rest → Type 0) (bytes : A → List ℕ) (input : Option (List ℕ)) (files : List ℕ → Option (List ℕ)) (paths : List A) (at : ℕ) (readers : List R)
+    → 0 < length paths → length paths ≤ at → AllZip (IsOfFile is_strict gives files) (map bytes (take at paths)) readers → AreOpened is_strict gives input files (map bytes paths) readers
+opened_whole is_strict gives bytes input files [] at readers some all opened = absurd (omega arith)
+opened_whole is_strict gives bytes input files (path ∷ paths) at readers some all opened =
+    subst (λ ps. AllZip (IsOfFile is_strict gives files) (map bytes ps) readers) (take_all at (path ∷ paths) all) opened
 
 -- no path is known to be absent, of one more
 neither_is : (a b : Bool) → a ≡ false → b ≡ false → (a || b) ≡ false

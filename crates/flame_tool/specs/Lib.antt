@@ -1,5 +1,7 @@
 -- The definitions that the contracts of flame_tool cite. Those of the crates below it are passed on.
+pub mod Delivery
 pub mod KnownFacts
+pub mod KnownRuns
 pub mod LiveRuns
 pub mod NextSteps
 pub mod Requests
@@ -12,7 +14,9 @@ pub use Rattle.byte_io.specs.Calls
 pub use Rattle.byte_io.specs.Files
 pub use Rattle.byte_io.specs.Inlet
 pub use Rattle.byte_io.specs.Outlet
+pub use Rattle.byte_io.specs.Outputs
 pub use Rattle.command_line.specs.CommandLine
+pub use Rattle.command_line.specs.Destinations
 pub use Rattle.command_line.specs.Plans
 pub use Rattle.function_sums.specs.FunctionChanges
 pub use Rattle.function_sums.specs.FunctionList

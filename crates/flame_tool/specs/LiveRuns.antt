@@ -1,5 +1,6 @@
 -- What a live run leaves on its output, and what that says of its streams.
-use Rattle.std.specs.Prelude.{◌≡◌, ℕ, List, [], ◌∷◌, Option, Some, length, map, option_map, slice_get}
+use Rattle.std.specs.Prelude.{◌≡◌, ℕ, Bool, true, false, if◌then◌else◌, All, List, [], ◌∷◌, Option, Some, is_some, length, map, option_map, slice_get}
+use Rattle.std.specs.List.{list_any}
 use Rattle.std.specs.Io.KnownBytes.{Appends}
 use Rattle.byte_io.specs.Pieces.{AppendsFront}
 use Rattle.sample_tables.specs.declared.samples.Sample.{Sample}
@@ -7,19 +8,38 @@ use Rattle.stack_core.specs.Interleaving.{IsInterleaving, list_of}
 use Rattle.stack_core.specs.Prefixes.{IsPrefixOf}
 use Rattle.stack_core.specs.Reading.{Rest}
 use Rattle.folded_lines.specs.Reading.{read_folded}
+use Rattle.folded_lines.specs.StrictReading.{strict_fault}
+use Rattle.folded_lines.specs.StrictStreams.{read_strictly}
 use Rattle.command_line.specs.declared.plans.Plan.{Plan}
 use Rattle.source_lists.specs.Sources.{all_found}
 use Rattle.source_views.specs.Texts.{view_text}
-use Rattle.flame_tool.specs.Runs.{lists_of}
+use Rattle.flame_tool.specs.Runs.{HasFault, IsClean, lists_of}
 
 -- the bytes of the streams of paths, in order, or of the input where there is no path
 abbrev pub known_texts : List (List ℕ) → Option (List ℕ) → (List ℕ → Option (List ℕ)) → Option (List (List ℕ))
 known_texts [] input files = option_map (λ text. text ∷ []) input
 known_texts (path ∷ paths) input files = all_found files (path ∷ paths)
 
--- the samples and the ending of each of them
-abbrev pub read_texts : List (List ℕ) → List Rest
-read_texts texts = map read_folded texts
+-- the samples and the ending of a text, of which the first ignored line ends it where it is read strictly
+abbrev pub read_text : Bool → List ℕ → Rest
+read_text is_strict text = if is_strict then read_strictly text else read_folded text
+
+abbrev pub read_texts : Bool → List (List ℕ) → List Rest
+read_texts is_strict texts = map (read_text is_strict) texts
+
+-- a text has a line that is ignored, no sample, or a fault
+abbrev pub has_strict_text : List (List ℕ) → Bool
+has_strict_text texts = list_any (λ text. is_some (strict_fault text)) texts
+
+-- none of the texts has a fault, as they are read
+abbrev pub AreFaultless : Bool → List (List ℕ) → Type 0
+AreFaultless false texts = All (λ rest. IsClean rest.ending) (read_texts false texts)
+AreFaultless true texts = has_strict_text texts ≡ false
+
+-- one of them has
+abbrev pub HasTextFault : Bool → List (List ℕ) → Type 0
+HasTextFault false texts = HasFault (read_texts false texts)
+HasTextFault true texts = has_strict_text texts ≡ true
 
 -- the lines of the plan's snapshots and then that of the graph, of samples that come in an order
 abbrev pub lines_of : Plan → List (List Sample) → List ℕ → List ℕ

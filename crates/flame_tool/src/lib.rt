@@ -3,6 +3,7 @@
 #![tactic(auto)]
 
 mod advice;
+mod delivery;
 mod exits;
 mod hosts;
 mod live_graphs;
@@ -19,13 +20,15 @@ mod types_run;
 mod views_run;
 
 pub use byte_io::{
-    CountedReader, CountedWriter, Files, Inlet, LoadFault, MachineFiles, MemoryFiles, NamedFile,
-    Outlet, OutputFile, Refusal, SOURCE_LIMIT, SendFault, StoredText, Streams, load, send,
+    CountedReader, CountedWriter, Draft, Files, Inlet, LoadFault, MachineFiles, MachineOutputs,
+    MemoryFiles, MemoryOutputs, NamedFile, Outlet, OutputStep, Outputs, Refusal, SOURCE_LIMIT,
+    SendFault, StoredText, Streams, load, send,
 };
 pub use command_line::{
     CallTable, Destination, DiffTable, Form, PageForm, PictureForm, Plan, PlanFault, TopTable,
     View, WeightUnit, asked_destination, plan,
 };
+pub use delivery::deliver;
 pub use live_run::{live, live_plan};
 pub use merging::{Gathered, Snapshot, TreeSink};
 pub use next_steps::{Seen, Trouble, next_step};

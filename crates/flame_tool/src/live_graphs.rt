@@ -1,16 +1,17 @@
 //! The graphs of streams, drawn while their samples come.
-ghost use Rattle.std.specs.Prelude.{◌≡◌, ◌≤◌, [], All, IfErr, IfOk, IfSome, OnOk, length};
+ghost use Rattle.std.specs.Prelude.{◌≡◌, ◌≤◌, [], All, IfErr, IfOk, IfSome, OnOk, is_some, length};
 ghost use Rattle.std.specs.List.{list_any};
 ghost use Rattle.command_line.specs.Plans.{IsOfStreams};
 ghost use Rattle.ring_collect.specs.Collection.{GiveSuch};
 ghost use Rattle.stack_core.specs.RowReading.{GivesSome};
-ghost use Rattle.flame_tool.specs.checked.LiveEnds.{EndsLive, FailsLive, is_stopped, status_of_ends};
+ghost use Rattle.flame_tool.specs.checked.LiveEnds.{EndsLive, FailsLive, is_faulty, is_stopped, status_of_ends, strict_list_fault};
 
 use crate::hosts::Host;
 use byte_io::Outlet;
 use command_line::{Plan, View};
+use folded_lines::{StrictFault, strict_ending_fault};
 use live_lines::{LiveGate, LiveMerge, LiveSink};
-use opened_sources::{Failure, any_fault, report_ending, report_failure};
+use opened_sources::{Failure, any_fault, report_ending, report_failure, report_strict_fault};
 use ring_collect::collect_rows;
 use stack_core::{RowReader, SourceEnd, SourceList};
 use std::alloc::{AllocError, Global};
@@ -54,9 +55,9 @@ pub(crate) fn send_graphs<
     let collected = collect_rows(rt, alloc, readers, plan.options.ring, gate, &mut sink);
     let LiveSink { lines, out } = sink;
     let run = collected?;
-    report_ends(err, plan.files.get(), &run.lists, lines.failure.is_none());
+    report_ends(err, plan, &run.lists, lines.failure.is_none());
     lines.finish(alloc, out)?;
-    Ok(status_of_ends(&run.lists))
+    Ok(status_of_ends(&run.lists, plan.is_strict))
 }
 
 // What a live run needs before a sample comes.
@@ -81,26 +82,61 @@ fn live_parts(alloc: Global, sources: usize) -> Result<LiveParts, AllocError>
 
 // Says of each source, in order, how it ended, where there is something to say. Unless the sink stopped the sources, a read failed
 // where one is stopped.
-fn report_ends<E: Outlet>(err: &mut E, files: &[String], lists: &[SourceList], is_read: bool) {
+fn report_ends<E: Outlet>(err: &mut E, plan: &Plan, lists: &[SourceList], is_read: bool) {
+    let files = plan.files.get();
     for (source, list) in lists.iter().enumerate() {
         if is_read && is_stopped(list.ending()) {
             report_failure(err, files, Failure::Unreadable { source });
+        } else if plan.is_strict {
+            if let Some(fault) = strict_list_fault(list) {
+                report_strict_fault(err, files, source, &fault);
+            }
         } else {
             report_ending(err, files, source, list.ending());
         }
     }
 }
 
-fn status_of_ends(lists: &[SourceList]) -> u8
-    ensures { result ≡ status_of_ends lists.now }
+fn status_of_ends(lists: &[SourceList], is_strict: bool) -> u8
+    ensures { result ≡ status_of_ends is_strict lists.now }
 {
     if any_stopped(lists) {
         3
-    } else if any_fault(lists) {
+    } else if is_faulty(lists, is_strict) {
         1
     } else {
         0
     }
+}
+
+// Whether a source has a fault, as they were read.
+fn is_faulty(lists: &[SourceList], is_strict: bool) -> bool
+    ensures { result ≡ is_faulty is_strict lists.now }
+{
+    if is_strict {
+        any_strict_fault(lists)
+    } else {
+        any_fault(lists)
+    }
+}
+
+fn any_strict_fault(lists: &[SourceList]) -> bool
+    ensures { result ≡ list_any (λ list. is_some (strict_list_fault list)) lists.now }
+{
+    lists.iter().any(|list| has_strict_fault(list))
+}
+
+fn has_strict_fault(list: &SourceList) -> bool
+    ensures { result ≡ is_some (strict_list_fault list.now) }
+{
+    strict_list_fault(list).is_some()
+}
+
+// What is wrong with a source that was read strictly.
+fn strict_list_fault(list: &SourceList) -> Option<StrictFault>
+    ensures { is_some result ≡ is_some (strict_list_fault list.now) }
+{
+    strict_ending_fault(list.len() as u64, list.ending())
 }
 
 fn any_stopped(lists: &[SourceList]) -> bool

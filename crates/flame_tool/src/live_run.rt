@@ -1,10 +1,10 @@
 //! A run over streams: its lines are written while their samples come.
-ghost use Rattle.std.specs.Prelude.{◌≡◌, ◌≢◌, ◌≤◌, ◌<◌, ◌⊎◌, true, Some, All, IfSome, length, map, string_bytes};
+ghost use Rattle.std.specs.Prelude.{◌≡◌, ◌≢◌, ◌≤◌, ◌<◌, ◌⊎◌, true, Some, IfSome, length, map, string_bytes};
 ghost use Rattle.std.specs.List.{list_any};
 ghost use Rattle.std.specs.Io.KnownBytes.{Keeps};
 ghost use Rattle.command_line.specs.Plans.{IsOfStreams, plan_of};
-ghost use Rattle.flame_tool.specs.LiveRuns.{ShowsFirst, ShowsLive, ShowsSome, known_texts, read_texts};
-ghost use Rattle.flame_tool.specs.Runs.{FailsUntouched, HasFault, IsClean};
+ghost use Rattle.flame_tool.specs.LiveRuns.{AreFaultless, HasTextFault, ShowsFirst, ShowsLive, ShowsSome, known_texts, read_texts};
+ghost use Rattle.flame_tool.specs.Runs.{FailsUntouched};
 ghost use Rattle.flame_tool.specs.checked.LiveEnds.{TellsTexts, live_status};
 
 use crate::hosts::Host;
@@ -23,8 +23,8 @@ use std::thread::Threads;
 /// of each snapshot of their graph is written and flushed as soon as its last sample came, and at the end the line of the graph. Then
 /// `err` is told of each source its fault, how many lines were ignored, or that it could not be read to its end.
 ///
-/// 0 says that all of each source was read. 1 says that a source has a fault: its samples before are shown, and the others to
-/// their ends. 2 are more than 64 files. 3 says that a source can't be opened or read, that there is no memory or no thread, or that the
+/// 0 says that all of each source was read. 1 says that a source has a fault, which is where the plan is strict an ignored line,
+/// or that it has no sample, too: its samples before are shown, and the others to their ends. 2 are more than 64 files. 3 says that a source can't be opened or read, that there is no memory or no thread, or that the
 /// output fails, of which each comes before 1; where the output fails, the sources are stopped at their next samples.
 pub fn live<T: Threads + Wait + Copy + Send + 'static, S: Streams, W: Outlet, E: Outlet>(
     rt: &T,
@@ -42,16 +42,17 @@ pub fn live<T: Threads + Wait + Copy + Send + 'static, S: Streams, W: Outlet, E:
     ensures flushed { result ≤ 1 → W.is_flushed out.new }
     ensures unfailed { result ≢ 3 → W.failures out.new ≡ W.failures out.old }
 
-    // Over streams whose bytes are known, 0 says that none of them has a fault, and that the lines of all their samples went out.
+    // Over streams whose bytes are known, 0 says that none of them has a fault, and that the lines of all their samples went out. Where the
+    // plan is strict a line that is ignored is a fault, which ends its stream, and so is that there is no sample.
     ensures shown { result ≡ 0 → IfSome (known_texts plan.now.files (S.known_input streams.old)
         (S.known_file streams.old)) (λ texts.
-        All (λ rest. IsClean rest.ending) (read_texts texts)
-        × ShowsLive plan.now (W.contents out.old) (W.contents out.new) (read_texts texts)) }
+        AreFaultless plan.now.is_strict texts
+        × ShowsLive plan.now (W.contents out.old) (W.contents out.new) (read_texts plan.now.is_strict texts)) }
 
     // 1 says that one has a fault; the lines of all samples before it and of those of the others went out, too.
     ensures faulty { result ≡ 1 → IfSome (known_texts plan.now.files (S.known_input streams.old)
-        (S.known_file streams.old)) (λ texts. HasFault (read_texts texts)
-        × ShowsLive plan.now (W.contents out.old) (W.contents out.new) (read_texts texts)) }
+        (S.known_file streams.old)) (λ texts. HasTextFault plan.now.is_strict texts
+        × ShowsLive plan.now (W.contents out.old) (W.contents out.new) (read_texts plan.now.is_strict texts)) }
     ensures many { result ≡ 2 → 64 < length plan.now.files }
     ensures few { result ≢ 2 → length plan.now.files ≤ 64 }
     ensures refused { result ≡ 2 → Keeps (W.contents out.old) (W.contents out.new) }
@@ -60,7 +61,7 @@ pub fn live<T: Threads + Wait + Copy + Send + 'static, S: Streams, W: Outlet, E:
     // whether all of one was received.
     ensures front { result ≡ 3 → IfSome (known_texts plan.now.files (S.known_input streams.old)
         (S.known_file streams.old)) (λ texts.
-        ShowsFirst plan.now (W.contents out.old) (W.contents out.new) (read_texts texts)
+        ShowsFirst plan.now (W.contents out.old) (W.contents out.new) (read_texts plan.now.is_strict texts)
         ⊎ ShowsSome plan.now (W.contents out.old) (W.contents out.new) (length texts)) }
 
     // Where a file is known to be absent, nothing is written.
@@ -105,7 +106,7 @@ fn show_live<
         → FailsUntouched (live_status result) (W.contents out.old) (W.contents out.new)
         (W.failures out.old) (W.failures out.new) }
 {
-    let readers: Vec<R> = open_streams(host.alloc, streams, plan.files.get())?;
+    let readers: Vec<R> = open_streams(host.alloc, streams, plan.files.get(), plan.is_strict)?;
     send_graphs(host, plan, readers, out, err)
 }
 

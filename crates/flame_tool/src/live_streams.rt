@@ -1,11 +1,10 @@
 //! The streams of a live run, opened.
 ghost use Rattle.std.specs.Prelude.{◌≡◌, ◌≢◌, ◌<◌, ◌≤◌, ◌^◌, ◌↔◌, [], ◌∷◌, ◌++◌, true, All, IfErr, IfOk, IfSome, IsErr, IsSomeAnd, OnOk, length, map, string_bytes};
 ghost use Rattle.std.specs.List.{list_any};
-ghost use Rattle.folded_lines.specs.Streams.{StreamGives};
 ghost use Rattle.opened_sources.specs.Failures.{IsOfLoad, IsOpening};
 ghost use Rattle.stack_core.specs.Reading.{Rest};
 ghost use Rattle.stack_core.specs.RowReading.{GivesSome};
-ghost use Rattle.flame_tool.specs.checked.LiveStreams.{AreOpened, ReadsText};
+ghost use Rattle.flame_tool.specs.checked.LiveStreams.{AreOpened, GivesStream, ReadsText};
 
 use byte_io::{Inlet, Streams};
 use folded_lines::FoldedStream;
@@ -15,18 +14,22 @@ use std::alloc::{AllocError, Global};
 
 /// A reader of the rows of a stream of folded text.
 pub(crate) trait StreamReader<I: Inlet>: RowReader {
-    /// Of the stream that comes by this inlet. Where no read of it fails, its bytes are known.
-    fn over_stream(alloc: Global, inlet: I) -> Self
+    /// Of the stream that comes by this inlet, up to its first ignored line if it is strict. Where no read of it fails, its bytes are known.
+    fn over_stream(alloc: Global, inlet: I, is_strict: bool) -> Self
         requires { I.is_sure inlet ≡ true
             → IsSomeAnd (I.remaining inlet) (λ known. length known < 2 ^ 64) }
         ensures gives { (rest : Rest) → Self.gives result rest
-            ↔ StreamGives (I.remaining inlet) (I.is_sure inlet) rest }
+            ↔ GivesStream is_strict (I.remaining inlet) (I.is_sure inlet) rest }
         ensures told { Self.told result ≡ record { names = []; stacks = [] } };
 }
 
 impl<I: Inlet> StreamReader<I> for FoldedStream<I> {
-    fn over_stream(alloc: Global, inlet: I) -> Self {
-        FoldedStream::over(alloc, inlet)
+    fn over_stream(alloc: Global, inlet: I, is_strict: bool) -> Self {
+        if is_strict {
+            FoldedStream::strict_over(alloc, inlet)
+        } else {
+            FoldedStream::over(alloc, inlet)
+        }
     }
 }
 
@@ -36,6 +39,7 @@ pub(crate) fn open_streams<S: Streams, R: StreamReader<S::Inlet> + Drop>(
     alloc: Global,
     streams: &mut S,
     paths: &[String],
+    is_strict: bool,
 ) -> Result<Vec<R>, Failure>
     ensures few { IfOk result (λ readers. length readers.items ≤ 64) }
     ensures nothing_told { IfOk result (λ readers. All (λ reader.
@@ -44,7 +48,7 @@ pub(crate) fn open_streams<S: Streams, R: StreamReader<S::Inlet> + Drop>(
     ensures possible { IfOk result (λ readers. All (λ reader.
         GivesSome (R.gives reader)) readers.items) }
     ensures opened { IfOk result (λ readers.
-        AreOpened R.gives (S.known_input streams.old)
+        AreOpened is_strict R.gives (S.known_input streams.old)
         (S.known_file streams.old) (map string_bytes paths.now) readers.items) }
     ensures absent { list_any (S.is_absent streams.old) (map string_bytes paths.now) ≡ true
         → IsErr result }
@@ -56,11 +60,11 @@ pub(crate) fn open_streams<S: Streams, R: StreamReader<S::Inlet> + Drop>(
     }
     let mut readers = Vec::new(alloc);
     if paths.is_empty() {
-        add_reader(&mut readers, input(alloc, streams)?)?;
+        add_reader(&mut readers, input(alloc, streams, is_strict)?)?;
         return Ok(readers);
     }
     for path in paths {
-        let reader = named(alloc, streams, readers.len(), path)?;
+        let reader = named(alloc, streams, readers.len(), path, is_strict)?;
         add_reader(&mut readers, reader)?;
     }
     Ok(readers)
@@ -77,17 +81,18 @@ fn add_reader<R: Drop>(readers: &mut Vec<R>, reader: R) -> Result<(), AllocError
 fn input<S: Streams, R: StreamReader<S::Inlet>>(
     alloc: Global,
     streams: &mut S,
+    is_strict: bool,
 ) -> Result<R, Failure>
     ensures nothing_told { IfOk result (λ reader.
         R.told reader ≡ record { names = []; stacks = [] }) }
     ensures possible { IfOk result (λ reader.
         GivesSome (R.gives reader)) }
     ensures opened { IfOk result (λ reader. IfSome (S.known_input streams.old)
-        (ReadsText (R.gives reader))) }
+        (ReadsText is_strict (R.gives reader))) }
     ensures err { IfErr result (IsOfLoad 0) }
 {
     match streams.open_input(alloc) {
-        Ok(inlet) => Ok(R::over_stream(alloc, inlet)),
+        Ok(inlet) => Ok(R::over_stream(alloc, inlet, is_strict)),
         Err(fault) => Err(Failure::of_load(0, fault)),
     }
 }
@@ -98,20 +103,21 @@ fn named<S: Streams, R: StreamReader<S::Inlet>>(
     streams: &mut S,
     at: usize,
     path: &str,
+    is_strict: bool,
 ) -> Result<R, Failure>
     ensures nothing_told { IfOk result (λ reader.
         R.told reader ≡ record { names = []; stacks = [] }) }
     ensures possible { IfOk result (λ reader.
         GivesSome (R.gives reader)) }
     ensures opened { IfOk result (λ reader. IfSome (S.known_file streams.old path.now)
-        (ReadsText (R.gives reader))) }
+        (ReadsText is_strict (R.gives reader))) }
     ensures absent { S.is_absent streams.old path.now ≡ true → IsErr result }
     ensures files { S.known_file streams.new ≡ S.known_file streams.old }
     ensures absences { S.is_absent streams.new ≡ S.is_absent streams.old }
     ensures err { IfErr result (IsOfLoad at) }
 {
     match streams.open_named(alloc, path) {
-        Ok(inlet) => Ok(R::over_stream(alloc, inlet)),
+        Ok(inlet) => Ok(R::over_stream(alloc, inlet, is_strict)),
         Err(fault) => Err(Failure::of_load(at, fault)),
     }
 }

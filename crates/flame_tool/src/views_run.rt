@@ -89,8 +89,7 @@ pub(crate) fn show_views<T: Threads + Wait + Copy + Send + 'static, F: Files, W:
     ensures flushed { Flushes (W.is_flushed out.new) (W.failures out.old) (W.failures out.new)
         result }
 {
-    let streams = !plan.is_strict;
-    let inputs = load_sources(host.alloc, files, plan.files.get(), plan.format, streams)?;
+    let inputs = load_sources(host.alloc, files, plan.files.get(), plan.format)?;
     let advice = Advice::new(words, files.is_error_terminal());
     show_sources(host, plan, inputs, out, err, advice)
 }
@@ -138,9 +137,11 @@ fn show_sources<T: Threads + Wait + Copy + Send + 'static, W: Outlet, E: Outlet>
         result }
 {
     let alloc = host.alloc;
-    let types = told_types(alloc, plan, &inputs)?;
+    // Where several sources can't be read, reading them tells the first.
+    let told = told_types(alloc, plan, &inputs);
     let kept = kept_inputs(alloc, plan, &inputs, advice)?;
     let run = read_sources(host, plan, inputs, err, advice)?;
+    let types = told?;
     if !report_sources(alloc, plan, kept, run.kept.lists(), err, advice)? {
         return Err(Failure::Faults);
     }
@@ -253,7 +254,7 @@ fn is_told(fault: &Option<StrictFault>) -> bool
 }
 
 // The sample types of the weights of sources, where what is written tells them.
-fn told_types(alloc: Global, plan: &Plan, inputs: &[Input]) -> Result<Vec<SampleType>, AllocError>
+fn told_types(alloc: Global, plan: &Plan, inputs: &[Input]) -> Result<Vec<SampleType>, RunFault>
     ensures { IfOk result (λ types. form_tells plan.now.form plan.now.view ≡ true
         → IfSome (known_inputs inputs.now) (λ sources.
         types.items ≡ types_of plan.now.options sources)) }
@@ -337,7 +338,7 @@ fn send_form<T: Threads, W: Outlet>(
     let workers = InThreads { rt };
     match &plan.form {
         Form::Text | Form::Types | Form::Live => {
-            send_asked_view(&workers, alloc, &run, plan, facts, out)
+            send_asked_view(&workers, alloc, run, plan, facts, out)
         }
         Form::Callers(table) => {
             let side = CallSide::Callers;
@@ -347,7 +348,7 @@ fn send_form<T: Threads, W: Outlet>(
                 side,
                 table,
             };
-            send_asked_calls(&workers, alloc, &run, &asked, out)
+            send_asked_calls(&workers, alloc, run, &asked, out)
         }
         Form::Callees(table) => {
             let side = CallSide::Callees;
@@ -357,12 +358,12 @@ fn send_form<T: Threads, W: Outlet>(
                 side,
                 table,
             };
-            send_asked_calls(&workers, alloc, &run, &asked, out)
+            send_asked_calls(&workers, alloc, run, &asked, out)
         }
-        Form::Peek(table) => send_asked_peek(&workers, alloc, &run, plan, facts, table, out),
+        Form::Peek(table) => send_asked_peek(&workers, alloc, run, plan, facts, table, out),
         Form::Page(page) => send_asked_page(alloc, run, plan, facts, page, out),
         Form::Picture(form) => {
-            send_asked_picture(rt, alloc, &run, &AskedPicture { plan, facts, form }, out)
+            send_asked_picture(rt, alloc, run, &AskedPicture { plan, facts, form }, out)
         }
     }
 }

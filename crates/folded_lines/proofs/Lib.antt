@@ -29,6 +29,7 @@ pub mod StreamRows
 pub mod StreamSteps
 pub mod StreamTexts
 pub mod StrictLemmas
+pub mod StrictStreamTexts
 pub mod TextLemmas
 pub mod ToldHeads
 pub mod TrimmedHeads

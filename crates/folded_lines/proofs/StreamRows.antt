@@ -1,5 +1,5 @@
 -- What a reader of a stream gives before and behind its ending.
-use Rattle.std.proofs.Common.{◌≡◌, ◌<◌, ◌≤◌, ◌^◌, ℕ, Bool, true, false, cond, Option, Some, None, IsSome, Result, Ok, Err, OnErr, List, [], length, refl, sym, ap, subst, ◌∙◌, arith}
+use Rattle.std.proofs.Common.{◌≡◌, ◌<◌, ◌≤◌, ◌^◌, ℕ, zero, suc, Bool, true, false, cond, Option, Some, None, IsSome, Result, Ok, Err, OnErr, List, [], ◌∷◌, length, refl, sym, ap, subst, ◌∙◌, arith}
 use Rattle.sample_tables.specs.Rows.{ToldRows}
 use Rattle.stack_core.specs.Reading.{Rest}
 use Rattle.stack_core.specs.RowReading.{GivesSome, GivesSuch, IsLastStep, StepsAmong, StepsByRows}
@@ -7,21 +7,36 @@ use Rattle.stack_core.specs.declared.endings.ReadKind.TheVariants.{Compressed}
 use Rattle.stack_core.specs.declared.endings.SourceEnd.{SourceEnd}
 use Rattle.stack_core.specs.declared.readers.RowStep.{RowStep}
 use Rattle.stack_core.specs.declared.readers.RowStep.TheVariants as step
-use Rattle.folded_lines.specs.Lines.{text_lines}
-use Rattle.folded_lines.specs.Reading.{cut_short}
+use Rattle.folded_lines.specs.Lines.{read_line, text_lines}
+use Rattle.folded_lines.specs.Reading.{cut_short, is_ignored}
+use Rattle.folded_lines.specs.StrictStreams.{up_to_ignored}
 use Rattle.folded_lines.specs.declared.cursor.Cursor.{Cursor}
 use Rattle.folded_lines.specs.declared.stream_lines.StreamLines.{StreamLines}
 use Rattle.folded_lines.specs.checked.Scanning.{ended, scan}
 use Rattle.folded_lines.specs.checked.StreamPlaces.{GivesAt, GivesBehind, GivesBy, IsStreamPlace, ending_of}
-use Rattle.folded_lines.specs.checked.StreamReading.{is_compressed_at, rest_of_bytes, rest_up_to}
+use Rattle.folded_lines.specs.checked.StreamReading.{is_compressed_at, is_cut, lines_read, rest_of_bytes, rest_up_to}
 use Rattle.folded_lines.proofs.LimitLemmas.{scan-short}
 use Rattle.folded_lines.proofs.StreamSteps.{possible_at}
 
+-- no more lines are read than there are
+pub few_up_to_ignored : (lines : List (List ℕ)) → length (up_to_ignored lines) ≤ length lines
+few_up_to_ignored [] = omega arith
+few_up_to_ignored (line ∷ lines) = by (is_ignored (read_line line)) (few_up_to_ignored lines)
+  where
+    by : (here : Bool) → length (up_to_ignored lines) ≤ length lines → length (line ∷ cond here [] (up_to_ignored lines)) ≤ length (line ∷ lines)
+    by true few = omega arith
+    by false few = omega (arith, few)
+
+few_read : (is_strict : Bool) (lines : List (List ℕ)) → length (lines_read is_strict lines) ≤ length lines
+few_read false lines = omega arith
+few_read true lines = few_up_to_ignored lines
+
 -- no more samples than lines
-few_bytes : (counts : Cursor) (bytes : List ℕ) (test : Bool)
-    → length (cond test (cut_short [] Compressed) (scan counts.taken counts.ignored counts.total (text_lines bytes))).samples ≤ length (text_lines bytes)
-few_bytes counts bytes true = omega arith
-few_bytes counts bytes false = scan-short (text_lines bytes) counts.taken counts.ignored counts.total
+few_bytes : (is_strict : Bool) (counts : Cursor) (bytes : List ℕ) (test : Bool)
+    → length (cond test (cut_short [] Compressed) (scan counts.taken counts.ignored counts.total (lines_read is_strict (text_lines bytes)))).samples ≤ length (text_lines bytes)
+few_bytes is_strict counts bytes true = omega arith
+few_bytes is_strict counts bytes false =
+    omega (arith, scan-short (lines_read is_strict (text_lines bytes)) counts.taken counts.ignored counts.total, few_read is_strict (text_lines bytes))
 
 few_up_to : (fails : Bool) (before : ℕ) (rest : Rest) → (rest_up_to fails before rest).samples ≡ rest.samples
 few_up_to true before rest = refl
@@ -31,9 +46,10 @@ module _ {I : Type 0} (known : Option (List ℕ)) (is_sure : Bool) (lines : Stre
   pub few_by : (at_end : Option SourceEnd) (rest : Rest) → GivesBy known is_sure lines counts at_end rest → length rest.samples < 2 ^ 64
   few_by None rest given =
       let bytes = given.0.bytes in
-      let same : rest.samples ≡ (rest_of_bytes counts bytes).samples =
-      ap (λ (r : Rest). r.samples) given.3 ∙ few_up_to given.0.fails _ (rest_of_bytes counts bytes) in
-      omega (arith, given.2, ap length same, few_bytes counts bytes (is_compressed_at counts bytes))
+      let is_strict = lines.is_strict in
+      let same : rest.samples ≡ (rest_of_bytes is_strict counts bytes).samples =
+      ap (λ (r : Rest). r.samples) given.3 ∙ few_up_to (is_cut is_strict given.0.fails (text_lines bytes)) _ (rest_of_bytes is_strict counts bytes) in
+      omega (arith, given.2, ap length same, few_bytes is_strict counts bytes (is_compressed_at counts bytes))
   few_by (Some ending) rest given = omega (arith, ap (λ (r : Rest). length r.samples) given)
 
   pub possible_by : (at_end : Option SourceEnd) → IsStreamPlace known is_sure lines counts → GivesSome (GivesBy known is_sure lines counts at_end)

@@ -31,7 +31,7 @@ pub record IsFront (front all : Rest) : Type 0 where
   pub samples : IsPrefixOf front.samples all.samples
   pub fault : (fault : ReadFault) → front.ending ≡ ends.Fault fault → all ≡ front
 
-front_same : (rest : Rest) → IsFront rest rest
+pub front_same : (rest : Rest) → IsFront rest rest
 front_same rest = record { samples = ([], append-nil rest.samples); fault = λ fault is. refl }
 
 front_by : (taken ignored total : ℕ) (lines more : List (List ℕ)) (read : Line) → ((n i t : ℕ) → IsFront (scan n i t lines) (scan n i t (lines ++ more)))
@@ -45,7 +45,7 @@ front_by taken ignored total lines more (Sample sample) rest =
       fault = λ fault is. ap (followed_by sample) (later.fault fault is);
     }
 
-scan_front : (lines more : List (List ℕ)) (taken ignored total : ℕ) → IsFront (scan taken ignored total lines) (scan taken ignored total (lines ++ more))
+pub scan_front : (lines more : List (List ℕ)) (taken ignored total : ℕ) → IsFront (scan taken ignored total lines) (scan taken ignored total (lines ++ more))
 scan_front [] more taken ignored total = record { samples = (_, refl); fault = λ fault is. cc }
 scan_front (line ∷ lines) more taken ignored total = front_by taken ignored total lines more (within_total total (read_line line)) (scan_front lines more)
 
@@ -68,7 +68,7 @@ plain_front one other whole here both =
 nothing_reads : read_folded [] ≡ ended (ends.Clean 0)
 nothing_reads = ap (λ lines. read_after [] (map read_line (map without_terminator lines))) lines-nil
 
-nothing_front : (all front : Rest) → front ≡ ended (ends.Clean 0) → IsFront front all
+pub nothing_front : (all front : Rest) → front ≡ ended (ends.Clean 0) → IsFront front all
 nothing_front all front is =
     subst (λ front. IsFront front all) (sym is) (record { samples = (all.samples, refl); fault = λ fault is. cc })
 
@@ -139,7 +139,7 @@ pub stream_sure : (known : List ℕ) (rest : Rest) → StreamGives (Some known) 
 stream_sure known rest gives = sure_by known gives.0.bytes gives.0.fails rest gives.1 gives.3
 
 -- an ending that is no Stopped stays where a read fails
-ends_by : (samples : List StackSample) (ending : SourceEnd) (rest all : Rest) → rest ≡ record { samples = samples; ending = ending_at_failure (length samples) ending }
+pub ends_by : (samples : List StackSample) (ending : SourceEnd) (rest all : Rest) → rest ≡ record { samples = samples; ending = ending_at_failure (length samples) ending }
     → ((after : ℕ) → rest.ending ≢ ends.Stopped after) → IsFront (record { samples = samples; ending = ending }) all → rest ≡ all
 ends_by samples (ends.Clean ignored) rest all is unstopped front = absurd (unstopped (length samples) (ap (λ rest. rest.ending) is))
 ends_by samples (ends.Fault fault) rest all is unstopped front = is ∙ sym (front.fault fault refl)

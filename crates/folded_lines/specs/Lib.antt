@@ -6,6 +6,7 @@ pub mod ReadingBack
 pub mod State
 pub mod Streams
 pub mod StrictReading
+pub mod StrictStreams
 pub mod TextParts
 pub mod Writing
 pub mod checked

@@ -15,6 +15,7 @@ ghost use Rattle.folded_lines.specs.Reading.{begins_compressed, is_ignored, read
 ghost use Rattle.folded_lines.specs.ReadingBack.{IsPlain, text_of};
 ghost use Rattle.folded_lines.specs.Streams.{StreamGives};
 ghost use Rattle.folded_lines.specs.StrictReading.{fault_of_ending, strict_fault};
+ghost use Rattle.folded_lines.specs.StrictStreams.{IsTellable, StrictStreamGives, read_strictly, strict_ending_fault};
 ghost use Rattle.folded_lines.specs.TextParts.{IsWholeLines, AreCutAtLines, IsFaultless, samples_of_parts, ReadsAsParts};
 
 /// Text of written lines reads back as the same samples, with none ignored, where no name holds `;` or
@@ -59,6 +60,16 @@ pub fn strict_text_reads_the_same()
         → strict_fault bytes ≡ fault_of_ending (read_folded bytes).ending }
 {}
 
+/// A text whose first ignored line ends it tells its first fault, where it is read strictly, by how many samples it gives and by its ending.
+/// Its samples are those in front of what it gives otherwise, and all of it where no line is ignored.
+pub fn strict_text_ends_at_its_fault()
+    ensures fault { (bytes : List ℕ)
+        → strict_ending_fault (length (read_strictly bytes).samples) (read_strictly bytes).ending ≡ strict_fault bytes }
+    ensures front { (bytes : List ℕ) → IsPrefixOf (read_strictly bytes).samples (read_folded bytes).samples }
+    ensures same { (bytes : List ℕ) → All (λ line. is_ignored (read_line line) ≡ false) (text_lines bytes)
+        → read_strictly bytes ≡ read_folded bytes }
+{}
+
 /// What comes by a stream of known bytes reads as they do, unless a read fails. Then the samples are those in front of theirs. A stream
 /// may always give something, where a read may fail, or its bytes are known and fewer than 2^64. The samples are within the limits of a
 /// source.
@@ -72,5 +83,24 @@ pub fn streams_read_as_texts()
         → (is_sure ≡ true → IsSomeAnd known (λ bytes. length bytes < 2 ^ 64))
         → GivesSome (StreamGives known is_sure) }
     ensures limits { (known : Option (List ℕ)) (is_sure : Bool) (rest : Rest) → StreamGives known is_sure rest
+        → IsSourceLimited rest.samples }
+{}
+
+/// The same of a strict reader: what it gives is what the known bytes give up to their first ignored line.
+pub fn strict_streams_read_as_texts()
+    ensures sure { (bytes : List ℕ) (rest : Rest) → StrictStreamGives (Some bytes) true rest → rest ≡ read_strictly bytes }
+    ensures whole { (bytes : List ℕ) (is_sure : Bool) (rest : Rest) → StrictStreamGives (Some bytes) is_sure rest
+        → ((after : ℕ) → rest.ending ≢ ends.Stopped after) → rest ≡ read_strictly bytes }
+    ensures fault { (bytes : List ℕ) (is_sure : Bool) (rest : Rest) → StrictStreamGives (Some bytes) is_sure rest
+        → ((after : ℕ) → rest.ending ≢ ends.Stopped after)
+        → strict_ending_fault (length rest.samples) rest.ending ≡ strict_fault bytes }
+    ensures tellable { (known : Option (List ℕ)) (is_sure : Bool) (rest : Rest) → StrictStreamGives known is_sure rest
+        → IsTellable (length rest.samples) rest.ending }
+    ensures front { (bytes : List ℕ) (is_sure : Bool) (rest : Rest) → StrictStreamGives (Some bytes) is_sure rest
+        → IsPrefixOf rest.samples (read_strictly bytes).samples }
+    ensures possible { (known : Option (List ℕ)) (is_sure : Bool)
+        → (is_sure ≡ true → IsSomeAnd known (λ bytes. length bytes < 2 ^ 64))
+        → GivesSome (StrictStreamGives known is_sure) }
+    ensures limits { (known : Option (List ℕ)) (is_sure : Bool) (rest : Rest) → StrictStreamGives known is_sure rest
         → IsSourceLimited rest.samples }
 {}

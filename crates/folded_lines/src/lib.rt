@@ -24,5 +24,5 @@ mod writing;
 pub use reader::FoldedReader;
 pub use rows::FoldedRows;
 pub use streams::FoldedStream;
-pub use strictness::{StrictFault, StrictKind, strict_fault};
+pub use strictness::{StrictFault, StrictKind, strict_ending_fault, strict_fault};
 pub use writing::{append_line, append_pair_line};

@@ -8,7 +8,7 @@ ghost use Rattle.folded_lines.specs.Lines.{text_lines};
 
 use crate::cursor::without_cr;
 use crate::line_buffer::LineBuffer;
-use crate::row_lines::{Count, count_of};
+use crate::row_lines::{Count, RowLine, count_of};
 use byte_io::Inlet;
 use stack_core::SourceBytes;
 use std::alloc::{AllocError, Global};
@@ -38,6 +38,8 @@ pub(crate) struct FoundLine {
 pub(crate) struct StreamLines<I> {
     pub(crate) inlet: I,
     pub(crate) state: StreamState,
+    /// Whether a line that is ignored is the last.
+    pub(crate) is_strict: bool,
     /// What was read and not given.
     buffer: LineBuffer,
     ghost short: { length buffer < 2 ^ 63 },
@@ -49,17 +51,21 @@ fn is_ignored(line: &[u8]) -> bool {
 }
 
 impl<I: Inlet> StreamLines<I> {
-    ghost use Rattle.folded_lines.specs.checked.StreamLines.{LinesMayCome, IsLineOf, HasNone, line_of_found, unread_of};
+    ghost use Rattle.sample_tables.specs.Rows.{ToldRows};
+    ghost use Rattle.folded_lines.specs.checked.RowLines.{line_by};
+    ghost use Rattle.folded_lines.specs.checked.StreamLines.{LinesMayCome, IsClosed, IsLineOf, HasNone, closes, line_of_found, unread_of};
 
     /// The lines of what comes from here on. It takes no memory.
-    pub(crate) fn over(alloc: Global, inlet: I) -> Self
+    pub(crate) fn over(alloc: Global, inlet: I, is_strict: bool) -> Self
         ensures inlet { result.inlet ≡ inlet }
         ensures unread { unread_of result ≡ [] }
         ensures state { result.state ≡ StreamState.Open }
+        ensures strictness { result.is_strict ≡ is_strict }
     {
         StreamLines {
             inlet,
             state: StreamState::Open,
+            is_strict,
             buffer: LineBuffer::of(SourceBytes::Own(Vec::new(alloc))),
         }
     }
@@ -69,10 +75,12 @@ impl<I: Inlet> StreamLines<I> {
         ensures inlet { result.inlet ≡ inlet }
         ensures unread { unread_of result ≡ bytes_of bytes }
         ensures state { result.state ≡ StreamState.Ended }
+        ensures strictness { result.is_strict ≡ false }
     {
         StreamLines {
             inlet,
             state: StreamState::Ended,
+            is_strict: false,
             buffer: LineBuffer::of(bytes),
         }
     }
@@ -87,6 +95,7 @@ impl<I: Inlet> StreamLines<I> {
         ensures line { IfOk result (λ found. IfSome found (IsLineOf self.new)) }
         ensures closed { result ≡ Ok None → HasNone self.new }
         ensures surety { I.is_sure self.new.inlet ≡ I.is_sure self.old.inlet }
+        ensures strictness { self.new.is_strict ≡ self.old.is_strict }
     {
         if self.state == StreamState::Failed {
             return Ok(None);
@@ -101,7 +110,7 @@ impl<I: Inlet> StreamLines<I> {
         }
     }
 
-    /// Whether more may be read before a line comes that has a count.
+    /// Whether more may be read before a line comes that has a count, or is the last.
     pub(crate) fn may_read(&mut self) -> bool
         ensures { self.new ≡ self.old }
     {
@@ -109,7 +118,7 @@ impl<I: Inlet> StreamLines<I> {
             return false;
         }
         match self.buffer.find_feed() {
-            Some(at) => is_ignored(without_cr(self.buffer.front(at))),
+            Some(at) => !self.is_strict && is_ignored(without_cr(self.buffer.front(at))),
             None => true,
         }
     }
@@ -136,6 +145,7 @@ impl<I: Inlet> StreamLines<I> {
         ensures stops { result ≡ Ok false → self.new.state ≢ StreamState.Open }
         ensures same { result ≡ Ok false → unread_of self.new ≡ unread_of self.old }
         ensures surety { I.is_sure self.new.inlet ≡ I.is_sure self.old.inlet }
+        ensures strictness { self.new.is_strict ≡ self.old.is_strict }
     {
         let StreamState::Open = self.state else {
             return Ok(false);
@@ -181,7 +191,26 @@ impl<I: Inlet> StreamLines<I> {
             × (before.fails ≡ after.fails)
             × (text_lines before.bytes ≡ line_of_found self.old found ∷ text_lines after.bytes) }
         ensures surety { I.is_sure self.new.inlet ≡ I.is_sure self.old.inlet }
+        ensures strictness { self.new.is_strict ≡ self.old.is_strict }
     {
         self.buffer.drop_front(found.next);
+    }
+
+    /// Ends where this line stood, if that is ignored and they are read strictly: nothing more is read.
+    pub(crate) fn end_behind(&mut self, line: &RowLine)
+        ensures kept { (told : ToldRows) → closes self.old.is_strict (line_by told line.now) ≡ false
+            → self.new ≡ self.old }
+        ensures closed { (told : ToldRows) → closes self.old.is_strict (line_by told line.now) ≡ true
+            → IsClosed self.new }
+        ensures surety { I.is_sure self.new.inlet ≡ I.is_sure self.old.inlet }
+        ensures strictness { self.new.is_strict ≡ self.old.is_strict }
+    {
+        let RowLine::Ignored = line else {
+            return;
+        };
+        if self.is_strict {
+            self.state = StreamState::Ended;
+            self.buffer.drop_front(self.buffer.len());
+        }
     }
 }

@@ -45,7 +45,7 @@ fn after(cursor: Cursor, line: &RowLine) -> Cursor
     }
 }
 
-/// Reads the line that was found, and then takes it off.
+/// Reads the line that was found, and then takes it off. Where it closes the lines, none is left.
 fn take_line<I: Inlet>(
     alloc: Global,
     lines: &mut StreamLines<I>,
@@ -72,6 +72,7 @@ fn take_line<I: Inlet>(
 {
     let line = telling.read_line(alloc, lines.line(found), *counts)?;
     lines.pass(found);
+    lines.end_behind(&line);
     *counts = after(*counts, &line);
     Ok(line)
 }
@@ -92,7 +93,7 @@ fn ending_at<I: Inlet>(lines: &StreamLines<I>, counts: &Cursor) -> SourceEnd
     }
 }
 
-/// The next step. Ignored lines are passed over, and stay so where memory is wanting then.
+/// The next step. Ignored lines are passed over, and stay so where memory is wanting then; read strictly, one ends the stream.
 pub(crate) fn next_stream_step<I: Inlet>(
     alloc: Global,
     lines: &mut StreamLines<I>,

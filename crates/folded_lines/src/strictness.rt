@@ -1,9 +1,10 @@
 //! What is wrong with a text where each of its lines has to be a stack and a count.
 
-ghost use Rattle.std.specs.Prelude.{◌≡◌, ◌<◌, ◌≤◌, ℕ, drop, length};
+ghost use Rattle.std.specs.Prelude.{◌≡◌, ◌<◌, ◌≤◌, ℕ, drop, is_some, length};
 ghost use Rattle.folded_lines.specs.Lines.{read_line};
 ghost use Rattle.folded_lines.specs.Reading.{is_ignored, read_folded};
 ghost use Rattle.folded_lines.specs.StrictReading.{strict_fault, strict_kind_text};
+ghost use Rattle.folded_lines.specs.StrictStreams.{IsTellable, strict_ending_fault};
 ghost use Rattle.folded_lines.specs.checked.Strictness.{earlier, fault_of_counted, first_from, first_ignored, is_counted, lines_in};
 
 use crate::columns::{columns, is_number};
@@ -144,4 +145,22 @@ pub fn strict_fault(text: &[u8], ending: &SourceEnd) -> Option<StrictFault>
         return fault_of_counted(text);
     }
     earlier(first_ignored(text), ending)
+}
+
+/// What is wrong with a stream that was read strictly, by how many samples it gave and by its ending: the line behind its last sample that is
+/// ignored, its fault, or that it gave nothing. Where it was stopped, nothing is.
+pub fn strict_ending_fault(samples: u64, ending: &SourceEnd) -> Option<StrictFault>
+    ensures fault { IsTellable samples ending.now → result ≡ strict_ending_fault samples ending.now }
+    ensures some { is_some result ≡ is_some (strict_ending_fault samples ending.now) }
+{
+    let (kind, at) = match ending {
+        SourceEnd::Fault(fault) => return Some(StrictFault::from(*fault)),
+        SourceEnd::Stopped { after: _ } => return None,
+        SourceEnd::Clean { ignored } if *ignored != 0 => {
+            (StrictKind::NoCount, samples.saturating_add(1))
+        }
+        SourceEnd::Clean { ignored: _ } if samples != 0 => return None,
+        SourceEnd::Clean { ignored: _ } => (StrictKind::NoSamples, 0),
+    };
+    Some(StrictFault { kind, at })
 }

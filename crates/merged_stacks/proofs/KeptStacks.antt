@@ -131,7 +131,7 @@ kept_at told (frames ∷ stacks) (sum ∷ sums) zero d e lt = refl
 kept_at told (frames ∷ stacks) (sum ∷ sums) (suc k) d e lt = kept_at told stacks sums k d (omega arith) (omega arith)
 
 -- in another order they have the same sums
-ordered_same : (told stacks : List (List ℕ)) (sums order : List ℕ) (samples : List Sample) → length sums ≡ length stacks → IsPermutation (range_with_len 0 (length stacks)) order
+pub ordered_same : (told stacks : List (List ℕ)) (sums order : List ℕ) (samples : List Sample) → length sums ≡ length stacks → IsPermutation (range_with_len 0 (length stacks)) order
     → HaveSameSums (kept_samples told stacks sums) samples → HaveSameSums (map (kept_sample told stacks sums) order) samples
 ordered_same told stacks sums order samples e moved same =
     let f = kept_sample told stacks sums in

@@ -1,3 +1,4 @@
+pub mod GivenStacks
 pub mod GrowingLists
 pub mod JoinedStacks
 pub mod KeptStacks

@@ -1,13 +1,13 @@
 //! The sums of the stacks that a list keeps, as its samples come one after another.
 
-ghost use Rattle.std.specs.Prelude.{◌≡◌, ◌+◌, ◌<◌, ◌≤◌, ◌^◌, ◌++◌, ◌∷◌, ℕ, [], List, All, IfOk, OnOk, IsPermutation, length, map};
+ghost use Rattle.std.specs.Prelude.{◌≡◌, ◌+◌, ◌<◌, ◌≤◌, ◌^◌, ◌++◌, ◌∷◌, ℕ, [], List, All, IfOk, OnOk, IsPermutation, length, map, take};
 ghost use Rattle.std.specs.List.{range_with_len};
 ghost use Rattle.sample_tables.specs.declared.samples.Sample.{Sample};
 ghost use Rattle.sample_tables.specs.declared.samples.TheConstants.{FRAME_LIMIT};
 ghost use Rattle.sample_tables.specs.Rows.{named};
 ghost use Rattle.merged_stacks.specs.Timeline.{total_weight};
 ghost use Rattle.merged_stacks.specs.checked.Growing.{not_begun, came};
-ghost use Rattle.merged_stacks.specs.checked.Kept.{kept_sample};
+ghost use Rattle.merged_stacks.specs.checked.Kept.{kept_sample, kept_samples, ArePicked, HaveSameSums};
 ghost use Rattle.merged_stacks.specs.checked.Ranked.{HasSums, IsNamedBy};
 
 use ranked_rows::RankedRows;
@@ -70,9 +70,7 @@ impl<'a> ListSums<'a> {
         requires { self.old.count < length self.old.list.samples }
         ensures { self.new ≡ record self.old { count = self.old.count + 1 } }
     {
-        let list = self.list;
-        let at = self.count as usize;
-        self.sums[list.stack_number(at)] += list.weight(at);
+        add_sample(&mut self.sums, self.list, self.count as usize);
         self.count += 1;
     }
 
@@ -99,6 +97,33 @@ impl<'a> ListSums<'a> {
     {
         add_numbered(rows, self.list, ranks, &self.sums, &self.order)
     }
+}
+
+/// Adds a sample to the sum of its stack.
+fn add_sample(sums: &mut Vec<u64>, list: &SourceList, at: usize)
+    requires at { at < length list.now.samples }
+    requires total { total_weight list.now.samples < 2 ^ 64 }
+    requires len { length sums.old.items ≡ length list.now.stacks }
+    requires picked { ArePicked list.now.stacks sums.old.items (take at list.now.rows) }
+    ensures len { length sums.new.items ≡ length list.now.stacks }
+    ensures picked { ArePicked list.now.stacks sums.new.items (take (at + 1) list.now.rows) }
+{
+    let _count = list.len();
+    sums[list.stack_number(at)] += list.weight(at);
+}
+
+/// The sums of the stacks that a list keeps.
+fn sums_of(alloc: Global, list: &SourceList) -> Result<Vec<u64>, AllocError>
+    requires { total_weight list.now.samples < 2 ^ 64 }
+    ensures len { IfOk result (λ sums. length sums.items ≡ length list.now.stacks) }
+    ensures same { IfOk result (λ sums.
+        HaveSameSums (kept_samples list.now.told list.now.stacks sums.items) list.now.samples) }
+{
+    let mut sums = vec![in alloc; 0; list.stack_count()]?;
+    for at in 0..list.len() {
+        add_sample(&mut sums, list, at);
+    }
+    Ok(sums)
 }
 
 /// Appends the stacks of these numbers, each with its sum.
@@ -167,11 +192,45 @@ pub(crate) fn add_list(
         → IsNamedBy names ranks.now list.now.told → HasSums names samples rows.old
         → HasSums names (samples ++ list.now.samples) rows.new) }
 {
-    let mut order = Vec::new(alloc);
-    order.extend(0..list.stack_count() as u64)?;
-    let mut sums = ListSums::of(alloc, list, order)?;
-    for _at in 0..list.len() {
-        sums.take();
+    let sums = sums_of(alloc, list)?;
+    let order = numbers_below(alloc, list.stack_count())?;
+    add_numbered(rows, list, ranks, &sums, &order)
+}
+
+fn numbers_below(alloc: Global, count: usize) -> Result<Vec<u64>, AllocError>
+    ensures { IfOk result (λ numbers. numbers.items ≡ range_with_len 0 count) }
+{
+    let mut numbers = Vec::new(alloc);
+    numbers.extend(0..count as u64)?;
+    Ok(numbers)
+}
+
+/// The samples of a list that is given up, by the ranks of its told names, which come in the place of their numbers.
+fn rows_of_list(alloc: Global, list: SourceList, ranks: &[u32]) -> Result<RankedRows, AllocError>
+    requires { total_weight list.samples < 2 ^ 64 }
+    ensures { IfOk result (λ rows. (names : List (List ℕ))
+        → IsNamedBy names ranks.now list.told → HasSums names list.samples rows) }
+{
+    let sums = sums_of(alloc, &list)?;
+    RankedRows::from_stacks(alloc, list.into_stacks(), ranks, &sums)
+}
+
+/// Appends the samples of a list that is given up. Those of the first list stay where they are.
+pub(crate) fn with_list(
+    alloc: Global,
+    mut rows: RankedRows,
+    list: SourceList,
+    ranks: &[u32],
+) -> Result<RankedRows, AllocError>
+    requires ranks { length ranks.now ≡ length list.told }
+    requires total { total_weight list.samples < 2 ^ 64 }
+    ensures { IfOk result (λ all. (names : List (List ℕ)) (samples : List Sample)
+        → IsNamedBy names ranks.now list.told → HasSums names samples rows
+        → HasSums names (samples ++ list.samples) all) }
+{
+    if rows.len() == 0 {
+        return rows_of_list(alloc, list, ranks);
     }
-    sums.add_to(rows, ranks)
+    add_list(alloc, &mut rows, &list, ranks)?;
+    Ok(rows)
 }

@@ -1,6 +1,7 @@
 //! Merged stacks: each stack with weight once, in order, with the sum of its samples.
 
 ghost use Rattle.std.specs.Prelude.{◌≡◌, ◌<◌, ◌≤◌, ◌^◌, ℕ, List, All, IfOk, IsTrue, length, map, slice_index, string_bytes};
+ghost use Rattle.sample_tables.specs.declared.samples.Sample.{Sample};
 ghost use Rattle.sample_tables.specs.declared.samples.TheConstants.{FRAME_LIMIT};
 ghost use Rattle.sample_tables.specs.Rows.{name_at, sample_at};
 ghost use Rattle.merged_stacks.specs.Timeline.{total_weight, samples_of};
@@ -10,7 +11,7 @@ ghost use Rattle.merged_stacks.specs.RankedStacks.{ranked_samples, ranks_at, Nam
 ghost use Rattle.merged_stacks.specs.checked.Ranks.{all_told};
 ghost use Rattle.merged_stacks.specs.checked.Ranked.{AreMerged, HasSums, IsNamedBy};
 
-use crate::list_sums::add_list;
+use crate::list_sums::{add_list, with_list};
 use crate::stack_rows::StackRows;
 use ranked_rows::{NameRanks, RankedRows, Sorting};
 use stack_core::SourceList;
@@ -51,6 +52,38 @@ impl MergedStacks {
     {
         let NameRanks { names, ranks } = NameRanks::of(alloc, lists)?;
         let rows = ranked(alloc, lists, &ranks)?;
+        MergedStacks::merged(alloc, names, rows, sorting)
+    }
+
+    /// The same of lists that are given up: each is let go as soon as its stacks are taken out of it.
+    pub fn from_lists<S: Sorting>(
+        alloc: Global,
+        lists: Vec<SourceList>,
+        sorting: &S,
+    ) -> Result<MergedStacks, AllocError>
+        requires { total_weight (all_samples (samples_of lists.items)) < 2 ^ 64 }
+        ensures { IfOk result (λ merged.
+            ranked_samples merged ≡ merged_samples (all_samples (samples_of lists.items))) }
+    {
+        let NameRanks { names, ranks } = NameRanks::of(alloc, &lists)?;
+        let rows = ranked_out(alloc, lists, ranks)?;
+        MergedStacks::merged(alloc, names, rows, sorting)
+    }
+
+    /// The merged stacks of the samples that rows have the sums of.
+    fn merged<S: Sorting>(
+        alloc: Global,
+        names: Vec<String>,
+        rows: RankedRows,
+        sorting: &S,
+    ) -> Result<MergedStacks, AllocError>
+        requires rising { AreRising (map string_bytes names.items) }
+        requires sums { (samples : List Sample) × HasSums (map string_bytes names.items) samples rows
+            × (total_weight samples < 2 ^ 64) }
+        ensures { IfOk result (λ merged. (samples : List Sample)
+            → HasSums (map string_bytes names.items) samples rows
+            → ranked_samples merged ≡ merged_samples samples) }
+    {
         let rows = rows.merged(alloc, sorting)?;
         Ok(MergedStacks { names, rows })
     }
@@ -168,6 +201,28 @@ fn ranked(alloc: Global, lists: &[SourceList], ranks: &[u32]) -> Result<RankedRo
     for list in lists {
         let (own, others) = rest.split_at(list.told());
         add_list(alloc, &mut rows, list, own)?;
+        rest = others;
+    }
+    Ok(rows)
+}
+
+/// The same of lists that are given up one after another.
+fn ranked_out(
+    alloc: Global,
+    mut lists: Vec<SourceList>,
+    ranks: Vec<u32>,
+) -> Result<RankedRows, AllocError>
+    requires ranks { length ranks.items ≡ length (all_told lists.items) }
+    requires total { total_weight (all_samples (samples_of lists.items)) < 2 ^ 64 }
+    ensures { IfOk result (λ rows. (names : List (List ℕ)) → IsNamedBy names ranks.items (all_told lists.items)
+        → HasSums names (all_samples (samples_of lists.items)) rows) }
+{
+    let mut rows = RankedRows::new(alloc);
+    let mut rest = ranks.as_slice();
+    'each: while !lists.is_empty() {
+        let list = lists.remove(0);
+        let (own, others) = rest.split_at(list.told());
+        rows = with_list(alloc, rows, list, own)?;
         rest = others;
     }
     Ok(rows)

@@ -1,14 +1,12 @@
 //! The sources of a run as files that are opened one after another.
-ghost use Rattle.std.specs.Prelude.{◌≡◌, ◌≢◌, ◌≤◌, true, unwrap_or, ℕ, List, Option, [], ◌∷◌, ◌++◌, IfOk, IfErr, IfSome, OnOk, length, map, string_bytes};
-ghost use Rattle.run_options.specs.Formats.{format_at};
+ghost use Rattle.std.specs.Prelude.{◌≡◌, ◌≢◌, ◌≤◌, ℕ, List, Option, [], ◌∷◌, ◌++◌, IfOk, IfErr, IfSome, OnOk, length, map, string_bytes};
 ghost use Rattle.run_options.specs.declared.formats.Format.{Format as SourceFormat};
-ghost use Rattle.run_options.specs.declared.formats.Format.TheVariants.{Folded as IsFolded};
 ghost use Rattle.source_lists.specs.Sources.{known_source};
 ghost use Rattle.opened_sources.specs.Opening.{AreLoaded, IsLoaded, IsLoadedInput};
 ghost use Rattle.opened_sources.specs.Failures.{IsOfLoad, IsOpening};
 
 use crate::failures::Failure;
-use byte_io::{Files, StoredText};
+use byte_io::Files;
 use run_options::{Format, format_of};
 use source_lists::{Input, Source};
 use std::alloc::{AllocError, Global};
@@ -17,14 +15,12 @@ use std::alloc::{AllocError, Global};
 pub const SOURCE_COUNT: usize = 64;
 
 /// The sources of these paths, in order, or the input where there is none. The first that fails ends it. All have the format that was
-/// asked for, or each that of its name. With `streams` a folded text whose file can be read as a stream is opened only; every other
-/// source is loaded whole.
+/// asked for, or each that of its name. A file that the files give where it is stored is opened only; every other source is loaded whole.
 pub fn load_sources<F: Files>(
     alloc: Global,
     files: &mut F,
     paths: &[String],
     asked: Option<Format>,
-    streams: bool,
 ) -> Result<Vec<Input>, Failure>
     ensures few { IfOk result (λ inputs. length inputs.items ≤ 64) }
     ensures count { IfOk result (λ inputs.
@@ -43,33 +39,10 @@ pub fn load_sources<F: Files>(
         add_input(&mut inputs, Input::of(source)?)?;
         return Ok(inputs);
     }
-    load_ahead(alloc, files, paths, asked, streams);
     for path in paths {
-        add_named(alloc, files, path, asked, streams, &mut inputs)?;
+        add_named(alloc, files, path, asked, &mut inputs)?;
     }
     Ok(inputs)
-}
-
-// Has files loaded ahead where all of them are to be loaded.
-fn load_ahead<F: Files>(
-    alloc: Global,
-    files: &mut F,
-    paths: &[String],
-    asked: Option<Format>,
-    streams: bool,
-)
-    ensures input { F.known_input files.new ≡ F.known_input files.old }
-    ensures files { F.known_file files.new ≡ F.known_file files.old }
-{
-    if !streams || !paths.iter().any(|path| is_text(path, asked)) {
-        files.prefetch(alloc, paths);
-    }
-}
-
-fn is_text(path: &str, asked: Option<Format>) -> bool
-    ensures { result ≡ true → unwrap_or asked (format_at path.now) ≡ IsFolded }
-{
-    asked.unwrap_or(format_of(path)) == Format::Folded
 }
 
 // Adds the source of the path after those that were opened. Where it can't be, it is blamed, by its place.
@@ -78,7 +51,6 @@ fn add_named<F: Files>(
     files: &mut F,
     path: &str,
     asked: Option<Format>,
-    streams: bool,
     inputs: &mut Vec<Input>,
 ) -> Result<(), Failure>
     ensures loaded { OnOk result ((source : SourceFormat × Option (List ℕ))
@@ -87,7 +59,7 @@ fn add_named<F: Files>(
     ensures files { F.known_file files.new ≡ F.known_file files.old }
     ensures err { IfErr result (IsOfLoad (length inputs.old.items)) }
 {
-    let source = open_source(alloc, files, inputs.len(), path, asked, streams)?;
+    let source = open_source(alloc, files, inputs.len(), path, asked)?;
     add_input(inputs, source)?;
     Ok(())
 }
@@ -99,45 +71,25 @@ fn add_input(inputs: &mut Vec<Input>, input: Input) -> Result<(), AllocError>
     Ok(())
 }
 
-// The source of the path, as a stream where it may be one.
+// The source of the path, where it is stored if it may be read there.
 fn open_source<F: Files>(
     alloc: Global,
     files: &mut F,
     at: usize,
     path: &str,
     asked: Option<Format>,
-    streams: bool,
 ) -> Result<Input, Failure>
     ensures opened { IfOk result (λ source.
         IsLoaded asked (F.known_file files.old) path.now source) }
     ensures files { F.known_file files.new ≡ F.known_file files.old }
     ensures err { IfErr result (IsOfLoad at) }
 {
-    match stored_text(alloc, files, path, asked, streams) {
-        Some(text) => Ok(Input::stored(text)),
+    match files.stored(alloc, path) {
+        Some(text) => Ok(Input::stored(asked.unwrap_or(format_of(path)), text)),
         None => {
             let source = open_named(alloc, files, at, path, asked)?;
             Ok(Input::of(source)?)
         }
-    }
-}
-
-// The text of the path, if it is one that is to be read as a stream.
-fn stored_text<F: Files>(
-    alloc: Global,
-    files: &mut F,
-    path: &str,
-    asked: Option<Format>,
-    streams: bool,
-) -> Option<StoredText>
-    ensures text { IfSome result (λ text.
-        IsLoaded asked (F.known_file files.old) path.now (IsFolded, text)) }
-    ensures files { F.known_file files.new ≡ F.known_file files.old }
-{
-    if streams && is_text(path, asked) {
-        files.stored(alloc, path)
-    } else {
-        None
     }
 }
 

@@ -58,11 +58,6 @@ module _ (known : List (List ℕ)) (kept : List NameAt) (ranks : List ℕ) (rank
   many : length ranks ≡ length kept
   many = sym (length-map ranks (name_at known)) ∙ ap length ranked.named ∙ length-map kept kept_name
 
-  pub places_within : (told : List (List ℕ)) (places seen seen_ranks : List ℕ) → AreKept told kept places → seen ≡ places → seen_ranks ≡ ranks → All (λ place. place < length seen_ranks) seen
-  places_within told places seen seen_ranks h seen_is ranks_is =
-      subst (All (λ place. place < length seen_ranks)) (sym seen_is)
-      (All-weaker (λ place. place < length kept) (λ place. place < length seen_ranks) (λ place below. omega (arith, below, many, ap length ranks_is)) places h.within)
-
   named_by : (places : List ℕ) → All (λ place. place < length kept) places → map (name_at known) (map (slice_index ranks) places) ≡ map (name_at (kept_names kept)) places
   named_by [] within = refl
   named_by (place ∷ places) within =
@@ -79,11 +74,3 @@ module _ (known : List (List ℕ)) (kept : List NameAt) (ranks : List ℕ) (rank
         (All-weaker (λ place. place < length kept) (λ place. slice_index ranks place < length known) (λ place below. ranked.below place 0 (omega (arith, below, many))) places h.within);
     named = named_by places h.within ∙ h.same;
   }
-
-  -- once the ranks stand in the stead of the places
-  pub put_ranks : (n : ℕ) (told : List (List ℕ)) (places seen new seen_ranks : List ℕ) → AreKept told kept places → n ≡ length places → seen ≡ places → seen_ranks ≡ ranks
-      → new ≡ map (slice_index seen_ranks) seen → AreRanks told known (take n (new ++ drop (length new) places))
-  put_ranks n told places seen new seen_ranks h size seen_is ranks_is put =
-      let is : new ≡ map (slice_index ranks) places = put ∙ (λ i. map (slice_index (ranks_is i)) (seen_is i)) in
-      let whole : n ≡ length new = omega (arith, size, ap length is, length-map places (slice_index ranks)) in
-      subst (AreRanks told known) (sym (ap (λ k. take k (new ++ drop (length new) places)) whole ∙ take-append_seam new (drop (length new) places) ∙ is)) (told_ranks told places h)

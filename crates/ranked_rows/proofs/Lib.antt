@@ -3,4 +3,5 @@ pub mod KeptNames
 pub mod MappedLists
 pub mod MovedRows
 pub mod RankedNames
+pub mod WeighingRows
 mod WorkedRows

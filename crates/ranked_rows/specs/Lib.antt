@@ -1,4 +1,5 @@
 pub mod Joined
 pub mod Keys
 pub mod Ranks
+pub mod Weighing
 pub mod checked

@@ -62,27 +62,34 @@ fn ranks_of_told(alloc: Global, told: ToldNames<'_>) -> Result<NameRanks, AllocE
     ensures { IfOk result (λ all. (names : List (List ℕ)) → AreKept names told.entry.kept.items told.entry.places.items
         → AreRanks names (map string_bytes all.names.items) all.ranks.items) }
 {
-    let ToldNames {
-        mut kept,
-        mut places,
-    } = told;
+    let ToldNames { mut kept, places } = told;
     kept.sort_unstable();
     let NameRanks { names, ranks } = rank(alloc, &kept)?;
-    rank_places(&mut places, &ranks);
-    Ok(NameRanks {
-        names,
-        ranks: places,
-    })
+    let ranks = ranks_for(places, &ranks);
+    Ok(NameRanks { names, ranks })
 }
 
-/// Puts the rank of each place in its stead.
-fn rank_places(places: &mut [u32], ranks: &[u32])
-    requires { All (λ place. place < length ranks.now) places.old }
-    ensures { places.new ≡ map (slice_index ranks.now) places.old }
+/// The rank of each number, in its place. A number that has none stands for nothing.
+pub(crate) fn ranks_for(mut numbers: Vec<u32>, ranks: &[u32]) -> Vec<u32>
+    ensures { result.items ≡ map (slice_index ranks.now) numbers.items }
 {
-    for place in places.iter_mut() {
-        *place = ranks[*place as usize];
+    put_ranks(&mut numbers, ranks);
+    numbers
+}
+
+fn put_ranks(numbers: &mut [u32], ranks: &[u32])
+    ensures { numbers.new ≡ map (slice_index ranks.now) numbers.old }
+{
+    for number in numbers.iter_mut() {
+        *number = rank_of(*number, ranks);
     }
+}
+
+/// The rank of a number, or 0 where it has none.
+fn rank_of(number: u32, ranks: &[u32]) -> u32
+    ensures { result ≡ slice_index ranks.now number }
+{
+    ranks.get(number as usize).copied().unwrap_or(0)
 }
 
 /// Ranks told names that come in order.

@@ -3,9 +3,13 @@
 ghost use Rattle.std.specs.Prelude.{◌≡◌, ◌+◌, ◌-◌, ◌<◌, ◌≤◌, ◌^◌, ◌++◌, ◌∷◌, ℕ, [], List, All, IfOk, OnOk, IsPermutation, length, map, nat_eq, reverse, sum_by, slice_index, slice_index_or, slice_range};
 ghost use Rattle.std.specs.Cmp.Lexicographic.{pointwise};
 ghost use Rattle.ranked_rows.specs.Joined.{Ranked, join_front, joined, AreAscending};
-ghost use Rattle.ranked_rows.specs.checked.Entries.{ranked_row, ranked_rows, AreWithin, ranked_entry, IsEntryOf};
+ghost use Rattle.ranked_rows.specs.Weighing.{weighing};
+ghost use Rattle.ranked_rows.specs.checked.Entries.{ranked_row, ranked_rows, weighing_rows, AreWithin, ranked_entry, IsEntryOf};
+ghost use Rattle.sample_tables.specs.Spans.{stacks_of, AreWithin as LieWithin};
 
+use crate::name_ranks::ranks_for;
 use crate::sorting::{Alone, Sorting, nearly_sorted};
+use sample_tables::{FlatStacks, Span};
 use std::alloc::{AllocError, Global};
 use std::marker::Model;
 
@@ -49,6 +53,24 @@ impl RankedRows {
             frames: Vec::new(alloc),
             rows: Vec::new(alloc),
         }
+    }
+
+    /// A row for each stack that weighs: the ranks of its numbers, which come in the place of the numbers, and its weight.
+    pub fn from_stacks(
+        alloc: Global,
+        stacks: FlatStacks,
+        ranks: &[u32],
+        weights: &[u64],
+    ) -> Result<RankedRows, AllocError>
+        requires within { LieWithin stacks.frames.items stacks.spans.items }
+        requires weights { length weights.now ≡ length stacks.spans.items }
+        ensures { IfOk result (λ rows.
+            rows ≡ weighing ranks.now (stacks_of stacks.frames.items stacks.spans.items) weights.now) }
+    {
+        let FlatStacks { frames, spans } = stacks;
+        let frames = ranks_for(frames, ranks);
+        let rows = weighing_rows(alloc, &spans, weights)?;
+        Ok(RankedRows { frames, rows })
     }
 
     /// Appends a row: the ranks of the numbers, and the weight.
@@ -118,6 +140,34 @@ impl RankedRows {
         let entries = sorted_entries(alloc, &frames, rows, &Alone)?;
         weights(alloc, &entries)
     }
+}
+
+/// The rows of the spans that weigh.
+fn weighing_rows(
+    alloc: Global,
+    spans: &[Span],
+    weights: &[u64],
+) -> Result<Vec<RankedRow>, AllocError>
+    requires { length weights.now ≡ length spans.now }
+    ensures { IfOk result (λ rows. rows.items ≡ weighing_rows spans.now weights.now) }
+{
+    let mut rows = Vec::with_capacity(alloc, spans.len())?;
+    for at in 0..spans.len() {
+        push_weighing(&mut rows, spans[at], weights[at])?;
+    }
+    Ok(rows)
+}
+
+/// Appends the row of a span, unless it weighs nothing.
+fn push_weighing(rows: &mut Vec<RankedRow>, span: Span, weight: u64) -> Result<(), AllocError>
+    ensures { OnOk result (rows.new.items ≡ rows.old.items ++ weighing_rows (span ∷ []) (weight ∷ [])) }
+{
+    if weight == 0 {
+        return Ok(());
+    }
+    let Span { start, end } = span;
+    rows.push(RankedRow { start, end, weight })?;
+    Ok(())
 }
 
 /// Appends the ranks of the numbers.

@@ -1,5 +1,6 @@
 pub mod BatchLemmas
 pub mod CollectionLemmas
+pub mod FlatLemmas
 pub mod GivenRests
 pub mod IntakeLemmas
 pub mod LedgerLemmas

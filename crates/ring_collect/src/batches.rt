@@ -1,9 +1,13 @@
 //! What goes through a ring at once, and how much of it.
 
-ghost use Rattle.std.specs.Prelude.{◌≡◌};
+ghost use Rattle.std.specs.Prelude.{◌≡◌, ◌≤◌, ◌*◌};
 
+use crate::flat_records::FlatRecords;
 use run_options::RingSize;
-use stack_core::{Listed, RingRecord};
+use stack_core::RingRecord;
+
+/// The most batches of a ring.
+const SLOTS: u32 = 16;
 
 /// How many records the batches of a full ring have, if its size does not ask for more.
 const GATHERED: u32 = 4_096;
@@ -12,7 +16,7 @@ const GATHERED: u32 = 4_096;
 #[derive(Drop)]
 pub enum Batch {
     One(RingRecord),
-    Many(Listed<RingRecord>),
+    Many(FlatRecords),
 }
 
 /// How the records of a source are handed over.
@@ -32,14 +36,17 @@ impl Handover {
         Handover { ring, limit: 1 }
     }
 
-    /// In batches, so that the threads of a small ring meet seldom, and few records are under way. A ring of more has them one by one.
+    /// In batches, so that the threads meet seldom. They are few and long, and a full ring has as many records as were asked for, or
+    /// `GATHERED`, if those are more.
     pub fn in_batches(ring: RingSize) -> Self
-        ensures { result.ring ≡ ring }
+        ensures few { result.ring ≤ ring }
+        ensures room { ring ≤ result.ring * result.limit }
     {
-        let limit = (GATHERED / ring.get()).max(1);
+        let records = ring.get().max(GATHERED);
+        let slots = RingSize::of(ring.get().min(SLOTS)).unwrap_or(ring);
         Handover {
-            ring,
-            limit: limit as usize,
+            ring: slots,
+            limit: records.div_ceil(slots.get()) as usize,
         }
     }
 }

@@ -7,7 +7,7 @@ ghost use Rattle.ring_collect.specs.checked.Records.{close_after};
 use crate::batches::Batch;
 use crate::feeds::Feed;
 use crate::rings::BatchConsumer;
-use stack_core::{Close, Ledger, Listed, RingRecord};
+use stack_core::{Close, Ledger, RingRecord};
 use std::alloc::Global;
 
 /// What is done with the records that come.
@@ -36,7 +36,8 @@ impl Stage {
         matches!(self, Stage::Unnamed)
     }
 
-    fn is_taking(self) -> bool
+    /// Whether records are taken.
+    pub fn is_taking(self) -> bool
         ensures { IsTrue result ↔ (self ≡ Stage.Taking) }
     {
         matches!(self, Stage::Taking)
@@ -160,7 +161,7 @@ impl Intake {
     }
 
     /// Takes a row: its stack is kept, and then a sample of it is taken. Answers the stage after it.
-    fn take_row<S, F: Feed<S>>(
+    pub fn take_row<S, F: Feed<S>>(
         &mut self,
         alloc: Global,
         frames: &[usize],
@@ -224,7 +225,7 @@ impl Intake {
     }
 
     /// Takes a record that came out of the ring, or drops it where none is taken any more. What closes the ring is noted.
-    fn take_or_drop<S, F: Feed<S>>(
+    pub fn take_or_drop<S, F: Feed<S>>(
         &mut self,
         alloc: Global,
         popped: RingRecord,
@@ -247,29 +248,6 @@ impl Intake {
             return;
         }
         self.stage = self.take_record(alloc, popped, feed, sink, order);
-    }
-
-    /// Takes or drops records that came out of the ring together, in their order.
-    fn take_all<S, F: Feed<S>>(
-        &mut self,
-        alloc: Global,
-        popped: Listed<RingRecord>,
-        feed: &mut F,
-        sink: &mut S,
-        order: &mut Vec<u32>,
-    )
-        requires unclosed { self.old.close ≡ None }
-        requires limits { All IsGathered popped }
-        ensures number { self.new.number ≡ self.old.number }
-        ensures consumer { self.new.consumer ≡ self.old.consumer }
-        ensures unclosed { self.new.close ≡ None }
-        ensures brings { Brings popped self.old self.new (F.taken sink.old) (F.taken sink.new)
-            order.old.items order.new.items }
-        ensures setting { F.setting sink.new ≡ F.setting sink.old }
-    {
-        for one in popped.into_plain() {
-            self.take_or_drop(alloc, one, feed, sink, order);
-        }
     }
 
     /// Takes or drops what came out of the ring.

@@ -6,6 +6,8 @@ mod batches;
 mod bells;
 mod faults;
 mod feeds;
+mod flat_intakes;
+mod flat_records;
 mod intakes;
 mod numbering;
 mod outlets;

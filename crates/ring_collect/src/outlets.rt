@@ -6,13 +6,17 @@ ghost use Rattle.ring_collect.specs.checked.Rings.{IsGathered, IsLimitedBatch, g
 
 use crate::batches::Batch;
 use crate::bells::Bell;
+use crate::flat_records::FlatRecords;
 use crate::pauses::Pause;
 use crate::rings::BatchProducer;
 use rtrb::PushError;
-use stack_core::{Close, Listed, RingRecord};
+use stack_core::{Close, RingRecord};
 use std::alloc::{AllocError, Global};
 use std::mem;
 use std::sync::{Arc, Wait};
+
+/// The most records for which room is made before they come.
+const ROOM: usize = 256;
 
 /// The end of a ring where records go in.
 #[derive(Drop)]
@@ -23,11 +27,11 @@ pub struct Outlet {
     /// The collecting thread's bell.
     pub batches: Arc<Bell>,
     /// The records of the next batch, as far as they are told.
-    pub pending: Vec<RingRecord>,
+    pub pending: FlatRecords,
     /// The most records of a batch. Where it is 1 none is pending, and no memory is taken.
     pub limit: usize,
-    ghost gathered: { All IsGathered pending.items } by { Prim.hlevel gathered_prop },
-    ghost alone: { limit ≤ 1 → pending.items ≡ [] },
+    ghost gathered: { All IsGathered pending } by { Prim.hlevel gathered_prop },
+    ghost alone: { limit ≤ 1 → pending ≡ [] },
 }
 
 impl Outlet {
@@ -91,23 +95,23 @@ impl Outlet {
     pub fn flush<W: Wait>(&mut self, rt: &W, alloc: Global)
         ensures ring { SameProducer self.old.producer self.new.producer }
         ensures sent { records_of_all (sent self.new.producer) ≡ told_to self.old }
-        ensures pending { self.new.pending.items ≡ [] }
+        ensures pending { self.new.pending ≡ [] }
     {
         if self.pending.is_empty() {
             return;
         }
-        let gathered = mem::replace(&mut self.pending, Vec::new(alloc));
-        self.send(rt, Batch::Many(Listed::of(gathered)));
+        let gathered = mem::replace(&mut self.pending, FlatRecords::new(alloc));
+        self.send(rt, Batch::Many(gathered));
     }
 
     /// Makes room for the next batch, if nothing is pending.
     fn make_room(&mut self, alloc: Global) -> Result<(), AllocError>
         ensures producer { self.new.producer ≡ self.old.producer }
-        ensures pending { self.new.pending.items ≡ self.old.pending.items }
+        ensures pending { self.new.pending ≡ self.old.pending }
         ensures limit { self.new.limit ≡ self.old.limit }
     {
         if self.pending.is_empty() {
-            self.pending = Vec::with_capacity(alloc, self.limit)?;
+            self.pending = FlatRecords::with_capacity(alloc, self.limit.min(ROOM))?;
         }
         Ok(())
     }

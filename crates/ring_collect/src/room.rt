@@ -5,6 +5,7 @@ ghost use Rattle.ring_collect.specs.checked.RunningSources.{IsOfSize};
 
 use crate::batches::Handover;
 use crate::bells::Bell;
+use crate::flat_records::FlatRecords;
 use crate::outlets::Outlet;
 use crate::pauses::Pause;
 use crate::rings::{Limits, RingEnds};
@@ -41,7 +42,7 @@ fn make_ring(alloc: Global, handover: Handover, batches: &Arc<Bell>) -> Result<R
         producer,
         pause,
         batches,
-        pending: Vec::new(alloc),
+        pending: FlatRecords::new(alloc),
         limit: handover.limit,
     };
     Ok(RingEnds {

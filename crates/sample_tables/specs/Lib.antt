@@ -1,4 +1,5 @@
 pub mod Rows
 pub mod Samples
+pub mod Spans
 pub mod Tables
 pub mod checked

@@ -12,5 +12,6 @@ mod values;
 
 pub use number_cache::{NumberCache, hash_of_name};
 pub use samples::{FRAME_LIMIT, Sample, WEIGHT_LIMIT};
+pub use stacks::{FlatStacks, Span};
 pub use tables::RowTable;
 pub use values::{Listed, Names, Text};

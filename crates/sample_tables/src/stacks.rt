@@ -4,6 +4,7 @@ ghost use Rattle.std.specs.Prelude.{◌≡◌, ◌<◌, ◌≤◌, ◌+◌, ◌^
 ghost use Rattle.std.specs.List.{range_with_len};
 ghost use Rattle.sample_tables.specs.declared.samples.TheConstants.{FRAME_LIMIT};
 ghost use Rattle.sample_tables.specs.Rows.{name_at, stack_at};
+ghost use Rattle.sample_tables.specs.Spans.{stacks_of, AreWithin};
 ghost use Rattle.sample_tables.specs.Tables.{IsStack};
 ghost use Rattle.sample_tables.specs.checked.Stacks.{with_fresh_stack};
 
@@ -13,9 +14,17 @@ use std::marker::Model;
 
 /// Where the numbers of a stack lie.
 #[derive(Clone, Copy, Debug)]
-struct Span {
-    start: usize,
-    end: usize,
+pub struct Span {
+    pub start: usize,
+    /// The place behind the last number.
+    pub end: usize,
+}
+
+/// The numbers of all stacks, and where each stack lies in them. Numbers that no span covers stand for nothing.
+#[derive(Debug, Drop)]
+pub struct FlatStacks {
+    pub frames: Vec<u32>,
+    pub spans: Vec<Span>,
 }
 
 /// The names and the stacks. Numbers that no span covers stand for nothing.
@@ -87,6 +96,20 @@ impl Stacks {
     {
         let span = self.spans[k];
         &self.frames[span.start..span.end]
+    }
+
+    /// The stacks alone.
+    pub fn into_flat(self) -> FlatStacks
+        ensures within { AreWithin result.frames.items result.spans.items }
+        ensures stacks { stacks_of result.frames.items result.spans.items ≡ self.stacks }
+        ensures known { All (IsStack self.names) self.stacks }
+    {
+        let Stacks {
+            names: _names,
+            frames,
+            spans,
+        } = self;
+        FlatStacks { frames, spans }
     }
 
     /// Appends a stack, which gets the next number. A frame's number past the 2^32nd is refused as memory is.

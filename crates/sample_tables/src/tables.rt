@@ -4,10 +4,11 @@ ghost use Rattle.std.specs.Prelude.{◌≡◌, ◌<◌, ◌≤◌, ◌++◌, ◌
 ghost use Rattle.sample_tables.specs.declared.samples.TheConstants.{FRAME_LIMIT, WEIGHT_LIMIT};
 ghost use Rattle.sample_tables.specs.Rows.{AreEntries, IsRow, entry_at, name_at, named, row_at, row_by, rows_by, sample_at, stack_at};
 ghost use Rattle.sample_tables.specs.Samples.{IsLimited, total_weight};
+ghost use Rattle.sample_tables.specs.Spans.{stacks_of, AreWithin};
 ghost use Rattle.sample_tables.specs.Tables.{IsStack, samples_in, table_with_row, table_with_sample};
 
 use crate::entries::Entries;
-use crate::stacks::Stacks;
+use crate::stacks::{FlatStacks, Stacks};
 use crate::values::{Names, Text};
 use std::alloc::{AllocError, Global};
 use std::marker::Model;
@@ -80,6 +81,19 @@ impl RowTable {
         ensures stack { IsStack self.now.names (stack_at self.now.stacks k) }
     {
         self.stacks.stack(k)
+    }
+
+    /// The stacks alone. It takes no memory.
+    pub fn into_stacks(self) -> FlatStacks
+        ensures within { AreWithin result.frames.items result.spans.items }
+        ensures stacks { stacks_of result.frames.items result.spans.items ≡ self.stacks }
+        ensures known { All (IsStack self.names) self.stacks }
+    {
+        let RowTable {
+            stacks,
+            entries: _entries,
+        } = self;
+        stacks.into_flat()
     }
 
     /// How many samples there are.

@@ -94,7 +94,7 @@ fn send_headed<W: Outlet>(
             send_comparison_page(alloc, &lists[0], &lists[1], heading, out)
         }
         View::Fold | View::Pairs | View::Top(_) | View::Diff(_) => {
-            send_plain_view(&Alone, alloc, &sources, plan.view, out)
+            send_plain_view(&Alone, alloc, sources, plan.view, out)
         }
     }
 }

@@ -22,7 +22,7 @@ use flame_layout::{Width, draw_merged, draw_paired};
 use merged_stacks::PairedStacks;
 use opened_sources::Failure;
 use source_lists::SourceLists;
-use source_views::{InThreads, lend_chart, merge, send_long_text};
+use source_views::{InThreads, lend_chart, merge_given, send_long_text};
 use stack_core::SourceList;
 use std::alloc::Global;
 use std::thread::Threads;
@@ -77,12 +77,12 @@ impl<'a> Frame<'a> {
 pub fn send_asked_picture<T: Threads, W: Outlet>(
     rt: &T,
     alloc: Global,
-    sources: &SourceLists,
+    sources: SourceLists,
     asked: &AskedPicture<'_>,
     out: &mut W,
 ) -> Result<(), Failure>
-    requires pairs { IsComparison asked.now.plan.now.view → length sources.now.lists ≡ 2 }
-    ensures sent { Sends (picture_text asked.now.plan.now asked.now.facts.now asked.now.form.now (samples_of sources.now.lists))
+    requires pairs { IsComparison asked.now.plan.now.view → length sources.lists ≡ 2 }
+    ensures sent { Sends (picture_text asked.now.plan.now asked.now.facts.now asked.now.form.now (samples_of sources.lists))
         (W.contents out.old) (W.contents out.new) result }
     ensures flushed { Flushes (W.is_flushed out.new) (W.failures out.old) (W.failures out.new)
         result }
@@ -90,7 +90,7 @@ pub fn send_asked_picture<T: Threads, W: Outlet>(
     let files = asked.plan.files.get();
     let title = title_of(alloc, &asked.form.title, files)?;
     let types = asked.facts.types.get();
-    let described = described_sources(alloc, files, asked.plan.unit, types, sources)?;
+    let described = described_sources(alloc, files, asked.plan.unit, types, &sources)?;
     let frame = Frame {
         title: &title,
         unit: common(&described, Said::Unit),
@@ -104,13 +104,13 @@ pub fn send_asked_picture<T: Threads, W: Outlet>(
 fn send_framed<T: Threads, W: Outlet>(
     rt: &T,
     alloc: Global,
-    sources: &SourceLists,
+    sources: SourceLists,
     view: View,
     frame: &Frame<'_>,
     out: &mut W,
 ) -> Result<(), Failure>
-    requires pairs { IsComparison view → length sources.now.lists ≡ 2 }
-    ensures sent { Sends (framed_text (frame_of frame.now) view (samples_of sources.now.lists))
+    requires pairs { IsComparison view → length sources.lists ≡ 2 }
+    ensures sent { Sends (framed_text (frame_of frame.now) view (samples_of sources.lists))
         (W.contents out.old) (W.contents out.new) result }
     ensures flushed { Flushes (W.is_flushed out.new) (W.failures out.old) (W.failures out.new)
         result }
@@ -122,7 +122,7 @@ fn send_framed<T: Threads, W: Outlet>(
         }
         View::Chart(width) => {
             let picture = frame.picture(width, sources.total());
-            send_chart(rt, alloc, sources, &picture, out)
+            send_chart(rt, alloc, &sources, &picture, out)
         }
         View::PairBoxes(width) => {
             let lists = sources.lists();
@@ -140,19 +140,19 @@ fn send_framed<T: Threads, W: Outlet>(
 fn send_graph<T: Threads, W: Outlet>(
     rt: &T,
     alloc: Global,
-    sources: &SourceLists,
+    sources: SourceLists,
     picture: &Picture<'_>,
     out: &mut W,
 ) -> Result<(), Failure>
-    requires { picture.now.total ≡ total_weight (all_samples (samples_of sources.now.lists)) }
-    ensures sent { Sends (plain_svg (picture_of picture.now) (graph_of (all_samples (samples_of sources.now.lists))))
+    requires { picture.now.total ≡ total_weight (all_samples (samples_of sources.lists)) }
+    ensures sent { Sends (plain_svg (picture_of picture.now) (graph_of (all_samples (samples_of sources.lists))))
         (W.contents out.old) (W.contents out.new) result }
     ensures flushed { Flushes (W.is_flushed out.new) (W.failures out.old) (W.failures out.new)
         result }
 {
     // The own weights add up to the total, which has 64 bits.
     let _total = picture.total;
-    let merged = merge(&InThreads { rt }, alloc, sources)?;
+    let merged = merge_given(&InThreads { rt }, alloc, sources)?;
     let chart = draw_merged(alloc, &merged)?;
     let svg = Svg::of(alloc, picture, &chart)?;
     send_long_text(rt, alloc, &svg, out)

@@ -14,7 +14,7 @@ use command_line::{CallTable, Plan, View};
 use function_sums::CallSide;
 use opened_sources::Failure;
 use source_lists::SourceLists;
-use source_views::{AskedText, Workers, send_calls, send_peek, send_view};
+use source_views::{AskedText, Shown, Workers, send_calls, send_peek, send_view};
 use std::alloc::Global;
 use sum_texts::Telling;
 
@@ -22,26 +22,26 @@ use sum_texts::Telling;
 pub fn send_asked_view<H: Workers, W: Outlet>(
     workers: &H,
     alloc: Global,
-    sources: &SourceLists,
+    sources: SourceLists,
     plan: &Plan,
     facts: &RunFacts,
     out: &mut W,
 ) -> Result<(), Failure>
-    requires pairs { IsComparison plan.now.view → length sources.now.lists ≡ 2 }
+    requires pairs { IsComparison plan.now.view → length sources.lists ≡ 2 }
     requires every { IfSome plan.now.options.every (λ every. 1 ≤ every) }
-    ensures sent { Sends (asked_text plan.now facts.now (samples_of sources.now.lists) sources.now.order plan.now.options.every)
+    ensures sent { Sends (asked_text plan.now facts.now (samples_of sources.lists) sources.order plan.now.options.every)
         (W.contents out.old) (W.contents out.new) result }
     ensures flushed { Flushes (W.is_flushed out.new) (W.failures out.old) (W.failures out.new)
         result }
 {
     let (files, types) = (plan.files.get(), facts.types.get());
-    let described = described_sources(alloc, files, plan.unit, types, sources)?;
+    let described = described_sources(alloc, files, plan.unit, types, &sources)?;
     let asked = AskedText {
         view: plan.view,
         every: plan.options.every,
         telling: telling(plan, facts, &described),
     };
-    send_view(workers, alloc, sources, &asked, out)
+    send_view(workers, alloc, Shown::given(sources), &asked, out)
 }
 
 /// A function of a plan whose calls are sent.
@@ -57,18 +57,18 @@ pub struct AskedCalls<'a> {
 pub fn send_asked_calls<H: Workers, W: Outlet>(
     workers: &H,
     alloc: Global,
-    sources: &SourceLists,
+    sources: SourceLists,
     asked: &AskedCalls<'_>,
     out: &mut W,
 ) -> Result<(), Failure>
-    ensures sent { Sends (called_text asked.now.side asked.now.table.now asked.now.plan.now asked.now.facts.now (samples_of sources.now.lists))
+    ensures sent { Sends (called_text asked.now.side asked.now.table.now asked.now.plan.now asked.now.facts.now (samples_of sources.lists))
         (W.contents out.old) (W.contents out.new) result }
     ensures flushed { Flushes (W.is_flushed out.new) (W.failures out.old) (W.failures out.new)
         result }
 {
     let (plan, facts) = (asked.plan, asked.facts);
     let (files, types) = (plan.files.get(), facts.types.get());
-    let described = described_sources(alloc, files, plan.unit, types, sources)?;
+    let described = described_sources(alloc, files, plan.unit, types, &sources)?;
     let telling = telling(plan, facts, &described);
     send_calls(
         workers,
@@ -85,19 +85,19 @@ pub fn send_asked_calls<H: Workers, W: Outlet>(
 pub fn send_asked_peek<H: Workers, W: Outlet>(
     workers: &H,
     alloc: Global,
-    sources: &SourceLists,
+    sources: SourceLists,
     plan: &Plan,
     facts: &RunFacts,
     table: &CallTable,
     out: &mut W,
 ) -> Result<(), Failure>
-    ensures sent { Sends (peeked_text table.now plan.now facts.now (samples_of sources.now.lists))
+    ensures sent { Sends (peeked_text table.now plan.now facts.now (samples_of sources.lists))
         (W.contents out.old) (W.contents out.new) result }
     ensures flushed { Flushes (W.is_flushed out.new) (W.failures out.old) (W.failures out.new)
         result }
 {
     let (files, types) = (plan.files.get(), facts.types.get());
-    let described = described_sources(alloc, files, plan.unit, types, sources)?;
+    let described = described_sources(alloc, files, plan.unit, types, &sources)?;
     let telling = telling(plan, facts, &described);
     send_peek(workers, alloc, sources, table, &telling, out)
 }
@@ -106,12 +106,12 @@ pub fn send_asked_peek<H: Workers, W: Outlet>(
 pub(crate) fn send_plain_view<H: Workers, W: Outlet>(
     workers: &H,
     alloc: Global,
-    sources: &SourceLists,
+    sources: SourceLists,
     view: View,
     out: &mut W,
 ) -> Result<(), Failure>
-    requires pairs { IsComparison view → length sources.now.lists ≡ 2 }
-    ensures sent { Sends (told_text nothing_told view (samples_of sources.now.lists) sources.now.order None)
+    requires pairs { IsComparison view → length sources.lists ≡ 2 }
+    ensures sent { Sends (told_text nothing_told view (samples_of sources.lists) sources.order None)
         (W.contents out.old) (W.contents out.new) result }
     ensures flushed { Flushes (W.is_flushed out.new) (W.failures out.old) (W.failures out.new)
         result }
@@ -121,5 +121,5 @@ pub(crate) fn send_plain_view<H: Workers, W: Outlet>(
         every: None,
         telling: Telling::nothing(),
     };
-    send_view(workers, alloc, sources, &asked, out)
+    send_view(workers, alloc, Shown::given(sources), &asked, out)
 }

@@ -25,7 +25,7 @@ use Rattle.source_lists.specs.checked.Readers.{known, naming_rest, rows}
 use Rattle.source_lists.specs.declared.source_reader.SourceReader.{SourceReader}
 use Rattle.stack_core.specs.declared.row_samples.NamingReader.{NamingReader}
 use Rattle.source_lists.proofs.KeptLemmas.{samples_of_rests}
-use Rattle.source_lists.proofs.StrictLemmas.{behind_first, first_ending}
+use Rattle.source_lists.proofs.StrictLemmas.{behind_first, first_rest}
 
 -- the filter that asks for nothing leaves nothing out
 pub whole_is_kept : (options : Options) (inputs : List (Format × List ℕ)) → is_everything options.filter ≡ true → whole_rests options inputs ≡ asked_rests options inputs
@@ -82,5 +82,5 @@ pub kept_out : (asked : Filter) (lists left : List ListState) → map seen_as_re
 kept_out asked lists [] same out = All-nil IsReadOut
 kept_out asked [] (list ∷ left) same out = absurd cc
 kept_out asked (one ∷ lists) (list ∷ left) same out =
-    All-cons IsReadOut list left (λ after is. out 0 one (omega arith) after (sym (ap first_ending same) ∙ is))
+    All-cons IsReadOut list left (λ after is. out 0 one (omega arith) after (sym (ap (λ (rests : List Rest). (first_rest rests).ending) same) ∙ is))
     (kept_out asked lists left (ap behind_first same) (λ k d within. out (suc k) d (omega (arith, within))))

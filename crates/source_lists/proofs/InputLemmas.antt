@@ -1,6 +1,10 @@
 -- What readers of inputs may give, and what was read by them.
-use Rattle.std.proofs.Common.{◌≡◌, ◌≢◌, ◌∙◌, ◌⊎◌, ◌↔◌, inl, inr, ℕ, suc, false, List, [], ◌∷◌, Option, Some, None, IfSome, All, arith, map, refl, sym, subst}
+use Rattle.std.proofs.Common.{◌≡◌, ◌≢◌, ◌∙◌, ◌⊎◌, ◌↔◌, inl, inr, ℕ, suc, false, List, [], ◌∷◌, Option, Some, None, IfSome, All, ap, arith, map, refl, sym, subst}
 use Rattle.std.specs.List.{AllZip}
+use Rattle.std.proofs.lemmas.List.Elements.{All-nil}
+use Rattle.sample_tables.specs.Samples.{IsLimited}
+use Rattle.profile_tables.specs.Samples.{read_pprof}
+use Rattle.profile_tables.proofs.RestLemmas.{pprof-limited}
 use Rattle.folded_lines.specs.Streams.{StreamGives}
 use Rattle.folded_lines.specs.declared.streams.FoldedStream.{FoldedStream}
 use Rattle.folded_lines.proofs.StreamTexts.{stream_limits, stream_or_stopped, stream_possible}
@@ -10,15 +14,19 @@ use Rattle.stack_core.specs.Reading.{IsSourceLimited, Rest}
 use Rattle.stack_core.specs.declared.endings.SourceEnd.TheVariants.{Stopped}
 use Rattle.ring_collect.specs.Collection.{AreGiven, seen_as_rest}
 use Rattle.run_options.specs.declared.formats.Format.{Format}
-use Rattle.run_options.specs.declared.formats.Format.TheVariants.{Folded}
+use Rattle.run_options.specs.declared.formats.Format.TheVariants.{Folded, Pprof}
+use Rattle.run_options.specs.declared.choices.Naming.{Naming}
+use Rattle.run_options.specs.declared.choices.Pick.{Pick}
 use Rattle.run_options.specs.declared.options.Options.{Options}
 use Rattle.source_lists.specs.Runs.{IsReadOut}
 use Rattle.source_lists.specs.Sources.{known_input, known_inputs, whole_rest, whole_rests}
 use Rattle.source_lists.specs.checked.InputReaders.{IsCutOff, IsReaderOf, input_gives, range, stream_gives}
 use Rattle.source_lists.specs.checked.Readers.{reader_rest, reader_told}
+use Rattle.source_lists.specs.checked.StoredProfiles.{ReadsSome, nothing_read, profile_gives, profile_told}
 use Rattle.source_lists.specs.declared.input_readers.InputReader.{InputReader}
-use Rattle.source_lists.specs.declared.input_readers.InputReader.TheVariants.{Loaded, Stored}
+use Rattle.source_lists.specs.declared.input_readers.InputReader.TheVariants.{Loaded, Text, Profile}
 use Rattle.source_lists.specs.declared.source_reader.SourceReader.{SourceReader}
+use Rattle.source_lists.specs.declared.stored_profile.StoredProfile.{StoredProfile}
 use Rattle.source_lists.proofs.KnownInputs.{found_all}
 
 -- ---- one reader
@@ -36,9 +44,9 @@ known_text : (options : Options) (text : Option (List ℕ)) (rest : Rest) → St
 known_text options None rest given = inr tt
 known_text options (Some bytes) rest given = stream_or_stopped bytes false rest given
 
-pub stored_reader : (options : Options) (text : Option (List ℕ)) (reader : FoldedStream StoredRange range) → reader.telling ≡ record { names = []; stacks = [] }
-    → ((rest : Rest) → stream_gives reader rest ↔ StreamGives text false rest) → IsReaderOf options (Folded, text) (Stored reader)
-stored_reader options text reader told gives =
+pub text_reader : (options : Options) (text : Option (List ℕ)) (reader : FoldedStream StoredRange range) → reader.telling ≡ record { names = []; stacks = [] }
+    → ((rest : Rest) → stream_gives reader rest ↔ StreamGives text false rest) → IsReaderOf options (Folded, text) (Text reader)
+text_reader options text reader told gives =
     let some = stream_possible text false (λ sure. cc) in
     record {
       told = told;
@@ -46,6 +54,28 @@ stored_reader options text reader told gives =
       limited = λ rest given. stream_limits text false rest ((gives rest).0 given);
       reads = λ rest given. known_text options text rest ((gives rest).0 given);
     }
+
+known_profile : (options : Options) (text : Option (List ℕ)) (rest : Rest) → ReadsSome text options.pick options.naming rest → IfSome (known_input (Pprof, text)) (λ source. rest ≡ whole_rest options source)
+known_profile options None rest some = tt
+known_profile options (Some bytes) rest some = some.is_read ∙ ap (λ bytes. read_pprof bytes options.pick options.naming) some.of_known
+
+profile_reads : (options : Options) (text : Option (List ℕ)) (rest : Rest) → (rest ≡ nothing_read) ⊎ ReadsSome text options.pick options.naming rest
+    → IsCutOff rest ⊎ IfSome (known_input (Pprof, text)) (λ source. rest ≡ whole_rest options source)
+profile_reads options text rest (inl none) = inl (0, ap (λ (rest : Rest). rest.ending) none)
+profile_reads options text rest (inr some) = inr (known_profile options text rest some)
+
+profile_limits : (text : Option (List ℕ)) (pick : Pick) (naming : Naming) (rest : Rest) → (rest ≡ nothing_read) ⊎ ReadsSome text pick naming rest → IsSourceLimited rest.samples
+profile_limits text pick naming rest (inl none) = subst (λ (rest : Rest). IsSourceLimited rest.samples) (sym none) (record { each = All-nil IsLimited; total = omega arith })
+profile_limits text pick naming rest (inr some) = subst (λ (rest : Rest). IsSourceLimited rest.samples) (sym some.is_read) (pprof-limited some.bytes pick naming)
+
+pub profile_reader : (options : Options) (text : Option (List ℕ)) (reader : StoredProfile) → profile_told reader ≡ record { names = []; stacks = [] }
+    → ((rest : Rest) → profile_gives reader rest ↔ (rest ≡ nothing_read) ⊎ ReadsSome text options.pick options.naming rest) → IsReaderOf options (Pprof, text) (Profile reader)
+profile_reader options text reader told gives = record {
+  told = told;
+  possible = record { rest = nothing_read; is_given = (gives nothing_read).1 (inl refl) };
+  limited = λ rest given. profile_limits text options.pick options.naming rest ((gives rest).0 given);
+  reads = λ rest given. profile_reads options text rest ((gives rest).0 given);
+}
 
 -- ---- what was read
 

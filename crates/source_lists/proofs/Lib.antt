@@ -9,6 +9,7 @@ pub mod KnownInputs
 pub mod ListLemmas
 pub mod OrderLemmas
 pub mod PartLemmas
+pub mod ProfileLemmas
 pub mod ReaderThreads
 pub mod StrictLemmas
 mod WorkedFromNames

@@ -17,10 +17,12 @@ use Rattle.run_options.specs.declared.choices.Naming.{Naming}
 use Rattle.run_options.specs.declared.choices.Pick.{Pick}
 use Rattle.run_options.specs.declared.formats.Format.{Format}
 use Rattle.run_options.specs.declared.formats.Format.TheVariants.{Folded, Pprof}
+use Rattle.run_options.specs.declared.options.Options.{Options}
 use Rattle.folded_lines.specs.Reading.{read_folded}
+use Rattle.profile_tables.specs.Samples.{read_pprof}
 use Rattle.folded_lines.proofs.ReadLemmas.{IsSourceLimited-read_folded}
 use Rattle.profile_tables.proofs.RestLemmas.{pprof-limited}
-use Rattle.source_lists.specs.Sources.{read_bytes}
+use Rattle.source_lists.specs.Sources.{read_bytes, whole_rest}
 use Rattle.source_lists.specs.checked.Parts.{AreCleanParts, ArePartsOf, ignored_by}
 use Rattle.source_lists.specs.declared.part_runs.CleanParts.{CleanParts}
 use Rattle.source_lists.proofs.KnownInputs.{if_some}
@@ -96,3 +98,20 @@ pub parts_of_run : {R : Type 0} (gives : R → Rest → Type 0) (readers : List 
 parts_of_run gives readers whole so (Err error) given clean = tt
 parts_of_run gives readers whole so (Ok None) given clean = tt
 parts_of_run gives readers whole so (Ok (Some parts)) given clean = so (map seen_as_rest parts.lists.items) parts.ignored given clean
+
+-- of a profile that was loaded
+profile_whole : (text : Option (List ℕ)) (pick : Pick) (naming : Naming) (bytes : List ℕ) (parts : List Rest) → IfSome text (λ all. bytes ≡ all) → read_pprof bytes pick naming ≡ joined parts
+    → IfSome (option_map (λ bytes. read_pprof bytes pick naming) text) (λ whole. whole ≡ joined parts)
+profile_whole None pick naming bytes parts is whole = tt
+profile_whole (Some all) pick naming bytes parts is whole = ap (λ bytes. read_pprof bytes pick naming) (sym is) ∙ whole
+
+pub profile_parts : (text : Option (List ℕ)) (options : Options) (bytes : List ℕ) → IfSome text (λ all. bytes ≡ all) → (result : Result (Option CleanParts) AllocError)
+    → IfOk result (λ found. IfSome found (λ parts. ArePartsOf (Some (whole_rest options (Pprof, bytes))) (map seen_as_rest parts.lists.items) parts.ignored))
+    → IfOk result (λ found. IfSome found (λ parts. ArePartsOf (option_map (λ bytes. read_pprof bytes options.pick options.naming) text) (map seen_as_rest parts.lists.items) parts.ignored))
+profile_parts text options bytes is (Err error) of = tt
+profile_parts text options bytes is (Ok None) of = tt
+profile_parts text options bytes is (Ok (Some parts)) of = record {
+  whole_is = profile_whole text options.pick options.naming bytes (map seen_as_rest parts.lists.items) is of.whole_is;
+  ignored_is = of.ignored_is;
+  limited = of.limited;
+}

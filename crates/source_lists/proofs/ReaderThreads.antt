@@ -7,7 +7,7 @@ use Rattle.std.proofs.MapsCrossing as maps
 use Rattle.std.proofs.Crossing as crossing
 use Rattle.bytes.proofs.Crosses.{block-send, block-sync, seen_owns-keyless}
 use Rattle.bytes.specs.contracts.block.Seen as seen
-use Rattle.byte_io.proofs.StoredThreads.{range_send}
+use Rattle.byte_io.proofs.StoredThreads.{range_send, text_send}
 use Rattle.stack_core.specs.contracts.row_samples.RowSamples as samples
 use Rattle.stack_core.specs.contracts.row_samples.RowSamples.TheInside as samples_inside
 use Rattle.stack_core.specs.contracts.source_bytes.SourceBytes as source_bytes
@@ -29,6 +29,7 @@ use Rattle.sample_tables.specs.contracts.values.Names as names
 use Rattle.run_options.specs.contracts.filters.Filter as filter
 use Rattle.source_lists.specs.contracts.input_readers.InputReader as input
 use Rattle.source_lists.specs.contracts.source_reader.SourceReader as source
+use Rattle.source_lists.specs.contracts.stored_profile.StoredProfile as profile
 
 table_send : IsSend table.the_row
 table_send = search (sendable, crosses, maps.crosses) depth 30
@@ -108,5 +109,8 @@ samples_send = search (view_send, samples_inside_send)
 pub source_send : IsSend (source.the_field).row
 source_send = search (sendable, folded_send, pprof_send) depth 30
 
+profile_send : IsSend (profile.the_field).row
+profile_send = search (sendable, crosses, text_send, pprof_send) depth 60
+
 pub input_send : IsSend (input.the_field).row
-input_send = search (sendable, crosses, source_send, range_send, buffer_send, telling_send) depth 60 fits 30000
+input_send = search (sendable, crosses, source_send, profile_send, range_send, buffer_send, telling_send) depth 60 fits 30000

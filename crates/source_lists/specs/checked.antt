@@ -8,5 +8,6 @@ pub mod KeptStacks
 pub mod OpenRuns
 pub mod Parts
 pub mod Readers
+pub mod StoredProfiles
 pub mod StrictEndings
 pub mod UnkeptSamples

@@ -6,6 +6,7 @@ ghost use Rattle.source_lists.specs.checked.InputReaders.{IsReaderOf};
 
 use crate::inputs::{Content, Input};
 use crate::source_reader::SourceReader;
+use crate::stored_profile::StoredProfile;
 use byte_io::StoredRange;
 use folded_lines::FoldedStream;
 use run_options::Options;
@@ -16,7 +17,8 @@ use std::alloc::{AllocError, Global};
 #[derive(Drop)]
 pub(crate) enum InputReader {
     Loaded(SourceReader),
-    Stored(FoldedStream<StoredRange>),
+    Text(FoldedStream<StoredRange>),
+    Profile(StoredProfile),
 }
 
 impl InputReader {
@@ -33,9 +35,14 @@ impl InputReader {
                 let reader = SourceReader::over(alloc, source, options)?;
                 Ok(InputReader::Loaded(reader))
             }
-            Content::Stored(text) => {
+            Content::Text(text) => {
                 let reader = FoldedStream::over(alloc, text.whole()?);
-                Ok(InputReader::Stored(reader))
+                Ok(InputReader::Text(reader))
+            }
+            Content::Profile(text) => {
+                let pick = options.pick.copy(alloc)?;
+                let reader = StoredProfile::over(text, pick, options.naming);
+                Ok(InputReader::Profile(reader))
             }
         }
     }
@@ -68,14 +75,16 @@ impl RowReader for InputReader {
     fn next_row(&mut self, alloc: Global) -> Result<RowStep, AllocError> {
         match self {
             InputReader::Loaded(reader) => reader.next_row(alloc),
-            InputReader::Stored(reader) => reader.next_row(alloc),
+            InputReader::Text(reader) => reader.next_row(alloc),
+            InputReader::Profile(reader) => reader.next_row(alloc),
         }
     }
 
     fn name(&self, number: usize) -> Option<&str> {
         match self {
             InputReader::Loaded(reader) => reader.name(number),
-            InputReader::Stored(reader) => reader.name(number),
+            InputReader::Text(reader) => reader.name(number),
+            InputReader::Profile(reader) => reader.name(number),
         }
     }
 }

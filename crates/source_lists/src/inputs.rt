@@ -1,7 +1,6 @@
-//! What a run reads: sources whose bytes are there, and texts that are read where they are stored.
+//! What a run reads: sources whose bytes are there, and those whose bytes are read where they are stored.
 
 ghost use Rattle.std.specs.Prelude.{◌≡◌, ◌+◌, IfErr, IfOk, IfSome, length, map, take};
-ghost use Rattle.run_options.specs.declared.formats.Format.TheVariants.{Folded as IsFolded};
 ghost use Rattle.source_lists.specs.Sources.{known_input, known_inputs, known_source};
 ghost use Rattle.source_lists.specs.checked.Inputs.{seen_content};
 ghost use Rattle.source_lists.specs.checked.OpenRuns.{IsOfRun};
@@ -19,8 +18,10 @@ use std::marker::Model;
 pub(crate) enum Content {
     /// They are all there.
     Loaded(LoadedSource),
-    /// Folded text.
-    Stored(StoredText),
+    /// Folded text that is read where it is stored.
+    Text(StoredText),
+    /// A profile that its reader loads.
+    Profile(StoredText),
 }
 
 /// A source that can be read. Contracts see its format, and all its bytes where they are known.
@@ -49,13 +50,15 @@ impl Input {
         Ok(Input { content })
     }
 
-    /// Folded text that is read where it is stored.
-    pub fn stored(text: StoredText) -> Input
-        ensures { result ≡ (IsFolded, text) }
+    /// A source whose bytes are read where they are stored: folded text piece by piece, and a profile as soon as its first row is asked for.
+    pub fn stored(format: Format, text: StoredText) -> Input
+        ensures { result ≡ (format, text) }
     {
-        Input {
-            content: Content::Stored(text),
-        }
+        let content = match format {
+            Format::Folded => Content::Text(text),
+            Format::Pprof => Content::Profile(text),
+        };
+        Input { content }
     }
 
     /// All sources, in their order.
@@ -75,7 +78,8 @@ impl Input {
     {
         let content = match &self.content {
             Content::Loaded(source) => Content::Loaded(source.share()?),
-            Content::Stored(text) => Content::Stored(text.share()?),
+            Content::Text(text) => Content::Text(text.share()?),
+            Content::Profile(text) => Content::Profile(text.share()?),
         };
         Ok(Input { content })
     }
@@ -97,7 +101,7 @@ impl Input {
     {
         match &self.content {
             Content::Loaded(source) => front_of(alloc, source.bytes().as_slice(), count),
-            Content::Stored(text) => {
+            Content::Text(text) | Content::Profile(text) => {
                 let mut range = text.range(0, count as u64).ok()?;
                 load(alloc, &mut range, count).ok()
             }
@@ -122,13 +126,11 @@ impl Input {
     {
         match self.content {
             Content::Loaded(source) => Ok(source),
-            Content::Stored(text) => {
-                let bytes = text.load(alloc)?;
-                let format = Format::Folded;
-                Ok(LoadedSource::of(Source { format, bytes })?)
-            }
+            Content::Text(text) => load_stored(alloc, Format::Folded, &text),
+            Content::Profile(text) => load_stored(alloc, Format::Pprof, &text),
         }
     }
+
     /// The same of each, in their order.
     pub(crate) fn load_all(alloc: Global, inputs: Vec<Input>) -> Result<Vec<LoadedSource>, RunFault>
         ensures sources { IfOk result (λ sources.
@@ -147,7 +149,7 @@ impl Input {
     }
 
     /// The same of the source at a place.
-    fn load_at(self, alloc: Global, source: usize) -> Result<LoadedSource, RunFault>
+    pub(crate) fn load_at(self, alloc: Global, source: usize) -> Result<LoadedSource, RunFault>
         ensures loaded { IfOk result (λ loaded. IfSome (known_input self) (λ known. loaded ≡ known)) }
         ensures err { IfErr result (IsOfRun (source + 1)) }
     {
@@ -157,6 +159,13 @@ impl Input {
             Err(LoadFault::Io | LoadFault::TooLarge) => Err(RunFault::Unreadable { source }),
         }
     }
+}
+
+fn load_stored(alloc: Global, format: Format, text: &StoredText) -> Result<LoadedSource, LoadFault>
+    ensures { IfOk result (λ source. IfSome (known_input (format, text.now)) (λ known. source ≡ known)) }
+{
+    let bytes = text.load(alloc)?;
+    Ok(LoadedSource::of(Source { format, bytes })?)
 }
 
 fn front_of(alloc: Global, bytes: &[u8], count: usize) -> Option<Vec<u8>>

@@ -25,6 +25,7 @@ mod source_reader;
 mod source_readers;
 mod source_types;
 mod sources;
+mod stored_profile;
 mod strictness;
 mod unkept_samples;
 mod unreadable_sources;

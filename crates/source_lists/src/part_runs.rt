@@ -3,6 +3,7 @@
 ghost use Rattle.std.specs.Prelude.{◌≡◌, ◌≤◌, ◌<◌, [], All, IfOk, IfSome, Some, length, map, option_map};
 ghost use Rattle.stack_core.specs.RowReading.{GivesSome};
 ghost use Rattle.folded_lines.specs.Reading.{read_folded};
+ghost use Rattle.profile_tables.specs.Samples.{read_pprof};
 ghost use Rattle.ring_collect.specs.Collection.{AreGiven, seen_as_rest};
 ghost use Rattle.source_lists.specs.Sources.{known_input, whole_rest};
 ghost use Rattle.source_lists.specs.checked.Parts.{AreCleanParts, ArePartsOf};
@@ -11,6 +12,8 @@ use crate::inputs::{Content, Input};
 use crate::loaded_sources::LoadedSource;
 use crate::part_lists::ignored_by_clean;
 use crate::reader_runs::run_open;
+use crate::sources::Source;
+use crate::stored_profile::loaded_bytes;
 use byte_io::StoredText;
 use folded_lines::{FoldedRows, FoldedStream};
 use profile_tables::PprofRows;
@@ -39,7 +42,7 @@ fn reader_count(len: u64) -> usize
 pub(crate) fn part_count(input: &Input) -> usize {
     let len = match input.content() {
         Content::Loaded(source) => source.bytes().len() as u64,
-        Content::Stored(text) => text.len(),
+        Content::Text(text) | Content::Profile(text) => text.len(),
     };
     reader_count(len)
 }
@@ -130,6 +133,27 @@ fn read_stored_parts<T: Threads + Wait + Copy + Send + 'static, S: RowSink>(
     read_clean(rt, alloc, readers, options, sink)
 }
 
+/// The same of a stored profile, which is loaded for it. `None` also where it can't be read.
+fn read_profile_parts<T: Threads + Wait + Copy + Send + 'static, S: RowSink>(
+    rt: &T,
+    alloc: Global,
+    text: &StoredText,
+    options: &Options,
+    sink: &mut S,
+) -> Result<Option<CleanParts>, AllocError>
+    ensures parts { IfOk result (λ found. IfSome found (λ parts.
+        ArePartsOf (option_map (λ bytes. read_pprof bytes options.now.pick options.now.naming) text.now)
+        (map seen_as_rest parts.lists.items) parts.ignored)) }
+    ensures setting { S.setting sink.new ≡ S.setting sink.old }
+{
+    let Some(bytes) = loaded_bytes(alloc, text)? else {
+        return Ok(None);
+    };
+    let format = Format::Pprof;
+    let source = LoadedSource::of(Source { format, bytes })?;
+    read_loaded_parts(rt, alloc, &source, options, sink)
+}
+
 /// The same of an input.
 pub(crate) fn read_parts<T: Threads + Wait + Copy + Send + 'static, S: RowSink>(
     rt: &T,
@@ -145,6 +169,7 @@ pub(crate) fn read_parts<T: Threads + Wait + Copy + Send + 'static, S: RowSink>(
 {
     match input.content() {
         Content::Loaded(source) => read_loaded_parts(rt, alloc, source, options, sink),
-        Content::Stored(text) => read_stored_parts(rt, alloc, text, options, sink),
+        Content::Text(text) => read_stored_parts(rt, alloc, text, options, sink),
+        Content::Profile(text) => read_profile_parts(rt, alloc, text, options, sink),
     }
 }

@@ -142,6 +142,19 @@ impl SourceLists {
         &self.lists
     }
 
+    /// The lists alone.
+    pub fn into_lists(self) -> Vec<SourceList>
+        ensures lists { result.items ≡ self.lists }
+        ensures total { total_weight (all_samples (samples_of self.lists)) < 2 ^ 64 }
+    {
+        let _lists = self.lists();
+        let SourceLists {
+            lists,
+            order: _order,
+        } = self;
+        lists
+    }
+
     /// The source of each sample, in the order in which the samples came out of the rings.
     pub fn order(&self) -> &[u32]
         ensures order { result.now ≡ self.now.order }

@@ -1,6 +1,6 @@
 //! What is wrong with sources that are read strictly.
 
-ghost use Rattle.std.specs.Prelude.{◌≡◌, IfOk, IfSome, is_some, length, map, slice_get};
+ghost use Rattle.std.specs.Prelude.{◌≡◌, IfOk, IfSome, is_some, length, map, true, slice_get};
 ghost use Rattle.wire_fields.specs.Field.{seen_field};
 ghost use Rattle.profile_messages.specs.Message.{content_of};
 ghost use Rattle.profile_messages.specs.Tables.{samples_of};
@@ -11,7 +11,7 @@ ghost use Rattle.run_options.specs.declared.choices.Pick.{Pick as PickOf};
 ghost use Rattle.run_options.specs.declared.options.Options.{Options};
 ghost use Rattle.source_lists.specs.Sources.{asked_rests, known_inputs, whole_rest};
 ghost use Rattle.source_lists.specs.Strictness.{fault_of_rest, source_fault};
-ghost use Rattle.source_lists.specs.checked.StrictEndings.{has_some, EndsAs};
+ghost use Rattle.source_lists.specs.checked.StrictEndings.{has_some, HasFault, IsSound};
 
 use crate::inputs::Input;
 use crate::loaded_sources::LoadedSource;
@@ -77,33 +77,38 @@ fn fault_of(source: &LoadedSource, ending: &SourceEnd) -> Option<StrictFault>
     }
 }
 
-fn fault_at(source: &LoadedSource, lists: &[SourceList], at: usize) -> Option<StrictFault>
-    ensures { (options : Options) → EndsAs options source.now (slice_get lists.now at)
-        → result ≡ source_fault options source.now }
+/// Whether all of a source was read, no line of it is ignored, and a sample was kept.
+fn is_sound(list: &SourceList) -> bool
+    ensures { result ≡ true → IsSound list.now }
 {
-    match lists.get(at) {
-        Some(list) => fault_of(source, list.ending()),
-        None => None,
+    match list.ending() {
+        SourceEnd::Clean { ignored } => *ignored == 0 && list.len() > 0,
+        SourceEnd::Fault(_) | SourceEnd::Stopped { after: _ } => false,
     }
 }
 
-fn faults_of(
+/// What is wrong with the source at a place, by its list. Its bytes are looked at, unless that shows it to be sound.
+fn fault_at(
     alloc: Global,
-    sources: &[LoadedSource],
+    input: &Input,
     lists: &[SourceList],
-) -> Result<Vec<Option<StrictFault>>, AllocError>
-    ensures { (options : Options) → AreWhole (asked_rests options sources.now) lists.now
-        → IfOk result (λ faults. faults.items ≡ map (source_fault options) sources.now) }
+    at: usize,
+) -> Result<Option<StrictFault>, RunFault>
+    ensures { IfOk result (HasFault input.now (slice_get lists.now at)) }
 {
-    let mut faults = Vec::with_capacity(alloc, sources.len())?;
-    for source in sources {
-        faults.push(fault_at(source, lists, faults.len()))?;
+    let Some(list) = lists.get(at) else {
+        return Ok(None);
+    };
+    if is_sound(list) {
+        return Ok(None);
     }
-    Ok(faults)
+    let source = input.share()?.load_at(alloc, at)?;
+    Ok(fault_of(&source, list.ending()))
 }
 
 /// What is wrong with each source where it is read strictly, if anything is, by what was read of it: that a line is ignored, that there is no
-/// sample, or its fault, whichever comes first. What a filter leaves out counts as a sample. A stored text is loaded for it.
+/// sample, or its fault, whichever comes first. What a filter leaves out counts as a sample. A stored source is loaded for it, unless its
+/// list shows it to be sound.
 pub fn strict_faults(
     alloc: Global,
     inputs: &[Input],
@@ -113,6 +118,12 @@ pub fn strict_faults(
         → AreWhole (asked_rests options sources) lists.now
         → IfOk result (λ faults. faults.items ≡ map (source_fault options) sources)) }
 {
-    let sources = Input::load_all(alloc, Input::share_all(alloc, inputs)?)?;
-    Ok(faults_of(alloc, &sources, lists)?)
+    let mut faults = Vec::with_capacity(alloc, inputs.len())?;
+    for input in inputs {
+        let fault = fault_at(alloc, input, lists, faults.len())?;
+        let Ok(()) = faults.push(fault) else {
+            return Err(RunFault::from(AllocError));
+        };
+    }
+    Ok(faults)
 }

@@ -8,7 +8,7 @@ use byte_io::StoredText;
 use stack_core::{SourceEnd, SourceList};
 use std::alloc::{AllocError, Global};
 
-/// The text of each source that is read where it is stored.
+/// The text of each source that is read piece by piece where it is stored.
 pub(crate) fn stored_texts(
     alloc: Global,
     inputs: &[Input],
@@ -16,15 +16,15 @@ pub(crate) fn stored_texts(
     let mut texts = Vec::with_capacity(alloc, inputs.len())?;
     for input in inputs {
         let text = match input.content() {
-            Content::Loaded(_) => None,
-            Content::Stored(text) => Some(text.share()?),
+            Content::Loaded(_) | Content::Profile(_) => None,
+            Content::Text(text) => Some(text.share()?),
         };
         texts.push(text)?;
     }
     Ok(texts)
 }
 
-/// Whether a source was read to its end. Behind a fault nothing was read: there it is tried whether the text can be.
+/// Whether a source was read to its end. Behind a fault of a text nothing was read: there it is tried whether the text can be.
 fn is_read_out(
     alloc: Global,
     ending: &SourceEnd,

@@ -12,7 +12,8 @@ ghost use Rattle.function_sums.specs.Calls.{calls_of};
 ghost use Rattle.function_sums.specs.FunctionSums.{sums_of};
 ghost use Rattle.sum_texts.specs.Told.{told_of};
 
-use crate::workers::{Workers, merge, send_text};
+use crate::shown::merge_given;
+use crate::workers::{Workers, send_text};
 use byte_io::{Chain, Outlet, Pieces};
 use command_line::CallTable;
 use function_sums::{CallSide, FunctionSum, first_calls};
@@ -26,18 +27,18 @@ use sum_texts::{SumLine, Table, Telling};
 pub fn send_calls<H: Workers, W: Outlet>(
     workers: &H,
     alloc: Global,
-    sources: &SourceLists,
+    sources: SourceLists,
     side: CallSide,
     table: &CallTable,
     telling: &Telling<'_>,
     out: &mut W,
 ) -> Result<(), Failure>
-    ensures sent { Sends (calls_text (told_of telling.now) side table.now (all_samples (samples_of sources.now.lists)))
+    ensures sent { Sends (calls_text (told_of telling.now) side table.now (all_samples (samples_of sources.lists)))
         (W.contents out.old) (W.contents out.new) result }
     ensures flushed { Flushes (W.is_flushed out.new) (W.failures out.old) (W.failures out.new)
         result }
 {
-    let merged = merge(workers, alloc, sources)?;
+    let merged = merge_given(workers, alloc, sources)?;
     let sums = weigh_calls(alloc, &merged, side, table)?;
     // The same, for as long as the sums are lent.
     let telling = Telling {
@@ -59,17 +60,17 @@ pub fn send_calls<H: Workers, W: Outlet>(
 pub fn send_peek<H: Workers, W: Outlet>(
     workers: &H,
     alloc: Global,
-    sources: &SourceLists,
+    sources: SourceLists,
     table: &CallTable,
     telling: &Telling<'_>,
     out: &mut W,
 ) -> Result<(), Failure>
-    ensures sent { Sends (peek_text (told_of telling.now) table.now (all_samples (samples_of sources.now.lists)))
+    ensures sent { Sends (peek_text (told_of telling.now) table.now (all_samples (samples_of sources.lists)))
         (W.contents out.old) (W.contents out.new) result }
     ensures flushed { Flushes (W.is_flushed out.new) (W.failures out.old) (W.failures out.new)
         result }
 {
-    let merged = merge(workers, alloc, sources)?;
+    let merged = merge_given(workers, alloc, sources)?;
     let callers = weigh_calls(alloc, &merged, CallSide::Callers, table)?;
     let callees = weigh_calls(alloc, &merged, CallSide::Callees, table)?;
     // The same, for as long as either of the lists is lent.

@@ -1,10 +1,10 @@
 //! The lines of a flame graph and of a flame chart.
-ghost use Rattle.std.specs.Prelude.{◌≡◌, ◌<◌, ◌^◌, length};
+ghost use Rattle.std.specs.Prelude.{◌≡◌, ◌<◌, ◌^◌, List, length};
 ghost use Rattle.std.specs.List.{concat};
 ghost use Rattle.flame_layout.specs.Chart.{chart_of};
 ghost use Rattle.flame_layout.specs.Graph.{graph_of};
-ghost use Rattle.merged_stacks.specs.Timeline.{samples_of, timeline};
-ghost use Rattle.merging.specs.Sums.{all_samples};
+ghost use Rattle.merged_stacks.specs.Timeline.{samples_of, timeline, total_weight};
+ghost use Rattle.sample_tables.specs.declared.samples.Sample.{Sample};
 ghost use Rattle.source_views.specs.Texts.{chart_text, graph_line};
 
 use byte_io::Pieces;
@@ -29,17 +29,16 @@ pub(crate) fn drawn_chart<'a, 'n>(
     drawn_line("chart", chart, Scale { total, width })
 }
 
-// The line of the graph alone.
+// The line of the graph alone, of samples that weigh so much.
 pub(crate) fn drawn_graph<'a, 'n>(
-    sources: &SourceLists,
+    total: u64,
     chart: &'a Chart<'n, MergedStacks>,
     width: Width,
 ) -> JsonLine<'a, &'a Chart<'n, MergedStacks>>
-    requires boxes { chart.now ≡ graph_of (all_samples (samples_of sources.now.lists)) }
-    ensures text { concat (⟦<JsonLine<'a, &'a Chart<'n, MergedStacks>> as Pieces>⟧.pieces result)
-        ≡ graph_line width (all_samples (samples_of sources.now.lists)) }
+    requires { (samples : List Sample) × (chart.now ≡ graph_of samples) × (total ≡ total_weight samples) }
+    ensures text { (samples : List Sample) → chart.now ≡ graph_of samples → total ≡ total_weight samples
+        → concat (⟦<JsonLine<'a, &'a Chart<'n, MergedStacks>> as Pieces>⟧.pieces result) ≡ graph_line width samples }
     ensures few { length (⟦<JsonLine<'a, &'a Chart<'n, MergedStacks>> as Pieces>⟧.pieces result) < 2 ^ 64 }
 {
-    let total = sources.total();
     drawn_line("graph", chart, Scale { total, width })
 }

@@ -5,11 +5,10 @@ ghost use Rattle.function_sums.specs.FunctionSums.{AreFunctionSums};
 ghost use Rattle.merged_stacks.specs.Timeline.{samples_of, total_weight};
 ghost use Rattle.merging.specs.Sums.{all_samples};
 
-use crate::workers::merge;
+use crate::shown::Shown;
 use function_sums::{ChangeOrder, FunctionChange, FunctionSum, function_changes, function_sums};
 use merged_stacks::{Alone, MergedStacks, Sorting};
 use run_options::FunctionOrder;
-use source_lists::SourceLists;
 use stack_core::SourceList;
 use std::alloc::{AllocError, Global};
 use std::slice;
@@ -18,13 +17,13 @@ use std::slice;
 pub(crate) fn weigh_functions<S: Sorting>(
     sorting: &S,
     alloc: Global,
-    sources: &SourceLists,
+    sources: Shown<'_>,
     by: FunctionOrder,
 ) -> Result<Vec<FunctionSum>, AllocError>
     ensures { IfOk result (λ sums.
-        AreFunctionSums by (all_samples (samples_of sources.now.lists)) sums.items) }
+        AreFunctionSums by (all_samples (samples_of sources.entry.lists)) sums.items) }
 {
-    let merged = merge(sorting, alloc, sources)?;
+    let merged = sources.merged(sorting, alloc)?;
     function_sums(alloc, &merged, by)
 }
 

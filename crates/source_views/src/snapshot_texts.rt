@@ -68,7 +68,8 @@ fn send_lines<W: Outlet>(
     ensures unfailed { result ≢ Err PieceFault.Output → W.failures out.new ≡ W.failures out.old }
 {
     send_moments(alloc, sources, width, every, out)?;
-    send_pieces(alloc, &drawn_graph(sources, chart, width), out)
+    let line = drawn_graph(sources.total(), chart, width);
+    send_pieces(alloc, &line, out)
 }
 
 // Sends the lines of the snapshots, going through the samples in the order in which they came.

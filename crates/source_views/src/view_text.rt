@@ -15,9 +15,10 @@ use crate::drawings::lend_chart;
 use crate::drawn_texts::{drawn_chart, drawn_graph};
 use crate::functions::weigh_functions;
 use crate::long_texts::OneOf;
+use crate::shown::Shown;
 use crate::snapshot_texts::send_snapshots;
 use crate::view_set::Views;
-use crate::workers::{Workers, merge, send_text};
+use crate::workers::{Workers, send_text};
 use byte_io::{CountedWriter, Outlet, truncate_on_error};
 use command_line::{TopTable, View};
 use flame_layout::{Width, draw_merged, draw_paired};
@@ -56,7 +57,8 @@ pub fn render(alloc: Global, views: &Views, view: View, out: &mut Vec<u8>) -> Re
     };
     let before = out.len();
     let mut outlet = CountedWriter::new(mem::replace(out, Vec::new(alloc)));
-    let sent = send_view(&Alone, alloc, gathered.sources(), &asked, &mut outlet);
+    let shown = Shown::lent(gathered.sources());
+    let sent = send_view(&Alone, alloc, shown, &asked, &mut outlet);
     *out = outlet.into_inner();
     truncate_on_error(out, before, allocated(&sent))
 }
@@ -76,13 +78,13 @@ fn allocated(sent: &Result<(), Failure>) -> Result<(), AllocError>
 pub fn send_view<H: Workers, W: Outlet>(
     workers: &H,
     alloc: Global,
-    sources: &SourceLists,
+    sources: Shown<'_>,
     asked: &AskedText<'_>,
     out: &mut W,
 ) -> Result<(), Failure>
-    requires pairs { IsComparison asked.now.view → length sources.now.lists ≡ 2 }
+    requires pairs { IsComparison asked.now.view → length sources.lists ≡ 2 }
     requires every { IfSome asked.now.every (λ every. 1 ≤ every) }
-    ensures sent { Sends (told_text (told_of asked.now.telling) asked.now.view (samples_of sources.now.lists) sources.now.order asked.now.every)
+    ensures sent { Sends (told_text (told_of asked.now.telling) asked.now.view (samples_of sources.entry.lists) sources.entry.order asked.now.every)
         (W.contents out.old) (W.contents out.new) result }
     ensures flushed { Flushes (W.is_flushed out.new) (W.failures out.old) (W.failures out.new)
         result }
@@ -90,14 +92,14 @@ pub fn send_view<H: Workers, W: Outlet>(
     match asked.view {
         View::Fold => send_fold(workers, alloc, sources, out),
         View::Graph(width) => send_graphs(workers, alloc, sources, width, asked.every, out),
-        View::Chart(width) => send_chart(workers, alloc, sources, width, out),
-        View::Pairs => send_pairs(workers, alloc, sources, out),
+        View::Chart(width) => send_chart(workers, alloc, sources.get(), width, out),
+        View::Pairs => send_pairs(workers, alloc, sources.get(), out),
         View::PairBoxes(width) => {
-            let lists = sources.lists();
+            let lists = sources.get().lists();
             send_compared(workers, alloc, &lists[0], &lists[1], width, out)
         }
         View::Top(top) => send_top(workers, alloc, sources, top, &asked.telling, out),
-        View::Diff(diff) => send_diff(alloc, sources, diff, &asked.telling, out),
+        View::Diff(diff) => send_diff(alloc, sources.get(), diff, &asked.telling, out),
     }
 }
 
@@ -105,15 +107,15 @@ pub fn send_view<H: Workers, W: Outlet>(
 fn send_fold<H: Workers, W: Outlet>(
     workers: &H,
     alloc: Global,
-    sources: &SourceLists,
+    sources: Shown<'_>,
     out: &mut W,
 ) -> Result<(), Failure>
-    ensures sent { Sends (fold_text (all_samples (samples_of sources.now.lists)))
+    ensures sent { Sends (fold_text (all_samples (samples_of sources.entry.lists)))
         (W.contents out.old) (W.contents out.new) result }
     ensures flushed { Flushes (W.is_flushed out.new) (W.failures out.old) (W.failures out.new)
         result }
 {
-    let merged = merge(workers, alloc, sources)?;
+    let merged = sources.merged(workers, alloc)?;
     workers.send(alloc, &OneOf::First(FoldedText::of(&merged)), out)
 }
 
@@ -121,19 +123,19 @@ fn send_fold<H: Workers, W: Outlet>(
 fn send_graphs<H: Workers, W: Outlet>(
     workers: &H,
     alloc: Global,
-    sources: &SourceLists,
+    sources: Shown<'_>,
     width: Width,
     every: Option<u64>,
     out: &mut W,
 ) -> Result<(), Failure>
     requires { IfSome every (λ every. 1 ≤ every) }
-    ensures sent { Sends (graph_text width (samples_of sources.now.lists) sources.now.order every)
+    ensures sent { Sends (graph_text width (samples_of sources.entry.lists) sources.entry.order every)
         (W.contents out.old) (W.contents out.new) result }
     ensures flushed { Flushes (W.is_flushed out.new) (W.failures out.old) (W.failures out.new)
         result }
 {
     match every {
-        Some(every) => send_snapshots(workers, alloc, sources, width, every, out),
+        Some(every) => send_snapshots(workers, alloc, sources.get(), width, every, out),
         None => send_graph(workers, alloc, sources, width, out),
     }
 }
@@ -142,18 +144,19 @@ fn send_graphs<H: Workers, W: Outlet>(
 fn send_graph<H: Workers, W: Outlet>(
     workers: &H,
     alloc: Global,
-    sources: &SourceLists,
+    sources: Shown<'_>,
     width: Width,
     out: &mut W,
 ) -> Result<(), Failure>
-    ensures sent { Sends (graph_line width (all_samples (samples_of sources.now.lists)))
+    ensures sent { Sends (graph_line width (all_samples (samples_of sources.entry.lists)))
         (W.contents out.old) (W.contents out.new) result }
     ensures flushed { Flushes (W.is_flushed out.new) (W.failures out.old) (W.failures out.new)
         result }
 {
-    let merged = merge(workers, alloc, sources)?;
+    let total = sources.total();
+    let merged = sources.merged(workers, alloc)?;
     let chart = draw_merged(alloc, &merged)?;
-    let line = drawn_graph(sources, &chart, width);
+    let line = drawn_graph(total, &chart, width);
     workers.send(alloc, &OneOf::Second(OneOf::First(line)), out)
 }
 
@@ -229,18 +232,18 @@ fn send_compared<H: Workers, W: Outlet>(
 fn send_top<H: Workers, W: Outlet>(
     workers: &H,
     alloc: Global,
-    sources: &SourceLists,
+    sources: Shown<'_>,
     top: TopTable,
     telling: &Telling<'_>,
     out: &mut W,
 ) -> Result<(), Failure>
-    ensures sent { Sends (top_text (told_of telling.now) top (all_samples (samples_of sources.now.lists)))
+    ensures sent { Sends (top_text (told_of telling.now) top (all_samples (samples_of sources.entry.lists)))
         (W.contents out.old) (W.contents out.new) result }
     ensures flushed { Flushes (W.is_flushed out.new) (W.failures out.old) (W.failures out.new)
         result }
 {
-    let sums = weigh_functions(workers, alloc, sources, top.by)?;
     let whole = sources.total();
+    let sums = weigh_functions(workers, alloc, sources, top.by)?;
     // The same, for as long as the sums are lent.
     let telling = Telling {
         whole: telling.whole,

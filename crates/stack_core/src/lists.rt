@@ -3,10 +3,12 @@
 ghost use Rattle.std.specs.Prelude.{◌≡◌, ◌<◌, ◌≤◌, ℕ, List, All, length, map, slice_index};
 ghost use Rattle.sample_tables.specs.declared.samples.TheConstants.{FRAME_LIMIT, WEIGHT_LIMIT};
 ghost use Rattle.sample_tables.specs.Samples.{IsLimited, total_weight};
+ghost use Rattle.sample_tables.specs.Spans.{stacks_of, AreWithin};
+ghost use Rattle.sample_tables.specs.Tables.{IsStack};
 ghost use Rattle.sample_tables.specs.Rows.{AreEntries, AreNamed, entry_at, name_at, named, row_at, rows_by, sample_at, stack_at};
 
 use crate::endings::SourceEnd;
-use sample_tables::RowTable;
+use sample_tables::{FlatStacks, RowTable};
 use std::marker::Model;
 
 /// The samples of a source in the order in which they were taken, and the source's ending. Names are told once
@@ -75,6 +77,19 @@ impl SourceList {
         ensures told { All (λ k. k < length self.now.told) result.now }
     {
         self.table.stack(k)
+    }
+
+    /// The stacks alone, by the numbers of their names.
+    pub fn into_stacks(self) -> FlatStacks
+        ensures within { AreWithin result.frames.items result.spans.items }
+        ensures stacks { stacks_of result.frames.items result.spans.items ≡ self.stacks }
+        ensures told { All (IsStack self.told) self.stacks }
+    {
+        let SourceList {
+            table,
+            ending: _ending,
+        } = self;
+        table.into_stacks()
     }
 
     /// The number of the stack of sample `i`.

@@ -29,6 +29,7 @@ rule_at argument.Share = share_flag
 rule_at argument.FailOver = fail_over_option
 rule_at argument.Unit = unit_option
 rule_at argument.Strict = strict_flag
+rule_at argument.LiveStrict = strict_flag
 rule_at argument.Output = output_option
 rule_at argument.Quiet = quiet_flag
 rule_at argument.Page = page_flag

@@ -10,7 +10,7 @@ use std::test::Fail;
 use std::thread::Threads;
 
 /// Files that note what they are asked for. All of them have the same line, but for those whose path ends in `gone`. One whose path ends in
-/// `long` may be read as a stream.
+/// `long` is read where it is stored.
 #[derive(Drop)]
 struct NotingFiles {
     calls: String,
@@ -20,15 +20,6 @@ impl NotingFiles {
     fn note(&mut self, words: &[&str]) -> Result<(), AllocError> {
         for word in words {
             self.calls.push_str(word)?;
-        }
-        self.calls.push_str("\n")
-    }
-
-    fn note_all(&mut self, paths: &[String]) -> Result<(), AllocError> {
-        self.calls.push_str("next")?;
-        for path in paths {
-            self.calls.push_str(" ")?;
-            self.calls.push_str(path)?;
         }
         self.calls.push_str("\n")
     }
@@ -50,10 +41,6 @@ impl Files for NotingFiles {
     fn input(&mut self, alloc: Global) -> Result<Vec<u8>, LoadFault> {
         self.note(&["input"])?;
         Ok(b"a 1\n".to_vec(alloc)?)
-    }
-
-    fn prefetch(&mut self, _alloc: Global, paths: &[String]) {
-        let _ = self.note_all(paths);
     }
 
     fn stored(&mut self, alloc: Global, path: &str) -> Option<StoredText> {
@@ -88,15 +75,15 @@ const ASKING: &[Asking] = &[
         calls: "stored x\nnamed x\nstored y.long\nstored x\nnamed x\n",
         err: "",
     },
-    // No text is read as a stream where it is read strictly, and no profile at all.
+    // So it is where they are read strictly, and of profiles.
     Asking {
         words: &["fold", "--strict", "x", "y.long", "x"],
-        calls: "next x y.long x\nnamed x\nnamed y.long\nnamed x\n",
+        calls: "stored x\nnamed x\nstored y.long\nstored x\nnamed x\n",
         err: "",
     },
     Asking {
-        words: &["fold", "--format", "pprof", "x.gone", "y.long"],
-        calls: "next x.gone y.long\nnamed x.gone\n",
+        words: &["fold", "--format", "pprof", "y.long", "x.gone"],
+        calls: "stored y.long\nstored x.gone\nnamed x.gone\n",
         err: "flamecollect: x.gone: cannot be read\n",
     },
     // The first that fails is blamed, and no other is asked for.
@@ -136,7 +123,7 @@ fn each_asks_so<T: Threads + Wait + Copy + Send + 'static>(
     Ok(true)
 }
 
-// Each file is asked for in its turn. Where all of them are to be loaded, all paths are told first.
+// Each file is asked for in its turn, first as one that is read where it is stored.
 #[test]
 fn files_are_asked_for_in_order(rt: HostRuntime) -> Result<(), Fail> {
     holds(&rt, each_asks_so(&rt, rt.alloc()))

@@ -70,6 +70,33 @@ const WITH_A_FAULT: LiveCase<'static> = LiveCase {
     ..OF_TWO_FILES
 };
 
+/// Read strictly, an ignored line ends its source as a fault does, and so does a source without a sample.
+const STRICTLY: LiveCase<'static> = LiveCase {
+    words: &["live", "--strict", "x", "y"],
+    files: &[("x", b"a 1\r\nno count\r\nc 3\n"), ("y", b"d 4\ne 5")],
+    err: "flamecollect: x: NoCount at 2\n",
+    ..WITH_A_FAULT
+};
+
+const STRICTLY_NOTHING: LiveCase<'static> = LiveCase {
+    files: &[("x", b"a 1\n"), ("y", b"")],
+    err: "flamecollect: y: NoSamples at 0\n",
+    shown: &[("x", b"a 1\n"), ("y", b"")],
+    ..STRICTLY
+};
+
+/// Without such a line, and with a fault before one, it is as ever.
+const STRICTLY_CLEAN: LiveCase<'static> = LiveCase {
+    words: &["live", "--strict", "x", "y"],
+    ..OF_TWO_FILES
+};
+
+const STRICTLY_FAULTY: LiveCase<'static> = LiveCase {
+    words: &["live", "--strict", "x", "y"],
+    files: &[("x", b"a 1\nb 1.5\nno count\n"), ("y", b"d 4\ne 5\n")],
+    ..WITH_A_FAULT
+};
+
 /// `flame_tool::live` of the plan of words, without its clauses, so that what calls it is proved without them.
 fn live_status<T: Threads + Wait + Copy + Send + 'static, W: Outlet, E: Outlet>(
     rt: &T,
@@ -154,6 +181,10 @@ fn writes_what_a_graph_is(rt: HostRuntime) -> Result<(), Fail> {
         OF_A_FILE,
         OF_TWO_FILES,
         WITH_A_FAULT,
+        STRICTLY,
+        STRICTLY_NOTHING,
+        STRICTLY_CLEAN,
+        STRICTLY_FAULTY,
     ];
     holds(&rt, each_ends_so(&rt, rt.alloc(), &cases))
 }

@@ -1,5 +1,5 @@
 -- How a live run of readers ended, by the rests that these may give.
-use Rattle.std.specs.Prelude.{◌≡◌, ◌⊎◌, ℕ, Bool, true, false, All, List, Option, Result, Ok, Err, if◌then◌else◌, length}
+use Rattle.std.specs.Prelude.{◌≡◌, ◌⊎◌, ℕ, Bool, true, false, List, Option, Result, Ok, Err, if◌then◌else◌, is_some, length}
 use Rattle.std.specs.List.{list_any}
 use Rattle.std.specs.Io.KnownBytes.{Appends}
 use Rattle.stack_core.specs.Interleaving.{IsInterleaving}
@@ -7,14 +7,15 @@ use Rattle.stack_core.specs.Ledgers.{ListState}
 use Rattle.stack_core.specs.Reading.{Rest}
 use Rattle.stack_core.specs.declared.endings.SourceEnd.{SourceEnd}
 use Rattle.stack_core.specs.declared.endings.SourceEnd.TheVariants as ends
+use Rattle.folded_lines.specs.StrictStreams.{strict_ending_fault}
+use Rattle.folded_lines.specs.declared.strictness.StrictFault.{StrictFault}
 use Rattle.merged_stacks.specs.Timeline.{samples_of}
 use Rattle.command_line.specs.declared.plans.Plan.{Plan}
 use Rattle.ring_collect.specs.Collection.{Collects}
 use Rattle.opened_sources.specs.Failures.{has_fault, status_of}
 use Rattle.opened_sources.specs.declared.failures.Failure.{Failure}
 use Rattle.opened_sources.specs.declared.failures.Failure.TheVariants.{TooManyFiles, Unreadable, TooLarge, OutOfMemory, NoThread, Unfinished, Faults, Output}
-use Rattle.flame_tool.specs.LiveRuns.{ShowsFirst, ShowsLive, ShowsSome, lines_of, read_texts}
-use Rattle.flame_tool.specs.Runs.{HasFault, IsClean}
+use Rattle.flame_tool.specs.LiveRuns.{AreFaultless, HasTextFault, ShowsFirst, ShowsLive, ShowsSome, lines_of, read_texts}
 
 -- the source was stopped, or a read of it failed
 abbrev pub is_stopped : SourceEnd → Bool
@@ -26,8 +27,16 @@ is_stopped (ends.Stopped after) = true
 abbrev pub status_by : Bool → Bool → ℕ
 status_by stopped faulty = if stopped then 3 else (if faulty then 1 else 0)
 
-abbrev pub status_of_ends : List ListState → ℕ
-status_of_ends lists = status_by (list_any (λ list. is_stopped list.ending) lists) (has_fault lists)
+-- what is wrong with a source that was read strictly
+abbrev pub strict_list_fault : ListState → Option StrictFault
+strict_list_fault list = strict_ending_fault (length list.samples) list.ending
+
+-- a source has a fault, as they are read
+abbrev pub is_faulty : Bool → List ListState → Bool
+is_faulty is_strict lists = if is_strict then list_any (λ list. is_some (strict_list_fault list)) lists else has_fault lists
+
+abbrev pub status_of_ends : Bool → List ListState → ℕ
+status_of_ends is_strict lists = status_by (list_any (λ list. is_stopped list.ending) lists) (is_faulty is_strict lists)
 
 -- wherever it may be
 abbrev pub anywhere : ℕ → ℕ → Type 0
@@ -40,7 +49,7 @@ pub record EndsLive (plan : Plan) (old new : Option (List ℕ)) (status : ℕ) (
   pub order : List ℕ
   pub ordered : IsInterleaving order (samples_of lists)
   pub gained : Appends old new (lines_of plan (samples_of lists) order)
-  pub told : status ≡ status_of_ends lists
+  pub told : status ≡ status_of_ends plan.is_strict lists
 
 -- it failed on the way
 abbrev pub FailsLive : Plan → Option (List ℕ) → Option (List ℕ) → Failure → List Rest → Type 0
@@ -60,6 +69,6 @@ live_status (Err failure) = status_of failure
 
 -- what the exit status says of the texts of streams, and of the output
 pub record TellsTexts (plan : Plan) (old new : Option (List ℕ)) (status : ℕ) (texts : List (List ℕ)) : Type 0 where
-  pub shown : status ≡ 0 → All (λ rest. IsClean rest.ending) (read_texts texts) × ShowsLive plan old new (read_texts texts)
-  pub faulty : status ≡ 1 → HasFault (read_texts texts) × ShowsLive plan old new (read_texts texts)
-  pub front : status ≡ 3 → ShowsFirst plan old new (read_texts texts) ⊎ ShowsSome plan old new (length texts)
+  pub shown : status ≡ 0 → AreFaultless plan.is_strict texts × ShowsLive plan old new (read_texts plan.is_strict texts)
+  pub faulty : status ≡ 1 → HasTextFault plan.is_strict texts × ShowsLive plan old new (read_texts plan.is_strict texts)
+  pub front : status ≡ 3 → ShowsFirst plan old new (read_texts plan.is_strict texts) ⊎ ShowsSome plan old new (length texts)

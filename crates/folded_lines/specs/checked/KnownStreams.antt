@@ -23,7 +23,7 @@ coming_of Failed left unread = record { bytes = []; fails = true }
 
 -- what they still give
 abbrev pub known_rest : {I : Type 0} → List ℕ → StreamLines I → Cursor → Option SourceEnd → Rest
-known_rest left lines counts None = rest_of counts (coming_of lines.state left (unread_of lines))
+known_rest left lines counts None = rest_of lines.is_strict counts (coming_of lines.state left (unread_of lines))
 known_rest left lines counts (Some ending) = ended ending
 
 abbrev pub has_ended : Option SourceEnd → Bool
@@ -40,7 +40,7 @@ coming_may Ended left unread = (refl, refl)
 coming_may Failed left unread = (refl, refl)
 
 -- a coming by its parts
-coming_is : (coming : Coming) (bytes : List ℕ) (fails : Bool) → coming.fails ≡ fails → coming.bytes ≡ bytes → coming ≡ record { bytes = bytes; fails = fails }
+pub coming_is : (coming : Coming) (bytes : List ℕ) (fails : Bool) → coming.fails ≡ fails → coming.bytes ≡ bytes → coming ≡ record { bytes = bytes; fails = fails }
 coming_is coming bytes fails is same = λ i. record { bytes = same i; fails = is i }
 
 open_is : (coming : Coming) (left unread : List ℕ) → MayCome (Some left) true unread coming → coming ≡ record { bytes = unread ++ left; fails = false }
@@ -63,5 +63,5 @@ module _ {I : Type 0} (left : List ℕ) (lines : StreamLines I) (counts : Cursor
   known_gives (Some ending) place = refl
 
   pub known_gives_no_other : (at_end : Option SourceEnd) (rest : Rest) → GivesBy (Some left) true lines counts at_end rest → rest ≡ known_rest left lines counts at_end
-  known_gives_no_other None rest given = given.3 ∙ ap (rest_of counts) (no_other_coming lines.state left (unread_of lines) given.0 given.1)
+  known_gives_no_other None rest given = given.3 ∙ ap (rest_of lines.is_strict counts) (no_other_coming lines.state left (unread_of lines) given.0 given.1)
   known_gives_no_other (Some ending) rest given = given

@@ -1,7 +1,9 @@
 -- Lines of a stream, some bytes of which were read and not given.
-use Rattle.std.specs.Prelude.{◌≡◌, ◌≤◌, ◌<◌, ◌-◌, ℕ, Bool, true, false, List, [], ◌++◌, length, take, slice_index, Option, Some, None}
+use Rattle.std.specs.Prelude.{◌≡◌, ◌≤◌, ◌<◌, ◌-◌, ◌&&◌, ℕ, Bool, true, false, List, [], ◌++◌, length, take, slice_index, Option, Some, None}
 use Rattle.std.specs.Io.KnownBytes.{Consumes, IsAtEnd, Keeps}
 use Rattle.bstr.specs.Text.{line_len, without_terminator}
+use Rattle.folded_lines.specs.Line.{Line}
+use Rattle.folded_lines.specs.Reading.{is_ignored}
 use Rattle.folded_lines.specs.Streams.{Coming, MayCome}
 use Rattle.folded_lines.specs.declared.stream_lines.FoundLine.{FoundLine}
 use Rattle.folded_lines.specs.declared.stream_lines.StreamLines.{StreamLines}
@@ -50,6 +52,15 @@ HasNoneIn Failed unread = Unit {0}
 
 abbrev pub HasNone : {I : Type 0} → StreamLines I → Type 0
 HasNone lines = HasNoneIn lines.state (unread_of lines)
+
+-- a line that is ignored closes lines that are read strictly
+abbrev pub closes : Bool → Line → Bool
+closes is_strict line = is_strict && is_ignored line
+
+-- nothing more comes of them
+pub record IsClosed {I : Type 0} (lines : StreamLines I) : Type 0 where
+  pub state : lines.state ≡ Ended
+  pub none : unread_of lines ≡ []
 
 -- a read brings so many bytes, none at the end, or fails
 abbrev pub Brings : Option (List ℕ) → Option (List ℕ) → Bool → List ℕ → Option ℕ → List ℕ → Type 0

@@ -21,7 +21,8 @@ CountsBehind counts coming = counts.taken + length (text_lines coming.bytes) < 2
 -- the rests that may be given from a place on
 abbrev pub GivesAt : {I : Type 0} → Option (List ℕ) → Bool → StreamLines I → Cursor → Rest → Type 0
 GivesAt known is_sure lines counts rest =
-    (coming : Coming) × LinesMayCome known is_sure lines coming × CountsBehind counts coming × (rest ≡ rest_of counts coming)
+    (coming : Coming) × LinesMayCome known is_sure lines coming × CountsBehind counts coming
+    × (rest ≡ rest_of lines.is_strict counts coming)
 
 -- a place that a reader may have come to; where no read fails, all that may come can be counted
 pub record IsStreamPlace {I : Type 0} (known : Option (List ℕ)) (is_sure : Bool) (lines : StreamLines I) (counts : Cursor) : Type 0 where

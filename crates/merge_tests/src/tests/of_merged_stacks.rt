@@ -1,6 +1,7 @@
 //! Worked examples.
 ghost use Rattle.std.specs.Prelude.{◌<◌, length};
 
+mod given;
 mod moments;
 pub(super) mod pairs;
 mod threads;

@@ -3,6 +3,7 @@ ghost use Rattle.std.specs.Prelude.{◌≡◌, [], OnOk, sum_by};
 
 use super::holds;
 use ranked_rows::{Alone, RankedRows};
+use sample_tables::{FlatStacks, Span};
 use std::alloc::{AllocError, Global};
 use std::test::Fail;
 
@@ -44,4 +45,33 @@ fn merges_as_on_the_page(alloc: Global) -> Result<bool, AllocError> {
 #[test]
 fn example_of_the_page(rt: HostRuntime) -> Result<(), Fail> {
     holds(&rt, merges_as_on_the_page(rt.alloc()))
+}
+
+fn are_ranked(rows: &RankedRows) -> bool {
+    rows.len() == 2
+        && rows.ranks(0) == [0, 2].as_slice()
+        && rows.weight(0) == 5
+        && rows.ranks(1).is_empty()
+        && rows.weight(1) == 3
+}
+
+/// Stacks among numbers that belong to none of them, some of which have no rank.
+fn ranks_in_place(alloc: Global) -> Result<bool, AllocError> {
+    let frames = vec![in alloc; 7u32, 1, 0, 4_294_967_295, 2, 0, 9]?;
+    let spans = vec![in alloc;
+        Span { start: 1, end: 3 },
+        Span { start: 4, end: 5 },
+        Span { start: 2, end: 2 },
+    ]?;
+    let stacks = FlatStacks { frames, spans };
+    let ranks = [2, 0, 1];
+    let weights = [5, 0, 3];
+    let rows = RankedRows::from_stacks(alloc, stacks, ranks.as_slice(), weights.as_slice())?;
+    Ok(are_ranked(&rows))
+}
+
+// A stack that weighs nothing has no row.
+#[test]
+fn stacks_are_ranked_in_place(rt: HostRuntime) -> Result<(), Fail> {
+    holds(&rt, ranks_in_place(rt.alloc()))
 }

@@ -122,6 +122,54 @@ pub fn falling_lists(rt: &impl Abort, alloc: Global) -> Result<Vec<SourceList>, 
     Ok(lists)
 }
 
+/// The next of numbers that are drawn one from another.
+fn next_drawn(number: u64) -> u64 {
+    number
+        .wrapping_mul(6_364_136_223_846_793_005)
+        .wrapping_add(1_442_695_040_888_963_407)
+}
+
+/// A stack of up to six frames of four names, and a weight from 0 to 3, drawn from a number.
+fn take_drawn(
+    rt: &impl Abort,
+    alloc: Global,
+    ledger: &mut Ledger,
+    number: u64,
+) -> Result<(), AllocError> {
+    let mut names = Vec::new(alloc);
+    for frame in 0..(number >> 40) % 7 {
+        names.push(["a", "b", "", "a;b"][((number >> (2 * frame)) % 4) as usize])?;
+    }
+    take_line(rt, alloc, ledger, &names, (number >> 50) % 4)
+}
+
+/// A list of up to 30 samples, drawn from a number.
+fn drawn_list(rt: &impl Abort, alloc: Global, seed: u64) -> Result<SourceList, AllocError> {
+    let mut ledger = Ledger::new(alloc);
+    let mut number = seed;
+    for _ in 0..(seed >> 33) % 31 {
+        number = next_drawn(number);
+        take_drawn(rt, alloc, &mut ledger, number)?;
+    }
+    close_read(rt, &mut ledger);
+    Ok(ledger.into_list())
+}
+
+/// Up to four lists of samples that are drawn from a number.
+pub fn drawn_lists(
+    rt: &impl Abort,
+    alloc: Global,
+    seed: u64,
+) -> Result<Vec<SourceList>, AllocError> {
+    let mut lists = Vec::new(alloc);
+    let mut number = seed;
+    for _ in 0..seed % 5 {
+        number = next_drawn(number);
+        lists.push(drawn_list(rt, alloc, number)?)?;
+    }
+    Ok(lists)
+}
+
 /// That a list weighs little.
 pub fn assert_light_list(rt: &impl Abort, list: &SourceList)
     ensures { total_weight list.now.samples < 2 ^ 64 }

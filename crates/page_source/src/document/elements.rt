@@ -76,20 +76,31 @@ title="Drag to make the lists wider, or to close them"></div>
 </section>
 <section id="functions" aria-labelledby="functions-title">
 <h2 id="functions-title">Functions</h2>
-<select id="functions-of" aria-label="Which weights are compared" hidden>
-<option value="own">own weights</option>
-<option value="total">total weights</option>
-</select>
 <table aria-labelledby="functions-title">
-<thead><tr>
+<thead>
+<tr>
 <th scope="col" data-key="name"><button type="button">Name</button></th>
 <th scope="col" colspan="2" data-key="own"><button type="button">Own</button></th>
 <th scope="col" colspan="2" data-key="total"><button type="button">Total</button></th>
-<th scope="col" data-key="before" data-of="compare" hidden><button type="button">Before</button></th>
-<th scope="col" data-key="after" data-of="compare" hidden><button type="button">After</button></th>
-<th scope="col" data-key="change" data-of="compare" hidden><button type="button">Change</button></th>
-<th scope="col" data-key="percent" data-of="compare" hidden><button type="button">%</button></th>
-</tr></thead>
+</tr>
+<tr class="of-comparison">
+<th scope="col" rowspan="3" data-key="name"><button type="button">Name</button></th>
+<th scope="colgroup" colspan="3"><span>Own</span></th>
+<th scope="colgroup" colspan="3"><span>Total</span></th>
+</tr>
+<tr class="of-comparison">
+<th scope="col" class="before" rowspan="2" data-key="own-before"><button type="button" aria-label="own before">Before</button></th>
+<th scope="col" class="after" rowspan="2" data-key="own-after"><button type="button" aria-label="own after">After</button></th>
+<th scope="col" class="change" data-key="own-change"><button type="button" aria-label="own change">Change</button></th>
+<th scope="col" class="before" rowspan="2" data-key="total-before"><button type="button" aria-label="total before">Before</button></th>
+<th scope="col" class="after" rowspan="2" data-key="total-after"><button type="button" aria-label="total after">After</button></th>
+<th scope="col" class="change" data-key="total-change"><button type="button" aria-label="total change">Change</button></th>
+</tr>
+<tr class="of-comparison">
+<th scope="col" class="change" data-key="own-percent"><button type="button" aria-label="own change in %">%</button></th>
+<th scope="col" class="change" data-key="total-percent"><button type="button" aria-label="total change in %">%</button></th>
+</tr>
+</thead>
 <tbody></tbody>
 </table>
 <button type="button" id="functions-more" hidden>Show more</button>

@@ -1,5 +1,5 @@
-//! What `page/join` takes of page/bisect.js, columns.js, rows.js, drawing.js, spans.js, sums.js,
-//! beside.js, heaviest.js, callers.js, names.js. `checks/page_source --write` makes this file.
+//! What `page/join` takes of page/bisect.js, columns.js, rows.js, drawing.js, spans.js, search.js,
+//! view.js, sums.js, beside.js, heaviest.js. `checks/page_source --write` makes this file.
 
 pub(crate) const TEXT: &str = r##"function firstPlace(low, high, holds) {
 while (low < high) {
@@ -244,6 +244,103 @@ return page.sources
 .map((source, number) => ({ source, number, ...edgesOf(source.start, source.start + source.weight, span, width) }))
 .filter(({ left, right }) => right > left);
 }
+function isEitherCase(find, by) {
+return by === 'text' && find === find.toLowerCase();
+}
+function nameTest(find, by) {
+if (by === 'name') return (name) => name === find;
+const text = by === 'text' ? find.replace(/[\\^$.*+?()[\]{}|/]/g, '\\$&') : find;
+const flags = isEitherCase(find, by) ? 'iu' : 'u';
+try {
+const expression = new RegExp(text, flags);
+return (name) => expression.test(name);
+} catch {
+return null;
+}
+}
+function nameMatcher(names) {
+let asked = '';
+let matching = null;
+return (find, by) => {
+const key = `${by} ${find}`;
+if (key !== asked) {
+const test = nameTest(find, by);
+asked = key;
+matching = test && Uint8Array.from(names, (name) => Number(test(name)));
+}
+return matching;
+};
+}
+function matchesOf(drawing, matching) {
+const boxes = [];
+let weight = 0;
+let covered = 0;
+for (let box = 0; box < drawing.count; box++) {
+if (!matching[drawing.name[box]] || isRoot(drawing, box)) continue;
+boxes.push(box);
+if (box < covered) continue;
+covered = drawing.end[box];
+weight += drawing.weight[box];
+}
+return {
+boxes,
+weight,
+rows: rowsOf(drawing.row, drawing.rowCount, boxes),
+isMatch: (box) => !isRoot(drawing, box) && matching[drawing.name[box]] === 1,
+};
+}
+function matchesIn(matches, drawing, place) {
+const { first, order } = matches.rows;
+const row = drawing.row[place.box];
+const firstFrom = (box) => firstPlace(first[row], first[row + 1], (at) => order[at] >= box);
+return firstFrom(drawing.rows.order[place.at + place.count - 1] + 1) - firstFrom(place.box);
+}
+function neighbourMatch(matches, box, isForward) {
+const { boxes } = matches;
+if (boxes.length === 0) return -1;
+if (isForward) return boxes[firstPlace(0, boxes.length, (place) => boxes[place] > box) % boxes.length];
+const place = firstPlace(0, boxes.length, (each) => boxes[each] >= box);
+return boxes[(place + boxes.length - 1) % boxes.length];
+}
+function neighbourByWeight(matches, drawing, box, isForward) {
+const { boxes, isMatch } = matches;
+if (boxes.length === 0) return -1;
+const compare = (one, other) => drawing.weight[other] - drawing.weight[one] || one - other;
+const heaviest = boxes.slice().sort(compare);
+const at = isMatch(box) ? firstPlace(0, heaviest.length, (place) => compare(heaviest[place], box) >= 0) : isForward ? -1 : 0;
+return heaviest[(at + (isForward ? 1 : -1) + heaviest.length) % heaviest.length];
+}
+function searched(matching, drawing, state, old) {
+if (state.find === '') return { matches: null, isRefused: false };
+const isSame = old && old.drawing === drawing && old.state.find === state.find && old.state.by === state.by;
+if (isSame && old.matches) return { matches: old.matches, isRefused: false };
+const names = matching(state.find, state.by);
+return { matches: names && matchesOf(drawing, names), isRefused: !names };
+}
+function viewOf(page, matching, state, old) {
+const drawing = page.arranged(state);
+const isShare = state.share;
+return { page, state, drawing, span: spanOf(page, drawing, state), isShare, ...searched(matching, drawing, state, old) };
+}
+const UNZOOMED = { source: -1, box: 0, from: -1, to: -1 };
+function isZoomed({ state }) {
+return state.box > 0 || state.source >= 0 || state.from >= 0;
+}
+function wholeOf(view) {
+if (view.state.callers < 0) return view;
+const { page, isShare } = view;
+const state = { ...view.state, callers: -1, heavy: false, beside: false, ...UNZOOMED, focus: 0 };
+const drawing = page.drawing(state.drawing);
+return { page, state, drawing, span: spanOf(page, drawing, state), isShare, matches: null, isRefused: view.isRefused };
+}
+function isOther(old, view) {
+const isSamePart = old.drawing === view.drawing && old.span.from === view.span.from && old.span.to === view.span.to && old.span.depth === view.span.depth;
+return !isSamePart || old.matches !== view.matches || old.isShare !== view.isShare;
+}
+function isElsewhere(old, { drawing, state }) {
+const isOtherBand = isBeside(drawing) && old.state.source !== state.source;
+return isOtherBand || old.state.box !== state.box || old.drawing !== drawing;
+}
 function ownInSpan(drawing, box, span) {
 const own = drawing.own[box];
 let rest = weightInSpan(drawing, box, span);
@@ -266,6 +363,11 @@ covered[name] = drawing.end[box];
 total[name] += weightInSpan(drawing, box, span);
 }
 return { own, total };
+}
+function zoomedPart(view) {
+const { page, drawing, span } = view;
+const whole = isZoomed(view) ? zoomedWeight(drawing, span.row, span) : drawing.total;
+return { ...sumsOf(drawing, page.names.length, span), whole };
 }
 function boxesIn(chart, { from, to }) {
 const first = firstPlace(0, chart.count, (box) => chart.start[box] >= from);
@@ -355,123 +457,5 @@ weight: weights(drawing.weight),
 own: weights(drawing.own),
 other: drawing.other && weights(drawing.other),
 });
-}
-class Paths {
-constructor(nameCount) {
-this.nameCount = nameCount;
-this.numbers = new Map();
-this.parent = [];
-this.name = [];
-this.depth = [];
-this.weight = [];
-this.own = [];
-}
-find(parent, name) {
-return this.numbers.get((parent + 1) * this.nameCount + name) ?? -1;
-}
-add(parent, name, weight, own) {
-let path = this.find(parent, name);
-if (path < 0) {
-path = this.parent.push(parent) - 1;
-this.numbers.set((parent + 1) * this.nameCount + name, path);
-this.name.push(name);
-this.depth.push(parent < 0 ? 0 : this.depth[parent] + 1);
-this.weight.push(0);
-this.own.push(0);
-}
-this.weight[path] += weight;
-this.own[path] += own;
-return path;
-}
-}
-function addCallers(callers, drawing, box) {
-let path = -1;
-for (let each = box; drawing.depth[each] > 0; each = drawing.parent[each]) {
-path = callers.add(path, drawing.name[each], drawing.weight[box], 0);
-}
-}
-function addCallees(callees, drawing, box) {
-const open = [];
-for (let each = box; each < drawing.end[box]; each++) {
-const depth = drawing.depth[each] - drawing.depth[box];
-open[depth] = callees.add(depth === 0 ? -1 : open[depth - 1], drawing.name[each], drawing.weight[each], drawing.own[each]);
-}
-}
-function pathsFrom(drawing, name, nameCount) {
-const [callers, callees] = [new Paths(nameCount), new Paths(nameCount)];
-for (let box = 0; box < drawing.count; ) {
-if (drawing.depth[box] === 0 || drawing.name[box] !== name) {
-box++;
-continue;
-}
-addCallers(callers, drawing, box);
-addCallees(callees, drawing, box);
-box = drawing.end[box];
-}
-return { callers, callees };
-}
-function weightsThere(paths, others) {
-const found = [];
-return paths.parent.map((parent, path) => {
-const isLost = parent >= 0 && found[parent] < 0;
-found[path] = isLost ? -1 : others.find(parent < 0 ? -1 : found[parent], paths.name[path]);
-return found[path] < 0 ? 0 : others.weight[found[path]];
-});
-}
-function sideOf(paths, others) {
-const { order, start } = heaviestFirst(paths.parent, paths.weight);
-const ordered = (column) => Array.from(order, (path) => column[path]);
-return {
-depth: ordered(paths.depth),
-name: ordered(paths.name),
-start: ordered(start),
-weight: ordered(paths.weight),
-own: ordered(paths.own),
-other: others && ordered(weightsThere(paths, others)),
-};
-}
-function callersOf(drawing, there, name, nameCount) {
-const paths = pathsFrom(drawing, name, nameCount);
-const others = there && pathsFrom(there, name, nameCount);
-const callers = sideOf(paths.callers, others && others.callers);
-const callees = sideOf(paths.callees, others && others.callees);
-const joined = (above, below) => below.slice(0, 1).concat(above.slice(1), below.slice(1));
-const centreRow = callers.depth.reduce((most, depth) => Math.max(most, depth), 0);
-const rows = joined(callers.depth.map((depth) => centreRow - depth), callees.depth.map((depth) => centreRow + depth));
-const isCompared = callers.other !== null && callees.other !== null;
-return drawingWith({ ...drawing, centre: name, callees: Math.max(1, callers.depth.length) }, {
-depth: new Int32Array(joined(callers.depth, callees.depth)),
-row: new Int32Array(rows),
-name: new Int32Array(joined(callers.name, callees.name)),
-start: new Float64Array(joined(callers.start, callees.start)),
-weight: new Float64Array(joined(callers.weight, callees.weight)),
-own: new Float64Array(joined(callers.own, callees.own)),
-other: isCompared ? new Float64Array(joined(callers.other || [], callees.other || [])) : null,
-});
-}
-const UNSEEN = /[\u0000-\u001f\u007f-\u009f\u00ad\u061c\u180e\u200b\u200e\u200f\u2028-\u202e\u2060-\u206f\ufeff\ufff9-\ufffb\ufffe\uffff]/g;
-function hexadecimal(character) {
-return `[U+${character.charCodeAt(0).toString(16).toUpperCase().padStart(4, '0')}]`;
-}
-function visible(text) {
-return text.replace(UNSEEN, hexadecimal);
-}
-function beginning(text, most) {
-if (text.length <= most) return text;
-const last = text.charCodeAt(most - 1);
-return text.slice(0, last >= 0xd800 && last < 0xdc00 ? most - 1 : most);
-}
-function shortened(text, most) {
-const first = beginning(text, most);
-return visible(first) + (first.length < text.length ? '\u2026' : '');
-}
-function described(text) {
-const most = 1500;
-if (text === '') return '(empty name)';
-if (text.length <= most) return visible(text);
-return `${shortened(text, most)} (${text.length.toLocaleString('en')} characters)`;
-}
-function nameText(text) {
-return shortened(text, 200) || '(empty name)';
 }
 "##;

@@ -1,8 +1,125 @@
-//! What `page/join` takes of page/units.js, data.js, elements.js, gone.js, places.js, describe.js,
-//! focus.js, lists.js. `checks/page_source --write` makes this file.
+//! What `page/join` takes of page/callers.js, names.js, units.js, data.js, elements.js, gone.js,
+//! places.js, describe.js. `checks/page_source --write` makes this file.
 
-pub(crate) const TEXT: &str =
-    r##"const SECONDS = { nanoseconds: 1e-9, microseconds: 1e-6, milliseconds: 1e-3, seconds: 1 };
+pub(crate) const TEXT: &str = r##"class Paths {
+constructor(nameCount) {
+this.nameCount = nameCount;
+this.numbers = new Map();
+this.parent = [];
+this.name = [];
+this.depth = [];
+this.weight = [];
+this.own = [];
+}
+find(parent, name) {
+return this.numbers.get((parent + 1) * this.nameCount + name) ?? -1;
+}
+add(parent, name, weight, own) {
+let path = this.find(parent, name);
+if (path < 0) {
+path = this.parent.push(parent) - 1;
+this.numbers.set((parent + 1) * this.nameCount + name, path);
+this.name.push(name);
+this.depth.push(parent < 0 ? 0 : this.depth[parent] + 1);
+this.weight.push(0);
+this.own.push(0);
+}
+this.weight[path] += weight;
+this.own[path] += own;
+return path;
+}
+}
+function addCallers(callers, drawing, box) {
+let path = -1;
+for (let each = box; drawing.depth[each] > 0; each = drawing.parent[each]) {
+path = callers.add(path, drawing.name[each], drawing.weight[box], 0);
+}
+}
+function addCallees(callees, drawing, box) {
+const open = [];
+for (let each = box; each < drawing.end[box]; each++) {
+const depth = drawing.depth[each] - drawing.depth[box];
+open[depth] = callees.add(depth === 0 ? -1 : open[depth - 1], drawing.name[each], drawing.weight[each], drawing.own[each]);
+}
+}
+function pathsFrom(drawing, name, nameCount) {
+const [callers, callees] = [new Paths(nameCount), new Paths(nameCount)];
+for (let box = 0; box < drawing.count; ) {
+if (drawing.depth[box] === 0 || drawing.name[box] !== name) {
+box++;
+continue;
+}
+addCallers(callers, drawing, box);
+addCallees(callees, drawing, box);
+box = drawing.end[box];
+}
+return { callers, callees };
+}
+function weightsThere(paths, others) {
+const found = [];
+return paths.parent.map((parent, path) => {
+const isLost = parent >= 0 && found[parent] < 0;
+found[path] = isLost ? -1 : others.find(parent < 0 ? -1 : found[parent], paths.name[path]);
+return found[path] < 0 ? 0 : others.weight[found[path]];
+});
+}
+function sideOf(paths, others) {
+const { order, start } = heaviestFirst(paths.parent, paths.weight);
+const ordered = (column) => Array.from(order, (path) => column[path]);
+return {
+depth: ordered(paths.depth),
+name: ordered(paths.name),
+start: ordered(start),
+weight: ordered(paths.weight),
+own: ordered(paths.own),
+other: others && ordered(weightsThere(paths, others)),
+};
+}
+function callersOf(drawing, there, name, nameCount) {
+const paths = pathsFrom(drawing, name, nameCount);
+const others = there && pathsFrom(there, name, nameCount);
+const callers = sideOf(paths.callers, others && others.callers);
+const callees = sideOf(paths.callees, others && others.callees);
+const joined = (above, below) => below.slice(0, 1).concat(above.slice(1), below.slice(1));
+const centreRow = callers.depth.reduce((most, depth) => Math.max(most, depth), 0);
+const rows = joined(callers.depth.map((depth) => centreRow - depth), callees.depth.map((depth) => centreRow + depth));
+const isCompared = callers.other !== null && callees.other !== null;
+return drawingWith({ ...drawing, centre: name, callees: Math.max(1, callers.depth.length) }, {
+depth: new Int32Array(joined(callers.depth, callees.depth)),
+row: new Int32Array(rows),
+name: new Int32Array(joined(callers.name, callees.name)),
+start: new Float64Array(joined(callers.start, callees.start)),
+weight: new Float64Array(joined(callers.weight, callees.weight)),
+own: new Float64Array(joined(callers.own, callees.own)),
+other: isCompared ? new Float64Array(joined(callers.other || [], callees.other || [])) : null,
+});
+}
+const UNSEEN = /[\u0000-\u001f\u007f-\u009f\u00ad\u061c\u180e\u200b\u200e\u200f\u2028-\u202e\u2060-\u206f\ufeff\ufff9-\ufffb\ufffe\uffff]/g;
+function hexadecimal(character) {
+return `[U+${character.charCodeAt(0).toString(16).toUpperCase().padStart(4, '0')}]`;
+}
+function visible(text) {
+return text.replace(UNSEEN, hexadecimal);
+}
+function beginning(text, most) {
+if (text.length <= most) return text;
+const last = text.charCodeAt(most - 1);
+return text.slice(0, last >= 0xd800 && last < 0xdc00 ? most - 1 : most);
+}
+function shortened(text, most) {
+const first = beginning(text, most);
+return visible(first) + (first.length < text.length ? '\u2026' : '');
+}
+function described(text) {
+const most = 1500;
+if (text === '') return '(empty name)';
+if (text.length <= most) return visible(text);
+return `${shortened(text, most)} (${text.length.toLocaleString('en')} characters)`;
+}
+function nameText(text) {
+return shortened(text, 200) || '(empty name)';
+}
+const SECONDS = { nanoseconds: 1e-9, microseconds: 1e-6, milliseconds: 1e-3, seconds: 1 };
 const BYTES = { bytes: 1, kilobytes: 1024, megabytes: 1024 ** 2, gigabytes: 1024 ** 3 };
 const TIME_STEPS = [[1, 's'], [1e-3, 'ms'], [1e-6, '\u00b5s'], [1e-9, 'ns']];
 const BYTE_STEPS = [[1024 ** 4, 'TiB'], [1024 ** 3, 'GiB'], [1024 ** 2, 'MiB'], [1024, 'KiB'], [1, 'B']];
@@ -338,117 +455,5 @@ const much = weightDetail(seen, drawing.row[box], drawing.weight[box], weightInS
 const title = [nameText(nameOf(page, drawing, box)), much];
 if (drawing.other) title.push(changeDetail(seen, box, weightText));
 return title.join(' \u00b7 ');
-}
-const NARROWEST_RING = 4;
-function placeInRow(drawing, box) {
-const { first, order } = drawing.rows;
-const row = drawing.row[box];
-return firstPlace(first[row], first[row + 1], (at) => order[at] >= box);
-}
-class Ring {
-constructor(picture) {
-this.picture = picture;
-this.rings = [element('ring-0'), element('ring-1')];
-this.used = 0;
-this.shown = '';
-}
-show(view) {
-const { picture, rings } = this;
-if (view.drawing.count === 0 || !isInSpan(view.drawing, view.state.focus, view.span)) {
-for (const ring of rings) ring.hidden = true;
-picture.removeAttribute('aria-activedescendant');
-return;
-}
-const text = boxLine(view, view.state.focus);
-if (text !== this.shown) {
-rings[this.used].hidden = true;
-this.used = 1 - this.used;
-this.shown = text;
-}
-const ring = rings[this.used];
-this.place(ring, view);
-this.label(ring, view, text);
-ring.hidden = false;
-picture.setAttribute('aria-activedescendant', ring.id);
-}
-place(ring, view) {
-const { drawing, span, state } = view;
-const { focus } = state;
-const row = drawing.row[focus];
-const seen = spanOfRow(drawing, row, span);
-const { left, right } = edgesOf(drawing.start[focus], endOf(drawing, focus), seen, this.picture.clientWidth);
-ring.style.left = `${left}px`;
-ring.style.width = `${Math.max(right - left, NARROWEST_RING)}px`;
-ring.style.top = `${rowTop(drawing.rowCount, row, state.below)}px`;
-ring.style.height = `${ROW_HEIGHT}px`;
-}
-label(ring, view, text) {
-const { drawing, state } = view;
-const row = drawing.row[state.focus];
-const [first, stop] = [drawing.rows.first[row], drawing.rows.first[row + 1]];
-ring.setAttribute('aria-label', text);
-ring.setAttribute('aria-level', String(row - (bandOf(drawing, row)?.row || 0) + 1));
-ring.setAttribute('aria-setsize', String(stop - first));
-ring.setAttribute('aria-posinset', String(placeInRow(drawing, state.focus) - first + 1));
-ring.setAttribute('aria-selected', 'true');
-}
-}
-function focusIn(drawing, { source, box }, asked) {
-const inside = { first: box, end: box === 0 ? drawing.count : drawing.end[box] };
-const { first, end } = drawing.bands.find((band) => band.source === source) || inside;
-return asked >= first && asked < end ? asked : first;
-}
-function focusedFunction({ drawing, state }) {
-if (drawing.count === 0 || isRoot(drawing, state.focus)) return -1;
-const name = drawing.name[state.focus];
-return name === state.callers ? -1 : name;
-}
-function boxByKey(view, key) {
-const { drawing, span, state } = view;
-const box = state.focus;
-const row = drawing.row[box];
-const { from, to } = inRow(drawing, row, span);
-const seen = (at) => (at >= from && at < to ? drawing.rows.order[at] : -1);
-if (sourceOf(drawing, box) >= 0 && !/Up|Down/.test(key)) return rootBeside(view, key);
-const behind = state.below ? 'ArrowUp' : 'ArrowDown';
-if (key === 'ArrowUp' || key === 'ArrowDown') return boxBeside(drawing, box, span, key === behind ? row + 1 : row - 1);
-if (key === 'ArrowLeft') return seen(placeInRow(drawing, box) - 1);
-if (key === 'ArrowRight') return seen(placeInRow(drawing, box) + 1);
-if (key === 'Home') return seen(from);
-if (key === 'End') return seen(to - 1);
-return -1;
-}
-function rootBeside({ drawing, span, state }, key) {
-const roots = drawing.bands.map(({ first }) => first).filter((each) => isInSpan(drawing, each, span));
-const at = roots.indexOf(state.focus);
-const wanted = { ArrowLeft: at - 1, ArrowRight: at + 1, Home: 0, End: roots.length - 1 }[key] ?? -1;
-return roots[wanted] ?? -1;
-}
-function boxBeside(drawing, box, span, row) {
-const on = drawing.parent[box];
-if (on >= 0 && drawing.row[on] === row) return on;
-let found = -1;
-for (let each = box + 1; each < drawing.end[box]; each = drawing.end[each]) {
-if (drawing.row[each] !== row || !isInSpan(drawing, each, span)) continue;
-if (found < 0 || drawing.weight[each] > drawing.weight[found]) found = each;
-}
-return found;
-}
-const CLOSED_BELOW = 120;
-function showLists(width) {
-const main = inside(document, 'main');
-const divider = element('divider');
-element('lists').hidden = width === 0;
-divider.hidden = width === 0;
-input('listed').checked = width !== 0;
-if (width > 0) main.style.setProperty('--lists', `${width}px`);
-else main.style.removeProperty('--lists');
-divider.setAttribute('aria-valuenow', String(listsWidth()));
-}
-function listsWidth() {
-return element('lists').offsetWidth;
-}
-function draggedWidth(dragged) {
-return dragged < CLOSED_BELOW ? 0 : Math.round(dragged);
 }
 "##;

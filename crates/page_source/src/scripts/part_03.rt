@@ -1,7 +1,119 @@
-//! What `page/join` takes of page/map.js, lettering.js, axis.js, short.js, colours.js, search.js,
-//! scene.js, canvas.js. `checks/page_source --write` makes this file.
+//! What `page/join` takes of page/focus.js, lists.js, map.js, lettering.js, axis.js, short.js,
+//! colours.js. `checks/page_source --write` makes this file.
 
-pub(crate) const TEXT: &str = r##"const BY_WHEEL = 0.002;
+pub(crate) const TEXT: &str = r##"const NARROWEST_RING = 4;
+function placeInRow(drawing, box) {
+const { first, order } = drawing.rows;
+const row = drawing.row[box];
+return firstPlace(first[row], first[row + 1], (at) => order[at] >= box);
+}
+class Ring {
+constructor(picture) {
+this.picture = picture;
+this.rings = [element('ring-0'), element('ring-1')];
+this.used = 0;
+this.shown = '';
+}
+show(view) {
+const { picture, rings } = this;
+if (view.drawing.count === 0 || !isInSpan(view.drawing, view.state.focus, view.span)) {
+for (const ring of rings) ring.hidden = true;
+picture.removeAttribute('aria-activedescendant');
+return;
+}
+const text = boxLine(view, view.state.focus);
+if (text !== this.shown) {
+rings[this.used].hidden = true;
+this.used = 1 - this.used;
+this.shown = text;
+}
+const ring = rings[this.used];
+this.place(ring, view);
+this.label(ring, view, text);
+ring.hidden = false;
+picture.setAttribute('aria-activedescendant', ring.id);
+}
+place(ring, view) {
+const { drawing, span, state } = view;
+const { focus } = state;
+const row = drawing.row[focus];
+const seen = spanOfRow(drawing, row, span);
+const { left, right } = edgesOf(drawing.start[focus], endOf(drawing, focus), seen, this.picture.clientWidth);
+ring.style.left = `${left}px`;
+ring.style.width = `${Math.max(right - left, NARROWEST_RING)}px`;
+ring.style.top = `${rowTop(drawing.rowCount, row, state.below)}px`;
+ring.style.height = `${ROW_HEIGHT}px`;
+}
+label(ring, view, text) {
+const { drawing, state } = view;
+const row = drawing.row[state.focus];
+const [first, stop] = [drawing.rows.first[row], drawing.rows.first[row + 1]];
+ring.setAttribute('aria-label', text);
+ring.setAttribute('aria-level', String(row - (bandOf(drawing, row)?.row || 0) + 1));
+ring.setAttribute('aria-setsize', String(stop - first));
+ring.setAttribute('aria-posinset', String(placeInRow(drawing, state.focus) - first + 1));
+ring.setAttribute('aria-selected', 'true');
+}
+}
+function focusIn(drawing, { source, box }, asked) {
+const inside = { first: box, end: box === 0 ? drawing.count : drawing.end[box] };
+const { first, end } = drawing.bands.find((band) => band.source === source) || inside;
+return asked >= first && asked < end ? asked : first;
+}
+function focusedFunction({ drawing, state }) {
+if (drawing.count === 0 || isRoot(drawing, state.focus)) return -1;
+const name = drawing.name[state.focus];
+return name === state.callers ? -1 : name;
+}
+function boxByKey(view, key) {
+const { drawing, span, state } = view;
+const box = state.focus;
+const row = drawing.row[box];
+const { from, to } = inRow(drawing, row, span);
+const seen = (at) => (at >= from && at < to ? drawing.rows.order[at] : -1);
+if (sourceOf(drawing, box) >= 0 && !/Up|Down/.test(key)) return rootBeside(view, key);
+const behind = state.below ? 'ArrowUp' : 'ArrowDown';
+if (key === 'ArrowUp' || key === 'ArrowDown') return boxBeside(drawing, box, span, key === behind ? row + 1 : row - 1);
+if (key === 'ArrowLeft') return seen(placeInRow(drawing, box) - 1);
+if (key === 'ArrowRight') return seen(placeInRow(drawing, box) + 1);
+if (key === 'Home') return seen(from);
+if (key === 'End') return seen(to - 1);
+return -1;
+}
+function rootBeside({ drawing, span, state }, key) {
+const roots = drawing.bands.map(({ first }) => first).filter((each) => isInSpan(drawing, each, span));
+const at = roots.indexOf(state.focus);
+const wanted = { ArrowLeft: at - 1, ArrowRight: at + 1, Home: 0, End: roots.length - 1 }[key] ?? -1;
+return roots[wanted] ?? -1;
+}
+function boxBeside(drawing, box, span, row) {
+const on = drawing.parent[box];
+if (on >= 0 && drawing.row[on] === row) return on;
+let found = -1;
+for (let each = box + 1; each < drawing.end[box]; each = drawing.end[each]) {
+if (drawing.row[each] !== row || !isInSpan(drawing, each, span)) continue;
+if (found < 0 || drawing.weight[each] > drawing.weight[found]) found = each;
+}
+return found;
+}
+const CLOSED_BELOW = 120;
+function showLists(width) {
+const main = inside(document, 'main');
+const divider = element('divider');
+element('lists').hidden = width === 0;
+divider.hidden = width === 0;
+input('listed').checked = width !== 0;
+if (width > 0) main.style.setProperty('--lists', `${width}px`);
+else main.style.removeProperty('--lists');
+divider.setAttribute('aria-valuenow', String(listsWidth()));
+}
+function listsWidth() {
+return element('lists').offsetWidth;
+}
+function draggedWidth(dragged) {
+return dragged < CLOSED_BELOW ? 0 : Math.round(dragged);
+}
+const BY_WHEEL = 0.002;
 const BY_TOUCHPAD = 0.01;
 const WHEEL_UNITS = [1, 16, 400];
 const KEYS = { '+': 1 / 1.5, '=': 1 / 1.5, '-': 1.5, '<': -0.25, '>': 0.25 };
@@ -292,206 +404,5 @@ return (name) => {
 if (shades[name] < 0) shades[name] = shadeOf(names[name]);
 return shades[name];
 };
-}
-function isEitherCase(find, by) {
-return by === 'text' && find === find.toLowerCase();
-}
-function nameTest(find, by) {
-if (by === 'name') return (name) => name === find;
-const text = by === 'text' ? find.replace(/[\\^$.*+?()[\]{}|/]/g, '\\$&') : find;
-const flags = isEitherCase(find, by) ? 'iu' : 'u';
-try {
-const expression = new RegExp(text, flags);
-return (name) => expression.test(name);
-} catch {
-return null;
-}
-}
-function nameMatcher(names) {
-let asked = '';
-let matching = null;
-return (find, by) => {
-const key = `${by} ${find}`;
-if (key !== asked) {
-const test = nameTest(find, by);
-asked = key;
-matching = test && Uint8Array.from(names, (name) => Number(test(name)));
-}
-return matching;
-};
-}
-function matchesOf(drawing, matching) {
-const boxes = [];
-let weight = 0;
-let covered = 0;
-for (let box = 0; box < drawing.count; box++) {
-if (!matching[drawing.name[box]] || isRoot(drawing, box)) continue;
-boxes.push(box);
-if (box < covered) continue;
-covered = drawing.end[box];
-weight += drawing.weight[box];
-}
-return {
-boxes,
-weight,
-rows: rowsOf(drawing.row, drawing.rowCount, boxes),
-isMatch: (box) => !isRoot(drawing, box) && matching[drawing.name[box]] === 1,
-};
-}
-function matchesIn(matches, drawing, place) {
-const { first, order } = matches.rows;
-const row = drawing.row[place.box];
-const firstFrom = (box) => firstPlace(first[row], first[row + 1], (at) => order[at] >= box);
-return firstFrom(drawing.rows.order[place.at + place.count - 1] + 1) - firstFrom(place.box);
-}
-function neighbourMatch(matches, box, isForward) {
-const { boxes } = matches;
-if (boxes.length === 0) return -1;
-if (isForward) return boxes[firstPlace(0, boxes.length, (place) => boxes[place] > box) % boxes.length];
-const place = firstPlace(0, boxes.length, (each) => boxes[each] >= box);
-return boxes[(place + boxes.length - 1) % boxes.length];
-}
-function neighbourByWeight(matches, drawing, box, isForward) {
-const { boxes, isMatch } = matches;
-if (boxes.length === 0) return -1;
-const compare = (one, other) => drawing.weight[other] - drawing.weight[one] || one - other;
-const heaviest = boxes.slice().sort(compare);
-const at = isMatch(box) ? firstPlace(0, heaviest.length, (place) => compare(heaviest[place], box) >= 0) : isForward ? -1 : 0;
-return heaviest[(at + (isForward ? 1 : -1) + heaviest.length) % heaviest.length];
-}
-const LANE_HEIGHT = 22;
-const AXIS_HEIGHT = 16;
-const TICK_HEIGHT = 12;
-const TEXT_FROM = 20;
-function coloursFor(scene, box) {
-const { drawing, colours, span, matches } = scene;
-if (matches && matches.isMatch(box)) return { fill: colours.match, ink: colours.matchInk };
-if (matches || drawing.depth[box] < spanOfRow(drawing, drawing.row[box], span).depth) return { fill: colours.dim, ink: colours.dimInk };
-if (drawing.other) {
-const { before, after } = comparedOf(scene.page, scene.isShare, bothWeights(drawing, box));
-return { fill: colours.changes[changeShade(before, after)], ink: colours.ink };
-}
-if (drawing.depth[box] === 0) return { fill: colours.root, ink: colours.ink };
-return { fill: colours.plain[scene.shadeOf(drawing.name[box])], ink: colours.ink };
-}
-function joinedFill({ drawing, colours, matches }, place) {
-if (!matches) return colours.joined;
-const matching = matchesIn(matches, drawing, place);
-if (matching === 0) return colours.dim;
-return matching === place.count ? colours.match : colours.joinedMatch;
-}
-function addedText(scene, box) {
-if (!scene.drawing.other) return '';
-const { before, after } = comparedOf(scene.page, scene.isShare, bothWeights(scene.drawing, box));
-return changeText(before, after);
-}
-function paintPlace(painter, scene, place, top) {
-const { box, left, right, begin, end } = place;
-if (isJoined(place)) {
-painter.rectangle(begin, top, end - begin, ROW_HEIGHT - 1, joinedFill(scene, place));
-return;
-}
-const { fill, ink } = coloursFor(scene, box);
-painter.rectangle(begin, top, end - begin, ROW_HEIGHT - 1, fill);
-if (right - left < TEXT_FROM || sourceOf(scene.drawing, box) >= 0) return;
-const text = scene.lettering.textFor(scene.drawing.name[box], addedText(scene, box), right - left);
-if (text) painter.text(left + PAD, top + ROW_HEIGHT / 2, text, ink);
-}
-function paintSource(painter, scene, row, top) {
-const band = bandOf(scene.drawing, row);
-if (!band || band.row !== row) return;
-const text = scene.sourceLettering.textFor(band.source, '', scene.width);
-if (text) painter.text(PAD, top + ROW_HEIGHT / 2, text, coloursFor(scene, band.first).ink);
-}
-function paintRow(painter, scene, row) {
-const top = scene.lanes + rowTop(scene.rowCount, row, scene.below) - scene.top;
-if (top >= scene.lanes + scene.height) return;
-for (const place of placesOf(scene.drawing, row, scene.span, scene.width)) {
-painter.entitled(() => placeTitle(scene, place), () => paintPlace(painter, scene, place, top));
-}
-paintSource(painter, scene, row, top);
-}
-function paintBoundaries(painter, scene) {
-if (!isTimeline(scene.page, scene.drawing) || isBeside(scene.drawing)) return;
-const { span, width, lanes } = scene;
-for (const source of scene.page.sources.slice(1)) {
-if (source.start <= span.from || source.start >= span.to) continue;
-painter.upright(((source.start - span.from) * width) / (span.to - span.from), lanes, scene.height, scene.colours.line);
-}
-}
-function paintLanes(painter, scene) {
-for (const { number, left, right } of lanesOf(scene.page, scene.drawing, scene.span, scene.width)) {
-painter.rectangle(left, 0, Math.max(right - left - 1, 0.3), LANE_HEIGHT - 2, scene.colours.dim);
-const text = scene.sourceLettering.textFor(number, '', right - left);
-if (text) painter.text(left + PAD, LANE_HEIGHT / 2, text, scene.colours.ink);
-}
-}
-function paintAxis(painter, scene) {
-const top = scene.lanes - AXIS_HEIGHT;
-for (const { left, text } of ticksOf(scene.page, scene.drawing, scene.span, scene.width)) {
-painter.upright(left, top, TICK_HEIGHT, scene.colours.line);
-painter.text(left + PAD, top + TICK_HEIGHT / 2, text, scene.colours.ink);
-}
-}
-function lanesHeight(page, drawing) {
-if (!isTimeline(page, drawing)) return 0;
-return isBeside(drawing) ? AXIS_HEIGHT : LANE_HEIGHT + AXIS_HEIGHT;
-}
-function paintScene(painter, scene) {
-const { rowCount, below, top, lanes } = scene;
-painter.rectangle(0, 0, scene.width, lanes + scene.height, scene.colours.paper);
-if (lanes > 0) {
-paintLanes(painter, scene);
-paintAxis(painter, scene);
-}
-const rows = [rowAt(rowCount, top, below), rowAt(rowCount, top + scene.height, below)];
-const last = Math.min(rowCount - 1, Math.max(...rows));
-for (let row = Math.max(0, Math.min(...rows)); row <= last; row++) paintRow(painter, scene, row);
-paintBoundaries(painter, scene);
-}
-class CanvasPainter {
-constructor() {
-this.boxes = new Map();
-this.texts = [];
-this.lines = [];
-}
-rectangle(left, top, width, height, fill) {
-const sides = this.boxes.get(fill);
-if (sides) sides.push(left, top, width, height);
-else this.boxes.set(fill, [left, top, width, height]);
-}
-text(left, middle, text, ink) {
-this.texts.push({ left, middle, text, ink });
-}
-upright(left, top, height, colour) {
-this.lines.push({ left, top, height, colour });
-}
-entitled(titleOf, paint) {
-paint();
-}
-finish(context) {
-for (const [fill, sides] of this.boxes) {
-context.fillStyle = fill;
-for (let at = 0; at < sides.length; at += 4) context.fillRect(sides[at], sides[at + 1], sides[at + 2], sides[at + 3]);
-}
-context.font = FONT;
-context.textBaseline = 'middle';
-context.direction = 'ltr';
-for (const { left, middle, text, ink } of this.texts) {
-context.fillStyle = ink;
-context.fillText(text, left, middle);
-}
-for (const { left, top, height, colour } of this.lines) {
-context.fillStyle = colour;
-context.fillRect(Math.round(left), top, 1, height);
-}
-}
-}
-function paintOnCanvas(canvas, scene, dots) {
-const context = contextOf(canvas);
-context.setTransform(dots, 0, 0, dots, 0, 0);
-const painter = new CanvasPainter();
-paintScene(painter, scene);
-painter.finish(context);
 }
 "##;

@@ -1,7 +1,142 @@
-//! What `page/join` takes of page/notices.js, svg.js, saving.js, listening.js, address.js.
+//! What `page/join` takes of page/scene.js, canvas.js, notices.js, svg.js, saving.js, listening.js.
 //! `checks/page_source --write` makes this file.
 
-pub(crate) const TEXT: &str = r##"function summaryText(page, drawing) {
+pub(crate) const TEXT: &str = r##"const LANE_HEIGHT = 22;
+const AXIS_HEIGHT = 16;
+const TICK_HEIGHT = 12;
+const TEXT_FROM = 20;
+function coloursFor(scene, box) {
+const { drawing, colours, span, matches } = scene;
+if (matches && matches.isMatch(box)) return { fill: colours.match, ink: colours.matchInk };
+if (matches || drawing.depth[box] < spanOfRow(drawing, drawing.row[box], span).depth) return { fill: colours.dim, ink: colours.dimInk };
+if (drawing.other) {
+const { before, after } = comparedOf(scene.page, scene.isShare, bothWeights(drawing, box));
+return { fill: colours.changes[changeShade(before, after)], ink: colours.ink };
+}
+if (drawing.depth[box] === 0) return { fill: colours.root, ink: colours.ink };
+return { fill: colours.plain[scene.shadeOf(drawing.name[box])], ink: colours.ink };
+}
+function joinedFill({ drawing, colours, matches }, place) {
+if (!matches) return colours.joined;
+const matching = matchesIn(matches, drawing, place);
+if (matching === 0) return colours.dim;
+return matching === place.count ? colours.match : colours.joinedMatch;
+}
+function addedText(scene, box) {
+if (!scene.drawing.other) return '';
+const { before, after } = comparedOf(scene.page, scene.isShare, bothWeights(scene.drawing, box));
+return changeText(before, after);
+}
+function paintPlace(painter, scene, place, top) {
+const { box, left, right, begin, end } = place;
+if (isJoined(place)) {
+painter.rectangle(begin, top, end - begin, ROW_HEIGHT - 1, joinedFill(scene, place));
+return;
+}
+const { fill, ink } = coloursFor(scene, box);
+painter.rectangle(begin, top, end - begin, ROW_HEIGHT - 1, fill);
+if (right - left < TEXT_FROM || sourceOf(scene.drawing, box) >= 0) return;
+const text = scene.lettering.textFor(scene.drawing.name[box], addedText(scene, box), right - left);
+if (text) painter.text(left + PAD, top + ROW_HEIGHT / 2, text, ink);
+}
+function paintSource(painter, scene, row, top) {
+const band = bandOf(scene.drawing, row);
+if (!band || band.row !== row) return;
+const text = scene.sourceLettering.textFor(band.source, '', scene.width);
+if (text) painter.text(PAD, top + ROW_HEIGHT / 2, text, coloursFor(scene, band.first).ink);
+}
+function paintRow(painter, scene, row) {
+const top = scene.lanes + rowTop(scene.rowCount, row, scene.below) - scene.top;
+if (top >= scene.lanes + scene.height) return;
+for (const place of placesOf(scene.drawing, row, scene.span, scene.width)) {
+painter.entitled(() => placeTitle(scene, place), () => paintPlace(painter, scene, place, top));
+}
+paintSource(painter, scene, row, top);
+}
+function paintBoundaries(painter, scene) {
+if (!isTimeline(scene.page, scene.drawing) || isBeside(scene.drawing)) return;
+const { span, width, lanes } = scene;
+for (const source of scene.page.sources.slice(1)) {
+if (source.start <= span.from || source.start >= span.to) continue;
+painter.upright(((source.start - span.from) * width) / (span.to - span.from), lanes, scene.height, scene.colours.line);
+}
+}
+function paintLanes(painter, scene) {
+for (const { number, left, right } of lanesOf(scene.page, scene.drawing, scene.span, scene.width)) {
+painter.rectangle(left, 0, Math.max(right - left - 1, 0.3), LANE_HEIGHT - 2, scene.colours.dim);
+const text = scene.sourceLettering.textFor(number, '', right - left);
+if (text) painter.text(left + PAD, LANE_HEIGHT / 2, text, scene.colours.ink);
+}
+}
+function paintAxis(painter, scene) {
+const top = scene.lanes - AXIS_HEIGHT;
+for (const { left, text } of ticksOf(scene.page, scene.drawing, scene.span, scene.width)) {
+painter.upright(left, top, TICK_HEIGHT, scene.colours.line);
+painter.text(left + PAD, top + TICK_HEIGHT / 2, text, scene.colours.ink);
+}
+}
+function lanesHeight(page, drawing) {
+if (!isTimeline(page, drawing)) return 0;
+return isBeside(drawing) ? AXIS_HEIGHT : LANE_HEIGHT + AXIS_HEIGHT;
+}
+function paintScene(painter, scene) {
+const { rowCount, below, top, lanes } = scene;
+painter.rectangle(0, 0, scene.width, lanes + scene.height, scene.colours.paper);
+if (lanes > 0) {
+paintLanes(painter, scene);
+paintAxis(painter, scene);
+}
+const rows = [rowAt(rowCount, top, below), rowAt(rowCount, top + scene.height, below)];
+const last = Math.min(rowCount - 1, Math.max(...rows));
+for (let row = Math.max(0, Math.min(...rows)); row <= last; row++) paintRow(painter, scene, row);
+paintBoundaries(painter, scene);
+}
+class CanvasPainter {
+constructor() {
+this.boxes = new Map();
+this.texts = [];
+this.lines = [];
+}
+rectangle(left, top, width, height, fill) {
+const sides = this.boxes.get(fill);
+if (sides) sides.push(left, top, width, height);
+else this.boxes.set(fill, [left, top, width, height]);
+}
+text(left, middle, text, ink) {
+this.texts.push({ left, middle, text, ink });
+}
+upright(left, top, height, colour) {
+this.lines.push({ left, top, height, colour });
+}
+entitled(titleOf, paint) {
+paint();
+}
+finish(context) {
+for (const [fill, sides] of this.boxes) {
+context.fillStyle = fill;
+for (let at = 0; at < sides.length; at += 4) context.fillRect(sides[at], sides[at + 1], sides[at + 2], sides[at + 3]);
+}
+context.font = FONT;
+context.textBaseline = 'middle';
+context.direction = 'ltr';
+for (const { left, middle, text, ink } of this.texts) {
+context.fillStyle = ink;
+context.fillText(text, left, middle);
+}
+for (const { left, top, height, colour } of this.lines) {
+context.fillStyle = colour;
+context.fillRect(Math.round(left), top, 1, height);
+}
+}
+}
+function paintOnCanvas(canvas, scene, dots) {
+const context = contextOf(canvas);
+context.setTransform(dots, 0, 0, dots, 0, 0);
+const painter = new CanvasPainter();
+paintScene(painter, scene);
+painter.finish(context);
+}
+function summaryText(page, drawing) {
 const files = page.sources.length === 1 ? '1 source' : `${page.sources.length} sources`;
 const types = [...new Set(weighty(page.sources).map((source) => source.type))];
 const type = types.length === 1 && types[0] !== '' ? ` of ${visible(types[0])}` : '';
@@ -290,126 +425,5 @@ listenToKeys(viewer);
 window.addEventListener('popstate', (event) => viewer.goTo(event));
 new ResizeObserver(() => viewer.refresh()).observe(viewer.stage.picture);
 viewer.stage.darkness.addEventListener('change', () => viewer.paint());
-}
-const LONGEST_PATH = 4000;
-const WIDEST_LISTS = 10000;
-function decoded(text) {
-try {
-return decodeURIComponent(text);
-} catch {
-return text;
-}
-}
-function encoded(text) {
-return encodeURIComponent(new TextDecoder('utf-8', { ignoreBOM: true }).decode(new TextEncoder().encode(text)));
-}
-function zoomWords(page, drawing, state) {
-if (state.source >= 0) return [`source=${state.source}`];
-if (state.from >= 0) return [`from=${state.from}`, `to=${state.to}`];
-if (state.box === 0) return [];
-const path = pathOf(page, drawing, state.box);
-const length = path.reduce((sum, name) => sum + name.length, 0);
-const zoom = length > LONGEST_PATH ? '' : path.map(encoded).join('/');
-if (length > LONGEST_PATH || zoom.length > 3 * LONGEST_PATH) return [`box=${state.box}`];
-if (isCaller(drawing, state.box)) return [`up=${zoom}`];
-return isTimeline(page, drawing) ? [`zoom=${zoom}`, `start=${timeOf(drawing, state.box)}`] : [`zoom=${zoom}`];
-}
-function callersWord(text, name) {
-return text.length > LONGEST_PATH ? `function=${name}` : `callers=${encoded(text)}`;
-}
-function fragmentOf(page, state) {
-const words = zoomWords(page, page.arranged(state), state);
-if (state.callers >= 0) words.unshift(callersWord(page.names[state.callers], state.callers));
-if (state.find !== '') words.push(`find=${encoded(state.find)}`);
-if (state.find !== '' && state.by !== 'text') words.push(`by=${state.by}`);
-if (state.order !== 'place') words.push(`order=${state.order}`);
-if (state.drawing !== page.drawingCount - 1) words.push(`drawing=${state.drawing}`);
-if (state.below !== page.isBelow) words.push(state.below ? 'root=below' : 'root=above');
-if (state.lists >= 0) words.push(`lists=${state.lists}`);
-if (state.share !== page.isShare) words.push(state.share ? 'share=1' : 'share=0');
-if (state.heavy) words.push('heavy=1');
-if (state.beside) words.push('beside=1');
-if (state.byName) words.push('colours=name');
-return `#${words.join('&')}`;
-}
-function partOfWords(words, length) {
-const [from, to] = ['from', 'to'].map((key) => (/^[0-9]{1,15}(\.[0-9]{1,3})?$/.test(words.get(key) || '') ? Number(words.get(key)) : -1));
-return from >= 0 && to - from > 0.999 && to <= length ? { from, to } : { from: -1, to: -1 };
-}
-function wholeNumber(text, limit) {
-return /^[0-9]{1,15}$/.test(text || '') && Number(text) < limit ? Number(text) : -1;
-}
-function wordsOf(fragment) {
-const words = new Map();
-for (const word of fragment.replace(/^#/, '').split('&')) {
-const place = word.indexOf('=');
-if (place > 0) words.set(word.slice(0, place), word.slice(place + 1));
-}
-return words;
-}
-function wordsOfStep(fragment, made, now) {
-const words = wordsOf(fragment);
-const [wordsMade, wordsNow] = [wordsOf(made), wordsOf(now)];
-for (const key of ['find', 'by', 'order', 'drawing', 'root', 'lists', 'share', 'heavy', 'beside', 'colours']) {
-const kept = wordsNow.get(key);
-if (wordsMade.get(key) === kept) continue;
-if (['drawing', 'heavy', 'beside'].includes(key)) words.delete('box');
-if (key === 'beside') words.delete('from');
-if (kept === undefined) words.delete(key);
-else words.set(key, kept);
-}
-return words;
-}
-function boxOfWords(page, drawing, words) {
-const isUp = words.has('up');
-const zoom = words.get(isUp ? 'up' : 'zoom');
-if (zoom === undefined) return words.has('box') ? wholeNumber(words.get('box'), drawing.count) : 0;
-const path = zoom.split('/').map(decoded);
-const box = boxAt(page, drawing, path, Number(words.get('start') || -1), isUp);
-return drawing.depth[box] === path.length ? box : -1;
-}
-function choiceOfWords(page, words) {
-const number = wholeNumber(words.get('drawing'), page.drawingCount);
-const drawing = number >= 0 ? number : page.drawingCount - 1;
-const heavy = page.view !== 'chart' && words.get('heavy') === '1';
-const choice = { drawing, callers: -1, heavy, beside: hasLanes(page) && words.get('beside') === '1' };
-const name = words.get('callers');
-if (name === undefined && !words.has('function')) return { choice, isLost: false };
-const callers = name === undefined ? wholeNumber(words.get('function'), page.names.length) : page.names.indexOf(decoded(name));
-const isLost = callers < 0 || page.arranged({ ...choice, callers }).count === 0;
-return { choice: isLost ? choice : { ...choice, callers }, isLost };
-}
-function linkedOf(page, words) {
-const { choice, isLost } = choiceOfWords(page, words);
-const isSourced = page.view === 'chart' && choice.callers < 0;
-const source = isSourced ? wholeNumber(words.get('source'), page.sources.length) : -1;
-const drawing = page.arranged(choice);
-const box = isLost ? -1 : boxOfWords(page, drawing, words);
-const by = words.get('by');
-const state = {
-...choice,
-source: source >= 0 && page.sources[source].weight > 0 ? source : -1,
-box: Math.max(0, box),
-...(isSourced ? partOfWords(words, drawing.length) : { from: -1, to: -1 }),
-find: decoded(words.get('find') || ''),
-by: by === 'name' || by === 'regexp' ? by : 'text',
-order: words.get('order') === 'weight' ? 'weight' : 'place',
-below: page.isBelow ? words.get('root') !== 'above' : words.get('root') === 'below',
-lists: wholeNumber(words.get('lists'), WIDEST_LISTS),
-share: page.view === 'compare' && (page.isShare ? words.get('share') !== '0' : words.get('share') === '1'),
-byName: page.view !== 'compare' && words.get('colours') === 'name',
-};
-return { state, isDead: box < 0 };
-}
-function stepsMade() {
-return history.state?.steps || 0;
-}
-function writeAddress(fragment, isStep) {
-const address = fragment === '#' && location.hash === '' ? '' : fragment;
-try {
-if (isStep) history.pushState({ steps: stepsMade() + 1 }, '', address);
-else history.replaceState({ steps: stepsMade() }, '', address);
-} catch {
-}
 }
 "##;

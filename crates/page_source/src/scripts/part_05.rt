@@ -1,56 +1,180 @@
-//! What `page/join` takes of page/view.js, functions.js, lanes.js, stage.js, tip.js, tools.js.
-//! `checks/page_source --write` makes this file.
+//! What `page/join` takes of page/address.js, compared.js, functions.js, lanes.js, stage.js,
+//! tip.js. `checks/page_source --write` makes this file.
 
-pub(crate) const TEXT: &str = r##"function searched(matching, drawing, state, old) {
-if (state.find === '') return { matches: null, isRefused: false };
-const isSame = old && old.drawing === drawing && old.state.find === state.find && old.state.by === state.by;
-if (isSame && old.matches) return { matches: old.matches, isRefused: false };
-const names = matching(state.find, state.by);
-return { matches: names && matchesOf(drawing, names), isRefused: !names };
+pub(crate) const TEXT: &str = r##"const LONGEST_PATH = 4000;
+const WIDEST_LISTS = 10000;
+function decoded(text) {
+try {
+return decodeURIComponent(text);
+} catch {
+return text;
 }
-function viewOf(page, matching, state, old) {
-const drawing = page.arranged(state);
-const isShare = state.share;
-return { page, state, drawing, span: spanOf(page, drawing, state), isShare, ...searched(matching, drawing, state, old) };
 }
-const UNZOOMED = { source: -1, box: 0, from: -1, to: -1 };
-function isZoomed({ state }) {
-return state.box > 0 || state.source >= 0 || state.from >= 0;
+function encoded(text) {
+return encodeURIComponent(new TextDecoder('utf-8', { ignoreBOM: true }).decode(new TextEncoder().encode(text)));
 }
-function wholeOf(view) {
-if (view.state.callers < 0) return view;
-const { page, isShare } = view;
-const state = { ...view.state, callers: -1, heavy: false, beside: false, ...UNZOOMED, focus: 0 };
-const drawing = page.drawing(state.drawing);
-return { page, state, drawing, span: spanOf(page, drawing, state), isShare, matches: null, isRefused: view.isRefused };
+function zoomWords(page, drawing, state) {
+if (state.source >= 0) return [`source=${state.source}`];
+if (state.from >= 0) return [`from=${state.from}`, `to=${state.to}`];
+if (state.box === 0) return [];
+const path = pathOf(page, drawing, state.box);
+const length = path.reduce((sum, name) => sum + name.length, 0);
+const zoom = length > LONGEST_PATH ? '' : path.map(encoded).join('/');
+if (length > LONGEST_PATH || zoom.length > 3 * LONGEST_PATH) return [`box=${state.box}`];
+if (isCaller(drawing, state.box)) return [`up=${zoom}`];
+return isTimeline(page, drawing) ? [`zoom=${zoom}`, `start=${timeOf(drawing, state.box)}`] : [`zoom=${zoom}`];
 }
-function isOther(old, view) {
-const isSamePart = old.drawing === view.drawing && old.span.from === view.span.from && old.span.to === view.span.to && old.span.depth === view.span.depth;
-return !isSamePart || old.matches !== view.matches || old.isShare !== view.isShare;
+function callersWord(text, name) {
+return text.length > LONGEST_PATH ? `function=${name}` : `callers=${encoded(text)}`;
 }
-function isElsewhere(old, { drawing, state }) {
-const isOtherBand = isBeside(drawing) && old.state.source !== state.source;
-return isOtherBand || old.state.box !== state.box || old.drawing !== drawing;
+function fragmentOf(page, state) {
+const words = zoomWords(page, page.arranged(state), state);
+if (state.callers >= 0) words.unshift(callersWord(page.names[state.callers], state.callers));
+if (state.find !== '') words.push(`find=${encoded(state.find)}`);
+if (state.find !== '' && state.by !== 'text') words.push(`by=${state.by}`);
+if (state.order !== 'place') words.push(`order=${state.order}`);
+if (state.drawing !== page.drawingCount - 1) words.push(`drawing=${state.drawing}`);
+if (state.below !== page.isBelow) words.push(state.below ? 'root=below' : 'root=above');
+if (state.lists >= 0) words.push(`lists=${state.lists}`);
+if (state.share !== page.isShare) words.push(state.share ? 'share=1' : 'share=0');
+if (state.heavy) words.push('heavy=1');
+if (state.beside) words.push('beside=1');
+if (state.byName) words.push('colours=name');
+return `#${words.join('&')}`;
 }
-const TABLE_STEP = 100;
-const NOTHING = { from: 0, to: 0, depth: 0, row: 0 };
-function sumsOfProfile({ page, drawing, span, state }, number) {
+function partOfWords(words, length) {
+const [from, to] = ['from', 'to'].map((key) => (/^[0-9]{1,15}(\.[0-9]{1,3})?$/.test(words.get(key) || '') ? Number(words.get(key)) : -1));
+return from >= 0 && to - from > 0.999 && to <= length ? { from, to } : { from: -1, to: -1 };
+}
+function wholeNumber(text, limit) {
+return /^[0-9]{1,15}$/.test(text || '') && Number(text) < limit ? Number(text) : -1;
+}
+function wordsOf(fragment) {
+const words = new Map();
+for (const word of fragment.replace(/^#/, '').split('&')) {
+const place = word.indexOf('=');
+if (place > 0) words.set(word.slice(0, place), word.slice(place + 1));
+}
+return words;
+}
+function wordsOfStep(fragment, made, now) {
+const words = wordsOf(fragment);
+const [wordsMade, wordsNow] = [wordsOf(made), wordsOf(now)];
+for (const key of ['find', 'by', 'order', 'drawing', 'root', 'lists', 'share', 'heavy', 'beside', 'colours']) {
+const kept = wordsNow.get(key);
+if (wordsMade.get(key) === kept) continue;
+if (['drawing', 'heavy', 'beside'].includes(key)) words.delete('box');
+if (key === 'beside') words.delete('from');
+if (kept === undefined) words.delete(key);
+else words.set(key, kept);
+}
+return words;
+}
+function boxOfWords(page, drawing, words) {
+const isUp = words.has('up');
+const zoom = words.get(isUp ? 'up' : 'zoom');
+if (zoom === undefined) return words.has('box') ? wholeNumber(words.get('box'), drawing.count) : 0;
+const path = zoom.split('/').map(decoded);
+const box = boxAt(page, drawing, path, Number(words.get('start') || -1), isUp);
+return drawing.depth[box] === path.length ? box : -1;
+}
+function choiceOfWords(page, words) {
+const number = wholeNumber(words.get('drawing'), page.drawingCount);
+const drawing = number >= 0 ? number : page.drawingCount - 1;
+const heavy = page.view !== 'chart' && words.get('heavy') === '1';
+const choice = { drawing, callers: -1, heavy, beside: hasLanes(page) && words.get('beside') === '1' };
+const name = words.get('callers');
+if (name === undefined && !words.has('function')) return { choice, isLost: false };
+const callers = name === undefined ? wholeNumber(words.get('function'), page.names.length) : page.names.indexOf(decoded(name));
+const isLost = callers < 0 || page.arranged({ ...choice, callers }).count === 0;
+return { choice: isLost ? choice : { ...choice, callers }, isLost };
+}
+function linkedOf(page, words) {
+const { choice, isLost } = choiceOfWords(page, words);
+const isSourced = page.view === 'chart' && choice.callers < 0;
+const source = isSourced ? wholeNumber(words.get('source'), page.sources.length) : -1;
+const drawing = page.arranged(choice);
+const box = isLost ? -1 : boxOfWords(page, drawing, words);
+const by = words.get('by');
+const state = {
+...choice,
+source: source >= 0 && page.sources[source].weight > 0 ? source : -1,
+box: Math.max(0, box),
+...(isSourced ? partOfWords(words, drawing.length) : { from: -1, to: -1 }),
+find: decoded(words.get('find') || ''),
+by: by === 'name' || by === 'regexp' ? by : 'text',
+order: words.get('order') === 'weight' ? 'weight' : 'place',
+below: page.isBelow ? words.get('root') !== 'above' : words.get('root') === 'below',
+lists: wholeNumber(words.get('lists'), WIDEST_LISTS),
+share: page.view === 'compare' && (page.isShare ? words.get('share') !== '0' : words.get('share') === '1'),
+byName: page.view !== 'compare' && words.get('colours') === 'name',
+};
+return { state, isDead: box < 0 };
+}
+function stepsMade() {
+return history.state?.steps || 0;
+}
+function writeAddress(fragment, isStep) {
+const address = fragment === '#' && location.hash === '' ? '' : fragment;
+try {
+if (isStep) history.pushState({ steps: stepsMade() + 1 }, '', address);
+else history.replaceState({ steps: stepsMade() }, '', address);
+} catch {
+}
+}
+function partOfProfile(view, number) {
+const { page, drawing, state } = view;
+if (number === drawing.number) return zoomedPart(view);
 const profile = page.drawing(number);
-if (number === drawing.number) return sumsOf(drawing, page.names.length, span);
 const path = pathOf(page, drawing, state.box);
 const box = boxAt(page, profile, path, -1, false);
 const isThere = profile.count > 0 && profile.depth[box] === path.length;
-return sumsOf(profile, page.names.length, isThere ? spanOf(page, profile, { ...state, box }) : NOTHING);
+const there = { ...state, drawing: number, box };
+if (isThere) return zoomedPart({ ...view, drawing: profile, state: there, span: spanOf(page, profile, there) });
+const none = new Float64Array(page.names.length);
+return { own: none, total: none, whole: 0 };
 }
+function comparisonOf(view) {
+return { view, parts: [0, 1].map((number) => partOfProfile(view, number)) };
+}
+function weightsOf({ parts }, name, kind) {
+const [before, after] = parts.map((part) => part[kind][name]);
+return { before, after };
+}
+function comparedValue(comparison, name, key) {
+const { page, isShare } = comparison.view;
+const [kind, column] = key.split('-');
+const { before, after } = comparedOf(page, isShare, weightsOf(comparison, name, kind === 'own' ? 'own' : 'total'));
+if (column === 'before') return before;
+if (column === 'after') return after;
+return column === 'change' ? after - before : (after - before) / before;
+}
+function comparedTexts(comparison, name, kind) {
+const { page, isShare } = comparison.view;
+const weights = weightsOf(comparison, name, kind);
+const [whole, wholeAfter] = comparison.parts.map((part, number) => (isShare ? page.drawing(number).total : part.whole));
+const { before, after } = weights;
+const compared = comparedOf(page, isShare, weights);
+const change = isShare ? pointsText(before / (whole || 1), after / (wholeAfter || 1)) : differenceText(before, after, page.unit);
+return {
+before: [weightText(before, page.unit), percentText(before, whole)],
+after: [weightText(after, page.unit), percentText(after, wholeAfter)],
+change: [change, changeText(compared.before, compared.after)],
+};
+}
+function pointsText(before, after) {
+const sign = after > before ? '+' : after < before ? '\u2212' : '';
+return sign + percentText(Math.abs(after - before), 1);
+}
+const TABLE_STEP = 100;
+const KINDS = ['own', 'total'];
+const CHOICES = [['before', 'after', 'change'], ['after', 'change'], ['change']];
 function functionRows(view, matching) {
-const { page, drawing, span, state } = view;
-const compared = page.view === 'compare' ? [0, 1].map((number) => sumsOfProfile(view, number)) : null;
-const here = compared ? compared[state.drawing] : sumsOf(drawing, page.names.length, span);
-const all = upTo(page.names.length).filter((name) => {
-const isThere = here.total[name] > 0 || (compared !== null && compared.some(({ total }) => total[name] > 0));
-return isThere && (!matching || matching[name] === 1);
-});
-return { here, compared, all };
+const { page, state } = view;
+const comparison = page.view === 'compare' ? comparisonOf(view) : null;
+const parts = comparison ? comparison.parts : [zoomedPart(view)];
+const all = upTo(page.names.length).filter((name) => parts.some(({ total }) => total[name] > 0) && (!matching || matching[name] === 1));
+return { here: comparison ? parts[state.drawing] : parts[0], comparison, all };
 }
 function headingText(view, isMatching) {
 const { page, state } = view;
@@ -58,42 +182,56 @@ const ofBox = state.from >= 0 ? ' in this part' : ' in this box';
 const part = state.source >= 0 ? ` in ${shortened(page.sources[state.source].name, 60)}` : ofBox;
 return `Functions${isZoomed(view) ? part : ''}${isMatching ? ' that match' : ''}`;
 }
+function comparedCells(comparison, name, kind) {
+const texts = comparedTexts(comparison, name, kind);
+return CHOICES[0].map((column) => {
+const cell = document.createElement('td');
+cell.className = column;
+cell.append(...texts[column].map((text) => withText('span', text)));
+return cell;
+});
+}
 class FunctionTable {
 constructor(page, onChoose, say) {
 this.page = page;
 this.onChoose = onChoose;
 this.say = say;
-const section = element('functions');
-this.body = inside(section, 'tbody');
+const isCompared = page.view === 'compare';
+this.section = element('functions');
+this.table = inside(this.section, 'table');
+this.body = inside(this.table, 'tbody');
 this.more = button('functions-more');
-this.heads = [...section.querySelectorAll('th')];
-this.kind = elementOf('functions-of', HTMLSelectElement);
-this.kind.hidden = page.view !== 'compare';
-this.sort = { key: page.view === 'compare' ? 'change' : 'own', isRising: false };
-this.whole = 0;
-this.isShare = false;
+element('lists').classList.toggle('compared', isCompared);
+for (const row of this.table.querySelectorAll('thead tr')) if (row.classList.contains('of-comparison') !== isCompared) row.remove();
+this.heads = [...this.table.querySelectorAll('th')];
+this.sort = { key: isCompared ? 'own-change' : 'own', isRising: false };
 this.marked = null;
-const none = { own: new Float64Array(0), total: new Float64Array(0) };
-this.rows = { here: none, compared: null, all: new Int32Array(0) };
+const none = new Float64Array(0);
+this.rows = { here: { own: none, total: none, whole: 0 }, comparison: null, all: new Int32Array(0) };
 this.sorted = [];
-for (const head of this.heads) {
-const isOfComparison = head.dataset.of === 'compare';
-head.hidden = head.dataset.key !== 'name' && isOfComparison !== (page.view === 'compare');
-inside(head, 'button').addEventListener('click', () => this.sortBy(head.dataset.key || 'own'));
+for (const { dataset, firstElementChild: sorting } of this.heads) {
+const { key } = dataset;
+if (key && sorting) sorting.addEventListener('click', () => this.sortBy(key));
 }
-this.kind.addEventListener('change', () => this.showSorted());
 this.more.addEventListener('click', () => this.showMore());
+new ResizeObserver(() => requestAnimationFrame(() => this.fit())).observe(this.section);
 }
 show(seen, matching) {
 const view = wholeOf(seen);
 const { callers, by, find } = seen.state;
 const isMarked = matching !== null && by === 'name';
 this.marked = callers >= 0 ? view.page.names[callers] : isMarked ? find : null;
-this.isShare = view.isShare;
-this.whole = isZoomed(view) ? zoomedWeight(view.drawing, view.span.row, view.span) : view.drawing.total;
 this.rows = functionRows(view, isMarked ? null : matching);
+if (this.rows.comparison) this.nameChanges(view.isShare);
 element('functions-title').textContent = headingText(view, matching !== null && !isMarked);
 this.showSorted();
+}
+nameChanges(isShare) {
+for (const kind of KINDS) {
+const sorting = inside(this.table, `[data-key="${kind}-change"] button`);
+sorting.textContent = isShare ? 'Points' : 'Change';
+sorting.setAttribute('aria-label', isShare ? `${kind} points` : `${kind} change`);
+}
 }
 sortBy(key) {
 const isRising = this.sort.key === key ? !this.sort.isRising : key === 'name';
@@ -120,16 +258,8 @@ const value = (name) => values.get(name) || 0;
 return all.sort((one, other) => (value(one) === value(other) ? one - other : turned * (value(one) - value(other))));
 }
 valueOf(name, key) {
-if (key === 'own' || key === 'total') return this.rows.here[key][name];
-const { before, after } = comparedOf(this.page, this.isShare, this.bothOf(name));
-if (key === 'before') return before;
-if (key === 'after') return after;
-return key === 'change' ? after - before : (after - before) / before;
-}
-bothOf(name) {
-const kind = this.kind.value === 'total' ? 'total' : 'own';
-const [before, after] = (this.rows.compared || [this.rows.here, this.rows.here]).map((sums) => sums[kind][name]);
-return { before, after };
+const { here, comparison } = this.rows;
+return comparison ? comparedValue(comparison, name, key) : here[key === 'own' ? 'own' : 'total'][name];
 }
 showMore() {
 const { body, more, sorted } = this;
@@ -137,10 +267,21 @@ const shown = body.children.length;
 for (const name of sorted.slice(shown, shown + TABLE_STEP)) body.append(this.row(name));
 more.hidden = body.children.length >= sorted.length;
 more.textContent = `Show more of ${separated(sorted.length)}`;
+this.fit();
+}
+fit() {
+const { table, section, heads, rows } = this;
+const fits = () => table.offsetWidth <= section.clientWidth;
+for (const shown of rows.comparison ? CHOICES : []) {
+table.dataset.shown = shown.join(' ');
+for (const head of heads) if (head.scope === 'colgroup') head.colSpan = shown.length;
+if (fits()) break;
+}
+section.classList.toggle('scrolled', !fits());
 }
 row(name) {
 const { names } = this.page;
-const { here, compared } = this.rows;
+const { here, comparison } = this.rows;
 const chosen = nameButton(nameText(names[name]), () => this.onChoose(name, here.total[name] > 0));
 chosen.title = described(names[name]);
 const first = document.createElement('td');
@@ -148,34 +289,22 @@ first.append(chosen);
 const row = document.createElement('tr');
 if (names[name] === this.marked) row.setAttribute('aria-current', 'true');
 sayAbout(row, () => this.exactLine(name), this.say);
-row.append(first, ...(compared ? this.comparedCells(name) : [here.own, here.total].flatMap((sums) => this.weightCells(sums[name]))));
+row.append(first, ...KINDS.flatMap((kind) => (comparison ? comparedCells(comparison, name, kind) : this.weightCells(here[kind][name]))));
 return row;
 }
 weightCells(weight) {
 const { unit } = this.page;
-return [weightText(weight, unit), percentText(weight, this.whole)].map((text) => withText('td', text));
+return [weightText(weight, unit), percentText(weight, this.rows.here.whole)].map((text) => withText('td', text));
 }
 exactLine(name) {
-const { here, compared } = this.rows;
+const { here, comparison } = this.rows;
 const told = (weight) => exactText(weight, this.page.unit);
-const { before, after } = this.bothOf(name);
-const kind = this.kind.value === 'total' ? 'total' : 'own';
-const weights = compared ? [`${kind} before ${told(before)}`, `after ${told(after)}`] : [`own ${told(here.own[name])}`, `total ${told(here.total[name])}`];
-return [shortened(this.page.names[name], 300) || '(empty name)', ...weights].join(' \u00b7 ');
-}
-comparedCells(name) {
-const { page, isShare } = this;
-const { unit } = page;
-const { before, after } = this.bothOf(name);
-const compared = comparedOf(page, isShare, { before, after });
-const weights = [weightText(before, unit), weightText(after, unit), differenceText(before, after, unit)];
-const texts = isShare ? this.shareTexts(before, after) : weights;
-return [...texts, changeText(compared.before, compared.after)].map((text) => withText('td', text));
-}
-shareTexts(before, after) {
-const [first, second] = [before, after].map((weight, number) => weight / (this.page.drawing(number).total || 1));
-const sign = second > first ? '+' : second < first ? '\u2212' : '';
-return [percentText(first, 1), percentText(second, 1), sign + percentText(Math.abs(second - first), 1)];
+const weights = (kind) => {
+if (!comparison) return `${kind} ${told(here[kind][name])}`;
+const { before, after } = weightsOf(comparison, name, kind);
+return `${kind} before ${told(before)} \u00b7 after ${told(after)}`;
+};
+return [shortened(this.page.names[name], 300) || '(empty name)', ...KINDS.map(weights)].join(' \u00b7 ');
 }
 }
 const PADDED_FROM = 20;
@@ -222,6 +351,7 @@ class Stage {
 constructor(page) {
 this.page = page;
 this.picture = element('picture');
+this.picture.style.setProperty('--rows', String(page.drawing(page.drawingCount - 1).rowCount));
 this.canvas = elementOf('canvas', HTMLCanvasElement);
 this.darkness = matchMedia('(prefers-color-scheme: dark)');
 this.byName = nameShades(page.names, nameShade);
@@ -315,59 +445,5 @@ const below = event.clientY + 18;
 const top = below + height + 4 < window.innerHeight ? below : event.clientY - height - 10;
 this.tip.style.transform = `translate(${Math.max(4, left)}px, ${Math.max(4, top)}px)`;
 }
-}
-function showTop(page, drawing, say) {
-document.title = shortened(page.title, 200);
-element('title').textContent = described(page.title);
-element('summary').textContent = summaryText(page, drawing);
-showItems(element('notices'), noticesOf(page, drawing));
-element('matched').classList.toggle('filtered', page.isFiltered);
-element('sources').hidden = page.sources.length === 1;
-const sources = inside(element('sources'), 'ul');
-showItems(sources, page.sources.map((source) => sourceText(source, weightText)));
-for (const [number, item] of [...sources.querySelectorAll('li')].entries()) {
-sayAbout(item, () => sourceText(page.sources[number], exactText), say);
-}
-}
-function matchedText({ page, drawing, matches, isRefused }) {
-if (isRefused) return 'not a regular expression';
-if (!matches) return '';
-const matched = `${separated(matches.boxes.length)} matched`;
-if (drawing.centre >= 0) return matched;
-return `${matched}, ${percentText(matches.weight, drawing.total)}${page.isFiltered ? ' of what is kept' : ''}`;
-}
-function showTools(view) {
-const { page, state, drawing } = view;
-const name = drawingText(page, drawing, state.drawing);
-const [find, snapshot] = [input('find'), input('snapshot')];
-if (find.value !== state.find) find.value = state.find;
-const by = elementOf('by', HTMLSelectElement);
-by.value = state.by;
-by.options[0].text = isEitherCase(state.find, 'text') ? 'in names, any case' : 'in names, as written';
-elementOf('order', HTMLSelectElement).value = state.order;
-find.setAttribute('aria-invalid', String(view.isRefused));
-element('matched').textContent = matchedText(view);
-button('next').disabled = !view.matches;
-button('previous').disabled = !view.matches;
-button('back').disabled = !isZoomed(view) && state.callers < 0;
-element('heavy-label').hidden = page.view === 'chart';
-input('heavy').checked = state.heavy;
-element('beside-label').hidden = !hasLanes(page);
-input('beside').checked = state.beside;
-element('by-name-label').hidden = page.view === 'compare';
-input('by-name').checked = state.byName;
-for (const arranging of ['heavy', 'beside']) input(arranging).disabled = state.callers >= 0;
-input('below').checked = state.below;
-element('snapshot-label').hidden = page.view === 'compare' || page.drawingCount === 1;
-snapshot.max = String(page.drawingCount - 1);
-snapshot.value = String(state.drawing);
-snapshot.setAttribute('aria-valuetext', name);
-element('before-label').hidden = page.view !== 'compare';
-input('before').checked = state.drawing === 0;
-element('share-label').hidden = page.view !== 'compare';
-input('share').checked = state.share;
-const called = element('drawing-name');
-called.textContent = [name, centreText(page, drawing)].filter((text) => text !== '').join(' \u00b7 ');
-called.title = called.textContent;
 }
 "##;

@@ -104,19 +104,65 @@ padding-left: 0.8rem;
 width: var(--lists, max(32rem, 24vw));
 width: var(--lists, max(32rem, round(down, 24vw, 1px)));
 }
+#lists.compared {
+scrollbar-gutter: stable;
+width: var(--lists, clamp(32rem, 51vw, 51rem));
+width: var(--lists, clamp(32rem, round(down, 51vw, 1px), 51rem));
+}
 #functions { container-type: inline-size; }
+#functions.scrolled { overflow-x: auto; }
 #functions h2 { display: inline-block; margin-right: 0.6rem; overflow-wrap: anywhere; }
 #functions table { border-collapse: collapse; font-size: 12px; width: 100%; }
-#functions th { background: var(--paper); padding: 0 0 0 0.4rem; position: sticky; text-align: right; top: 0; white-space: nowrap; }
-#functions td { font-variant-numeric: tabular-nums; padding: 0 0 0 0.4rem; text-align: right; white-space: nowrap; }
-#functions th:first-child, #functions td:first-child { max-width: 0; min-width: 50cqi; padding: 0; text-align: left; width: 100%; }
+#functions thead { background: var(--paper); position: sticky; top: 0; z-index: 1; }
+#functions th { padding: 0 0 0 0.4rem; text-align: right; vertical-align: top; white-space: nowrap; }
+#functions td { font-variant-numeric: tabular-nums; padding: 0 0 0 0.4rem; text-align: right; vertical-align: baseline; white-space: nowrap; }
+#functions td:nth-child(4) { padding-left: 0.9rem; }
+#functions :is(th[data-key="name"], td:first-child) {
+background: inherit;
+left: 0;
+max-width: 0;
+min-width: 50cqi;
+padding: 0;
+position: sticky;
+text-align: left;
+width: 100%;
+}
+#functions tr { background: var(--paper); }
 #functions tr[aria-current] { background: var(--panel); font-weight: 600; }
 #functions th button, #lists td button, #gone-list button { background: none; border: 0; padding: 0; text-align: inherit; }
 #functions th button { font-weight: 600; }
 #functions th[aria-sort] button::before { font-size: 9px; margin-left: -1em; position: absolute; }
 #functions th[aria-sort="descending"] button::before { content: "\25bc"; }
 #functions th[aria-sort="ascending"] button::before { content: "\25b2"; }
-#functions th:first-child[aria-sort] button::before { margin-left: 4.2em; }
+#functions th[data-key="name"][aria-sort] button::before { margin-left: 4.2em; }
+@container (max-width: 400px) {
+#lists:not(.compared) :is(table, thead, tbody) { display: block; }
+#lists:not(.compared) tr { border-bottom: 1px solid var(--line); display: grid; grid-template-columns: 50cqi 25cqi 25cqi; padding-block: 0.1rem; }
+#lists:not(.compared) :is(th[data-key="name"], td:first-child) { grid-area: 1 / 1 / span 2; max-width: none; min-width: 0; width: auto; }
+#lists:not(.compared) td:nth-child(2) { grid-area: 1 / 2; }
+#lists:not(.compared) td:nth-child(3) { color: var(--quiet); grid-area: 2 / 2; }
+#lists:not(.compared) td:nth-child(4) { grid-area: 1 / 3; }
+#lists:not(.compared) td:nth-child(5) { color: var(--quiet); grid-area: 2 / 3; }
+#lists:not(.compared) td button {
+-webkit-box-orient: vertical;
+-webkit-line-clamp: 2;
+display: -webkit-box;
+line-height: 1.4;
+overflow-wrap: anywhere;
+white-space: normal;
+}
+}
+#functions th[scope="colgroup"] { padding-left: 1.1rem; text-align: center; }
+#functions th[scope="colgroup"] span { border-bottom: 1px solid var(--line); display: block; }
+#functions td span { display: block; line-height: 1.3; }
+#functions :is(.before, .after) span + span { color: var(--quiet); }
+#functions :is([data-shown^="before"] .change ~ .before, [data-shown^="after"] .change ~ .after, [data-shown="change"] .change) {
+padding-left: 1.1rem;
+}
+.compared tbody tr { border-top: 1px solid var(--line); }
+.compared #functions th:not([data-key="name"]) { padding-left: 0.65rem; }
+.compared #functions td { padding-block: 0.1rem; vertical-align: top; }
+.compared table:not([data-shown~="before"]) .before, .compared table:not([data-shown~="after"]) .after { display: none; }
 #lists td button, #gone-list button {
 display: block;
 font: 12px/1.6 ui-monospace, monospace;
@@ -125,6 +171,14 @@ overflow: hidden;
 text-overflow: ellipsis;
 unicode-bidi: isolate;
 white-space: nowrap;
+}
+#lists.compared td button {
+-webkit-box-orient: vertical;
+-webkit-line-clamp: 2;
+display: -webkit-box;
+line-height: 1.3;
+overflow-wrap: anywhere;
+white-space: normal;
 }
 #gone-list button { display: flex; white-space: pre; }
 #gone-list span { flex: 0 0 auto; overflow: hidden; text-overflow: ellipsis; unicode-bidi: isolate; }
@@ -152,15 +206,19 @@ z-index: 4;
 @media (max-width: 60rem) {
 body { height: auto; min-height: 100vh; padding-bottom: 2rem; }
 main { flex-direction: column; gap: 11px; }
+#stage { flex: none; }
 #divider { display: none; }
 #search { flex-wrap: wrap; }
 #status { background: var(--paper); bottom: 0; left: 0; margin: 0; padding: 0 11px; position: fixed; right: 0; z-index: 2; }
-#picture { flex: none; height: 70vh; }
-#lists { border-left: 0; max-width: none; padding: 0; width: auto; }
+#picture { flex: none; height: clamp(12rem, var(--rows) * 18px, 70vh); }
+#lists, #lists.compared { border-left: 0; max-width: none; padding: 0; scrollbar-gutter: auto; width: auto; }
 }
 @media (max-width: 40rem) {
 body { padding-bottom: 6.2rem; }
 #matched, #matched.filtered { flex: 1 1 100%; height: 1.4em; }
 #status { border-top: 1px solid var(--line); height: 5.7em; overflow: auto; overflow-wrap: anywhere; white-space: normal; }
+}
+@media (max-width: 30rem) {
+#find { flex-basis: 100%; }
 }
 "##;

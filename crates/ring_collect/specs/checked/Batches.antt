@@ -20,7 +20,7 @@ records_of_all batches = flat_map records_in batches
 
 -- the records that were told to an outlet: those that were sent, and then those that are pending
 abbrev pub told_to : Outlet → List RingRecord
-told_to outlet = records_of_all (sent outlet.producer) ++ outlet.pending.items
+told_to outlet = records_of_all (sent outlet.producer) ++ outlet.pending
 
 -- what closes a ring, after a batch: several records have no close among them
 abbrev pub close_after_batch : Option Close → Batch → Option Close

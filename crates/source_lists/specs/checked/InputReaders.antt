@@ -14,8 +14,9 @@ use Rattle.run_options.specs.declared.formats.Format.{Format}
 use Rattle.run_options.specs.declared.options.Options.{Options}
 use Rattle.source_lists.specs.Sources.{known_input, whole_rest}
 use Rattle.source_lists.specs.checked.Readers.{HasEnded, reader_rest, reader_told}
+use Rattle.source_lists.specs.checked.StoredProfiles.{HasProfileEnded, profile_gives, profile_told}
 use Rattle.source_lists.specs.declared.input_readers.InputReader.{InputReader}
-use Rattle.source_lists.specs.declared.input_readers.InputReader.TheVariants.{Loaded, Stored}
+use Rattle.source_lists.specs.declared.input_readers.InputReader.TheVariants.{Loaded, Text, Profile}
 
 -- what contracts see of a range of a stored text
 abbrev pub range : inlet.Ghosts StoredRange
@@ -26,19 +27,22 @@ stream_gives stream rest = GivesBy (unread_range stream.lines.inlet) false strea
 
 abbrev pub input_gives : InputReader → Rest → Type 0
 input_gives (Loaded reader) rest = rest ≡ reader_rest reader
-input_gives (Stored stream) rest = stream_gives stream rest
+input_gives (Text stream) rest = stream_gives stream rest
+input_gives (Profile profile) rest = profile_gives profile rest
 
 -- the names and stacks that it told
 abbrev pub input_told : InputReader → ToldRows
 input_told (Loaded reader) = reader_told reader
-input_told (Stored stream) = stream.telling
+input_told (Text stream) = stream.telling
+input_told (Profile profile) = profile_told profile
 
 -- it has answered the ending
 abbrev pub HasInputEnded : InputReader → Type 0
 HasInputEnded (Loaded reader) = HasEnded reader
-HasInputEnded (Stored stream) = IsSome stream.ended
+HasInputEnded (Text stream) = IsSome stream.ended
+HasInputEnded (Profile profile) = HasProfileEnded profile
 
--- a text that could not be read to its end
+-- a source that could not be read to its end
 abbrev pub IsCutOff : Rest → Type 0
 IsCutOff rest = (after : ℕ) × (rest.ending ≡ Stopped after)
 

@@ -6,10 +6,11 @@ mod stored;
 use super::holds;
 use profile_messages::SampleType;
 use run_options::{Filter, Format, Naming, Options, Pick, RingSize};
-use source_lists::{Input, Source, chosen_types};
+use source_lists::{Input, RunFault, Source, chosen_types};
 use stack_core::Text;
 use std::alloc::{AllocError, Global};
 use std::test::Fail;
+use stored::input_by;
 
 /// The types `n`, whose unit is `ms`, and `t`, whose unit is `s`. There is one sample.
 const TWO_TYPES: &[u8] = b"\x0a\x04\x08\x01\x10\x02\x0a\x04\x08\x03\x10\x04\x12\x02\x10\x05\
@@ -18,6 +19,9 @@ const TWO_TYPES: &[u8] = b"\x0a\x04\x08\x01\x10\x02\x0a\x04\x08\x03\x10\x04\x12\
 /// The same with `n` as the default type.
 const WITH_DEFAULT: &[u8] = b"\x0a\x04\x08\x01\x10\x02\x0a\x04\x08\x03\x10\x04\x12\x02\x10\x05\
 \x32\x00\x32\x01n\x32\x02ms\x32\x01t\x32\x01s\x70\x01";
+
+/// A type and a sample of a stack without frames, which weighs 5.
+const ONE_SAMPLE: &[u8] = b"\x0a\x04\x08\x01\x10\x02\x12\x02\x10\x05\x32\x00\x32\x01n\x32\x02ms";
 
 /// A type and no sample.
 const NO_SAMPLE: &[u8] = b"\x0a\x00";
@@ -38,11 +42,12 @@ const WORKED: &[(Format, &[u8])] = &[
     (Format::Pprof, WITH_FAULT),
 ];
 
-fn add_worked_inputs(alloc: Global, inputs: &mut Vec<Input>) -> Result<(), AllocError> {
+fn worked_inputs(alloc: Global, are_stored: bool) -> Result<Vec<Input>, AllocError> {
+    let mut inputs = Vec::new(alloc);
     for (format, bytes) in WORKED {
-        inputs.push(input_of(alloc, *format, bytes)?)?;
+        inputs.push(input_by(alloc, are_stored, *format, bytes)?)?;
     }
-    Ok(())
+    Ok(inputs)
 }
 
 fn options_with(alloc: Global, pick: Pick) -> Options {
@@ -73,33 +78,35 @@ fn are_types(types: &[SampleType], expected: &[(&str, &str)]) -> bool {
     true
 }
 
-/// The options choose types of these names and units of the worked sources.
+/// The options choose types of these names and units of the sources.
 fn types_are_chosen(
     alloc: Global,
     options: &Options,
-    inputs: &mut Vec<Input>,
+    inputs: &[Input],
     expected: &[(&str, &str)],
-) -> Result<bool, AllocError> {
-    add_worked_inputs(alloc, inputs)?;
+) -> Result<bool, RunFault> {
     let types = chosen_types(alloc, inputs, options)?;
     Ok(are_types(&types, expected))
 }
 
-/// By this pick, the types of the worked sources have these names and units.
+/// By this pick, the types of the worked sources have these names and units, loaded and stored.
 fn types_are_picked(
     alloc: Global,
     pick: Pick,
     expected: &[(&str, &str)],
-) -> Result<bool, AllocError> {
+) -> Result<bool, RunFault> {
     let options = options_with(alloc, pick);
-    types_are_chosen(alloc, &options, &mut Vec::new(alloc), expected)
+    Ok(
+        types_are_chosen(alloc, &options, &worked_inputs(alloc, false)?, expected)?
+            && types_are_chosen(alloc, &options, &worked_inputs(alloc, true)?, expected)?,
+    )
 }
 
 fn types_are_picked_by_name(
     alloc: Global,
     name: &str,
     expected: &[(&str, &str)],
-) -> Result<bool, AllocError> {
+) -> Result<bool, RunFault> {
     let name = Text::from_str(alloc, name)?;
     types_are_picked(alloc, Pick::Named(name), expected)
 }

@@ -6,6 +6,7 @@ mod batches;
 mod fakes;
 mod gates;
 mod lists;
+mod mixed_batches;
 mod refusals;
 mod rows;
 mod streams;

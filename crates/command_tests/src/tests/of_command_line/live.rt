@@ -17,6 +17,7 @@ const STREAMS: &[(&str, Wanted<'static>)] = &[
         "live a --width 9 --every 1 b",
         Wanted::Live(9, 1, &["a", "b"]),
     ),
+    ("live --strict a", Wanted::StrictLive(&["a"])),
     ("live -o x.json a", Wanted::Live(1_200, 1_000, &["a"])),
     (
         "live --ring 8",
@@ -45,7 +46,7 @@ const REFUSED_LINES: &[(&str, Wanted<'static>)] = &[
     ("live --hide f", REFUSED),
     ("live --from f", REFUSED),
     ("live --omit f", REFUSED),
-    ("live --strict", REFUSED),
+    ("live --strict --strict", REFUSED),
     ("live --page", REFUSED),
     ("live --svg", REFUSED),
     ("live --quiet", REFUSED),

@@ -91,6 +91,8 @@ pub(crate) enum Wanted<'a> {
     Calls(Calls<'a>),
     /// The graphs of streams, of this width and after so many samples, of these files.
     Live(u32, u64, &'a [&'a str]),
+    /// The same of width 1200 after 1000 samples, read strictly.
+    StrictLive(&'a [&'a str]),
     /// Words that are refused, with a text that begins so, has this part, and tells how to get help.
     Refused(&'a str, &'a str),
     /// Help, which has this part.
@@ -223,6 +225,10 @@ fn is_live(plan: &Plan, width: u32, every: u64, files: &[&str]) -> bool {
         && are(&plan.files, files)
 }
 
+fn is_strict_live(plan: &Plan, files: &[&str]) -> bool {
+    plan.is_strict && is_live(plan, 1_200, 1_000, files)
+}
+
 fn are_calls(plan: &Plan, calls: &Calls<'_>) -> bool {
     plan.view == View::Fold
         && match &plan.form {
@@ -260,7 +266,10 @@ pub(crate) fn has(plan: &Plan, wanted: &Wanted<'_>) -> bool {
         Wanted::Share(is_share) => is_of_shares(&plan.form, is_share),
         Wanted::Types(file) => is_of_types(plan, file),
         Wanted::Calls(calls) => are_calls(plan, &calls),
-        Wanted::Live(width, every, files) => is_live(plan, width, every, files),
+        Wanted::Live(width, every, files) => {
+            !plan.is_strict && is_live(plan, width, every, files)
+        }
+        Wanted::StrictLive(files) => is_strict_live(plan, files),
         Wanted::Refused(..) | Wanted::Help(_) | Wanted::Version => false,
     }
 }

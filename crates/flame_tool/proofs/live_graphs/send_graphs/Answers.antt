@@ -93,7 +93,7 @@ returns-clause-ok g c =
     let run = subst (λ taken. CollectsRun anywhere anywhere answer.rests taken left.lines.merge.taken lists order) none answer.holds.run in
     let text = text_of_run answer.rests left.lines.merge.taken lists order same count run in
     let gained = subst (λ contents. Appends contents (g.W.Outlet.contents c.finish.new.out) (live_text left.lines.merge.sources left.lines.width left.lines.every left.lines.merge.taken)) same.contents_are c.in_ok-finish.ensures.ok in
-    let told = ap status_of_ends (sym c.deref-2.ensures.value) ∙ sym c.status_of_ends.ensures in
+    let told = ap (status_of_ends c.args.plan.now.is_strict) (sym c.deref-2.ensures.value) ∙ sym c.status_of_ends.ensures in
     record {
       rests = answer.rests;
       are_given = answer.are_given;

@@ -13,4 +13,4 @@ returns-in_err-readers-clause-told g c =
 pub returns-clause-told : goal.returns-clause-told
 returns-clause-told g c =
     result_tells (λ reader. g.R.RowReader.gives reader) (g.S.Streams.known_input c.args.streams.now) (g.S.Streams.known_file c.args.streams.now) c.args.plan.now.files c.in_ok-readers.readers.items c.args.plan.now (g.W.Outlet.contents c.args.out.now) (g.W.Outlet.contents c.send_graphs.new.out) c.send_graphs.result
-    (subst (λ (paths : List (List ℕ)). AreOpened (λ reader. g.R.RowReader.gives reader) (g.S.Streams.known_input c.args.streams.now) (g.S.Streams.known_file c.args.streams.now) paths c.in_ok-readers.readers.items) c.get.ensures c.in_ok-readers.ensures.opened) c.send_graphs.ensures.ok c.send_graphs.ensures.err
+    (subst (λ (paths : List (List ℕ)). AreOpened c.args.plan.now.is_strict (λ reader. g.R.RowReader.gives reader) (g.S.Streams.known_input c.args.streams.now) (g.S.Streams.known_file c.args.streams.now) paths c.in_ok-readers.readers.items) c.get.ensures c.in_ok-readers.ensures.opened) c.send_graphs.ensures.ok c.send_graphs.ensures.err

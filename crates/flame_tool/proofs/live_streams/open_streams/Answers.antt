@@ -21,9 +21,9 @@ loop-path-preserved g c =
     let added : c.add_reader-in-loop-path.new.readers.items ≡ readers ++ reader ∷ [] = c.in_ok-add_reader-2.ensures in
     let is : path ≡ get_or paths at path = search rules in
     let bytes : c.deref.result.now ≡ string_bytes path = search rules in
-    let here : IsOfFile (λ reader. g.R.RowReader.gives reader) known (string_bytes path) reader =
-    subst (λ files. IsOfFile (λ reader. g.R.RowReader.gives reader) files (string_bytes path) reader) so_far.files
-    (subst (λ bytes. IsOfFile (λ reader. g.R.RowReader.gives reader) (g.S.Streams.known_file c.loop-path.streams) bytes reader) bytes c.in_ok-reader.ensures.opened) in
+    let here : IsOfFile c.args.is_strict (λ reader. g.R.RowReader.gives reader) known (string_bytes path) reader =
+    subst (λ files. IsOfFile c.args.is_strict (λ reader. g.R.RowReader.gives reader) files (string_bytes path) reader) so_far.files
+    (subst (λ bytes. IsOfFile c.args.is_strict (λ reader. g.R.RowReader.gives reader) (g.S.Streams.known_file c.loop-path.streams) bytes reader) bytes c.in_ok-reader.ensures.opened) in
     let present : absent (string_bytes path) ≡ false =
     subst (λ absences. absences (string_bytes path) ≡ false) so_far.absences
     (subst (λ bytes. g.S.Streams.is_absent c.loop-path.streams bytes ≡ false) bytes (not_true _ c.in_ok-reader.ensures.absent)) in
@@ -35,15 +35,15 @@ loop-path-preserved g c =
           (All-push (λ reader. g.R.RowReader.told reader ≡ record { names = []; stacks = [] }) readers reader so_far.nothing_told c.in_ok-reader.ensures.nothing_told);
       possible = subst (All (λ reader. GivesSome (g.R.RowReader.gives reader))) (sym added)
           (All-push (λ reader. GivesSome (g.R.RowReader.gives reader)) readers reader so_far.possible c.in_ok-reader.ensures.possible);
-      opened = subst (AllZip (IsOfFile (λ reader. g.R.RowReader.gives reader) known) (map string_bytes (take (at + 1) paths))) (sym added)
-          (opened_more (λ reader. g.R.RowReader.gives reader) string_bytes known paths at path readers reader (omega arith) is so_far.opened here);
+      opened = subst (AllZip (IsOfFile c.args.is_strict (λ reader. g.R.RowReader.gives reader) known) (map string_bytes (take (at + 1) paths))) (sym added)
+          (opened_more c.args.is_strict (λ reader. g.R.RowReader.gives reader) string_bytes known paths at path readers reader (omega arith) is so_far.opened here);
       present = present_more absent string_bytes paths at path (omega arith) is so_far.present present;
     }
 
 pub returns-clause-opened : goal.returns-clause-opened
 returns-clause-opened g c =
     let some : 0 < length c.args.paths.now = omega (arith, eqb-false (length c.args.paths.now) 0 (sym c.if-is_empty.ensures)) in
-    opened_whole (λ reader. g.R.RowReader.gives reader) string_bytes (g.S.Streams.known_input c.args.streams.now) (g.S.Streams.known_file c.args.streams.now) c.args.paths.now c.loop-path.path-index c.loop-path.readers.items some (omega arith) c.loop-path.invariant.opened
+    opened_whole c.args.is_strict (λ reader. g.R.RowReader.gives reader) string_bytes (g.S.Streams.known_input c.args.streams.now) (g.S.Streams.known_file c.args.streams.now) c.args.paths.now c.loop-path.path-index c.loop-path.readers.items some (omega arith) c.loop-path.invariant.opened
 
 pub returns-clause-few : goal.returns-clause-few
 returns-clause-few g c = omega (arith, c.loop-path.invariant.count)

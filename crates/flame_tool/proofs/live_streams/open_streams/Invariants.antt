@@ -12,6 +12,6 @@ invariant-loop-path g l = record {
   absences : g.S.Streams.is_absent l.streams ≡ g.S.Streams.is_absent l.fn.streams;
   nothing_told : All (λ reader. g.R.RowReader.told reader ≡ record { names = []; stacks = [] }) l.readers.items;
   possible : All (λ reader. GivesSome (g.R.RowReader.gives reader)) l.readers.items;
-  opened : AllZip (IsOfFile (λ reader. g.R.RowReader.gives reader) (g.S.Streams.known_file l.fn.streams)) (map string_bytes (take l.path-index l.paths)) l.readers.items;
+  opened : AllZip (IsOfFile l.is_strict (λ reader. g.R.RowReader.gives reader) (g.S.Streams.known_file l.fn.streams)) (map string_bytes (take l.path-index l.paths)) l.readers.items;
   present : list_any (g.S.Streams.is_absent l.fn.streams) (map string_bytes (take l.path-index l.paths)) ≡ false;
 }

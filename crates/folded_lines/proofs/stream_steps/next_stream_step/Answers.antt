@@ -17,7 +17,7 @@ loop-counts-preserved g c =
     record {
       place = c.in_ok-take_line.ensures.place;
       gives = λ rest given. c.loop-counts.invariant.gives rest
-          (kept_gives _ _ _ _ c.loop-counts.lines c.find_line.new.self c.loop-counts.counts c.find_line.ensures.kept rest (line rest given));
+          (kept_gives _ _ _ _ c.loop-counts.lines c.find_line.new.self c.loop-counts.counts c.find_line.ensures.kept c.find_line.ensures.strictness rest (line rest given));
       told = tells ∙ c.loop-counts.invariant.told;
     }
 
@@ -30,7 +30,7 @@ returns-in-Fault-clause-step g c =
     let old : Rest → Type 0 = GivesAt (g.I.Inlet.remaining c.args.lines.now.inlet) (g.I.Inlet.is_sure c.args.lines.now.inlet) c.args.lines.now c.args.counts.now in
     let here : old (fault (c.loop-counts.counts.taken + 1)) =
     c.loop-counts.invariant.gives (fault (c.loop-counts.counts.taken + 1))
-    (kept_gives _ _ _ _ c.loop-counts.lines c.find_line.new.self c.loop-counts.counts c.find_line.ensures.kept (fault (c.loop-counts.counts.taken + 1)) (line some.rest some.is_given)) in
+    (kept_gives _ _ _ _ c.loop-counts.lines c.find_line.new.self c.loop-counts.counts c.find_line.ensures.kept c.find_line.ensures.strictness (fault (c.loop-counts.counts.taken + 1)) (line some.rest some.is_given)) in
     steps_end old (λ rest. rest ≡ fault c.take_line.new.counts.taken) c.args.telling.now c.take_line.new.telling (ends.Fault (record { kind = c.in-Fault.kind; at = c.take_line.new.counts.taken }))
     (tells ∙ c.loop-counts.invariant.told) (subst (λ at. old (fault at)) (sym c.in_ok-take_line.ensures.nearer) here)
 
@@ -45,7 +45,7 @@ returns-in-New-clause-step g c =
     c.args.telling.now c.take_line.new.telling c.in-New.names c.in-New.frames c.in-New.weight
     (subst (λ (told : ToldRows). TellsLine told (row.New c.in-New.names c.in-New.frames c.in-New.weight) c.take_line.new.telling) c.loop-counts.invariant.told tells)
     (λ after given. c.loop-counts.invariant.gives _
-    (kept_gives _ _ _ _ c.loop-counts.lines c.find_line.new.self c.loop-counts.counts c.find_line.ensures.kept _ (line after given)))
+    (kept_gives _ _ _ _ c.loop-counts.lines c.find_line.new.self c.loop-counts.counts c.find_line.ensures.kept c.find_line.ensures.strictness _ (line after given)))
 
 pub returns-in-Again-clause-step : goal.returns-in-Again-clause-step
 returns-in-Again-clause-step g c =
@@ -58,4 +58,4 @@ returns-in-Again-clause-step g c =
     c.args.telling.now c.take_line.new.telling c.in-Again.row c.in-Again.weight
     (subst (λ (told : ToldRows). TellsLine told (row.Again c.in-Again.row c.in-Again.weight) c.take_line.new.telling) c.loop-counts.invariant.told tells)
     (λ after given. c.loop-counts.invariant.gives _
-    (kept_gives _ _ _ _ c.loop-counts.lines c.find_line.new.self c.loop-counts.counts c.find_line.ensures.kept _ (line after given)))
+    (kept_gives _ _ _ _ c.loop-counts.lines c.find_line.new.self c.loop-counts.counts c.find_line.ensures.kept c.find_line.ensures.strictness _ (line after given)))

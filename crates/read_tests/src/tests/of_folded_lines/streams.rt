@@ -109,6 +109,83 @@ fn failing_reads(rt: HostRuntime) -> Result<(), Fail> {
     Ok(())
 }
 
+/// `FoldedStream::strict_over` in the same way.
+fn strict_over(
+    alloc: Global,
+    bytes: &[u8],
+    size: usize,
+    fails: bool,
+) -> FoldedStream<CountedReader<Pieces<'_>>> {
+    let pieces = Pieces { bytes, size, fails };
+    FoldedStream::strict_over(alloc, CountedReader::new(pieces))
+}
+
+/// A text, whether a read fails behind it, the lines of its samples up to the first ignored line, and how they end.
+type Strict<'a> = (&'a [u8], bool, &'a [u8], SourceEnd);
+
+fn reads_strictly(
+    rt: &(impl Abort + AllocGlobal),
+    strict: &Strict<'_>,
+    size: usize,
+) -> Result<(), AllocError> {
+    let (text, fails, lines, ending) = strict;
+    let mut read = Vec::new(rt.alloc());
+    let mut end = None;
+    let mut stream = strict_over(rt.alloc(), text, size, *fails);
+    append_rows(rt.alloc(), &mut stream, &mut read, &mut end)?;
+    are_lines(rt, &read, lines);
+    is_end(rt, end, *ending);
+    Ok(())
+}
+
+const TWO_COLUMNS: SourceEnd = SourceEnd::Fault(ReadFault {
+    kind: ReadKind::TwoColumns,
+    at: 2,
+});
+
+const STRICT: &[Strict<'static>] = &[
+    (b"", false, b"", SourceEnd::Clean { ignored: 0 }),
+    (
+        b"a 1\nb 2",
+        false,
+        b"a 1\nb 2\n",
+        SourceEnd::Clean { ignored: 0 },
+    ),
+    (
+        b"a 1\r\nno\r\nb 2\r\n",
+        false,
+        b"a 1\n",
+        SourceEnd::Clean { ignored: 1 },
+    ),
+    (b"a 1\nno", false, b"a 1\n", SourceEnd::Clean { ignored: 1 }),
+    (b"\na 1\n", false, b"", SourceEnd::Clean { ignored: 1 }),
+    (
+        b"a 1\nno\nb 1 2\n",
+        false,
+        b"a 1\n",
+        SourceEnd::Clean { ignored: 1 },
+    ),
+    (b"a 1\nb 1 2\nno\n", false, b"a 1\n", TWO_COLUMNS),
+    (
+        b"a 1\nno\nb 1\n",
+        true,
+        b"a 1\n",
+        SourceEnd::Clean { ignored: 1 },
+    ),
+    (b"a 1\nno", true, b"a 1\n", SourceEnd::Stopped { after: 1 }),
+    (b"", true, b"", SourceEnd::Stopped { after: 0 }),
+];
+
+/// Read strictly, the first ignored line ends a stream, and no read behind it fails.
+#[test]
+fn strict_streams(rt: HostRuntime) -> Result<(), Fail> {
+    for strict in STRICT {
+        reads_strictly(&rt, strict, 1)?;
+        reads_strictly(&rt, strict, 5)?;
+    }
+    Ok(())
+}
+
 /// Appends a line that is longer than the buffer is at first, between others.
 fn append_long(text: &mut Vec<u8>) -> Result<(), AllocError> {
     text.extend_from_slice(b"a 1\n")?;
@@ -127,6 +204,28 @@ fn long_is_read(rt: &(impl Abort + AllocGlobal), text: &mut Vec<u8>) -> Result<(
 #[test]
 fn long_lines(rt: HostRuntime) -> Result<(), Fail> {
     long_is_read(&rt, &mut Vec::new(rt.alloc()))?;
+    Ok(())
+}
+
+/// An ignored line behind lines that fill the buffer, in the middle of a piece or in pieces.
+fn long_is_read_strictly(
+    rt: &(impl Abort + AllocGlobal),
+    lines: &mut Vec<u8>,
+    text: &mut Vec<u8>,
+) -> Result<(), AllocError> {
+    append_long(lines)?;
+    append_long(text)?;
+    text.extend_from_slice(b"no count here\na 4\n")?;
+    let ending = SourceEnd::Clean { ignored: 1 };
+    for size in [7, 999, 1_000_000] {
+        reads_strictly(rt, &(text, true, lines, ending), size)?;
+    }
+    Ok(())
+}
+
+#[test]
+fn strict_refills(rt: HostRuntime) -> Result<(), Fail> {
+    long_is_read_strictly(&rt, &mut Vec::new(rt.alloc()), &mut Vec::new(rt.alloc()))?;
     Ok(())
 }
 

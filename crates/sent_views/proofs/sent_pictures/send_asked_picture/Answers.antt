@@ -9,7 +9,7 @@ use Rattle.sent_views.proofs.sent_pictures.send_asked_picture.Goals as goal
 pub returns-clause-sent : goal.returns-clause-sent
 returns-clause-sent g c =
     let asked = c.args.asked.now in
-    let lists = samples_of c.args.sources.now.lists in
+    let lists = samples_of c.args.sources.lists in
     let title = c.deref.ensures ∙ c.in_ok-title.ensures ∙ ap (λ (files : List (List ℕ)). unwrap_or asked.form.now.title (default_title files)) c.get-files.ensures in
     let sources = ap (map source_of) c.deref-2.ensures.value ∙ c.in_ok-described.ensures ∙ (λ i. sources_of asked.plan.now.unit (c.get-files.ensures i) (c.get-types.ensures i) lists) in
     let unit = c.common.ensures ∙ ap (λ all. common_unit (units_with_weight all)) sources in

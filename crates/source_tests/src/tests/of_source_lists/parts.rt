@@ -24,10 +24,14 @@ fn one_input(alloc: Global, format: Format, bytes: &[u8]) -> Result<Vec<Input>, 
     Ok(vec![in alloc; input_of(alloc, format, bytes)?]?)
 }
 
-pub(super) fn one_stored(alloc: Global, text: &[u8]) -> Result<Vec<Input>, AllocError>
+pub(super) fn one_stored(
+    alloc: Global,
+    format: Format,
+    bytes: &[u8],
+) -> Result<Vec<Input>, AllocError>
     ensures { IfOk result (λ inputs. length inputs.items ≡ 1) }
 {
-    Ok(vec![in alloc; stored_input(alloc, text)?]?)
+    Ok(vec![in alloc; stored_input(alloc, format, bytes)?]?)
 }
 
 /// A gate that never stops, which makes each source be read by one reader.
@@ -42,15 +46,6 @@ fn read_as_parts<T: Threads + Wait + Copy + Send + 'static>(
     bytes: &[u8],
 ) -> Result<Run, RunFault> {
     read_open(rt, alloc, one_input(alloc, format, bytes)?)
-}
-
-/// The same of a text that is stored.
-fn read_stored_as_parts<T: Threads + Wait + Copy + Send + 'static>(
-    rt: &T,
-    alloc: Global,
-    text: &[u8],
-) -> Result<Run, RunFault> {
-    read_open(rt, alloc, one_stored(alloc, text)?)
 }
 
 /// A run in which no gate is asked.
@@ -155,40 +150,29 @@ fn is_read_alike<T: Threads + Wait + Copy + Send + 'static>(
     is_as_read_by_one(rt, alloc, format, bytes, &parts, ending)
 }
 
-/// The same of a text that is stored.
+/// The same of a source that is stored.
 fn is_stored_alike<T: Threads + Wait + Copy + Send + 'static>(
     rt: &T,
     alloc: Global,
-    text: &mut Vec<u8>,
+    bytes: &mut Vec<u8>,
     source: &Long,
 ) -> Result<bool, RunFault> {
     let (format, sections, ending) = *source;
-    append_sections(text, sections)?;
-    let parts = read_stored_as_parts(rt, alloc, text)?;
-    is_as_read_by_one(rt, alloc, format, text, &parts, ending)
+    append_sections(bytes, sections)?;
+    let parts = read_open(rt, alloc, one_stored(alloc, format, bytes)?)?;
+    is_as_read_by_one(rt, alloc, format, bytes, &parts, ending)
 }
 
-fn are_stored_alike<T: Threads + Wait + Copy + Send + 'static>(
-    rt: &T,
-    alloc: Global,
-    texts: &[Long],
-) -> Result<bool, RunFault> {
-    for text in texts {
-        if !is_stored_alike(rt, alloc, &mut Vec::new(alloc), text)? {
-            return Ok(false);
-        }
-    }
-    Ok(true)
-}
-
-/// Each source, read in parts, is as read by one reader.
+/// Each source, loaded or stored and read in parts, is as read by one reader.
 fn are_read_alike<T: Threads + Wait + Copy + Send + 'static>(
     rt: &T,
     alloc: Global,
     sources: &[Long],
 ) -> Result<bool, RunFault> {
     for source in sources {
-        if !is_read_alike(rt, alloc, &mut Vec::new(alloc), source)? {
+        if !is_read_alike(rt, alloc, &mut Vec::new(alloc), source)?
+            || !is_stored_alike(rt, alloc, &mut Vec::new(alloc), source)?
+        {
             return Ok(false);
         }
     }
@@ -213,21 +197,6 @@ fn long_text_that_weighs_too_much(rt: HostRuntime) -> Result<(), Fail> {
 #[test]
 fn long_compressed_text(rt: HostRuntime) -> Result<(), Fail> {
     holds(&rt, are_read_alike(&rt, rt.alloc(), COMPRESSED))
-}
-
-#[test]
-fn long_stored_texts_in_parts(rt: HostRuntime) -> Result<(), Fail> {
-    holds(&rt, are_stored_alike(&rt, rt.alloc(), TEXTS))
-}
-
-#[test]
-fn fault_of_a_long_stored_text(rt: HostRuntime) -> Result<(), Fail> {
-    holds(&rt, are_stored_alike(&rt, rt.alloc(), WITH_FAULT))
-}
-
-#[test]
-fn long_stored_text_that_weighs_too_much(rt: HostRuntime) -> Result<(), Fail> {
-    holds(&rt, are_stored_alike(&rt, rt.alloc(), TOO_HEAVY))
 }
 
 #[test]

@@ -9,7 +9,7 @@ use Rattle.source_views.proofs.call_texts.send_calls.Goals as goal
 pub returns-then-table-clause-sent : goal.returns-then-table-clause-sent
 returns-then-table-clause-sent g c =
     let table = c.args.table.now in
-    let samples = all_samples (samples_of c.args.sources.now.lists) in
+    let samples = all_samples (samples_of c.args.sources.lists) in
     let told = told_of c.args.telling.now in
     let weighed = c.deref.ensures.value ∙ c.in_ok-sums.ensures samples c.in_ok-merged.ensures in
     let line = calls_line told c.args.side table.name table.rows samples in

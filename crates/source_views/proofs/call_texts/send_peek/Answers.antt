@@ -10,7 +10,7 @@ use Rattle.source_views.proofs.call_texts.send_peek.Goals as goal
 pub returns-then-table-clause-sent : goal.returns-then-table-clause-sent
 returns-then-table-clause-sent g c =
     let table = c.args.table.now in
-    let samples = all_samples (samples_of c.args.sources.now.lists) in
+    let samples = all_samples (samples_of c.args.sources.lists) in
     let told = told_of c.args.telling.now in
     let callers = c.of_calls-first.ensures.calls table.name samples (c.deref.ensures.value ∙ c.in_ok-callers.ensures samples c.in_ok-merged.ensures) in
     let callees = c.of_calls-then.ensures.calls table.name samples (c.deref-then-table.ensures.value ∙ c.in_ok-callees.ensures samples c.in_ok-merged.ensures) in

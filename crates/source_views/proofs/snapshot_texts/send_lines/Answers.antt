@@ -22,7 +22,7 @@ returns-clause-ok g c =
     let lists = samples_of run.lists in
     on_ok_weaker c.send_pieces.result (λ gone.
     Appends-trans _ _ _ (lines_upto c.args.width c.args.every lists run.order (length run.order)) (graph_line c.args.width (all_samples lists)) c.in_ok-send_moments.ensures.ok
-    (subst (λ (text : List ℕ). Appends (g.W.Outlet.contents c.send_moments.new.out) (g.W.Outlet.contents c.send_pieces.new.out) text) c.drawn_graph.ensures.text gone)) c.send_pieces.ensures.ok
+    (subst (λ (text : List ℕ). Appends (g.W.Outlet.contents c.send_moments.new.out) (g.W.Outlet.contents c.send_pieces.new.out) text) (c.drawn_graph-line.ensures.text (all_samples lists) c.requires.boxes c.total.ensures.total) gone)) c.send_pieces.ensures.ok
 
 pub returns-clause-front : goal.returns-clause-front
 returns-clause-front g c =
@@ -30,4 +30,7 @@ returns-clause-front g c =
     let lists = samples_of run.lists in
     on_err_weaker c.send_pieces.result (λ gone.
     front_after (lines_upto c.args.width c.args.every lists run.order (length run.order)) (graph_line c.args.width (all_samples lists)) _ _ _ c.in_ok-send_moments.ensures.ok
-    (subst (λ (text : List ℕ). AppendsFront text (g.W.Outlet.contents c.send_moments.new.out) (g.W.Outlet.contents c.send_pieces.new.out)) c.drawn_graph.ensures.text gone)) c.send_pieces.ensures.front
+    (subst (λ (text : List ℕ). AppendsFront text (g.W.Outlet.contents c.send_moments.new.out) (g.W.Outlet.contents c.send_pieces.new.out)) (c.drawn_graph-line.ensures.text (all_samples lists) c.requires.boxes c.total.ensures.total) gone)) c.send_pieces.ensures.front
+
+pub drawn_graph-line-requires : goal.drawn_graph-line-requires
+drawn_graph-line-requires g c = (all_samples (samples_of c.args.sources.now.lists), c.requires.boxes, c.total.ensures.total)

@@ -9,6 +9,6 @@ use Rattle.source_views.proofs.view_text.send_fold.Goals as goal
 
 pub returns-clause-sent : goal.returns-clause-sent
 returns-clause-sent g c =
-    let samples = all_samples (samples_of c.args.sources.now.lists) in
+    let samples = all_samples (samples_of c.args.sources.lists) in
     let text = ap (λ (m : Ranking). concat (stack_lines (ranked_samples m))) c.of.ensures.stacks ∙ c.of.ensures.text samples c.in_ok-merged.ensures in
     subst (λ (text : List ℕ). Sends text (g.W.Outlet.contents c.args.out.now) (g.W.Outlet.contents c.send.new.out) c.send.result) text c.send.ensures.sent

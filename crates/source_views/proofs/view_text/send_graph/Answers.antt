@@ -4,10 +4,13 @@ use Rattle.merging.specs.Sums.{all_samples}
 use Rattle.opened_sources.specs.Failures.{Sends}
 use Rattle.source_views.proofs.view_text.send_graph.Goals as goal
 
-pub returns-clause-sent : goal.returns-clause-sent
-returns-clause-sent g c = subst (λ (text : List ℕ). Sends text (g.W.Outlet.contents c.args.out.now) (g.W.Outlet.contents c.send.new.out) c.send.result) c.drawn_graph-line.ensures.text c.send.ensures.sent
-
 pub drawn_graph-line-requires : goal.drawn_graph-line-requires
-drawn_graph-line-requires g c = record {
-  boxes = c.in_ok-chart.ensures.graph (all_samples (samples_of c.args.sources.now.lists)) c.in_ok-merged.ensures;
-}
+drawn_graph-line-requires g c =
+    let samples = all_samples (samples_of c.args.sources.lists) in
+    (samples, c.in_ok-chart.ensures.graph samples c.in_ok-merged.ensures, c.total-total.ensures)
+
+pub returns-clause-sent : goal.returns-clause-sent
+returns-clause-sent g c =
+    let samples = all_samples (samples_of c.args.sources.lists) in
+    subst (λ (text : List ℕ). Sends text (g.W.Outlet.contents c.args.out.now) (g.W.Outlet.contents c.send.new.out) c.send.result)
+    (c.drawn_graph-line.ensures.text samples (c.in_ok-chart.ensures.graph samples c.in_ok-merged.ensures) c.total-total.ensures) c.send.ensures.sent

@@ -119,11 +119,11 @@ fn runs_whole<T: Threads + Wait + Copy + Send + 'static>(
 }
 
 const FEW: Counts = Counts {
-    samples: [40, 100],
+    samples: [40, 150],
     alike: 1,
 };
 
-/// A run whose longest source fills several batches is whole.
+/// A run whose longest source fills a batch and begins the next is whole.
 pub(super) fn few_run_whole<T: Threads + Wait + Copy + Send + 'static>(
     rt: &T,
     alloc: Global,
@@ -194,9 +194,9 @@ fn batches_in_large_rings(rt: HostRuntime) -> Result<(), Fail> {
     holds(&rt, run_in_rings_of(&rt, rt.alloc(), &NEW_THROUGHOUT, many))
 }
 
-/// In the largest ring each record goes by itself.
+/// In the largest ring each batch has 4,096 records.
 #[test]
-fn single_records_in_the_largest_ring(rt: HostRuntime) -> Result<(), Fail> {
+fn batches_in_the_largest_ring(rt: HostRuntime) -> Result<(), Fail> {
     let largest = RingSize::of(65_536).unwrap();
     holds(
         &rt,

@@ -56,6 +56,9 @@ returns-in-Unit c = c.text_option-in-Unit.ensures ∙ sym (ap rule_at c.in-Unit.
 pub returns-in-Strict : goal.returns-in-Strict
 returns-in-Strict c = c.flag-in-Strict.ensures ∙ sym (ap rule_at c.in-Strict.is)
 
+pub returns-in-LiveStrict : goal.returns-in-LiveStrict
+returns-in-LiveStrict c = c.flag-in-LiveStrict.ensures ∙ sym (ap rule_at c.in-LiveStrict.is)
+
 pub returns-in-Output : goal.returns-in-Output
 returns-in-Output c = c.output_option.ensures ∙ sym (ap rule_at c.in-Output.is)
 

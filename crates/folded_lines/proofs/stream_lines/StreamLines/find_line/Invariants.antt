@@ -1,4 +1,4 @@
--- What may come now might have come when the search began, and no read failed so far.
+-- What may come now might have come when the search began, they are read as strictly, and no read failed so far.
 use Rattle.std.proofs.Common.{◌≡◌, ◌≢◌, ◌-◌, ◌^◌, length}
 use Rattle.folded_lines.specs.Streams.{Coming}
 use Rattle.folded_lines.specs.checked.StreamLines.{LinesMayCome, unread_of}
@@ -10,6 +10,7 @@ invariant-more g l = record {
   kept : (coming : Coming) → LinesMayCome (g.I.Inlet.remaining l.self.inlet) (g.I.Inlet.is_sure l.self.inlet) l.self coming
       → LinesMayCome (g.I.Inlet.remaining l.initial.self.inlet) (g.I.Inlet.is_sure l.initial.self.inlet) l.initial.self coming;
   surety : g.I.Inlet.is_sure l.self.inlet ≡ g.I.Inlet.is_sure l.initial.self.inlet;
+  strictness : l.self.is_strict ≡ l.initial.self.is_strict;
   unfailed : l.self.state ≢ Failed;
 }
 

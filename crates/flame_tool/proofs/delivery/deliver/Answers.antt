@@ -1,0 +1,34 @@
+use Rattle.std.proofs.Common.{◌≡◌, ◌∙◌, ℕ, Bool, List, Result, Ok, IfOk, inl, inr, subst, sym}
+use Rattle.command_line.specs.declared.destinations.Destination.{Destination}
+use Rattle.command_line.specs.declared.destinations.Destination.TheVariants.{File, Standard}
+use Rattle.flame_tool.specs.Delivery.{IfFile, IfStandard}
+use Rattle.flame_tool.proofs.delivery.deliver.Goals as goal
+
+-- what was found is what is wanted
+found_is : {E : Type 0} (found : Result Destination E) (it wanted shape : Destination) → IfOk found (λ it. it ≡ wanted) → found ≡ Ok it → it ≡ shape → shape ≡ wanted
+found_is found it wanted shape same is shaped = sym shaped ∙ subst (λ found. IfOk found (λ it. it ≡ wanted)) is same
+
+of_file : (wanted : Destination) (path : List ℕ) (holds : List ℕ → Type 0) → File path ≡ wanted → holds path → IfFile wanted holds
+of_file wanted path holds is here = subst (λ wanted. IfFile wanted holds) is here
+
+of_standard : (wanted : Destination) (is_document : Bool) (holds : Bool → Type 0) → Standard is_document ≡ wanted → holds is_document → IfStandard wanted holds
+of_standard wanted is_document holds is here = subst (λ wanted. IfStandard wanted holds) is here
+
+no_file : (wanted : Destination) (is_document : Bool) (holds : List ℕ → Type 0) → Standard is_document ≡ wanted → IfFile wanted holds
+no_file wanted is_document holds is = subst (λ wanted. IfFile wanted holds) is tt
+
+pub returns-in-Ok-File-clause-file : goal.returns-in-Ok-File-clause-file
+returns-in-Ok-File-clause-file g c =
+    of_file _ _ _ (found_is _ _ _ _ (rw c.as_slice.ensures.value at c.asked_destination.ensures) c.in-Ok-File.is c.in-Ok-File.field-0-is) (rw c.get.ensures at c.deliver_file.ensures)
+
+pub returns-in-Ok-Standard-clause-file : goal.returns-in-Ok-Standard-clause-file
+returns-in-Ok-Standard-clause-file g c =
+    no_file _ _ _ (found_is _ _ _ _ (rw c.as_slice.ensures.value at c.asked_destination.ensures) c.in-Ok-Standard.is c.in-Ok-Standard.field-0-is)
+
+pub returns-in-Ok-Standard-clause-standard : goal.returns-in-Ok-Standard-clause-standard
+returns-in-Ok-Standard-clause-standard g c =
+    of_standard _ _ _ (found_is _ _ _ _ (rw c.as_slice.ensures.value at c.asked_destination.ensures) c.in-Ok-Standard.is c.in-Ok-Standard.field-0-is) (λ fine. inr (c.deliver_standard.ensures.standard fine))
+
+pub returns-in-Ok-Standard-clause-terminal : goal.returns-in-Ok-Standard-clause-terminal
+returns-in-Ok-Standard-clause-terminal g c =
+    of_standard _ _ _ (found_is _ _ _ _ (rw c.as_slice.ensures.value at c.asked_destination.ensures) c.in-Ok-Standard.is c.in-Ok-Standard.field-0-is) (λ terminal. let refused = c.deliver_standard.ensures.terminal terminal in (inl refused.0, refused.1))

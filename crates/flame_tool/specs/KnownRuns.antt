@@ -1,0 +1,167 @@
+-- All that is promised of what a run leaves on its outlets: the clauses of `run` and of `live`, one beside the other.
+use Rattle.std.specs.Prelude.{◌≡◌, ◌≢◌, ◌≤◌, ◌<◌, ◌⊎◌, ℕ, Bool, true, false, List, [], Option, None, IfSome, IsSome, IsSomeAnd, length}
+use Rattle.std.specs.Io.KnownBytes.{Appends, Keeps}
+use Rattle.std.specs.List.{list_any}
+use Rattle.clap.specs.Walk.{Text}
+use Rattle.folded_lines.specs.Reading.{read_folded}
+use Rattle.command_line.specs.Plans.{limit_of}
+use Rattle.command_line.specs.declared.plans.CallTable.{CallTable}
+use Rattle.command_line.specs.declared.plans.Form.TheVariants as form
+use Rattle.command_line.specs.declared.plans.PageForm.{PageForm}
+use Rattle.command_line.specs.declared.plans.PictureForm.{PictureForm}
+use Rattle.command_line.specs.declared.plans.Plan.{Plan}
+use Rattle.function_sums.specs.declared.call_sides.CallSide.TheVariants.{Callers, Callees}
+use Rattle.sent_views.specs.Pages.{called_text, page_text, peeked_text, picture_text, told_in}
+use Rattle.source_views.specs.Texts.{IsOrderless, told_text, view_text}
+use Rattle.flame_tool.specs.KnownFacts.{known_facts}
+use Rattle.flame_tool.specs.LiveRuns.{AreFaultless, HasTextFault, ShowsFirst, ShowsLive, ShowsSome, known_texts, read_texts}
+use Rattle.flame_tool.specs.Requests.{AreRefused, AsksForHelp, HasLimit, asked_faults, asked_plan, known_rests}
+use Rattle.flame_tool.specs.Runs.{IsClean, IsFault, text_of, lists_of, FailsUntouched, GainsFront, Shows, ShowsFront, ShowsSamples, HasFault, IsOfSamples, HasGrown, HasNotGrown}
+use Rattle.flame_tool.specs.StrictRuns.{HasPlainFault, has_strict_fault, known_sources}
+use Rattle.flame_tool.specs.ToldRuns.{TellsEndings, known_endings}
+use Rattle.flame_tool.specs.TypeRuns.{known_profile, HasTableFault, ShowsTypes, ShowsTypesFront}
+
+-- what is known of files that are read whole
+pub record KnownFiles : Type 0 where
+  pub input : Option (List ℕ)
+  pub named : List ℕ → Option (List ℕ)
+  pub may_have_terminal : Bool
+
+-- what is known of them as streams
+pub record KnownStreams : Type 0 where
+  pub input : Option (List ℕ)
+  pub named : List ℕ → Option (List ℕ)
+  pub is_absent : List ℕ → Bool
+
+-- what an outlet holds before a run and after it, where that is known, and how many of its calls failed
+pub record Change : Type 0 where
+  pub held_before : Option (List ℕ)
+  pub held_after : Option (List ℕ)
+  pub failed_before : ℕ
+  pub failed_after : ℕ
+
+abbrev pub as_files : Option (List ℕ) → (List ℕ → Option (List ℕ)) → Bool → KnownFiles
+as_files input named may_have_terminal =
+    record { input = input; named = named; may_have_terminal = may_have_terminal }
+
+abbrev pub as_streams : Option (List ℕ) → (List ℕ → Option (List ℕ)) → (List ℕ → Bool) → KnownStreams
+as_streams input named is_absent = record { input = input; named = named; is_absent = is_absent }
+
+abbrev pub change : Option (List ℕ) → Option (List ℕ) → ℕ → ℕ → Change
+change held_before held_after failed_before failed_after = record {
+  held_before = held_before;
+  held_after = held_after;
+  failed_before = failed_before;
+  failed_after = failed_after;
+}
+
+-- the clauses of `run`, which answered this status
+pub record RunShows (words : List Text) (files : KnownFiles) (answer : ℕ) (out err : Change) (is_flushed : Type 0) : Type 0 where
+  pub status : (HasLimit words → ⊥) → answer ≤ 3
+  pub status_with_limit : answer ≤ 4
+  pub no_words : length words ≡ 0 → answer ≢ 2
+  pub flushed : answer ≡ 0 → is_flushed
+  pub flushed_grown : answer ≡ 4 → is_flushed
+  pub unfailed : answer ≢ 3 → out.failed_after ≡ out.failed_before
+  pub clean : length words ≡ 0 → answer ≡ 0 → IfSome files.input (λ input. IsClean (read_folded input).ending)
+  pub text : length words ≡ 0 → answer ≡ 0 → IfSome files.input (λ input.
+      Appends out.held_before out.held_after (text_of input))
+  pub fault : length words ≡ 0 → answer ≡ 1 → IfSome files.input (λ input. IsFault (read_folded input).ending)
+  pub unwritten : answer ≡ 1 → Keeps out.held_before out.held_after
+  pub refused : answer ≡ 2 → Keeps out.held_before out.held_after
+  pub front : length words ≡ 0 → answer ≡ 3 → IfSome files.input (λ input. GainsFront input out.held_before out.held_after)
+  pub shown : answer ≡ 0 → AsksForHelp words ⊎ IsSomeAnd (asked_plan words) (λ plan.
+      IfSome (known_rests plan files.input files.named)
+      (Shows plan (known_facts plan files.input files.named) out.held_before out.held_after))
+  pub shown_exactly : answer ≡ 0 → AsksForHelp words ⊎ IsSomeAnd (asked_plan words) (λ plan. plan.form ≡ form.Text
+      → IsOrderless plan.view plan.options.every → IsOfSamples plan.view →
+      IfSome (known_rests plan files.input files.named) (λ rests.
+      Appends out.held_before out.held_after (view_text plan.view (lists_of rests) [] None)))
+  pub shown_with_facts : answer ≡ 0 → AsksForHelp words ⊎ IsSomeAnd (asked_plan words) (λ plan. plan.form ≡ form.Text
+      → IsOrderless plan.view plan.options.every → IfSome (known_facts plan files.input files.named) (λ facts.
+      IfSome (known_rests plan files.input files.named) (λ rests.
+      Appends out.held_before out.held_after (told_text (told_in plan facts (lists_of rests)) plan.view (lists_of rests) [] None))))
+  pub shown_page : answer ≡ 0 → AsksForHelp words ⊎ IsSomeAnd (asked_plan words) (λ plan. (page : PageForm)
+      → plan.form ≡ form.Page page → IsOrderless plan.view plan.options.every →
+      IfSome (known_facts plan files.input files.named) (λ facts.
+      IfSome (known_rests plan files.input files.named) (λ rests.
+      Appends out.held_before out.held_after (page_text plan facts page (lists_of rests) [] None))))
+  pub shown_svg : answer ≡ 0 → AsksForHelp words ⊎ IsSomeAnd (asked_plan words) (λ plan. (picture : PictureForm)
+      → plan.form ≡ form.Picture picture → IfSome (known_facts plan files.input files.named) (λ facts.
+      IfSome (known_rests plan files.input files.named) (λ rests.
+      Appends out.held_before out.held_after (picture_text plan facts picture (lists_of rests)))))
+  pub shown_callers : answer ≡ 0 → AsksForHelp words ⊎ IsSomeAnd (asked_plan words) (λ plan. (table : CallTable)
+      → plan.form ≡ form.Callers table → IfSome (known_facts plan files.input files.named) (λ facts.
+      IfSome (known_rests plan files.input files.named) (λ rests.
+      Appends out.held_before out.held_after (called_text Callers table plan facts (lists_of rests)))))
+  pub shown_callees : answer ≡ 0 → AsksForHelp words ⊎ IsSomeAnd (asked_plan words) (λ plan. (table : CallTable)
+      → plan.form ≡ form.Callees table → IfSome (known_facts plan files.input files.named) (λ facts.
+      IfSome (known_rests plan files.input files.named) (λ rests.
+      Appends out.held_before out.held_after (called_text Callees table plan facts (lists_of rests)))))
+  pub shown_peek : answer ≡ 0 → AsksForHelp words ⊎ IsSomeAnd (asked_plan words) (λ plan. (table : CallTable)
+      → plan.form ≡ form.Peek table → IfSome (known_facts plan files.input files.named) (λ facts.
+      IfSome (known_rests plan files.input files.named) (λ rests.
+      Appends out.held_before out.held_after (peeked_text table plan facts (lists_of rests)))))
+  pub faulty : answer ≡ 1 → IsSomeAnd (asked_plan words) (λ plan. IfSome (known_rests plan files.input files.named)
+      (HasPlainFault plan))
+  pub blamed : answer ≡ 2 → AreRefused words ⊎ IsSomeAnd (asked_plan words) (λ plan. 64 < length plan.files)
+  pub accepted : answer ≤ 1 → AsksForHelp words ⊎ ((asked_faults words ≡ [])
+      × IsSomeAnd (asked_plan words) (λ plan. length plan.files ≤ 64))
+  pub followed : answer ≡ 1 → asked_faults words ≡ []
+  pub partly : answer ≡ 3 → Keeps out.held_before out.held_after ⊎ (AsksForHelp words ⊎ IsSomeAnd (asked_plan words) (λ plan.
+      IfSome (known_rests plan files.input files.named)
+      (ShowsFront plan (known_facts plan files.input files.named) out.held_before out.held_after)))
+  pub partly_followed : answer ≡ 3 → Keeps out.held_before out.held_after ⊎ (AsksForHelp words ⊎ ((asked_faults words ≡ [])
+      × IsSomeAnd (asked_plan words) (λ plan. IfSome (known_rests plan files.input files.named)
+      (ShowsFront plan (known_facts plan files.input files.named) out.held_before out.held_after))))
+  pub untouched : asked_faults words ≡ [] → IfSome (asked_plan words) (λ plan. ShowsSamples plan.form →
+      IfSome (known_rests plan files.input files.named) (λ rests. HasFault rests →
+      FailsUntouched answer out.held_before out.held_after out.failed_before out.failed_after))
+  pub told : files.may_have_terminal ≡ false → answer ≤ 1 → AsksForHelp words
+      ⊎ IsSomeAnd (asked_plan words) (λ plan. ShowsSamples plan.form → plan.is_strict ≡ false →
+      IfSome (known_endings plan files.input files.named)
+      (TellsEndings plan.files err.held_before err.held_after err.failed_before err.failed_after))
+  pub strict : answer ≡ 0 → AsksForHelp words ⊎ IsSomeAnd (asked_plan words) (λ plan. ShowsSamples plan.form
+      → plan.is_strict ≡ true →
+      IfSome (known_sources plan files.input files.named) (λ sources. has_strict_fault plan.options sources ≡ false))
+  pub strict_faulty : answer ≡ 1 → IsSomeAnd (asked_plan words) (λ plan. ShowsSamples plan.form → plan.is_strict ≡ true →
+      IfSome (known_sources plan files.input files.named) (λ sources. has_strict_fault plan.options sources ≡ true))
+  pub strict_untouched : asked_faults words ≡ [] → IfSome (asked_plan words) (λ plan. ShowsSamples plan.form → plan.is_strict ≡ true →
+      IfSome (known_sources plan files.input files.named) (λ sources. has_strict_fault plan.options sources ≡ true →
+      FailsUntouched answer out.held_before out.held_after out.failed_before out.failed_after))
+  pub strict_grown : answer ≡ 4 → IsSomeAnd (asked_plan words) (λ plan. ShowsSamples plan.form → plan.is_strict ≡ true →
+      IfSome (known_sources plan files.input files.named) (λ sources. has_strict_fault plan.options sources ≡ false))
+  pub grown : answer ≡ 4 → IsSomeAnd (asked_plan words) (λ plan. IsSome (limit_of plan.view) ×
+      IfSome (known_rests plan files.input files.named) (HasGrown plan) ×
+      IfSome (known_rests plan files.input files.named)
+      (Shows plan (known_facts plan files.input files.named) out.held_before out.held_after))
+  pub not_grown : answer ≡ 0 → AsksForHelp words ⊎ IsSomeAnd (asked_plan words) (λ plan.
+      IfSome (known_rests plan files.input files.named) (HasNotGrown plan))
+  pub types : answer ≡ 0 → AsksForHelp words ⊎ IsSomeAnd (asked_plan words) (λ plan. plan.form ≡ form.Types →
+      IfSome (known_profile plan files.named) (ShowsTypes out.held_before out.held_after))
+  pub types_faulty : answer ≡ 1 → IsSomeAnd (asked_plan words) (λ plan. plan.form ≡ form.Types →
+      IfSome (known_profile plan files.named) HasTableFault)
+  pub types_partly : answer ≡ 3 → Keeps out.held_before out.held_after ⊎ (AsksForHelp words
+      ⊎ IsSomeAnd (asked_plan words) (λ plan. plan.form ≡ form.Types → IfSome (known_profile plan files.named)
+      (ShowsTypesFront out.held_before out.held_after)))
+  pub types_untouched : asked_faults words ≡ [] → IfSome (asked_plan words) (λ plan. plan.form ≡ form.Types →
+      IfSome (known_profile plan files.named) (λ profile. HasTableFault profile →
+      FailsUntouched answer out.held_before out.held_after out.failed_before out.failed_after))
+
+-- the clauses of `live`
+pub record LiveShows (plan : Plan) (streams : KnownStreams) (answer : ℕ) (out : Change) (is_flushed : Type 0) : Type 0 where
+  pub status : answer ≤ 3
+  pub flushed : answer ≤ 1 → is_flushed
+  pub unfailed : answer ≢ 3 → out.failed_after ≡ out.failed_before
+  pub shown : answer ≡ 0 → IfSome (known_texts plan.files streams.input streams.named) (λ texts. AreFaultless plan.is_strict texts
+      × ShowsLive plan out.held_before out.held_after (read_texts plan.is_strict texts))
+  pub faulty : answer ≡ 1 → IfSome (known_texts plan.files streams.input streams.named) (λ texts. HasTextFault plan.is_strict texts
+      × ShowsLive plan out.held_before out.held_after (read_texts plan.is_strict texts))
+  pub many : answer ≡ 2 → 64 < length plan.files
+  pub few : answer ≢ 2 → length plan.files ≤ 64
+  pub refused : answer ≡ 2 → Keeps out.held_before out.held_after
+  pub front : answer ≡ 3 → IfSome (known_texts plan.files streams.input streams.named) (λ texts.
+      ShowsFirst plan out.held_before out.held_after (read_texts plan.is_strict texts)
+      ⊎ ShowsSome plan out.held_before out.held_after (length texts))
+  pub absent : list_any streams.is_absent plan.files ≡ true →
+      FailsUntouched answer out.held_before out.held_after out.failed_before out.failed_after
