@@ -8,11 +8,15 @@ import subprocess
 import sys
 import tempfile
 import termios
+import threading
 from collections.abc import Iterator, Mapping
 
 from example_files import TOP, Answer, Example, Item, Topic, topics_of
 
 Pipes = list[tuple[pathlib.Path, bytes]]
+
+# The seconds after which a run is ended, which fails it. Examples have GiB of zeros and slow machines.
+LONGEST = 600
 
 
 def content_of(item: Item, folder: pathlib.Path, topic: Topic) -> bytes:
@@ -84,8 +88,11 @@ def opened(example: Example, folder: pathlib.Path, stack: contextlib.ExitStack) 
 
 def plain_run(command: list[str | bytes], streams: dict[str, int], folder: pathlib.Path, more: Mapping[str, str]) -> Answer:
     pipe = subprocess.PIPE
-    ran = subprocess.run(command, cwd=folder, stdin=streams.get('<', subprocess.DEVNULL), stdout=streams.get('>', pipe),
-                         stderr=streams.get('2>', pipe), env={**os.environ, **more})
+    try:
+        ran = subprocess.run(command, cwd=folder, stdin=streams.get('<', subprocess.DEVNULL), stdout=streams.get('>', pipe),
+                             stderr=streams.get('2>', pipe), env={**os.environ, **more}, timeout=LONGEST)
+    except subprocess.TimeoutExpired as ended:
+        return Answer(ended.stdout or b'', ended.stderr or b'', -signal.SIGKILL)
     return Answer(ran.stdout or b'', ran.stderr or b'', ran.returncode)
 
 
@@ -101,13 +108,17 @@ def terminal_run(command: list[str | bytes], streams: dict[str, int], folder: pa
     ran = subprocess.Popen(command, cwd=folder, stdin=terminal, stdout=streams.get('>', terminal), stderr=streams.get('2>', terminal),
                            start_new_session=True)
     os.close(terminal)
+    limit = threading.Timer(LONGEST, ran.kill)
+    limit.start()
     shown = b''
     # once no program has the terminal, reading fails
     with contextlib.suppress(OSError):
         while more := os.read(screen, 65536):
             shown += more
     os.close(screen)
-    return Answer(shown, b'', ran.wait())
+    status = ran.wait()
+    limit.cancel()
+    return Answer(shown, b'', status)
 
 
 def run(program: pathlib.Path, example: Example, folder: pathlib.Path, pipes: Pipes, more: Mapping[str, str] = {}) -> Answer:
