@@ -6,8 +6,23 @@ from measuring import Command, Input, Measured
 
 VIEWS = ['fold', 'graph', 'chart']
 SIZES = {'1e4': 10_000, '1e5': 100_000, '1e6': 1_000_000}
-# the greatest ratios of time for fold, graph and chart
-TIMES = {'repeated': [0.85, 0.7, 0.5], 'new': [1.0, 0.6, 0.5], 'pb': [0.7, 0.6, 0.5]}
+# The greatest ratios of time and memory of fold and graph, by the form of the source, its stacks and its size, and those of chart.
+TWO_BARS: dict[tuple[str, str, str], tuple[float, float]] = {
+    ('folded', 'repeated', '1e5'): (0.5, 0.3),
+    ('folded', 'timed', '1e5'): (0.4, 0.3),
+    ('folded', 'new', '1e5'): (0.35, 0.3),
+    ('folded', 'repeated', '1e6'): (0.35, 0.2),
+    ('folded', 'timed', '1e6'): (0.3, 0.15),
+    ('folded', 'new', '1e6'): (0.3, 0.35),
+    ('pb', 'repeated', '1e5'): (1.1, 1.6),
+    ('pb', 'timed', '1e5'): (1.1, 1.6),
+    ('pb', 'new', '1e5'): (0.6, 1.6),
+    ('pb', 'repeated', '1e6'): (0.7, 1.5),
+    ('pb', 'timed', '1e6'): (0.65, 0.8),
+    ('pb', 'new', '1e6'): (0.4, 1.0),
+}
+SHORT_BARS: dict[str, tuple[float, float]] = {'folded': (0.9, 1.0), 'pb': (1.5, 1.3)}
+CHART_BARS: dict[str, tuple[float, float]] = {'1e5': (0.5, 1.2), '1e6': (0.25, 0.25)}
 FOUR = {'repeated': 0.4, 'new': 0.55, 'pb': 0.55}
 GROWTH = (12, 11)
 Bars = tuple[float | None, float | None]
@@ -43,16 +58,21 @@ def beside_plain(name: str, part: str, words: Command, bars: Bars = (None, None)
     return Row(name, part, [['program', *words]], [['plain', *words]], bars)
 
 
+def bars_of(view: str, kind: str, ending: str, size: str) -> Bars:
+    if size == '1e4':
+        return SHORT_BARS[ending]
+    return CHART_BARS[size] if view == 'chart' else TWO_BARS[ending, kind, size]
+
+
 def views(scale: int) -> list[Row]:
     """fold, graph and chart of one source. 10^4 lines show what a start costs."""
     rows = []
     kinds = [(kind, folded, 'folded') for kind in ['repeated', 'timed', 'new']]
     kinds += [(kind, profile, 'pb') for kind in ['repeated', 'timed', 'new']]
     for kind, make, ending in kinds:
-        times = TIMES['pb'] if ending == 'pb' else TIMES['new' if kind == 'new' else 'repeated']
         for size, lines in SIZES.items():
-            for view, time in zip(VIEWS, times):
-                bars = (1.0, 1.3) if size == '1e4' else (time, 1.2)
+            for view in VIEWS:
+                bars = bars_of(view, kind, ending, size)
                 rows.append(beside_plain(f'{view}-{kind}-{ending}-{size}', ending, [view, make(scale, lines, kind)], bars))
     for view in VIEWS:
         rows.append(beside_plain(f'{view}-deep-2e4', 'deep', [view, folded(scale, 20_000, 'deep')]))
@@ -67,7 +87,7 @@ def comparisons(scale: int) -> list[Row]:
     rows = []
     for label, pair in pairs.items():
         for name, words in ('lines', ()), ('boxes', ('--boxes',)):
-            rows.append(beside_plain(f'compare-{name}-{label}', 'compare', ['compare', *words, *pair], (1.0, 1.2)))
+            rows.append(beside_plain(f'compare-{name}-{label}', 'compare', ['compare', *words, *pair], (0.5, 0.3)))
     return rows
 
 
