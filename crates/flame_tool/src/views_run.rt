@@ -89,7 +89,14 @@ pub(crate) fn show_views<T: Threads + Wait + Copy + Send + 'static, F: Files, W:
     ensures flushed { Flushes (W.is_flushed out.new) (W.failures out.old) (W.failures out.new)
         result }
 {
-    let inputs = load_sources(host.alloc, files, plan.files.get(), plan.format)?;
+    let tells_types = form_tells(&plan.form, plan.view);
+    let inputs = load_sources(
+        host.alloc,
+        files,
+        plan.files.get(),
+        plan.format,
+        tells_types,
+    )?;
     let advice = Advice::new(words, files.is_error_terminal());
     show_sources(host, plan, inputs, out, err, advice)
 }

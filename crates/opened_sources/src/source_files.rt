@@ -15,12 +15,14 @@ use std::alloc::{AllocError, Global};
 pub const SOURCE_COUNT: usize = 64;
 
 /// The sources of these paths, in order, or the input where there is none. The first that fails ends it. All have the format that was
-/// asked for, or each that of its name. A file that the files give where it is stored is opened only; every other source is loaded whole.
+/// asked for, or each that of its name. A file that the files give where it is stored is opened only, but for profiles where those are
+/// wanted whole, as what looks for their types does; every other source is loaded.
 pub fn load_sources<F: Files>(
     alloc: Global,
     files: &mut F,
     paths: &[String],
     asked: Option<Format>,
+    whole_profiles: bool,
 ) -> Result<Vec<Input>, Failure>
     ensures few { IfOk result (λ inputs. length inputs.items ≤ 64) }
     ensures count { IfOk result (λ inputs.
@@ -40,7 +42,7 @@ pub fn load_sources<F: Files>(
         return Ok(inputs);
     }
     for path in paths {
-        add_named(alloc, files, path, asked, &mut inputs)?;
+        add_named(alloc, files, path, asked, whole_profiles, &mut inputs)?;
     }
     Ok(inputs)
 }
@@ -51,6 +53,7 @@ fn add_named<F: Files>(
     files: &mut F,
     path: &str,
     asked: Option<Format>,
+    whole_profiles: bool,
     inputs: &mut Vec<Input>,
 ) -> Result<(), Failure>
     ensures loaded { OnOk result ((source : SourceFormat × Option (List ℕ))
@@ -59,7 +62,7 @@ fn add_named<F: Files>(
     ensures files { F.known_file files.new ≡ F.known_file files.old }
     ensures err { IfErr result (IsOfLoad (length inputs.old.items)) }
 {
-    let source = open_source(alloc, files, inputs.len(), path, asked)?;
+    let source = open_source(alloc, files, inputs.len(), path, asked, whole_profiles)?;
     add_input(inputs, source)?;
     Ok(())
 }
@@ -78,19 +81,21 @@ fn open_source<F: Files>(
     at: usize,
     path: &str,
     asked: Option<Format>,
+    whole_profiles: bool,
 ) -> Result<Input, Failure>
     ensures opened { IfOk result (λ source.
         IsLoaded asked (F.known_file files.old) path.now source) }
     ensures files { F.known_file files.new ≡ F.known_file files.old }
     ensures err { IfErr result (IsOfLoad at) }
 {
-    match files.stored(alloc, path) {
-        Some(text) => Ok(Input::stored(asked.unwrap_or(format_of(path)), text)),
-        None => {
-            let source = open_named(alloc, files, at, path, asked)?;
-            Ok(Input::of(source)?)
+    let format = asked.unwrap_or(format_of(path));
+    if !whole_profiles || format == Format::Folded {
+        if let Some(text) = files.stored(alloc, path) {
+            return Ok(Input::stored(format, text));
         }
     }
+    let source = open_named(alloc, files, at, path, asked)?;
+    Ok(Input::of(source)?)
 }
 
 // The input, which is folded text unless another format was asked for.
