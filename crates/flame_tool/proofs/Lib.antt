@@ -5,6 +5,7 @@ mod LiveSinks
 mod LiveStreamLemmas
 mod LiveTexts
 mod RunEndings
+mod SaidSources
 mod StepWords
 mod StrictEndings
 mod StrictSources

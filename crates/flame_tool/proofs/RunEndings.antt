@@ -37,8 +37,9 @@ use Rattle.sent_views.proofs.PageLemmas.{orderless_page}
 use Rattle.source_views.specs.Texts.{IsOrderless, told_text, view_text}
 use Rattle.flame_tool.specs.Runs.{lists_of, text_of, GainsFront, IsClean, IsFault, Shows, ShowsFront, ShowsSamples, FailsUntouched, HasFault, IsOfSamples, HasGrown, HasNotGrown}
 use Rattle.flame_tool.specs.StrictRuns.{HasPlainFault}
+use Rattle.flame_tool.specs.ToldRuns.{IsWords}
 use Rattle.flame_tool.specs.TypeRuns.{known_profile, HasTableFault, ShowsTypes, ShowsTypesFront}
-use Rattle.flame_tool.specs.checked.Failures.{Fails, IsHelp, IsWords, KeepsOutput}
+use Rattle.flame_tool.specs.checked.Failures.{Fails, IsHelp, KeepsOutput}
 use Rattle.opened_sources.specs.Failures.{status_of}
 use Rattle.opened_sources.specs.declared.failures.Failure.{Failure}
 use Rattle.opened_sources.specs.declared.failures.Failure.TheVariants.{TooManyFiles, Unreadable, TooLarge, OutOfMemory, NoThread, Unfinished, Faults, Output}

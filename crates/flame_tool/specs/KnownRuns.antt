@@ -11,6 +11,7 @@ use Rattle.command_line.specs.declared.plans.PageForm.{PageForm}
 use Rattle.command_line.specs.declared.plans.PictureForm.{PictureForm}
 use Rattle.command_line.specs.declared.plans.Plan.{Plan}
 use Rattle.function_sums.specs.declared.call_sides.CallSide.TheVariants.{Callers, Callees}
+use Rattle.opened_sources.specs.Messages.{Tells}
 use Rattle.sent_views.specs.Pages.{called_text, page_text, peeked_text, picture_text, told_in}
 use Rattle.source_views.specs.Texts.{IsOrderless, told_text, view_text}
 use Rattle.flame_tool.specs.KnownFacts.{known_facts}
@@ -18,7 +19,7 @@ use Rattle.flame_tool.specs.LiveRuns.{AreFaultless, HasTextFault, ShowsFirst, Sh
 use Rattle.flame_tool.specs.Requests.{AreRefused, AsksForHelp, HasLimit, asked_faults, asked_plan, known_rests}
 use Rattle.flame_tool.specs.Runs.{IsClean, IsFault, text_of, lists_of, FailsUntouched, GainsFront, Shows, ShowsFront, ShowsSamples, HasFault, IsOfSamples, HasGrown, HasNotGrown}
 use Rattle.flame_tool.specs.StrictRuns.{HasPlainFault, has_strict_fault, known_sources}
-use Rattle.flame_tool.specs.ToldRuns.{TellsEndings, known_endings}
+use Rattle.flame_tool.specs.ToldRuns.{TellsEndings, TellsFailure, TellsGrown, TellsMany, TellsProfile, TellsRefusal, TellsSources, known_endings, said_of_sources}
 use Rattle.flame_tool.specs.TypeRuns.{known_profile, HasTableFault, ShowsTypes, ShowsTypesFront}
 
 -- what is known of files that are read whole
@@ -121,6 +122,23 @@ pub record RunShows (words : List Text) (files : KnownFiles) (answer : ℕ) (out
       ⊎ IsSomeAnd (asked_plan words) (λ plan. ShowsSamples plan.form → plan.is_strict ≡ false →
       IfSome (known_endings plan files.input files.named)
       (TellsEndings plan.files err.held_before err.held_after err.failed_before err.failed_after))
+  pub told_strict : files.may_have_terminal ≡ false → answer ≤ 1 → AsksForHelp words
+      ⊎ IsSomeAnd (asked_plan words) (λ plan. ShowsSamples plan.form → plan.is_strict ≡ true →
+      IfSome (known_sources plan files.input files.named) (TellsSources plan err.held_before err.held_after err.failed_before err.failed_after))
+  pub told_grown : files.may_have_terminal ≡ false → answer ≡ 4 → IsSomeAnd (asked_plan words) (λ plan. ShowsSamples plan.form →
+      IfSome (known_sources plan files.input files.named) (TellsGrown plan err.held_before err.held_after err.failed_before err.failed_after))
+  pub told_types : files.may_have_terminal ≡ false → answer ≡ 0 → AsksForHelp words
+      ⊎ IsSomeAnd (asked_plan words) (λ plan. plan.form ≡ form.Types → Tells [] err.held_before err.held_after err.failed_before err.failed_after)
+  pub told_types_fault : files.may_have_terminal ≡ false → answer ≡ 1 → IsSomeAnd (asked_plan words) (λ plan. plan.form ≡ form.Types →
+      IfSome (known_profile plan files.named) (TellsProfile plan.files err.held_before err.held_after err.failed_before err.failed_after))
+  pub told_failure : files.may_have_terminal ≡ false → answer ≡ 3 → TellsFailure [] [] err.held_before err.held_after err.failed_before err.failed_after
+      ⊎ IsSomeAnd (asked_plan words) (λ plan. TellsFailure plan.files [] err.held_before err.held_after err.failed_before err.failed_after
+      ⊎ (ShowsSamples plan.form × IfSome (known_sources plan files.input files.named) (λ sources.
+      TellsFailure plan.files (said_of_sources plan sources) err.held_before err.held_after err.failed_before err.failed_after)))
+  pub told_refused : answer ≡ 2 →
+      TellsRefusal (asked_faults words) err.held_before err.held_after err.failed_before err.failed_after
+      ⊎ IsSomeAnd (asked_plan words)
+      (TellsMany files.may_have_terminal err.held_before err.held_after err.failed_before err.failed_after)
   pub strict : answer ≡ 0 → AsksForHelp words ⊎ IsSomeAnd (asked_plan words) (λ plan. ShowsSamples plan.form
       → plan.is_strict ≡ true →
       IfSome (known_sources plan files.input files.named) (λ sources. has_strict_fault plan.options sources ≡ false))

@@ -2,6 +2,7 @@
 pub mod Failures
 pub mod LiveEnds
 pub mod LiveStreams
+pub mod Saying
 pub mod Telling
 pub mod TypeFailures
 pub mod Wanted

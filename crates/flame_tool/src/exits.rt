@@ -1,10 +1,11 @@
 //! How a run ends: the exit status, and what is said of it.
-ghost use Rattle.std.specs.Prelude.{◌≡◌, ◌≢◌, ◌≤◌, ◌⊎◌, [], false};
+ghost use Rattle.std.specs.Prelude.{◌≡◌, ◌≢◌, ◌≤◌, ◌⊎◌, [], IfErr, OnOk, false, map, string_bytes};
 ghost use Rattle.std.specs.Io.KnownBytes.{Appends, Keeps};
 ghost use Rattle.command_line.specs.Plans.{fault_text};
-ghost use Rattle.opened_sources.specs.Messages.{Tells};
+ghost use Rattle.opened_sources.specs.Messages.{Tells, message_of_failure};
 ghost use Rattle.flame_tool.specs.Runs.{FailsUntouched};
-ghost use Rattle.flame_tool.specs.checked.Failures.{IsHelp, IsWords, exit_status};
+ghost use Rattle.flame_tool.specs.ToldRuns.{IsWords, TellsFailure};
+ghost use Rattle.flame_tool.specs.checked.Failures.{IsHelp, exit_status};
 
 use crate::advice::Advice;
 use byte_io::{Outlet, PieceFault, Refusal, send};
@@ -21,6 +22,10 @@ pub(crate) fn refuse<W: Outlet, E: Outlet>(fault: PlanFault, out: &mut W, err: &
     ensures answered { IsWords fault → result ≡ 2 }
     ensures told { result ≡ 0
         → Appends (W.contents out.old) (W.contents out.new) (fault_text fault) }
+    ensures told_words { result ≡ 2 → Tells (fault_text fault)
+        (E.contents err.old) (E.contents err.new) (E.failures err.old) (E.failures err.new) }
+    ensures told_failure { result ≡ 3 → TellsFailure [] []
+        (E.contents err.old) (E.contents err.new) (E.failures err.old) (E.failures err.new) }
     ensures refused { result ≡ 2 → Keeps (W.contents out.old) (W.contents out.new) }
     ensures front { result ≡ 3 → Keeps (W.contents out.old) (W.contents out.new) ⊎ IsHelp fault }
     ensures untouched { (IsHelp fault → ⊥) → FailsUntouched result (W.contents out.old)
@@ -58,8 +63,10 @@ pub(crate) fn end_run<E: Outlet>(
     refusal: Refusal,
 ) -> u8
     ensures status { result ≡ exit_status shown }
-    ensures untold { advice.entry.is_wanted ≡ false → result ≤ 1 → Tells []
-        (E.contents err.old) (E.contents err.new) (E.failures err.old) (E.failures err.new) }
+    ensures untold { OnOk shown (err.new ≡ err.old) }
+    ensures told { advice.entry.is_wanted ≡ false → IfErr shown (λ failure.
+        Tells (message_of_failure (map string_bytes files.now) failure)
+        (E.contents err.old) (E.contents err.new) (E.failures err.old) (E.failures err.new)) }
 {
     match shown {
         Ok(true) => 4,

@@ -3,14 +3,15 @@ ghost use Rattle.std.specs.Prelude.{◌≡◌, ◌≢◌, ◌≤◌, ◌<◌, �
 ghost use Rattle.std.specs.Io.KnownBytes.{Keeps};
 ghost use Rattle.command_line.specs.Plans.{IsComparison, IsOfOneProfile, limit_of};
 ghost use Rattle.flame_tool.specs.KnownFacts.{known_facts};
-ghost use Rattle.flame_tool.specs.ToldRuns.{TellsEndings, known_endings};
 ghost use Rattle.flame_tool.specs.Requests.{known_rests};
 ghost use Rattle.flame_tool.specs.Runs.{FailsUntouched, Shows, ShowsFront, ShowsSamples, HasFault, HasGrown, HasNotGrown};
 ghost use Rattle.flame_tool.specs.StrictRuns.{HasPlainFault, has_strict_fault, known_sources};
 ghost use Rattle.flame_tool.specs.TypeRuns.{known_profile, HasTableFault, ShowsTypes, ShowsTypesFront};
 ghost use Rattle.flame_tool.specs.checked.TypeFailures.{FailsTypes};
 ghost use Rattle.flame_tool.specs.checked.Failures.{Fails, FailsStrictly, KeepsOutput, TellsGrowth};
+ghost use Rattle.flame_tool.specs.checked.Saying.{EndsOfSources, EndsOfTypes, SaidOfSources, SaidOfTypes};
 ghost use Rattle.opened_sources.specs.Failures.{Flushes};
+ghost use Rattle.opened_sources.specs.Messages.{Tells, message_of_failure};
 
 use crate::advice::Advice;
 use crate::exits::end_run;
@@ -67,13 +68,17 @@ pub(crate) fn run_plan<T: Threads + Wait + Copy + Send + 'static, F: Files, W: O
         → IfSome (known_sources plan (F.known_input files.old) (F.known_file files.old)) (λ sources.
         has_strict_fault plan.options sources ≡ true → FailsUntouched result (W.contents out.old)
         (W.contents out.new) (W.failures out.old) (W.failures out.new)) }
-    ensures told { F.may_have_terminal ≡ false → result ≤ 1 → ShowsSamples plan.form
-        → plan.is_strict ≡ false
-        → IfSome (known_endings plan (F.known_input files.old) (F.known_file files.old))
-        (TellsEndings plan.files
-        (E.contents err.old) (E.contents err.new) (E.failures err.old) (E.failures err.new)) }
+    ensures says { F.may_have_terminal ≡ false → ShowsSamples plan.form → EndsOfSources
+        (E.contents err.old) (E.contents err.new) (E.failures err.old) (E.failures err.new)
+        plan (known_sources plan (F.known_input files.old) (F.known_file files.old)) result }
+    ensures says_types { F.may_have_terminal ≡ false → plan.form ≡ Form.Types → EndsOfTypes
+        (E.contents err.old) (E.contents err.new) (E.failures err.old) (E.failures err.new)
+        plan.files (known_profile plan (F.known_file files.old)) result }
     ensures many { result ≡ 2 → 64 < length plan.files }
     ensures few { result ≢ 2 → length plan.files ≤ 64 }
+    ensures told_many { F.may_have_terminal ≡ false → result ≡ 2
+        → Tells (message_of_failure plan.files Failure.TooManyFiles)
+        (E.contents err.old) (E.contents err.new) (E.failures err.old) (E.failures err.new) }
     ensures front { result ≡ 3 → Keeps (W.contents out.old) (W.contents out.new)
         ⊎ IfSome (known_rests plan (F.known_input files.old) (F.known_file files.old))
         (ShowsFront plan (known_facts plan (F.known_input files.old) (F.known_file files.old))
@@ -153,18 +158,15 @@ fn show_plan<T: Threads + Wait + Copy + Send + 'static, F: Files, W: Outlet, E: 
         (FailsTypes (W.contents out.old) (W.contents out.new) failure)) }
     ensures kept { IfErr result (λ failure.
         KeepsOutput (W.contents out.old) (W.contents out.new) failure) }
-    ensures told { F.may_have_terminal ≡ false → plan.now.is_strict ≡ false → ShowsSamples plan.now.form
-        → IfOk result (λ is_over. is_over ≡ false
-        → IfSome (known_endings plan.now (F.known_input files.old) (F.known_file files.old))
-        (TellsEndings plan.now.files
-        (E.contents err.old) (E.contents err.new) (E.failures err.old) (E.failures err.new))) }
-    ensures told_faults { F.may_have_terminal ≡ false → plan.now.is_strict ≡ false → ShowsSamples plan.now.form
-        → IsErrOf result Failure.Faults
-        → IfSome (known_endings plan.now (F.known_input files.old) (F.known_file files.old))
-        (TellsEndings plan.now.files
-        (E.contents err.old) (E.contents err.new) (E.failures err.old) (E.failures err.new)) }
+    ensures says { F.may_have_terminal ≡ false → ShowsSamples plan.now.form → SaidOfSources
+        (E.contents err.old) (E.contents err.new) (E.failures err.old) (E.failures err.new)
+        plan.now (known_sources plan.now (F.known_input files.old) (F.known_file files.old)) result }
+    ensures says_types { F.may_have_terminal ≡ false → plan.now.form ≡ Form.Types → SaidOfTypes
+        (E.contents err.old) (E.contents err.new) (E.failures err.old) (E.failures err.new)
+        plan.now.files (known_profile plan.now (F.known_file files.old)) result }
     ensures many { IsErrOf result Failure.TooManyFiles → 64 < length plan.now.files }
     ensures few { result ≢ Err Failure.TooManyFiles → length plan.now.files ≤ 64 }
+    ensures untold_many { IsErrOf result Failure.TooManyFiles → err.new ≡ err.old }
     ensures flushed { Flushes (W.is_flushed out.new) (W.failures out.old) (W.failures out.new)
         result }
 {

@@ -8,8 +8,9 @@ ghost use Rattle.command_line.specs.declared.plans.PageForm.{PageForm};
 ghost use Rattle.command_line.specs.declared.plans.PictureForm.{PictureForm};
 ghost use Rattle.function_sums.specs.declared.call_sides.CallSide.TheVariants.{Callers, Callees};
 ghost use Rattle.flame_tool.specs.KnownFacts.{known_facts};
-ghost use Rattle.flame_tool.specs.ToldRuns.{TellsEndings, known_endings};
+ghost use Rattle.flame_tool.specs.ToldRuns.{TellsEndings, TellsFailure, TellsGrown, TellsMany, TellsProfile, TellsRefusal, TellsSources, known_endings, said_of_sources};
 ghost use Rattle.flame_tool.specs.Requests.{AreRefused, AsksForHelp, HasLimit, asked_faults, asked_plan, known_rests};
+ghost use Rattle.opened_sources.specs.Messages.{Tells};
 ghost use Rattle.sent_views.specs.Pages.{called_text, page_text, peeked_text, picture_text, told_in};
 ghost use Rattle.source_views.specs.Texts.{IsOrderless, told_text, view_text};
 ghost use Rattle.flame_tool.specs.Runs.{IsClean, IsFault, text_of, lists_of, FailsUntouched, GainsFront, Shows, ShowsFront, ShowsSamples, HasFault, IsOfSamples, HasGrown, HasNotGrown};
@@ -181,6 +182,51 @@ pub fn run<T: Threads + Wait + Copy + Send + 'static, F: Files, W: Outlet, E: Ou
         → IfSome (known_endings plan (F.known_input files.old) (F.known_file files.old))
         (TellsEndings plan.files
         (E.contents err.old) (E.contents err.new) (E.failures err.old) (E.failures err.new))) }
+
+    // Of words that ask for strictness it gained what is wrong with each source, in order, if anything is. At 4 the functions that grew
+    // stand behind what is said of the sources.
+    ensures told_strict { F.may_have_terminal ≡ false → result ≤ 1
+        → AsksForHelp (map string_bytes words.items)
+        ⊎ IsSomeAnd (asked_plan (map string_bytes words.items)) (λ plan. ShowsSamples plan.form
+        → plan.is_strict ≡ true
+        → IfSome (known_sources plan (F.known_input files.old) (F.known_file files.old))
+        (TellsSources plan
+        (E.contents err.old) (E.contents err.new) (E.failures err.old) (E.failures err.new))) }
+    ensures told_grown { F.may_have_terminal ≡ false → result ≡ 4
+        → IsSomeAnd (asked_plan (map string_bytes words.items)) (λ plan. ShowsSamples plan.form
+        → IfSome (known_sources plan (F.known_input files.old) (F.known_file files.old))
+        (TellsGrown plan
+        (E.contents err.old) (E.contents err.new) (E.failures err.old) (E.failures err.new))) }
+
+    // Where sample types are asked for it gained nothing at 0, and the fault of the profile at 1.
+    ensures told_types { F.may_have_terminal ≡ false → result ≡ 0
+        → AsksForHelp (map string_bytes words.items)
+        ⊎ IsSomeAnd (asked_plan (map string_bytes words.items)) (λ plan. plan.form ≡ Form.Types → Tells []
+        (E.contents err.old) (E.contents err.new) (E.failures err.old) (E.failures err.new)) }
+    ensures told_types_fault { F.may_have_terminal ≡ false → result ≡ 1
+        → IsSomeAnd (asked_plan (map string_bytes words.items)) (λ plan. plan.form ≡ Form.Types
+        → IfSome (known_profile plan (F.known_file files.old)) (TellsProfile plan.files
+        (E.contents err.old) (E.contents err.new) (E.failures err.old) (E.failures err.new))) }
+
+    // At 3 it gained the message of a failure that has this status, alone, or behind all that is said of the sources.
+    ensures told_failure { F.may_have_terminal ≡ false → result ≡ 3
+        → TellsFailure [] []
+        (E.contents err.old) (E.contents err.new) (E.failures err.old) (E.failures err.new)
+        ⊎ IsSomeAnd (asked_plan (map string_bytes words.items)) (λ plan. TellsFailure plan.files []
+        (E.contents err.old) (E.contents err.new) (E.failures err.old) (E.failures err.new)
+        ⊎ (ShowsSamples plan.form
+        × IfSome (known_sources plan (F.known_input files.old) (F.known_file files.old))
+        (λ sources. TellsFailure plan.files (said_of_sources plan sources)
+        (E.contents err.old) (E.contents err.new) (E.failures err.old) (E.failures err.new)))) }
+
+    // 2 means that `err` gained the whole text of a refusal of the words, or, where nothing may be a terminal, that there are too many
+    // files; or that a call of `err` failed.
+    ensures told_refused { result ≡ 2
+        → TellsRefusal (asked_faults (map string_bytes words.items))
+        (E.contents err.old) (E.contents err.new) (E.failures err.old) (E.failures err.new)
+        ⊎ IsSomeAnd (asked_plan (map string_bytes words.items))
+        (TellsMany F.may_have_terminal
+        (E.contents err.old) (E.contents err.new) (E.failures err.old) (E.failures err.new)) }
 
     // Where the words ask for it, a line that is ignored and a source without a sample are faults, too: 0
     // and 4 mean that no source has one, 1 that one has, and such a fault leaves the output untouched.

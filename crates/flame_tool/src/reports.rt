@@ -1,6 +1,7 @@
 //! What a run says of its sources on standard error.
 
 ghost use Rattle.std.specs.Prelude.{◌≡◌, ◌==◌, false, length, map, not, string_bytes};
+ghost use Rattle.opened_sources.specs.Messages.{Tells, message_of_strict_fault, said_of_each};
 ghost use Rattle.flame_tool.specs.ToldRuns.{TellsEndings};
 
 use crate::advice::Advice;
@@ -41,13 +42,35 @@ pub(crate) fn report_strict_faults<E: Outlet>(
     files: &[String],
     faults: &[Option<StrictFault>],
     advice: Advice<'_>,
-) {
-    for (source, fault) in faults.iter().enumerate() {
-        if let Some(fault) = fault {
-            report_strict_fault(err, files, source, fault);
-            let trouble = Trouble::Strict(fault.kind);
-            advice.tell(alloc, err, files, source, trouble);
-        }
+)
+    ensures told { advice.entry.is_wanted ≡ false
+        → Tells (said_of_each (message_of_strict_fault (map string_bytes files.now)) 0 faults.now)
+        (E.contents err.old) (E.contents err.new) (E.failures err.old) (E.failures err.new) }
+{
+    let mut source = 0;
+    while source < faults.len() {
+        let fault = &faults[source];
+        report_strict(alloc, err, files, source, fault, advice);
+        source += 1;
+    }
+}
+
+// The same of one source.
+fn report_strict<E: Outlet>(
+    alloc: Global,
+    err: &mut E,
+    files: &[String],
+    source: usize,
+    fault: &Option<StrictFault>,
+    advice: Advice<'_>,
+)
+    ensures told { advice.entry.is_wanted ≡ false
+        → Tells (message_of_strict_fault (map string_bytes files.now) source fault.now)
+        (E.contents err.old) (E.contents err.new) (E.failures err.old) (E.failures err.new) }
+{
+    if let Some(fault) = fault {
+        report_strict_fault(err, files, source, fault);
+        advice.tell(alloc, err, files, source, Trouble::Strict(fault.kind));
     }
 }
 
@@ -55,6 +78,8 @@ pub(crate) fn report_strict_faults<E: Outlet>(
 pub(crate) fn report_growth<E: Outlet>(err: &mut E, line: &[u8]) -> bool
     ensures answer { result ≡ not (length line.now == 0) }
     ensures untold { result ≡ false → err.new ≡ err.old }
+    ensures told { Tells line.now
+        (E.contents err.old) (E.contents err.new) (E.failures err.old) (E.failures err.new) }
 {
     if line.is_empty() {
         return false;

@@ -1,9 +1,10 @@
 //! The sample types of a profile, shown in place of its samples.
-ghost use Rattle.std.specs.Prelude.{◌≡◌, false, IfErr, IfOk, IfSome, IsErrOf, OnOk, length};
+ghost use Rattle.std.specs.Prelude.{◌≡◌, false, IfErr, IfOk, IfSome, IsErrOf, OnOk, Some, length, map, string_bytes};
 ghost use Rattle.view_texts.specs.Types.{types_text};
 ghost use Rattle.flame_tool.specs.TypeRuns.{known_profile, ShowsTypes};
 ghost use Rattle.flame_tool.specs.checked.Failures.{KeepsOutput};
 ghost use Rattle.opened_sources.specs.Failures.{Flushes, Sends};
+ghost use Rattle.flame_tool.specs.checked.Saying.{SaidOfTypes};
 ghost use Rattle.flame_tool.specs.checked.TypeFailures.{FailsTypes};
 
 use crate::advice::Advice;
@@ -35,6 +36,9 @@ pub(crate) fn show_types<F: Files, W: Outlet, E: Outlet>(
     ensures kept { IfErr result (λ failure.
         KeepsOutput (W.contents out.old) (W.contents out.new) failure) }
     ensures none { IfOk result (λ is_over. is_over ≡ false) }
+    ensures says { F.may_have_terminal ≡ false → SaidOfTypes
+        (E.contents err.old) (E.contents err.new) (E.failures err.old) (E.failures err.new)
+        plan.now.files (known_profile plan.now (F.known_file files.old)) result }
     ensures few { IsErrOf result Failure.TooManyFiles → ⊥ }
     ensures flushed { Flushes (W.is_flushed out.new) (W.failures out.old) (W.failures out.new)
         result }
@@ -60,6 +64,9 @@ fn show_types_of<W: Outlet, E: Outlet>(
     ensures kept { IfErr result (λ failure.
         KeepsOutput (W.contents out.old) (W.contents out.new) failure) }
     ensures none { IfOk result (λ is_over. is_over ≡ false) }
+    ensures says { advice.entry.is_wanted ≡ false → SaidOfTypes
+        (E.contents err.old) (E.contents err.new) (E.failures err.old) (E.failures err.new)
+        (map string_bytes paths.now) (Some profile.now) result }
     ensures few { IsErrOf result Failure.TooManyFiles → ⊥ }
     ensures flushed { Flushes (W.is_flushed out.new) (W.failures out.old) (W.failures out.new)
         result }

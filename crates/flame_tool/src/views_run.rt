@@ -7,7 +7,8 @@ ghost use Rattle.command_line.specs.Plans.{IsComparison, limit_of};
 ghost use Rattle.ring_collect.specs.Collection.{AreWhole};
 ghost use Rattle.source_lists.specs.Runs.{ReadsLists};
 ghost use Rattle.source_lists.specs.Sources.{asked_rests, known_inputs, whole_weight};
-ghost use Rattle.flame_tool.specs.ToldRuns.{TellsEndings, known_endings};
+ghost use Rattle.source_lists.specs.Strictness.{source_fault};
+ghost use Rattle.flame_tool.specs.ToldRuns.{TellsEndings};
 ghost use Rattle.source_lists.specs.Types.{types_of};
 ghost use Rattle.flame_tool.specs.KnownFacts.{facts_of, known_facts};
 ghost use Rattle.flame_tool.specs.Requests.{known_rests};
@@ -15,7 +16,9 @@ ghost use Rattle.sent_views.specs.Pages.{shown_text};
 ghost use Rattle.flame_tool.specs.Runs.{Shows, ShowsSamples};
 ghost use Rattle.flame_tool.specs.StrictRuns.{has_strict_fault, known_sources};
 ghost use Rattle.flame_tool.specs.checked.Failures.{Fails, FailsStrictly, FailsToShow, KeepsOutput, TellsGrowth};
+ghost use Rattle.flame_tool.specs.checked.Saying.{SaidOfSources};
 ghost use Rattle.flame_tool.specs.checked.Wanted.{wanted_rests};
+ghost use Rattle.opened_sources.specs.Messages.{Tells, message_of_strict_fault, said_of_each};
 ghost use Rattle.source_views.specs.Texts.{growth_line};
 ghost use Rattle.flame_tool.specs.checked.Telling.{form_tells, view_tells};
 ghost use Rattle.opened_sources.specs.Failures.{has_fault, Flushes, Sends};
@@ -74,18 +77,12 @@ pub(crate) fn show_views<T: Threads + Wait + Copy + Send + 'static, F: Files, W:
         IfSome (known_rests plan.now (F.known_input files.old) (F.known_file files.old))
         (TellsGrowth is_over plan.now)) }
     ensures limit { IfOk result (λ is_over. is_over ≡ true → IsSome (limit_of plan.now.view)) }
-    ensures told { F.may_have_terminal ≡ false → plan.now.is_strict ≡ false
-        → IfOk result (λ is_over. is_over ≡ false
-        → IfSome (known_endings plan.now (F.known_input files.old) (F.known_file files.old))
-        (TellsEndings plan.now.files
-        (E.contents err.old) (E.contents err.new) (E.failures err.old) (E.failures err.new))) }
-    ensures told_faults { F.may_have_terminal ≡ false → plan.now.is_strict ≡ false
-        → IsErrOf result Failure.Faults
-        → IfSome (known_endings plan.now (F.known_input files.old) (F.known_file files.old))
-        (TellsEndings plan.now.files
-        (E.contents err.old) (E.contents err.new) (E.failures err.old) (E.failures err.new)) }
+    ensures says { F.may_have_terminal ≡ false → SaidOfSources
+        (E.contents err.old) (E.contents err.new) (E.failures err.old) (E.failures err.new)
+        plan.now (known_sources plan.now (F.known_input files.old) (F.known_file files.old)) result }
     ensures many { IsErrOf result Failure.TooManyFiles → 64 < length plan.now.files }
     ensures few { result ≢ Err Failure.TooManyFiles → length plan.now.files ≤ 64 }
+    ensures untold_many { IsErrOf result Failure.TooManyFiles → err.new ≡ err.old }
     ensures flushed { Flushes (W.is_flushed out.new) (W.failures out.old) (W.failures out.new)
         result }
 {
@@ -129,16 +126,9 @@ fn show_sources<T: Threads + Wait + Copy + Send + 'static, W: Outlet, E: Outlet>
     ensures grown { IfOk result (λ is_over. IfSome (known_inputs inputs.items) (λ sources.
         TellsGrowth is_over plan.now (wanted_rests plan.now sources))) }
     ensures limit { IfOk result (λ is_over. is_over ≡ true → IsSome (limit_of plan.now.view)) }
-    ensures told { plan.now.is_strict ≡ false → advice.entry.is_wanted ≡ false
-        → IfOk result (λ is_over. is_over ≡ false → IfSome (known_inputs inputs.items) (λ sources.
-        TellsEndings plan.now.files
+    ensures says { advice.entry.is_wanted ≡ false → SaidOfSources
         (E.contents err.old) (E.contents err.new) (E.failures err.old) (E.failures err.new)
-        (map (λ rest. rest.ending) (asked_rests plan.now.options sources)))) }
-    ensures told_faults { plan.now.is_strict ≡ false → advice.entry.is_wanted ≡ false
-        → IsErrOf result Failure.Faults → IfSome (known_inputs inputs.items) (λ sources.
-        TellsEndings plan.now.files
-        (E.contents err.old) (E.contents err.new) (E.failures err.old) (E.failures err.new)
-        (map (λ rest. rest.ending) (asked_rests plan.now.options sources))) }
+        plan.now (known_inputs inputs.items) result }
     ensures few_files { IsErrOf result Failure.TooManyFiles → ⊥ }
     ensures flushed { Flushes (W.is_flushed out.new) (W.failures out.old) (W.failures out.new)
         result }
@@ -225,6 +215,13 @@ fn report_sources<E: Outlet>(
     ensures told { plan.now.is_strict ≡ false → advice.entry.is_wanted ≡ false → TellsEndings plan.now.files
         (E.contents err.old) (E.contents err.new) (E.failures err.old) (E.failures err.new)
         (map (λ list. list.ending) lists.now) }
+    ensures told_strict { plan.now.is_strict ≡ true → advice.entry.is_wanted ≡ false
+        → IfSome (known_inputs kept.items) (λ sources.
+        AreWhole (asked_rests plan.now.options sources) lists.now
+        → OnOk result (Tells (said_of_each (message_of_strict_fault plan.now.files) 0
+        (map (source_fault plan.now.options) sources))
+        (E.contents err.old) (E.contents err.new) (E.failures err.old) (E.failures err.new))) }
+    ensures untold_err { IfErr result (λ _. err.new ≡ err.old) }
     ensures loose { plan.now.is_strict ≡ false → IfOk result (λ sound. sound ≡ true) }
     ensures strict { plan.now.is_strict ≡ true → IfSome (known_inputs kept.items) (λ sources.
         AreWhole (asked_rests plan.now.options sources) lists.now
@@ -313,6 +310,8 @@ fn send_lists<T: Threads, W: Outlet, E: Outlet>(
         (W.contents out.old) (W.contents out.new)) }
     ensures untold { IfOk result (λ is_over. is_over ≡ false → err.new ≡ err.old) }
     ensures untold_err { IfErr result (λ _. err.new ≡ err.old) }
+    ensures told_growth { OnOk result (Tells (growth_line plan.now.view (samples_of run.lists))
+        (E.contents err.old) (E.contents err.new) (E.failures err.old) (E.failures err.new)) }
     ensures growth { IfOk result (λ is_over.
         is_over ≡ not (length (growth_line plan.now.view (samples_of run.lists)) == 0)) }
     ensures flushed { Flushes (W.is_flushed out.new) (W.failures out.old) (W.failures out.new)

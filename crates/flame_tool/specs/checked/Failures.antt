@@ -70,13 +70,8 @@ FailsToShow lists text old new (Unfinished source) = ⊥
 FailsToShow lists text old new Faults = (has_fault lists ≡ true) × Keeps old new
 FailsToShow lists text old new (Output fault) = (has_fault lists ≡ false) × AppendsFront text old new
 
--- the fault is a request for help, or refused words
+-- the fault is a request for help
 abbrev pub IsHelp : PlanFault → Type 0
 IsHelp (fault.Words text) = ⊥
 IsHelp (fault.Help text) = Unit {0}
 IsHelp fault.OutOfMemory = ⊥
-
-abbrev pub IsWords : PlanFault → Type 0
-IsWords (fault.Words text) = Unit {0}
-IsWords (fault.Help text) = ⊥
-IsWords fault.OutOfMemory = ⊥

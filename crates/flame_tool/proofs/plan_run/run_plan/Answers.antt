@@ -1,4 +1,4 @@
-use Rattle.std.proofs.Common.{◌≡◌, ◌≤◌, arith, subst, sym, ◌∙◌, IfSome, true, refl}
+use Rattle.std.proofs.Common.{◌≡◌, ◌≤◌, arith, subst, sym, ◌∙◌, ℕ, List, IfErr, IfSome, map, string_bytes, true, refl}
 use Rattle.std.specs.Prelude.{IsSome}
 use Rattle.command_line.specs.Plans.{limit_of}
 use Rattle.flame_tool.specs.KnownFacts.{known_facts}
@@ -6,12 +6,15 @@ use Rattle.flame_tool.specs.Requests.{known_rests}
 use Rattle.flame_tool.specs.Runs.{FailsUntouched, HasFault}
 use Rattle.flame_tool.specs.StrictRuns.{has_strict_fault, known_sources}
 use Rattle.flame_tool.specs.TypeRuns.{HasTableFault, known_profile}
-use Rattle.flame_tool.specs.checked.Failures.{TellsGrowth}
+use Rattle.flame_tool.specs.checked.Failures.{TellsGrowth, exit_status}
+use Rattle.flame_tool.specs.checked.Saying.{EndsOfSources, EndsOfTypes}
 use Rattle.flame_tool.proofs.ExitStatuses.{at_four, at_zero, faulty_at_one, few_but_at_two, flushed_at_four, flushed_at_zero, front_at_three, kept_at, many_at_two, of_answer, status_within, types_faulty_at_one, types_front_at_three, unfailed_but_at_three}
 use Rattle.flame_tool.proofs.KnownSources.{facts_are_known}
 use Rattle.flame_tool.proofs.StrictEndings.{strict_at_one, strict_untouched}
-use Rattle.flame_tool.specs.ToldRuns.{TellsEndings, known_endings}
-use Rattle.flame_tool.proofs.ToldEndings.{endings_last, is_none, told_at}
+use Rattle.opened_sources.specs.Messages.{Tells, message_of_failure}
+use Rattle.opened_sources.specs.declared.failures.Failure.TheVariants.{TooManyFiles}
+use Rattle.flame_tool.proofs.SaidSources.{ends_of_sources, ends_of_types}
+use Rattle.flame_tool.proofs.ToldEndings.{is_none}
 use Rattle.flame_tool.proofs.UntouchedOutputs.{untouched_at_fault, untouched_at_table_fault}
 use Rattle.flame_tool.proofs.plan_run.run_plan.Goals as goal
 
@@ -121,13 +124,36 @@ returns-clause-types_untouched g c = λ types.
     subst (λ status. IfSome known (λ profile. HasTableFault profile → FailsUntouched status old new before after)) (sym c.end_run.ensures.status)
     (untouched_at_table_fault _ old new before after _ known shown.result shown.ensures.types shown.ensures.types_err shown.ensures.kept shown.ensures.flushed types)
 
-pub returns-clause-told : goal.returns-clause-told
-returns-clause-told g c = λ none low samples loose.
+pub returns-clause-says : goal.returns-clause-says
+returns-clause-says g c = λ none samples.
     let plan = c.args.plan in
-    let known = known_endings plan (g.F.Files.known_input c.args.files.now) (g.F.Files.known_file c.args.files.now) in
+    let known = known_sources plan (g.F.Files.known_input c.args.files.now) (g.F.Files.known_file c.args.files.now) in
+    let shown = c.show_plan-shown in
+    let new = c.end_run.new.err in
+    let unwanted = c.new-advice.ensures ∙ is_none c.is_error_terminal.result g.F.Files.may_have_terminal c.is_error_terminal.ensures.terminal none in
+    let told = subst (λ (files : List (List ℕ)). IfErr shown.result (λ failure. Tells (message_of_failure files failure) (g.E.Outlet.contents shown.new.err) (g.E.Outlet.contents new) (g.E.Outlet.failures shown.new.err) (g.E.Outlet.failures new))) c.get.ensures (c.end_run.ensures.told unwanted) in
+    subst (λ status. EndsOfSources (g.E.Outlet.contents c.args.err.now) (g.E.Outlet.contents new) (g.E.Outlet.failures c.args.err.now) (g.E.Outlet.failures new) plan known status) (sym c.end_run.ensures.status)
+    (subst (λ start. EndsOfSources (g.E.Outlet.contents start) (g.E.Outlet.contents new) (g.E.Outlet.failures start) (g.E.Outlet.failures new) plan known (exit_status shown.result)) (c.await_input.ensures.untold none)
+    (ends_of_sources g.E.Outlet.contents g.E.Outlet.failures plan known _ shown.new.err new shown.result (shown.ensures.says none samples) c.end_run.ensures.untold told))
+
+pub returns-clause-says_types : goal.returns-clause-says_types
+returns-clause-says_types g c = λ none types.
+    let plan = c.args.plan in
+    let known = known_profile plan (g.F.Files.known_file c.args.files.now) in
+    let shown = c.show_plan-shown in
+    let new = c.end_run.new.err in
+    let unwanted = c.new-advice.ensures ∙ is_none c.is_error_terminal.result g.F.Files.may_have_terminal c.is_error_terminal.ensures.terminal none in
+    let told = subst (λ (files : List (List ℕ)). IfErr shown.result (λ failure. Tells (message_of_failure files failure) (g.E.Outlet.contents shown.new.err) (g.E.Outlet.contents new) (g.E.Outlet.failures shown.new.err) (g.E.Outlet.failures new))) c.get.ensures (c.end_run.ensures.told unwanted) in
+    subst (λ status. EndsOfTypes (g.E.Outlet.contents c.args.err.now) (g.E.Outlet.contents new) (g.E.Outlet.failures c.args.err.now) (g.E.Outlet.failures new) plan.files known status) (sym c.end_run.ensures.status)
+    (subst (λ start. EndsOfTypes (g.E.Outlet.contents start) (g.E.Outlet.contents new) (g.E.Outlet.failures start) (g.E.Outlet.failures new) plan.files known (exit_status shown.result)) (c.await_input.ensures.untold none)
+    (ends_of_types g.E.Outlet.contents g.E.Outlet.failures plan.files known _ shown.new.err new shown.result (shown.ensures.says_types none types) c.end_run.ensures.untold told))
+
+pub returns-clause-told_many : goal.returns-clause-told_many
+returns-clause-told_many g c = λ none two.
+    let plan = c.args.plan in
     let shown = c.show_plan-shown in
     let unwanted = c.new-advice.ensures ∙ is_none c.is_error_terminal.result g.F.Files.may_have_terminal c.is_error_terminal.ensures.terminal none in
-    subst (λ start. IfSome known (TellsEndings plan.files (g.E.Outlet.contents start) (g.E.Outlet.contents c.end_run.new.err) (g.E.Outlet.failures start) (g.E.Outlet.failures c.end_run.new.err))) (c.await_input.ensures.untold none)
-    (endings_last plan.files _ _ _ _ _ _ known
-    (told_at _ shown.result (subst (λ status. status ≤ 1) c.end_run.ensures.status low) (shown.ensures.told none loose samples) (shown.ensures.told_faults none loose samples))
-    (c.end_run.ensures.untold unwanted low))
+    let many = many_at_two shown.result (sym c.end_run.ensures.status ∙ two) (λ is. is) in
+    subst (λ start. Tells (message_of_failure plan.files TooManyFiles) (g.E.Outlet.contents start) (g.E.Outlet.contents c.end_run.new.err) (g.E.Outlet.failures start) (g.E.Outlet.failures c.end_run.new.err))
+    (shown.ensures.untold_many many ∙ c.await_input.ensures.untold none)
+    (subst (λ result. IfErr result (λ failure. Tells (message_of_failure (map string_bytes c.get.result.now) failure) (g.E.Outlet.contents shown.new.err) (g.E.Outlet.contents c.end_run.new.err) (g.E.Outlet.failures shown.new.err) (g.E.Outlet.failures c.end_run.new.err))) many (c.end_run.ensures.told unwanted))

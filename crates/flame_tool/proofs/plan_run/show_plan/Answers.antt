@@ -31,3 +31,8 @@ returns-in-Types-clause-grown g c =
 
 pub returns-in-Types-clause-limit : goal.returns-in-Types-clause-limit
 returns-in-Types-clause-limit g c = types_unlimited _ c.show_types.result c.show_types.ensures.none
+
+pub returns-in-Types-clause-says : goal.returns-in-Types-clause-says
+returns-in-Types-clause-says g c = λ none samples.
+    let types : c.args.plan.now.form ≡ form.Types = search rules in
+    absurd (subst ShowsSamples types samples)

@@ -3,7 +3,8 @@ use Rattle.std.specs.Vec.{vec_len}
 use Rattle.command_line.specs.Plans.{plan_of}
 use Rattle.flame_tool.proofs.RunEndings.{accepted_none, accepted_some, among_words, are_refused, asked_callees, asked_callers, asked_exactly, asked_faulty, asked_many, asked_page, asked_peek, asked_partly, asked_shown, asked_svg, asked_types, asked_types_faulty, asked_types_partly, asked_types_untouched, asked_untouched, asked_with_facts, asks_if_help, faultless_words, input_clean, input_fault, input_front, input_text, none_asked, partly_by_plan, partly_help, some_asked, some_faultless, asked_grown, asked_not_grown, within_three}
 use Rattle.flame_tool.proofs.StrictEndings.{asked_strict, asked_strict_untouched}
-use Rattle.flame_tool.proofs.ToldEndings.{asked_told}
+use Rattle.flame_tool.proofs.SaidSources.{asked_told_failure, asked_told_grown, asked_told_strict, asked_told_types, asked_told_types_fault, failure_told, loose_endings}
+use Rattle.flame_tool.proofs.ToldEndings.{asked_told, asked_told_many, told_refusal}
 use Rattle.flame_tool.proofs.UntouchedOutputs.{no_help, whatever_is_read, whatever_is_strict, whatever_types_are_read}
 use Rattle.flame_tool.proofs.program.run.Goals as goal
 
@@ -608,10 +609,119 @@ pub returns-in-Ok-clause-told : goal.returns-in-Ok-clause-told
 returns-in-Ok-clause-told g c =
     let some : length c.args.words.items ≡ 0 → ⊥ = search rules in
     let planned : plan_of (map string_bytes c.args.words.items) ≡ Some c.in-Ok.plan = search rules in
-    λ none low. inr (asked_told (map string_bytes c.args.words.items) c.in-Ok.plan (some_asked string_bytes c.args.words.items c.in-Ok.plan some planned) (g.F.Files.known_input c.args.files.now) (g.F.Files.known_file c.args.files.now) _ _ _ _ (c.run_plan-in-Ok.ensures.told none low))
+    let asked = some_asked string_bytes c.args.words.items c.in-Ok.plan some planned in
+    λ off low. inr (asked_told (map string_bytes c.args.words.items) c.in-Ok.plan asked (g.F.Files.known_input c.args.files.now) (g.F.Files.known_file c.args.files.now) _ _ _ _ (λ samples loose. loose_endings _ _ _ _ c.in-Ok.plan _ _ loose ((c.run_plan-in-Ok.ensures.says off samples).low low)))
 
 pub returns-then-is_empty-clause-told : goal.returns-then-is_empty-clause-told
 returns-then-is_empty-clause-told g c =
     let none : length c.args.words.items ≡ 0 = search rules in
     let asked = none_asked string_bytes c.args.words.items c.plan_without_words-plan.result none c.plan_without_words-plan.ensures.plan in
-    λ none low. inr (asked_told (map string_bytes c.args.words.items) c.plan_without_words-plan.result asked (g.F.Files.known_input c.args.files.now) (g.F.Files.known_file c.args.files.now) _ _ _ _ (c.run_plan.ensures.told none low))
+    λ off low. inr (asked_told (map string_bytes c.args.words.items) c.plan_without_words-plan.result asked (g.F.Files.known_input c.args.files.now) (g.F.Files.known_file c.args.files.now) _ _ _ _ (λ samples loose. loose_endings _ _ _ _ c.plan_without_words-plan.result _ _ loose ((c.run_plan.ensures.says off samples).low low)))
+
+pub returns-clause-told_strict : goal.returns-clause-told_strict
+returns-clause-told_strict g c =
+    let some : length c.args.words.items ≡ 0 → ⊥ = search rules in
+    let among = among_words string_bytes c.in-Err.fault c.as_slice-2.ensures.value c.in-Err.ensures.refused in
+    λ _ low. inl (asks_if_help string_bytes c.args.words.items c.in-Err.fault some among (c.refuse.ensures.help low))
+
+pub returns-in-Ok-clause-told_strict : goal.returns-in-Ok-clause-told_strict
+returns-in-Ok-clause-told_strict g c =
+    let some : length c.args.words.items ≡ 0 → ⊥ = search rules in
+    let planned : plan_of (map string_bytes c.args.words.items) ≡ Some c.in-Ok.plan = search rules in
+    let asked = some_asked string_bytes c.args.words.items c.in-Ok.plan some planned in
+    λ off low. inr (asked_told_strict (map string_bytes c.args.words.items) c.in-Ok.plan asked (g.F.Files.known_input c.args.files.now) (g.F.Files.known_file c.args.files.now) _ _ _ _ (λ samples _. (c.run_plan-in-Ok.ensures.says off samples).low low))
+
+pub returns-then-is_empty-clause-told_strict : goal.returns-then-is_empty-clause-told_strict
+returns-then-is_empty-clause-told_strict g c =
+    let none : length c.args.words.items ≡ 0 = search rules in
+    let asked = none_asked string_bytes c.args.words.items c.plan_without_words-plan.result none c.plan_without_words-plan.ensures.plan in
+    λ off low. inr (asked_told_strict (map string_bytes c.args.words.items) c.plan_without_words-plan.result asked (g.F.Files.known_input c.args.files.now) (g.F.Files.known_file c.args.files.now) _ _ _ _ (λ samples _. (c.run_plan.ensures.says off samples).low low))
+
+pub returns-clause-told_grown : goal.returns-clause-told_grown
+returns-clause-told_grown g c =
+    λ _ four. absurd (omega (arith, c.refuse.ensures.status, four))
+
+pub returns-in-Ok-clause-told_grown : goal.returns-in-Ok-clause-told_grown
+returns-in-Ok-clause-told_grown g c =
+    let some : length c.args.words.items ≡ 0 → ⊥ = search rules in
+    let planned : plan_of (map string_bytes c.args.words.items) ≡ Some c.in-Ok.plan = search rules in
+    let asked = some_asked string_bytes c.args.words.items c.in-Ok.plan some planned in
+    λ off four. asked_told_grown (map string_bytes c.args.words.items) c.in-Ok.plan asked (g.F.Files.known_input c.args.files.now) (g.F.Files.known_file c.args.files.now) _ _ _ _ (λ samples. (c.run_plan-in-Ok.ensures.says off samples).grown four)
+
+pub returns-then-is_empty-clause-told_grown : goal.returns-then-is_empty-clause-told_grown
+returns-then-is_empty-clause-told_grown g c =
+    let none : length c.args.words.items ≡ 0 = search rules in
+    let asked = none_asked string_bytes c.args.words.items c.plan_without_words-plan.result none c.plan_without_words-plan.ensures.plan in
+    λ off four. asked_told_grown (map string_bytes c.args.words.items) c.plan_without_words-plan.result asked (g.F.Files.known_input c.args.files.now) (g.F.Files.known_file c.args.files.now) _ _ _ _ (λ samples. (c.run_plan.ensures.says off samples).grown four)
+
+pub returns-clause-told_types : goal.returns-clause-told_types
+returns-clause-told_types g c =
+    let some : length c.args.words.items ≡ 0 → ⊥ = search rules in
+    let among = among_words string_bytes c.in-Err.fault c.as_slice-2.ensures.value c.in-Err.ensures.refused in
+    λ _ zero. inl (asks_if_help string_bytes c.args.words.items c.in-Err.fault some among (c.refuse.ensures.help (omega (arith, zero))))
+
+pub returns-in-Ok-clause-told_types : goal.returns-in-Ok-clause-told_types
+returns-in-Ok-clause-told_types g c =
+    let some : length c.args.words.items ≡ 0 → ⊥ = search rules in
+    let planned : plan_of (map string_bytes c.args.words.items) ≡ Some c.in-Ok.plan = search rules in
+    let asked = some_asked string_bytes c.args.words.items c.in-Ok.plan some planned in
+    λ off zero. inr (asked_told_types (map string_bytes c.args.words.items) c.in-Ok.plan asked (g.F.Files.known_input c.args.files.now) (g.F.Files.known_file c.args.files.now) _ _ _ _ (λ types. (c.run_plan-in-Ok.ensures.says_types off types).shown zero))
+
+pub returns-then-is_empty-clause-told_types : goal.returns-then-is_empty-clause-told_types
+returns-then-is_empty-clause-told_types g c =
+    let none : length c.args.words.items ≡ 0 = search rules in
+    let asked = none_asked string_bytes c.args.words.items c.plan_without_words-plan.result none c.plan_without_words-plan.ensures.plan in
+    λ off zero. inr (asked_told_types (map string_bytes c.args.words.items) c.plan_without_words-plan.result asked (g.F.Files.known_input c.args.files.now) (g.F.Files.known_file c.args.files.now) _ _ _ _ (λ types. (c.run_plan.ensures.says_types off types).shown zero))
+
+pub returns-clause-told_types_fault : goal.returns-clause-told_types_fault
+returns-clause-told_types_fault g c =
+    λ _ one. absurd (c.refuse.ensures.no_fault one)
+
+pub returns-in-Ok-clause-told_types_fault : goal.returns-in-Ok-clause-told_types_fault
+returns-in-Ok-clause-told_types_fault g c =
+    let some : length c.args.words.items ≡ 0 → ⊥ = search rules in
+    let planned : plan_of (map string_bytes c.args.words.items) ≡ Some c.in-Ok.plan = search rules in
+    let asked = some_asked string_bytes c.args.words.items c.in-Ok.plan some planned in
+    λ off one. asked_told_types_fault (map string_bytes c.args.words.items) c.in-Ok.plan asked (g.F.Files.known_input c.args.files.now) (g.F.Files.known_file c.args.files.now) _ _ _ _ (λ types. (c.run_plan-in-Ok.ensures.says_types off types).faulty one)
+
+pub returns-then-is_empty-clause-told_types_fault : goal.returns-then-is_empty-clause-told_types_fault
+returns-then-is_empty-clause-told_types_fault g c =
+    let none : length c.args.words.items ≡ 0 = search rules in
+    let asked = none_asked string_bytes c.args.words.items c.plan_without_words-plan.result none c.plan_without_words-plan.ensures.plan in
+    λ off one. asked_told_types_fault (map string_bytes c.args.words.items) c.plan_without_words-plan.result asked (g.F.Files.known_input c.args.files.now) (g.F.Files.known_file c.args.files.now) _ _ _ _ (λ types. (c.run_plan.ensures.says_types off types).faulty one)
+
+pub returns-clause-told_failure : goal.returns-clause-told_failure
+returns-clause-told_failure g c =
+    λ _ three. inl (c.refuse.ensures.told_failure three)
+
+pub returns-in-Ok-clause-told_failure : goal.returns-in-Ok-clause-told_failure
+returns-in-Ok-clause-told_failure g c =
+    let some : length c.args.words.items ≡ 0 → ⊥ = search rules in
+    let planned : plan_of (map string_bytes c.args.words.items) ≡ Some c.in-Ok.plan = search rules in
+    let asked = some_asked string_bytes c.args.words.items c.in-Ok.plan some planned in
+    λ off three. inr (asked_told_failure (map string_bytes c.args.words.items) c.in-Ok.plan asked (g.F.Files.known_input c.args.files.now) (g.F.Files.known_file c.args.files.now) _ _ _ _ (failure_told _ _ _ _ c.in-Ok.plan _ _ _ three (c.run_plan-in-Ok.ensures.says off) (c.run_plan-in-Ok.ensures.says_types off)))
+
+pub returns-then-is_empty-clause-told_failure : goal.returns-then-is_empty-clause-told_failure
+returns-then-is_empty-clause-told_failure g c =
+    let none : length c.args.words.items ≡ 0 = search rules in
+    let asked = none_asked string_bytes c.args.words.items c.plan_without_words-plan.result none c.plan_without_words-plan.ensures.plan in
+    λ off three. inr (asked_told_failure (map string_bytes c.args.words.items) c.plan_without_words-plan.result asked (g.F.Files.known_input c.args.files.now) (g.F.Files.known_file c.args.files.now) _ _ _ _ (failure_told _ _ _ _ c.plan_without_words-plan.result _ _ _ three (c.run_plan.ensures.says off) (c.run_plan.ensures.says_types off)))
+
+pub returns-clause-told_refused : goal.returns-clause-told_refused
+returns-clause-told_refused g c =
+    let some : length c.args.words.items ≡ 0 → ⊥ = search rules in
+    let among = among_words string_bytes c.in-Err.fault c.as_slice-2.ensures.value c.in-Err.ensures.refused in
+    λ two. inl (told_refusal string_bytes c.args.words.items c.in-Err.fault some among (c.refuse.ensures.words two) _ _ _ _ (c.refuse.ensures.told_words two))
+
+pub returns-in-Ok-clause-told_refused : goal.returns-in-Ok-clause-told_refused
+returns-in-Ok-clause-told_refused g c =
+    let some : length c.args.words.items ≡ 0 → ⊥ = search rules in
+    let planned : plan_of (map string_bytes c.args.words.items) ≡ Some c.in-Ok.plan = search rules in
+    let asked = some_asked string_bytes c.args.words.items c.in-Ok.plan some planned in
+    λ two. inr (asked_told_many (map string_bytes c.args.words.items) c.in-Ok.plan asked g.F.Files.may_have_terminal _ _ _ _ (c.run_plan-in-Ok.ensures.many two, λ none. c.run_plan-in-Ok.ensures.told_many none two))
+
+pub returns-then-is_empty-clause-told_refused : goal.returns-then-is_empty-clause-told_refused
+returns-then-is_empty-clause-told_refused g c =
+    let none : length c.args.words.items ≡ 0 = search rules in
+    let asked = none_asked string_bytes c.args.words.items c.plan_without_words-plan.result none c.plan_without_words-plan.ensures.plan in
+    λ two. inr (asked_told_many (map string_bytes c.args.words.items) c.plan_without_words-plan.result asked g.F.Files.may_have_terminal _ _ _ _ (c.run_plan.ensures.many two, λ none. c.run_plan.ensures.told_many none two))

@@ -1,7 +1,8 @@
-use Rattle.std.proofs.Common.{◌≡◌, ◌∙◌, ap, IfSome, OnOk, List, Option, Some, Result, Ok, Err, ℕ, map, refl, subst, sym, true, false}
+use Rattle.std.proofs.Common.{◌≡◌, ◌∙◌, ap, IfSome, OnOk, List, Option, Some, Result, Ok, Err, ℕ, inr, map, refl, subst, sym, true, false}
 use Rattle.std.specs.Prelude.{Bool, not}
 use Rattle.std.proofs.lemmas.Bool.{false≢true, true≢false}
 use Rattle.std.proofs.lemmas.Result.{IfErr-weaker}
+use Rattle.opened_sources.specs.declared.failures.Failure.TheVariants.{OutOfMemory}
 use Rattle.ring_collect.specs.Collection.{AreWhole}
 use Rattle.merged_stacks.specs.Timeline.{samples_of}
 use Rattle.run_options.specs.declared.formats.Format.{Format}
@@ -9,17 +10,17 @@ use Rattle.sent_views.specs.declared.run_facts.RunFacts.{RunFacts}
 use Rattle.source_lists.specs.OmittedNames.{shown_rests}
 use Rattle.source_lists.specs.Sources.{asked_rests, known_inputs, whole_weight}
 use Rattle.flame_tool.specs.KnownFacts.{facts_of}
-use Rattle.flame_tool.specs.Runs.{Shows}
+use Rattle.flame_tool.specs.Runs.{Shows, lists_of}
 use Rattle.flame_tool.specs.StrictRuns.{HasPlainFault, has_strict_fault}
 use Rattle.flame_tool.specs.checked.Failures.{Fails, FailsStrictly, TellsGrowth}
 use Rattle.flame_tool.specs.checked.Wanted.{wanted_rests}
-use Rattle.flame_tool.proofs.KnownSources.{AreCollected, at_known, err_if_known, err_shown, if_known, lists_faultless, ok_if_known, ok_shown, growth_shown}
+use Rattle.flame_tool.proofs.KnownSources.{AreCollected, at_known, err_if_known, err_shown, if_known, lists_faultless, ok_if_known, ok_shown, growth_shown, samples_of_rests}
 use Rattle.flame_tool.proofs.GrownFunctions.{limit_told}
 use Rattle.flame_tool.proofs.RunEndings.{same_shown}
 use Rattle.flame_tool.proofs.StrictEndings.{told_strictly, unsent}
-use Rattle.stack_core.specs.declared.endings.SourceEnd.{SourceEnd}
-use Rattle.flame_tool.specs.ToldRuns.{TellsEndings}
-use Rattle.flame_tool.proofs.ToldEndings.{told_before, told_before_faults, told_of_read}
+use Rattle.source_views.specs.Texts.{growth_line}
+use Rattle.flame_tool.specs.ToldRuns.{TellsSources}
+use Rattle.flame_tool.proofs.SaidSources.{said_behind, said_failing, told_reported}
 use Rattle.flame_tool.proofs.views_run.show_sources.Goals as goal
 
 pub returns-clause-ok : goal.returns-clause-ok
@@ -132,27 +133,37 @@ returns-clause-grown g c =
 pub returns-clause-limit : goal.returns-clause-limit
 returns-clause-limit g c = limit_told c.args.plan.now.view (samples_of c.in_ok-shown.shown.lists) c.send_lists.result c.send_lists.ensures.growth
 
-pub returns-clause-told : goal.returns-clause-told
-returns-clause-told g c = λ loose unwanted.
+pub returns-clause-says : goal.returns-clause-says
+returns-clause-says g c = λ unwanted.
     let plan = c.args.plan.now in
+    let known = known_inputs c.args.inputs.items in
+    let run = c.in_ok-shown.shown in
+    let start = c.args.err.now in
     let reported = c.report_sources.new.err in
-    let gains : g.row.E.Denot → g.row.E.Denot → List SourceEnd → Type 0 =
-    λ from to. TellsEndings plan.files (g.E.Outlet.contents from) (g.E.Outlet.contents to) (g.E.Outlet.failures from) (g.E.Outlet.failures to) in
-    let told = subst (λ start. gains start reported (map (λ list. list.ending) c.lists.result.now)) (c.in_ok-run.ensures.untold unwanted) (c.in_ok-report_sources.ensures.told loose unwanted) in
-    told_before (λ err. IfSome (known_inputs c.args.inputs.items) (λ sources. gains c.args.err.now err (map (λ rest. rest.ending) (asked_rests plan.options sources)))) reported c.send_lists.new.err c.send_lists.result c.send_lists.ensures.untold
-    (if_known (known_inputs c.args.inputs.items) (λ sources. gains c.args.err.now reported (map (λ rest. rest.ending) (asked_rests plan.options sources)))
-    (λ sources is. told_of_read plan sources c.in_ok-run.run'.kept.lists c.lists.result.now _ _ _ _ ((at_known _ sources is c.in_ok-run.ensures.reads).whole (λ source index stops. stops)) c.lists.ensures.lists told))
+    let whole : (sources : List (Format × List ℕ)) → known ≡ Some sources → AreWhole (asked_rests plan.options sources) c.in_ok-run.run'.kept.lists = λ sources is. (at_known _ sources is c.in_ok-run.ensures.reads).whole (λ source index stops. stops) in
+    let told = subst (λ err. IfSome known (TellsSources plan (g.E.Outlet.contents err) (g.E.Outlet.contents reported) (g.E.Outlet.failures err) (g.E.Outlet.failures reported))) (c.in_ok-run.ensures.untold unwanted)
+    (told_reported _ _ _ _ plan c.in_ok-kept.kept.items c.args.inputs.items c.in_ok-run.run'.kept.lists c.lists.result.now whole c.lists.ensures.lists (λ strict. c.in_ok-kept.ensures strict ∙ c.deref-2.ensures.value)
+    (λ loose. c.in_ok-report_sources.ensures.told loose unwanted) (λ strict. c.in_ok-report_sources.ensures.told_strict strict unwanted)) in
+    said_behind g.E.Outlet.contents g.E.Outlet.failures plan known (growth_line plan.view (samples_of run.lists)) start reported c.send_lists.new.err c.send_lists.result c.send_lists.ensures.untold c.send_lists.ensures.untold_err c.send_lists.ensures.told_growth
+    (λ sources is. ap (growth_line plan.view) (samples_of_rests run.lists ∙ ap lists_of (c.in_ok-shown.ensures.lists ∙ ap (shown_rests plan.from plan.omit) (whole sources is)))) told
 
-pub returns-clause-told_faults : goal.returns-clause-told_faults
-returns-clause-told_faults g c = λ loose unwanted.
+pub returns-then-not-branch-clause-says : goal.returns-then-not-branch-clause-says
+returns-then-not-branch-clause-says g c = λ unwanted.
     let plan = c.args.plan.now in
+    let known = known_inputs c.args.inputs.items in
     let reported = c.report_sources.new.err in
-    let gains : g.row.E.Denot → g.row.E.Denot → List SourceEnd → Type 0 =
-    λ from to. TellsEndings plan.files (g.E.Outlet.contents from) (g.E.Outlet.contents to) (g.E.Outlet.failures from) (g.E.Outlet.failures to) in
-    let told = subst (λ start. gains start reported (map (λ list. list.ending) c.lists.result.now)) (c.in_ok-run.ensures.untold unwanted) (c.in_ok-report_sources.ensures.told loose unwanted) in
-    told_before_faults (λ err. IfSome (known_inputs c.args.inputs.items) (λ sources. gains c.args.err.now err (map (λ rest. rest.ending) (asked_rests plan.options sources)))) reported c.send_lists.new.err c.send_lists.result c.send_lists.ensures.untold_err
-    (if_known (known_inputs c.args.inputs.items) (λ sources. gains c.args.err.now reported (map (λ rest. rest.ending) (asked_rests plan.options sources)))
-    (λ sources is. told_of_read plan sources c.in_ok-run.run'.kept.lists c.lists.result.now _ _ _ _ ((at_known _ sources is c.in_ok-run.ensures.reads).whole (λ source index stops. stops)) c.lists.ensures.lists told))
+    subst (λ err. IfSome known (TellsSources plan (g.E.Outlet.contents err) (g.E.Outlet.contents reported) (g.E.Outlet.failures err) (g.E.Outlet.failures reported))) (c.in_ok-run.ensures.untold unwanted)
+    (told_reported _ _ _ _ plan c.in_ok-kept.kept.items c.args.inputs.items c.in_ok-run.run'.kept.lists c.lists.result.now (λ sources is. (at_known _ sources is c.in_ok-run.ensures.reads).whole (λ source index stops. stops)) c.lists.ensures.lists
+    (λ strict. c.in_ok-kept.ensures strict ∙ c.deref-2.ensures.value)
+    (λ loose. c.in_ok-report_sources.ensures.told loose unwanted) (λ strict. c.in_ok-report_sources.ensures.told_strict strict unwanted))
 
-pub returns-then-not-branch-clause-told_faults : goal.returns-then-not-branch-clause-told_faults
-returns-then-not-branch-clause-told_faults g c = λ loose. absurd (true≢false (sym (c.in_ok-report_sources.ensures.loose loose) ∙ c.if-not-branch.true))
+pub returns-in_err-shown-clause-says : goal.returns-in_err-shown-clause-says
+returns-in_err-shown-clause-says g c = λ unwanted.
+    let plan = c.args.plan.now in
+    let known = known_inputs c.args.inputs.items in
+    let reported = c.report_sources.new.err in
+    let told = subst (λ err. IfSome known (TellsSources plan (g.E.Outlet.contents err) (g.E.Outlet.contents reported) (g.E.Outlet.failures err) (g.E.Outlet.failures reported))) (c.in_ok-run.ensures.untold unwanted)
+    (told_reported _ _ _ _ plan c.in_ok-kept.kept.items c.args.inputs.items c.in_ok-run.run'.kept.lists c.lists.result.now (λ sources is. (at_known _ sources is c.in_ok-run.ensures.reads).whole (λ source index stops. stops)) c.lists.ensures.lists
+    (λ strict. c.in_ok-kept.ensures strict ∙ c.deref-2.ensures.value)
+    (λ loose. c.in_ok-report_sources.ensures.told loose unwanted) (λ strict. c.in_ok-report_sources.ensures.told_strict strict unwanted)) in
+    said_failing _ _ _ _ plan known c.from_residual-in_err-shown.result OutOfMemory c.from_residual-in_err-shown.ensures.1 (inr told)

@@ -3,9 +3,9 @@ use Rattle.std.proofs.lemmas.Result.{IfErr-weaker, IfOk-weaker, on_ok_weaker}
 use Rattle.opened_sources.specs.Opening.{AreLoaded}
 use Rattle.flame_tool.specs.Runs.{Shows}
 use Rattle.flame_tool.specs.StrictRuns.{has_strict_fault}
-use Rattle.flame_tool.specs.ToldRuns.{TellsEndings}
 use Rattle.flame_tool.specs.checked.Failures.{Fails, FailsStrictly, TellsGrowth}
-use Rattle.flame_tool.proofs.KnownSources.{bytes_known, endings_known, shown_known}
+use Rattle.flame_tool.proofs.KnownSources.{bytes_known, shown_known}
+use Rattle.flame_tool.proofs.SaidSources.{said_known}
 use Rattle.flame_tool.proofs.ToldEndings.{is_none}
 use Rattle.flame_tool.proofs.views_run.show_views.Goals as goal
 
@@ -56,26 +56,12 @@ returns-clause-strict_err g c = λ samples strict.
     IfErr-weaker c.show_sources.result _ _
     (λ failure. bytes_known plan input files inputs loaded (λ sources. FailsStrictly (has_strict_fault plan.options sources) failure)) (c.show_sources.ensures.strict_err strict)
 
-pub returns-clause-told : goal.returns-clause-told
-returns-clause-told g c = λ none loose.
+pub returns-clause-says : goal.returns-clause-says
+returns-clause-says g c = λ none.
     let plan = c.args.plan.now in
     let input = g.F.Files.known_input c.args.files.now in
     let files = g.F.Files.known_file c.args.files.now in
     let inputs = c.in_ok-inputs.inputs.items in
     let loaded = subst (λ (paths : List (List ℕ)). AreLoaded plan.format input files paths inputs) c.get.ensures c.in_ok-inputs.ensures.loaded in
     let unwanted = c.new-advice.ensures ∙ is_none c.is_error_terminal.result g.F.Files.may_have_terminal c.is_error_terminal.ensures.terminal none in
-    let told = endings_known plan input files inputs loaded
-    (TellsEndings plan.files (g.E.Outlet.contents c.args.err.now) (g.E.Outlet.contents c.show_sources.new.err) (g.E.Outlet.failures c.args.err.now) (g.E.Outlet.failures c.show_sources.new.err)) in
-    IfOk-weaker c.show_sources.result _ _ (λ is_over shown under. told (shown under)) (c.show_sources.ensures.told loose unwanted)
-
-pub returns-clause-told_faults : goal.returns-clause-told_faults
-returns-clause-told_faults g c = λ none loose is.
-    let plan = c.args.plan.now in
-    let input = g.F.Files.known_input c.args.files.now in
-    let files = g.F.Files.known_file c.args.files.now in
-    let inputs = c.in_ok-inputs.inputs.items in
-    let loaded = subst (λ (paths : List (List ℕ)). AreLoaded plan.format input files paths inputs) c.get.ensures c.in_ok-inputs.ensures.loaded in
-    let unwanted = c.new-advice.ensures ∙ is_none c.is_error_terminal.result g.F.Files.may_have_terminal c.is_error_terminal.ensures.terminal none in
-    endings_known plan input files inputs loaded
-    (TellsEndings plan.files (g.E.Outlet.contents c.args.err.now) (g.E.Outlet.contents c.show_sources.new.err) (g.E.Outlet.failures c.args.err.now) (g.E.Outlet.failures c.show_sources.new.err))
-    (c.show_sources.ensures.told_faults loose unwanted is)
+    said_known _ _ _ _ plan _ _ (bytes_known plan input files inputs loaded) c.show_sources.result (c.show_sources.ensures.says unwanted)
