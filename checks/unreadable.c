@@ -1,5 +1,5 @@
-/* Loaded before the C library, lets one read at a place of a file fail: that of number REFUSE, counted from 1 over all threads. It then makes
- * the file that REFUSED names, so that who counts upwards sees when a run has no such read. */
+/* Loaded before the C library, lets one read fail: that of number REFUSE, counted from 1 over all threads. It then makes the file that REFUSED
+ * names, so that who counts upwards sees when a run has no such read. */
 #define _GNU_SOURCE
 #include <dlfcn.h>
 #include <errno.h>
@@ -30,4 +30,11 @@ ssize_t pread64(int file, void *bytes, size_t count, off64_t at) {
 
 ssize_t pread(int file, void *bytes, size_t count, off_t at) {
     return pread64(file, bytes, count, at);
+}
+
+ssize_t read(int file, void *bytes, size_t count) {
+    static ssize_t (*real)(int, void *, size_t);
+    if (!real)
+        real = (ssize_t(*)(int, void *, size_t))dlsym(RTLD_NEXT, "read");
+    return is_refused() ? -1 : real(file, bytes, count);
 }
