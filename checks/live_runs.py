@@ -9,12 +9,23 @@ import threading
 from collections.abc import Callable
 from types import TracebackType
 
+from live_lines import Sample, text_of
+
 # What has not come by then is taken for lost. Nothing else goes by time.
 PATIENCE = 60
 
 
 class Lost(Exception):
     """Something has not come."""
+
+
+class Wrong(Exception):
+    """What came is not what must come."""
+
+
+def same(found: object, wanted: object, what: str) -> None:
+    if found != wanted:
+        raise Wrong(f'{what}: {str(found)[:400]} in place of {str(wanted)[:400]}')
 
 
 class Stream:
@@ -58,6 +69,41 @@ def pipe() -> tuple[int, Stream]:
     """The end of a pipe that is read, and a stream to the other one."""
     source, end = os.pipe()
     return source, Stream(lambda: end)
+
+
+class Streams:
+    """FIFOs, and the samples that each of them was given. Some are opened later."""
+
+    def __init__(self, folder: pathlib.Path, count: int, late: int = 0) -> None:
+        self.folder, self.late = folder, late
+        self.names = [f'stream{at}' for at in range(count)]
+        for name in self.names:
+            os.mkfifo(folder / name)
+        self.streams = [fifo(folder / name) for name in self.names[late:]]
+        self.given: list[list[Sample]] = [[] for _ in range(count)]
+
+    def open_late(self) -> None:
+        self.streams = [fifo(self.folder / name) for name in self.names[:self.late]] + self.streams
+        self.late = 0
+
+    def stream(self, at: int) -> Stream:
+        return self.streams[at - self.late]
+
+    def give(self, at: int, sample: Sample) -> None:
+        self.given[at].append(sample)
+        self.stream(at).give(text_of(sample) + b'\n')
+
+    def end(self) -> None:
+        for stream in self.streams:
+            stream.end()
+
+    @property
+    def counts(self) -> list[int]:
+        return [len(samples) for samples in self.given]
+
+    @property
+    def samples(self) -> list[Sample]:
+        return [sample for samples in self.given for sample in samples]
 
 
 class Run:

@@ -1,6 +1,7 @@
 mod ExitStatuses
 mod GrownFunctions
 mod KnownSources
+mod LiveSaid
 mod LiveSinks
 mod LiveStreamLemmas
 mod LiveTexts
@@ -12,6 +13,7 @@ mod StrictSources
 mod ToldEndings
 mod TypeEndings
 mod UntouchedOutputs
+mod WorkedLive
 mod WorkedRequests
 mod WorkedRows
 mod WorkedSteps

@@ -1,5 +1,5 @@
 -- What a live run leaves of the samples that its sink took.
-use Rattle.std.proofs.Common.{◌≡◌, ◌<◌, ◌≤◌, ℕ, suc, List, [], ◌∷◌, ◌++◌, Option, Some, None, Result, Ok, Err, All, IfErr, length, map, drop, refl, sym, ap, subst, ◌∙◌, arith, inl, inr}
+use Rattle.std.proofs.Common.{◌≡◌, ◌<◌, ◌≤◌, ℕ, suc, Bool, true, false, List, [], ◌∷◌, ◌++◌, Option, Some, None, Result, Ok, Err, All, IfErr, length, map, drop, refl, sym, ap, subst, ◌∙◌, arith, inl, inr}
 use Rattle.std.specs.Prelude.{slice_get}
 use Rattle.std.specs.List.{range_with_len}
 use Rattle.std.specs.Result.{IsErrAnd}
@@ -10,15 +10,13 @@ use Rattle.std.proofs.lemmas.List.FromFn.{get_or-map-range_with_len, length-map-
 use Rattle.std.proofs.lemmas.Option.{get_or_from_slice_get, slice_get_within}
 use Rattle.byte_io.specs.Pieces.{AppendsFront}
 use Rattle.sample_tables.specs.declared.samples.Sample.{Sample}
-use Rattle.stack_core.specs.Interleaving.{AreOf, list_of, of_source, sources_of}
+use Rattle.stack_core.specs.Interleaving.{AreOf, IsInterleaving, interleaved, list_of, of_source, sources_of}
 use Rattle.stack_core.specs.Ledgers.{ListState}
 use Rattle.stack_core.specs.Prefixes.{IsPrefixOf}
 use Rattle.stack_core.specs.Reading.{Rest}
 use Rattle.stack_core.specs.Told.{IsCollected}
 use Rattle.stack_core.proofs.InterleavingLemmas.{AreOf-IsInterleaving, AreOf-interleaved, of_source_past}
 use Rattle.merged_stacks.specs.Timeline.{samples_of}
-use Rattle.merging.specs.Snapshots.{snapshot_places}
-use Rattle.merging.specs.Sums.{all_samples}
 use Rattle.command_line.specs.declared.plans.Plan.{Plan}
 use Rattle.command_line.specs.declared.plans.View.TheVariants.{Graph}
 use Rattle.ring_collect.specs.Collection.{AnswersRun, Collects, CollectsRun, GainsFirst, GainsOf, seen_as_rest}
@@ -26,16 +24,19 @@ use Rattle.ring_collect.specs.declared.faults.CollectFault.{CollectFault}
 use Rattle.ring_collect.specs.declared.faults.CollectFault.TheVariants as collect
 use Rattle.ring_collect.proofs.RoundLemmas.{slice_get_map}
 use Rattle.ring_collect.proofs.RunLemmas.{at_index}
-use Rattle.source_views.specs.Texts.{graph_line, graph_text, snapshot_lines, view_text}
+use Rattle.source_views.specs.Texts.{view_text}
 use Rattle.source_views.proofs.SnapshotLines.{front_more, front_of_nothing}
 use Rattle.opened_sources.specs.Failures.{failure_of_collect}
 use Rattle.opened_sources.specs.declared.failures.Failure.{Failure}
-use Rattle.live_lines.specs.Lines.{live_lines, live_text}
-use Rattle.live_lines.specs.Settings.{known_numbers, live_setting}
+use Rattle.live_lines.specs.Frames.{frames_text}
+use Rattle.live_lines.specs.Lines.{end_of, live_lines, live_text}
+use Rattle.live_lines.specs.Settings.{form_number, known_numbers, live_setting}
 use Rattle.live_lines.specs.Written.{GrewByFront, grown_by}
-use Rattle.live_lines.proofs.GraphLemmas.{lines_are_snapshots, text_is_graph_text}
-use Rattle.flame_tool.specs.LiveRuns.{AreFirst, ShowsFirst, ShowsSome, lines_of}
-use Rattle.flame_tool.specs.checked.LiveEnds.{EndsLive, FailsLive, anywhere, status_of_ends}
+use Rattle.live_lines.specs.declared.kept.LiveForm.{LiveForm}
+use Rattle.live_lines.proofs.GraphLemmas.{text_is_graph_text}
+use Rattle.live_lines.proofs.SettingLemmas.{same_form}
+use Rattle.flame_tool.specs.LiveRuns.{AreFirst, ShowsFirstOf, ShowsSomeOf, live_texts}
+use Rattle.flame_tool.specs.checked.LiveEnds.{EndsLive, FailsLive, anywhere, form_of, status_of_ends}
 
 -- ---- pairs, by their sources
 
@@ -90,22 +91,28 @@ are_first rests lists collected = record { count = length-map lists (λ list. li
 -- ---- what the sink wrote
 
 module _ (plan : Plan) (width every : ℕ) (graph : plan.view ≡ Graph width) (often : plan.options.every ≡ Some every) where
-  text_is : (lists : List (List Sample)) (order : List ℕ) → graph_text width lists order (Some every) ≡ lines_of plan lists order
-  text_is lists order =
-      ap (λ every. view_text (Graph width) lists order every) (sym often) ∙ ap (λ view. view_text view lists order plan.options.every) (sym graph)
+  -- what is written of samples that came in an order is what is promised of their lists
+  text_is : (is_table : Bool) (lists : List (List Sample)) (order : List ℕ) (count : ℕ) → IsInterleaving order lists → length lists ≡ count
+      → live_text (form_of is_table every) count width every (interleaved order lists) ≡ live_texts is_table plan lists order
+  text_is false lists order count ordered long =
+      text_is_graph_text count width every lists order ordered long
+      ∙ (ap (λ every. view_text (Graph width) lists order every) (sym often) ∙ ap (λ view. view_text view lists order plan.options.every) (sym graph))
+  text_is true lists order count ordered long =
+      ap (λ n. frames_text every n (interleaved order lists)) (sym long)
+      ∙ ap (λ (often : Option ℕ). elim often [ None ↦ [] | Some every ↦ frames_text every (length lists) (interleaved order lists) ]) (sym often)
 
-  module _ (old new : Option (List ℕ)) (count : ℕ) (taken : List (ℕ × Sample)) where
-    lines_by_source : AreOf taken (by_source count taken) → AppendsFront (live_lines count width every taken) old new → AppendsFront (lines_of plan (by_source count taken) (sources_of taken)) old new
+  module _ (is_table : Bool) (old new : Option (List ℕ)) (count : ℕ) (taken : List (ℕ × Sample)) where
+    lines_by_source : AreOf taken (by_source count taken) → AppendsFront (live_lines (form_of is_table every) count width every taken) old new → AppendsFront (live_texts is_table plan (by_source count taken) (sources_of taken)) old new
     lines_by_source of gained =
         let lists = by_source count taken in
         let order = sources_of taken in
-        let same : live_lines count width every taken ≡ snapshot_lines width lists order (snapshot_places (Some every) (length order)) =
-        ap (live_lines count width every) (sym (AreOf-interleaved taken lists of)) ∙ lines_are_snapshots count width every lists order (AreOf-IsInterleaving taken lists of) (by_source-length count taken) in
-        subst (λ text. AppendsFront text old new) (text_is lists order)
-        (front_more (snapshot_lines width lists order (snapshot_places (Some every) (length order))) (graph_line width (all_samples lists)) old new (subst (λ text. AppendsFront text old new) same gained))
+        let form = form_of is_table every in
+        let same : live_text form count width every taken ≡ live_texts is_table plan lists order =
+        ap (live_text form count width every) (sym (AreOf-interleaved taken lists of)) ∙ text_is is_table lists order count (AreOf-IsInterleaving taken lists of) (by_source-length count taken) in
+        subst (λ text. AppendsFront text old new) same (front_more (live_lines form count width every taken) (end_of form width taken) old new gained)
 
     -- of a run that was refused memory or a thread
-    pub first_shown : (rests : List Rest) → count ≡ length rests → GainsFirst rests [] taken → AppendsFront (live_lines count width every taken) old new → ShowsFirst plan old new rests
+    pub first_shown : (rests : List Rest) → count ≡ length rests → GainsFirst rests [] taken → AppendsFront (live_lines (form_of is_table every) count width every taken) old new → ShowsFirstOf (live_texts is_table plan) old new rests
     first_shown rests count_is gains gained =
         let of = are_by_source count taken (λ source past. let no_more = gains.no_more in ap (of_source source) gains.gained ∙ gains.of_lists.by_source source ∙ get_or_past gains.lists source [] (omega arith)) in
         record {
@@ -123,7 +130,7 @@ module _ (plan : Plan) (width every : ℕ) (graph : plan.view ≡ Graph width) (
         }
 
     -- of a run of which it isn't known whether all was received
-    pub some_shown : (rests : List Rest) → count ≡ length rests → GainsOf (length rests) [] taken → AppendsFront (live_lines count width every taken) old new → ShowsSome plan old new (length rests)
+    pub some_shown : (rests : List Rest) → count ≡ length rests → GainsOf (length rests) [] taken → AppendsFront (live_lines (form_of is_table every) count width every taken) old new → ShowsSomeOf (live_texts is_table plan) old new (length rests)
     some_shown rests count_is gains gained =
         let below : All (λ (pair : ℕ × Sample). pair.0 < count) taken =
         subst (λ (pairs : List (ℕ × Sample)). All (λ (pair : ℕ × Sample). pair.0 < count) pairs) (sym gains.gained) (subst (λ n. All (λ (pair : ℕ × Sample). pair.0 < n) gains.pairs) (sym count_is) gains.sources) in
@@ -137,8 +144,8 @@ module _ (plan : Plan) (width every : ℕ) (graph : plan.view ≡ Graph width) (
         }
 
   -- nothing went out
-  pub none_shown : (out : Option (List ℕ)) (rests : List Rest) → ShowsFirst plan out out rests
-  none_shown out rests =
+  pub none_shown : (is_table : Bool) (out : Option (List ℕ)) (rests : List Rest) → ShowsFirstOf (live_texts is_table plan) out out rests
+  none_shown is_table out rests =
       let of = are_by_source (length rests) [] (λ source past. refl) in
       record {
         lists = by_source (length rests) [];
@@ -148,39 +155,44 @@ module _ (plan : Plan) (width every : ℕ) (graph : plan.view ≡ Graph width) (
         };
         order = [];
         ordered = AreOf-IsInterleaving [] (by_source (length rests) []) of;
-        gained = front_of_nothing (lines_of plan (by_source (length rests) []) []) out;
+        gained = front_of_nothing (live_texts is_table plan (by_source (length rests) []) []) out;
       }
 
   -- all was collected
-  module _ (old new : Option (List ℕ)) (rests : List Rest) (taken : List (ℕ × Sample)) (lists : List ListState) (order : List ℕ) (run : CollectsRun anywhere anywhere rests [] taken lists order)
-      (text : List ℕ) (is_text : text ≡ graph_text width (samples_of lists) order (Some every)) where
-    pub all_shown : Appends old new text → EndsLive plan old new (status_of_ends plan.is_strict lists) rests
+  module _ (is_table : Bool) (old new : Option (List ℕ)) (rests : List Rest) (taken : List (ℕ × Sample)) (lists : List ListState) (order : List ℕ) (run : CollectsRun anywhere anywhere rests [] taken lists order)
+      (text : List ℕ) (is_text : text ≡ live_texts is_table plan (samples_of lists) order) where
+    pub all_shown : Appends old new text → EndsLive is_table plan old new (status_of_ends plan.is_strict lists) rests
     all_shown gained = record {
       lists = lists;
       collected = run.lists;
       order = order;
       ordered = run.order;
-      gained = subst (Appends old new) (is_text ∙ text_is (samples_of lists) order) gained;
+      gained = subst (Appends old new) is_text gained;
       told = refl;
     }
 
     -- and its lines were not sent whole
-    pub part_shown : AppendsFront text old new → ShowsFirst plan old new rests
+    pub part_shown : AppendsFront text old new → ShowsFirstOf (live_texts is_table plan) old new rests
     part_shown gained = record {
       lists = samples_of lists;
       are_first = are_first rests lists run.lists;
       order = order;
       ordered = run.order;
-      gained = subst (λ text. AppendsFront text old new) (is_text ∙ text_is (samples_of lists) order) gained;
+      gained = subst (λ text. AppendsFront text old new) is_text gained;
     }
+
+-- a front of the lines is a front of the text
+pub front_of_text : (form : LiveForm) (sources width every : ℕ) (taken : List (ℕ × Sample)) (old new : Option (List ℕ)) → GrewByFront (live_lines form sources width every taken) old new → AppendsFront (live_text form sources width every taken) old new
+front_of_text form sources width every taken old new grew = front_more (live_lines form sources width every taken) (end_of form width taken) old new (grown_by old new, grew)
 
 -- ---- what no sample changes
 
 -- a sink writes to the same outlet, of which the same is known
-pub record SameSetting (name name' : ℕ) (contents contents' : Option (List ℕ)) (failures failures' sources sources' width width' every every' : ℕ) : Type 0 where
+pub record SameSetting (name name' : ℕ) (contents contents' : Option (List ℕ)) (failures failures' : ℕ) (form form' : LiveForm) (sources sources' width width' every every' : ℕ) : Type 0 where
   pub name_is : name' ≡ name
   pub contents_are : contents' ≡ contents
   pub failures_are : failures' ≡ failures
+  pub form_is : form' ≡ form
   pub sources_are : sources' ≡ sources
   pub width_is : width' ≡ width
   pub every_is : every' ≡ every
@@ -191,50 +203,53 @@ same_known None (Some other) is = absurd (cc)
 same_known (Some known) None is = absurd (cc)
 same_known (Some known) (Some other) is = let same : known ≡ other = cc in ap (λ bytes. Some bytes) same
 
-pub same_setting : (name name' : ℕ) (contents contents' : Option (List ℕ)) (failures failures' sources sources' width width' every every' : ℕ)
-    → live_setting name' contents' failures' sources' width' every' ≡ live_setting name contents failures sources width every
-    → SameSetting name name' contents contents' failures failures' sources sources' width width' every every'
-same_setting name name' contents contents' failures failures' sources sources' width width' every every' is = record {
+pub same_setting : (name name' : ℕ) (contents contents' : Option (List ℕ)) (failures failures' : ℕ) (form form' : LiveForm) (sources sources' width width' every every' : ℕ)
+    → live_setting name' contents' failures' form' sources' width' every' ≡ live_setting name contents failures form sources width every
+    → SameSetting name name' contents contents' failures failures' form form' sources sources' width width' every every'
+same_setting name name' contents contents' failures failures' form form' sources sources' width width' every every' is = record {
   name_is = cc;
   contents_are = let same : known_numbers contents' ≡ known_numbers contents = cc in same_known contents' contents same;
   failures_are = cc;
+  form_is = let same : form_number form' ≡ form_number form = cc in same_form form' form same;
   sources_are = cc;
   width_is = cc;
   every_is = cc;
 }
 
 -- so what it wrote is a front of the lines as they were asked for
-pub front_of_sink : {name name' : ℕ} {contents contents' : Option (List ℕ)} {failures failures' sources sources' width width' every every' : ℕ} (taken : List (ℕ × Sample)) (out : Option (List ℕ))
-    → SameSetting name name' contents contents' failures failures' sources sources' width width' every every'
-    → GrewByFront (live_lines sources' width' every' taken) contents' out → AppendsFront (live_lines sources width every taken) contents out
-front_of_sink {contents = contents} {contents' = contents'} {sources = sources} {sources' = sources'} {width = width} {width' = width'} {every = every} {every' = every'} taken out same grew =
-    subst (λ n. AppendsFront (live_lines n width every taken) contents out) same.sources_are
-    (subst (λ n. AppendsFront (live_lines sources' n every taken) contents out) same.width_is
-    (subst (λ n. AppendsFront (live_lines sources' width' n taken) contents out) same.every_is
-    (subst (λ known. AppendsFront (live_lines sources' width' every' taken) known out) same.contents_are (grown_by contents' out, grew))))
+pub front_of_sink : {name name' : ℕ} {contents contents' : Option (List ℕ)} {failures failures' : ℕ} {form form' : LiveForm} {sources sources' width width' every every' : ℕ} (taken : List (ℕ × Sample)) (out : Option (List ℕ))
+    → SameSetting name name' contents contents' failures failures' form form' sources sources' width width' every every'
+    → GrewByFront (live_lines form' sources' width' every' taken) contents' out → AppendsFront (live_lines form sources width every taken) contents out
+front_of_sink {contents = contents} {contents' = contents'} {form = form} {form' = form'} {sources = sources} {sources' = sources'} {width = width} {width' = width'} {every = every} {every' = every'} taken out same grew =
+    subst (λ f. AppendsFront (live_lines f sources width every taken) contents out) same.form_is
+    (subst (λ n. AppendsFront (live_lines form' n width every taken) contents out) same.sources_are
+    (subst (λ n. AppendsFront (live_lines form' sources' n every taken) contents out) same.width_is
+    (subst (λ n. AppendsFront (live_lines form' sources' width' n taken) contents out) same.every_is
+    (subst (λ known. AppendsFront (live_lines form' sources' width' every' taken) known out) same.contents_are (grown_by contents' out, grew)))))
 
--- and its text is that of the graph of what was collected
-pub text_of_run : {name name' : ℕ} {contents contents' : Option (List ℕ)} {failures failures' sources sources' width width' every every' : ℕ} (rests : List Rest) (taken : List (ℕ × Sample)) (lists : List ListState) (order : List ℕ)
-    → SameSetting name name' contents contents' failures failures' sources sources' width width' every every' → sources ≡ length rests → CollectsRun anywhere anywhere rests [] taken lists order
-    → live_text sources' width' every' taken ≡ graph_text width (samples_of lists) order (Some every)
-text_of_run {sources' = sources'} {width' = width'} {every' = every'} rests taken lists order same count run =
-    ap (live_text sources' width' every') run.sink
-    ∙ text_is_graph_text sources' width' every' (samples_of lists) order run.order (length-map lists (λ list. list.samples) ∙ run.lists.count ∙ sym count ∙ sym same.sources_are)
-    ∙ (λ i. graph_text (same.width_is i) (samples_of lists) order (Some (same.every_is i)))
+-- and its text is what is promised of what was collected
+pub text_of_run : {name name' : ℕ} {contents contents' : Option (List ℕ)} {failures failures' : ℕ} {form form' : LiveForm} {sources sources' width width' every every' : ℕ} (plan : Plan) (is_table : Bool) → plan.view ≡ Graph width → plan.options.every ≡ Some every
+    → form ≡ form_of is_table every → (rests : List Rest) (taken : List (ℕ × Sample)) (lists : List ListState) (order : List ℕ)
+    → SameSetting name name' contents contents' failures failures' form form' sources sources' width width' every every' → sources ≡ length rests → CollectsRun anywhere anywhere rests [] taken lists order
+    → live_text form' sources' width' every' taken ≡ live_texts is_table plan (samples_of lists) order
+text_of_run {form' = form'} {sources = sources} {sources' = sources'} {width = width} {width' = width'} {every = every} {every' = every'} plan is_table graph often formed rests taken lists order same count run =
+    ap (live_text form' sources' width' every') run.sink
+    ∙ (λ i. live_text ((same.form_is ∙ formed) i) (same.sources_are i) (same.width_is i) (same.every_is i) (interleaved order (samples_of lists)))
+    ∙ text_is plan width every graph often is_table (samples_of lists) order sources run.order (length-map lists (λ list. list.samples) ∙ run.lists.count ∙ sym count)
 
 -- ---- results
 
 -- what is left where collecting failed
-pub collect_failed : (plan : Plan) (width every : ℕ) → plan.view ≡ Graph width → plan.options.every ≡ Some every → (old new : Option (List ℕ)) (count : ℕ) (taken taken' : List (ℕ × Sample))
-    → (rests : List Rest) → count ≡ length rests → taken ≡ [] → (fault : CollectFault) → AnswersRun anywhere anywhere rests taken taken' (Err fault) → AppendsFront (live_lines count width every taken') old new
-    → FailsLive plan old new (failure_of_collect fault) rests
-collect_failed plan width every graph often old new count taken taken' rests count_is none fault answer gained =
+pub collect_failed : (plan : Plan) (width every : ℕ) (is_table : Bool) → plan.view ≡ Graph width → plan.options.every ≡ Some every → (old new : Option (List ℕ)) (count : ℕ) (taken taken' : List (ℕ × Sample))
+    → (rests : List Rest) → count ≡ length rests → taken ≡ [] → (fault : CollectFault) → AnswersRun anywhere anywhere rests taken taken' (Err fault) → AppendsFront (live_lines (form_of is_table every) count width every taken') old new
+    → FailsLive is_table plan old new (failure_of_collect fault) rests
+collect_failed plan width every is_table graph often old new count taken taken' rests count_is none fault answer gained =
     by fault (subst (λ (taken : List (ℕ × Sample)). AnswersRun anywhere anywhere rests taken taken' (Err fault)) none answer)
   where
-    by : (fault : CollectFault) → AnswersRun anywhere anywhere rests [] taken' (Err fault) → FailsLive plan old new (failure_of_collect fault) rests
-    by collect.OutOfMemory answer = first_shown plan width every graph often old new count taken' rests count_is (answer.refused (inl refl)) gained
-    by collect.NoThread answer = first_shown plan width every graph often old new count taken' rests count_is (answer.refused (inr refl)) gained
-    by (collect.Unfinished source) answer = some_shown plan width every graph often old new count taken' rests count_is (answer.unfinished source refl).gains gained
+    by : (fault : CollectFault) → AnswersRun anywhere anywhere rests [] taken' (Err fault) → FailsLive is_table plan old new (failure_of_collect fault) rests
+    by collect.OutOfMemory answer = first_shown plan width every graph often is_table old new count taken' rests count_is (answer.refused (inl refl)) gained
+    by collect.NoThread answer = first_shown plan width every graph often is_table old new count taken' rests count_is (answer.refused (inr refl)) gained
+    by (collect.Unfinished source) answer = some_shown plan width every graph often is_table old new count taken' rests count_is (answer.unfinished source refl).gains gained
 
 pub err_because : {T : Type 0} (result : Result T Failure) (failure : Failure) (P : Failure → Type 0) → IsErrAnd result (λ error. error ≡ failure) → P failure → IfErr result P
 err_because (Ok x) failure P is holds = tt

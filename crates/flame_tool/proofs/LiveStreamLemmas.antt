@@ -1,13 +1,23 @@
 -- Streams that are opened one after another.
 use Rattle.std.proofs.Common.{◌≡◌, ◌||◌, ◌+◌, ◌<◌, ◌≤◌, ◌^◌, ℕ, Bool, true, false, List, [], ◌∷◌, ◌++◌, Option, Some, None, IfSome, length, map, refl, take, get_or, ap, sym, subst, ◌∙◌, arith}
-use Rattle.std.specs.Prelude.{◌↔◌, IsSomeAnd}
+use Rattle.std.specs.Prelude.{◌↔◌, IsNone, IsSomeAnd, slice_get}
 use Rattle.std.specs.List.{AllZip, list_any}
-use Rattle.std.proofs.lemmas.List.{map-append, take_more, take_all}
+use Rattle.std.proofs.lemmas.Bool.{true≢false}
+use Rattle.std.proofs.lemmas.List.{map-append, take-map, take_more, take_all}
+use Rattle.std.proofs.lemmas.Option.{get_or_from_slice_get}
 use Rattle.std.proofs.lemmas.Slice.Zip.{all_zipped_more}
 use Rattle.stack_core.specs.Reading.{Rest}
 use Rattle.stack_core.specs.RowReading.{GivesSome}
 use Rattle.folded_lines.proofs.StreamTexts.{stream_first, stream_possible, stream_whole}
-use Rattle.folded_lines.proofs.StrictStreamTexts.{strict_front_first, strict_possible, strict_whole}
+use Rattle.folded_lines.proofs.StrictStreamTexts.{strict_front_first, strict_possible, strict_tellable, strict_whole}
+use Rattle.byte_io.specs.declared.whole_input.LoadFault.{LoadFault}
+use Rattle.byte_io.specs.declared.whole_input.LoadFault.TheVariants as load
+use Rattle.ring_collect.proofs.RoundLemmas.{slice_get_map}
+use Rattle.ring_collect.proofs.RunLemmas.{at_index}
+use Rattle.opened_sources.specs.Failures.{IsOfLoad, failure_of_load}
+use Rattle.opened_sources.specs.declared.failures.Failure.{Failure}
+use Rattle.opened_sources.specs.declared.failures.Failure.TheVariants.{Unreadable}
+use Rattle.flame_tool.specs.ToldLive.{IsMissing}
 use Rattle.flame_tool.specs.checked.LiveStreams.{AreOpened, GivesStream, IsOfFile, ReadsAs, ReadsText}
 use Rattle.flame_tool.proofs.KnownSources.{neither}
 
@@ -17,8 +27,16 @@ possible_stream false remaining is_sure small = stream_possible remaining is_sur
 possible_stream true remaining is_sure small = strict_possible remaining is_sure small
 
 stream_reads : (is_strict : Bool) (text : List ℕ) (is_sure : Bool) (rest : Rest) → GivesStream is_strict (Some text) is_sure rest → ReadsAs is_strict text rest
-stream_reads false text is_sure rest gives = record { whole = stream_whole text is_sure rest gives; first = stream_first text is_sure rest gives }
-stream_reads true text is_sure rest gives = record { whole = strict_whole text is_sure rest gives; first = strict_front_first text is_sure rest gives }
+stream_reads false text is_sure rest gives = record {
+  whole = stream_whole text is_sure rest gives;
+  first = stream_first text is_sure rest gives;
+  tellable = λ strict. absurd (true≢false (sym strict));
+}
+stream_reads true text is_sure rest gives = record {
+  whole = strict_whole text is_sure rest gives;
+  first = strict_front_first text is_sure rest gives;
+  tellable = λ _. strict_tellable (Some text) is_sure rest gives;
+}
 
 module _ (is_strict : Bool) (gives : Rest → Type 0) (remaining : Option (List ℕ)) (is_sure : Bool) (same : (rest : Rest) → gives rest ↔ GivesStream is_strict remaining is_sure rest) where
   pub possible_reader : (is_sure ≡ true → IsSomeAnd remaining (λ bytes. length bytes < 2 ^ 64)) → GivesSome gives
@@ -70,3 +88,23 @@ present_whole absent bytes paths at all none = subst (λ ps. list_any absent (ma
 pub not_true : (b : Bool) → (b ≡ true → false ≡ true) → b ≡ false
 not_true true never = sym (never refl)
 not_true false never = refl
+
+-- ---- files that can't be opened
+
+-- of paths of which the first are not known to be absent
+pub missing_file : {A : Type 0} (absent : List ℕ → Bool) (known : List ℕ → Option (List ℕ)) (bytes : A → List ℕ) (paths : List A) (at : ℕ) (path : A) (failure : Failure) → at < length paths → path ≡ get_or paths at path
+    → list_any absent (map bytes (take at paths)) ≡ false → IsOfLoad at failure → (failure ≡ Unreadable at → IsNone (known (bytes path))) → IsMissing absent known (map bytes paths) failure
+missing_file absent known bytes paths at path failure below same none loaded unknown = by loaded.0 loaded.1
+  where
+    is : slice_get paths at ≡ Some path
+    is =
+        let found = at_index paths at below in
+        subst (λ x. slice_get paths at ≡ Some x) (sym (get_or_from_slice_get paths at found.0 path found.1) ∙ sym same) found.1
+
+    by : (fault : LoadFault) → failure ≡ failure_of_load at fault → IsMissing absent known (map bytes paths) failure
+    by load.Io same = subst (IsMissing absent known (map bytes paths)) (sym same) (
+      subst (λ files. list_any absent files ≡ false) (sym (take-map bytes at paths)) none,
+      subst (λ found. IfSome found (λ path. IsNone (known path))) (sym (slice_get_map bytes paths at path is)) (unknown same),
+    )
+    by load.TooLarge same = subst (IsMissing absent known (map bytes paths)) (sym same) tt
+    by load.OutOfMemory same = subst (IsMissing absent known (map bytes paths)) (sym same) tt

@@ -17,7 +17,7 @@ use Rattle.stack_core.specs.Told.{IsCollected}
 use Rattle.stack_core.specs.declared.endings.SourceEnd.{SourceEnd}
 use Rattle.stack_core.specs.declared.endings.SourceEnd.TheVariants as ends
 use Rattle.folded_lines.specs.StrictReading.{strict_fault}
-use Rattle.folded_lines.specs.StrictStreams.{strict_ending_fault}
+use Rattle.folded_lines.specs.StrictStreams.{IsTellable, strict_ending_fault}
 use Rattle.folded_lines.proofs.StrictStreamTexts.{strict_text_fault}
 use Rattle.merged_stacks.specs.Timeline.{samples_of}
 use Rattle.command_line.specs.declared.plans.Plan.{Plan}
@@ -25,10 +25,11 @@ use Rattle.ring_collect.specs.Collection.{AreGiven, Collects, GiveSuch, seen_as_
 use Rattle.opened_sources.specs.Failures.{IsOpening, ends_in_fault, has_fault, status_of}
 use Rattle.opened_sources.specs.declared.failures.Failure.{Failure}
 use Rattle.opened_sources.specs.declared.failures.Failure.TheVariants.{TooManyFiles, Unreadable, TooLarge, OutOfMemory, NoThread, Unfinished, Faults, Output}
-use Rattle.flame_tool.specs.LiveRuns.{AreFaultless, AreFirst, HasTextFault, ShowsFirst, ShowsLive, ShowsSome, has_strict_text, known_texts, lines_of, read_text, read_texts}
+use Rattle.flame_tool.specs.LiveRuns.{AreFaultless, AreFirst, HasTextFault, ShowsAllOf, ShowsFirstOf, ShowsSomeOf, has_strict_text, known_texts, live_texts, read_text, read_texts}
 use Rattle.source_lists.specs.Sources.{all_found}
 use Rattle.flame_tool.specs.Runs.{HasFault, IsClean, lists_of}
 use Rattle.flame_tool.specs.checked.LiveEnds.{EndsLive, FailsLive, TellsTexts, anywhere, is_faulty, is_stopped, live_status, status_by, strict_list_fault}
+use Rattle.flame_tool.specs.checked.LiveSaying.{IsTellableList}
 use Rattle.flame_tool.specs.checked.LiveStreams.{AreOpened, IsOfFile, IsOfInput, ReadsAs, ReadsText}
 use Rattle.flame_tool.proofs.KnownSources.{clean_ending, faults_of_rests, faulty_rests, neither, samples_of_rests}
 
@@ -38,9 +39,10 @@ prefix_trans : {A : Type 0} (xs ys zs : List A) → IsPrefixOf xs ys → IsPrefi
 prefix_trans xs ys zs first second = (first.0 ++ second.0, sym (append_assoc xs first.0 second.0) ∙ ap (λ front. front ++ second.0) first.1 ∙ second.1)
 
 -- all that the text reads to, or first samples of it
-record SeenOf (is_strict : Bool) (text : List ℕ) (list : ListState) : Type 0 where
-  whole : is_stopped list.ending ≡ false → seen_as_rest list ≡ read_text is_strict text
-  first : IsPrefixOf list.samples (read_text is_strict text).samples
+pub record SeenOf (is_strict : Bool) (text : List ℕ) (list : ListState) : Type 0 where
+  pub whole : is_stopped list.ending ≡ false → seen_as_rest list ≡ read_text is_strict text
+  pub first : IsPrefixOf list.samples (read_text is_strict text).samples
+  pub tellable : IsTellableList is_strict list
 
 unstopped : (ending : SourceEnd) → is_stopped ending ≡ false → (after : ℕ) → ending ≢ ends.Stopped after
 unstopped ending goes after is = true≢false (sym (ap is_stopped is) ∙ goes)
@@ -49,11 +51,13 @@ seen : (is_strict : Bool) (text : List ℕ) (rest : Rest) (list : ListState) (so
 seen is_strict text rest list source reads (IsCollected.Whole goes same) = record {
   whole = λ goes. same ∙ reads.whole (λ after is. unstopped list.ending goes after (ap (λ (rest : Rest). rest.ending) same ∙ is));
   first = subst (λ (rest : Rest). IsPrefixOf rest.samples (read_text is_strict text).samples) (sym same) reads.first;
+  tellable = λ strict. subst (λ (rest : Rest). IsTellable (length rest.samples) rest.ending) (sym same) (reads.tellable strict);
 }
 seen is_strict text rest list source reads (IsCollected.StoppedAt i within stops goes same) = record {
   whole = λ goes. absurd (unstopped list.ending goes i (ap (λ (rest : Rest). rest.ending) same));
   first = subst (λ (rest : Rest). IsPrefixOf rest.samples (read_text is_strict text).samples) (sym same)
       (prefix_trans (take i rest.samples) rest.samples (read_text is_strict text).samples (drop i rest.samples, take-append-drop i rest.samples) reads.first);
+  tellable = λ strict. subst (λ (rest : Rest). IsTellable (length rest.samples) rest.ending) (sym same) tt;
 }
 
 seen_each : (is_strict : Bool) (texts : List (List ℕ)) (rests : List Rest) (lists : List ListState) → AllZip (ReadsAs is_strict) texts rests → length lists ≡ length rests
@@ -68,7 +72,7 @@ seen_each is_strict (text ∷ texts) (rest ∷ rests) (list ∷ lists) reads man
     let here = each 0 rest list refl refl in
     (seen is_strict text rest list here.0 reads.0 here.1, seen_each is_strict texts rests lists reads.1 (omega arith) (λ source. each (suc source)))
 
-seen_all : (is_strict : Bool) (texts : List (List ℕ)) (rests : List Rest) (lists : List ListState) → AllZip (ReadsAs is_strict) texts rests → Collects anywhere anywhere rests lists → AllZip (SeenOf is_strict) texts lists
+pub seen_all : (is_strict : Bool) (texts : List (List ℕ)) (rests : List Rest) (lists : List ListState) → AllZip (ReadsAs is_strict) texts rests → Collects anywhere anywhere rests lists → AllZip (SeenOf is_strict) texts lists
 seen_all is_strict texts rests lists reads collected = seen_each is_strict texts rests lists reads collected.count (λ source rest list is is_list. (source, collected.each source rest list is is_list))
 
 whole_all : (is_strict : Bool) (texts : List (List ℕ)) (lists : List ListState) → AllZip (SeenOf is_strict) texts lists → list_any (λ (list : ListState). is_stopped list.ending) lists ≡ false → map seen_as_rest lists ≡ read_texts is_strict texts
@@ -148,33 +152,33 @@ first_of_texts is_strict texts rests lists reads first = record {
 
 -- ---- the exit status
 
-status_zero : (a b : Bool) → status_by a b ≡ 0 → (a ≡ false) × (b ≡ false)
+pub status_zero : (a b : Bool) → status_by a b ≡ 0 → (a ≡ false) × (b ≡ false)
 status_zero true b is = absurd (omega arith)
 status_zero false true is = absurd (omega arith)
 status_zero false false is = (refl, refl)
 
-status_one : (a b : Bool) → status_by a b ≡ 1 → (a ≡ false) × (b ≡ true)
+pub status_one : (a b : Bool) → status_by a b ≡ 1 → (a ≡ false) × (b ≡ true)
 status_one true b is = absurd (omega arith)
 status_one false true is = (refl, refl)
 status_one false false is = absurd (omega arith)
 
-module _ (plan : Plan) (old new : Option (List ℕ)) (texts : List (List ℕ)) (rests : List Rest) (reads : AllZip (ReadsAs plan.is_strict) texts rests) where
-  module _ (status : ℕ) (ended : EndsLive plan old new status rests) where
+module _ (is_table : Bool) (plan : Plan) (old new : Option (List ℕ)) (texts : List (List ℕ)) (rests : List Rest) (reads : AllZip (ReadsAs plan.is_strict) texts rests) where
+  module _ (status : ℕ) (ended : EndsLive is_table plan old new status rests) where
     seen_of : AllZip (SeenOf plan.is_strict) texts ended.lists
     seen_of = seen_all plan.is_strict texts rests ended.lists reads ended.collected
 
-    shows : list_any (λ (list : ListState). is_stopped list.ending) ended.lists ≡ false → ShowsLive plan old new (read_texts plan.is_strict texts)
+    shows : list_any (λ (list : ListState). is_stopped list.ending) ended.lists ≡ false → ShowsAllOf (live_texts is_table plan) old new (read_texts plan.is_strict texts)
     shows goes =
         let same : samples_of ended.lists ≡ lists_of (read_texts plan.is_strict texts) = samples_of_rests ended.lists ∙ ap lists_of (whole_all plan.is_strict texts ended.lists seen_of goes) in
         record {
           order = ended.order;
           ordered = subst (λ (lists : List (List Sample)). IsInterleaving ended.order lists) same ended.ordered;
-          gained = subst (λ (lists : List (List Sample)). Appends old new (lines_of plan lists ended.order)) same ended.gained;
+          gained = subst (λ (lists : List (List Sample)). Appends old new (live_texts is_table plan lists ended.order)) same ended.gained;
         }
 
-    pub ended_tells : TellsTexts plan old new status texts
+    pub ended_tells : TellsTexts is_table plan old new status texts
     ended_tells =
-        let text = lines_of plan (samples_of ended.lists) ended.order in
+        let text = live_texts is_table plan (samples_of ended.lists) ended.order in
         record {
           shown = λ zero.
               let both = status_zero (list_any (λ (list : ListState). is_stopped list.ending) ended.lists) (is_faulty plan.is_strict ended.lists) (sym ended.told ∙ zero) in
@@ -191,7 +195,7 @@ module _ (plan : Plan) (old new : Option (List ℕ)) (texts : List (List ℕ)) (
           });
         }
 
-  first_tells : ShowsFirst plan old new rests → TellsTexts plan old new 3 texts
+  first_tells : ShowsFirstOf (live_texts is_table plan) old new rests → TellsTexts is_table plan old new 3 texts
   first_tells first = record {
     shown = λ zero. absurd (omega arith);
     faulty = λ one. absurd (omega arith);
@@ -204,14 +208,14 @@ module _ (plan : Plan) (old new : Option (List ℕ)) (texts : List (List ℕ)) (
     });
   }
 
-  some_tells : ShowsSome plan old new (length rests) → TellsTexts plan old new 3 texts
+  some_tells : ShowsSomeOf (live_texts is_table plan) old new (length rests) → TellsTexts is_table plan old new 3 texts
   some_tells some = record {
     shown = λ zero. absurd (omega arith);
     faulty = λ one. absurd (omega arith);
-    front = λ three. inr (subst (ShowsSome plan old new) (reads_length plan.is_strict texts rests reads) some);
+    front = λ three. inr (subst (ShowsSomeOf (live_texts is_table plan) old new) (reads_length plan.is_strict texts rests reads) some);
   }
 
-  pub failed_tells : (failure : Failure) → FailsLive plan old new failure rests → TellsTexts plan old new (status_of failure) texts
+  pub failed_tells : (failure : Failure) → FailsLive is_table plan old new failure rests → TellsTexts is_table plan old new (status_of failure) texts
   failed_tells TooManyFiles fails = absurd fails
   failed_tells (Unreadable source) fails = absurd fails
   failed_tells (TooLarge source) fails = absurd fails
@@ -270,22 +274,22 @@ known_tell is_strict gives input files paths readers Holds Tells opened given so
     (λ texts are. so texts given.rests (texts_given is_strict gives readers given.rests texts given.are_given are) given.holds) (opened_texts is_strict gives input files paths readers opened)
 
 -- what a run's result tells
-pub result_tells : {R : Type 0} (gives : R → Rest → Type 0) (input : Option (List ℕ)) (files : List ℕ → Option (List ℕ)) (paths : List (List ℕ)) (readers : List R) (plan : Plan) (old new : Option (List ℕ)) (result : Result ℕ Failure)
-    → AreOpened plan.is_strict gives input files paths readers → IfOk result (λ status. GiveSuch gives readers (EndsLive plan old new status)) → IfErr result (λ failure. GiveSuch gives readers (FailsLive plan old new failure))
-    → IfSome (known_texts paths input files) (TellsTexts plan old new (live_status result))
-result_tells gives input files paths readers plan old new (Ok status) opened ok err =
-    known_tell plan.is_strict gives input files paths readers (EndsLive plan old new status) (TellsTexts plan old new status) opened ok (λ texts rests reads ended. ended_tells plan old new texts rests reads status ended)
-result_tells gives input files paths readers plan old new (Err failure) opened ok err =
-    known_tell plan.is_strict gives input files paths readers (FailsLive plan old new failure) (TellsTexts plan old new (status_of failure)) opened err (λ texts rests reads fails. failed_tells plan old new texts rests reads failure fails)
+pub result_tells : {R : Type 0} (gives : R → Rest → Type 0) (input : Option (List ℕ)) (files : List ℕ → Option (List ℕ)) (paths : List (List ℕ)) (readers : List R) (is_table : Bool) (plan : Plan) (old new : Option (List ℕ)) (result : Result ℕ Failure)
+    → AreOpened plan.is_strict gives input files paths readers → IfOk result (λ status. GiveSuch gives readers (EndsLive is_table plan old new status)) → IfErr result (λ failure. GiveSuch gives readers (FailsLive is_table plan old new failure))
+    → IfSome (known_texts paths input files) (TellsTexts is_table plan old new (live_status result))
+result_tells gives input files paths readers is_table plan old new (Ok status) opened ok err =
+    known_tell plan.is_strict gives input files paths readers (EndsLive is_table plan old new status) (TellsTexts is_table plan old new status) opened ok (λ texts rests reads ended. ended_tells is_table plan old new texts rests reads status ended)
+result_tells gives input files paths readers is_table plan old new (Err failure) opened ok err =
+    known_tell plan.is_strict gives input files paths readers (FailsLive is_table plan old new failure) (TellsTexts is_table plan old new (status_of failure)) opened err (λ texts rests reads fails. failed_tells is_table plan old new texts rests reads failure fails)
 
 -- where a stream was not opened nothing went out
-opening_tells : (plan : Plan) (out : Option (List ℕ)) (count : ℕ) (failure : Failure) (texts : List (List ℕ)) → ShowsFirst plan out out (read_texts plan.is_strict texts) → IsOpening count failure → TellsTexts plan out out (status_of failure) texts
-opening_tells plan out count failure texts none opening = by failure opening
+opening_tells : (is_table : Bool) (plan : Plan) (out : Option (List ℕ)) (count : ℕ) (failure : Failure) (texts : List (List ℕ)) → ShowsFirstOf (live_texts is_table plan) out out (read_texts plan.is_strict texts) → IsOpening count failure → TellsTexts is_table plan out out (status_of failure) texts
+opening_tells is_table plan out count failure texts none opening = by failure opening
   where
-    blamed : TellsTexts plan out out 3 texts
+    blamed : TellsTexts is_table plan out out 3 texts
     blamed = record { shown = λ zero. absurd (omega arith); faulty = λ one. absurd (omega arith); front = λ three. inl none }
 
-    by : (failure : Failure) → IsOpening count failure → TellsTexts plan out out (status_of failure) texts
+    by : (failure : Failure) → IsOpening count failure → TellsTexts is_table plan out out (status_of failure) texts
     by TooManyFiles opening = record { shown = λ zero. absurd (omega arith); faulty = λ one. absurd (omega arith); front = λ three. absurd (omega arith) }
     by (Unreadable source) opening = blamed
     by (TooLarge source) opening = blamed
@@ -295,9 +299,9 @@ opening_tells plan out count failure texts none opening = by failure opening
     by Faults opening = absurd opening
     by (Output fault) opening = absurd opening
 
-pub unopened_tells : (plan : Plan) (out : Option (List ℕ)) (count : ℕ) (result : Result ℕ Failure) (failure : Failure) (known : Option (List (List ℕ))) → ((rests : List Rest) → ShowsFirst plan out out rests) → IsOpening count failure
-    → IsErrAnd result (λ error. error ≡ failure) → IfSome known (TellsTexts plan out out (live_status result))
-unopened_tells plan out count (Ok status) failure known none opening is = absurd is
-unopened_tells plan out count (Err error) failure None none opening is = tt
-unopened_tells plan out count (Err error) failure (Some texts) none opening is =
-    subst (λ failure. TellsTexts plan out out (status_of failure) texts) (sym is) (opening_tells plan out count failure texts (none (read_texts plan.is_strict texts)) opening)
+pub unopened_tells : (is_table : Bool) (plan : Plan) (out : Option (List ℕ)) (count : ℕ) (result : Result ℕ Failure) (failure : Failure) (known : Option (List (List ℕ))) → ((rests : List Rest) → ShowsFirstOf (live_texts is_table plan) out out rests) → IsOpening count failure
+    → IsErrAnd result (λ error. error ≡ failure) → IfSome known (TellsTexts is_table plan out out (live_status result))
+unopened_tells is_table plan out count (Ok status) failure known none opening is = absurd is
+unopened_tells is_table plan out count (Err error) failure None none opening is = tt
+unopened_tells is_table plan out count (Err error) failure (Some texts) none opening is =
+    subst (λ failure. TellsTexts is_table plan out out (status_of failure) texts) (sym is) (opening_tells is_table plan out count failure texts (none (read_texts plan.is_strict texts)) opening)

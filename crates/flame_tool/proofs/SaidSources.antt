@@ -1,5 +1,5 @@
 -- What was told of the sources of a run, up to its end.
-use Rattle.std.proofs.Common.{◌≡◌, ◌≤◌, ◌⊎◌, ◌∙◌, ◌++◌, inl, inr, ℕ, Bool, true, false, List, [], Option, Some, None, Result, Ok, Err, IfOk, IfErr, IfSome, OnOk, ap, append-nil, arith, map, refl, subst, sym}
+use Rattle.std.proofs.Common.{◌≡◌, ◌⊎◌, ◌∙◌, ◌++◌, inl, inr, ℕ, Bool, true, false, List, [], Option, Some, Result, Ok, Err, IfOk, IfErr, IfSome, OnOk, ap, append-nil, arith, map, refl, subst, sym}
 use Rattle.std.specs.Prelude.{IsErrAnd, IsSomeAnd, if◌then◌else◌}
 use Rattle.clap.specs.Walk.{Text}
 use Rattle.std.proofs.lemmas.Option.{IfSome_then}

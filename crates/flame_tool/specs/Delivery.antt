@@ -22,18 +22,18 @@ pub record IsRun (words : List Text) (files : KnownFiles) (status : ℕ) (is_who
   pub shows : RunShows words files status out err is_flushed
   pub whole : is_whole ≡ is_whole_run status
 
--- they ask for `live`, and were run over streams
-pub record IsLive (words : List Text) (streams : KnownStreams) (status : ℕ) (is_whole : Bool) (out : Change) (is_flushed : Type 0) : Type 0 where
+-- they ask for `live`, and were run over streams, with a table where they were run on a terminal
+pub record IsLive (is_terminal : Bool) (words : List Text) (streams : KnownStreams) (status : ℕ) (is_whole : Bool) (out err : Change) (is_flushed : Type 0) : Type 0 where
   pub plan : Plan
   pub asked : plan_of words ≡ Some plan
   pub live : plan.form ≡ form.Live
-  pub shows : LiveShows plan streams status out is_flushed
+  pub shows : LiveShows is_terminal plan streams status out err is_flushed
   pub whole : is_whole ≡ is_whole_live status
 
 -- one of both
-abbrev pub Ran : List Text → KnownFiles → KnownStreams → ℕ → Bool → Change → Change → Type 0 → Type 0
-Ran words files streams status is_whole out err is_flushed =
-    IsRun words files status is_whole out err is_flushed ⊎ IsLive words streams status is_whole out is_flushed
+abbrev pub Ran : Bool → List Text → KnownFiles → KnownStreams → ℕ → Bool → Change → Change → Type 0 → Type 0
+Ran is_terminal words files streams status is_whole out err is_flushed =
+    IsRun words files status is_whole out err is_flushed ⊎ IsLive is_terminal words streams status is_whole out err is_flushed
 
 -- the files that took their places after a run for this path, whose bytes are these: one more where they are whole
 abbrev pub delivered : List PlacedFile → List ℕ → Option (List ℕ) → Bool → List PlacedFile

@@ -11,14 +11,16 @@ use Rattle.command_line.specs.declared.plans.PageForm.{PageForm}
 use Rattle.command_line.specs.declared.plans.PictureForm.{PictureForm}
 use Rattle.command_line.specs.declared.plans.Plan.{Plan}
 use Rattle.function_sums.specs.declared.call_sides.CallSide.TheVariants.{Callers, Callees}
-use Rattle.opened_sources.specs.Messages.{Tells}
+use Rattle.opened_sources.specs.Messages.{Tells, message_of_failure}
+use Rattle.opened_sources.specs.declared.failures.Failure.TheVariants.{TooManyFiles}
 use Rattle.sent_views.specs.Pages.{called_text, page_text, peeked_text, picture_text, told_in}
 use Rattle.source_views.specs.Texts.{IsOrderless, told_text, view_text}
 use Rattle.flame_tool.specs.KnownFacts.{known_facts}
-use Rattle.flame_tool.specs.LiveRuns.{AreFaultless, HasTextFault, ShowsFirst, ShowsLive, ShowsSome, known_texts, read_texts}
+use Rattle.flame_tool.specs.LiveRuns.{AreFaultless, HasTextFault, ShowsAllOf, ShowsFirstOf, ShowsSomeOf, known_texts, live_texts, read_texts}
 use Rattle.flame_tool.specs.Requests.{AreRefused, AsksForHelp, HasLimit, asked_faults, asked_plan, known_rests}
 use Rattle.flame_tool.specs.Runs.{IsClean, IsFault, text_of, lists_of, FailsUntouched, GainsFront, Shows, ShowsFront, ShowsSamples, HasFault, IsOfSamples, HasGrown, HasNotGrown}
 use Rattle.flame_tool.specs.StrictRuns.{HasPlainFault, has_strict_fault, known_sources}
+use Rattle.flame_tool.specs.ToldLive.{IsOfFailure, IsUnopened, TellsLiveFailure, TellsStreams, TellsSuch}
 use Rattle.flame_tool.specs.ToldRuns.{TellsEndings, TellsFailure, TellsGrown, TellsMany, TellsProfile, TellsRefusal, TellsSources, known_endings, said_of_sources}
 use Rattle.flame_tool.specs.TypeRuns.{known_profile, HasTableFault, ShowsTypes, ShowsTypesFront}
 
@@ -33,6 +35,7 @@ pub record KnownStreams : Type 0 where
   pub input : Option (List ℕ)
   pub named : List ℕ → Option (List ℕ)
   pub is_absent : List ℕ → Bool
+  pub may_have_terminal : Bool
 
 -- what an outlet holds before a run and after it, where that is known, and how many of its calls failed
 pub record Change : Type 0 where
@@ -45,8 +48,9 @@ abbrev pub as_files : Option (List ℕ) → (List ℕ → Option (List ℕ)) →
 as_files input named may_have_terminal =
     record { input = input; named = named; may_have_terminal = may_have_terminal }
 
-abbrev pub as_streams : Option (List ℕ) → (List ℕ → Option (List ℕ)) → (List ℕ → Bool) → KnownStreams
-as_streams input named is_absent = record { input = input; named = named; is_absent = is_absent }
+abbrev pub as_streams : Option (List ℕ) → (List ℕ → Option (List ℕ)) → (List ℕ → Bool) → Bool → KnownStreams
+as_streams input named is_absent may_have_terminal =
+    record { input = input; named = named; is_absent = is_absent; may_have_terminal = may_have_terminal }
 
 abbrev pub change : Option (List ℕ) → Option (List ℕ) → ℕ → ℕ → Change
 change held_before held_after failed_before failed_after = record {
@@ -166,20 +170,28 @@ pub record RunShows (words : List Text) (files : KnownFiles) (answer : ℕ) (out
       IfSome (known_profile plan files.named) (λ profile. HasTableFault profile →
       FailsUntouched answer out.held_before out.held_after out.failed_before out.failed_after))
 
--- the clauses of `live`
-pub record LiveShows (plan : Plan) (streams : KnownStreams) (answer : ℕ) (out : Change) (is_flushed : Type 0) : Type 0 where
+-- the clauses of `live`, or where a table is shown those of `live_table`
+pub record LiveShows (is_table : Bool) (plan : Plan) (streams : KnownStreams) (answer : ℕ) (out err : Change) (is_flushed : Type 0) : Type 0 where
   pub status : answer ≤ 3
   pub flushed : answer ≤ 1 → is_flushed
   pub unfailed : answer ≢ 3 → out.failed_after ≡ out.failed_before
   pub shown : answer ≡ 0 → IfSome (known_texts plan.files streams.input streams.named) (λ texts. AreFaultless plan.is_strict texts
-      × ShowsLive plan out.held_before out.held_after (read_texts plan.is_strict texts))
+      × ShowsAllOf (live_texts is_table plan) out.held_before out.held_after (read_texts plan.is_strict texts))
   pub faulty : answer ≡ 1 → IfSome (known_texts plan.files streams.input streams.named) (λ texts. HasTextFault plan.is_strict texts
-      × ShowsLive plan out.held_before out.held_after (read_texts plan.is_strict texts))
+      × ShowsAllOf (live_texts is_table plan) out.held_before out.held_after (read_texts plan.is_strict texts))
   pub many : answer ≡ 2 → 64 < length plan.files
   pub few : answer ≢ 2 → length plan.files ≤ 64
   pub refused : answer ≡ 2 → Keeps out.held_before out.held_after
   pub front : answer ≡ 3 → IfSome (known_texts plan.files streams.input streams.named) (λ texts.
-      ShowsFirst plan out.held_before out.held_after (read_texts plan.is_strict texts)
-      ⊎ ShowsSome plan out.held_before out.held_after (length texts))
+      ShowsFirstOf (live_texts is_table plan) out.held_before out.held_after (read_texts plan.is_strict texts)
+      ⊎ ShowsSomeOf (live_texts is_table plan) out.held_before out.held_after (length texts))
   pub absent : list_any streams.is_absent plan.files ≡ true →
       FailsUntouched answer out.held_before out.held_after out.failed_before out.failed_after
+  pub told : answer ≤ 1 → streams.may_have_terminal ≡ false → IfSome (known_texts plan.files streams.input streams.named)
+      (TellsStreams plan err.held_before err.held_after err.failed_before err.failed_after)
+  pub told_many : answer ≡ 2 → Tells (message_of_failure plan.files TooManyFiles)
+      err.held_before err.held_after err.failed_before err.failed_after
+  pub told_failure : answer ≡ 3 → streams.may_have_terminal ≡ false → TellsLiveFailure plan (known_texts plan.files streams.input streams.named)
+      err.held_before err.held_after err.failed_before err.failed_after
+  pub told_absent : list_any streams.is_absent plan.files ≡ true → TellsSuch (IsOfFailure (IsUnopened streams.is_absent streams.named plan.files) plan.files)
+      err.held_before err.held_after err.failed_before err.failed_after

@@ -7,6 +7,7 @@ pub mod NextSteps
 pub mod Requests
 pub mod Runs
 pub mod StrictRuns
+pub mod ToldLive
 pub mod ToldRuns
 pub mod TypeRuns
 pub mod checked

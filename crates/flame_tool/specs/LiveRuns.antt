@@ -1,10 +1,10 @@
 -- What a live run leaves on its output, and what that says of its streams.
-use Rattle.std.specs.Prelude.{◌≡◌, ℕ, Bool, true, false, if◌then◌else◌, All, List, [], ◌∷◌, Option, Some, is_some, length, map, option_map, slice_get}
+use Rattle.std.specs.Prelude.{◌≡◌, ℕ, Bool, true, false, if◌then◌else◌, All, List, [], ◌∷◌, Option, None, Some, is_some, length, map, option_map, slice_get}
 use Rattle.std.specs.List.{list_any}
 use Rattle.std.specs.Io.KnownBytes.{Appends}
 use Rattle.byte_io.specs.Pieces.{AppendsFront}
 use Rattle.sample_tables.specs.declared.samples.Sample.{Sample}
-use Rattle.stack_core.specs.Interleaving.{IsInterleaving, list_of}
+use Rattle.stack_core.specs.Interleaving.{IsInterleaving, interleaved, list_of}
 use Rattle.stack_core.specs.Prefixes.{IsPrefixOf}
 use Rattle.stack_core.specs.Reading.{Rest}
 use Rattle.folded_lines.specs.Reading.{read_folded}
@@ -13,6 +13,7 @@ use Rattle.folded_lines.specs.StrictStreams.{read_strictly}
 use Rattle.command_line.specs.declared.plans.Plan.{Plan}
 use Rattle.source_lists.specs.Sources.{all_found}
 use Rattle.source_views.specs.Texts.{view_text}
+use Rattle.live_lines.specs.Frames.{frames_text}
 use Rattle.flame_tool.specs.Runs.{HasFault, IsClean, lists_of}
 
 -- the bytes of the streams of paths, in order, or of the input where there is no path
@@ -45,29 +46,52 @@ HasTextFault true texts = has_strict_text texts ≡ true
 abbrev pub lines_of : Plan → List (List Sample) → List ℕ → List ℕ
 lines_of plan lists order = view_text plan.view lists order plan.options.every
 
--- the output gained the lines of all samples of the sources, in an order in which they may come
-pub record ShowsLive (plan : Plan) (old new : Option (List ℕ)) (rests : List Rest) : Type 0 where
+-- in their place a frame of a table for each snapshot, and the last table, of samples that come in an order
+abbrev pub frames_of : Plan → List (List Sample) → List ℕ → List ℕ
+frames_of plan lists order =
+    elim plan.options.every [ None ↦ [] | Some every ↦ frames_text every (length lists) (interleaved order lists) ]
+
+-- one of both
+abbrev pub live_texts : Bool → Plan → List (List Sample) → List ℕ → List ℕ
+live_texts is_table = if is_table then frames_of else lines_of
+
+-- the output gained the text of all samples of the sources, in an order in which they may come
+pub record ShowsAllOf (text : List (List Sample) → List ℕ → List ℕ) (old new : Option (List ℕ)) (rests : List Rest) : Type 0 where
   pub order : List ℕ
   pub ordered : IsInterleaving order (lists_of rests)
-  pub gained : Appends old new (lines_of plan (lists_of rests) order)
+  pub gained : Appends old new (text (lists_of rests) order)
+
+-- the lines of all samples, and the table
+abbrev pub ShowsLive : Plan → Option (List ℕ) → Option (List ℕ) → List Rest → Type 0
+ShowsLive plan old new rests = ShowsAllOf (lines_of plan) old new rests
+
+abbrev pub ShowsTable : Plan → Option (List ℕ) → Option (List ℕ) → List Rest → Type 0
+ShowsTable plan old new rests = ShowsAllOf (frames_of plan) old new rests
 
 -- a list of each source, with the first of its samples
 pub record AreFirst (rests : List Rest) (lists : List (List Sample)) : Type 0 where
   pub count : length lists ≡ length rests
   pub first : (source : ℕ) (rest : Rest) → slice_get rests source ≡ Some rest → IsPrefixOf (list_of lists source) rest.samples
 
--- the output gained a part from the front, or all, of the lines of the first samples of each source
-pub record ShowsFirst (plan : Plan) (old new : Option (List ℕ)) (rests : List Rest) : Type 0 where
+-- the output gained a part from the front, or all, of the text of the first samples of each source
+pub record ShowsFirstOf (text : List (List Sample) → List ℕ → List ℕ) (old new : Option (List ℕ)) (rests : List Rest) : Type 0 where
   pub lists : List (List Sample)
   pub are_first : AreFirst rests lists
   pub order : List ℕ
   pub ordered : IsInterleaving order lists
-  pub gained : AppendsFront (lines_of plan lists order) old new
+  pub gained : AppendsFront (text lists order) old new
 
 -- the same of some samples of so many sources
-pub record ShowsSome (plan : Plan) (old new : Option (List ℕ)) (count : ℕ) : Type 0 where
+pub record ShowsSomeOf (text : List (List Sample) → List ℕ → List ℕ) (old new : Option (List ℕ)) (count : ℕ) : Type 0 where
   pub lists : List (List Sample)
   pub as_many : length lists ≡ count
   pub order : List ℕ
   pub ordered : IsInterleaving order lists
-  pub gained : AppendsFront (lines_of plan lists order) old new
+  pub gained : AppendsFront (text lists order) old new
+
+-- of lines
+abbrev pub ShowsFirst : Plan → Option (List ℕ) → Option (List ℕ) → List Rest → Type 0
+ShowsFirst plan old new rests = ShowsFirstOf (lines_of plan) old new rests
+
+abbrev pub ShowsSome : Plan → Option (List ℕ) → Option (List ℕ) → ℕ → Type 0
+ShowsSome plan old new count = ShowsSomeOf (lines_of plan) old new count

@@ -5,7 +5,7 @@ ghost use Rattle.command_line.specs.Plans.{IsOfStreams};
 ghost use Rattle.flame_tool.specs.Delivery.{IfFile, IfStandard, Ran, delivered, is_whole_live, is_whole_run};
 ghost use Rattle.flame_tool.specs.KnownRuns.{LiveShows, RunShows, as_files, as_streams, change};
 
-use crate::live_run::{live, live_plan};
+use crate::live_run::{live, live_plan, live_table};
 use crate::program::run;
 use byte_io::{Files, Outlet, Outputs, PieceFault, Streams, send};
 use command_line::{Destination, Plan, asked_destination};
@@ -21,7 +21,8 @@ const ON_A_TERMINAL: &str =
 /// Runs the program with the words after its name, and answers its exit status: `live` where they have a plan of it, and else `run`. It
 /// writes to the file that the words want, or else to `out`. The file takes its place where what was written is whole: with the
 /// statuses 0 and 4 of `run`, and 0 and 1 of `live`, which shows the samples before a fault. Else what stood there stays. Where the
-/// file can't be made, or can't take its place, the status is 3. A page or a picture is not written to a terminal: that is 2.
+/// file can't be made, or can't take its place, the status is 3. A page or a picture is not written to a terminal: that is 2. On a
+/// terminal `live` is `live_table`.
 pub fn deliver<
     T: Threads + Wait + Copy + Send + 'static,
     F: Files + Streams,
@@ -42,9 +43,9 @@ pub fn deliver<
     ensures file { IfFile (destination_of (map string_bytes words.items)) (λ path.
         IfSome (D.placed outputs.old) (λ placed.
         ((result ≡ 3) × (D.placed outputs.new ≡ Some placed))
-        ⊎ ((written : D.Writer) × (is_whole : Bool) × Ran (map string_bytes words.items)
+        ⊎ ((written : D.Writer) × (is_whole : Bool) × Ran false (map string_bytes words.items)
         (as_files (F.Files.known_input files.old) (F.Files.known_file files.old) F.Files.may_have_terminal)
-        (as_streams (F.Streams.known_input files.old) (F.Streams.known_file files.old) (F.is_absent files.old))
+        (as_streams (F.Streams.known_input files.old) (F.Streams.known_file files.old) (F.is_absent files.old) F.Streams.may_have_terminal)
         result is_whole (change (Some []) (D.Writer.contents written) 0 (D.Writer.failures written))
         (change (E.contents err.old) (E.contents err.new) (E.failures err.old) (E.failures err.new))
         (D.Writer.is_flushed written)
@@ -53,13 +54,14 @@ pub fn deliver<
     ensures untouched { IfFile (destination_of (map string_bytes words.items)) (λ _.
         out.new ≡ out.old) }
 
-    // Of others: `out` is left as `run` or `live` leaves it, but for a page or a picture on a terminal. No file takes a place.
+    // Of others: `out` is left as `run` or `live` leaves it, or on a terminal `live_table`, but for a page or a picture there. No file
+    // takes a place.
     ensures standard { IfStandard (destination_of (map string_bytes words.items)) (λ is_document.
         (is_document && D.has_terminal outputs.old) ≡ false
         → ((result ≡ 3) × (out.new ≡ out.old))
-        ⊎ ((is_whole : Bool) × Ran (map string_bytes words.items)
+        ⊎ ((is_whole : Bool) × Ran (D.has_terminal outputs.old) (map string_bytes words.items)
         (as_files (F.Files.known_input files.old) (F.Files.known_file files.old) F.Files.may_have_terminal)
-        (as_streams (F.Streams.known_input files.old) (F.Streams.known_file files.old) (F.is_absent files.old))
+        (as_streams (F.Streams.known_input files.old) (F.Streams.known_file files.old) (F.is_absent files.old) F.Streams.may_have_terminal)
         result is_whole
         (change (W.contents out.old) (W.contents out.new) (W.failures out.old) (W.failures out.new))
         (change (E.contents err.old) (E.contents err.new) (E.failures err.old) (E.failures err.new))
@@ -102,9 +104,9 @@ fn deliver_standard<
     err: &mut E,
 ) -> u8
     ensures standard { (is_document && D.has_terminal outputs.now) ≡ false
-        → (is_whole : Bool) × Ran (map string_bytes words.items)
+        → (is_whole : Bool) × Ran (D.has_terminal outputs.now) (map string_bytes words.items)
         (as_files (F.Files.known_input files.old) (F.Files.known_file files.old) F.Files.may_have_terminal)
-        (as_streams (F.Streams.known_input files.old) (F.Streams.known_file files.old) (F.is_absent files.old))
+        (as_streams (F.Streams.known_input files.old) (F.Streams.known_file files.old) (F.is_absent files.old) F.Streams.may_have_terminal)
         result is_whole
         (change (W.contents out.old) (W.contents out.new) (W.failures out.old) (W.failures out.new))
         (change (E.contents err.old) (E.contents err.new) (E.failures err.old) (E.failures err.new))
@@ -112,11 +114,12 @@ fn deliver_standard<
     ensures terminal { (is_document && D.has_terminal outputs.now) ≡ true
         → (result ≡ 2) × (out.new ≡ out.old) }
 {
-    if is_document && outputs.is_terminal() {
+    let is_terminal = outputs.is_terminal();
+    if is_document && is_terminal {
         let _ = send(ON_A_TERMINAL.as_bytes(), err);
         return 2;
     }
-    run_asked(rt, alloc, words, files, out, err).status
+    run_asked(rt, alloc, is_terminal, words, files, out, err).status
 }
 
 // Runs the program, whose output takes its place in the file of this path where it is whole.
@@ -136,9 +139,9 @@ fn deliver_file<
 ) -> u8
     ensures { IfSome (D.placed outputs.old) (λ placed.
         ((result ≡ 3) × (D.placed outputs.new ≡ Some placed))
-        ⊎ ((written : D.Writer) × (is_whole : Bool) × Ran (map string_bytes words.items)
+        ⊎ ((written : D.Writer) × (is_whole : Bool) × Ran false (map string_bytes words.items)
         (as_files (F.Files.known_input files.old) (F.Files.known_file files.old) F.Files.may_have_terminal)
-        (as_streams (F.Streams.known_input files.old) (F.Streams.known_file files.old) (F.is_absent files.old))
+        (as_streams (F.Streams.known_input files.old) (F.Streams.known_file files.old) (F.is_absent files.old) F.Streams.may_have_terminal)
         result is_whole (change (Some []) (D.Writer.contents written) 0 (D.Writer.failures written))
         (change (E.contents err.old) (E.contents err.new) (E.failures err.old) (E.failures err.new))
         (D.Writer.is_flushed written)
@@ -148,7 +151,15 @@ fn deliver_file<
     let Ok(mut draft) = outputs.begin(alloc, path) else {
         return output_failed(err);
     };
-    let Ended { status, is_whole } = run_asked(rt, alloc, words, files, &mut draft.writer, err);
+    let Ended { status, is_whole } = run_asked(
+        rt,
+        alloc,
+        false,
+        words,
+        files,
+        &mut draft.writer,
+        err,
+    );
     if !is_whole {
         outputs.discard(draft);
         return status;
@@ -196,25 +207,26 @@ impl Ended {
     }
 }
 
-// Does what the words ask for: a live run over streams, or a run over whole files.
+// Does what the words ask for: a live run over streams, on a terminal or not, or a run over whole files.
 fn run_asked<T: Threads + Wait + Copy + Send + 'static, F: Files + Streams, W: Outlet, E: Outlet>(
     rt: &T,
     alloc: Global,
+    is_terminal: bool,
     words: Vec<String>,
     files: &mut F,
     out: &mut W,
     err: &mut E,
 ) -> Ended
-    ensures { Ran (map string_bytes words.items)
+    ensures { Ran is_terminal (map string_bytes words.items)
         (as_files (F.Files.known_input files.old) (F.Files.known_file files.old) F.Files.may_have_terminal)
-        (as_streams (F.Streams.known_input files.old) (F.Streams.known_file files.old) (F.is_absent files.old))
+        (as_streams (F.Streams.known_input files.old) (F.Streams.known_file files.old) (F.is_absent files.old) F.Streams.may_have_terminal)
         result.status result.is_whole
         (change (W.contents out.old) (W.contents out.new) (W.failures out.old) (W.failures out.new))
         (change (E.contents err.old) (E.contents err.new) (E.failures err.old) (E.failures err.new))
         (W.is_flushed out.new) }
 {
     match live_plan(alloc, words.as_slice()) {
-        Some(plan) => Ended::of_live(live_shown(rt, alloc, &plan, files, out, err)),
+        Some(plan) => Ended::of_live(live_shown(rt, alloc, is_terminal, &plan, files, out, err)),
         None => Ended::of_run(run_shown(rt, alloc, words, files, out, err)),
     }
 }
@@ -238,10 +250,11 @@ fn run_shown<T: Threads + Wait + Copy + Send + 'static, F: Files, W: Outlet, E: 
     run(rt, alloc, words, files, out, err)
 }
 
-// `live`, with its clauses in one.
+// `live` or `live_table`, with its clauses in one.
 fn live_shown<T: Threads + Wait + Copy + Send + 'static, S: Streams, W: Outlet, E: Outlet>(
     rt: &T,
     alloc: Global,
+    is_table: bool,
     plan: &Plan,
     streams: &mut S,
     out: &mut W,
@@ -249,11 +262,16 @@ fn live_shown<T: Threads + Wait + Copy + Send + 'static, S: Streams, W: Outlet, 
 ) -> u8
     requires live { IsOfStreams plan.now }
     requires every { IfSome plan.now.options.every (λ every. 1 ≤ every) }
-    ensures { LiveShows plan.now
-        (as_streams (S.known_input streams.old) (S.known_file streams.old) (S.is_absent streams.old))
+    ensures { LiveShows is_table plan.now
+        (as_streams (S.known_input streams.old) (S.known_file streams.old) (S.is_absent streams.old) S.may_have_terminal)
         result
         (change (W.contents out.old) (W.contents out.new) (W.failures out.old) (W.failures out.new))
+        (change (E.contents err.old) (E.contents err.new) (E.failures err.old) (E.failures err.new))
         (W.is_flushed out.new) }
 {
-    live(rt, alloc, plan, streams, out, err)
+    if is_table {
+        live_table(rt, alloc, plan, streams, out, err)
+    } else {
+        live(rt, alloc, plan, streams, out, err)
+    }
 }

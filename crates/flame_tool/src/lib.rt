@@ -15,6 +15,7 @@ mod plan_run;
 mod program;
 mod progress;
 mod reports;
+mod sent_lists;
 mod step_commands;
 mod types_run;
 mod views_run;
@@ -29,7 +30,7 @@ pub use command_line::{
     View, WeightUnit, asked_destination, plan,
 };
 pub use delivery::deliver;
-pub use live_run::{live, live_plan};
+pub use live_run::{live, live_plan, live_table};
 pub use merging::{Gathered, Snapshot, TreeSink};
 pub use next_steps::{Seen, Trouble, next_step};
 pub use opened_sources::{Failure, SOURCE_COUNT};

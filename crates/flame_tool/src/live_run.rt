@@ -1,11 +1,14 @@
 //! A run over streams: its lines are written while their samples come.
-ghost use Rattle.std.specs.Prelude.{◌≡◌, ◌≢◌, ◌≤◌, ◌<◌, ◌⊎◌, true, Some, IfSome, length, map, string_bytes};
+ghost use Rattle.std.specs.Prelude.{◌≡◌, ◌≢◌, ◌≤◌, ◌<◌, ◌⊎◌, false, true, Some, IfErr, IfOk, IfSome, IsErrAnd, length, map, string_bytes};
 ghost use Rattle.std.specs.List.{list_any};
 ghost use Rattle.std.specs.Io.KnownBytes.{Keeps};
 ghost use Rattle.command_line.specs.Plans.{IsOfStreams, plan_of};
-ghost use Rattle.flame_tool.specs.LiveRuns.{AreFaultless, HasTextFault, ShowsFirst, ShowsLive, ShowsSome, known_texts, read_texts};
+ghost use Rattle.opened_sources.specs.Messages.{Tells, message_of_failure};
+ghost use Rattle.flame_tool.specs.LiveRuns.{AreFaultless, HasTextFault, ShowsAllOf, ShowsFirst, ShowsFirstOf, ShowsLive, ShowsSome, ShowsSomeOf, ShowsTable, frames_of, known_texts, live_texts, read_texts};
 ghost use Rattle.flame_tool.specs.Runs.{FailsUntouched};
+ghost use Rattle.flame_tool.specs.ToldLive.{IsOfFailure, IsUnopened, TellsLiveFailure, TellsStreams, TellsSuch};
 ghost use Rattle.flame_tool.specs.checked.LiveEnds.{TellsTexts, live_status};
+ghost use Rattle.flame_tool.specs.checked.LiveSaying.{SaidFirst, SaidOfEnds, SaidOfLost};
 
 use crate::hosts::Host;
 use crate::live_graphs::send_graphs;
@@ -24,8 +27,9 @@ use std::thread::Threads;
 /// `err` is told of each source its fault, how many lines were ignored, or that it could not be read to its end.
 ///
 /// 0 says that all of each source was read. 1 says that a source has a fault, which is where the plan is strict an ignored line,
-/// or that it has no sample, too: its samples before are shown, and the others to their ends. 2 are more than 64 files. 3 says that a source can't be opened or read, that there is no memory or no thread, or that the
-/// output fails, of which each comes before 1; where the output fails, the sources are stopped at their next samples.
+/// or that it has no sample, too: its samples before are shown, and the others to their ends. 2 are more than 64 files. 3 says
+/// that a source can't be opened or read, that there is no memory or no thread, or that the output fails, of which each comes
+/// before 1; where the output fails, the sources are stopped at their next samples.
 pub fn live<T: Threads + Wait + Copy + Send + 'static, S: Streams, W: Outlet, E: Outlet>(
     rt: &T,
     alloc: Global,
@@ -68,18 +72,143 @@ pub fn live<T: Threads + Wait + Copy + Send + 'static, S: Streams, W: Outlet, E:
     ensures absent { list_any (S.is_absent streams.old) plan.now.files ≡ true
         → FailsUntouched result (W.contents out.old) (W.contents out.new)
         (W.failures out.old) (W.failures out.new) }
+
+    // Where the input is no terminal: at 0 and 1 `err` gained exactly what there is to say of each stream, in order, its fault or its
+    // ignored lines; or a call of it failed. At 2 that there are too many files, wherever the input comes from.
+    ensures told { result ≤ 1 → S.may_have_terminal ≡ false
+        → IfSome (known_texts plan.now.files (S.known_input streams.old) (S.known_file streams.old))
+        (TellsStreams plan.now
+        (E.contents err.old) (E.contents err.new) (E.failures err.old) (E.failures err.new)) }
+    ensures told_many { result ≡ 2 → Tells (message_of_failure plan.now.files Failure.TooManyFiles)
+        (E.contents err.old) (E.contents err.new) (E.failures err.old) (E.failures err.new) }
+
+    // At 3 exactly why: alone where a stream can't be opened or not all was collected, and else where a stream can't be read to its end
+    // in the place of what there is to say of it, or that the output failed behind what there is to say of all streams.
+    ensures told_failure { result ≡ 3 → S.may_have_terminal ≡ false → TellsLiveFailure plan.now
+        (known_texts plan.now.files (S.known_input streams.old) (S.known_file streams.old))
+        (E.contents err.old) (E.contents err.new) (E.failures err.old) (E.failures err.new) }
+    ensures told_absent { list_any (S.is_absent streams.old) plan.now.files ≡ true
+        → TellsSuch (IsOfFailure (IsUnopened (S.is_absent streams.old) (S.known_file streams.old) plan.now.files)
+        plan.now.files)
+        (E.contents err.old) (E.contents err.new) (E.failures err.old) (E.failures err.new) }
+{
+    live_on(&Host { rt, alloc }, false, plan, streams, out, err)
+}
+
+/// The same on a terminal, which shows a table of the functions with the greatest weights in place of lines: in a frame of each snapshot,
+/// in the place of the one before, with how many samples of how many sources came, and at the end by itself.
+pub fn live_table<T: Threads + Wait + Copy + Send + 'static, S: Streams, W: Outlet, E: Outlet>(
+    rt: &T,
+    alloc: Global,
+    plan: &Plan,
+    streams: &mut S,
+    out: &mut W,
+    err: &mut E,
+) -> u8
+    requires live { IsOfStreams plan.now }
+    requires every { IfSome plan.now.options.every (λ every. 1 ≤ every) }
+    ensures status { result ≤ 3 }
+    ensures flushed { result ≤ 1 → W.is_flushed out.new }
+    ensures unfailed { result ≢ 3 → W.failures out.new ≡ W.failures out.old }
+
+    // The statuses mean the same, of frames and a last table in place of lines.
+    ensures shown { result ≡ 0 → IfSome (known_texts plan.now.files (S.known_input streams.old)
+        (S.known_file streams.old)) (λ texts.
+        AreFaultless plan.now.is_strict texts
+        × ShowsTable plan.now (W.contents out.old) (W.contents out.new) (read_texts plan.now.is_strict texts)) }
+    ensures faulty { result ≡ 1 → IfSome (known_texts plan.now.files (S.known_input streams.old)
+        (S.known_file streams.old)) (λ texts. HasTextFault plan.now.is_strict texts
+        × ShowsTable plan.now (W.contents out.old) (W.contents out.new) (read_texts plan.now.is_strict texts)) }
+    ensures many { result ≡ 2 → 64 < length plan.now.files }
+    ensures few { result ≢ 2 → length plan.now.files ≤ 64 }
+    ensures refused { result ≡ 2 → Keeps (W.contents out.old) (W.contents out.new) }
+    ensures front { result ≡ 3 → IfSome (known_texts plan.now.files (S.known_input streams.old)
+        (S.known_file streams.old)) (λ texts.
+        ShowsFirstOf (frames_of plan.now) (W.contents out.old) (W.contents out.new) (read_texts plan.now.is_strict texts)
+        ⊎ ShowsSomeOf (frames_of plan.now) (W.contents out.old) (W.contents out.new) (length texts)) }
+    ensures absent { list_any (S.is_absent streams.old) plan.now.files ≡ true
+        → FailsUntouched result (W.contents out.old) (W.contents out.new)
+        (W.failures out.old) (W.failures out.new) }
+    ensures told { result ≤ 1 → S.may_have_terminal ≡ false
+        → IfSome (known_texts plan.now.files (S.known_input streams.old) (S.known_file streams.old))
+        (TellsStreams plan.now
+        (E.contents err.old) (E.contents err.new) (E.failures err.old) (E.failures err.new)) }
+    ensures told_many { result ≡ 2 → Tells (message_of_failure plan.now.files Failure.TooManyFiles)
+        (E.contents err.old) (E.contents err.new) (E.failures err.old) (E.failures err.new) }
+    ensures told_failure { result ≡ 3 → S.may_have_terminal ≡ false → TellsLiveFailure plan.now
+        (known_texts plan.now.files (S.known_input streams.old) (S.known_file streams.old))
+        (E.contents err.old) (E.contents err.new) (E.failures err.old) (E.failures err.new) }
+    ensures told_absent { list_any (S.is_absent streams.old) plan.now.files ≡ true
+        → TellsSuch (IsOfFailure (IsUnopened (S.is_absent streams.old) (S.known_file streams.old) plan.now.files)
+        plan.now.files)
+        (E.contents err.old) (E.contents err.new) (E.failures err.old) (E.failures err.new) }
+{
+    live_on(&Host { rt, alloc }, true, plan, streams, out, err)
+}
+
+// One of both.
+fn live_on<T: Threads + Wait + Copy + Send + 'static, S: Streams, W: Outlet, E: Outlet>(
+    host: &Host<'_, T>,
+    is_table: bool,
+    plan: &Plan,
+    streams: &mut S,
+    out: &mut W,
+    err: &mut E,
+) -> u8
+    requires live { IsOfStreams plan.now }
+    requires every { IfSome plan.now.options.every (λ every. 1 ≤ every) }
+    ensures status { result ≤ 3 }
+    ensures flushed { result ≤ 1 → W.is_flushed out.new }
+    ensures unfailed { result ≢ 3 → W.failures out.new ≡ W.failures out.old }
+    ensures shown { result ≡ 0 → IfSome (known_texts plan.now.files (S.known_input streams.old)
+        (S.known_file streams.old)) (λ texts.
+        AreFaultless plan.now.is_strict texts
+        × ShowsAllOf (live_texts is_table plan.now) (W.contents out.old) (W.contents out.new) (read_texts plan.now.is_strict texts)) }
+    ensures faulty { result ≡ 1 → IfSome (known_texts plan.now.files (S.known_input streams.old)
+        (S.known_file streams.old)) (λ texts. HasTextFault plan.now.is_strict texts
+        × ShowsAllOf (live_texts is_table plan.now) (W.contents out.old) (W.contents out.new) (read_texts plan.now.is_strict texts)) }
+    ensures many { result ≡ 2 → 64 < length plan.now.files }
+    ensures few { result ≢ 2 → length plan.now.files ≤ 64 }
+    ensures refused { result ≡ 2 → Keeps (W.contents out.old) (W.contents out.new) }
+    ensures front { result ≡ 3 → IfSome (known_texts plan.now.files (S.known_input streams.old)
+        (S.known_file streams.old)) (λ texts.
+        ShowsFirstOf (live_texts is_table plan.now) (W.contents out.old) (W.contents out.new) (read_texts plan.now.is_strict texts)
+        ⊎ ShowsSomeOf (live_texts is_table plan.now) (W.contents out.old) (W.contents out.new) (length texts)) }
+    ensures absent { list_any (S.is_absent streams.old) plan.now.files ≡ true
+        → FailsUntouched result (W.contents out.old) (W.contents out.new)
+        (W.failures out.old) (W.failures out.new) }
+    ensures told { result ≤ 1 → S.may_have_terminal ≡ false
+        → IfSome (known_texts plan.now.files (S.known_input streams.old) (S.known_file streams.old))
+        (TellsStreams plan.now
+        (E.contents err.old) (E.contents err.new) (E.failures err.old) (E.failures err.new)) }
+    ensures told_many { result ≡ 2 → Tells (message_of_failure plan.now.files Failure.TooManyFiles)
+        (E.contents err.old) (E.contents err.new) (E.failures err.old) (E.failures err.new) }
+    ensures told_failure { result ≡ 3 → S.may_have_terminal ≡ false → TellsLiveFailure plan.now
+        (known_texts plan.now.files (S.known_input streams.old) (S.known_file streams.old))
+        (E.contents err.old) (E.contents err.new) (E.failures err.old) (E.failures err.new) }
+    ensures told_absent { list_any (S.is_absent streams.old) plan.now.files ≡ true
+        → TellsSuch (IsOfFailure (IsUnopened (S.is_absent streams.old) (S.known_file streams.old) plan.now.files)
+        plan.now.files)
+        (E.contents err.old) (E.contents err.new) (E.failures err.old) (E.failures err.new) }
 {
     let paths = plan.files.get();
-    if paths.is_empty() && streams.is_input_terminal() {
-        report_awaited_input(err, Format::Folded);
-    }
-    let host = Host { rt, alloc };
-    match show_live::<T, S, FoldedStream<S::Inlet>, W, E>(&host, plan, streams, out, err) {
+    await_input(paths, streams, err);
+    match show_live::<T, S, FoldedStream<S::Inlet>, W, E>(host, is_table, plan, streams, out, err) {
         Ok(status) => status,
         Err(failure) => {
             report_failure(err, paths, failure);
             failure.status()
         }
+    }
+}
+
+// Says what is awaited where the input is read, and is a terminal.
+fn await_input<S: Streams, E: Outlet>(paths: &[String], streams: &S, err: &mut E)
+    ensures untold { S.may_have_terminal ≡ false → err.new ≡ err.old }
+    ensures of_files { length paths.now ≢ 0 → err.new ≡ err.old }
+{
+    if paths.is_empty() && streams.is_input_terminal() {
+        report_awaited_input(err, Format::Folded);
     }
 }
 
@@ -90,7 +219,14 @@ fn show_live<
     R: StreamReader<S::Inlet> + Send + Drop + 'static,
     W: Outlet,
     E: Outlet,
->(host: &Host<'_, T>, plan: &Plan, streams: &mut S, out: &mut W, err: &mut E) -> Result<u8, Failure>
+>(
+    host: &Host<'_, T>,
+    is_table: bool,
+    plan: &Plan,
+    streams: &mut S,
+    out: &mut W,
+    err: &mut E,
+) -> Result<u8, Failure>
     requires live { IsOfStreams plan.now }
     requires every { IfSome plan.now.options.every (λ every. 1 ≤ every) }
     ensures status { live_status result ≤ 3 }
@@ -98,16 +234,26 @@ fn show_live<
     ensures unfailed { live_status result ≢ 3 → W.failures out.new ≡ W.failures out.old }
     ensures told { IfSome (known_texts plan.now.files (S.known_input streams.old)
         (S.known_file streams.old))
-        (TellsTexts plan.now (W.contents out.old) (W.contents out.new) (live_status result)) }
+        (TellsTexts is_table plan.now (W.contents out.old) (W.contents out.new) (live_status result)) }
     ensures many { live_status result ≡ 2 → 64 < length plan.now.files }
     ensures few { live_status result ≢ 2 → length plan.now.files ≤ 64 }
     ensures refused { live_status result ≡ 2 → Keeps (W.contents out.old) (W.contents out.new) }
     ensures absent { list_any (S.is_absent streams.old) plan.now.files ≡ true
         → FailsUntouched (live_status result) (W.contents out.old) (W.contents out.new)
         (W.failures out.old) (W.failures out.new) }
+    ensures says { IfOk result (λ status. IfSome (known_texts plan.now.files (S.known_input streams.old)
+        (S.known_file streams.old)) (SaidOfEnds plan.now (λ said. Tells said
+        (E.contents err.old) (E.contents err.new) (E.failures err.old) (E.failures err.new)) status)) }
+    ensures says_first { IfErr result (SaidFirst (err.new ≡ err.old)
+        (IfSome (known_texts plan.now.files (S.known_input streams.old) (S.known_file streams.old))
+        (SaidOfLost plan.now (λ said. Tells said
+        (E.contents err.old) (E.contents err.new) (E.failures err.old) (E.failures err.new))))) }
+    ensures ended { IfOk result (λ status. status ≢ 2) }
+    ensures unopened { list_any (S.is_absent streams.old) plan.now.files ≡ true
+        → IsErrAnd result (IsUnopened (S.is_absent streams.old) (S.known_file streams.old) plan.now.files) }
 {
     let readers: Vec<R> = open_streams(host.alloc, streams, plan.files.get(), plan.is_strict)?;
-    send_graphs(host, plan, readers, out, err)
+    send_graphs(host, is_table, plan, readers, out, err)
 }
 
 /// The plan of words that ask for `live`. There is none for any other words, for those that are refused, and for want of memory: `run`

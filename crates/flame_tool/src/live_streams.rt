@@ -1,9 +1,10 @@
 //! The streams of a live run, opened.
-ghost use Rattle.std.specs.Prelude.{◌≡◌, ◌≢◌, ◌<◌, ◌≤◌, ◌^◌, ◌↔◌, [], ◌∷◌, ◌++◌, true, All, IfErr, IfOk, IfSome, IsErr, IsSomeAnd, OnOk, length, map, string_bytes};
+ghost use Rattle.std.specs.Prelude.{◌≡◌, ◌≢◌, ◌<◌, ◌≤◌, ◌^◌, ◌↔◌, [], ◌∷◌, ◌++◌, true, All, IfErr, IfOk, IfSome, IsErr, IsErrOf, IsNone, IsSomeAnd, OnOk, length, map, string_bytes};
 ghost use Rattle.std.specs.List.{list_any};
 ghost use Rattle.opened_sources.specs.Failures.{IsOfLoad, IsOpening};
 ghost use Rattle.stack_core.specs.Reading.{Rest};
 ghost use Rattle.stack_core.specs.RowReading.{GivesSome};
+ghost use Rattle.flame_tool.specs.ToldLive.{IsMissing};
 ghost use Rattle.flame_tool.specs.checked.LiveStreams.{AreOpened, GivesStream, ReadsText};
 
 use byte_io::{Inlet, Streams};
@@ -53,6 +54,8 @@ pub(crate) fn open_streams<S: Streams, R: StreamReader<S::Inlet> + Drop>(
     ensures absent { list_any (S.is_absent streams.old) (map string_bytes paths.now) ≡ true
         → IsErr result }
     ensures err { IfErr result (IsOpening (length paths.now)) }
+    ensures missing { IfErr result (IsMissing (S.is_absent streams.old) (S.known_file streams.old)
+        (map string_bytes paths.now)) }
     ensures within { result ≢ Err Failure.TooManyFiles → length paths.now ≤ 64 }
 {
     if paths.len() > SOURCE_COUNT {
@@ -115,6 +118,8 @@ fn named<S: Streams, R: StreamReader<S::Inlet>>(
     ensures files { S.known_file streams.new ≡ S.known_file streams.old }
     ensures absences { S.is_absent streams.new ≡ S.is_absent streams.old }
     ensures err { IfErr result (IsOfLoad at) }
+    ensures unknown { IsErrOf result (Failure.Unreadable at)
+        → IsNone (S.known_file streams.old path.now) }
 {
     match streams.open_named(alloc, path) {
         Ok(inlet) => Ok(R::over_stream(alloc, inlet, is_strict)),

@@ -1,8 +1,6 @@
 //! The samples of the sources of a plan, collected and shown.
-ghost use Rattle.std.specs.Prelude.{◌≡◌, ◌≢◌, ◌≤◌, ◌<◌, ℕ, false, IfOk, IfSome, Some, IfErr, IsErrOf, OnOk, is_some, length, map, not, true, ◌==◌, IsSome};
+ghost use Rattle.std.specs.Prelude.{◌≡◌, ◌≢◌, ◌≤◌, ◌<◌, ℕ, false, IfOk, IfSome, Some, IfErr, IsErrOf, OnOk, is_some, length, map, not, true, IsSome};
 ghost use Rattle.std.specs.List.{list_any};
-ghost use Rattle.std.specs.Io.KnownBytes.{Appends};
-ghost use Rattle.merged_stacks.specs.Timeline.{samples_of};
 ghost use Rattle.command_line.specs.Plans.{IsComparison, limit_of};
 ghost use Rattle.ring_collect.specs.Collection.{AreWhole};
 ghost use Rattle.source_lists.specs.Runs.{ReadsLists};
@@ -12,35 +10,27 @@ ghost use Rattle.flame_tool.specs.ToldRuns.{TellsEndings};
 ghost use Rattle.source_lists.specs.Types.{types_of};
 ghost use Rattle.flame_tool.specs.KnownFacts.{facts_of, known_facts};
 ghost use Rattle.flame_tool.specs.Requests.{known_rests};
-ghost use Rattle.sent_views.specs.Pages.{shown_text};
 ghost use Rattle.flame_tool.specs.Runs.{Shows, ShowsSamples};
 ghost use Rattle.flame_tool.specs.StrictRuns.{has_strict_fault, known_sources};
-ghost use Rattle.flame_tool.specs.checked.Failures.{Fails, FailsStrictly, FailsToShow, KeepsOutput, TellsGrowth};
+ghost use Rattle.flame_tool.specs.checked.Failures.{Fails, FailsStrictly, KeepsOutput, TellsGrowth};
 ghost use Rattle.flame_tool.specs.checked.Saying.{SaidOfSources};
 ghost use Rattle.flame_tool.specs.checked.Wanted.{wanted_rests};
 ghost use Rattle.opened_sources.specs.Messages.{Tells, message_of_strict_fault, said_of_each};
-ghost use Rattle.source_views.specs.Texts.{growth_line};
 ghost use Rattle.flame_tool.specs.checked.Telling.{form_tells, view_tells};
-ghost use Rattle.opened_sources.specs.Failures.{has_fault, Flushes, Sends};
+ghost use Rattle.opened_sources.specs.Failures.{Flushes};
 
 use crate::advice::Advice;
 use crate::hosts::Host;
 use crate::progress::Progress;
-use crate::reports::{report_endings, report_growth, report_strict_faults};
+use crate::reports::{report_endings, report_strict_faults};
+use crate::sent_lists::send_lists;
 use byte_io::{Files, Outlet};
 use command_line::{Form, Plan, View};
-use function_sums::CallSide;
-use opened_sources::{Failure, any_fault, load_sources};
+use opened_sources::{Failure, load_sources};
 use profile_messages::SampleType;
 use ring_collect::CollectFault;
-use sent_views::{
-    AskedCalls, AskedPicture, RunFacts, send_asked_calls, send_asked_page, send_asked_peek,
-    send_asked_picture, send_asked_view,
-};
-use source_lists::{
-    Gating, Input, Run, RunFault, SourceLists, StrictFault, chosen_types, read, strict_faults,
-};
-use source_views::{InThreads, growth_line};
+use sent_views::RunFacts;
+use source_lists::{Gating, Input, Run, RunFault, StrictFault, chosen_types, read, strict_faults};
 use stack_core::{Listed, NoSink, OpenGate, SourceList};
 use std::alloc::{AllocError, Global};
 use std::sync::Wait;
@@ -286,90 +276,5 @@ fn view_tells(view: View) -> bool
     match view {
         View::Top(_) | View::Diff(_) => true,
         View::Fold | View::Graph(_) | View::Chart(_) | View::Pairs | View::PairBoxes(_) => false,
-    }
-}
-
-// Sends what a plan asks for of the lists of a run, unless a source has a fault, and says which functions grew over the plan's limit,
-// and whether some did.
-fn send_lists<T: Threads, W: Outlet, E: Outlet>(
-    host: &Host<'_, T>,
-    run: SourceLists,
-    plan: &Plan,
-    facts: &RunFacts,
-    out: &mut W,
-    err: &mut E,
-) -> Result<bool, Failure>
-    requires pairs { IsComparison plan.now.view → length run.lists ≡ 2 }
-    requires every { IfSome plan.now.options.every (λ every. 1 ≤ every) }
-    ensures faulty { has_fault run.lists ≡ true → result ≡ Err Failure.Faults }
-    ensures faultless { OnOk result (has_fault run.lists ≡ false) }
-    ensures ok { OnOk result (Appends (W.contents out.old) (W.contents out.new)
-        (shown_text plan.now facts.now (samples_of run.lists) run.order plan.now.options.every)) }
-    ensures err { IfErr result (FailsToShow run.lists
-        (shown_text plan.now facts.now (samples_of run.lists) run.order plan.now.options.every)
-        (W.contents out.old) (W.contents out.new)) }
-    ensures untold { IfOk result (λ is_over. is_over ≡ false → err.new ≡ err.old) }
-    ensures untold_err { IfErr result (λ _. err.new ≡ err.old) }
-    ensures told_growth { OnOk result (Tells (growth_line plan.now.view (samples_of run.lists))
-        (E.contents err.old) (E.contents err.new) (E.failures err.old) (E.failures err.new)) }
-    ensures growth { IfOk result (λ is_over.
-        is_over ≡ not (length (growth_line plan.now.view (samples_of run.lists)) == 0)) }
-    ensures flushed { Flushes (W.is_flushed out.new) (W.failures out.old) (W.failures out.new)
-        result }
-{
-    if any_fault(run.lists()) {
-        return Err(Failure::Faults);
-    }
-    let line = growth_line(host.alloc, &run, plan.view)?;
-    send_form(host.rt, host.alloc, run, plan, facts, out)?;
-    Ok(report_growth(err, &line))
-}
-
-// Sends what a plan asks for of the lists of a run.
-fn send_form<T: Threads, W: Outlet>(
-    rt: &T,
-    alloc: Global,
-    run: SourceLists,
-    plan: &Plan,
-    facts: &RunFacts,
-    out: &mut W,
-) -> Result<(), Failure>
-    requires pairs { IsComparison plan.now.view → length run.lists ≡ 2 }
-    requires every { IfSome plan.now.options.every (λ every. 1 ≤ every) }
-    ensures sent { Sends (shown_text plan.now facts.now (samples_of run.lists) run.order plan.now.options.every)
-        (W.contents out.old) (W.contents out.new) result }
-    ensures flushed { Flushes (W.is_flushed out.new) (W.failures out.old) (W.failures out.new)
-        result }
-{
-    let workers = InThreads { rt };
-    match &plan.form {
-        Form::Text | Form::Types | Form::Live => {
-            send_asked_view(&workers, alloc, run, plan, facts, out)
-        }
-        Form::Callers(table) => {
-            let side = CallSide::Callers;
-            let asked = AskedCalls {
-                plan,
-                facts,
-                side,
-                table,
-            };
-            send_asked_calls(&workers, alloc, run, &asked, out)
-        }
-        Form::Callees(table) => {
-            let side = CallSide::Callees;
-            let asked = AskedCalls {
-                plan,
-                facts,
-                side,
-                table,
-            };
-            send_asked_calls(&workers, alloc, run, &asked, out)
-        }
-        Form::Peek(table) => send_asked_peek(&workers, alloc, run, plan, facts, table, out),
-        Form::Page(page) => send_asked_page(alloc, run, plan, facts, page, out),
-        Form::Picture(form) => {
-            send_asked_picture(rt, alloc, run, &AskedPicture { plan, facts, form }, out)
-        }
     }
 }

@@ -18,6 +18,7 @@ use Rattle.merging.proofs.PairSums.{sum_by-first, sum_by-of_lists}
 use Rattle.view_texts.specs.Json.{boxes_line, snapshot_line}
 use Rattle.source_views.specs.Texts.{all_counts, graph_text, snapshot_line_at, snapshot_lines}
 use Rattle.live_lines.specs.Lines.{live_counts, live_line_at, live_lines, live_text}
+use Rattle.live_lines.specs.declared.kept.LiveForm.TheVariants.{Lines}
 
 -- ---- samples with the same sums
 
@@ -49,12 +50,12 @@ line_is_snapshot sources width lists order ordered count m =
 -- ---- all moments, and the end
 
 pub lines_are_snapshots : (sources width every : ℕ) (lists : List (List Sample)) (order : List ℕ) → IsInterleaving order lists → length lists ≡ sources
-    → live_lines sources width every (interleaved order lists) ≡ snapshot_lines width lists order (snapshot_places (Some every) (length order))
+    → live_lines Lines sources width every (interleaved order lists) ≡ snapshot_lines width lists order (snapshot_places (Some every) (length order))
 lines_are_snapshots sources width every lists order ordered count =
     λ i. flat_map (λ m. line_is_snapshot sources width lists order ordered count m i) (snapshot_places (Some every) (length-interleaved lists order ordered i))
 
 pub text_is_graph_text : (sources width every : ℕ) (lists : List (List Sample)) (order : List ℕ) → IsInterleaving order lists → length lists ≡ sources
-    → live_text sources width every (interleaved order lists) ≡ graph_text width lists order (Some every)
+    → live_text Lines sources width every (interleaved order lists) ≡ graph_text width lists order (Some every)
 text_is_graph_text sources width every lists order ordered count =
     λ i. lines_are_snapshots sources width every lists order ordered count i
     ++ boxes_line (codes "graph") (same (λ sample. sample.weight) i) width (graph_same (samples_of_pairs (interleaved order lists)) (all_samples lists) same i)

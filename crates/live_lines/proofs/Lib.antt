@@ -1,5 +1,9 @@
 mod DrawnLists
+mod FrameLemmas
+mod FunctionLemmas
 pub mod GraphLemmas
 mod LineLemmas
 mod MergeLemmas
+pub mod SettingLemmas
+mod WorkedFrames
 pub mod WriteLemmas

@@ -1,5 +1,5 @@
 -- The lines of one sample more.
-use Rattle.std.proofs.Common.{◌≡◌, ◌∙◌, ◌≤◌, ◌+◌, ◌*◌, ◌%◌, ◌&&◌, inl, inr, nat_eq, eq-eqb, ◌++◌, ◌∷◌, [], ℕ, suc, Bool, true, false, List, append-nil, ap, arith, cond, length, map, refl, sym, take, All}
+use Rattle.std.proofs.Common.{◌≡◌, ◌∙◌, ◌≤◌, ◌+◌, ◌*◌, ◌%◌, ◌&&◌, inl, inr, nat_eq, eq-eqb, ◌++◌, ◌∷◌, [], ℕ, suc, Bool, true, false, List, append-nil, ap, arith, cond, length, map, nat_lt, refl, sym, take, All}
 use Rattle.std.specs.Prelude.{Option, None, Some, is_none}
 use Rattle.byte_io.specs.declared.piece_output.PieceFault.{PieceFault}
 use Rattle.std.specs.List.{flat_map, range_with_len}
@@ -16,7 +16,10 @@ use Rattle.view_texts.specs.Json.{snapshot_line}
 use Rattle.merging.specs.Snapshots.{samples_of_pairs, snapshot_places}
 use Rattle.merging.specs.checked.Merging.{is_due}
 use Rattle.merging.proofs.SnapshotLemmas.{places-push, places_within}
-use Rattle.live_lines.specs.Lines.{live_line_at, live_lines}
+use Rattle.live_lines.specs.Frames.{frame_at, frame_of}
+use Rattle.live_lines.specs.Lines.{live_line_at, live_lines, moment_at}
+use Rattle.live_lines.specs.declared.kept.LiveForm.{LiveForm}
+use Rattle.live_lines.specs.declared.kept.LiveForm.TheVariants.{Lines, Table}
 
 -- a line is of the first samples alone
 line_kept : (sources width : ℕ) (pairs more : List (ℕ × Sample)) (m : ℕ) → m ≤ length pairs → live_line_at sources width (pairs ++ more) m ≡ live_line_at sources width pairs m
@@ -33,6 +36,14 @@ line_kept sources width pairs more m within = λ i. line (order i) (front i)
     order : take m (sources_of (pairs ++ more)) ≡ take m (sources_of pairs)
     order = take-map (λ pair. pair.0) m (pairs ++ more) ∙ (ap sources_of front ∙ sym (take-map (λ pair. pair.0) m pairs))
 
+-- and so is a frame
+frame_kept : (every sources : ℕ) (pairs more : List (ℕ × Sample)) (m : ℕ) → m ≤ length pairs → frame_at every sources (pairs ++ more) m ≡ frame_at every sources pairs m
+frame_kept every sources pairs more m within = ap (λ (firsts : List (ℕ × Sample)). frame_of (nat_lt every m) m sources (samples_of_pairs firsts)) (take-append-le m pairs more within)
+
+moment_kept : (form : LiveForm) (sources width : ℕ) (pairs more : List (ℕ × Sample)) (m : ℕ) → m ≤ length pairs → moment_at form sources width (pairs ++ more) m ≡ moment_at form sources width pairs m
+moment_kept Lines sources width pairs more m within = line_kept sources width pairs more m within
+moment_kept (Table every) sources width pairs more m within = frame_kept every sources pairs more m within
+
 flat_map_agree : (f g : ℕ → List ℕ) (xs : List ℕ) → All (λ x. f x ≡ g x) xs → flat_map f xs ≡ flat_map g xs
 flat_map_agree f g [] h = refl
 flat_map_agree f g (x ∷ xs) h = λ i. h 0 x (omega arith) i ++ flat_map_agree f g xs (λ k d l. h (suc k) d (omega (arith, l))) i
@@ -42,42 +53,42 @@ due_line f m true = append-nil (f m)
 due_line f m false = refl
 
 -- the lines of one sample more, and the one that is due then
-pub lines_push : (sources width every : ℕ) (pairs : List (ℕ × Sample)) (pair : ℕ × Sample) → 1 ≤ every
-    → live_lines sources width every (pairs ++ pair ∷ [])
-    ≡ live_lines sources width every pairs ++ cond (is_due (Some every) (length (pairs ++ pair ∷ []))) (live_line_at sources width (pairs ++ pair ∷ []) (length (pairs ++ pair ∷ []))) []
-lines_push sources width every pairs pair some =
+pub lines_push : (form : LiveForm) (sources width every : ℕ) (pairs : List (ℕ × Sample)) (pair : ℕ × Sample) → 1 ≤ every
+    → live_lines form sources width every (pairs ++ pair ∷ [])
+    ≡ live_lines form sources width every pairs ++ cond (is_due (Some every) (length (pairs ++ pair ∷ []))) (moment_at form sources width (pairs ++ pair ∷ []) (length (pairs ++ pair ∷ []))) []
+lines_push form sources width every pairs pair some =
     ap (λ k. flat_map line (snapshot_places (Some every) k)) long
     ∙ ap (flat_map line) (places-push (Some every) (length pairs) some)
     ∙ flat_map-append line (snapshot_places (Some every) (length pairs)) (cond (is_due (Some every) (length pairs + 1)) ((length pairs + 1) ∷ []) [])
     ∙ (λ i. before i ++ last i)
   where
     line : ℕ → List ℕ
-    line m = live_line_at sources width (pairs ++ pair ∷ []) m
+    line m = moment_at form sources width (pairs ++ pair ∷ []) m
 
     long : length (pairs ++ pair ∷ []) ≡ length pairs + 1
     long = length_push pairs pair
 
-    before : flat_map line (snapshot_places (Some every) (length pairs)) ≡ live_lines sources width every pairs
+    before : flat_map line (snapshot_places (Some every) (length pairs)) ≡ live_lines form sources width every pairs
     before =
-        flat_map_agree line (live_line_at sources width pairs) (snapshot_places (Some every) (length pairs))
-        (All-weaker (λ m. m ≤ length pairs) (λ m. line m ≡ live_line_at sources width pairs m) (line_kept sources width pairs (pair ∷ [])) (snapshot_places (Some every) (length pairs)) (places_within (Some every) (length pairs)))
+        flat_map_agree line (moment_at form sources width pairs) (snapshot_places (Some every) (length pairs))
+        (All-weaker (λ m. m ≤ length pairs) (λ m. line m ≡ moment_at form sources width pairs m) (moment_kept form sources width pairs (pair ∷ [])) (snapshot_places (Some every) (length pairs)) (places_within (Some every) (length pairs)))
 
     last : flat_map line (cond (is_due (Some every) (length pairs + 1)) ((length pairs + 1) ∷ []) []) ≡ cond (is_due (Some every) (length (pairs ++ pair ∷ []))) (line (length (pairs ++ pair ∷ []))) []
     last = due_line line (length pairs + 1) (is_due (Some every) (length pairs + 1)) ∙ ap (λ k. cond (is_due (Some every) k) (line k) []) (sym long)
 
 -- the same, of what was taken
-pub lines_more : (sources width every now : ℕ) (pairs taken : List (ℕ × Sample)) (pair : ℕ × Sample) → 1 ≤ every → now ≡ sources → taken ≡ pairs ++ pair ∷ []
-    → live_lines now width every taken ≡ live_lines sources width every pairs ++ cond (is_due (Some every) (length taken)) (live_line_at now width taken (length taken)) []
-lines_more sources width every now pairs taken pair some of is =
-    (λ i. live_lines (of i) width every (is i))
-    ∙ lines_push sources width every pairs pair some
-    ∙ (λ i. live_lines sources width every pairs ++ cond (is_due (Some every) (length (sym is i))) (live_line_at (sym of i) width (sym is i) (length (sym is i))) [])
+pub lines_more : (form now_form : LiveForm) (sources width every now : ℕ) (pairs taken : List (ℕ × Sample)) (pair : ℕ × Sample) → 1 ≤ every → now_form ≡ form → now ≡ sources → taken ≡ pairs ++ pair ∷ []
+    → live_lines now_form now width every taken ≡ live_lines form sources width every pairs ++ cond (is_due (Some every) (length taken)) (moment_at now_form now width taken (length taken)) []
+lines_more form now_form sources width every now pairs taken pair some formed of is =
+    (λ i. live_lines (formed i) (of i) width every (is i))
+    ∙ lines_push form sources width every pairs pair some
+    ∙ (λ i. live_lines form sources width every pairs ++ cond (is_due (Some every) (length (sym is i))) (moment_at (sym formed i) (sym of i) width (sym is i) (length (sym is i))) [])
 
 -- there are none of no samples
-pub lines_none : (sources width every : ℕ) (pairs : List (ℕ × Sample)) → pairs ≡ [] → live_lines sources width every pairs ≡ []
-lines_none sources width every pairs none =
-    ap (live_lines sources width every) none
-    ∙ ap (λ n. flat_map (live_line_at sources width []) (map (λ i. i * every) (range_with_len 1 n))) (zero-div every)
+pub lines_none : (form : LiveForm) (sources width every : ℕ) (pairs : List (ℕ × Sample)) → pairs ≡ [] → live_lines form sources width every pairs ≡ []
+lines_none form sources width every pairs none =
+    ap (live_lines form sources width every) none
+    ∙ ap (λ n. flat_map (moment_at form sources width []) (map (λ i. i * every) (range_with_len 1 n))) (zero-div every)
 
 -- where no line is due now, one was due before if one was due at all
 pub due_before : (every before now : ℕ) (failure : Option PieceFault) → now ≡ before + 1 → failure ≡ None → (is_none failure && is_due (Some every) now) ≡ false → every ≤ now → every ≤ before

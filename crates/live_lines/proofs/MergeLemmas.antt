@@ -16,7 +16,7 @@ use Rattle.merged_stacks.specs.Timeline.{total_weight}
 use Rattle.flame_layout.specs.Graph.{graph_of}
 use Rattle.flame_layout.specs.declared.boxes.SpanBox.{SpanBox}
 use Rattle.view_texts.specs.Json.{boxes_line, snapshot_line}
-use Rattle.live_lines.specs.LiveState.{LiveState}
+use Rattle.live_lines.specs.declared.kept.LiveForm.TheVariants.{Lines}
 use Rattle.live_lines.specs.declared.merge.LiveLine.{LiveLine}
 use Rattle.live_lines.specs.declared.merge.LiveLine.TheVariants.{Graph, Snapshot}
 use Rattle.live_lines.specs.Lines.{line_now, live_counts}
@@ -109,18 +109,12 @@ lent_stacks names table tree lent samples named same sums =
     subst (λ (ns : List (List ℕ)). SameOwn samples (tree_samples ns lent)) (sym named) (subst (λ (t : Tree). SameOwn samples (tree_samples names t)) (sym same) sums.stacks)
 
 -- the line of all that was taken
-pub shown_now : (line : LiveLine) (pairs : List (ℕ × Sample)) (counts : List ℕ) (at width : ℕ) (state : LiveState) (lent : List ℕ) (weight : ℕ) (boxes : List SpanBox) → record { sources = length counts; taken = pairs } ≡ state → IsLiveMerge pairs counts at
-    → lent ≡ counts → weight ≡ total_weight (samples_of_pairs state.taken) → boxes ≡ graph_of (samples_of_pairs state.taken) → shown_text line at lent weight width boxes ≡ line_now line state.sources width state.taken
-shown_now Graph pairs counts at width state lent weight boxes view h lends weighs drawn = λ i. boxes_line (codes "graph") (weighs i) width (drawn i)
-shown_now Snapshot pairs counts at width state lent weight boxes view h lends weighs drawn =
-    (λ i. snapshot_line (here i) (told i) (weighs i) width (drawn i))
-    ∙ (λ i. snapshot_line (length state.taken) (live_counts state.sources state.taken (length state.taken)) (total_weight (samples_of_pairs (sym whole i))) width (graph_of (samples_of_pairs (sym whole i))))
+pub shown_now : (line : LiveLine) (pairs : List (ℕ × Sample)) (counts : List ℕ) (at width weight : ℕ) (boxes : List SpanBox) → IsLiveMerge pairs counts at → weight ≡ total_weight (samples_of_pairs pairs) → boxes ≡ graph_of (samples_of_pairs pairs)
+    → shown_text line at counts weight width boxes ≡ line_now Lines line (length counts) width pairs
+shown_now Graph pairs counts at width weight boxes h weighs drawn = λ i. boxes_line (codes "graph") (weighs i) width (drawn i)
+shown_now Snapshot pairs counts at width weight boxes h weighs drawn =
+    (λ i. snapshot_line (h.at_is i) (h.counted i) (weighs i) width (drawn i))
+    ∙ (λ i. snapshot_line (length pairs) (live_counts (length counts) pairs (length pairs)) (total_weight (samples_of_pairs (sym whole i))) width (graph_of (samples_of_pairs (sym whole i))))
   where
-    here : at ≡ length state.taken
-    here = h.at_is ∙ ap (λ (s : LiveState). length s.taken) view
-
-    told : lent ≡ live_counts state.sources state.taken (length state.taken)
-    told = lends ∙ (h.counted ∙ ap (λ (s : LiveState). live_counts s.sources s.taken (length s.taken)) view)
-
-    whole : take (length state.taken) state.taken ≡ state.taken
-    whole = take_all (length state.taken) state.taken (omega arith)
+    whole : take (length pairs) pairs ≡ pairs
+    whole = take_all (length pairs) pairs (omega arith)

@@ -1,6 +1,8 @@
 -- The definitions that the contracts of live_lines cite.
+pub mod Frames
 pub mod Lines
 pub mod LiveState
 pub mod Settings
+pub mod Terminal
 pub mod Written
 pub mod checked

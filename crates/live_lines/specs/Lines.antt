@@ -1,4 +1,4 @@
--- The lines of what came so far, of pairs of a source and a sample in the order in which they came.
+-- The lines of what came so far, of pairs of a source and a sample in the order in which they came, or frames of a table in their place.
 use Rattle.std.specs.Prelude.{ℕ, List, ◌++◌, Some, length, map}
 use Rattle.std.specs.List.{flat_map, range_with_len}
 use Rattle.sample_tables.specs.declared.samples.Sample.{Sample}
@@ -8,6 +8,9 @@ use Rattle.flame_layout.specs.Graph.{graph_of}
 use Rattle.view_texts.specs.Json.{snapshot_line}
 use Rattle.merging.specs.Snapshots.{first_samples, samples_of_pairs, snapshot_places}
 use Rattle.source_views.specs.Texts.{graph_line}
+use Rattle.live_lines.specs.Frames.{frame_at, last_table}
+use Rattle.live_lines.specs.declared.kept.LiveForm.{LiveForm}
+use Rattle.live_lines.specs.declared.kept.LiveForm.TheVariants.{Lines, Table}
 use Rattle.live_lines.specs.declared.merge.LiveLine.{LiveLine}
 use Rattle.live_lines.specs.declared.merge.LiveLine.TheVariants.{Graph, Snapshot}
 
@@ -21,16 +24,26 @@ live_line_at sources width pairs m =
     let samples = first_samples pairs m in
     snapshot_line m (live_counts sources pairs m) (total_weight samples) width (graph_of samples)
 
--- a line for every so many pairs
-abbrev pub live_lines : ℕ → ℕ → ℕ → List (ℕ × Sample) → List ℕ
-live_lines sources width every pairs =
-    flat_map (live_line_at sources width pairs) (snapshot_places (Some every) (length pairs))
+-- what is written of the first m pairs
+abbrev pub moment_at : LiveForm → ℕ → ℕ → List (ℕ × Sample) → ℕ → List ℕ
+moment_at Lines sources width pairs m = live_line_at sources width pairs m
+moment_at (Table every) sources width pairs m = frame_at every sources pairs m
 
--- these lines, and then the flame graph of all pairs
-abbrev pub live_text : ℕ → ℕ → ℕ → List (ℕ × Sample) → List ℕ
-live_text sources width every pairs = live_lines sources width every pairs ++ graph_line width (samples_of_pairs pairs)
+-- and at the end of all
+abbrev pub end_of : LiveForm → ℕ → List (ℕ × Sample) → List ℕ
+end_of Lines width pairs = graph_line width (samples_of_pairs pairs)
+end_of (Table every) width pairs = last_table every pairs
 
--- the line of all pairs
-abbrev pub line_now : LiveLine → ℕ → ℕ → List (ℕ × Sample) → List ℕ
-line_now Snapshot sources width pairs = live_line_at sources width pairs (length pairs)
-line_now Graph sources width pairs = graph_line width (samples_of_pairs pairs)
+-- what is written for every so many pairs
+abbrev pub live_lines : LiveForm → ℕ → ℕ → ℕ → List (ℕ × Sample) → List ℕ
+live_lines form sources width every pairs =
+    flat_map (moment_at form sources width pairs) (snapshot_places (Some every) (length pairs))
+
+-- that, and then what is written of all pairs
+abbrev pub live_text : LiveForm → ℕ → ℕ → ℕ → List (ℕ × Sample) → List ℕ
+live_text form sources width every pairs = live_lines form sources width every pairs ++ end_of form width pairs
+
+-- what is written of all pairs, as of a moment or as of the end
+abbrev pub line_now : LiveForm → LiveLine → ℕ → ℕ → List (ℕ × Sample) → List ℕ
+line_now form Snapshot sources width pairs = moment_at form sources width pairs (length pairs)
+line_now form Graph sources width pairs = end_of form width pairs

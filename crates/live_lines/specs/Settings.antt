@@ -1,10 +1,17 @@
 -- What no sample changes, as numbers.
-use Rattle.std.specs.Prelude.{ℕ, List, [], ◌∷◌, Option, None, Some}
+use Rattle.std.specs.Prelude.{ℕ, suc, List, [], ◌∷◌, Option, None, Some}
+use Rattle.live_lines.specs.declared.kept.LiveForm.{LiveForm}
+use Rattle.live_lines.specs.declared.kept.LiveForm.TheVariants.{Lines, Table}
 
 abbrev pub known_numbers : Option (List ℕ) → List ℕ
 known_numbers None = []
 known_numbers (Some bytes) = 1 ∷ bytes
 
+abbrev pub form_number : LiveForm → ℕ
+form_number Lines = 0
+form_number (Table every) = suc every
+
 -- which outlet it is, by its ghost name, what stood in it and how many of its calls had failed, and what is written
-abbrev pub live_setting : ℕ → Option (List ℕ) → ℕ → ℕ → ℕ → ℕ → List ℕ
-live_setting name contents failures sources width every = name ∷ failures ∷ sources ∷ width ∷ every ∷ known_numbers contents
+abbrev pub live_setting : ℕ → Option (List ℕ) → ℕ → LiveForm → ℕ → ℕ → ℕ → List ℕ
+live_setting name contents failures form sources width every =
+    name ∷ failures ∷ form_number form ∷ sources ∷ width ∷ every ∷ known_numbers contents

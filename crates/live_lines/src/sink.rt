@@ -1,4 +1,4 @@
-//! A sink that writes a line each time that so many samples more came.
+//! A sink that writes a line each time that so many samples more came, or a frame of a table in its place.
 
 ghost use Rattle.std.specs.Prelude.{◌≡◌, ◌≢◌, ◌≤◌, ◌<◌, ◌++◌, ◌∷◌, ◌&&◌, ℕ, List, [], OnOk, OnErr, IsErrOf, None, is_none, length};
 ghost use Rattle.std.specs.Io.KnownBytes.{Appends};
@@ -9,11 +9,12 @@ ghost use Rattle.sample_tables.specs.declared.samples.Sample.{Sample as TakenSam
 ghost use Rattle.stack_core.specs.Interleaving.{IsInterleaving, interleaved};
 ghost use Rattle.merging.specs.checked.Merging.{is_due};
 ghost use Rattle.source_views.specs.Texts.{graph_text};
-ghost use Rattle.live_lines.specs.Lines.{live_line_at, live_lines, live_text};
-ghost use Rattle.live_lines.specs.Settings.{live_setting};
+ghost use Rattle.live_lines.specs.Lines.{live_lines, live_text, moment_at};
+ghost use Rattle.live_lines.specs.Settings.{form_number, live_setting};
 ghost use Rattle.live_lines.specs.Written.{GrewByFront, GrewByText, failures_after};
 ghost use Rattle.live_lines.specs.checked.Writes.{AreWritten};
 ghost use Rattle.live_lines.specs.checked.WrittenProps.{front_prop, text_prop};
+ghost use Rattle.live_lines.specs.declared.kept.LiveForm.TheVariants.{Lines};
 
 use crate::gate::LiveGate;
 use crate::merge::{LiveLine, LiveMerge};
@@ -47,10 +48,10 @@ pub struct LiveSink<'a, W: Outlet> {
 
     // The lines that are due were written, in order and each once; after a failure a front of them.
     pub ghost whole: { GrewByText lines.failure
-        (live_lines lines.merge.sources lines.width lines.every lines.merge.taken)
+        (live_lines lines.merge.form lines.merge.sources lines.width lines.every lines.merge.taken)
         (W.contents lines.start.value) (W.contents out.now) } by { Prim.hlevel text_prop },
     pub ghost front: { GrewByFront
-        (live_lines lines.merge.sources lines.width lines.every lines.merge.taken)
+        (live_lines lines.merge.form lines.merge.sources lines.width lines.every lines.merge.taken)
         (W.contents lines.start.value) (W.contents out.now) } by { Prim.hlevel front_prop },
     pub ghost counted: { W.failures out.now ≡ failures_after (W.failures lines.start.value) lines.failure },
     pub ghost positive: { 1 ≤ lines.every },
@@ -103,20 +104,20 @@ impl<W: Outlet> LiveLines<W> {
     /// answers why. It is called with the lines and the outlet of a sink that was taken apart: what the sink keeps of them is required.
     pub fn finish(mut self, alloc: Global, out: &mut W) -> Result<(), PieceFault>
         requires whole { GrewByText self.failure
-            (live_lines self.merge.sources self.width self.every self.merge.taken)
+            (live_lines self.merge.form self.merge.sources self.width self.every self.merge.taken)
             (W.contents self.start.value) (W.contents out.old) }
         requires front { GrewByFront
-            (live_lines self.merge.sources self.width self.every self.merge.taken)
+            (live_lines self.merge.form self.merge.sources self.width self.every self.merge.taken)
             (W.contents self.start.value) (W.contents out.old) }
         requires counted { W.failures out.old
             ≡ failures_after (W.failures self.start.value) self.failure }
 
         // Since the sink was made the outlet gained the lines of all snapshots, and then that of the graph.
         ensures ok { OnOk result (Appends (W.contents self.start.value) (W.contents out.new)
-            (live_text self.merge.sources self.width self.every self.merge.taken)) }
+            (live_text self.merge.form self.merge.sources self.width self.every self.merge.taken)) }
         ensures flushed { OnOk result (W.is_flushed out.new) }
         ensures front { OnErr result (AppendsFront
-            (live_text self.merge.sources self.width self.every self.merge.taken)
+            (live_text self.merge.form self.merge.sources self.width self.every self.merge.taken)
             (W.contents self.start.value) (W.contents out.new)) }
         ensures output { IsErrOf result PieceFault.Output
             → W.failures out.new ≡ one_more (W.failures self.start.value) }
@@ -126,7 +127,7 @@ impl<W: Outlet> LiveLines<W> {
         // That is the text of the graph of the lists of which it took the samples, in their order.
         ensures graph { (lists : List (List TakenSample)) (order : List ℕ) → IsInterleaving order lists
             → length lists ≡ self.merge.sources → self.merge.taken ≡ interleaved order lists
-            → live_text self.merge.sources self.width self.every self.merge.taken
+            → live_text Lines self.merge.sources self.width self.every self.merge.taken
             ≡ graph_text self.width lists order (Some self.every) }
     {
         if let Some(fault) = self.failure {
@@ -140,7 +141,8 @@ impl<W: Outlet> RowSink for LiveSink<'_, W> {
     ghost taken = { λ sink. sink.lines.merge.taken };
 
     ghost setting = { λ sink. live_setting sink.out.ghost_name (W.contents sink.lines.start.value)
-        (W.failures sink.lines.start.value) sink.lines.merge.sources sink.lines.width sink.lines.every };
+        (W.failures sink.lines.start.value) sink.lines.merge.form sink.lines.merge.sources
+        sink.lines.width sink.lines.every };
 
     /// Merges one sample, and sends the line that is due then. A failure of the line is kept, since the sample was taken.
     fn take_row(
@@ -177,7 +179,8 @@ fn take_sample<W: Outlet>(
     requires kept { row < length ledger.now.stacks }
     requires positive { 1 ≤ lines.old.every }
     requires written { AreWritten
-        (live_lines lines.old.merge.sources lines.old.width lines.old.every lines.old.merge.taken)
+        (live_lines lines.old.merge.form lines.old.merge.sources lines.old.width lines.old.every
+        lines.old.merge.taken)
         lines.old.failure
         (W.contents lines.old.start.value) (W.contents out.old)
         (W.failures lines.old.start.value) (W.failures out.old) }
@@ -189,12 +192,14 @@ fn take_sample<W: Outlet>(
           (row_by ledger.now.stacks (record { stack = row; weight = weight })),
     ) ∷ []) }
     ensures refused { OnErr result (lines.new.merge.taken ≡ lines.old.merge.taken) }
+    ensures form { form_number lines.new.merge.form ≡ form_number lines.old.merge.form }
     ensures sources { lines.new.merge.sources ≡ lines.old.merge.sources }
     ensures width { lines.new.width ≡ lines.old.width }
     ensures every { lines.new.every ≡ lines.old.every }
     ensures start { lines.new.start.value ≡ lines.old.start.value }
     ensures written { AreWritten
-        (live_lines lines.new.merge.sources lines.new.width lines.new.every lines.new.merge.taken)
+        (live_lines lines.new.merge.form lines.new.merge.sources lines.new.width lines.new.every
+        lines.new.merge.taken)
         lines.new.failure
         (W.contents lines.new.start.value) (W.contents out.new)
         (W.failures lines.new.start.value) (W.failures out.new) }
@@ -228,10 +233,10 @@ fn send_due<W: Outlet>(alloc: Global, lines: &mut LiveLines<W>, out: &mut W)
     ensures every { lines.new.every ≡ lines.old.every }
     ensures start { lines.new.start.value ≡ lines.old.start.value }
     ensures whole { lines.new.failure ≡ None → Appends (W.contents out.old) (W.contents out.new)
-        (live_line_at lines.old.merge.sources lines.old.width lines.old.merge.taken
+        (moment_at lines.old.merge.form lines.old.merge.sources lines.old.width lines.old.merge.taken
         (length lines.old.merge.taken)) }
     ensures front { AppendsFront
-        (live_line_at lines.old.merge.sources lines.old.width lines.old.merge.taken
+        (moment_at lines.old.merge.form lines.old.merge.sources lines.old.width lines.old.merge.taken
         (length lines.old.merge.taken)) (W.contents out.old) (W.contents out.new) }
     ensures counted { W.failures out.new ≡ failures_after (W.failures out.old) lines.new.failure }
     ensures flushed { lines.new.failure ≡ None → W.is_flushed out.new }

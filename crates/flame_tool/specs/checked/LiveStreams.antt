@@ -1,10 +1,10 @@
 -- The streams of a live run, opened, and what readers of them may give.
-use Rattle.std.specs.Prelude.{◌≡◌, ◌≢◌, ℕ, Bool, true, false, List, [], ◌∷◌, Option, IfSome}
+use Rattle.std.specs.Prelude.{◌≡◌, ◌≢◌, ℕ, Bool, true, false, List, [], ◌∷◌, Option, IfSome, length}
 use Rattle.std.specs.List.{AllZip}
 use Rattle.stack_core.specs.Prefixes.{IsPrefixOf}
 use Rattle.stack_core.specs.Reading.{Rest}
 use Rattle.stack_core.specs.declared.endings.SourceEnd.TheVariants as ends
-use Rattle.folded_lines.specs.StrictStreams.{StrictStreamGives}
+use Rattle.folded_lines.specs.StrictStreams.{IsTellable, StrictStreamGives}
 use Rattle.folded_lines.specs.Streams.{StreamGives}
 use Rattle.flame_tool.specs.LiveRuns.{read_text}
 
@@ -13,10 +13,12 @@ abbrev pub GivesStream : Bool → Option (List ℕ) → Bool → Rest → Type 0
 GivesStream false known is_sure rest = StreamGives known is_sure rest
 GivesStream true known is_sure rest = StrictStreamGives known is_sure rest
 
--- what a stream of the text may give: all that the text reads to, unless a read failed, and then the first samples of it
+-- what a stream of the text may give: all that the text reads to, unless a read failed, and then the first samples of it; the place of what
+-- is wrong is a number of 64 bits
 pub record ReadsAs (is_strict : Bool) (text : List ℕ) (rest : Rest) : Type 0 where
   pub whole : ((after : ℕ) → rest.ending ≢ ends.Stopped after) → rest ≡ read_text is_strict text
   pub first : IsPrefixOf rest.samples (read_text is_strict text).samples
+  pub tellable : is_strict ≡ true → IsTellable (length rest.samples) rest.ending
 
 -- a reader of such a stream
 abbrev pub ReadsText : Bool → (Rest → Type 0) → List ℕ → Type 0

@@ -1,11 +1,15 @@
-use Rattle.std.proofs.Common.{rules, ◌≡◌, ◌+◌, ◌<◌, ◌++◌, ◌∷◌, ◌∙◌, [], All, ap, arith, false, get_or, length, map, string_bytes, subst, sym, take}
+use Rattle.std.proofs.Common.{rules, ◌≡◌, ◌+◌, ◌<◌, ◌++◌, ◌∷◌, ◌∙◌, [], All, Err, ap, arith, false, get_or, length, map, string_bytes, subst, sym, take}
 use Rattle.std.proofs.lemmas.Bool.{eqb-false}
 use Rattle.std.proofs.lemmas.List.{length_push}
 use Rattle.std.proofs.lemmas.List.Elements.{All-push}
+use Rattle.std.specs.Prelude.{IsNone}
 use Rattle.std.specs.List.{AllZip}
+use Rattle.opened_sources.specs.Failures.{IsOfLoad}
+use Rattle.opened_sources.specs.declared.failures.Failure.TheVariants.{Unreadable}
 use Rattle.stack_core.specs.RowReading.{GivesSome}
 use Rattle.flame_tool.specs.checked.LiveStreams.{IsOfFile}
-use Rattle.flame_tool.proofs.LiveStreamLemmas.{not_true, opened_more, opened_whole, present_more}
+use Rattle.flame_tool.proofs.LiveSinks.{err_because}
+use Rattle.flame_tool.proofs.LiveStreamLemmas.{missing_file, not_true, opened_more, opened_whole, present_more}
 use Rattle.flame_tool.proofs.live_streams.open_streams.Goals as goal
 
 pub loop-path-preserved : goal.loop-path-preserved
@@ -39,6 +43,22 @@ loop-path-preserved g c =
           (opened_more c.args.is_strict (λ reader. g.R.RowReader.gives reader) string_bytes known paths at path readers reader (omega arith) is so_far.opened here);
       present = present_more absent string_bytes paths at path (omega arith) is so_far.present present;
     }
+
+pub returns-in_err-reader-clause-missing : goal.returns-in_err-reader-clause-missing
+returns-in_err-reader-clause-missing g c =
+    let so_far = c.loop-path.invariant in
+    let known = g.S.Streams.known_file c.args.streams.now in
+    let paths = c.args.paths.now in
+    let at = c.loop-path.path-index in
+    let path = c.path-item.result in
+    let failure = c.in_err-reader.field-0.0 in
+    let is : path ≡ get_or paths at path = search rules in
+    let bytes : c.deref.result.now ≡ string_bytes path = search rules in
+    let many : c.len.result ≡ length c.loop-path.readers.items = search rules in
+    let place : c.len.result ≡ at = many ∙ so_far.count in
+    err_because c.from_residual-in_err-reader.result failure _ c.from_residual-in_err-reader.ensures.1
+    (missing_file (g.S.Streams.is_absent c.args.streams.now) known string_bytes paths at path failure (omega arith) is so_far.present (subst (λ place. IsOfLoad place failure) place c.in_err-reader.ensures.err)
+    (λ unread. subst (λ bytes. IsNone (known bytes)) bytes (subst (λ files. IsNone (files c.deref.result.now)) so_far.files (c.in_err-reader.ensures.unknown (ap (λ failure. Err failure) (unread ∙ ap (λ place. Unreadable place) (sym place)))))))
 
 pub returns-clause-opened : goal.returns-clause-opened
 returns-clause-opened g c =

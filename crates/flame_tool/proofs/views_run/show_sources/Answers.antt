@@ -1,4 +1,4 @@
-use Rattle.std.proofs.Common.{◌≡◌, ◌∙◌, ap, IfSome, OnOk, List, Option, Some, Result, Ok, Err, ℕ, inr, map, refl, subst, sym, true, false}
+use Rattle.std.proofs.Common.{◌≡◌, ◌∙◌, ap, IfSome, OnOk, List, Option, Some, Result, Ok, Err, ℕ, inr, refl, subst, sym, true, false}
 use Rattle.std.specs.Prelude.{Bool, not}
 use Rattle.std.proofs.lemmas.Bool.{false≢true, true≢false}
 use Rattle.std.proofs.lemmas.Result.{IfErr-weaker}

@@ -8,10 +8,9 @@ use Rattle.flame_layout.proofs.DrawnBoxes.{drawn_positive}
 use Rattle.merged_stacks.specs.Timeline.{total_weight}
 use Rattle.merging.specs.Snapshots.{samples_of_pairs}
 use Rattle.source_views.proofs.TextLemmas.{graph_positive, graph_within}
-use Rattle.live_lines.specs.LiveState.{LiveState}
 use Rattle.live_lines.proofs.DrawnLists.{drawn_boxes_within}
 use Rattle.live_lines.proofs.MergeLemmas.{shown_now}
-use Rattle.live_lines.proofs.merge.LiveMerge.send.Goals as goal
+use Rattle.live_lines.proofs.moments.send_line.Goals as goal
 
 pub json_line-line-requires-clause-within : goal.json_line-line-requires-clause-within
 json_line-line-requires-clause-within g c =
@@ -29,18 +28,18 @@ json_line-line-requires-clause-positive g c some =
 
 pub returns-clause-ok : goal.returns-clause-ok
 returns-clause-ok g c =
-    let s = c.self.inside in
-    let taken : c.settle.new.self.taken ≡ c.args.self.now.taken = c.settle.ensures.taken ∙ ap (λ (state : LiveState). state.taken) c.self.view_is in
+    let m = c.args.moment.now in
+    let taken : c.settle.new.self.taken ≡ c.args.merged.now.taken = c.settle.ensures.taken in
     let weighs = c.total.ensures ∙ ap (λ pairs. total_weight (samples_of_pairs pairs)) taken in
-    let drawn : map span_of c.as_slice.result.now ≡ graph_of (samples_of_pairs c.args.self.now.taken) = ap (map span_of) c.as_slice.ensures.value ∙ (c.in_ok-boxes.ensures ∙ ap (λ pairs. graph_of (samples_of_pairs pairs)) taken) in
-    let line = shown_now c.args.line s.merged.taken s.counts.items s.at c.args.width c.args.self.now c.deref.result.now c.total.result (map span_of c.as_slice.result.now) c.self.view_is c.self.invariant c.deref.ensures.value weighs drawn in
+    let drawn : map span_of c.as_slice.result.now ≡ graph_of (samples_of_pairs c.args.merged.now.taken) = ap (map span_of) c.as_slice.ensures.value ∙ (c.in_ok-boxes.ensures ∙ ap (λ pairs. graph_of (samples_of_pairs pairs)) taken) in
+    let line = shown_now m.line c.args.merged.now.taken m.counts.now m.at m.width c.total.result (map span_of c.as_slice.result.now) c.requires weighs drawn in
     subst (λ (text : List ℕ). OnOk c.send_pieces.result (Appends (g.W.Outlet.contents c.args.out.now) (g.W.Outlet.contents c.send_pieces.new.out) text)) (c.json_line-line.ensures.text ∙ line) c.send_pieces.ensures.ok
 
 pub returns-clause-front : goal.returns-clause-front
 returns-clause-front g c =
-    let s = c.self.inside in
-    let taken : c.settle.new.self.taken ≡ c.args.self.now.taken = c.settle.ensures.taken ∙ ap (λ (state : LiveState). state.taken) c.self.view_is in
+    let m = c.args.moment.now in
+    let taken : c.settle.new.self.taken ≡ c.args.merged.now.taken = c.settle.ensures.taken in
     let weighs = c.total.ensures ∙ ap (λ pairs. total_weight (samples_of_pairs pairs)) taken in
-    let drawn : map span_of c.as_slice.result.now ≡ graph_of (samples_of_pairs c.args.self.now.taken) = ap (map span_of) c.as_slice.ensures.value ∙ (c.in_ok-boxes.ensures ∙ ap (λ pairs. graph_of (samples_of_pairs pairs)) taken) in
-    let line = shown_now c.args.line s.merged.taken s.counts.items s.at c.args.width c.args.self.now c.deref.result.now c.total.result (map span_of c.as_slice.result.now) c.self.view_is c.self.invariant c.deref.ensures.value weighs drawn in
+    let drawn : map span_of c.as_slice.result.now ≡ graph_of (samples_of_pairs c.args.merged.now.taken) = ap (map span_of) c.as_slice.ensures.value ∙ (c.in_ok-boxes.ensures ∙ ap (λ pairs. graph_of (samples_of_pairs pairs)) taken) in
+    let line = shown_now m.line c.args.merged.now.taken m.counts.now m.at m.width c.total.result (map span_of c.as_slice.result.now) c.requires weighs drawn in
     subst (λ (text : List ℕ). OnErr c.send_pieces.result (AppendsFront text (g.W.Outlet.contents c.args.out.now) (g.W.Outlet.contents c.send_pieces.new.out))) (c.json_line-line.ensures.text ∙ line) c.send_pieces.ensures.front

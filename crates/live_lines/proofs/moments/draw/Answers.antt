@@ -1,6 +1,6 @@
 use Rattle.merging.specs.Snapshots.{samples_of_pairs}
 use Rattle.live_lines.proofs.MergeLemmas.{lent_drawable, lent_stacks}
-use Rattle.live_lines.proofs.merge.draw.Goals as goal
+use Rattle.live_lines.proofs.moments.draw.Goals as goal
 
 pub draw_tree-requires-clause-total : goal.draw_tree-requires-clause-total
 draw_tree-requires-clause-total c =

@@ -2,7 +2,7 @@ use Rattle.std.proofs.Common.{◌∙◌, ap, map, sym}
 use Rattle.flame_layout.specs.Boxes.{span_of}
 use Rattle.live_lines.specs.checked.Merges.{shown_text}
 use Rattle.live_lines.proofs.DrawnLists.{drawn_list}
-use Rattle.live_lines.proofs.merge.json_line.Goals as goal
+use Rattle.live_lines.proofs.moments.json_line.Goals as goal
 
 pub returns-in-Snapshot-clause-text : goal.returns-in-Snapshot-clause-text
 returns-in-Snapshot-clause-text c =
