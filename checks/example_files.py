@@ -2,6 +2,7 @@
 import dataclasses
 import pathlib
 import re
+import subprocess
 import sys
 
 TOP = pathlib.Path(__file__).resolve().parents[1]
@@ -55,8 +56,9 @@ class Texts:
 
     def __init__(self, head: bytes, tail: bytes) -> None:
         self.head, self.tail = head, tail
-        newest = re.search(r'^## (\S+)', (TOP / 'CHANGELOG.md').read_text(), re.M)
-        self.version = newest[1].encode() if newest else b''
+        newest = re.search(r'^## (\S+ \(\S+)\)$', (TOP / 'CHANGELOG.md').read_text(), re.M)
+        toolchain = subprocess.run(['rt', 'version'], capture_output=True, text=True, check=True).stdout.strip()
+        self.version = f'{newest[1]}, {toolchain})'.encode() if newest else b''
         self.named: dict[str, bytes] = {}
 
     def of_text(self, text: bytes) -> bytes:

@@ -91,7 +91,8 @@ class Commands:
     """The whole command line, as the program tells it."""
 
     def __init__(self, program: str) -> None:
-        self.version = run(program, '--version').stdout.split()[-1]
+        # the number, and its day
+        self.version, self.day = re.findall(r' ([0-9.]+) \((\S+),', run(program, '--version').stdout)[0]
         self.top = help_of(program)
         names = [it.spelling for it in self.top.entries('Commands')]
         self.names = [it for it in names if it != 'help']

@@ -11,8 +11,8 @@ use crate::argument_lists::{
 use clap::Command;
 use std::alloc::{AllocError, Global};
 
-// The day of the newest entry in CHANGELOG.md.
-const VERSION: &str = "2026-11-29";
+// The number and the day of the newest heading in CHANGELOG.md, and what proved and built the program.
+const VERSION: &str = "0.3.0 (2026-11-29, rattle-kit-13f logic dac8208d650f15bf)";
 
 const NOTES: &str = "\
 Formats:

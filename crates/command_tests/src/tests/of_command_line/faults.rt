@@ -9,7 +9,7 @@ fn is_refusal(text: &str, begin: &str, part: &str) -> bool {
 }
 
 fn is_version(text: &str) -> bool {
-    text.starts_with("flamecollect 2") && text.lines().count() == 1
+    text.starts_with("flamecollect ") && text.ends_with(")\n") && text.lines().count() == 1
 }
 
 fn text_of(fault: &PlanFault) -> &str {
