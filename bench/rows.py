@@ -30,8 +30,8 @@ Bars = tuple[float | None, float | None]
 
 @dataclass
 class Row:
-    """The commands of our side beside those of another, each side's run one after another. A command begins with "program", "plain" or
-    "flamegraph"."""
+    """The commands of our side beside those of another, each side's run one after another. A command begins with "program", "plain",
+    "flamegraph" or "pprof"."""
 
     name: str
     part: str
@@ -135,8 +135,18 @@ def pictures(scale: int) -> list[Row]:
     return [Row('graph-svg-1e6-boxes', 'svg', [['program', 'graph', '--svg', file]], [beside], (1, 1), is_alike=False)]
 
 
+def tables(scale: int) -> list[Row]:
+    """The table of the functions of a profile."""
+    rows = []
+    for kind in ['repeated', 'timed', 'new']:
+        file = profile(scale, 1_000_000, kind)
+        beside: Command = ['pprof', 'tool', 'pprof', '-top', '-nodecount=10', file]
+        rows.append(Row(f'top-{kind}-pb-1e6', 'tables', [['program', 'top', file]], [beside], (1, 1), is_alike=False))
+    return rows
+
+
 def all_rows(scale: int) -> list[Row]:
-    return views(scale) + comparisons(scale) + sources(scale) + snapshots(scale) + colliding(scale) + pictures(scale)
+    return views(scale) + comparisons(scale) + sources(scale) + snapshots(scale) + colliding(scale) + pictures(scale) + tables(scale)
 
 
 def growths(measured: dict[str, Measured]) -> Iterator[tuple[str, Measured, Measured]]:
