@@ -318,9 +318,9 @@ def in_wide_windows(check):
 
 
 def first_run(check):
-    """The command of README makes the page that its picture shows, and it opens."""
+    """The command of README makes a page that opens, and the picture of one in OUTPUT is there."""
     text = (documents.TOP / 'README.md').read_text(encoding='utf-8')
-    contains(text, '(docs/page.png)', 'README')
+    contains((documents.TOP / 'docs' / 'OUTPUT.md').read_text(encoding='utf-8'), '(page.png)', 'OUTPUT')
     same((documents.TOP / 'docs' / 'page.png').read_bytes()[:8], b'\x89PNG\r\n\x1a\n', 'the picture')
     example = 'examples/parse.folded'
     commands = [line.split() for line in text.splitlines() if ' graph --page ' in line and example in line]

@@ -14,8 +14,9 @@ from fractions import Fraction
 from typing import Any, NamedTuple
 
 TOP = pathlib.Path(__file__).resolve().parents[2]
-# The SVG that README shows, beside the words that make it.
+# The SVG that README shows, and its page.
 SHOWN = TOP / 'docs' / 'graph.svg'
+PAGE = TOP / 'docs' / 'graph.html'
 ROW = 18
 LETTERS = [chr(code) for code in range(1, 127) if chr(code) not in ';\n'] + list('é漢\u200b\ufffe\u2028😀&<>"\'')
 
@@ -72,9 +73,9 @@ def samples(rng: random.Random, names: list[str]) -> bytes:
     return ''.join(lines).encode()
 
 
-def answer(program: pathlib.Path, words: list[str]) -> bytes:
-    """What the program writes."""
-    ended = subprocess.run([program, *words], stdin=subprocess.DEVNULL, capture_output=True, check=False)
+def answer(program: pathlib.Path, words: list[str], folder: pathlib.Path | None = None) -> bytes:
+    """What the program writes, run in this folder."""
+    ended = subprocess.run([program, *words], cwd=folder, stdin=subprocess.DEVNULL, capture_output=True, check=False)
     if ended.returncode:
         raise Refused(f'status {ended.returncode} with {words}: {ended.stderr.decode(errors="replace")[:200]}')
     return ended.stdout
@@ -97,13 +98,15 @@ def draw(program: pathlib.Path, folder: pathlib.Path, how: How, texts: list[byte
     return Drawn(svg, how, answer(program, [*words, *(['--boxes'] if how.command == 'compare' else [])]))
 
 
-def of_readme(program: pathlib.Path) -> bytes:
-    """What the program writes by the words that README has for its SVG."""
-    readme = (TOP / 'README.md').read_text(encoding='utf-8')
-    found = re.search('`(graph --svg [^`]*)`.*\n\n.*docs/graph.svg', readme)
-    if not found:
-        raise Refused('README says no words that make its SVG')
-    return answer(program, [str(TOP / word) if word.startswith('examples/') else word for word in shlex.split(found[1])])
+def of_readme(program: pathlib.Path) -> dict[pathlib.Path, bytes]:
+    """What the program writes by the words that README has for its SVG, and for the page of that."""
+    readme = ' '.join((TOP / 'README.md').read_text(encoding='utf-8').split())
+    made = {}
+    for place, words in zip((SHOWN, PAGE), re.findall('`(graph --(?:svg|page) --title [^`]*)`', readme)):
+        made[place] = answer(program, shlex.split(words), TOP)
+    if len(made) != 2:
+        raise Refused('README says no words that make its SVG and its page')
+    return made
 
 
 def boxes_drawn(line: Line) -> list[Box]:
