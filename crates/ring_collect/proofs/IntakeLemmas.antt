@@ -1,5 +1,5 @@
 -- What is tracked of a source, one record more.
-use Rattle.std.proofs.Common.{◌≡◌, ◌≢◌, ℕ, List, [], ◌∷◌, ◌++◌, length, map, refl, sym, ap, subst, ◌∙◌, append-nil, append_assoc, Option, None, inl, inr}
+use Rattle.std.proofs.Common.{◌≡◌, ◌≢◌, ℕ, Bool, true, false, List, [], ◌∷◌, ◌++◌, length, map, refl, sym, ap, subst, ◌∙◌, append-nil, append_assoc, Option, None, inl, inr, true≢false}
 use Rattle.std.proofs.lemmas.List.{map-append}
 use Rattle.std.proofs.lemmas.List.Elements.{recursion_from_All}
 use Rattle.std.specs.List.{AllByRecursion}
@@ -18,6 +18,7 @@ use Rattle.ring_collect.specs.checked.Records.{TakesRecord, RecordTaken, RecordR
 use Rattle.ring_collect.specs.checked.Rings.{IsGathered, IsLimitedBatch}
 use Rattle.ring_collect.specs.checked.Intakes.{Brings, Tracked, HoldsAll, GainsMore, close_items}
 use Rattle.ring_collect.specs.declared.intakes.Intake.{Intake}
+use Rattle.ring_collect.specs.declared.intakes.Origin.{Origin}
 use Rattle.ring_collect.specs.declared.batches.Batch.{Batch}
 use Rattle.ring_collect.specs.declared.batches.Batch.TheVariants.{One, Many}
 use Rattle.ring_collect.specs.declared.intakes.Stage.{Stage}
@@ -51,9 +52,9 @@ stands_one records samples (CloseRecord last) stands =
     ∙ ap (λ items. items ++ item.Close last ∷ []) (stands ∙ append-nil (map item.Sample samples) ∙ ap (map item.Sample) (sym (append-nil samples)))
 
 -- a record is dropped
-pub tracked_dropped : {records : List RingRecord} {ledger ledger' : LedgerState} {stage stage' : Stage} {list : List Sample} (one : RingRecord) → stage' ≢ Taking → (stage' ≡ Unnamed → stage ≡ Unnamed)
-    → Tracked records None ledger stage list → Tracked (records ++ one ∷ []) (close_after None one) ledger' stage' list
-tracked_dropped {records} {list = list} one other same_unnamed tracked = record {
+pub tracked_dropped : {keeps : Bool} {records : List RingRecord} {ledger ledger' : LedgerState} {stage stage' : Stage} {list : List Sample} (one : RingRecord) → stage' ≢ Taking → (stage' ≡ Unnamed → stage ≡ Unnamed)
+    → Tracked keeps records None ledger stage list → Tracked keeps (records ++ one ∷ []) (close_after None one) ledger' stage' list
+tracked_dropped {records = records} {list = list} one other same_unnamed tracked = record {
   samples = tracked.samples ++ samples_in (names_told records) (stacks_told records) one;
   stands = stands_one records tracked.samples one tracked.stands;
   first = (tracked.first.0 ++ samples_in (names_told records) (stacks_told records) one, sym (append_assoc list tracked.first.0 (samples_in (names_told records) (stacks_told records) one)) ∙ ap (λ xs. xs ++ samples_in (names_told records) (stacks_told records) one) tracked.first.1);
@@ -62,21 +63,21 @@ tracked_dropped {records} {list = list} one other same_unnamed tracked = record 
 }
 
 -- and so is a batch
-pub batch_dropped : {records : List RingRecord} {ledger ledger' : LedgerState} {stage stage' : Stage} {list : List Sample} (batch : Batch) → IsLimitedBatch batch → stage' ≢ Taking → (stage' ≡ Unnamed → stage ≡ Unnamed)
-    → Tracked records None ledger stage list → Tracked (records ++ records_in batch) (close_after_batch None batch) ledger' stage' list
+pub batch_dropped : {keeps : Bool} {records : List RingRecord} {ledger ledger' : LedgerState} {stage stage' : Stage} {list : List Sample} (batch : Batch) → IsLimitedBatch batch → stage' ≢ Taking → (stage' ≡ Unnamed → stage ≡ Unnamed)
+    → Tracked keeps records None ledger stage list → Tracked keeps (records ++ records_in batch) (close_after_batch None batch) ledger' stage' list
 batch_dropped (One one) limited other same_unnamed tracked = tracked_dropped one other same_unnamed tracked
-batch_dropped {records} {ledger} {ledger'} {stage} {stage'} {list} (Many more) limited other same_unnamed tracked =
+batch_dropped {keeps} {records} {ledger} {ledger'} {stage} {stage'} {list} (Many more) limited other same_unnamed tracked =
     by_cases records more (recursion_from_All IsGathered more limited)
     (record { samples = tracked.samples; stands = tracked.stands; first = tracked.first; holds = λ e. absurd (other e); unnamed = λ e. tracked.unnamed (same_unnamed e) })
   where
-    by_cases : (before more : List RingRecord) → AllByRecursion IsGathered more → Tracked before None ledger' stage' list → Tracked (before ++ more) None ledger' stage' list
-    by_cases before [] gathered tracked = subst (λ all. Tracked all None ledger' stage' list) (sym (append-nil before)) tracked
+    by_cases : (before more : List RingRecord) → AllByRecursion IsGathered more → Tracked keeps before None ledger' stage' list → Tracked keeps (before ++ more) None ledger' stage' list
+    by_cases before [] gathered tracked = subst (λ all. Tracked keeps all None ledger' stage' list) (sym (append-nil before)) tracked
     by_cases before (one ∷ more) gathered tracked =
-        subst (λ all. Tracked all None ledger' stage' list) (append_assoc before (one ∷ []) more)
+        subst (λ all. Tracked keeps all None ledger' stage' list) (append_assoc before (one ∷ []) more)
         (by_cases (before ++ one ∷ []) more gathered.1
-        (subst (λ close. Tracked (before ++ one ∷ []) close ledger' stage' list) (gathered_open None one gathered.0) (tracked_dropped one other (λ e. e) tracked)))
+        (subst (λ close. Tracked keeps (before ++ one ∷ []) close ledger' stage' list) (gathered_open None one gathered.0) (tracked_dropped one other (λ e. e) tracked)))
 
-module _ {records : List RingRecord} {ledger : LedgerState} {samples list : List Sample} (holds : HoldsAll records ledger samples list) (one : RingRecord) where
+module _ {keeps : Bool} {records : List RingRecord} {ledger : LedgerState} {samples list : List Sample} (holds : HoldsAll keeps records ledger samples list) (one : RingRecord) where
   same_samples_in : samples_in ledger.told ledger.stacks one ≡ samples_in (names_told records) (stacks_told records) one
   same_samples_in = ap (λ told. samples_in told ledger.stacks one) holds.told ∙ ap (λ stacks. samples_in (names_told records) stacks one) holds.kept
 
@@ -92,34 +93,42 @@ one_well names stacks (Row frames weight) well = well.0
 one_well names stacks (Again row weight) well = well.0
 one_well names stacks (CloseRecord last) well = tt
 
-ledger_told : (ledger : LedgerState) (one : RingRecord) → (ledger_after ledger one).told ≡ ledger.told ++ names_told (one ∷ [])
-ledger_told ledger (Name name) = refl
-ledger_told ledger (Row frames weight) = sym (append-nil ledger.told)
-ledger_told ledger (Again row weight) = sym (append-nil ledger.told)
-ledger_told ledger (CloseRecord last) = sym (append-nil ledger.told)
+ledger_told : (keeps : Bool) (ledger : LedgerState) (one : RingRecord) → (ledger_after keeps ledger one).told ≡ ledger.told ++ names_told (one ∷ [])
+ledger_told keeps ledger (Name name) = refl
+ledger_told true ledger (Row frames weight) = sym (append-nil ledger.told)
+ledger_told false ledger (Row frames weight) = sym (append-nil ledger.told)
+ledger_told true ledger (Again row weight) = sym (append-nil ledger.told)
+ledger_told false ledger (Again row weight) = sym (append-nil ledger.told)
+ledger_told keeps ledger (CloseRecord last) = sym (append-nil ledger.told)
 
-ledger_kept : (ledger : LedgerState) (one : RingRecord) → (ledger_after ledger one).stacks ≡ ledger.stacks ++ stacks_told (one ∷ [])
-ledger_kept ledger (Name name) = sym (append-nil ledger.stacks)
-ledger_kept ledger (Row frames weight) = refl
-ledger_kept ledger (Again row weight) = sym (append-nil ledger.stacks)
-ledger_kept ledger (CloseRecord last) = sym (append-nil ledger.stacks)
+ledger_kept : (keeps : Bool) (ledger : LedgerState) (one : RingRecord) → (ledger_after keeps ledger one).stacks ≡ ledger.stacks ++ stacks_told (one ∷ [])
+ledger_kept keeps ledger (Name name) = sym (append-nil ledger.stacks)
+ledger_kept true ledger (Row frames weight) = refl
+ledger_kept false ledger (Row frames weight) = refl
+ledger_kept true ledger (Again row weight) = sym (append-nil ledger.stacks)
+ledger_kept false ledger (Again row weight) = sym (append-nil ledger.stacks)
+ledger_kept keeps ledger (CloseRecord last) = sym (append-nil ledger.stacks)
 
-ledger_samples : (ledger : LedgerState) (one : RingRecord) → (ledger_after ledger one).samples ≡ ledger.samples ++ samples_in ledger.told ledger.stacks one
-ledger_samples ledger (Name name) = sym (append-nil ledger.samples)
-ledger_samples ledger (Row frames weight) = refl
-ledger_samples ledger (Again row weight) = refl
-ledger_samples ledger (CloseRecord last) = sym (append-nil ledger.samples)
+ledger_samples : (keeps : Bool) (ledger : LedgerState) (one : RingRecord) → keeps ≡ true → (ledger_after keeps ledger one).samples ≡ ledger.samples ++ samples_in ledger.told ledger.stacks one
+ledger_samples keeps ledger (Name name) kept = sym (append-nil ledger.samples)
+ledger_samples true ledger (Row frames weight) kept = refl
+ledger_samples false ledger (Row frames weight) kept = absurd (true≢false (sym kept))
+ledger_samples true ledger (Again row weight) kept = refl
+ledger_samples false ledger (Again row weight) kept = absurd (true≢false (sym kept))
+ledger_samples keeps ledger (CloseRecord last) kept = sym (append-nil ledger.samples)
 
-ledger_open : (ledger : LedgerState) (one : RingRecord) → (ledger_after ledger one).close ≡ ledger.close
-ledger_open ledger (Name name) = refl
-ledger_open ledger (Row frames weight) = refl
-ledger_open ledger (Again row weight) = refl
-ledger_open ledger (CloseRecord last) = refl
+ledger_open : (keeps : Bool) (ledger : LedgerState) (one : RingRecord) → (ledger_after keeps ledger one).close ≡ ledger.close
+ledger_open keeps ledger (Name name) = refl
+ledger_open true ledger (Row frames weight) = refl
+ledger_open false ledger (Row frames weight) = refl
+ledger_open true ledger (Again row weight) = refl
+ledger_open false ledger (Again row weight) = refl
+ledger_open keeps ledger (CloseRecord last) = refl
 
 -- a record is taken
-pub tracked_taken : {records : List RingRecord} {ledger : LedgerState} {list : List Sample} (one : RingRecord) → IsNamed ledger.told ledger.stacks one
-    → Tracked records None ledger Taking list → Tracked (records ++ one ∷ []) (close_after None one) (ledger_after ledger one) Taking (list ++ samples_in ledger.told ledger.stacks one)
-tracked_taken {records} {ledger} {list} one told tracked =
+pub tracked_taken : {keeps : Bool} {records : List RingRecord} {ledger : LedgerState} {list : List Sample} (one : RingRecord) → IsNamed ledger.told ledger.stacks one
+    → Tracked keeps records None ledger Taking list → Tracked keeps (records ++ one ∷ []) (close_after None one) (ledger_after keeps ledger one) Taking (list ++ samples_in ledger.told ledger.stacks one)
+tracked_taken {keeps} {records} {ledger} {list} one told tracked =
     let holds = tracked.holds refl in
     let same = same_samples_in holds one in
     let all : list ++ samples_in ledger.told ledger.stacks one ≡ tracked.samples ++ samples_in (names_told records) (stacks_told records) one = ap (λ xs. xs ++ samples_in ledger.told ledger.stacks one) holds.all_taken ∙ ap (λ xs. tracked.samples ++ xs) same in
@@ -128,10 +137,10 @@ tracked_taken {records} {ledger} {list} one told tracked =
       stands = stands_one records tracked.samples one tracked.stands;
       first = ([], append-nil (list ++ samples_in ledger.told ledger.stacks one) ∙ all);
       holds = λ _. record {
-        is_open = ledger_open ledger one ∙ holds.is_open;
-        told = ledger_told ledger one ∙ ap (λ names. names ++ names_told (one ∷ [])) holds.told ∙ sym (names_told-append records (one ∷ []));
-        kept = ledger_kept ledger one ∙ ap (λ stacks. stacks ++ stacks_told (one ∷ [])) holds.kept ∙ sym (stacks_told-append records (one ∷ []));
-        ledger_samples = ledger_samples ledger one ∙ ap (λ xs. xs ++ samples_in ledger.told ledger.stacks one) holds.ledger_samples ∙ ap (λ xs. tracked.samples ++ xs) same;
+        is_open = ledger_open keeps ledger one ∙ holds.is_open;
+        told = ledger_told keeps ledger one ∙ ap (λ names. names ++ names_told (one ∷ [])) holds.told ∙ sym (names_told-append records (one ∷ []));
+        kept = ledger_kept keeps ledger one ∙ ap (λ stacks. stacks ++ stacks_told (one ∷ [])) holds.kept ∙ sym (stacks_told-append records (one ∷ []));
+        ledger_samples = λ kept. ledger_samples keeps ledger one kept ∙ ap (λ xs. xs ++ samples_in ledger.told ledger.stacks one) (holds.ledger_samples kept) ∙ ap (λ xs. tracked.samples ++ xs) same;
         all_taken = all;
         well_told = IsWellTold-append records (one ∷ []) holds.well_told (subst (λ stacks. IsWellToldAfter (length (names_told records)) (length stacks) (one ∷ [])) holds.kept (subst (λ names. IsWellToldAfter (length names) (length ledger.stacks) (one ∷ [])) holds.told (well_one ledger.told ledger.stacks one told)));
       };
@@ -139,9 +148,9 @@ tracked_taken {records} {ledger} {list} one told tracked =
     }
 
 -- the sink has the sample, and there was want of memory
-pub tracked_refused : {records : List RingRecord} {ledger ledger' : LedgerState} {list : List Sample} (one : RingRecord)
-    → Tracked records None ledger Taking list → Tracked (records ++ one ∷ []) (close_after None one) ledger' stage.Dropping (list ++ samples_in ledger.told ledger.stacks one)
-tracked_refused {records} {ledger} {list = list} one tracked =
+pub tracked_refused : {keeps : Bool} {records : List RingRecord} {ledger ledger' : LedgerState} {list : List Sample} (one : RingRecord)
+    → Tracked keeps records None ledger Taking list → Tracked keeps (records ++ one ∷ []) (close_after None one) ledger' stage.Dropping (list ++ samples_in ledger.told ledger.stacks one)
+tracked_refused {records = records} {ledger} {list = list} one tracked =
     let holds = tracked.holds refl in
     let all : list ++ samples_in ledger.told ledger.stacks one ≡ tracked.samples ++ samples_in (names_told records) (stacks_told records) one = ap (λ xs. xs ++ samples_in ledger.told ledger.stacks one) holds.all_taken ∙ ap (λ xs. tracked.samples ++ xs) (same_samples_in holds one) in
     record {
@@ -153,9 +162,9 @@ tracked_refused {records} {ledger} {list = list} one tracked =
     }
 
 -- a number had no name, or no stack
-pub tracked_unnamed : {records : List RingRecord} {ledger ledger' : LedgerState} {list : List Sample} (one : RingRecord) → (IsNamed ledger.told ledger.stacks one → ⊥)
-    → Tracked records None ledger Taking list → Tracked (records ++ one ∷ []) (close_after None one) ledger' Unnamed list
-tracked_unnamed {records} {ledger} {list = list} one unnamed tracked =
+pub tracked_unnamed : {keeps : Bool} {records : List RingRecord} {ledger ledger' : LedgerState} {list : List Sample} (one : RingRecord) → (IsNamed ledger.told ledger.stacks one → ⊥)
+    → Tracked keeps records None ledger Taking list → Tracked keeps (records ++ one ∷ []) (close_after None one) ledger' Unnamed list
+tracked_unnamed {records = records} {ledger} {list = list} one unnamed tracked =
     let holds = tracked.holds refl in
     record {
       samples = tracked.samples ++ samples_in (names_told records) (stacks_told records) one;
@@ -165,94 +174,94 @@ tracked_unnamed {records} {ledger} {list = list} one unnamed tracked =
       unnamed = λ _ well. unnamed (subst (λ names. IsNamed names ledger.stacks one) (sym holds.told) (subst (λ stacks. IsNamed (names_told records) stacks one) (sym holds.kept) (one_well (names_told records) (stacks_told records) one (IsWellTold-back records (one ∷ []) well))));
     }
 
-along_close : {records : List RingRecord} {ledger : LedgerState} {stage : Stage} {list : List Sample} {close close' : Option Close} → close' ≡ close → Tracked records close ledger stage list → Tracked records close' ledger stage list
-along_close {records} {ledger} {stage} {list} e = subst (λ c. Tracked records c ledger stage list) (sym e)
+along_close : {keeps : Bool} {records : List RingRecord} {ledger : LedgerState} {stage : Stage} {list : List Sample} {close close' : Option Close} → close' ≡ close → Tracked keeps records close ledger stage list → Tracked keeps records close' ledger stage list
+along_close {keeps} {records} {ledger} {stage} {list} e = subst (λ c. Tracked keeps records c ledger stage list) (sym e)
 
 -- nothing more is taken
-pub nothing_more : {source : ℕ} {tracks : List Sample → Type 0} {list : List Sample} {taken : List (ℕ × Sample)} {order : List ℕ} {went_well : Type 0}
-    → tracks list → GainsMore source tracks list taken taken order order went_well
+pub nothing_more : {origin : Origin} {tracks : List Sample → Type 0} {list : List Sample} {taken : List (ℕ × Sample)} {order : List ℕ} {went_well : Type 0}
+    → tracks list → GainsMore origin tracks list taken taken order order went_well
 nothing_more {tracks = tracks} {list} {taken} {order} tracked = record {
   more = [];
   tracked = subst tracks (sym (append-nil list)) tracked;
   gains = sym (append-nil taken);
-  ordered = λ _. sym (append-nil order);
+  ordered = λ _ _. sym (append-nil order);
 }
 
-module _ {source : ℕ} {one : RingRecord} {records : List RingRecord} {ledger ledger' : LedgerState} {close' : Option Close} {taken taken' : List (ℕ × Sample)} {order order' : List ℕ} {list : List Sample} (tracked : Tracked records None ledger Taking list) where
+module _ {origin : Origin} {one : RingRecord} {records : List RingRecord} {ledger ledger' : LedgerState} {close' : Option Close} {taken taken' : List (ℕ × Sample)} {order order' : List ℕ} {list : List Sample} (tracked : Tracked origin.keeps records None ledger Taking list) where
   -- what a record brings, which was taken, or at which there was want of memory, or a number had no name or no stack
-  pub takes_more : {stage' : Stage} → TakesRecord source one ledger ledger' None close' taken taken' order order' stage'
-      → GainsMore source (Tracked (records ++ one ∷ []) close' ledger' stage') list taken taken' order order' (stage' ≢ stage.Dropping)
+  pub takes_more : {stage' : Stage} → TakesRecord origin one ledger ledger' None close' taken taken' order order' stage'
+      → GainsMore origin (Tracked origin.keeps (records ++ one ∷ []) close' ledger' stage') list taken taken' order order' (stage' ≢ stage.Dropping)
   takes_more (RecordTaken is named ledger_is close_is gains ordered) = record {
     more = samples_in ledger.told ledger.stacks one;
-    tracked = subst (λ s. Tracked (records ++ one ∷ []) close' ledger' s (list ++ samples_in ledger.told ledger.stacks one)) (sym is)
+    tracked = subst (λ s. Tracked origin.keeps (records ++ one ∷ []) close' ledger' s (list ++ samples_in ledger.told ledger.stacks one)) (sym is)
         (along_close close_is
-        (subst (λ l. Tracked (records ++ one ∷ []) (close_after None one) l Taking (list ++ samples_in ledger.told ledger.stacks one)) (sym ledger_is) (tracked_taken one named tracked)));
+        (subst (λ l. Tracked origin.keeps (records ++ one ∷ []) (close_after None one) l Taking (list ++ samples_in ledger.told ledger.stacks one)) (sym ledger_is) (tracked_taken one named tracked)));
     gains = gains;
     ordered = λ _. ordered;
   }
   takes_more (RecordRefused is close_is (inl same)) = record {
     more = [];
-    tracked = subst (λ s. Tracked (records ++ one ∷ []) close' ledger' s (list ++ [])) (sym is)
-        (subst (Tracked (records ++ one ∷ []) close' ledger' stage.Dropping) (sym (append-nil list)) (along_close close_is (tracked_dropped one dropping≢taking (λ e. absurd (dropping≢unnamed e)) tracked)));
+    tracked = subst (λ s. Tracked origin.keeps (records ++ one ∷ []) close' ledger' s (list ++ [])) (sym is)
+        (subst (Tracked origin.keeps (records ++ one ∷ []) close' ledger' stage.Dropping) (sym (append-nil list)) (along_close close_is (tracked_dropped one dropping≢taking (λ e. absurd (dropping≢unnamed e)) tracked)));
     gains = same ∙ sym (append-nil taken);
-    ordered = λ other. absurd (other is);
+    ordered = λ other _. absurd (other is);
   }
   takes_more (RecordRefused is close_is (inr gains)) = record {
     more = samples_in ledger.told ledger.stacks one;
-    tracked = subst (λ s. Tracked (records ++ one ∷ []) close' ledger' s (list ++ samples_in ledger.told ledger.stacks one)) (sym is) (along_close close_is (tracked_refused one tracked));
+    tracked = subst (λ s. Tracked origin.keeps (records ++ one ∷ []) close' ledger' s (list ++ samples_in ledger.told ledger.stacks one)) (sym is) (along_close close_is (tracked_refused one tracked));
     gains = gains;
-    ordered = λ other. absurd (other is);
+    ordered = λ other _. absurd (other is);
   }
   takes_more (RecordUnnamed is unnamed close_is taken_is order_is) = record {
     more = [];
-    tracked = subst (λ s. Tracked (records ++ one ∷ []) close' ledger' s (list ++ [])) (sym is)
-        (subst (Tracked (records ++ one ∷ []) close' ledger' Unnamed) (sym (append-nil list)) (along_close close_is (tracked_unnamed one unnamed tracked)));
+    tracked = subst (λ s. Tracked origin.keeps (records ++ one ∷ []) close' ledger' s (list ++ [])) (sym is)
+        (subst (Tracked origin.keeps (records ++ one ∷ []) close' ledger' Unnamed) (sym (append-nil list)) (along_close close_is (tracked_unnamed one unnamed tracked)));
     gains = taken_is ∙ sym (append-nil taken);
-    ordered = λ _. order_is ∙ sym (append-nil order);
+    ordered = λ _ _. order_is ∙ sym (append-nil order);
   }
 
-pub more_weaker : {source : ℕ} {tracks : List Sample → Type 0} {list : List Sample} {taken taken' : List (ℕ × Sample)} {order order' : List ℕ} {well well' : Type 0}
-    → (well' → well) → GainsMore source tracks list taken taken' order order' well → GainsMore source tracks list taken taken' order order' well'
+pub more_weaker : {origin : Origin} {tracks : List Sample → Type 0} {list : List Sample} {taken taken' : List (ℕ × Sample)} {order order' : List ℕ} {well well' : Type 0}
+    → (well' → well) → GainsMore origin tracks list taken taken' order order' well → GainsMore origin tracks list taken taken' order order' well'
 more_weaker f gained = record { more = gained.more; tracked = gained.tracked; gains = gained.gains; ordered = λ h. gained.ordered (f h) }
 
 -- what a record notes of the close
-pub takes_close : {source : ℕ} {one : RingRecord} {ledger ledger' : LedgerState} {close close' : Option Close} {taken taken' : List (ℕ × Sample)} {order order' : List ℕ} {stage : Stage}
-    → TakesRecord source one ledger ledger' close close' taken taken' order order' stage → close' ≡ close_after close one
+pub takes_close : {origin : Origin} {one : RingRecord} {ledger ledger' : LedgerState} {close close' : Option Close} {taken taken' : List (ℕ × Sample)} {order order' : List ℕ} {stage : Stage}
+    → TakesRecord origin one ledger ledger' close close' taken taken' order order' stage → close' ≡ close_after close one
 takes_close (RecordTaken is named ledger_is close_is gains ordered) = close_is
 takes_close (RecordRefused is close_is gains) = close_is
 takes_close (RecordUnnamed is unnamed close_is taken_is order_is) = close_is
 
 -- the sink has some samples more, and then some more
-pub gains_on : {source : ℕ} {tracks tracks' : List Sample → Type 0} {list : List Sample} {taken taken' taken'' : List (ℕ × Sample)} {order order' order'' : List ℕ} {well well' : Type 0}
-    (first : GainsMore source tracks list taken taken' order order' well) → (well' → well) → GainsMore source tracks' (list ++ first.more) taken' taken'' order' order'' well'
-    → GainsMore source tracks' list taken taken'' order order'' well'
-gains_on {source} {tracks' = tracks'} {list = list} {taken = taken} {order = order} first still second = record {
+pub gains_on : {origin : Origin} {tracks tracks' : List Sample → Type 0} {list : List Sample} {taken taken' taken'' : List (ℕ × Sample)} {order order' order'' : List ℕ} {well well' : Type 0}
+    (first : GainsMore origin tracks list taken taken' order order' well) → (well' → well) → GainsMore origin tracks' (list ++ first.more) taken' taken'' order' order'' well'
+    → GainsMore origin tracks' list taken taken'' order order'' well'
+gains_on {origin} {tracks' = tracks'} {list = list} {taken = taken} {order = order} first still second = record {
   more = first.more ++ second.more;
   tracked = subst tracks' (append_assoc list first.more second.more) second.tracked;
-  gains = second.gains ∙ ap (λ pairs. pairs ++ of_one source second.more) first.gains ∙ append_assoc taken (of_one source first.more) (of_one source second.more)
+  gains = second.gains ∙ ap (λ pairs. pairs ++ of_one origin.number second.more) first.gains ∙ append_assoc taken (of_one origin.number first.more) (of_one origin.number second.more)
       ∙ ap (λ pairs. taken ++ pairs) (sym both);
-  ordered = λ well. second.ordered well ∙ ap (λ sources. sources ++ sources_of (of_one source second.more)) (first.ordered (still well))
-      ∙ append_assoc order (sources_of (of_one source first.more)) (sources_of (of_one source second.more))
-      ∙ ap (λ sources. order ++ sources) (sym (ap sources_of both ∙ map-append (λ pair. pair.0) (of_one source first.more) (of_one source second.more)));
+  ordered = λ well kept. second.ordered well kept ∙ ap (λ sources. sources ++ sources_of (of_one origin.number second.more)) (first.ordered (still well) kept)
+      ∙ append_assoc order (sources_of (of_one origin.number first.more)) (sources_of (of_one origin.number second.more))
+      ∙ ap (λ sources. order ++ sources) (sym (ap sources_of both ∙ map-append (λ pair. pair.0) (of_one origin.number first.more) (of_one origin.number second.more)));
 }
   where
-    both : of_one source (first.more ++ second.more) ≡ of_one source first.more ++ of_one source second.more
-    both = map-append (λ sample. (source, sample)) first.more second.more
+    both : of_one origin.number (first.more ++ second.more) ≡ of_one origin.number first.more ++ of_one origin.number second.more
+    both = map-append (λ sample. (origin.number, sample)) first.more second.more
 
 -- no record brings nothing
 pub brings_nothing : {taken : List (ℕ × Sample)} {order : List ℕ} (intake : Intake) → intake.close ≡ None → Brings [] intake intake taken taken order order
 brings_nothing intake unclosed = λ before list tracked.
-    nothing_more {tracks = Tracked (before ++ []) intake.close intake.ledger intake.stage}
-    (subst (λ records. Tracked records intake.close intake.ledger intake.stage list) (sym (append-nil before)) (along_close unclosed tracked))
+    nothing_more {tracks = Tracked intake.origin.keeps (before ++ []) intake.close intake.ledger intake.stage}
+    (subst (λ records. Tracked intake.origin.keeps records intake.close intake.ledger intake.stage list) (sym (append-nil before)) (along_close unclosed tracked))
 
 -- one record more
 pub brings_on : {taken taken' taken'' : List (ℕ × Sample)} {order order' order'' : List ℕ} (old mid new : Intake) (records : List RingRecord) (one : RingRecord)
-    → mid.number ≡ old.number → mid.close ≡ None → (mid.stage ≡ stage.Dropping → new.stage ≡ stage.Dropping)
+    → mid.origin ≡ old.origin → mid.close ≡ None → (mid.stage ≡ stage.Dropping → new.stage ≡ stage.Dropping)
     → Brings records old mid taken taken' order order' → Brings (one ∷ []) mid new taken' taken'' order' order'' → Brings (records ++ one ∷ []) old new taken taken'' order order''
-brings_on {taken' = taken'} {taken''} {order' = order'} {order''} old mid new records one number unclosed dropping first second = λ before list tracked.
+brings_on {taken' = taken'} {taken''} {order' = order'} {order''} old mid new records one origin unclosed dropping first second = λ before list tracked.
     let gained = first before list tracked in
-    let tracked_mid = subst (λ close. Tracked (before ++ records) close mid.ledger mid.stage (list ++ gained.more)) unclosed gained.tracked in
+    let tracked_mid = subst (λ close. Tracked old.origin.keeps (before ++ records) close mid.ledger mid.stage (list ++ gained.more)) unclosed gained.tracked in
     gains_on gained (λ well is. well (dropping is))
-    (subst (λ n. GainsMore n (Tracked (before ++ (records ++ one ∷ [])) new.close new.ledger new.stage) (list ++ gained.more) taken' taken'' order' order'' (new.stage ≢ stage.Dropping)) number
-    (subst (λ all. GainsMore mid.number (Tracked all new.close new.ledger new.stage) (list ++ gained.more) taken' taken'' order' order'' (new.stage ≢ stage.Dropping)) (append_assoc before records (one ∷ []))
-    (second (before ++ records) (list ++ gained.more) tracked_mid)))
+    (subst (λ o. GainsMore o (Tracked o.keeps (before ++ (records ++ one ∷ [])) new.close new.ledger new.stage) (list ++ gained.more) taken' taken'' order' order'' (new.stage ≢ stage.Dropping)) origin
+    (subst (λ all. GainsMore mid.origin (Tracked mid.origin.keeps all new.close new.ledger new.stage) (list ++ gained.more) taken' taken'' order' order'' (new.stage ≢ stage.Dropping)) (append_assoc before records (one ∷ []))
+    (second (before ++ records) (list ++ gained.more) (subst (λ o. Tracked o.keeps (before ++ records) None mid.ledger mid.stage (list ++ gained.more)) (sym origin) tracked_mid))))

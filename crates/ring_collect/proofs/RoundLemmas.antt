@@ -34,19 +34,19 @@ module _ {A : Type 0} (xs : List A) (at : ℕ) (new : A) (within : at < length x
       slice_get-get_or xs i x below ∙ ap Some (sym (get_or-set_other xs at i new x apart) ∙ get_or_from_slice_get (slice_set xs at new) i x x is)
 
 -- one source is looked into
-pub one_look : {start taken taken' : List (ℕ × Sample)} {order order' : List ℕ} {refused refused' : Bool} (intakes : List Intake) (at : ℕ) (old new : Intake)
-    → slice_get intakes at ≡ Some old → new.number ≡ old.number
-    → ((list : List Sample) → Tracks old list → GainsMore new.number (Tracks new) list taken taken' order order' (refused' ≡ false))
+pub one_look : {start taken taken' : List (ℕ × Sample)} {order order' : List ℕ} {refused refused' : Bool} {keeps : Bool} (intakes : List Intake) (at : ℕ) (old new : Intake)
+    → slice_get intakes at ≡ Some old → new.origin ≡ old.origin
+    → ((list : List Sample) → Tracks old list → GainsMore new.origin (Tracks new) list taken taken' order order' (refused' ≡ false))
     → (refused' ≡ false → refused ≡ false) → (refused' ≡ false → new.stage ≢ Dropping)
-    → HasGained start intakes taken order refused → HasGained start (slice_set intakes at new) taken' order' refused'
-one_look {start} {taken} {taken'} {order} {order'} {refused} {refused'} intakes at old new is_old same_number looks not_refused not_dropping has_gained =
+    → HasGained keeps start intakes taken order refused → HasGained keeps start (slice_set intakes at new) taken' order' refused'
+one_look {start} {taken} {taken'} {order} {order'} {refused} {refused'} {keeps} intakes at old new is_old same_origin looks not_refused not_dropping has_gained =
     record {
       lists = lists';
       pairs = has_gained.pairs ++ of_one at turns.more;
       all_listed = length-set has_gained.lists at (list ++ turns.more) ∙ has_gained.all_listed ∙ sym (length-set intakes at new);
       gained = gains ∙ ap (λ t. t ++ of_one at turns.more) has_gained.gained ∙ append_assoc start has_gained.pairs (of_one at turns.more);
       of_lists = record { by_source = by_source };
-      ordered = λ e. turns.ordered e ∙ ap (λ n. order ++ sources_of (of_one n turns.more)) number ∙ ap (λ o. o ++ sources_of (of_one at turns.more)) (has_gained.ordered (not_refused e))
+      ordered = λ e kept. turns.ordered e (kept_as ∙ kept) ∙ ap (λ n. order ++ sources_of (of_one n turns.more)) number ∙ ap (λ o. o ++ sources_of (of_one at turns.more)) (has_gained.ordered (not_refused e) kept)
           ∙ sym (map-append (λ pair. pair.0) has_gained.pairs (of_one at turns.more));
       each = each;
       going = going;
@@ -58,13 +58,16 @@ one_look {start} {taken} {taken'} {order} {order'} {refused} {refused'} intakes 
     list : List Sample
     list = list_of has_gained.lists at
 
-    was_at : IsAt at old list
+    was_at : IsAt keeps at old list
     was_at = has_gained.each at old is_old
 
-    number : new.number ≡ at
-    number = same_number ∙ was_at.number
+    number : new.origin.number ≡ at
+    number = ap (λ origin. origin.number) same_origin ∙ was_at.number
 
-    turns : GainsMore new.number (Tracks new) list taken taken' order order' (refused' ≡ false)
+    kept_as : new.origin.keeps ≡ keeps
+    kept_as = ap (λ origin. origin.keeps) same_origin ∙ was_at.kept
+
+    turns : GainsMore new.origin (Tracks new) list taken taken' order order' (refused' ≡ false)
     turns = looks list was_at.tracks
 
     lists' : List (List Sample)
@@ -97,13 +100,13 @@ one_look {start} {taken} {taken'} {order} {order'} {refused} {refused'} intakes 
     is_new : (source : ℕ) (intake : Intake) → source ≡ at → slice_get (slice_set intakes at new) source ≡ Some intake → new ≡ intake
     is_new source intake e is = same_Some new intake (sym (slice_get_set_same intakes at new within) ∙ ap (slice_get (slice_set intakes at new)) (sym e) ∙ is)
 
-    new_at : IsAt at new (list_of lists' at)
-    new_at = record { number = number; tracks = subst (Tracks new) (sym (get_or-set_same has_gained.lists at (list ++ turns.more) [] listed)) turns.tracked }
+    new_at : IsAt keeps at new (list_of lists' at)
+    new_at = record { number = number; kept = kept_as; tracks = subst (Tracks new) (sym (get_or-set_same has_gained.lists at (list ++ turns.more) [] listed)) turns.tracked }
 
-    each : (source : ℕ) (intake : Intake) → slice_get (slice_set intakes at new) source ≡ Some intake → IsAt source intake (list_of lists' source)
+    each : (source : ℕ) (intake : Intake) → slice_get (slice_set intakes at new) source ≡ Some intake → IsAt keeps source intake (list_of lists' source)
     each source intake is = elim (same_or_other source at) [
-      | inl e ↦ subst (λ s. IsAt s intake (list_of lists' s)) (sym e) (subst (λ i. IsAt at i (list_of lists' at)) (is_new source intake e is) new_at)
-      | inr apart ↦ subst (IsAt source intake) (sym (elsewhere source apart)) (has_gained.each source intake (slice_get_set_other intakes at new within source intake apart is))
+      | inl e ↦ subst (λ s. IsAt keeps s intake (list_of lists' s)) (sym e) (subst (λ i. IsAt keeps at i (list_of lists' at)) (is_new source intake e is) new_at)
+      | inr apart ↦ subst (IsAt keeps source intake) (sym (elsewhere source apart)) (has_gained.each source intake (slice_get_set_other intakes at new within source intake apart is))
     ]
 
     going : refused' ≡ false → (source : ℕ) (intake : Intake) → slice_get (slice_set intakes at new) source ≡ Some intake → intake.stage ≢ Dropping
@@ -118,8 +121,8 @@ slice_get_map f xs i x is =
     slice_get-get_or (map f xs) i (f x) (subst (λ n. i < n) (sym (length-map xs f)) below) ∙ ap Some (get_or-map f xs i x (f x) below ∙ ap f (get_or_from_slice_get xs i x x is))
 
 -- what was gained does not change with what else the collecting thread has
-pub gained_alike : {start taken : List (ℕ × Sample)} {intakes intakes' : List Intake} {order order' : List ℕ} {refused refused' : Bool} → intakes' ≡ intakes → order' ≡ order → refused' ≡ refused
-    → HasGained start intakes taken order refused → HasGained start intakes' taken order' refused'
-gained_alike {start} {taken} {intakes} {intakes'} {order} {order'} {refused} {refused'} same_intakes same_order same_refused gained =
-    subst (λ intakes. HasGained start intakes taken order' refused') (sym same_intakes)
-    (subst (λ order. HasGained start intakes taken order refused') (sym same_order) (subst (HasGained start intakes taken order) (sym same_refused) gained))
+pub gained_alike : {start taken : List (ℕ × Sample)} {intakes intakes' : List Intake} {order order' : List ℕ} {refused refused' : Bool} {keeps : Bool} → intakes' ≡ intakes → order' ≡ order → refused' ≡ refused
+    → HasGained keeps start intakes taken order refused → HasGained keeps start intakes' taken order' refused'
+gained_alike {start} {taken} {intakes} {intakes'} {order} {order'} {refused} {refused'} {keeps} same_intakes same_order same_refused gained =
+    subst (λ intakes. HasGained keeps start intakes taken order' refused') (sym same_intakes)
+    (subst (λ order. HasGained keeps start intakes taken order refused') (sym same_order) (subst (HasGained keeps start intakes taken order) (sym same_refused) gained))

@@ -47,40 +47,40 @@ no_lists [] i = refl
 no_lists (x ∷ xs) zero = refl
 no_lists (x ∷ xs) (suc i) = no_lists xs i
 
-nothing_tracked : Tracked [] None (record { samples = []; close = None; told = []; rows = []; stacks = []; entries = [] }) Taking []
+nothing_tracked : {keeps : Bool} → Tracked keeps [] None (record { samples = []; close = None; told = []; rows = []; stacks = []; entries = [] }) Taking []
 nothing_tracked = record {
   samples = [];
   stands = refl;
   first = ([], refl);
-  holds = λ _. record { is_open = refl; told = refl; kept = refl; ledger_samples = refl; all_taken = refl; well_told = tt };
+  holds = λ _. record { is_open = refl; told = refl; kept = refl; ledger_samples = λ _. refl; all_taken = refl; well_told = tt };
   unnamed = λ e. absurd (taking≢unnamed e);
 }
 
-fresh_tracked : {source : ℕ} (intake : Intake) → IsFresh source intake → Tracks intake []
+fresh_tracked : {keeps : Bool} {source : ℕ} (intake : Intake) → IsFresh keeps source intake → Tracks intake []
 fresh_tracked intake fresh =
-    subst (λ batches. Tracked (records_of_all batches) intake.close intake.ledger intake.stage []) (sym fresh.received_nothing)
-    (subst (λ close. Tracked [] close intake.ledger intake.stage []) (sym fresh.close)
-    (subst (λ ledger. Tracked [] None ledger intake.stage []) (sym fresh.ledger)
-    (subst (λ stage. Tracked [] None (record { samples = []; close = None; told = []; rows = []; stacks = []; entries = [] }) stage []) (sym fresh.stage) nothing_tracked)))
+    subst (λ batches. Tracked intake.origin.keeps (records_of_all batches) intake.close intake.ledger intake.stage []) (sym fresh.received_nothing)
+    (subst (λ close. Tracked intake.origin.keeps [] close intake.ledger intake.stage []) (sym fresh.close)
+    (subst (λ ledger. Tracked intake.origin.keeps [] None ledger intake.stage []) (sym fresh.ledger)
+    (subst (λ stage. Tracked intake.origin.keeps [] None (record { samples = []; close = None; told = []; rows = []; stacks = []; entries = [] }) stage []) (sym fresh.stage) nothing_tracked)))
 
 -- before the first record nothing is gained
-fresh_gained : (start : List (ℕ × Sample)) (intakes : List Intake) (refused : Bool) → AreFresh intakes → HasGained start intakes start [] refused
-fresh_gained start intakes refused fresh = record {
+fresh_gained : (keeps : Bool) (start : List (ℕ × Sample)) (intakes : List Intake) (refused : Bool) → AreFresh keeps intakes → HasGained keeps start intakes start [] refused
+fresh_gained keeps start intakes refused fresh = record {
   lists = map (λ _. []) intakes;
   pairs = [];
   all_listed = length-map intakes (λ _. []);
   gained = sym (append-nil start);
   of_lists = record { by_source = λ source. sym (no_lists intakes source) };
-  ordered = λ _. refl;
+  ordered = λ _ _. refl;
   each = λ source intake is.
       let one = fresh.each source intake is in
-      record { number = one.number; tracks = subst (Tracks intake) (sym (no_lists intakes source)) (fresh_tracked intake one) };
+      record { number = one.number; kept = one.kept; tracks = subst (Tracks intake) (sym (no_lists intakes source)) (fresh_tracked intake one) };
   going = λ e source intake is dropping. taking≢dropping (sym (fresh.each source intake is).stage ∙ dropping);
 }
 
 -- so with an order that has nothing yet
-pub nothing_gained : (start : List (ℕ × Sample)) (intakes : List Intake) (order : List ℕ) (refused : Bool) → order ≡ [] → AreFresh intakes → HasGained start intakes start order refused
-nothing_gained start intakes order refused none fresh = subst (λ order. HasGained start intakes start order refused) (sym none) (fresh_gained start intakes refused fresh)
+pub nothing_gained : (keeps : Bool) (start : List (ℕ × Sample)) (intakes : List Intake) (order : List ℕ) (refused : Bool) → order ≡ [] → AreFresh keeps intakes → HasGained keeps start intakes start order refused
+nothing_gained keeps start intakes order refused none fresh = subst (λ order. HasGained keeps start intakes start order refused) (sym none) (fresh_gained keeps start intakes refused fresh)
 
 map_twice : {A B C : Type 0} (f : A → B) (g : B → C) (xs : List A) → map g (map f xs) ≡ map (λ x. g (f x)) xs
 map_twice f g [] = refl
@@ -122,7 +122,7 @@ sources_below n ((s, x) ∷ pairs) none = (is_below, sources_below n pairs (λ s
     apart : (source : ℕ) → n ≤ source → s ≢ source
     apart source past e = let b = is_below in omega arith
 
-gains_of : {start taken : List (ℕ × Sample)} {intakes : List Intake} {order : List ℕ} {refused : Bool} (n : ℕ) → length intakes ≤ n → HasGained start intakes taken order refused → GainsOf n start taken
+gains_of : {keeps : Bool} {start taken : List (ℕ × Sample)} {intakes : List Intake} {order : List ℕ} {refused : Bool} (n : ℕ) → length intakes ≤ n → HasGained keeps start intakes taken order refused → GainsOf n start taken
 gains_of n few has_gained = record {
   pairs = has_gained.pairs;
   gained = has_gained.gained;
@@ -130,8 +130,8 @@ gains_of n few has_gained = record {
       has_gained.of_lists.by_source source ∙ past_the_end has_gained.lists source (let e = has_gained.all_listed in omega arith)));
 }
 
-pub unfinishes : {R G : Type 0} {gate : G} {readers : List R} (all : List (RunningSource R G)) {start taken : List (ℕ × Sample)} {order : List ℕ} {refused : Bool} (source : ℕ)
-    → ArePromised gate readers (map (λ running. running.handle.promise) all) → HasGained start (map (λ running. running.intake) all) taken order refused
+pub unfinishes : {keeps : Bool} {R G : Type 0} {gate : G} {readers : List R} (all : List (RunningSource R G)) {start taken : List (ℕ × Sample)} {order : List ℕ} {refused : Bool} (source : ℕ)
+    → ArePromised gate readers (map (λ running. running.handle.promise) all) → HasGained keeps start (map (λ running. running.intake) all) taken order refused
     → source < length all → Unfinishes (length readers) source start taken
 unfinishes {readers = readers} all source promised gained below = record {
   below = let n = no_more in omega arith;
@@ -142,11 +142,11 @@ unfinishes {readers = readers} all source promised gained below = record {
     no_more = let n = promised.no_more in let e = length-map all (λ s. s.handle.promise) in omega arith
 
 module _ {R G : Type 0} {may_stop may_go : G → ℕ → ℕ → Type 0} {gives : R → Rest → Type 0} {gate : G} {readers : List R} {all : List (RunningSource R G)} {ledgers : List LedgerState}
-    {start taken : List (ℕ × Sample)} {order : List ℕ} {refused : Bool}
+    {start taken : List (ℕ × Sample)} {order : List ℕ} {refused keeps : Bool}
     (promised : ArePromised gate readers (map (λ started. started.handle.promise) all)) (settled : AreSettled may_stop may_go gives all ledgers)
-    (has_gained : HasGained start (map (λ started. started.intake) all) taken order refused) where
+    (has_gained : HasGained keeps start (map (λ started. started.intake) all) taken order refused) where
   abbrev IsRestOf : ℕ → RunningSource R G → LedgerState → Rest → Type 0
-  IsRestOf source started ledger rest = IsSettledAs (may_stop gate) (may_go gate) source rest started.intake.stage (list_of has_gained.lists source) ledger
+  IsRestOf source started ledger rest = IsSettledAs keeps (may_stop gate) (may_go gate) source rest started.intake.stage (list_of has_gained.lists source) ledger
 
   source_settled : (source : ℕ) (started : RunningSource R G) (ledger : LedgerState) (reader : R) → slice_get all source ≡ Some started → slice_get ledgers source ≡ Some ledger → slice_get readers source ≡ Some reader
       → GivesSuch (gives reader) (IsRestOf source started ledger)
@@ -155,13 +155,15 @@ module _ {R G : Type 0} {may_stop may_go : G → ℕ → ℕ → Type 0} {gives 
       let at = has_gained.each source started.intake (slice_get_map (λ s. s.intake) all source started is_started) in
       let list = list_of has_gained.lists source in
       let stage = started.intake.stage in
+      let kept = started.intake.origin.keeps in
       let as_promised = settled.each source started ledger is_started is_ledger in
       let rest = as_promised.rest in
       record {
         rest = rest;
         is_given = subst (λ r. gives r rest) promise.reader_is as_promised.is_given;
-        holds = subst (λ s. IsSettledAs (may_stop gate) (may_go gate) s rest stage list ledger) promise.source_is
-            (subst (λ w. IsSettledAs (may_stop w) (may_go w) started.handle.promise.source rest stage list ledger) promise.gate_is (as_promised.holds list at.tracks));
+        holds = subst (λ k. IsSettledAs k (may_stop gate) (may_go gate) source rest stage list ledger) at.kept
+            (subst (λ s. IsSettledAs kept (may_stop gate) (may_go gate) s rest stage list ledger) promise.source_is
+            (subst (λ w. IsSettledAs kept (may_stop w) (may_go w) started.handle.promise.source rest stage list ledger) promise.gate_is (as_promised.holds list at.tracks)));
       }
 
   -- the rest of a source that was started is the one by which it is settled
@@ -247,7 +249,7 @@ module _ {R G : Type 0} {may_stop may_go : G → ℕ → ℕ → Type 0} {gives 
             λ i below. absurd (omega arith)
       ]
 
-  pub runs_whole : (chosen : Chosen gives readers IsRestAt) → refused ≡ false → length all ≡ length readers → RunsWhole (may_stop gate) (may_go gate) chosen.rests ledgers order start taken
+  pub runs_whole : (chosen : Chosen gives readers IsRestAt) → refused ≡ false → length all ≡ length readers → RunsWhole keeps (may_stop gate) (may_go gate) chosen.rests ledgers order start taken
   runs_whole chosen not_refused every = record {
     pairs = has_gained.pairs;
     lists = has_gained.lists;
@@ -260,7 +262,7 @@ module _ {R G : Type 0} {may_stop may_go : G → ℕ → ℕ → Type 0} {gives 
   }
     where
       each : (source : ℕ) (r : Rest) (ledger : LedgerState) → slice_get chosen.rests source ≡ Some r → slice_get ledgers source ≡ Some ledger
-          → IsAllTold (may_stop gate) (may_go gate) source r (list_of has_gained.lists source) ledger
+          → IsAllTold keeps (may_stop gate) (may_go gate) source r (list_of has_gained.lists source) ledger
       each source r ledger is is_ledger =
           let count = settled.count in
           let below = slice_get_within ledgers source ledger is_ledger in

@@ -1,5 +1,5 @@
 -- Sources that are started one after another.
-use Rattle.std.proofs.Common.{All, ◌≡◌, ℕ, ◌+◌, ◌<◌, ◌⊎◌, inl, inr, List, [], ◌∷◌, ◌++◌, length, get_or, sym, ap, subst, ◌∙◌, arith, length-append, Some, slice_get}
+use Rattle.std.proofs.Common.{All, ◌≡◌, ℕ, ◌+◌, ◌<◌, ◌⊎◌, inl, inr, List, [], ◌∷◌, ◌++◌, length, get_or, sym, ap, subst, ◌∙◌, Bool, arith, length-append, Some, slice_get}
 use Rattle.std.proofs.lemmas.List.{get_or_append_left}
 use Rattle.std.proofs.Math.Seq.{get_or-append_seam}
 use Rattle.std.specs.Iterator.{Yields}
@@ -59,12 +59,12 @@ module _ {R G : Type 0} {gate : G} {readers : List R} {promises : List (ReaderPr
       by_index source p r (Last at is_p) (Last at' is_r) =
           subst (λ s. IsPromised gate s r p) (sym at') (subst (λ q. IsPromised gate (length readers) r q) (sym is_p) (subst (λ q. IsPromised gate (length readers) q promise) (sym is_r) is_one))
 
-pub fresh_push : {intakes : List Intake} (intake : Intake) → AreFresh intakes → IsFresh (length intakes) intake → AreFresh (intakes ++ intake ∷ [])
-fresh_push {intakes} intake fresh one = record { each = λ source i is. by_index source i (pushed_at intakes intake source i is) }
+pub fresh_push : {keeps : Bool} {intakes : List Intake} (intake : Intake) → AreFresh keeps intakes → IsFresh keeps (length intakes) intake → AreFresh keeps (intakes ++ intake ∷ [])
+fresh_push {keeps} {intakes} intake fresh one = record { each = λ source i is. by_index source i (pushed_at intakes intake source i is) }
   where
-    by_index : (source : ℕ) (i : Intake) → PushedAt intakes intake source i → IsFresh source i
+    by_index : (source : ℕ) (i : Intake) → PushedAt intakes intake source i → IsFresh keeps source i
     by_index source i (Earlier before is) = fresh.each source i is
-    by_index source i (Last at is) = subst (λ s. IsFresh s i) (sym at) (subst (IsFresh (length intakes)) (sym is) one)
+    by_index source i (Last at is) = subst (λ s. IsFresh keeps s i) (sym at) (subst (IsFresh keeps (length intakes)) (sym is) one)
 
 -- what the iterator of a vector has given is a front of its items
 pub taken_front : {X A : Type 0} (s : IntoIter X A) (xs : List X) (t : IntoIter X A) → Yields into_iter_steps s xs t → into_iter_items s ≡ xs ++ into_iter_items t

@@ -1,5 +1,5 @@
 -- A source at its end.
-use Rattle.std.proofs.Common.{◌≡◌, ◌≢◌, ◌<◌, ◌+◌, ◌⊎◌, inl, inr, IfSome, IfNone, IsSome, true≢false, length-append, ℕ, List, [], ◌∷◌, ◌++◌, length, map, take, drop, refl, sym, ap, subst, ◌∙◌, arith, append-nil, append_assoc, Option, Some, None}
+use Rattle.std.proofs.Common.{◌≡◌, ◌≢◌, ◌<◌, ◌+◌, ◌⊎◌, inl, inr, IfSome, IfNone, IsSome, true≢false, length-append, ℕ, Bool, List, [], ◌∷◌, ◌++◌, length, map, take, drop, refl, sym, ap, subst, ◌∙◌, arith, append-nil, append_assoc, Option, Some, None}
 use Rattle.std.proofs.lemmas.List.{length-take-le, map_push, nil_from_length, take-append-drop}
 use Rattle.std.proofs.lemmas.List.Elements.{Contains-append_right}
 use Rattle.std.specs.Arc.{arc_value}
@@ -74,10 +74,10 @@ module _ {may_stop may_go : ℕ → ℕ → Type 0} {source : ℕ} {rest : Rest}
   told_goes samples last (ShortOfMemory n within went is) = λ i below.
       went i (let same = ap length (same_told samples (take n rest.samples) last close.NoMemory is).0 in let cut = length-take-le n rest.samples within in omega arith)
 
-  pub settled : {records sent : List RingRecord} {ledger ledger' : LedgerState} {stage : Stage} {list : List Sample} (last : Close)
-      → Tracked records (Some last) ledger stage list → IsPrefixOf records sent → TellsAll may_stop may_go source rest sent
-      → ledger' ≡ record ledger { close = Some last } → IsSettledAs may_stop may_go source rest stage list ledger'
-  settled {records} {sent} {ledger} {ledger'} {stage} {list} last tracked begins tells ledger_is =
+  pub settled : {keeps : Bool} {records sent : List RingRecord} {ledger ledger' : LedgerState} {stage : Stage} {list : List Sample} (last : Close)
+      → Tracked keeps records (Some last) ledger stage list → IsPrefixOf records sent → TellsAll may_stop may_go source rest sent
+      → ledger' ≡ record ledger { close = Some last } → IsSettledAs keeps may_stop may_go source rest stage list ledger'
+  settled {records = records} {sent} {ledger} {ledger'} {stage} {list} last tracked begins tells ledger_is =
       let samples = tracked.samples in
       let back = stands_for_after (names_told records) (stacks_told records) begins.0 in
       let well_told : IsWellTold records = front_well_told _ _ begins tells.well_told in
@@ -97,7 +97,7 @@ module _ {may_stop may_go : ℕ → ℕ → Type 0} {source : ℕ} {rest : Rest}
             record {
               last = last;
               closed = ap (λ l. l.close) ledger_is;
-              samples = ap (λ l. l.samples) ledger_is ∙ holds.ledger_samples ∙ sym holds.all_taken;
+              samples = λ kept. ap (λ l. l.samples) ledger_is ∙ holds.ledger_samples kept ∙ sym holds.all_taken;
               is_told = subst (λ xs. IsToldUnder may_stop may_go source rest (told xs last)) (sym holds.all_taken) is_told;
               in_order = λ read ending is.
                   ap (λ l. l.told) ledger_is ∙ holds.told ∙ ap names_told all
@@ -121,8 +121,8 @@ module _ {R G : Type 0} {may_stop may_go : G → ℕ → ℕ → Type 0} {gives 
       by_index source s l (Last at is_s) (Last at' is_l) = subst (λ t. IsSettled may_stop may_go gives t l) (sym is_s) (subst (IsSettled may_stop may_go gives started) (sym is_l) one)
 
 -- a row had a number without a name only where what was received is not well told
-none_was_unnamed : {records sent : List RingRecord} {close : Option Close} {ledger : LedgerState} {stage : Stage} {list : List Sample}
-    → Tracked records close ledger stage list → IsPrefixOf records sent → IsWellTold sent → stage ≢ Unnamed
+none_was_unnamed : {keeps : Bool} {records sent : List RingRecord} {close : Option Close} {ledger : LedgerState} {stage : Stage} {list : List Sample}
+    → Tracked keeps records close ledger stage list → IsPrefixOf records sent → IsWellTold sent → stage ≢ Unnamed
 none_was_unnamed tracked begins well unnamed = tracked.unnamed unnamed (front_well_told _ _ begins well)
 
 -- the records of what was received are the first of those that were sent
@@ -130,9 +130,9 @@ pub begins_all : (batches more sent : List Batch) → batches ++ more ≡ sent �
 begins_all batches more sent is = (records_of_all more, sym (records_of_all-append batches more) ∙ ap records_of_all is)
 
 -- so not where the end of the ring left what shows what was sent
-pub none_unnamed : {A P : Type 0} {close : Option Close} {ledger : LedgerState} {stage : Stage} {list : List Sample} {whole : Type 0}
+pub none_unnamed : {A P : Type 0} {keeps : Bool} {close : Option Close} {ledger : LedgerState} {stage : Stage} {list : List Sample} {whole : Type 0}
     (left : Option (Finished Batch A P)) (one : Finished Batch A P) (batches more : List Batch)
-    → left ≡ Some one → IfSome left (λ left. IsWellTold (records_of_all (all_sent left))) → batches ++ more ≡ all_sent one → Tracked (records_of_all batches) close ledger stage list
+    → left ≡ Some one → IfSome left (λ left. IsWellTold (records_of_all (all_sent left))) → batches ++ more ≡ all_sent one → Tracked keeps (records_of_all batches) close ledger stage list
     → (stage ≢ Unnamed → whole) → IfSome left (λ _. (stage ≢ Unnamed) × whole)
 none_unnamed {stage = stage} {whole = whole} left one batches more is well sent tracked then =
     let told = none_was_unnamed tracked (begins_all batches more (all_sent one) sent) (subst (λ o. IfSome o (λ left. IsWellTold (records_of_all (all_sent left)))) is well) in
@@ -157,7 +157,7 @@ module _ {R G : Type 0} (may_stop may_go : G → ℕ → ℕ → Type 0) (gives 
         rest = tells.rest;
         is_given = tells.is_given;
         holds = λ list tracked.
-            settled last.0 (subst (λ close. Tracked (records_of_all (received intake.consumer)) close intake.ledger intake.stage list) last.1 tracked) is.begins tells.holds
+            settled last.0 (subst (λ close. Tracked intake.origin.keeps (records_of_all (received intake.consumer)) close intake.ledger intake.stage list) last.1 tracked) is.begins tells.holds
             (is.closed ∙ ap (λ close. record intake.ledger { close = close }) last.1);
       }
 

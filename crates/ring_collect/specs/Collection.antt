@@ -1,5 +1,6 @@
 -- What a run collected, and what a refusal leaves in the sink.
-use Rattle.std.specs.Prelude.{◌≡◌, ◌≤◌, ◌<◌, ◌++◌, ◌⊎◌, ℕ, List, [], ◌∷◌, length, map, All, Some, slice_get, Result, IfOk, IsErrOf}
+use Rattle.std.specs.Prelude.{◌≡◌, ◌≤◌, ◌<◌, ◌++◌, ◌⊎◌, ℕ, List, [], ◌∷◌, length, map, All, Some, slice_get, Result, IfOk, IsErrOf, Vec}
+use Rattle.std.specs.declared.alloc.Global.{Global}
 use Rattle.call_tree.specs.FrameTable.{HasDistinctNames}
 use Rattle.stack_core.specs.Reading.{Rest}
 use Rattle.stack_core.specs.Ledgers.{ListState}
@@ -7,6 +8,7 @@ use Rattle.stack_core.specs.NamesInOrder.{names_in_order}
 use Rattle.stack_core.specs.Prefixes.{IsPrefixOf}
 use Rattle.stack_core.specs.Interleaving.{AreOf, IsInterleaving, interleaved, list_of, of_source}
 use Rattle.sample_tables.specs.declared.samples.Sample.{Sample}
+use Rattle.stack_core.specs.declared.endings.SourceEnd.{SourceEnd}
 use Rattle.stack_core.specs.Told.{GoesBelow, IsCollected}
 use Rattle.ring_collect.specs.declared.faults.CollectFault.{CollectFault}
 use Rattle.ring_collect.specs.declared.faults.CollectFault.TheVariants.{OutOfMemory, NoThread, Unfinished}
@@ -77,9 +79,25 @@ pub record CollectsRun (may_stop may_go : ℕ → ℕ → Type 0) (rests : List 
   pub sink : taken' ≡ taken ++ interleaved arrival (map (λ list. list.samples) found)
   pub by_source : AreOf (interleaved arrival (map (λ list. list.samples) found)) (map (λ list. list.samples) found)
 
--- what a run answers of them. A refusal leaves in the sink a beginning of each source, at each sample of which the gate may go
-pub record AnswersRun (may_stop may_go : ℕ → ℕ → Type 0) (rests : List Rest) (taken taken' : List (ℕ × Sample)) (answer : Result Collected CollectFault) : Type 0 where
-  pub run : IfOk answer (λ run. CollectsRun may_stop may_go rests taken taken' run.lists.items run.order.items)
+-- what was collected so by a run that keeps no list: there are such lists, with these endings, and an order of arrival
+pub record FeedsRun (may_stop may_go : ℕ → ℕ → Type 0) (rests : List Rest) (taken taken' : List (ℕ × Sample)) (endings : List SourceEnd) : Type 0 where
+  pub found : List ListState
+  pub arrival : List ℕ
+  pub collects : CollectsRun may_stop may_go rests taken taken' found arrival
+  pub ends : endings ≡ map (λ list. list.ending) found
+
+-- what a run answers of readers with these rests, where this holds of what it answers on Ok. A refusal leaves in the sink a beginning of
+-- each source, at each sample of which the gate may go
+pub record Answers {Run : Type 0} (Holds : Run → Type 0) (may_go : ℕ → ℕ → Type 0) (rests : List Rest) (taken taken' : List (ℕ × Sample)) (answer : Result Run CollectFault) : Type 0 where
+  pub run : IfOk answer Holds
   pub refused : IsErrOf answer OutOfMemory ⊎ IsErrOf answer NoThread → GainsFirst rests taken taken'
   pub popped : IsErrOf answer OutOfMemory ⊎ IsErrOf answer NoThread → GainsAllowed may_go taken taken'
   pub unfinished : (source : ℕ) → IsErrOf answer (Unfinished source) → Unfinishes (length rests) source taken taken'
+
+-- so of a run that answers lists and an order
+abbrev pub AnswersRun : (ℕ → ℕ → Type 0) → (ℕ → ℕ → Type 0) → List Rest → List (ℕ × Sample) → List (ℕ × Sample) → Result Collected CollectFault → Type 0
+AnswersRun may_stop may_go rests taken taken' answer = Answers (λ run. CollectsRun may_stop may_go rests taken taken' run.lists.items run.order.items) may_go rests taken taken' answer
+
+-- and of one that answers endings alone
+abbrev pub AnswersFeed : (ℕ → ℕ → Type 0) → (ℕ → ℕ → Type 0) → List Rest → List (ℕ × Sample) → List (ℕ × Sample) → Result (Vec SourceEnd Global) CollectFault → Type 0
+AnswersFeed may_stop may_go rests taken taken' answer = Answers (λ endings. FeedsRun may_stop may_go rests taken taken' endings.items) may_go rests taken taken' answer

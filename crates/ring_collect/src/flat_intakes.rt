@@ -28,7 +28,7 @@ impl Intake {
         requires unclosed { self.old.close ≡ None }
         requires depth { length frames.now ≤ FRAME_LIMIT }
         requires limit { weight ≤ WEIGHT_LIMIT }
-        ensures number { self.new.number ≡ self.old.number }
+        ensures origin { self.new.origin ≡ self.old.origin }
         ensures consumer { self.new.consumer ≡ self.old.consumer }
         ensures unclosed { self.new.close ≡ None }
         ensures dropping { self.old.stage ≡ Stage.Dropping → self.new.stage ≡ Stage.Dropping }
@@ -59,7 +59,7 @@ impl Intake {
         ensures names { into_iter_items unread.new.names
             ≡ names_behind step (into_iter_items unread.old.names) }
         ensures frames { unread.new.frames.now ≡ frames_behind step unread.old.frames.now }
-        ensures number { self.new.number ≡ self.old.number }
+        ensures origin { self.new.origin ≡ self.old.origin }
         ensures consumer { self.new.consumer ≡ self.old.consumer }
         ensures unclosed { self.new.close ≡ None }
         ensures dropping { self.old.stage ≡ Stage.Dropping → self.new.stage ≡ Stage.Dropping }
@@ -97,7 +97,7 @@ impl Intake {
     )
         requires unclosed { self.old.close ≡ None }
         requires limits { All IsGathered popped }
-        ensures number { self.new.number ≡ self.old.number }
+        ensures origin { self.new.origin ≡ self.old.origin }
         ensures consumer { self.new.consumer ≡ self.old.consumer }
         ensures unclosed { self.new.close ≡ None }
         ensures brings { Brings popped self.old self.new (F.taken sink.old) (F.taken sink.new)

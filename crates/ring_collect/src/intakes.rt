@@ -105,10 +105,18 @@ fn note_batch(close: &mut Option<Close>, popped: Batch)
     }
 }
 
+/// The number of a source, and whether its samples are kept.
+#[derive(Clone, Copy)]
+pub struct Origin {
+    pub number: u32,
+    /// Whether the ledger and the order get its samples. The sink gets them in any case.
+    pub keeps: bool,
+}
+
 /// The collecting thread's part of one source.
 #[derive(Drop)]
 pub struct Intake {
-    pub number: u32,
+    pub origin: Origin,
     pub consumer: BatchConsumer,
     pub ledger: Ledger,
     pub stage: Stage,
@@ -127,8 +135,8 @@ impl Intake {
     ghost use Rattle.sample_tables.specs.declared.samples.Sample.{Sample as TakenSample};
     ghost use Rattle.sample_tables.specs.declared.samples.TheConstants.{FRAME_LIMIT, WEIGHT_LIMIT};
 
-    /// Takes a sample of a stack that is kept: it is handed to the sink first, then to the ledger and the order. Answers the stage
-    /// after it.
+    /// Takes a sample of a stack that is kept: it is handed to the sink first, and then to the ledger and the order, where samples are
+    /// kept. Answers the stage after it.
     fn take_again<S, F: Feed<S>>(
         &mut self,
         alloc: Global,
@@ -139,10 +147,10 @@ impl Intake {
         order: &mut Vec<u32>,
     ) -> Stage
         requires limit { weight ≤ WEIGHT_LIMIT }
-        ensures taken { TakesRecord self.old.number (RingRecord.Again row weight) self.old.ledger
+        ensures taken { TakesRecord self.old.origin (RingRecord.Again row weight) self.old.ledger
             self.new.ledger self.old.close self.new.close (F.taken sink.old) (F.taken sink.new)
             order.old.items order.new.items result }
-        ensures number { self.new.number ≡ self.old.number }
+        ensures origin { self.new.origin ≡ self.old.origin }
         ensures consumer { self.new.consumer ≡ self.old.consumer }
         ensures setting { F.setting sink.new ≡ F.setting sink.old }
     {
@@ -150,11 +158,14 @@ impl Intake {
             return Stage::Unnamed;
         }
         let ledger = &self.ledger;
-        let fed = feed.feed(alloc, sink, self.number, ledger, row, weight);
+        let fed = feed.feed(alloc, sink, self.origin.number, ledger, row, weight);
         if fed.is_err() {
             return Stage::Dropping;
         }
-        if self.ledger.take_again(row, weight).is_err() || order.push(self.number).is_err() {
+        if !self.origin.keeps {
+            return Stage::Taking;
+        }
+        if self.ledger.take_again(row, weight).is_err() || order.push(self.origin.number).is_err() {
             return Stage::Dropping;
         }
         Stage::Taking
@@ -172,10 +183,10 @@ impl Intake {
     ) -> Stage
         requires depth { length frames.now ≤ FRAME_LIMIT }
         requires limit { weight ≤ WEIGHT_LIMIT }
-        ensures taken { TakesRecord self.old.number (RingRecord.Row frames.now weight)
+        ensures taken { TakesRecord self.old.origin (RingRecord.Row frames.now weight)
             self.old.ledger self.new.ledger self.old.close self.new.close (F.taken sink.old)
             (F.taken sink.new) order.old.items order.new.items result }
-        ensures number { self.new.number ≡ self.old.number }
+        ensures origin { self.new.origin ≡ self.old.origin }
         ensures consumer { self.new.consumer ≡ self.old.consumer }
         ensures setting { F.setting sink.new ≡ F.setting sink.old }
     {
@@ -199,10 +210,10 @@ impl Intake {
         order: &mut Vec<u32>,
     ) -> Stage
         requires { IsLimitedRecord popped }
-        ensures taken { TakesRecord self.old.number popped self.old.ledger self.new.ledger
+        ensures taken { TakesRecord self.old.origin popped self.old.ledger self.new.ledger
             self.old.close self.new.close (F.taken sink.old) (F.taken sink.new)
             order.old.items order.new.items result }
-        ensures number { self.new.number ≡ self.old.number }
+        ensures origin { self.new.origin ≡ self.old.origin }
         ensures consumer { self.new.consumer ≡ self.old.consumer }
         ensures setting { F.setting sink.new ≡ F.setting sink.old }
     {
@@ -235,7 +246,7 @@ impl Intake {
     )
         requires unclosed { self.old.close ≡ None }
         requires limits { IsLimitedRecord popped }
-        ensures number { self.new.number ≡ self.old.number }
+        ensures origin { self.new.origin ≡ self.old.origin }
         ensures consumer { self.new.consumer ≡ self.old.consumer }
         ensures close { self.new.close ≡ close_after None popped }
         ensures dropping { self.old.stage ≡ Stage.Dropping → self.new.stage ≡ Stage.Dropping }
@@ -261,7 +272,7 @@ impl Intake {
     )
         requires unclosed { self.old.close ≡ None }
         requires limits { IsLimitedBatch popped }
-        ensures number { self.new.number ≡ self.old.number }
+        ensures origin { self.new.origin ≡ self.old.origin }
         ensures consumer { self.new.consumer ≡ self.old.consumer }
         ensures brings { Brings (records_in popped) self.old self.new (F.taken sink.old) (F.taken sink.new)
             order.old.items order.new.items }
@@ -283,12 +294,12 @@ impl Intake {
     ) -> Look
         requires { self.old.close ≡ None }
         ensures open { result ≢ Look.Closed }
-        ensures number { self.new.number ≡ self.old.number }
+        ensures origin { self.new.origin ≡ self.old.origin }
         ensures ring { SameConsumer self.old.consumer self.new.consumer }
         ensures nothing { result ≡ Look.Idle → FindsNothing self.old.consumer self.new.consumer }
         ensures one { result ≡ Look.Moved → PopsOne self.old.consumer self.new.consumer }
         ensures more { (list : List TakenSample) → Tracks self.old list
-            → GainsMore self.new.number (Tracks self.new) list (F.taken sink.old)
+            → GainsMore self.new.origin (Tracks self.new) list (F.taken sink.old)
             (F.taken sink.new) order.old.items order.new.items (self.new.stage ≢ Stage.Dropping) }
         ensures setting { F.setting sink.new ≡ F.setting sink.old }
     {
@@ -303,7 +314,7 @@ impl Intake {
     pub fn drop_next(&mut self) -> Look
         requires { self.old.close ≡ None }
         ensures open { result ≢ Look.Closed }
-        ensures number { self.new.number ≡ self.old.number }
+        ensures origin { self.new.origin ≡ self.old.origin }
         ensures ring { SameConsumer self.old.consumer self.new.consumer }
         ensures nothing { result ≡ Look.Idle → FindsNothing self.old.consumer self.new.consumer }
         ensures one { result ≡ Look.Moved → PopsOne self.old.consumer self.new.consumer }

@@ -25,7 +25,7 @@ mod settlement;
 mod tellers;
 
 pub use faults::CollectFault;
-pub use row_runs::collect_rows;
+pub use row_runs::{collect_rows, feed_rows};
 pub use run_options::{LARGEST_RING, RingSize};
 pub use runs::Collected;
 pub use sample_runs::collect;

@@ -6,7 +6,7 @@ ghost use Rattle.ring_collect.specs.checked.Batches.{told_to};
 ghost use Rattle.std.specs.Arc.{arc_value};
 
 use crate::faults::CollectFault;
-use crate::intakes::{Intake, Stage};
+use crate::intakes::{Intake, Origin, Stage};
 use crate::outlets::Outlet;
 use crate::rings::RingEnds;
 use crate::running_sources::{ReaderHandle, ReaderPromise, RunningSource};
@@ -60,14 +60,14 @@ fn start_source<
     alloc: Global,
     reader: R,
     gate: &Arc<G>,
-    source: u32,
+    origin: Origin,
     ends: RingEnds,
 ) -> Result<RunningSource<R, G>, CollectFault>
     requires { R.told reader ≡ record { names = []; stacks = [] } }
     ensures finished { (number : ℕ) → IsErrOf result (CollectFault.Unfinished number) → ⊥ }
     ensures promised { IfOk result (λ running.
-        IsPromised (arc_value gate.now) source reader running.handle.promise) }
-    ensures fresh { IfOk result (λ running. IsFresh source running.intake) }
+        IsPromised (arc_value gate.now) origin.number reader running.handle.promise) }
+    ensures fresh { IfOk result (λ running. IsFresh origin.keeps origin.number running.intake) }
 {
     let gate = Arc::try_clone(gate)?;
     let RingEnds {
@@ -75,11 +75,11 @@ fn start_source<
         consumer,
         room,
     } = ends;
-    let Ok(handle) = start(rt, alloc, reader, gate, source, outlet) else {
+    let Ok(handle) = start(rt, alloc, reader, gate, origin.number, outlet) else {
         return Err(CollectFault::NoThread);
     };
     let intake = Intake {
-        number: source,
+        origin,
         consumer,
         ledger: Ledger::new(alloc),
         stage: Stage::Taking,
@@ -92,7 +92,8 @@ fn start_source<
     })
 }
 
-/// Starts the sources in order, up to the first that can't be started. There is a ring for each and room for all.
+/// Starts the sources in order, up to the first that can't be started. There is a ring for each and room for all. Their samples are kept,
+/// or not.
 pub fn start_all<
     T: Threads + Wait + Copy + Send + 'static,
     R: RowReader + Send + Drop + 'static,
@@ -104,6 +105,7 @@ pub fn start_all<
     rings: Vec<RingEnds>,
     gate: &Arc<G>,
     sources: &mut Vec<RunningSource<R, G>>,
+    keeps: bool,
 ) -> Result<(), CollectFault>
     requires few { length readers.items ≤ 64 }
     requires rings { length rings.items ≡ length readers.items }
@@ -115,7 +117,7 @@ pub fn start_all<
         (map (λ running. running.handle.promise) sources.new.items) }
     ensures all { OnOk result (length sources.new.items ≡ length readers.items) }
     ensures finished { (source : ℕ) → IsErrOf result (CollectFault.Unfinished source) → ⊥ }
-    ensures fresh { AreFresh (map (λ running. running.intake) sources.new.items) }
+    ensures fresh { AreFresh keeps (map (λ running. running.intake) sources.new.items) }
 {
     let mut rings = rings;
     let mut source = 0u32;
@@ -123,7 +125,11 @@ pub fn start_all<
         let Some(ends) = rings.pop() else {
             unreachable!()
         };
-        let running = start_source(rt, alloc, reader, gate, source, ends)?;
+        let origin = Origin {
+            number: source,
+            keeps,
+        };
+        let running = start_source(rt, alloc, reader, gate, origin, ends)?;
         let Ok(()) = sources.push(running) else {
             unreachable!()
         };

@@ -75,6 +75,8 @@ pub struct Room<R: RowReader, G: Gate> {
     pub rings: Vec<RingEnds>,
     pub sources: Vec<RunningSource<R, G>>,
     pub ledgers: Vec<Ledger>,
+    /// Whether samples are kept.
+    pub keeps: bool,
     /// How the collecting thread waits for batches.
     pub pause: Pause,
 }
@@ -83,20 +85,27 @@ impl<R: RowReader, G: Gate> Room<R, G> {
     ghost use Rattle.std.specs.Prelude.{◌≡◌, ◌≤◌, [], All, IfOk, length, vec_capacity};
     ghost use Rattle.ring_collect.specs.checked.RunningSources.{IsOfSize};
 
-    /// Room for so many sources.
-    pub fn new(alloc: Global, count: usize, handover: Handover) -> Result<Self, AllocError>
+    /// Room for so many sources, whose samples are kept or not.
+    pub fn new(
+        alloc: Global,
+        count: usize,
+        handover: Handover,
+        keeps: bool,
+    ) -> Result<Self, AllocError>
         ensures rings { IfOk result (λ room. length room.rings.items ≡ count) }
         ensures size { IfOk result (λ room. All (IsOfSize handover.ring) room.rings.items) }
         ensures sources { IfOk result (λ room. (room.sources.items ≡ [])
             × (count ≤ vec_capacity room.sources)) }
         ensures ledgers { IfOk result (λ room. (room.ledgers.items ≡ [])
             × (count ≤ vec_capacity room.ledgers)) }
+        ensures keeps { IfOk result (λ room. room.keeps ≡ keeps) }
     {
         let batches = Bell::shared(alloc)?;
         Ok(Room {
             rings: make_rings(alloc, count, handover, &batches)?,
             sources: Vec::with_capacity(alloc, count)?,
             ledgers: Vec::with_capacity(alloc, count)?,
+            keeps,
             pause: Pause::new(batches, plenty_of(handover)),
         })
     }

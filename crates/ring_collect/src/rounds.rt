@@ -1,6 +1,6 @@
 //! The collecting thread's rounds: in each it visits every ring that is not closed.
 
-ghost use Rattle.std.specs.Prelude.{◌≡◌, ◌<◌, ℕ, List, IsSome, IfSome, false, length, map, slice_get};
+ghost use Rattle.std.specs.Prelude.{◌≡◌, ◌<◌, ℕ, List, IsSome, IfSome, Bool, false, length, map, slice_get};
 ghost use Rattle.ring_collect.specs.checked.Rounds.{HasGained};
 ghost use Rattle.sample_tables.specs.declared.samples.Sample.{Sample as TakenSample};
 
@@ -40,10 +40,10 @@ impl<R: RowReader, G: Gate> Collector<R, G> {
         requires { source < length self.old.sources.items }
         ensures handles { map (λ running. running.handle) self.new.sources.items
             ≡ map (λ running. running.handle) self.old.sources.items }
-        ensures gained { (start : List (ℕ × TakenSample))
-            → HasGained start (map (λ running. running.intake) self.old.sources.items)
+        ensures gained { (keeps : Bool) (start : List (ℕ × TakenSample))
+            → HasGained keeps start (map (λ running. running.intake) self.old.sources.items)
             (F.taken sink.old) self.old.order.items self.old.refused
-            → HasGained start (map (λ running. running.intake) self.new.sources.items)
+            → HasGained keeps start (map (λ running. running.intake) self.new.sources.items)
             (F.taken sink.new) self.new.order.items self.new.refused }
         ensures refused { self.new.refused ≡ false → self.old.refused ≡ false }
         ensures closed { result ≡ Look.Closed → (self.new.sources.items ≡ self.old.sources.items)
@@ -85,10 +85,10 @@ impl<R: RowReader, G: Gate> Collector<R, G> {
         requires { source < length self.old.sources.items }
         ensures handles { map (λ running. running.handle) self.new.sources.items
             ≡ map (λ running. running.handle) self.old.sources.items }
-        ensures gained { (start : List (ℕ × TakenSample))
-            → HasGained start (map (λ running. running.intake) self.old.sources.items)
+        ensures gained { (keeps : Bool) (start : List (ℕ × TakenSample))
+            → HasGained keeps start (map (λ running. running.intake) self.old.sources.items)
             (F.taken sink.old) self.old.order.items self.old.refused
-            → HasGained start (map (λ running. running.intake) self.new.sources.items)
+            → HasGained keeps start (map (λ running. running.intake) self.new.sources.items)
             (F.taken sink.new) self.new.order.items self.new.refused }
         ensures refused { self.new.refused ≡ false → self.old.refused ≡ false }
         ensures closed { result ≡ Look.Closed → (self.new.sources.items ≡ self.old.sources.items)
@@ -114,10 +114,10 @@ impl<R: RowReader, G: Gate> Collector<R, G> {
     fn look_round<S, F: Feed<S>>(&mut self, alloc: Global, feed: &mut F, sink: &mut S) -> Look
         ensures handles { map (λ running. running.handle) self.new.sources.items
             ≡ map (λ running. running.handle) self.old.sources.items }
-        ensures gained { (start : List (ℕ × TakenSample))
-            → HasGained start (map (λ running. running.intake) self.old.sources.items)
+        ensures gained { (keeps : Bool) (start : List (ℕ × TakenSample))
+            → HasGained keeps start (map (λ running. running.intake) self.old.sources.items)
             (F.taken sink.old) self.old.order.items self.old.refused
-            → HasGained start (map (λ running. running.intake) self.new.sources.items)
+            → HasGained keeps start (map (λ running. running.intake) self.new.sources.items)
             (F.taken sink.new) self.new.order.items self.new.refused }
         ensures refused { self.new.refused ≡ false → self.old.refused ≡ false }
         ensures closed { result ≡ Look.Closed
@@ -146,10 +146,10 @@ impl<R: RowReader, G: Gate> Collector<R, G> {
     )
         ensures handles { map (λ running. running.handle) self.new.sources.items
             ≡ map (λ running. running.handle) self.old.sources.items }
-        ensures gained { (start : List (ℕ × TakenSample))
-            → HasGained start (map (λ running. running.intake) self.old.sources.items)
+        ensures gained { (keeps : Bool) (start : List (ℕ × TakenSample))
+            → HasGained keeps start (map (λ running. running.intake) self.old.sources.items)
             (F.taken sink.old) self.old.order.items self.old.refused
-            → HasGained start (map (λ running. running.intake) self.new.sources.items)
+            → HasGained keeps start (map (λ running. running.intake) self.new.sources.items)
             (F.taken sink.new) self.new.order.items self.new.refused }
         ensures refused { self.new.refused ≡ false → self.old.refused ≡ false }
         ensures closed { (source : ℕ) → source < length self.new.sources.items

@@ -1,8 +1,8 @@
-//! A whole run of readers of rows and a sink by rows.
+//! Whole runs of readers of rows and a sink by rows.
 
 ghost use Rattle.std.specs.Prelude.{All, ◌≡◌, ◌≤◌, [], length};
 ghost use Rattle.std.specs.Arc.{arc_value};
-ghost use Rattle.ring_collect.specs.Collection.{AnswersRun, GiveSuch};
+ghost use Rattle.ring_collect.specs.Collection.{AnswersFeed, AnswersRun, GiveSuch};
 ghost use Rattle.stack_core.specs.RowReading.{GivesSome};
 
 use crate::batches::Handover;
@@ -10,7 +10,7 @@ use crate::faults::CollectFault;
 use crate::feeds::ByRows;
 use crate::runs::{Collected, RingedReaders};
 use run_options::RingSize;
-use stack_core::{Gate, RowReader, RowSink};
+use stack_core::{Gate, RowReader, RowSink, SourceEnd};
 use std::alloc::Global;
 use std::sync::{Arc, Wait};
 use std::thread::Threads;
@@ -51,4 +51,34 @@ pub fn collect_rows<
 {
     let handover = Handover::in_batches(ring);
     RingedReaders { readers, handover }.collect_by(rt, alloc, gate, &mut ByRows, sink)
+}
+
+/// Reads every source as `collect_rows` does and feeds the sink, but keeps no sample: its memory is for names and stacks, whatever
+/// comes. It answers how each source ended, in the order of the readers.
+pub fn feed_rows<
+    T: Threads + Wait + Copy + Send + 'static,
+    R: RowReader + Send + Drop + 'static,
+    G: Gate + Send + Sync + Drop + 'static,
+    S: RowSink,
+>(
+    rt: &T,
+    alloc: Global,
+    readers: Vec<R>,
+    ring: RingSize,
+    gate: Arc<G>,
+    sink: &mut S,
+) -> Result<Vec<SourceEnd>, CollectFault>
+    requires few { length readers.items ≤ 64 }
+    requires nothing_told { All (λ reader. R.told reader ≡ record { names = []; stacks = [] })
+        readers.items }
+    requires possible { All (λ reader. GivesSome (R.gives reader)) readers.items }
+
+    // The sink gained what `collect_rows` would have put into lists, and these are the lists' endings.
+    ensures answer { GiveSuch (λ reader. R.gives reader) readers.items (λ rests.
+        AnswersFeed (G.may_stop (arc_value gate)) (G.may_go (arc_value gate)) rests
+        (S.taken sink.old) (S.taken sink.new) result) }
+    ensures setting { S.setting sink.new ≡ S.setting sink.old }
+{
+    let handover = Handover::in_batches(ring);
+    RingedReaders { readers, handover }.feed_by(rt, alloc, gate, &mut ByRows, sink)
 }

@@ -1,9 +1,9 @@
 //! A whole run: a reader thread and a bounded ring for each source, and the collecting thread that feeds the sink.
 
-ghost use Rattle.std.specs.Prelude.{All, None, Some, false, ◌≡◌, ◌≤◌, ◌++◌, ◌⊎◌, ℕ, [], IfOk, IsErrOf, IfErr, IsOk, length, vec_capacity};
+ghost use Rattle.std.specs.Prelude.{All, None, Some, false, ◌≡◌, ◌≤◌, ◌++◌, ◌⊎◌, ℕ, [], IfOk, IsErrOf, IfErr, IsOk, length, map, true, vec_capacity};
 ghost use Rattle.std.specs.Arc.{arc_value};
-ghost use Rattle.ring_collect.specs.Collection.{AnswersRun, GainsAllowed, GainsFirst, GiveSuch};
-ghost use Rattle.ring_collect.specs.checked.WholeRuns.{IsUnfinished, RunsWhole};
+ghost use Rattle.ring_collect.specs.Collection.{Answers, AnswersFeed, AnswersRun, GainsAllowed, GainsFirst, GiveSuch};
+ghost use Rattle.ring_collect.specs.checked.WholeRuns.{HandsOut, IsUnfinished, RunsWhole};
 ghost use Rattle.ring_collect.specs.checked.Settlement.{AreListsOf};
 ghost use Rattle.stack_core.specs.Ledgers.{IsRead};
 ghost use Rattle.stack_core.specs.RowReading.{GivesSome};
@@ -15,7 +15,7 @@ use crate::reader_threads::start_all;
 use crate::room::Room;
 use crate::rounds::Collector;
 use crate::settlement::settle_all;
-use stack_core::{Close, Gate, Ledger, RowReader, SourceList};
+use stack_core::{Close, Gate, Ledger, RowReader, SourceEnd, SourceList};
 use std::alloc::{AllocError, Global};
 use std::sync::{Arc, Wait};
 use std::thread::Threads;
@@ -51,6 +51,17 @@ fn lists_of(alloc: Global, ledgers: Vec<Ledger>) -> Result<Vec<SourceList>, Allo
         lists.push(list_of_ledger(ledger)?)?;
     }
     Ok(lists)
+}
+
+/// How each list ended.
+fn endings_of(alloc: Global, lists: Vec<SourceList>) -> Result<Vec<SourceEnd>, AllocError>
+    ensures { IfOk result (λ endings. endings.items ≡ map (λ list. list.ending) lists.items) }
+{
+    let mut endings = Vec::with_capacity(alloc, lists.len())?;
+    for list in lists {
+        endings.push(*list.ending())?;
+    }
+    Ok(endings)
 }
 
 /// What a run left whose sources are all settled.
@@ -97,7 +108,7 @@ impl<R: RowReader + Send + Drop + 'static, G: Gate + Send + Sync + Drop + 'stati
         ensures gains { IfOk result (λ run. GiveSuch (λ reader. R.gives reader) readers.items (λ rests.
             GainsFirst rests (F.taken sink.old) (F.taken sink.new)
             × (run.fault ≡ None
-            → RunsWhole (G.may_stop (arc_value gate.now)) (G.may_go (arc_value gate.now)) rests
+            → RunsWhole self.keeps (G.may_stop (arc_value gate.now)) (G.may_go (arc_value gate.now)) rests
             run.ledgers.items run.order.items (F.taken sink.old) (F.taken sink.new)))) }
         ensures popped { IfOk result (λ _.
             GainsAllowed (G.may_go (arc_value gate.now)) (F.taken sink.old) (F.taken sink.new)) }
@@ -111,9 +122,10 @@ impl<R: RowReader + Send + Drop + 'static, G: Gate + Send + Sync + Drop + 'stati
             rings,
             mut sources,
             mut ledgers,
+            keeps,
             pause,
         } = self;
-        let started = start_all(*rt, alloc, readers, rings, gate, &mut sources);
+        let started = start_all(*rt, alloc, readers, rings, gate, &mut sources, keeps);
         let refused = matches!(started, Err(CollectFault::OutOfMemory));
         let order = Vec::new(alloc);
         let mut collector = Collector {
@@ -148,6 +160,44 @@ pub struct RingedReaders<R: RowReader> {
 }
 
 impl<R: RowReader + Send + Drop + 'static> RingedReaders<R> {
+    /// Feeds a sink with the rows of the readers, and collects them where samples are kept.
+    fn run_by<
+        T: Threads + Wait + Copy + Send + 'static,
+        G: Gate + Send + Sync + Drop + 'static,
+        S,
+        F: Feed<S>,
+    >(
+        self,
+        rt: &T,
+        alloc: Global,
+        gate: Arc<G>,
+        keeps: bool,
+        feed: &mut F,
+        sink: &mut S,
+    ) -> Result<Collected, CollectFault>
+        requires few { length self.readers.items ≤ 64 }
+        requires nothing_told { All (λ reader. R.told reader ≡ record { names = []; stacks = [] })
+            self.readers.items }
+        requires possible { All (λ reader. GivesSome (R.gives reader)) self.readers.items }
+        ensures answer { GiveSuch (λ reader. R.gives reader) self.readers.items (λ rests.
+            Answers (λ run. HandsOut keeps (G.may_stop (arc_value gate)) (G.may_go (arc_value gate))
+            rests (F.taken sink.old) (F.taken sink.new) run.lists.items run.order.items)
+            (G.may_go (arc_value gate)) rests (F.taken sink.old) (F.taken sink.new) result) }
+        ensures setting { F.setting sink.new ≡ F.setting sink.old }
+    {
+        let RingedReaders { readers, handover } = self;
+        let room = Room::new(alloc, readers.len(), handover, keeps)?;
+        let run = room.run_sources(rt, alloc, readers, &gate, feed, sink)?;
+        let lists = lists_of(alloc, run.ledgers)?;
+        match run.fault {
+            Some(fault) => Err(fault),
+            None => Ok(Collected {
+                lists,
+                order: run.order,
+            }),
+        }
+    }
+
     /// Collects the rows of the readers, and feeds a sink with them.
     pub fn collect_by<
         T: Threads + Wait + Copy + Send + 'static,
@@ -171,16 +221,33 @@ impl<R: RowReader + Send + Drop + 'static> RingedReaders<R> {
             (F.taken sink.old) (F.taken sink.new) result) }
         ensures setting { F.setting sink.new ≡ F.setting sink.old }
     {
-        let RingedReaders { readers, handover } = self;
-        let room = Room::new(alloc, readers.len(), handover)?;
-        let run = room.run_sources(rt, alloc, readers, &gate, feed, sink)?;
-        let lists = lists_of(alloc, run.ledgers)?;
-        match run.fault {
-            Some(fault) => Err(fault),
-            None => Ok(Collected {
-                lists,
-                order: run.order,
-            }),
-        }
+        self.run_by(rt, alloc, gate, true, feed, sink)
+    }
+
+    /// Feeds a sink with the rows of the readers, and answers how they ended.
+    pub fn feed_by<
+        T: Threads + Wait + Copy + Send + 'static,
+        G: Gate + Send + Sync + Drop + 'static,
+        S,
+        F: Feed<S>,
+    >(
+        self,
+        rt: &T,
+        alloc: Global,
+        gate: Arc<G>,
+        feed: &mut F,
+        sink: &mut S,
+    ) -> Result<Vec<SourceEnd>, CollectFault>
+        requires few { length self.readers.items ≤ 64 }
+        requires nothing_told { All (λ reader. R.told reader ≡ record { names = []; stacks = [] })
+            self.readers.items }
+        requires possible { All (λ reader. GivesSome (R.gives reader)) self.readers.items }
+        ensures answer { GiveSuch (λ reader. R.gives reader) self.readers.items (λ rests.
+            AnswersFeed (G.may_stop (arc_value gate)) (G.may_go (arc_value gate)) rests
+            (F.taken sink.old) (F.taken sink.new) result) }
+        ensures setting { F.setting sink.new ≡ F.setting sink.old }
+    {
+        let run = self.run_by(rt, alloc, gate, false, feed, sink)?;
+        Ok(endings_of(alloc, run.lists)?)
     }
 }

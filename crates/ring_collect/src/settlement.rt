@@ -28,7 +28,7 @@ fn settle_by(left: Option<LeftOfRing>, intake: Intake) -> Option<Ledger>
         → IfSome left (λ _. (intake.stage ≢ Stage.Unnamed) × IsSome result) }
 {
     let Intake {
-        number: _,
+        origin: _,
         consumer,
         ledger,
         stage,

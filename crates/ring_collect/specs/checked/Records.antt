@@ -1,12 +1,13 @@
 -- What the collecting thread does with a record of a source: checked, not to be believed.
-use Rattle.std.specs.Prelude.{◌≡◌, ◌<◌, ◌++◌, ◌⊎◌, ℕ, List, [], ◌∷◌, length, All, Option, Some, map}
-use Rattle.stack_core.specs.Ledgers.{LedgerState, with_again, with_row}
+use Rattle.std.specs.Prelude.{◌≡◌, ◌<◌, ◌++◌, ◌⊎◌, ℕ, Bool, true, if◌then◌else◌, List, [], ◌∷◌, length, All, Option, Some, map}
+use Rattle.stack_core.specs.Ledgers.{LedgerState, keeping, with_again, with_row}
 use Rattle.sample_tables.specs.Rows.{named, row_by}
 use Rattle.stack_core.specs.Interleaving.{sources_of}
 use Rattle.sample_tables.specs.declared.samples.Sample.{Sample}
 use Rattle.stack_core.specs.declared.endings.Close.{Close}
 use Rattle.stack_core.specs.declared.records.RingRecord.{RingRecord}
 use Rattle.stack_core.specs.declared.records.RingRecord.TheVariants.{Name, Row, Again, Close as CloseRecord}
+use Rattle.ring_collect.specs.declared.intakes.Origin.{Origin}
 use Rattle.ring_collect.specs.declared.intakes.Stage.{Stage}
 use Rattle.ring_collect.specs.declared.intakes.Stage.TheVariants.{Taking, Dropping, Unnamed}
 
@@ -28,11 +29,12 @@ samples_in told stacks (Row frames weight) = named told (record { frames = frame
 samples_in told stacks (Again row weight) = named told (row_by stacks (record { stack = row; weight = weight })) ∷ []
 samples_in told stacks (CloseRecord last) = []
 
-abbrev pub ledger_after : LedgerState → RingRecord → LedgerState
-ledger_after ledger (Name name) = record ledger { told = ledger.told ++ name ∷ [] }
-ledger_after ledger (Row frames weight) = with_row ledger (record { frames = frames; weight = weight })
-ledger_after ledger (Again row weight) = with_again ledger row weight
-ledger_after ledger (CloseRecord last) = ledger
+-- what a ledger is after a record: it takes the sample that the record stands for, where samples are kept
+abbrev pub ledger_after : Bool → LedgerState → RingRecord → LedgerState
+ledger_after keeps ledger (Name name) = record ledger { told = ledger.told ++ name ∷ [] }
+ledger_after keeps ledger (Row frames weight) = if keeps then with_row ledger (record { frames = frames; weight = weight }) else keeping ledger frames
+ledger_after keeps ledger (Again row weight) = if keeps then with_again ledger row weight else ledger
+ledger_after keeps ledger (CloseRecord last) = ledger
 
 abbrev pub close_after : Option Close → RingRecord → Option Close
 close_after close (Name name) = close
@@ -40,13 +42,13 @@ close_after close (Row frames weight) = close
 close_after close (Again row weight) = close
 close_after close (CloseRecord last) = Some last
 
--- a record is taken: by the ledger, and where it stands for a sample by the sink and the order too. Where there is want of memory the
--- sink may have its sample. A number without a name, or without a stack, is not taken
-pub data TakesRecord (source : ℕ) (one : RingRecord) (ledger ledger' : LedgerState) (close close' : Option Close) (taken taken' : List (ℕ × Sample)) (order order' : List ℕ) (stage : Stage) : Type 0 where
-  RecordTaken : stage ≡ Taking → IsNamed ledger.told ledger.stacks one → ledger' ≡ ledger_after ledger one → close' ≡ close_after close one
-      → taken' ≡ taken ++ of_one source (samples_in ledger.told ledger.stacks one) → order' ≡ order ++ sources_of (of_one source (samples_in ledger.told ledger.stacks one))
-      → TakesRecord source one ledger ledger' close close' taken taken' order order' stage
-  RecordRefused : stage ≡ Dropping → close' ≡ close_after close one → (taken' ≡ taken) ⊎ (taken' ≡ taken ++ of_one source (samples_in ledger.told ledger.stacks one))
-      → TakesRecord source one ledger ledger' close close' taken taken' order order' stage
+-- a record is taken: by the ledger, and where it stands for a sample by the sink, and by the order too where samples are kept. Where there
+-- is want of memory the sink may have its sample. A number without a name, or without a stack, is not taken
+pub data TakesRecord (origin : Origin) (one : RingRecord) (ledger ledger' : LedgerState) (close close' : Option Close) (taken taken' : List (ℕ × Sample)) (order order' : List ℕ) (stage : Stage) : Type 0 where
+  RecordTaken : stage ≡ Taking → IsNamed ledger.told ledger.stacks one → ledger' ≡ ledger_after origin.keeps ledger one → close' ≡ close_after close one
+      → taken' ≡ taken ++ of_one origin.number (samples_in ledger.told ledger.stacks one) → (origin.keeps ≡ true → order' ≡ order ++ sources_of (of_one origin.number (samples_in ledger.told ledger.stacks one)))
+      → TakesRecord origin one ledger ledger' close close' taken taken' order order' stage
+  RecordRefused : stage ≡ Dropping → close' ≡ close_after close one → (taken' ≡ taken) ⊎ (taken' ≡ taken ++ of_one origin.number (samples_in ledger.told ledger.stacks one))
+      → TakesRecord origin one ledger ledger' close close' taken taken' order order' stage
   RecordUnnamed : stage ≡ Unnamed → (IsNamed ledger.told ledger.stacks one → ⊥) → close' ≡ close_after close one → taken' ≡ taken → order' ≡ order
-      → TakesRecord source one ledger ledger' close close' taken taken' order order' stage
+      → TakesRecord origin one ledger ledger' close close' taken taken' order order' stage

@@ -1,5 +1,5 @@
 -- Sources that were started: checked, not to be believed.
-use Rattle.std.specs.Prelude.{◌≡◌, ◌≤◌, ℕ, List, [], length, Some, None, slice_get}
+use Rattle.std.specs.Prelude.{◌≡◌, ◌≤◌, ℕ, Bool, List, [], length, Some, None, slice_get}
 use Rattle.std.specs.Arc.{arc_value}
 use Rattle.rtrb.specs.Ring.{received, producer_capacity, consumer_capacity}
 use Rattle.ring_collect.specs.declared.running_sources.ReaderPromise.{ReaderPromise}
@@ -25,12 +25,13 @@ pub record IsOfSize (size : ℕ) (ends : RingEnds) : Type 0 where
   pub consumer : consumer_capacity ends.consumer ≡ size
 
 -- nothing came yet
-pub record IsFresh (source : ℕ) (intake : Intake) : Type 0 where
-  pub number : intake.number ≡ source
+pub record IsFresh (keeps : Bool) (source : ℕ) (intake : Intake) : Type 0 where
+  pub number : intake.origin.number ≡ source
+  pub kept : intake.origin.keeps ≡ keeps
   pub received_nothing : received intake.consumer ≡ []
   pub ledger : intake.ledger ≡ record { samples = []; close = None; told = []; rows = []; stacks = []; entries = [] }
   pub stage : intake.stage ≡ Taking
   pub close : intake.close ≡ None
 
-pub record AreFresh (intakes : List Intake) : Type 0 where
-  pub each : (source : ℕ) (intake : Intake) → slice_get intakes source ≡ Some intake → IsFresh source intake
+pub record AreFresh (keeps : Bool) (intakes : List Intake) : Type 0 where
+  pub each : (source : ℕ) (intake : Intake) → slice_get intakes source ≡ Some intake → IsFresh keeps source intake

@@ -1,5 +1,5 @@
 -- A source at the end of a run: checked, not to be believed.
-use Rattle.std.specs.Prelude.{◌≡◌, ◌≢◌, ℕ, List, length, map, Some, slice_get}
+use Rattle.std.specs.Prelude.{◌≡◌, ◌≢◌, ℕ, Bool, true, List, length, map, Some, slice_get}
 use Rattle.std.specs.Arc.{arc_value}
 use Rattle.rtrb.specs.Ring.{received}
 use Rattle.stack_core.specs.Reading.{Rest}
@@ -19,22 +19,22 @@ use Rattle.ring_collect.specs.declared.running_sources.RunningSource.{RunningSou
 use Rattle.ring_collect.specs.declared.intakes.Stage.{Stage}
 use Rattle.ring_collect.specs.declared.intakes.Stage.TheVariants.{Taking, Unnamed}
 
--- the ledger is all that was told, as the reader of a source with this rest tells it under its gate; where that was read to an
+-- the ledger is all that was told, with its samples if they are kept, as the reader of a source with this rest tells it under its gate; where that was read to an
 -- ending, it was told the names of its samples in the order in which they first appear
-pub record IsAllTold (may_stop may_go : ℕ → ℕ → Type 0) (source : ℕ) (rest : Rest) (list : List Sample) (ledger : LedgerState) : Type 0 where
+pub record IsAllTold (keeps : Bool) (may_stop may_go : ℕ → ℕ → Type 0) (source : ℕ) (rest : Rest) (list : List Sample) (ledger : LedgerState) : Type 0 where
   pub last : Close
   pub closed : ledger.close ≡ Some last
-  pub samples : ledger.samples ≡ list
+  pub samples : keeps ≡ true → ledger.samples ≡ list
   pub is_told : IsToldUnder may_stop may_go source rest (told list last)
   pub in_order : AreNamesOf (told list last) ledger.told
 
 -- what came out of the ring of a source was well told, and what the sink has of it is a beginning of its rest, at each sample of
 -- which the gate may go; and if all was taken, the ledger is all that was told
-pub record IsSettledAs (may_stop may_go : ℕ → ℕ → Type 0) (source : ℕ) (rest : Rest) (stage : Stage) (list : List Sample) (ledger : LedgerState) : Type 0 where
+pub record IsSettledAs (keeps : Bool) (may_stop may_go : ℕ → ℕ → Type 0) (source : ℕ) (rest : Rest) (stage : Stage) (list : List Sample) (ledger : LedgerState) : Type 0 where
   pub taken_or_dropped : stage ≢ Unnamed
   pub first : IsPrefixOf list rest.samples
   pub goes : GoesBelow may_go source (length list)
-  pub whole : stage ≡ Taking → IsAllTold may_stop may_go source rest list ledger
+  pub whole : stage ≡ Taking → IsAllTold keeps may_stop may_go source rest list ledger
 
 module _ {R G : Type 0} (may_stop may_go : G → ℕ → ℕ → Type 0) (gives : R → Rest → Type 0) where
   -- so for a rest that its reader may give, the same one whatever the sink has
@@ -43,7 +43,7 @@ module _ {R G : Type 0} (may_stop may_go : G → ℕ → ℕ → Type 0) (gives 
       let promise = started.handle.promise in
       let gate = arc_value promise.gate.value in
       GivesSuch (gives promise.reader.value) (λ rest.
-      (list : List Sample) → Tracks started.intake list → IsSettledAs (may_stop gate) (may_go gate) promise.source rest started.intake.stage list ledger)
+      (list : List Sample) → Tracks started.intake list → IsSettledAs started.intake.origin.keeps (may_stop gate) (may_go gate) promise.source rest started.intake.stage list ledger)
 
   pub record AreSettled (all : List (RunningSource R G)) (ledgers : List LedgerState) : Type 0 where
     pub count : length ledgers ≡ length all

@@ -4,6 +4,7 @@ ghost use Rattle.std.specs.Prelude.{◌≤◌, length, IfOk};
 
 mod batches;
 mod fakes;
+mod feeds;
 mod gates;
 mod lists;
 mod mixed_batches;

@@ -40,8 +40,8 @@ loop-reader-preserved g c =
       room = search rules;
       promised = subst (ArePromised (arc_value c.args.gate.now) (c.loop-reader.yielded ++ c.in-Some.reader ∷ [])) (sym (ap (map (λ s. s.handle.promise)) pushed ∙ map-append (λ s. s.handle.promise) all (started ∷ [])))
           (promised_push so_far.promised c.in-Some.reader started.handle.promise (length-map all (λ s. s.handle.promise) ∙ so_far.started) (subst (λ n. IsPromised (arc_value c.args.gate.now) n c.in-Some.reader started.handle.promise) so_far.source c.in_ok-running.ensures.promised));
-      fresh = subst AreFresh (sym (ap (map (λ s. s.intake)) pushed ∙ map-append (λ s. s.intake) all (started ∷ [])))
-          (fresh_push started.intake so_far.fresh (subst (λ n. IsFresh n started.intake) (so_far.source ∙ sym (length-map all (λ s. s.intake) ∙ so_far.started)) c.in_ok-running.ensures.fresh));
+      fresh = subst (AreFresh c.args.keeps) (sym (ap (map (λ s. s.intake)) pushed ∙ map-append (λ s. s.intake) all (started ∷ [])))
+          (fresh_push started.intake so_far.fresh (subst (λ n. IsFresh c.args.keeps n started.intake) (so_far.source ∙ sym (length-map all (λ s. s.intake) ∙ so_far.started)) c.in_ok-running.ensures.fresh));
     }
 
 -- all readers were given

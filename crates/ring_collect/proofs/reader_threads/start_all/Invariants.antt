@@ -13,5 +13,5 @@ invariant-loop-reader g l = record {
   few : length l.fn.readers.items ≤ 64;
   room : length l.fn.readers.items ≤ vec_capacity l.sources;
   promised : ArePromised (arc_value l.gate) l.yielded (map (λ running. running.handle.promise) l.sources.items);
-  fresh : AreFresh (map (λ running. running.intake) l.sources.items);
+  fresh : AreFresh l.keeps (map (λ running. running.intake) l.sources.items);
 }

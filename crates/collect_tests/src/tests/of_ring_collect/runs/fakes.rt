@@ -315,6 +315,38 @@ impl RowSink for Taker {
     }
 }
 
+/// Keeps the source and the weight of each sample that it takes by rows.
+#[derive(Drop)]
+pub struct Weigher {
+    pub taken: NoSink,
+    pub pairs: Vec<(u32, u64)>,
+}
+
+impl Weigher {
+    pub fn new(alloc: Global) -> Weigher {
+        Weigher {
+            taken: NoSink::new(),
+            pairs: Vec::new(alloc),
+        }
+    }
+}
+
+impl RowSink for Weigher {
+    ghost taken = { λ sink. sink.taken };
+
+    fn take_row(
+        &mut self,
+        alloc: Global,
+        source: u32,
+        ledger: &Ledger,
+        row: usize,
+        weight: u64,
+    ) -> Result<(), AllocError> {
+        self.pairs.push((source, weight))?;
+        self.taken.take_row(alloc, source, ledger, row, weight)
+    }
+}
+
 /// Gives a piece at each read. Before, it waits a bounded time until the sink took a sample of each piece before, and counts the pieces
 /// for which that came, but the first.
 #[derive(Drop)]

@@ -11,7 +11,7 @@ returns-clause-tracks c = λ list tracked.
     let old = c.args.self.now in
     let batch = c.in-Ok.popped in
     let records = records_of_all (received old.consumer) in
-    let open_before = subst (λ close. Tracked records close old.ledger old.stage list) c.requires tracked in
+    let open_before = subst (λ close. Tracked old.origin.keeps records close old.ledger old.stage list) c.requires tracked in
     let after = batch_dropped {ledger' = old.ledger} {stage' = c.dropping-self.result} batch c.in-Ok.ensures.ok.2 c.dropping-self.ensures.dropped c.dropping-self.ensures.unnamed.0 open_before in
-    subst (λ records. Tracked records c.note_batch.new.close old.ledger c.dropping-self.result list) (sym (records_of_sent _ _ batch c.in-Ok.ensures.ok.0))
-    (subst (λ close. Tracked (records ++ records_in batch) close old.ledger c.dropping-self.result list) (sym (c.note_batch.ensures ∙ ap (λ close. close_after_batch close batch) c.requires)) after)
+    subst (λ records. Tracked old.origin.keeps records c.note_batch.new.close old.ledger c.dropping-self.result list) (sym (records_of_sent _ _ batch c.in-Ok.ensures.ok.0))
+    (subst (λ close. Tracked old.origin.keeps (records ++ records_in batch) close old.ledger c.dropping-self.result list) (sym (c.note_batch.ensures ∙ ap (λ close. close_after_batch close batch) c.requires)) after)

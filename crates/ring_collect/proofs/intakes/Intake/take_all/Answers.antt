@@ -10,7 +10,7 @@ pub loop-step-init : goal.loop-step-init
 loop-step-init g c =
     let steps : into_iter_items c.into_iter-step-iterator.result ≡ c.popped.inside.steps.items = c.into_iter-step-iterator.ensures.into_iter_gives.0 in
     record {
-      number = refl;
+      origin = refl;
       consumer = refl;
       unclosed = c.requires.unclosed;
       left = record {
@@ -33,10 +33,10 @@ loop-step-preserved g c =
     let left = along_steps c.in-Some.ensures.steps.0 so_far.left in
     let step = c.take_step.ensures in
     record {
-      number = step.number ∙ so_far.number;
+      origin = step.origin ∙ so_far.origin;
       consumer = step.consumer ∙ so_far.consumer;
       unclosed = step.unclosed;
       left = one_came {Holds' = λ front. Brings front was new (g.F.Feed.taken c.args.sink.now) (g.F.Feed.taken c.take_step.new.sink) c.args.order.now.items c.take_step.new.order.items} left step.names step.frames
-          (brings_on was c.loop-step.self new left.front _ so_far.number so_far.unclosed step.dropping left.holds step.brings);
+          (brings_on was c.loop-step.self new left.front _ so_far.origin so_far.unclosed step.dropping left.holds step.brings);
       setting = step.setting ∙ so_far.setting;
     }

@@ -10,7 +10,7 @@ invariant-loop-step g l =
     let taken = g.F.Feed.taken in
     let was = l.fn.self in
     record {
-      number : l.self.number ≡ was.number;
+      origin : l.self.origin ≡ was.origin;
       consumer : l.self.consumer ≡ was.consumer;
       unclosed : l.self.close ≡ None;
       left : StillToCome l.fn.popped (λ front. Brings front was l.self (taken l.fn.sink) (taken l.sink) l.fn.order.items l.order.items)

@@ -7,6 +7,7 @@ returns-in_err-make_rings g c = record {
   size = IfOk-from_err _ _ c.from_residual-in_err-make_rings.ensures.0;
   sources = IfOk-from_err _ _ c.from_residual-in_err-make_rings.ensures.0;
   ledgers = IfOk-from_err _ _ c.from_residual-in_err-make_rings.ensures.0;
+  keeps = IfOk-from_err _ _ c.from_residual-in_err-make_rings.ensures.0;
 }
 
 pub returns-in_err-with_capacity : goal.returns-in_err-with_capacity
@@ -15,6 +16,7 @@ returns-in_err-with_capacity g c = record {
   size = IfOk-from_err _ _ c.from_residual-in_err-with_capacity.ensures.0;
   sources = IfOk-from_err _ _ c.from_residual-in_err-with_capacity.ensures.0;
   ledgers = IfOk-from_err _ _ c.from_residual-in_err-with_capacity.ensures.0;
+  keeps = IfOk-from_err _ _ c.from_residual-in_err-with_capacity.ensures.0;
 }
 
 pub returns-in_err-with_capacity-2 : goal.returns-in_err-with_capacity-2
@@ -23,4 +25,5 @@ returns-in_err-with_capacity-2 g c = record {
   size = IfOk-from_err _ _ c.from_residual-in_err-with_capacity-2.ensures.0;
   sources = IfOk-from_err _ _ c.from_residual-in_err-with_capacity-2.ensures.0;
   ledgers = IfOk-from_err _ _ c.from_residual-in_err-with_capacity-2.ensures.0;
+  keeps = IfOk-from_err _ _ c.from_residual-in_err-with_capacity-2.ensures.0;
 }

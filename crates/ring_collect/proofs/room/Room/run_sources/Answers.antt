@@ -6,8 +6,8 @@ use Rattle.ring_collect.specs.checked.Rounds.{HasGained}
 use Rattle.ring_collect.proofs.RunLemmas.{nothing_gained, still_promised, as_many, unfinishes, gains_allowed, gains_first, rests_of, runs_whole, where_ok}
 use Rattle.ring_collect.proofs.room.Room.run_sources.Goals as goal
 
-gained : (g : _) (c : goal.After-refusal g) → HasGained (g.F.Feed.taken c.args.sink.now) (map (λ running. running.intake) c.drain.new.self.sources.items) (g.F.Feed.taken c.drain.new.sink) c.drain.new.self.order.items c.drain.new.self.refused
-gained g c = c.drain.ensures.gained (g.F.Feed.taken c.args.sink.now) (nothing_gained _ _ _ _ c.new-order.ensures.items c.start_all-started.ensures.fresh)
+gained : (g : _) (c : goal.After-refusal g) → HasGained c.args.self.keeps (g.F.Feed.taken c.args.sink.now) (map (λ running. running.intake) c.drain.new.self.sources.items) (g.F.Feed.taken c.drain.new.sink) c.drain.new.self.order.items c.drain.new.self.refused
+gained g c = c.drain.ensures.gained c.args.self.keeps (g.F.Feed.taken c.args.sink.now) (nothing_gained _ _ _ _ _ c.new-order.ensures.items c.start_all-started.ensures.fresh)
 
 promised : (g : _) (c : goal.After-refusal g) → ArePromised (arc_value c.args.gate.now) c.args.readers.items (map (λ running. running.handle.promise) c.drain.new.self.sources.items)
 promised g c = still_promised c.start_all-started.new.sources.items c.drain.new.self.sources.items c.drain.ensures.handles c.start_all-started.ensures.promised
@@ -39,7 +39,7 @@ returns-in-Some g c = record {
   popped = tt;
   refused = tt;
   unfinished = unfinishes _ c.in-Some.source (still_promised c.start_all-started.new.sources.items c.drain.new.self.sources.items c.drain.ensures.handles c.start_all-started.ensures.promised)
-      (c.drain.ensures.gained (g.F.Feed.taken c.args.sink.now) (nothing_gained _ _ _ _ c.new-order.ensures.items c.start_all-started.ensures.fresh))
+      (c.drain.ensures.gained c.args.self.keeps (g.F.Feed.taken c.args.sink.now) (nothing_gained _ _ _ _ _ c.new-order.ensures.items c.start_all-started.ensures.fresh))
       c.in-Some.ensures.unfinished;
   setting = c.drain.ensures.setting;
 }

@@ -11,7 +11,7 @@ loop-source-preserved g c =
     record {
       count = as_many c.loop-source.self.sources.items after looked.handles ∙ so_far.count;
       handles = looked.handles ∙ so_far.handles;
-      gained = λ start gained. looked.gained start (so_far.gained start gained);
+      gained = λ keeps start gained. looked.gained keeps start (so_far.gained keeps start gained);
       closed = λ closed.
           let both = c.and-round.ensures.closed closed in
           let here = looked.closed both.1 in

@@ -33,9 +33,9 @@ returns-then-ne-2-clause-handles g c =
     ap (λ sources. map (λ running. running.handle) sources.items) c.took.ensures.sources ∙ c.look_at.ensures.handles ∙ c.loop-taken.invariant.handles
 
 pub returns-then-ne-2-clause-gained : goal.returns-then-ne-2-clause-gained
-returns-then-ne-2-clause-gained g c = λ start gained.
+returns-then-ne-2-clause-gained g c = λ keeps start gained.
     gained_alike (ap (λ sources. map (λ running. running.intake) sources.items) c.took.ensures.sources) (ap (λ order. order.items) c.took.ensures.order) c.took.ensures.refused
-    (c.look_at.ensures.gained start (c.loop-taken.invariant.gained start gained))
+    (c.look_at.ensures.gained keeps start (c.loop-taken.invariant.gained keeps start gained))
 
 pub returns-then-ne-2-clause-refused : goal.returns-then-ne-2-clause-refused
 returns-then-ne-2-clause-refused g c = λ goes. c.loop-taken.invariant.refused (c.look_at.ensures.refused (sym c.took.ensures.refused ∙ goes))
@@ -50,7 +50,7 @@ loop-taken-preserved g c =
     record {
       count = as_many c.loop-taken.self.sources.items c.look_at.new.self.sources.items looked.handles ∙ so_far.count;
       handles = looked.handles ∙ so_far.handles;
-      gained = λ start gained. looked.gained start (so_far.gained start gained);
+      gained = λ keeps start gained. looked.gained keeps start (so_far.gained keeps start gained);
       refused = λ goes. so_far.refused (looked.refused goes);
       setting = looked.setting ∙ so_far.setting;
     }
@@ -59,9 +59,9 @@ pub returns-clause-handles : goal.returns-clause-handles
 returns-clause-handles g c = ap (λ sources. map (λ running. running.handle) sources.items) c.took-2.ensures.sources ∙ c.loop-taken.invariant.handles
 
 pub returns-clause-gained : goal.returns-clause-gained
-returns-clause-gained g c = λ start gained.
+returns-clause-gained g c = λ keeps start gained.
     gained_alike (ap (λ sources. map (λ running. running.intake) sources.items) c.took-2.ensures.sources) (ap (λ order. order.items) c.took-2.ensures.order) c.took-2.ensures.refused
-    (c.loop-taken.invariant.gained start gained)
+    (c.loop-taken.invariant.gained keeps start gained)
 
 pub returns-clause-refused : goal.returns-clause-refused
 returns-clause-refused g c = λ goes. c.loop-taken.invariant.refused (sym c.took-2.ensures.refused ∙ goes)

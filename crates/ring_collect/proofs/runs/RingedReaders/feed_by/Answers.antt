@@ -1,0 +1,51 @@
+use Rattle.std.proofs.Common.{sym, subst}
+use Rattle.std.proofs.lemmas.Result.{IfOk-from_err}
+use Rattle.std.specs.Arc.{arc_value}
+use Rattle.ring_collect.specs.Collection.{FeedsRun}
+use Rattle.ring_collect.specs.declared.faults.CollectFault.TheVariants.{Unfinished}
+use Rattle.ring_collect.proofs.CollectionLemmas.{same_fault}
+use Rattle.ring_collect.proofs.Outcomes.{error_said}
+use Rattle.ring_collect.proofs.runs.RingedReaders.feed_by.Goals as goal
+
+pub returns-in_err-run : goal.returns-in_err-run
+returns-in_err-run g c =
+    let given = c.in_err-run.ensures.answer in
+    record {
+      answer = record { rests = given.rests; are_given = given.are_given; holds = same_fault c.in_err-run.field-0.0 c.from_residual.result c.from_residual.ensures.1 given.holds };
+      setting = c.run_by.ensures.setting;
+    }
+
+pub returns-in_err-endings_of : goal.returns-in_err-endings_of
+returns-in_err-endings_of g c =
+    let given = c.in_ok-run.ensures.answer in
+    record {
+      answer = record {
+        rests = given.rests;
+        are_given = given.are_given;
+        holds = record {
+          run = IfOk-from_err _ _ c.from_residual-in_err-endings_of.ensures.0;
+          refused = λ _. given.holds.run.first;
+          popped = λ _. given.holds.run.allowed;
+          unfinished = λ source fault. let other = error_said _ c.from_residual-in_err-endings_of.result (Unfinished source) c.from_residual-in_err-endings_of.ensures.1 fault in cc;
+        };
+      };
+      setting = c.run_by.ensures.setting;
+    }
+
+pub returns : goal.returns
+returns g c =
+    let given = c.in_ok-run.ensures.answer in
+    let gate = arc_value c.args.gate in
+    record {
+      answer = record {
+        rests = given.rests;
+        are_given = given.are_given;
+        holds = record {
+          run = subst (FeedsRun (g.G.Gate.may_stop gate) (g.G.Gate.may_go gate) given.rests (g.F.Feed.taken c.args.sink.now) (g.F.Feed.taken c.run_by.new.sink)) (sym c.in_ok-endings_of.ensures) given.holds.run.fed;
+          refused = λ _. given.holds.run.first;
+          popped = λ _. given.holds.run.allowed;
+          unfinished = λ source fault. cc;
+        };
+      };
+      setting = c.run_by.ensures.setting;
+    }
