@@ -1,6 +1,7 @@
 mod ExitStatuses
 mod GrownFunctions
 mod KnownSources
+mod LiveEndings
 mod LiveSaid
 mod LiveSinks
 mod LiveStreamLemmas

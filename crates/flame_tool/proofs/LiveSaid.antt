@@ -4,10 +4,11 @@ use Rattle.std.specs.Prelude.{◌||◌, if◌then◌else◌, slice_get}
 use Rattle.std.specs.List.{AllZip, list_any}
 use Rattle.std.specs.Result.{IsErrAnd}
 use Rattle.std.proofs.lemmas.List.{length-map}
-use Rattle.std.proofs.lemmas.List.Elements.{All-nil, All-cons}
+use Rattle.std.proofs.lemmas.List.Elements.{All-nil, All-cons, All-map}
 use Rattle.std.proofs.lemmas.Option.{IfSome_then}
 use Rattle.stack_core.specs.Ledgers.{ListState}
 use Rattle.stack_core.specs.Reading.{Rest}
+use Rattle.stack_core.specs.declared.endings.SourceEnd.{SourceEnd}
 use Rattle.folded_lines.specs.Reading.{read_folded}
 use Rattle.folded_lines.specs.StrictReading.{strict_fault}
 use Rattle.folded_lines.specs.StrictStreams.{strict_ending_fault}
@@ -20,11 +21,11 @@ use Rattle.opened_sources.specs.Failures.{IsOpening, failure_of_collect, status_
 use Rattle.opened_sources.specs.Messages.{Tells, message_of_ending, message_of_failure, message_of_strict_fault, said_of_each}
 use Rattle.opened_sources.specs.declared.failures.Failure.{Failure}
 use Rattle.opened_sources.specs.declared.failures.Failure.TheVariants.{TooManyFiles, Unreadable, TooLarge, OutOfMemory, NoThread, Unfinished, Faults, Output}
-use Rattle.opened_sources.proofs.MessageTexts.{tells_more}
+use Rattle.opened_sources.proofs.MessageTexts.{said_of_seen, tells_more}
 use Rattle.flame_tool.specs.LiveRuns.{read_text}
 use Rattle.flame_tool.specs.ToldLive.{IsEarly, IsOfFailure, TellsLiveFailure, TellsSuch, message_of_text, said_of_streams, said_of_texts}
-use Rattle.flame_tool.specs.checked.LiveEnds.{anywhere, is_faulty, is_stopped, status_by, status_of_ends, strict_list_fault}
-use Rattle.flame_tool.specs.checked.LiveSaying.{IsTellableList, SaidFirst, SaidOfEnds, SaidOfLost, SaysEnds, SaysLost, SaysOfLists, message_of_list, said_of_lists}
+use Rattle.flame_tool.specs.checked.LiveEnds.{anywhere, is_faulty, is_stopped, status_by, strict_list_fault}
+use Rattle.flame_tool.specs.checked.LiveSaying.{IsTellableEnd, IsTellableList, SaidFirst, SaidOfEnds, SaidOfLost, SaysEnds, SaysLost, SaysOfLists, end_of, message_of_end, message_of_list, said_of_ends, said_of_lists}
 use Rattle.flame_tool.specs.checked.LiveStreams.{ReadsAs}
 use Rattle.flame_tool.proofs.KnownSources.{neither}
 use Rattle.flame_tool.proofs.LiveTexts.{SeenOf, seen_all}
@@ -123,19 +124,20 @@ never_two true faulty two = omega (arith, two)
 never_two false true two = omega (arith, two)
 never_two false false two = omega (arith, two)
 
-pub not_two : (is_strict : Bool) (lists : List ListState) (status : ℕ) → status ≡ status_of_ends is_strict lists → status ≢ 2
-not_two is_strict lists status is two = never_two (list_any (λ (list : ListState). is_stopped list.ending) lists) (is_faulty is_strict lists) (sym is ∙ two)
+pub not_two : (stopped faulty : Bool) (status : ℕ) → status ≡ status_by stopped faulty → status ≢ 2
+not_two stopped faulty status is two = never_two stopped faulty (sym is ∙ two)
 
 -- ---- what was told of lists that were collected
 
--- where these were told
-pub told_lists : (plan : Plan) (is_lost : Bool) (Says : List ℕ → Type 0) (Ends : List ListState → Type 0) (rests : List Rest) (lists told : List ListState) → Collects anywhere anywhere rests lists → told ≡ lists → Ends lists
-    → (All (IsTellableList plan.is_strict) told → Says (said_of_lists plan is_lost told)) → SaysOfLists plan is_lost Says Ends rests
-told_lists plan is_lost Says Ends rests lists told collected is ended said = record {
+-- where their ends were told
+pub told_ends : (plan : Plan) (is_lost : Bool) (Says : List ℕ → Type 0) (Ends : List ListState → Type 0) (rests : List Rest) (lists : List ListState) (ends : List (SourceEnd × ℕ)) → Collects anywhere anywhere rests lists → ends ≡ map end_of lists → Ends lists
+    → (All (IsTellableEnd plan.is_strict) ends → Says (said_of_ends plan is_lost ends)) → SaysOfLists plan is_lost Says Ends rests
+told_ends plan is_lost Says Ends rests lists ends collected are ended said = record {
   lists = lists;
   collected = collected;
   ended = ended;
-  said = subst (λ (lists : List ListState). All (IsTellableList plan.is_strict) lists → Says (said_of_lists plan is_lost lists)) is said;
+  said = λ tellable. subst Says (ap (said_of_ends plan is_lost) are ∙ said_of_seen (message_of_end plan is_lost) end_of 0 lists)
+      (said (subst (All (IsTellableEnd plan.is_strict)) (sym are) (All-map (IsTellableEnd plan.is_strict) end_of lists tellable)));
 }
 
 -- ---- and of their texts

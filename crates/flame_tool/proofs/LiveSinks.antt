@@ -19,7 +19,7 @@ use Rattle.stack_core.proofs.InterleavingLemmas.{AreOf-IsInterleaving, AreOf-int
 use Rattle.merged_stacks.specs.Timeline.{samples_of}
 use Rattle.command_line.specs.declared.plans.Plan.{Plan}
 use Rattle.command_line.specs.declared.plans.View.TheVariants.{Graph}
-use Rattle.ring_collect.specs.Collection.{AnswersRun, Collects, CollectsRun, GainsFirst, GainsOf, seen_as_rest}
+use Rattle.ring_collect.specs.Collection.{AnswersFeed, Collects, CollectsRun, GainsFirst, GainsOf, seen_as_rest}
 use Rattle.ring_collect.specs.declared.faults.CollectFault.{CollectFault}
 use Rattle.ring_collect.specs.declared.faults.CollectFault.TheVariants as collect
 use Rattle.ring_collect.proofs.RoundLemmas.{slice_get_map}
@@ -241,12 +241,12 @@ text_of_run {form' = form'} {sources = sources} {sources' = sources'} {width = w
 
 -- what is left where collecting failed
 pub collect_failed : (plan : Plan) (width every : ℕ) (is_table : Bool) → plan.view ≡ Graph width → plan.options.every ≡ Some every → (old new : Option (List ℕ)) (count : ℕ) (taken taken' : List (ℕ × Sample))
-    → (rests : List Rest) → count ≡ length rests → taken ≡ [] → (fault : CollectFault) → AnswersRun anywhere anywhere rests taken taken' (Err fault) → AppendsFront (live_lines (form_of is_table every) count width every taken') old new
+    → (rests : List Rest) → count ≡ length rests → taken ≡ [] → (fault : CollectFault) → AnswersFeed anywhere anywhere rests taken taken' (Err fault) → AppendsFront (live_lines (form_of is_table every) count width every taken') old new
     → FailsLive is_table plan old new (failure_of_collect fault) rests
 collect_failed plan width every is_table graph often old new count taken taken' rests count_is none fault answer gained =
-    by fault (subst (λ (taken : List (ℕ × Sample)). AnswersRun anywhere anywhere rests taken taken' (Err fault)) none answer)
+    by fault (subst (λ (taken : List (ℕ × Sample)). AnswersFeed anywhere anywhere rests taken taken' (Err fault)) none answer)
   where
-    by : (fault : CollectFault) → AnswersRun anywhere anywhere rests [] taken' (Err fault) → FailsLive is_table plan old new (failure_of_collect fault) rests
+    by : (fault : CollectFault) → AnswersFeed anywhere anywhere rests [] taken' (Err fault) → FailsLive is_table plan old new (failure_of_collect fault) rests
     by collect.OutOfMemory answer = first_shown plan width every graph often is_table old new count taken' rests count_is (answer.refused (inl refl)) gained
     by collect.NoThread answer = first_shown plan width every graph often is_table old new count taken' rests count_is (answer.refused (inr refl)) gained
     by (collect.Unfinished source) answer = some_shown plan width every graph often is_table old new count taken' rests count_is (answer.unfinished source refl).gains gained

@@ -1,22 +1,22 @@
 //! The graphs of streams, drawn while their samples come.
-ghost use Rattle.std.specs.Prelude.{◌≡◌, ◌≢◌, ◌≤◌, [], All, IfErr, IfOk, IfSome, OnOk, is_some, length, map, string_bytes};
-ghost use Rattle.std.specs.List.{list_any};
+ghost use Rattle.std.specs.Prelude.{◌≡◌, ◌≢◌, ◌≤◌, [], All, IfErr, IfOk, IfSome, OnOk, length, map, string_bytes};
+ghost use Rattle.std.specs.List.{list_any, zip};
 ghost use Rattle.command_line.specs.Plans.{IsOfStreams};
 ghost use Rattle.ring_collect.specs.Collection.{GiveSuch};
-ghost use Rattle.folded_lines.specs.StrictStreams.{IsTellable};
+ghost use Rattle.folded_lines.specs.StrictStreams.{IsTellable, strict_ending_fault};
 ghost use Rattle.opened_sources.specs.Messages.{Tells, message_of_strict_fault};
 ghost use Rattle.stack_core.specs.RowReading.{GivesSome};
-ghost use Rattle.flame_tool.specs.checked.LiveEnds.{EndsLive, FailsLive, form_of, is_faulty, is_stopped, status_of_ends, strict_list_fault};
-ghost use Rattle.flame_tool.specs.checked.LiveSaying.{IsTellableList, SaidFirst, SaysEnds, SaysLost, message_of_list, said_of_lists};
+ghost use Rattle.flame_tool.specs.checked.LiveEnds.{EndsLive, FailsLive, form_of, is_faulty_end, is_stopped, status_by_ends};
+ghost use Rattle.flame_tool.specs.checked.LiveSaying.{IsTellableEnd, SaidFirst, SaysEnds, SaysLost, message_of_end, said_of_ends};
 
 use crate::hosts::Host;
 use byte_io::Outlet;
 use command_line::{Plan, View};
-use folded_lines::{StrictFault, strict_ending_fault};
+use folded_lines::strict_ending_fault;
 use live_lines::{LiveForm, LiveGate, LiveMerge, LiveSink};
-use opened_sources::{Failure, any_fault, report_ending, report_failure, report_strict_fault};
-use ring_collect::collect_rows;
-use stack_core::{RowReader, SourceEnd, SourceList};
+use opened_sources::{Failure, report_ending, report_failure, report_strict_fault};
+use ring_collect::feed_rows;
+use stack_core::{RowReader, SourceEnd};
 use std::alloc::{AllocError, Global};
 use std::sync::{Arc, Wait};
 use std::thread::Threads;
@@ -69,18 +69,19 @@ pub(crate) fn send_graphs<
         merge,
     } = live_parts(alloc, form_of(is_table, every), readers.len())?;
     let mut sink = LiveSink::new(merge, every, width, closed_by, out);
-    let collected = collect_rows(rt, alloc, readers, plan.options.ring, gate, &mut sink);
-    let LiveSink { lines, out } = sink;
-    let run = collected?;
+    let fed = feed_rows(rt, alloc, readers, plan.options.ring, gate, &mut sink);
+    let LiveSink { mut lines, out } = sink;
+    let endings = fed?;
     if let Some(fault) = lines.failure {
-        report_ends(err, plan, &run.lists, true);
+        report_ends(err, plan, &endings, lines.merge.counts(), true);
         return Err(Failure::Output(fault));
     }
     let finished = lines.finish(alloc, out);
+    let counts = lines.merge.counts();
     // Behind the last table, which takes the place of what stands on a terminal.
-    report_ends(err, plan, &run.lists, false);
+    report_ends(err, plan, &endings, counts, false);
     finished?;
-    Ok(status_of_ends(&run.lists, plan.is_strict))
+    Ok(status_of_ends(&endings, counts, plan.is_strict))
 }
 
 // What a live run needs before a sample comes.
@@ -117,95 +118,103 @@ fn form_of(is_table: bool, every: u64) -> LiveForm
 
 // Says of each source, in order, how it ended, where there is something to say. Unless the output failed before, which stopped the
 // sources, a read failed where one is stopped.
-fn report_ends<E: Outlet>(err: &mut E, plan: &Plan, lists: &[SourceList], is_lost: bool)
-    ensures told { All (IsTellableList plan.now.is_strict) lists.now
-        → Tells (said_of_lists plan.now is_lost lists.now)
+fn report_ends<E: Outlet>(
+    err: &mut E,
+    plan: &Plan,
+    endings: &[SourceEnd],
+    counts: &[u64],
+    is_lost: bool,
+)
+    requires { length counts.now ≡ length endings.now }
+    ensures told { All (IsTellableEnd plan.now.is_strict) (zip endings.now counts.now)
+        → Tells (said_of_ends plan.now is_lost (zip endings.now counts.now))
         (E.contents err.old) (E.contents err.new) (E.failures err.old) (E.failures err.new) }
 {
     let mut source = 0;
-    while source < lists.len() {
-        report_end(err, plan, source, &lists[source], is_lost);
+    while source < endings.len() {
+        report_end(err, plan, source, &endings[source], counts[source], is_lost);
         source += 1;
     }
 }
 
-// The same of one source.
-fn report_end<E: Outlet>(err: &mut E, plan: &Plan, source: usize, list: &SourceList, is_lost: bool)
-    ensures told { IsTellableList plan.now.is_strict list.now
-        → Tells (message_of_list plan.now is_lost source list.now)
+// The same of one source, with how many samples came of it.
+fn report_end<E: Outlet>(
+    err: &mut E,
+    plan: &Plan,
+    source: usize,
+    ending: &SourceEnd,
+    count: u64,
+    is_lost: bool,
+)
+    ensures told { IsTellableEnd plan.now.is_strict (ending.now, count)
+        → Tells (message_of_end plan.now is_lost source (ending.now, count))
         (E.contents err.old) (E.contents err.new) (E.failures err.old) (E.failures err.new) }
 {
     let files = plan.files.get();
-    if is_stopped(list.ending()) {
+    if is_stopped(ending) {
         if !is_lost {
             report_failure(err, files, Failure::Unreadable { source });
         }
     } else if plan.is_strict {
-        report_strict_end(err, files, source, list);
+        report_strict_end(err, files, source, ending, count);
     } else {
-        report_ending(err, files, source, list.ending());
+        report_ending(err, files, source, ending);
     }
 }
 
 // Says what is wrong with a source that was read strictly, if anything is.
-fn report_strict_end<E: Outlet>(err: &mut E, files: &[String], source: usize, list: &SourceList)
-    ensures told { IsTellable (length list.now.samples) list.now.ending
-        → Tells (message_of_strict_fault (map string_bytes files.now) source (strict_list_fault list.now))
+fn report_strict_end<E: Outlet>(
+    err: &mut E,
+    files: &[String],
+    source: usize,
+    ending: &SourceEnd,
+    count: u64,
+)
+    ensures told { IsTellable count ending.now
+        → Tells (message_of_strict_fault (map string_bytes files.now) source (strict_ending_fault count ending.now))
         (E.contents err.old) (E.contents err.new) (E.failures err.old) (E.failures err.new) }
 {
-    if let Some(fault) = strict_list_fault(list) {
+    if let Some(fault) = strict_ending_fault(count, ending) {
         report_strict_fault(err, files, source, &fault);
     }
 }
 
-fn status_of_ends(lists: &[SourceList], is_strict: bool) -> u8
-    ensures { result ≡ status_of_ends is_strict lists.now }
+fn status_of_ends(endings: &[SourceEnd], counts: &[u64], is_strict: bool) -> u8
+    ensures { result ≡ status_by_ends is_strict endings.now counts.now }
 {
-    if any_stopped(lists) {
+    if any_stopped(endings) {
         3
-    } else if is_faulty(lists, is_strict) {
+    } else if any_faulty(endings, counts, is_strict) {
         1
     } else {
         0
     }
 }
 
-// Whether a source has a fault, as they were read.
-fn is_faulty(lists: &[SourceList], is_strict: bool) -> bool
-    ensures { result ≡ is_faulty is_strict lists.now }
+fn any_faulty(endings: &[SourceEnd], counts: &[u64], is_strict: bool) -> bool
+    ensures { result ≡ list_any (λ end. is_faulty_end is_strict end) (zip endings.now counts.now) }
+{
+    endings
+        .iter()
+        .zip(counts)
+        .any(|(ending, count)| is_faulty(ending, *count, is_strict))
+}
+
+// Whether a source has a fault, as it was read.
+fn is_faulty(ending: &SourceEnd, count: u64, is_strict: bool) -> bool
+    ensures { result ≡ is_faulty_end is_strict (ending.now, count) }
 {
     if is_strict {
-        any_strict_fault(lists)
+        strict_ending_fault(count, ending).is_some()
     } else {
-        any_fault(lists)
+        matches!(ending, SourceEnd::Fault(_))
     }
 }
 
-fn any_strict_fault(lists: &[SourceList]) -> bool
-    ensures { result ≡ list_any (λ list. is_some (strict_list_fault list)) lists.now }
+fn any_stopped(endings: &[SourceEnd]) -> bool
+    ensures { result ≡ list_any is_stopped endings.now }
 {
-    lists.iter().any(|list| has_strict_fault(list))
-}
-
-fn has_strict_fault(list: &SourceList) -> bool
-    ensures { result ≡ is_some (strict_list_fault list.now) }
-{
-    strict_list_fault(list).is_some()
-}
-
-// What is wrong with a source that was read strictly.
-fn strict_list_fault(list: &SourceList) -> Option<StrictFault>
-    ensures some { is_some result ≡ is_some (strict_list_fault list.now) }
-    ensures fault { IsTellable (length list.now.samples) list.now.ending
-        → result ≡ strict_list_fault list.now }
-{
-    strict_ending_fault(list.len() as u64, list.ending())
-}
-
-fn any_stopped(lists: &[SourceList]) -> bool
-    ensures { result ≡ list_any (λ list. is_stopped list.ending) lists.now }
-{
-    lists.iter().any(|list| is_stopped(list.ending()))
+    endings.iter().any(|ending| is_stopped(ending))
 }
 
 fn is_stopped(ending: &SourceEnd) -> bool

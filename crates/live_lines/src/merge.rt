@@ -4,7 +4,7 @@ ghost use Rattle.std.specs.Prelude.{◌≡◌, ◌≢◌, ◌<◌, ◌+◌, ◌^
 ghost use Rattle.std.specs.Io.KnownBytes.{Appends};
 ghost use Rattle.byte_io.specs.Calls.{one_more};
 ghost use Rattle.byte_io.specs.Pieces.{AppendsFront};
-ghost use Rattle.live_lines.specs.Lines.{line_now};
+ghost use Rattle.live_lines.specs.Lines.{line_now, live_counts};
 ghost use Rattle.live_lines.specs.declared.kept.LiveForm.TheVariants.{Lines};
 
 use crate::kept::{Kept, LiveForm};
@@ -77,6 +77,13 @@ impl LiveMerge {
         ensures { result ≡ length self.now.taken }
     {
         self.at
+    }
+
+    /// How many samples of each source were taken.
+    pub fn counts(&self) -> &[u64]
+        ensures { result.now ≡ live_counts self.now.sources self.now.taken (length self.now.taken) }
+    {
+        &self.counts
     }
 
     /// Sends the line of what was taken, or what stands in its place, and flushes.

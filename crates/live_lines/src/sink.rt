@@ -102,33 +102,36 @@ impl<'a, W: Outlet> LiveSink<'a, W> {
 impl<W: Outlet> LiveLines<W> {
     /// Sends the line of the graph of all samples that came, and flushes. Where a line before was not sent whole it sends nothing, and
     /// answers why. It is called with the lines and the outlet of a sink that was taken apart: what the sink keeps of them is required.
-    pub fn finish(mut self, alloc: Global, out: &mut W) -> Result<(), PieceFault>
-        requires whole { GrewByText self.failure
-            (live_lines self.merge.form self.merge.sources self.width self.every self.merge.taken)
-            (W.contents self.start.value) (W.contents out.old) }
+    pub fn finish(&mut self, alloc: Global, out: &mut W) -> Result<(), PieceFault>
+        requires whole { GrewByText self.old.failure
+            (live_lines self.old.merge.form self.old.merge.sources self.old.width self.old.every self.old.merge.taken)
+            (W.contents self.old.start.value) (W.contents out.old) }
         requires front { GrewByFront
-            (live_lines self.merge.form self.merge.sources self.width self.every self.merge.taken)
-            (W.contents self.start.value) (W.contents out.old) }
+            (live_lines self.old.merge.form self.old.merge.sources self.old.width self.old.every self.old.merge.taken)
+            (W.contents self.old.start.value) (W.contents out.old) }
         requires counted { W.failures out.old
-            ≡ failures_after (W.failures self.start.value) self.failure }
+            ≡ failures_after (W.failures self.old.start.value) self.old.failure }
+
+        // What was taken stays.
+        ensures same { self.new ≡ self.old }
 
         // Since the sink was made the outlet gained the lines of all snapshots, and then that of the graph.
-        ensures ok { OnOk result (Appends (W.contents self.start.value) (W.contents out.new)
-            (live_text self.merge.form self.merge.sources self.width self.every self.merge.taken)) }
+        ensures ok { OnOk result (Appends (W.contents self.old.start.value) (W.contents out.new)
+            (live_text self.old.merge.form self.old.merge.sources self.old.width self.old.every self.old.merge.taken)) }
         ensures flushed { OnOk result (W.is_flushed out.new) }
         ensures front { OnErr result (AppendsFront
-            (live_text self.merge.form self.merge.sources self.width self.every self.merge.taken)
-            (W.contents self.start.value) (W.contents out.new)) }
+            (live_text self.old.merge.form self.old.merge.sources self.old.width self.old.every self.old.merge.taken)
+            (W.contents self.old.start.value) (W.contents out.new)) }
         ensures output { IsErrOf result PieceFault.Output
-            → W.failures out.new ≡ one_more (W.failures self.start.value) }
+            → W.failures out.new ≡ one_more (W.failures self.old.start.value) }
         ensures unfailed { result ≢ Err PieceFault.Output
-            → W.failures out.new ≡ W.failures self.start.value }
+            → W.failures out.new ≡ W.failures self.old.start.value }
 
         // That is the text of the graph of the lists of which it took the samples, in their order.
         ensures graph { (lists : List (List TakenSample)) (order : List ℕ) → IsInterleaving order lists
-            → length lists ≡ self.merge.sources → self.merge.taken ≡ interleaved order lists
-            → live_text Lines self.merge.sources self.width self.every self.merge.taken
-            ≡ graph_text self.width lists order (Some self.every) }
+            → length lists ≡ self.old.merge.sources → self.old.merge.taken ≡ interleaved order lists
+            → live_text Lines self.old.merge.sources self.old.width self.old.every self.old.merge.taken
+            ≡ graph_text self.old.width lists order (Some self.old.every) }
     {
         if let Some(fault) = self.failure {
             return Err(fault);

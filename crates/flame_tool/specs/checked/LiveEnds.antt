@@ -1,6 +1,6 @@
 -- How a live run of readers ended, by the rests that these may give.
 use Rattle.std.specs.Prelude.{◌≡◌, ◌⊎◌, ℕ, Bool, true, false, List, Option, Result, Ok, Err, if◌then◌else◌, is_some, length}
-use Rattle.std.specs.List.{list_any}
+use Rattle.std.specs.List.{list_any, zip}
 use Rattle.std.specs.Io.KnownBytes.{Appends}
 use Rattle.stack_core.specs.Interleaving.{IsInterleaving}
 use Rattle.stack_core.specs.Ledgers.{ListState}
@@ -12,7 +12,7 @@ use Rattle.folded_lines.specs.declared.strictness.StrictFault.{StrictFault}
 use Rattle.merged_stacks.specs.Timeline.{samples_of}
 use Rattle.command_line.specs.declared.plans.Plan.{Plan}
 use Rattle.ring_collect.specs.Collection.{Collects}
-use Rattle.opened_sources.specs.Failures.{has_fault, status_of}
+use Rattle.opened_sources.specs.Failures.{ends_in_fault, has_fault, status_of}
 use Rattle.opened_sources.specs.declared.failures.Failure.{Failure}
 use Rattle.opened_sources.specs.declared.failures.Failure.TheVariants.{TooManyFiles, Unreadable, TooLarge, OutOfMemory, NoThread, Unfinished, Faults, Output}
 use Rattle.live_lines.specs.declared.kept.LiveForm.{LiveForm}
@@ -36,6 +36,14 @@ strict_list_fault list = strict_ending_fault (length list.samples) list.ending
 -- a source has a fault, as they are read
 abbrev pub is_faulty : Bool → List ListState → Bool
 is_faulty is_strict lists = if is_strict then list_any (λ list. is_some (strict_list_fault list)) lists else has_fault lists
+
+-- a source that ended so, of which so many samples came, has one, as it is read
+abbrev pub is_faulty_end : Bool → SourceEnd × ℕ → Bool
+is_faulty_end is_strict end = if is_strict then is_some (strict_ending_fault end.1 end.0) else ends_in_fault end.0
+
+-- the exit status by how sources ended, and by how many samples came of each
+abbrev pub status_by_ends : Bool → List SourceEnd → List ℕ → ℕ
+status_by_ends is_strict endings counts = status_by (list_any is_stopped endings) (list_any (is_faulty_end is_strict) (zip endings counts))
 
 abbrev pub status_of_ends : Bool → List ListState → ℕ
 status_of_ends is_strict lists = status_by (list_any (λ list. is_stopped list.ending) lists) (is_faulty is_strict lists)

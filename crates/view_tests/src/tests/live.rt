@@ -86,7 +86,10 @@ fn written(alloc: Global, views: &Views, every: u64) -> Result<Vec<u8>, AllocErr
     let mut out = CountedWriter::new(Vec::new(alloc));
     let mut sink = LiveSink::new(merge, every, width, gate, &mut out);
     feed(alloc, views, &mut sink)?;
-    let LiveSink { lines, out: outlet } = sink;
+    let LiveSink {
+        mut lines,
+        out: outlet,
+    } = sink;
     lines.finish(alloc, outlet).map_err(|_fault| AllocError)?;
     Ok(out.into_inner())
 }

@@ -1,15 +1,16 @@
 -- What there is to say of the sources so far was told.
 use Rattle.std.proofs.Common.{◌≤◌, ◌-◌, All, length, take}
-use Rattle.opened_sources.specs.Messages.{Tells, said_of_each}
-use Rattle.flame_tool.specs.checked.LiveSaying.{IsTellableList, message_of_list}
+use Rattle.std.specs.List.{zip}
+use Rattle.opened_sources.specs.Messages.{Tells}
+use Rattle.flame_tool.specs.checked.LiveSaying.{IsTellableEnd, said_of_ends}
 use Rattle.flame_tool.proofs.live_graphs.report_ends.Given as goal
 
 abbrev pub invariant-loop-source : goal.invariant-loop-source
 invariant-loop-source g l = record {
-  within : l.source ≤ length l.lists;
-  told : All (IsTellableList l.plan.is_strict) l.lists → Tells (said_of_each (message_of_list l.plan l.is_lost) 0 (take l.source l.lists)) (g.E.Outlet.contents l.fn.err) (g.E.Outlet.contents l.err)
+  within : l.source ≤ length l.endings;
+  told : All (IsTellableEnd l.plan.is_strict) (zip l.endings l.counts) → Tells (said_of_ends l.plan l.is_lost (take l.source (zip l.endings l.counts))) (g.E.Outlet.contents l.fn.err) (g.E.Outlet.contents l.err)
       (g.E.Outlet.failures l.fn.err) (g.E.Outlet.failures l.err);
 }
 
 abbrev pub decreases-loop-source : goal.decreases-loop-source
-decreases-loop-source g l = length l.lists - l.source
+decreases-loop-source g l = length l.endings - l.source
