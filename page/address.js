@@ -18,6 +18,8 @@ import { boxAt, isCaller, isTimeline, pathOf, timeOf } from './drawing.js';
 /** @typedef {Map<string, string>} Words */
 
 const LONGEST_PATH = 4000;
+// In a page that grows a number will be that of another box or name. Browsers take addresses of 2 MB.
+const LONGEST_GROWING_PATH = 400000;
 const WIDEST_LISTS = 10000;
 
 /** @type {(text: string) => string} */
@@ -35,6 +37,11 @@ function encoded(text) {
     return encodeURIComponent(new TextDecoder('utf-8', { ignoreBOM: true }).decode(new TextEncoder().encode(text)));
 }
 
+/** @type {(page: Page) => number} */
+function longestPath(page) {
+    return page.hasMore ? LONGEST_GROWING_PATH : LONGEST_PATH;
+}
+
 // The part of the fragment that names the zoomed box: its path, up from a function or down, and in a chart its start too; a very long path by the
 // box's number.
 /** @type {(page: Page, drawing: Drawing, state: State) => string[]} */
@@ -44,22 +51,24 @@ function zoomWords(page, drawing, state) {
     if (state.box === 0) return [];
     const path = pathOf(page, drawing, state.box);
     const length = path.reduce((sum, name) => sum + name.length, 0);
-    const zoom = length > LONGEST_PATH ? '' : path.map(encoded).join('/');
-    if (length > LONGEST_PATH || zoom.length > 3 * LONGEST_PATH) return [`box=${state.box}`];
+    const longest = longestPath(page);
+    const zoom = length > longest ? '' : path.map(encoded).join('/');
+    if (length > longest || zoom.length > 3 * longest) return [`box=${state.box}`];
     if (isCaller(drawing, state.box)) return [`up=${zoom}`];
     return isTimeline(page, drawing) ? [`zoom=${zoom}`, `start=${timeOf(drawing, state.box)}`] : [`zoom=${zoom}`];
 }
 
 // The part of the fragment that names the function whose callers are looked at; a very long name by its number.
-/** @type {(text: string, name: number) => string} */
-function callersWord(text, name) {
-    return text.length > LONGEST_PATH ? `function=${name}` : `callers=${encoded(text)}`;
+/** @type {(page: Page, name: number) => string} */
+function callersWord(page, name) {
+    const text = page.names[name];
+    return text.length > longestPath(page) ? `function=${name}` : `callers=${encoded(text)}`;
 }
 
 /** @type {(page: Page, state: State) => string} */
 export function fragmentOf(page, state) {
     const words = zoomWords(page, page.arranged(state), state);
-    if (state.callers >= 0) words.unshift(callersWord(page.names[state.callers], state.callers));
+    if (state.callers >= 0) words.unshift(callersWord(page, state.callers));
     if (state.find !== '') words.push(`find=${encoded(state.find)}`);
     if (state.find !== '' && state.by !== 'text') words.push(`by=${state.by}`);
     if (state.order !== 'place') words.push(`order=${state.order}`);

@@ -28,6 +28,7 @@ import { commonUnit, weighty } from './units.js';
  * @property {boolean} isFiltered
  * @property {boolean} isBelow whether it opens with the root below
  * @property {boolean} isShare whether it opens by shares
+ * @property {boolean} hasMore whether a page with more samples is to take its place
  * @property {number} drawingCount
  * @property {(number: number) => Drawing} drawing
  * @property {(choice: Choice) => Drawing} arranged the drawing that is chosen, as it is chosen
@@ -88,6 +89,8 @@ export function pageOf(data) {
         sources.push({ ...source, start });
         start += source.weight;
     }
+    // A page of `live` tells no sources, and no filter was there.
+    const kept = sources.length > 0 ? start : data.whole;
     const drawing = drawingsOf(data.drawings);
     return {
         view: data.view,
@@ -96,11 +99,12 @@ export function pageOf(data) {
         sources,
         unit: commonUnit(sources),
         whole: data.whole,
-        kept: start,
+        kept,
         // Sums above 2^53 are rounded, and a rounded sum is no filter's doing.
-        isFiltered: data.whole > start + data.whole * 2 ** -50,
+        isFiltered: data.whole > kept + data.whole * 2 ** -50,
         isBelow: data.root_below === true,
         isShare: data.share === true,
+        hasMore: data.more === true,
         drawingCount: data.drawings.length,
         drawing,
         arranged: arranging(drawing, sources, data.view === 'compare', data.names.length),

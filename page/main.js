@@ -3,6 +3,7 @@
 import { pageOf } from './data.js';
 import { afterPaint, element, inside } from './elements.js';
 import { GoneList } from './gone.js';
+import { loadAgainSoon } from './growing.js';
 import { listen } from './listening.js';
 import { Viewer } from './viewer.js';
 
@@ -18,6 +19,7 @@ function show(page) {
         new GoneList(page, (box) => viewer.showBefore(box), viewer.pointAt);
     }
     listen(viewer);
+    if (page.hasMore) afterPaint(loadAgainSoon);
 }
 
 function openPage() {

@@ -12,7 +12,8 @@ import { changeText, percentText, separated, weightText, weighty } from './units
 // What stands at the top: how much there is, and of what.
 /** @type {(page: Page, drawing: Drawing) => string} */
 export function summaryText(page, drawing) {
-    const files = page.sources.length === 1 ? '1 source' : `${page.sources.length} sources`;
+    const count = page.sources.length;
+    const files = count === 0 ? '' : ` of ${count === 1 ? '1 source' : `${count} sources`}`;
     const types = [...new Set(weighty(page.sources).map((source) => source.type))];
     const type = types.length === 1 && types[0] !== '' ? ` of ${visible(types[0])}` : '';
     const boxes = `${separated(drawing.count)} ${drawing.count === 1 ? 'box' : 'boxes'}`;
@@ -22,7 +23,7 @@ export function summaryText(page, drawing) {
         return `Comparison: ${weights}, ${changeText(before, after)}; ${boxes}`;
     }
     const kind = page.view === 'graph' ? 'Flame graph' : 'Flame chart';
-    return `${kind} of ${files}: ${weightText(drawing.total, page.unit)}${type}, ${boxes}`;
+    return `${kind}${files}: ${weightText(drawing.total, page.unit)}${type}, ${boxes}`;
 }
 
 /** @type {(source: Source, tell: (weight: number, unit: string) => string) => string} */
@@ -71,7 +72,7 @@ function leftOutNotices(page, drawing) {
 // What has to be said before anyone looks at the picture.
 /** @type {(page: Page, drawing: Drawing) => string[]} */
 export function noticesOf(page, drawing) {
-    const notices = [];
+    const notices = page.hasMore ? ['More samples are to come: this page loads itself again.'] : [];
     if (page.unit === null) notices.push(unitsNotice(page));
     else if (new Set(weighty(page.sources).map((source) => source.type)).size > 1) notices.push(typesNotice(page));
     if (page.isFiltered) notices.push(filterNotice(page));

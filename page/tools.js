@@ -22,7 +22,7 @@ export function showTop(page, drawing, say) {
     element('summary').textContent = summaryText(page, drawing);
     showItems(element('notices'), noticesOf(page, drawing));
     element('matched').classList.toggle('filtered', page.isFiltered);
-    element('sources').hidden = page.sources.length === 1;
+    element('sources').hidden = page.sources.length < 2;
     const sources = inside(element('sources'), 'ul');
     showItems(sources, page.sources.map((source) => sourceText(source, weightText)));
     for (const [number, item] of [...sources.querySelectorAll('li')].entries()) {

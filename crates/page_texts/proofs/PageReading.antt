@@ -4,7 +4,7 @@ use Rattle.std.proofs.lemmas.List.Sums.{prefix_len-le-length}
 use Rattle.std.proofs.Math.Nat.{mod-lt}
 use Rattle.std.specs.List.{AllByRecursion}
 use Rattle.std.specs.List.Sorted.{IsStrictlySortedBy}
-use Rattle.serde_json.specs.Data.{Data, string, Members, depth, members_depth}
+use Rattle.serde_json.specs.Data.{Data, string, Members, member, depth, members_depth}
 use Rattle.serde_json.specs.Read.{read, max_depth}
 use Rattle.view_texts.specs.JsonLaws.{HasRisingKeys}
 use Rattle.view_texts.proofs.JsonReading.{HasWholeNumbers, MembersHaveWholeNumbers, HasNumbers-outline, text_reads_back}
@@ -114,32 +114,56 @@ rising_source : (source : PageSource) → HasRisingKeys (source_data source)
 unfolding IsStrictlySortedBy
 rising_source source = search rules
 
-abbrev page_with : List PageDrawing → List PageSource → List ℕ → List ℕ → ℕ → Bool → Bool → Page
-page_with drawings sources title view whole is_below is_share =
-    record { drawings = drawings; sources = sources; title = title; view = view; whole = whole; is_root_below = is_below; is_share = is_share }
+abbrev page_with : List PageDrawing → List PageSource → List ℕ → List ℕ → ℕ → Bool → Bool → Bool → Page
+page_with drawings sources title view whole is_below is_share has_more =
+    record { drawings = drawings; sources = sources; title = title; view = view; whole = whole; is_root_below = is_below; is_share = is_share; has_more = has_more }
 
 module _ (all : List PageDrawing) (files : List PageSource) (title view : List ℕ) (whole : ℕ) where
-  rising_page_with : (is_below is_share : Bool) → HasRisingKeys (page_value (page_with all files title view whole is_below is_share))
+  rising_page_with : (is_below is_share has_more : Bool) → HasRisingKeys (page_value (page_with all files title view whole is_below is_share has_more))
   unfolding IsStrictlySortedBy
-  rising_page_with false false =
+  rising_page_with false false false =
       let names = page_names all in
       let drawings = rising_items (drawing_data names) (rising_drawing names) all in
       let texts = rising_items string (λ name. tt) names in
       let sources = rising_items source_data rising_source files in
       search (rules, drawings, texts, sources)
-  rising_page_with false true =
+  rising_page_with false false true =
       let names = page_names all in
       let drawings = rising_items (drawing_data names) (rising_drawing names) all in
       let texts = rising_items string (λ name. tt) names in
       let sources = rising_items source_data rising_source files in
       search (rules, drawings, texts, sources)
-  rising_page_with true false =
+  rising_page_with false true false =
       let names = page_names all in
       let drawings = rising_items (drawing_data names) (rising_drawing names) all in
       let texts = rising_items string (λ name. tt) names in
       let sources = rising_items source_data rising_source files in
       search (rules, drawings, texts, sources)
-  rising_page_with true true =
+  rising_page_with false true true =
+      let names = page_names all in
+      let drawings = rising_items (drawing_data names) (rising_drawing names) all in
+      let texts = rising_items string (λ name. tt) names in
+      let sources = rising_items source_data rising_source files in
+      search (rules, drawings, texts, sources)
+  rising_page_with true false false =
+      let names = page_names all in
+      let drawings = rising_items (drawing_data names) (rising_drawing names) all in
+      let texts = rising_items string (λ name. tt) names in
+      let sources = rising_items source_data rising_source files in
+      search (rules, drawings, texts, sources)
+  rising_page_with true false true =
+      let names = page_names all in
+      let drawings = rising_items (drawing_data names) (rising_drawing names) all in
+      let texts = rising_items string (λ name. tt) names in
+      let sources = rising_items source_data rising_source files in
+      search (rules, drawings, texts, sources)
+  rising_page_with true true false =
+      let names = page_names all in
+      let drawings = rising_items (drawing_data names) (rising_drawing names) all in
+      let texts = rising_items string (λ name. tt) names in
+      let sources = rising_items source_data rising_source files in
+      search (rules, drawings, texts, sources)
+  rising_page_with true true true =
       let names = page_names all in
       let drawings = rising_items (drawing_data names) (rising_drawing names) all in
       let texts = rising_items string (λ name. tt) names in
@@ -147,7 +171,7 @@ module _ (all : List PageDrawing) (files : List PageSource) (title view : List �
       search (rules, drawings, texts, sources)
 
 pub rising_page : (page : Page) → HasRisingKeys (page_value page)
-rising_page page = rising_page_with page.drawings page.sources page.title page.view page.whole page.is_root_below page.is_share
+rising_page page = rising_page_with page.drawings page.sources page.title page.view page.whole page.is_root_below page.is_share page.has_more
 
 -- ---- depths
 
@@ -182,14 +206,19 @@ shallow_opening is_below is_share later h = shallow_if is_below (codes "root_bel
 shallow_later : (sources : List PageSource) (title view : List ℕ) (whole : ℕ) → members_depth (later_members sources title view whole) ≤ 2
 shallow_later sources title view whole = omega (arith, items_depth-le source_data 1 (λ source. omega arith) sources)
 
+shallow_names : (names : List (List ℕ)) (later : Members) → members_depth later ≤ 2 → members_depth (member (codes "names") (list_data (map string names)) later) ≤ 2
+shallow_names names later h = omega (arith, h, items_depth-le string 0 (λ name. omega arith) names)
+
 shallow_page : (page : Page) → depth (page_value page) ≤ max_depth
 shallow_page page =
     let names = page_names page.drawings in
+    let later = later_members page.sources page.title page.view page.whole in
+    let opening = opening_members page.is_root_below page.is_share later in
+    let named = shallow_names names opening (shallow_opening page.is_root_below page.is_share later (shallow_later page.sources page.title page.view page.whole)) in
     omega (
       arith,
       items_depth-le (drawing_data names) 2 (shallow_drawing names) page.drawings,
-      items_depth-le string 0 (λ name. omega arith) names,
-      shallow_opening page.is_root_below page.is_share (later_members page.sources page.title page.view page.whole) (shallow_later page.sources page.title page.view page.whole),
+      shallow_if page.has_more (codes "more") (member (codes "names") (list_data (map string names)) opening) named,
     )
 
 -- ---- numbers
@@ -224,7 +253,8 @@ whole_page page h =
     let texts = whole_items string names (every_text names) in
     let sources = whole_items source_data page.sources (each_of (λ source. source.weight < 2 ^ 64) (λ source. HasWholeNumbers (source_data source)) page.sources (λ source small. (tt, (tt, (tt, (small, tt))))) h.sources) in
     let later = later_members page.sources page.title page.view page.whole in
-    (drawings, (texts, whole_if page.is_root_below (codes "root_below") (member_if page.is_share (codes "share") later) (whole_if page.is_share (codes "share") later (sources, (tt, (tt, (h.whole, tt)))))))
+    let opening = whole_if page.is_root_below (codes "root_below") (member_if page.is_share (codes "share") later) (whole_if page.is_share (codes "share") later (sources, (tt, (tt, (h.whole, tt))))) in
+    (drawings, whole_if page.has_more (codes "more") (member (codes "names") (list_data (map string names)) (opening_members page.is_root_below page.is_share later)) (texts, opening))
   where
     whole_if : (is_said : Bool) (key : List ℕ) (later : Members) → MembersHaveWholeNumbers later → MembersHaveWholeNumbers (member_if is_said key later)
     whole_if true key later more = (tt, more)

@@ -4,11 +4,11 @@ use Rattle.std.specs.List.{flat_map}
 use Rattle.json.specs.Print.{escape_byte, quoted}
 use Rattle.serde_json.specs.Data.{Data, string, object, member, no_members}
 use Rattle.stack_core.specs.NamesInOrder.{with_name, with_stack}
-use Rattle.page_texts.specs.Page.{PageDrawing, PageSource, Page, page_text, page_value, kept_names, opening_members, page_names, whole_number, list_data, drawing_data, source_data}
+use Rattle.page_texts.specs.Page.{PageDrawing, PageSource, Page, page_text, page_value, kept_names, member_if, opening_members, page_names, whole_number, list_data, drawing_data, source_data}
 use Rattle.page_texts.specs.ScriptSafe.{script_safe}
 use Rattle.page_texts.specs.Drawn.{source_of}
 use Rattle.page_texts.specs.declared.pages.Source.{Source}
-use Rattle.page_texts.specs.checked.Kept.{number_text, opening_text}
+use Rattle.page_texts.specs.checked.Kept.{number_text, opening_text, text_if}
 use Rattle.page_texts.specs.checked.SafeText.{safe_text}
 use Rattle.page_texts.proofs.SafeText.{safe-value}
 use Rattle.page_texts.proofs.Names.{grown}
@@ -53,12 +53,12 @@ list_end o key values items out1 out2 out3 e1 e2 e3 i = let parts = list_end_par
 
 -- ---- the whole
 
-nine : (o a b c d e f g h k : List ℕ) → ((((((((o ++ a) ++ b) ++ c) ++ d) ++ e) ++ f) ++ g) ++ h) ++ k ≡ o ++ (a ++ (b ++ (c ++ (d ++ (e ++ (f ++ (g ++ (h ++ k))))))))
-nine o a b c d e f g h k = simp append_assoc
+ten : (o a b c d e f g h k l : List ℕ) → (((((((((o ++ a) ++ b) ++ c) ++ d) ++ e) ++ f) ++ g) ++ h) ++ k) ++ l ≡ o ++ (a ++ (b ++ (c ++ (d ++ (e ++ (f ++ (g ++ (h ++ (k ++ l)))))))))
+ten o a b c d e f g h k l = simp append_assoc
 
-pub nine_in_turn : (o a b c d e f g h k whole o1 o2 o3 o4 o5 o6 o7 o8 o9 : List ℕ) → o1 ≡ o ++ a → o2 ≡ o1 ++ b → o3 ≡ o2 ++ c → o4 ≡ o3 ++ d → o5 ≡ o4 ++ e → o6 ≡ o5 ++ f → o7 ≡ o6 ++ g → o8 ≡ o7 ++ h → o9 ≡ o8 ++ k
-    → whole ≡ a ++ (b ++ (c ++ (d ++ (e ++ (f ++ (g ++ (h ++ k))))))) → o9 ≡ o ++ whole
-nine_in_turn o a b c d e f g h k whole o1 o2 o3 o4 o5 o6 o7 o8 o9 e1 e2 e3 e4 e5 e6 e7 e8 e9 w = let parts = nine o a b c d e f g h k in cc
+pub ten_in_turn : (o a b c d e f g h k l whole o1 o2 o3 o4 o5 o6 o7 o8 o9 o10 : List ℕ) → o1 ≡ o ++ a → o2 ≡ o1 ++ b → o3 ≡ o2 ++ c → o4 ≡ o3 ++ d → o5 ≡ o4 ++ e → o6 ≡ o5 ++ f → o7 ≡ o6 ++ g → o8 ≡ o7 ++ h → o9 ≡ o8 ++ k → o10 ≡ o9 ++ l
+    → whole ≡ a ++ (b ++ (c ++ (d ++ (e ++ (f ++ (g ++ (h ++ (k ++ l)))))))) → o10 ≡ o ++ whole
+ten_in_turn o a b c d e f g h k l whole o1 o2 o3 o4 o5 o6 o7 o8 o9 o10 e1 e2 e3 e4 e5 e6 e7 e8 e9 e10 w = let parts = ten o a b c d e f g h k l in cc
 
 abbrev pub list_after : List ℕ → List Data → List ℕ
 list_after key values = key ++ safe_text (list_data values)
@@ -68,24 +68,32 @@ abbrev later_text : Bool → Bool → List Data → List ℕ → List ℕ → �
 later_text is_below is_share sources title view whole =
     opening_text is_below is_share ++ (list_after (codes ",\"sources\":") sources ++ (text_after (codes ",\"title\":") title ++ (text_after (codes ",\"view\":") view ++ (number_text (codes ",\"whole\":") whole ++ 125 ∷ []))))
 
-page_shape : (drawings names : List Data) (is_below is_share : Bool) (sources : List Data) (title view : List ℕ) (whole : ℕ)
-    → safe_text (object (member (codes "drawings") (list_data drawings) (member (codes "names") (list_data names) (opening_members is_below is_share (member (codes "sources") (list_data sources) (member (codes "title") (string title) (member (codes "view") (string view) (member (codes "whole") (whole_number whole) no_members))))))))
-    ≡ codes "{\"drawings\":" ++ (safe_text (list_data drawings) ++ (list_after (codes ",\"names\":") names ++ later_text is_below is_share sources title view whole))
+-- what stands behind the drawings alone, where more is to come
+abbrev pub more_text : Bool → List ℕ
+more_text has_more = text_if has_more (codes ",\"more\":true")
+
+page_shape : (drawings names : List Data) (has_more is_below is_share : Bool) (sources : List Data) (title view : List ℕ) (whole : ℕ)
+    → safe_text (object (member (codes "drawings") (list_data drawings) (member_if has_more (codes "more") (member (codes "names") (list_data names) (opening_members is_below is_share (member (codes "sources") (list_data sources) (member (codes "title") (string title) (member (codes "view") (string view) (member (codes "whole") (whole_number whole) no_members)))))))))
+    ≡ codes "{\"drawings\":" ++ (safe_text (list_data drawings) ++ (more_text has_more ++ (list_after (codes ",\"names\":") names ++ later_text is_below is_share sources title view whole)))
 unfolding script_safe escape_byte
-page_shape drawings names true true sources title view whole = refl
-page_shape drawings names true false sources title view whole = refl
-page_shape drawings names false true sources title view whole = refl
-page_shape drawings names false false sources title view whole = refl
+page_shape drawings names true true true sources title view whole = refl
+page_shape drawings names true true false sources title view whole = refl
+page_shape drawings names true false true sources title view whole = refl
+page_shape drawings names true false false sources title view whole = refl
+page_shape drawings names false true true sources title view whole = refl
+page_shape drawings names false true false sources title view whole = refl
+page_shape drawings names false false true sources title view whole = refl
+page_shape drawings names false false false sources title view whole = refl
 
 pub page_parts : (page : Page) (names : List (List ℕ)) → names ≡ page_names page.drawings → page_text page
-    ≡ codes "{\"drawings\":" ++ (safe_text (list_data (map (drawing_data names) page.drawings)) ++ (list_after (codes ",\"names\":") (map string names)
-    ++ later_text page.is_root_below page.is_share (map source_data page.sources) page.title page.view page.whole))
+    ≡ codes "{\"drawings\":" ++ (safe_text (list_data (map (drawing_data names) page.drawings)) ++ (more_text page.has_more ++ (list_after (codes ",\"names\":") (map string names)
+    ++ later_text page.is_root_below page.is_share (map source_data page.sources) page.title page.view page.whole)))
 unfolding page_text
 page_parts page names are =
     safe-value (page_value page)
-    ∙ page_shape (map (drawing_data (page_names page.drawings)) page.drawings) (map string (page_names page.drawings)) page.is_root_below page.is_share (map source_data page.sources) page.title page.view page.whole
-    ∙ sym (ap (λ ns. codes "{\"drawings\":" ++ (safe_text (list_data (map (drawing_data ns) page.drawings)) ++ (list_after (codes ",\"names\":") (map string ns)
-    ++ later_text page.is_root_below page.is_share (map source_data page.sources) page.title page.view page.whole))) are)
+    ∙ page_shape (map (drawing_data (page_names page.drawings)) page.drawings) (map string (page_names page.drawings)) page.has_more page.is_root_below page.is_share (map source_data page.sources) page.title page.view page.whole
+    ∙ sym (ap (λ ns. codes "{\"drawings\":" ++ (safe_text (list_data (map (drawing_data ns) page.drawings)) ++ (more_text page.has_more ++ (list_after (codes ",\"names\":") (map string ns)
+    ++ later_text page.is_root_below page.is_share (map source_data page.sources) page.title page.view page.whole)))) are)
 
 pub sources_same : (sources : List Source) → map (λ source. source_data (source_of source)) sources ≡ map source_data (map source_of sources)
 sources_same [] = refl

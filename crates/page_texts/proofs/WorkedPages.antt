@@ -21,7 +21,7 @@ small_source = record { name = codes "small.folded"; type_name = []; unit = []; 
 abbrev drawing : ℕ → List PageBox → PageDrawing
 drawing least boxes = record { moment = None; is_compared = false; least = least; total = 3; boxes = boxes }
 
-example : page_text (record { drawings = drawing 0 small ∷ []; sources = small_source ∷ []; title = codes "small.folded"; view = codes "graph"; whole = 3; is_root_below = false; is_share = false })
+example : page_text (record { drawings = drawing 0 small ∷ []; sources = small_source ∷ []; title = codes "small.folded"; view = codes "graph"; whole = 3; is_root_below = false; is_share = false; has_more = false })
     ≡ codes "{\"drawings\":[{\"gap\":[0,0,1],\"least\":0,\"left_out\":{\"boxes\":0,\"weight\":0},\"name\":[0,1,2],"
     ++ (codes "\"rest\":[0,1,0],\"tail\":[3,0,0],\"total\":3,\"up\":[1,0,0]}],"
     ++ (codes "\"names\":[\"all\",\"main\",\"read\\u003cint\\u003e\"],"
@@ -33,7 +33,7 @@ example = refl
 abbrev light : PageDrawing
 light = drawing 3 small
 
-narrow_box_left_out : page_text (record { drawings = light ∷ []; sources = []; title = []; view = codes "chart"; whole = 5; is_root_below = false; is_share = false })
+narrow_box_left_out : page_text (record { drawings = light ∷ []; sources = []; title = []; view = codes "chart"; whole = 5; is_root_below = false; is_share = false; has_more = false })
     ≡ codes "{\"drawings\":[{\"gap\":[0,0],\"least\":3,\"left_out\":{\"boxes\":1,\"weight\":2},\"name\":[0,1],"
     ++ (codes "\"rest\":[0,2],\"tail\":[3,0],\"total\":3,\"up\":[1,0]}],"
     ++ codes "\"names\":[\"all\",\"main\"],\"sources\":[],\"title\":\"\",\"view\":\"chart\",\"whole\":5}")
@@ -44,7 +44,7 @@ narrow_box_left_out = refl
 abbrev snapshot : PageDrawing
 snapshot = record { moment = Some (record { at = 1; counts = 1 ∷ 0 ∷ [] }); is_compared = false; least = 0; total = 1; boxes = box 0 (codes "all") 0 1 0 0 ∷ box 1 (codes "&") 0 1 1 0 ∷ [] }
 
-snapshots : page_text (record { drawings = snapshot ∷ drawing 0 (box 0 (codes "all") 0 3 3 0 ∷ []) ∷ []; sources = []; title = []; view = codes "graph"; whole = 4; is_root_below = false; is_share = false })
+snapshots : page_text (record { drawings = snapshot ∷ drawing 0 (box 0 (codes "all") 0 3 3 0 ∷ []) ∷ []; sources = []; title = []; view = codes "graph"; whole = 4; is_root_below = false; is_share = false; has_more = false })
     ≡ codes "{\"drawings\":[{\"at\":1,\"counts\":[1,0],\"gap\":[0,0],\"least\":0,\"left_out\":{\"boxes\":0,\"weight\":0},\"name\":[0,1],"
     ++ (codes "\"rest\":[0,0],\"tail\":[1,0],\"total\":1,\"up\":[1,0]},"
     ++ (codes "{\"gap\":[0],\"least\":0,\"left_out\":{\"boxes\":0,\"weight\":0},\"name\":[0],\"rest\":[0],\"tail\":[3],\"total\":3,\"up\":[1]}],"
@@ -56,7 +56,7 @@ snapshots = refl
 abbrev compared : PageDrawing
 compared = record { moment = None; is_compared = true; least = 0; total = 4; boxes = box 0 (codes "all") 0 4 1 3 ∷ box 1 (codes "a") 1 3 3 0 ∷ [] }
 
-comparison : page_text (record { drawings = compared ∷ []; sources = []; title = []; view = codes "compare"; whole = 7; is_root_below = false; is_share = false })
+comparison : page_text (record { drawings = compared ∷ []; sources = []; title = []; view = codes "compare"; whole = 7; is_root_below = false; is_share = false; has_more = false })
     ≡ codes "{\"drawings\":[{\"gap\":[0,1],\"least\":0,\"left_out\":{\"boxes\":0,\"weight\":0},\"name\":[0,1],\"other\":[3,0],"
     ++ (codes "\"rest\":[1,0],\"tail\":[4,0],\"total\":4,\"up\":[1,0]}],"
     ++ codes "\"names\":[\"all\",\"a\"],\"sources\":[],\"title\":\"\",\"view\":\"compare\",\"whole\":7}")
@@ -92,15 +92,21 @@ read_round : boxes_told (codes "all" ∷ []) no_span (told_boxes (codes "all" �
 read_round = refl
 
 -- a page that opens with the root below
-root_below : page_text (record { drawings = []; sources = []; title = codes "t"; view = codes "graph"; whole = 0; is_root_below = true; is_share = false })
+root_below : page_text (record { drawings = []; sources = []; title = codes "t"; view = codes "graph"; whole = 0; is_root_below = true; is_share = false; has_more = false })
     ≡ codes "{\"drawings\":[],\"names\":[],\"root_below\":true,\"sources\":[],\"title\":\"t\",\"view\":\"graph\",\"whole\":0}"
 unfolding page_text script_safe escape_byte digits
 root_below = refl
 
-shares : page_text (record { drawings = []; sources = []; title = codes "t"; view = codes "compare"; whole = 0; is_root_below = true; is_share = true })
+shares : page_text (record { drawings = []; sources = []; title = codes "t"; view = codes "compare"; whole = 0; is_root_below = true; is_share = true; has_more = false })
     ≡ codes "{\"drawings\":[],\"names\":[],\"root_below\":true,\"share\":true,\"sources\":[],\"title\":\"t\",\"view\":\"compare\",\"whole\":0}"
 unfolding page_text script_safe escape_byte digits
 shares = refl
+
+-- a page of which more is to come
+growing : page_text (record { drawings = []; sources = []; title = codes "t"; view = codes "graph"; whole = 0; is_root_below = true; is_share = false; has_more = true })
+    ≡ codes "{\"drawings\":[],\"more\":true,\"names\":[],\"root_below\":true,\"sources\":[],\"title\":\"t\",\"view\":\"graph\",\"whole\":0}"
+unfolding page_text script_safe escape_byte digits
+growing = refl
 
 -- U+2028, U+2029 and what begins like them, in a title
 separators : script_safe (226 ∷ 128 ∷ 168 ∷ 226 ∷ 128 ∷ 169 ∷ 226 ∷ 128 ∷ 170 ∷ 226 ∷ 128 ∷ [])

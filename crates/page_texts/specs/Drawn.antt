@@ -41,4 +41,5 @@ page_of boxes page = record {
   whole = page.whole;
   is_root_below = page.is_root_below;
   is_share = page.is_share;
+  has_more = page.has_more;
 }

@@ -34,8 +34,8 @@ pub record PageSource : Type 0 where
   pub unit : List ℕ
   pub weight : ℕ
 
--- what a page shows; `whole` is the weight of all samples of all sources, also of those that a filter leaves out, and it opens
--- with the root below, and by shares, where that is said
+-- what a page shows; `whole` is the weight of all samples of all sources, also of those that a filter leaves out, it opens
+-- with the root below, and by shares, where that is said, and `has_more` says that samples are to come, in a page that follows
 pub record Page : Type 0 where
   pub drawings : List PageDrawing
   pub sources : List PageSource
@@ -44,6 +44,7 @@ pub record Page : Type 0 where
   pub whole : ℕ
   pub is_root_below : Bool
   pub is_share : Bool
+  pub has_more : Bool
 
 -- ---- boxes
 
@@ -175,7 +176,7 @@ source_data source =
 
 -- ---- the whole
 
--- in pages that open so alone
+-- in pages of which it is said alone
 abbrev pub member_if : Bool → List ℕ → Members → Members
 member_if is_said key later = if is_said then member key (boolean true) later else later
 
@@ -195,8 +196,9 @@ abbrev pub page_value : Page → Data
 page_value page =
     object
     (member (codes "drawings") (list_data (map (drawing_data (page_names page.drawings)) page.drawings))
+    (member_if page.has_more (codes "more")
     (member (codes "names") (list_data (map string (page_names page.drawings)))
-    (opening_members page.is_root_below page.is_share (later_members page.sources page.title page.view page.whole))))
+    (opening_members page.is_root_below page.is_share (later_members page.sources page.title page.view page.whole)))))
 
 -- the data of a page
 unfoldable pub page_text : Page → List ℕ

@@ -28,6 +28,7 @@ pub(crate) fn push_page<'p, 'k, L: FlameBoxes>(
 {
     push_literal(parts, b"{\"drawings\":")?;
     push_drawings(parts, page.drawings, &kept.drawings)?;
+    push_if(parts, page.has_more, b",\"more\":true")?;
     push_names(parts, &kept.names)?;
     push_opening(parts, page.is_root_below, page.is_share)?;
     push_sources(parts, page.sources)?;

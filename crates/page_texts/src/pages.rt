@@ -50,6 +50,8 @@ pub struct Page<'a, L> {
     pub is_root_below: bool,
     /// It opens by shares of what each profile weighs, and not by weights.
     pub is_share: bool,
+    /// More samples are to come, in a page that takes this one's place: it loads itself again.
+    pub has_more: bool,
 }
 
 /// Sends a page: the document that a browser opens. No name and no title can be read as markup in it. It

@@ -1,11 +1,12 @@
 -- What the drawings of a page stand for.
-use Rattle.std.proofs.Common.{◌≡◌, ◌<◌, ◌+◌, ◌++◌, ℕ, List, [], ◌∷◌, false, length, map, get_or, take, true, None, Some, Option, refl, ap, sym, subst, ◌∙◌, arith}
+use Rattle.std.proofs.Common.{◌≡◌, ◌<◌, ◌+◌, ◌++◌, ℕ, Bool, List, [], ◌∷◌, codes, false, length, map, get_or, take, true, None, Some, Option, refl, ap, sym, subst, ◌∙◌, arith}
 use Rattle.std.specs.List.{range_with_len}
 use Rattle.std.proofs.lemmas.List.{get_or-map, map_more, map_push}
 use Rattle.std.proofs.lemmas.List.FromFn.{map-range_with_len_more}
 use Rattle.stack_core.specs.Interleaving.{counts_at}
 use Rattle.call_tree.specs.CallTree.{Tree, total_weight as tree_total}
 use Rattle.sample_tables.specs.declared.samples.Sample.{Sample}
+use Rattle.merged_stacks.specs.Merged.{merged_samples}
 use Rattle.merged_stacks.specs.Timeline.{total_weight}
 use Rattle.flame_layout.specs.declared.boxes.DrawnBox.{DrawnBox}
 use Rattle.flame_layout.specs.declared.boxes.DrawnPair.{DrawnPair}
@@ -14,19 +15,20 @@ use Rattle.flame_layout.specs.declared.boxes.SpanBox.{SpanBox}
 use Rattle.flame_layout.specs.Graph.{graph_of}
 use Rattle.flame_layout.specs.Paths.{SameOwn, tree_samples}
 use Rattle.flame_layout.proofs.GraphBoxes.{tree_weight}
+use Rattle.flame_layout.proofs.MergedSums.{merged_own}
 use Rattle.merging.specs.Snapshots.{snapshot_counts, snapshot_samples, IsSnapshot, AreSnapshots}
 use Rattle.merging.proofs.CountLemmas.{get_or-source_counts}
 use Rattle.merging.specs.declared.snapshots.Snapshot.{Snapshot}
 use Rattle.page_views.specs.checked.Filling.{filled}
 use Rattle.source_views.specs.Texts.{all_counts}
 use Rattle.source_views.proofs.TextLemmas.{same_weight}
-use Rattle.page_texts.specs.Page.{Moment, PageBox, PageDrawing}
+use Rattle.page_texts.specs.Page.{Moment, Page, PageBox, PageDrawing}
 use Rattle.page_texts.specs.Drawn.{page_box}
 use Rattle.page_views.specs.checked.DrawnProfiles.{IsDrawnOf, profile_drawing}
 use Rattle.page_views.specs.checked.DrawnRuns.{drawing_in, places_of}
 use Rattle.page_views.specs.declared.drawn_profiles.DrawnProfile.{DrawnProfile}
 use Rattle.page_views.specs.declared.drawn_runs.DrawnSnapshot.{DrawnSnapshot}
-use Rattle.page_views.specs.Pages.{compared_drawing, least_of, plain_drawing, snapshot_drawing}
+use Rattle.page_views.specs.Pages.{PageHeading, compared_drawing, growing_heading, growing_page, least_of, page_with, plain_drawing, snapshot_drawing}
 
 -- counts filled up are those of all sources
 pub filled_counts : (sources m : ℕ) (order : List ℕ) → filled sources (snapshot_counts m order) ≡ map (counts_at m order) (range_with_len 0 sources)
@@ -57,6 +59,19 @@ drawn_boxes (box ∷ boxes) = ap (λ later. page_box (plain_box (span_of box)) �
 pub with_boxes : (least : Option ℕ) (moment : Option Moment) (total : ℕ) (boxes : List PageBox) (spans : List SpanBox) → boxes ≡ map (λ span. record { span = span; other = 0 }) spans
     → record { moment = moment; is_compared = false; least = least_of least total; total = total; boxes = boxes } ≡ plain_drawing least moment total spans
 with_boxes least moment total boxes spans same = λ i. record { moment = moment; is_compared = false; least = least_of least total; total = total; boxes = same i }
+
+-- the page of merged stacks that are drawn is that of the samples
+pub grown_page : (has_more : Bool) (samples stacks : List Sample) (total : ℕ) (boxes : List SpanBox) (heading : PageHeading) (drawing : PageDrawing) (page : Page)
+    → stacks ≡ merged_samples samples → total ≡ total_weight stacks → ((samples : List Sample) → SameOwn samples stacks → boxes ≡ graph_of samples)
+    → heading ≡ growing_heading total → drawing ≡ plain_drawing heading.least None total boxes → page ≡ page_with heading (codes "graph") (drawing ∷ [])
+    → record page { has_more = has_more } ≡ growing_page has_more samples
+grown_page has_more samples stacks total boxes heading drawing page merged weighed drawn headed is paged =
+    let own = subst (λ (all : List Sample). SameOwn samples all) (sym merged) (merged_own samples) in
+    let weight = weighed ∙ sym (same_weight samples stacks own) in
+    let boxed = drawn samples own in
+    let here = headed ∙ ap growing_heading weight in
+    let one : drawing ≡ plain_drawing None None (total_weight samples) (graph_of samples) = is ∙ (λ i. plain_drawing (headed i).least None (weight i) (boxed i)) in
+    (λ i. record (paged i) { has_more = has_more }) ∙ (λ i. record (page_with (here i) (codes "graph") (one i ∷ [])) { has_more = has_more })
 
 pub paired_boxes : (pairs : List DrawnPair) → map page_box (map (λ pair. paired_box (compared_of pair)) pairs) ≡ map (λ compared. record { span = compared.span; other = compared.before }) (map compared_of pairs)
 paired_boxes [] = refl

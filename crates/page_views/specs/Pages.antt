@@ -50,6 +50,7 @@ page_with heading view drawings = record {
   whole = heading.whole;
   is_root_below = heading.is_root_below;
   is_share = heading.is_share;
+  has_more = false;
 }
 
 -- these boxes, of samples with this total, and in a snapshot its moment
@@ -69,6 +70,22 @@ plain_page heading view total boxes = page_with heading view (plain_drawing head
 -- the flame graph of all samples
 abbrev pub graph_page : PageHeading → List (List Sample) → Page
 graph_page heading lists = plain_page heading (codes "graph") (total_weight (all_samples lists)) (graph_of (all_samples lists))
+
+-- what a page of samples that weigh so much says beside its drawing while they are still coming
+abbrev pub growing_heading : ℕ → PageHeading
+growing_heading whole = record {
+  title = codes "flamecollect live";
+  sources = [];
+  least = None;
+  whole = whole;
+  is_root_below = false;
+  is_share = false;
+}
+
+-- the flame graph of samples, of which more may be to come
+abbrev pub growing_page : Bool → List Sample → Page
+growing_page has_more samples =
+    record (plain_page (growing_heading (total_weight samples)) (codes "graph") (total_weight samples) (graph_of samples)) { has_more = has_more }
 
 -- the flame graph of each source's first samples, as many as stand among the first m of the order
 abbrev pub snapshot_drawing : Option ℕ → List (List Sample) → List ℕ → ℕ → PageDrawing

@@ -72,6 +72,7 @@ impl Heading<'_> {
             whole: self.whole,
             is_root_below: self.is_root_below,
             is_share: self.is_share,
+            has_more: false,
         }
     }
 }

@@ -14,5 +14,5 @@ pub use comparison_pages::send_comparison_page;
 pub use headings::Heading;
 pub use page_data::{PageView, render_page_data};
 pub use page_texts::Source;
-pub use plain_pages::{send_chart_page, send_graph_page};
+pub use plain_pages::{send_chart_page, send_graph_page, send_growing_page};
 pub use snapshot_pages::send_snapshots_page;

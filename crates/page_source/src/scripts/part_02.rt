@@ -1,5 +1,5 @@
 //! What `page/join` takes of page/callers.js, names.js, units.js, data.js, elements.js, gone.js,
-//! places.js, describe.js. `checks/page_source --write` makes this file.
+//! growing.js, places.js, describe.js. `checks/page_source --write` makes this file.
 
 pub(crate) const TEXT: &str = r##"class Paths {
 constructor(nameCount) {
@@ -217,6 +217,7 @@ for (const source of data.sources) {
 sources.push({ ...source, start });
 start += source.weight;
 }
+const kept = sources.length > 0 ? start : data.whole;
 const drawing = drawingsOf(data.drawings);
 return {
 view: data.view,
@@ -225,10 +226,11 @@ names: data.names,
 sources,
 unit: commonUnit(sources),
 whole: data.whole,
-kept: start,
-isFiltered: data.whole > start + data.whole * 2 ** -50,
+kept,
+isFiltered: data.whole > kept + data.whole * 2 ** -50,
 isBelow: data.root_below === true,
 isShare: data.share === true,
+hasMore: data.more === true,
 drawingCount: data.drawings.length,
 drawing,
 arranged: arranging(drawing, sources, data.view === 'compare', data.names.length),
@@ -342,6 +344,19 @@ const shown = list.children.length;
 for (const box of boxes.slice(shown, shown + GONE_STEP)) list.append(this.item(box));
 more.hidden = list.children.length >= boxes.length;
 }
+}
+const PAUSE = 2000;
+function loadAgain() {
+if (document.hidden) document.addEventListener('visibilitychange', loadAgain, { once: true });
+else location.reload();
+}
+function loadAgainSoon() {
+let waiting = window.setTimeout(loadAgain, PAUSE);
+const wait = () => {
+clearTimeout(waiting);
+waiting = window.setTimeout(loadAgain, PAUSE);
+};
+for (const kind of ['keydown', 'pointerdown', 'pointermove', 'wheel']) document.addEventListener(kind, wait, { passive: true });
 }
 const SHARP_FROM = 3;
 const NARROWEST = 0.3;

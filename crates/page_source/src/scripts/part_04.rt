@@ -137,7 +137,8 @@ paintScene(painter, scene);
 painter.finish(context);
 }
 function summaryText(page, drawing) {
-const files = page.sources.length === 1 ? '1 source' : `${page.sources.length} sources`;
+const count = page.sources.length;
+const files = count === 0 ? '' : ` of ${count === 1 ? '1 source' : `${count} sources`}`;
 const types = [...new Set(weighty(page.sources).map((source) => source.type))];
 const type = types.length === 1 && types[0] !== '' ? ` of ${visible(types[0])}` : '';
 const boxes = `${separated(drawing.count)} ${drawing.count === 1 ? 'box' : 'boxes'}`;
@@ -147,7 +148,7 @@ const weights = `before ${weightText(before, page.unit)}, after ${weightText(aft
 return `Comparison: ${weights}, ${changeText(before, after)}; ${boxes}`;
 }
 const kind = page.view === 'graph' ? 'Flame graph' : 'Flame chart';
-return `${kind} of ${files}: ${weightText(drawing.total, page.unit)}${type}, ${boxes}`;
+return `${kind}${files}: ${weightText(drawing.total, page.unit)}${type}, ${boxes}`;
 }
 function sourceText(source, tell) {
 const type = source.type === '' ? '' : ` of ${visible(source.type)}`;
@@ -179,7 +180,7 @@ if (page.view !== 'compare') return [leftOutNotice(page, drawing, '')];
 return [leftOutNotice(page, page.drawing(0), ' of the profile before'), leftOutNotice(page, page.drawing(1), ' of the profile after')];
 }
 function noticesOf(page, drawing) {
-const notices = [];
+const notices = page.hasMore ? ['More samples are to come: this page loads itself again.'] : [];
 if (page.unit === null) notices.push(unitsNotice(page));
 else if (new Set(weighty(page.sources).map((source) => source.type)).size > 1) notices.push(typesNotice(page));
 if (page.isFiltered) notices.push(filterNotice(page));

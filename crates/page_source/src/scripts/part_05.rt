@@ -2,6 +2,7 @@
 //! tip.js. `checks/page_source --write` makes this file.
 
 pub(crate) const TEXT: &str = r##"const LONGEST_PATH = 4000;
+const LONGEST_GROWING_PATH = 400000;
 const WIDEST_LISTS = 10000;
 function decoded(text) {
 try {
@@ -13,23 +14,28 @@ return text;
 function encoded(text) {
 return encodeURIComponent(new TextDecoder('utf-8', { ignoreBOM: true }).decode(new TextEncoder().encode(text)));
 }
+function longestPath(page) {
+return page.hasMore ? LONGEST_GROWING_PATH : LONGEST_PATH;
+}
 function zoomWords(page, drawing, state) {
 if (state.source >= 0) return [`source=${state.source}`];
 if (state.from >= 0) return [`from=${state.from}`, `to=${state.to}`];
 if (state.box === 0) return [];
 const path = pathOf(page, drawing, state.box);
 const length = path.reduce((sum, name) => sum + name.length, 0);
-const zoom = length > LONGEST_PATH ? '' : path.map(encoded).join('/');
-if (length > LONGEST_PATH || zoom.length > 3 * LONGEST_PATH) return [`box=${state.box}`];
+const longest = longestPath(page);
+const zoom = length > longest ? '' : path.map(encoded).join('/');
+if (length > longest || zoom.length > 3 * longest) return [`box=${state.box}`];
 if (isCaller(drawing, state.box)) return [`up=${zoom}`];
 return isTimeline(page, drawing) ? [`zoom=${zoom}`, `start=${timeOf(drawing, state.box)}`] : [`zoom=${zoom}`];
 }
-function callersWord(text, name) {
-return text.length > LONGEST_PATH ? `function=${name}` : `callers=${encoded(text)}`;
+function callersWord(page, name) {
+const text = page.names[name];
+return text.length > longestPath(page) ? `function=${name}` : `callers=${encoded(text)}`;
 }
 function fragmentOf(page, state) {
 const words = zoomWords(page, page.arranged(state), state);
-if (state.callers >= 0) words.unshift(callersWord(page.names[state.callers], state.callers));
+if (state.callers >= 0) words.unshift(callersWord(page, state.callers));
 if (state.find !== '') words.push(`find=${encoded(state.find)}`);
 if (state.find !== '' && state.by !== 'text') words.push(`by=${state.by}`);
 if (state.order !== 'place') words.push(`order=${state.order}`);

@@ -7,7 +7,7 @@ element('title').textContent = described(page.title);
 element('summary').textContent = summaryText(page, drawing);
 showItems(element('notices'), noticesOf(page, drawing));
 element('matched').classList.toggle('filtered', page.isFiltered);
-element('sources').hidden = page.sources.length === 1;
+element('sources').hidden = page.sources.length < 2;
 const sources = inside(element('sources'), 'ul');
 showItems(sources, page.sources.map((source) => sourceText(source, weightText)));
 for (const [number, item] of [...sources.querySelectorAll('li')].entries()) {
@@ -257,6 +257,7 @@ if (page.view === 'compare') {
 new GoneList(page, (box) => viewer.showBefore(box), viewer.pointAt);
 }
 listen(viewer);
+if (page.hasMore) afterPaint(loadAgainSoon);
 }
 function openPage() {
 let page;

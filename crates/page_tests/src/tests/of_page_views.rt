@@ -8,9 +8,12 @@ use super::of_page_source::is_page;
 use super::texts::holds;
 use byte_io::CountedWriter;
 use opened_sources::Failure;
-use page_views::{Heading, send_chart_page, send_comparison_page, send_graph_page};
+use page_views::{
+    Heading, send_chart_page, send_comparison_page, send_graph_page, send_growing_page,
+};
 use run_options::{Filter, Format, Naming, Options, Pick, RingSize};
 use source_lists::{Gating, Input, Source, SourceLists, read};
+use source_views::{Alone, merge};
 use stack_core::{NoSink, OpenGate, SourceList};
 use std::alloc::{AllocError, Global};
 use std::process::Abort;
@@ -91,6 +94,8 @@ enum Sent {
     Graph,
     Chart,
     Comparison,
+    // Whether more is to come.
+    Growing(bool),
 }
 
 // The lists have small weights, as a comparison asks. Of others no page is sent.
@@ -109,6 +114,17 @@ fn send_comparison(
     send_comparison_page(alloc, before, after, &HEADING, out)
 }
 
+fn send_growing(
+    alloc: Global,
+    sources: &SourceLists,
+    has_more: bool,
+    out: &mut CountedWriter<Vec<u8>>,
+) -> Result<(), Failure> {
+    let merged = merge(&Alone, alloc, sources)?;
+    send_growing_page(alloc, &merged, has_more, out)?;
+    Ok(())
+}
+
 fn send(
     alloc: Global,
     sent: &Sent,
@@ -119,6 +135,7 @@ fn send(
         Sent::Graph => send_graph_page(alloc, sources, &HEADING, out),
         Sent::Chart => send_chart_page(alloc, sources, &HEADING, out),
         Sent::Comparison => send_comparison(alloc, sources.lists(), out),
+        Sent::Growing(has_more) => send_growing(alloc, sources, *has_more, out),
     }
 }
 
@@ -157,6 +174,30 @@ fn graph_of_two_lines(rt: HostRuntime) -> Result<(), Fail> {
         &rt,
         &Sent::Graph,
         &[b"main;read<int> 2\n", b"main 1\n"],
+        data,
+    )
+}
+
+#[test]
+fn growing_graph_of_two_lines(rt: HostRuntime) -> Result<(), Fail> {
+    let data =
+        "{\"drawings\":[{\"gap\":[0,0,1],\"least\":0,\"left_out\":{\"boxes\":0,\"weight\":0},\"name\":[0,1,2],\"rest\":[0,1,0],\"tail\":[3,0,0],\"total\":3,\"up\":[1,0,0]}],\"more\":true,\"names\":[\"all\",\"main\",\"read\\u003cint\\u003e\"],\"sources\":[],\"title\":\"flamecollect live\",\"view\":\"graph\",\"whole\":3}";
+    has_data(
+        &rt,
+        &Sent::Growing(true),
+        &[b"main;read<int> 2\n", b"main 1\n"],
+        data,
+    )
+}
+
+#[test]
+fn last_graph_of_two_lines(rt: HostRuntime) -> Result<(), Fail> {
+    let data =
+        "{\"drawings\":[{\"gap\":[0,0],\"least\":0,\"left_out\":{\"boxes\":0,\"weight\":0},\"name\":[0,1],\"rest\":[0,0],\"tail\":[3,0],\"total\":3,\"up\":[1,0]}],\"names\":[\"all\",\"main\"],\"sources\":[],\"title\":\"flamecollect live\",\"view\":\"graph\",\"whole\":3}";
+    has_data(
+        &rt,
+        &Sent::Growing(false),
+        &[b"main 2\n", b"main 1\n"],
         data,
     )
 }

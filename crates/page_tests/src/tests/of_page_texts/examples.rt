@@ -41,6 +41,7 @@ struct Case<'a> {
     whole: u128,
     is_root_below: bool,
     is_share: bool,
+    has_more: bool,
 }
 
 fn drawing_of<'a, L>(boxes: L, case: &Case<'a>) -> Drawing<'a, L> {
@@ -62,6 +63,7 @@ fn page_with<'a, L: FlameBoxes>(drawings: &'a [Drawing<'a, L>], case: &Case<'a>)
         whole: case.whole,
         is_root_below: case.is_root_below,
         is_share: case.is_share,
+        has_more: case.has_more,
     }
 }
 
@@ -115,6 +117,7 @@ const EXAMPLE: &Case<'static> = &Case {
     whole: 5,
     is_root_below: false,
     is_share: false,
+    has_more: false,
 };
 
 #[test]
@@ -134,6 +137,7 @@ const BELOW: &Case<'static> = &Case {
     whole: 3,
     is_root_below: true,
     is_share: false,
+    has_more: false,
 };
 
 #[test]
@@ -153,6 +157,7 @@ const SHARE: &Case<'static> = &Case {
     whole: 3,
     is_root_below: false,
     is_share: true,
+    has_more: false,
 };
 
 #[test]
@@ -160,6 +165,26 @@ fn shares_are_told(rt: HostRuntime) -> Result<(), Fail> {
     let wanted =
         b"{\"drawings\":[{\"gap\":[],\"least\":4,\"left_out\":{\"boxes\":3,\"weight\":3},\"name\":[],\"other\":[],\"rest\":[],\"tail\":[],\"total\":3,\"up\":[]}],\"names\":[],\"share\":true,\"sources\":[],\"title\":\"small\",\"view\":\"compare\",\"whole\":3}";
     data_are(&rt, SHARE, wanted)
+}
+
+const GROWING: &Case<'static> = &Case {
+    least: 4,
+    total: 3,
+    moment: None,
+    sources: &[],
+    title: "small",
+    view: "graph",
+    whole: 3,
+    is_root_below: true,
+    is_share: false,
+    has_more: true,
+};
+
+#[test]
+fn more_to_come_is_told(rt: HostRuntime) -> Result<(), Fail> {
+    let wanted =
+        b"{\"drawings\":[{\"gap\":[],\"least\":4,\"left_out\":{\"boxes\":3,\"weight\":3},\"name\":[],\"rest\":[],\"tail\":[],\"total\":3,\"up\":[]}],\"more\":true,\"names\":[],\"root_below\":true,\"sources\":[],\"title\":\"small\",\"view\":\"graph\",\"whole\":3}";
+    data_are(&rt, GROWING, wanted)
 }
 
 const NARROW: &Case<'static> = &Case {
@@ -175,6 +200,7 @@ const NARROW: &Case<'static> = &Case {
     whole: 5,
     is_root_below: false,
     is_share: false,
+    has_more: false,
 };
 
 #[test]
@@ -210,6 +236,7 @@ const COMPARED: &Case<'static> = &Case {
     whole: 5,
     is_root_below: false,
     is_share: false,
+    has_more: false,
 };
 
 fn append_compared(alloc: Global, out: &mut Vec<u8>) -> Result<(), AllocError> {
@@ -246,6 +273,7 @@ const LONG: &Case<'static> = &Case {
     whole: 5,
     is_root_below: false,
     is_share: false,
+    has_more: false,
 };
 
 // Appends the data of a page of more numbers than a part has.
@@ -277,6 +305,7 @@ const README: &Case<'static> = &Case {
     whole: 3,
     is_root_below: false,
     is_share: false,
+    has_more: false,
 };
 
 // Appends the data of the page of the README.
