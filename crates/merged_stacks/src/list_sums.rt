@@ -11,6 +11,7 @@ ghost use Rattle.merged_stacks.specs.checked.Kept.{kept_sample, kept_samples, Ar
 ghost use Rattle.merged_stacks.specs.checked.Ranked.{HasSums, IsNamedBy};
 
 use ranked_rows::RankedRows;
+use sample_tables::RowTable;
 use stack_core::SourceList;
 use std::alloc::{AllocError, Global};
 use std::marker::Model;
@@ -165,6 +166,26 @@ fn add_row(
         return Ok(());
     }
     rows.push(numbers, ranks, weight)
+}
+
+/// The stacks that a table keeps, each with this sum, by the ranks of its names.
+pub(crate) fn rows_of_sums(
+    alloc: Global,
+    table: &RowTable,
+    sums: &[u64],
+    ranks: &[u32],
+) -> Result<RankedRows, AllocError>
+    requires sums { length sums.now ≡ length table.now.stacks }
+    requires ranks { length ranks.now ≡ length table.now.names }
+    ensures { IfOk result (λ rows. (names : List (List ℕ)) → IsNamedBy names ranks.now table.now.names
+        → HasSums names (map (kept_sample table.now.names table.now.stacks sums.now)
+        (range_with_len 0 (length table.now.stacks))) rows) }
+{
+    let mut rows = RankedRows::new(alloc);
+    for number in 0..table.stack_count() {
+        add_row(&mut rows, table.stack(number), ranks, sums[number])?;
+    }
+    Ok(rows)
 }
 
 /// The numbers of the stacks that a list keeps, by the ranks of their names.

@@ -8,12 +8,14 @@ ghost use Rattle.merged_stacks.specs.Timeline.{total_weight, samples_of};
 ghost use Rattle.merged_stacks.specs.Merged.{weighed, all_samples, merged_samples, are_in_order};
 ghost use Rattle.merged_stacks.specs.Order.{AreRising};
 ghost use Rattle.merged_stacks.specs.RankedStacks.{ranked_samples, ranks_at, NamesEachRank};
+ghost use Rattle.merged_stacks.specs.Sums.{HaveSameSums, kept_samples};
 ghost use Rattle.merged_stacks.specs.checked.Ranks.{all_told};
 ghost use Rattle.merged_stacks.specs.checked.Ranked.{AreMerged, HasSums, IsNamedBy};
 
-use crate::list_sums::{add_list, with_list};
+use crate::list_sums::{add_list, rows_of_sums, with_list};
 use crate::stack_rows::StackRows;
 use ranked_rows::{NameRanks, RankedRows, Sorting};
+use sample_tables::RowTable;
 use stack_core::SourceList;
 use std::alloc::{AllocError, Global};
 use std::marker::Model;
@@ -67,6 +69,24 @@ impl MergedStacks {
     {
         let NameRanks { names, ranks } = NameRanks::of(alloc, &lists)?;
         let rows = ranked_out(alloc, lists, ranks)?;
+        MergedStacks::merged(alloc, names, rows, sorting)
+    }
+
+    /// Of the stacks that a table keeps, each with this sum.
+    pub fn of_sums<S: Sorting>(
+        alloc: Global,
+        table: &RowTable,
+        sums: &[u64],
+        sorting: &S,
+    ) -> Result<MergedStacks, AllocError>
+        requires sums { length sums.now ≡ length table.now.stacks }
+        requires total { total_weight (kept_samples table.now.names table.now.stacks sums.now) < 2 ^ 64 }
+        ensures { IfOk result (λ merged. (samples : List Sample)
+            → HaveSameSums (kept_samples table.now.names table.now.stacks sums.now) samples
+            → ranked_samples merged ≡ merged_samples samples) }
+    {
+        let NameRanks { names, ranks } = NameRanks::of_table(alloc, table)?;
+        let rows = rows_of_sums(alloc, table, sums, &ranks)?;
         MergedStacks::merged(alloc, names, rows, sorting)
     }
 

@@ -1,8 +1,7 @@
 -- Told names, of which equal ones are mostly kept once.
-use Rattle.std.proofs.Common.{◌≡◌, ◌∙◌, ◌<◌, ◌≤◌, ◌+◌, ℕ, List, [], ◌∷◌, ◌++◌, false, length, map, get_or, take, drop, All, IsPermutation, refl, sym, ap, subst, arith, is_lt, length-append}
+use Rattle.std.proofs.Common.{◌≡◌, ◌∙◌, ◌<◌, ◌≤◌, ◌+◌, ℕ, List, [], ◌∷◌, ◌++◌, false, length, map, get_or, All, IsPermutation, refl, sym, ap, subst, arith, is_lt, length-append}
 use Rattle.std.specs.Prelude.{slice_index}
 use Rattle.std.specs.List.{enumerate_from}
-use Rattle.std.proofs.Math.Seq.{take-append_seam}
 use Rattle.std.proofs.lemmas.List.{get_or-map, get_or_append_left, length-map, map-append, map_push}
 use Rattle.std.proofs.lemmas.List.Elements.{All-head, All-map, All-push, All-tail, All-weaker}
 use Rattle.sample_tables.specs.Rows.{name_at}

@@ -3,13 +3,15 @@
 ghost use Rattle.std.specs.Prelude.{◌≡◌, ◌+◌, ◌-◌, ◌<◌, ◌++◌, ◌≢◌, IsTrue, false, ℕ, List, All, IfOk, OnOk, length, map, string_bytes, slice_index};
 ghost use Rattle.std.specs.Ordering.{nat_cmp, is_lt};
 ghost use Rattle.std.specs.Cmp.Lexicographic.{slice_cmp};
+ghost use Rattle.std.specs.List.{enumerate_from};
 ghost use Rattle.sample_tables.specs.Rows.{name_at};
 ghost use Rattle.ranked_rows.specs.Ranks.{AreRising, all_told, AreRanks};
-ghost use Rattle.ranked_rows.specs.checked.Names.{AreKept, AreSorted, Grows};
+ghost use Rattle.ranked_rows.specs.checked.Names.{AreKept, AreSorted, Grows, placed_name};
 
 use crate::told_names::{
-    NameAt, ToldNames, names_of_list, names_of_lists, names_of_pair, narrowed,
+    NameAt, ToldNames, names_of_list, names_of_lists, names_of_pair, names_of_table, narrowed,
 };
+use sample_tables::RowTable;
 use stack_core::SourceList;
 use std::alloc::{AllocError, Global};
 
@@ -44,6 +46,14 @@ impl NameRanks {
     {
         ranks_of_told(alloc, names_of_pair(alloc, before, after)?)
     }
+
+    /// Of the names of a table, which are mostly different ones.
+    pub fn of_table(alloc: Global, table: &RowTable) -> Result<NameRanks, AllocError>
+        ensures { IfOk result (λ all.
+            AreRanks table.now.names (map string_bytes all.names.items) all.ranks.items) }
+    {
+        ranks_of_named(alloc, names_of_table(alloc, table)?)
+    }
 }
 
 /// Of the names of one list, which are mostly different ones.
@@ -51,7 +61,15 @@ fn ranks_of_list(alloc: Global, list: &SourceList) -> Result<NameRanks, AllocErr
     ensures { IfOk result (λ all.
         AreRanks list.now.told (map string_bytes all.names.items) all.ranks.items) }
 {
-    let mut told = names_of_list(alloc, list)?;
+    ranks_of_named(alloc, names_of_list(alloc, list)?)
+}
+
+/// Of names, each with its place among them.
+fn ranks_of_named(alloc: Global, mut told: Vec<NameAt<'_>>) -> Result<NameRanks, AllocError>
+    requires { (names : List (List ℕ)) × (map placed_name told.items ≡ enumerate_from 0 names) }
+    ensures { IfOk result (λ all. (names : List (List ℕ)) → map placed_name told.entry.items ≡ enumerate_from 0 names
+        → AreRanks names (map string_bytes all.names.items) all.ranks.items) }
+{
     told.sort_unstable();
     rank(alloc, &told)
 }

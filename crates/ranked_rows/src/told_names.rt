@@ -5,7 +5,7 @@ ghost use Rattle.std.specs.List.{enumerate_from};
 ghost use Rattle.ranked_rows.specs.Ranks.{all_told};
 ghost use Rattle.ranked_rows.specs.checked.Names.{placed_name, AreKept, IsKept, KeepsMore};
 
-use sample_tables::{NumberCache, hash_of_name};
+use sample_tables::{NumberCache, RowTable, hash_of_name};
 use stack_core::SourceList;
 use std::alloc::{AllocError, Global};
 
@@ -31,6 +31,17 @@ pub(crate) fn names_of_list(alloc: Global, list: &SourceList) -> Result<Vec<Name
     let mut kept = Vec::new(alloc);
     for number in 0..list.told() {
         kept.push((list.told_name(number), number))?;
+    }
+    Ok(kept)
+}
+
+/// The names of a table, each of which is kept.
+pub(crate) fn names_of_table(alloc: Global, table: &RowTable) -> Result<Vec<NameAt<'_>>, AllocError>
+    ensures { IfOk result (λ kept. map placed_name kept.items ≡ enumerate_from 0 table.now.names) }
+{
+    let mut kept = Vec::new(alloc);
+    for number in 0..table.name_count() {
+        kept.push((table.name(number), number))?;
     }
     Ok(kept)
 }

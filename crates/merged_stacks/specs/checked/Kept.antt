@@ -1,23 +1,12 @@
--- The stacks that a list keeps, each as one sample with the sum of its samples.
+-- The stacks that a list keeps, by their numbers, and their sums while its samples come.
 use Rattle.std.specs.Prelude.{◌≡◌, ℕ, ◌+◌, Bool, cond, List, [], ◌∷◌, sum_by, slice_index}
 use Rattle.sample_tables.specs.declared.samples.Sample.{Sample}
 use Rattle.sample_tables.specs.Rows.{Row, named, stack_at}
-use Rattle.merged_stacks.specs.Timeline.{Stack, total_weight}
-use Rattle.merged_stacks.specs.Merged.{weighed, sum_at}
-
-abbrev pub kept_samples : List (List ℕ) → List (List ℕ) → List ℕ → List Sample
-kept_samples told [] sums = []
-kept_samples told (frames ∷ stacks) [] = []
-kept_samples told (frames ∷ stacks) (sum ∷ sums) = named told (record { frames = frames; weight = sum }) ∷ kept_samples told stacks sums
+pub use Rattle.merged_stacks.specs.Sums.{kept_samples, HaveSameSums}
 
 -- the stack of a number, as a sample with its sum
 abbrev pub kept_sample : List (List ℕ) → List (List ℕ) → List ℕ → ℕ → Sample
 kept_sample told stacks sums number = named told (record { frames = stack_at stacks number; weight = slice_index sums number })
-
--- the samples have the same sums, stack by stack and together
-pub record HaveSameSums (one other : List Sample) : Type 0 where
-  pub sums : (stack : Stack) → sum_at (weighed one) stack ≡ sum_at (weighed other) stack
-  pub total : total_weight one ≡ total_weight other
 
 -- the sums of the stacks that are picked
 abbrev pub picked : (List ℕ → Bool) → List (List ℕ) → List ℕ → ℕ

@@ -1,6 +1,6 @@
 use Rattle.std.proofs.Common.{◌≡◌, ◌∙◌, ◌+◌, ◌<◌, ℕ, List, sym, ap, subst, length, get_or, set, take, map, arith}
 use Rattle.std.proofs.lemmas.List.{get_or_default, length-set, length-map}
-use Rattle.sample_tables.specs.Rows.{Row, named, row_at}
+use Rattle.sample_tables.specs.Rows.{Row, named}
 use Rattle.sample_tables.specs.declared.samples.Sample.{Sample}
 use Rattle.merged_stacks.specs.checked.Kept.{ArePicked}
 use Rattle.merged_stacks.proofs.KeptStacks.{picked_more, picked_room, row_weight}

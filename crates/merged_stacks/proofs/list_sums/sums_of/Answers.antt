@@ -1,4 +1,4 @@
-use Rattle.std.proofs.Common.{◌≡◌, ◌∙◌, ap, sym, subst, get_or, length, take, arith}
+use Rattle.std.proofs.Common.{◌≡◌, ◌∙◌, ap, subst, get_or, length, take, arith}
 use Rattle.std.proofs.lemmas.List.{length-map, take_all}
 use Rattle.sample_tables.specs.Rows.{named}
 use Rattle.merged_stacks.specs.checked.Kept.{ArePicked}

@@ -1,6 +1,6 @@
-use Rattle.std.proofs.Common.{◌≡◌, ◌<◌, ◌^◌, ℕ, List, ap, length, arith}
+use Rattle.std.proofs.Common.{◌≡◌, ◌<◌, ℕ, ap, length, arith}
 use Rattle.stack_core.specs.Ledgers.{ListState}
-use Rattle.merged_stacks.specs.checked.Growing.{IsSummed, ListFront}
+use Rattle.merged_stacks.specs.checked.Growing.{ListFront}
 use Rattle.merged_stacks.proofs.list_sums.ListSums.take.Goals as goal
 
 -- the next sample is one of the list

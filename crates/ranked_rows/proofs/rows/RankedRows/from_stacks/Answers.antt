@@ -1,4 +1,4 @@
-use Rattle.std.proofs.Common.{◌≡◌, ◌∙◌, ap, sym, subst, length, List, slice_index}
+use Rattle.std.proofs.Common.{◌∙◌, ap, List, slice_index}
 use Rattle.sample_tables.specs.declared.stacks.Span.{Span}
 use Rattle.ranked_rows.specs.checked.Entries.{ranked_rows, weighing_rows}
 use Rattle.ranked_rows.proofs.WeighingRows.{ranks_within, rows_ranked}

@@ -1,0 +1,16 @@
+use Rattle.std.proofs.Common.{arith, ap, length}
+use Rattle.std.proofs.lemmas.List.{length_push}
+use Rattle.ranked_rows.specs.checked.Names.{NameAt}
+use Rattle.ranked_rows.proofs.RankedNames.{told_more}
+use Rattle.ranked_rows.proofs.told_names.names_of_table.Goals as goal
+
+pub loop-number-preserved : goal.loop-number-preserved
+loop-number-preserved c =
+    let kept = c.loop-number.kept.items in
+    let number = c.loop-number.number in
+    let name : NameAt = (c.name.result, number) in
+    let grown = c.in_ok-push.ensures.items in
+    record {
+      count = omega (arith, ap length grown, length_push kept name, c.loop-number.invariant.count);
+      placed = told_more kept c.push.new.self.items name c.args.table.now.names number (omega (arith, c.name_count-number-end.ensures)) grown (omega (arith, c.loop-number.invariant.count)) c.name.ensures c.loop-number.invariant.placed;
+    }
