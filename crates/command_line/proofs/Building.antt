@@ -69,6 +69,7 @@ argument_is_simple argument.LiveStrict = refl
 argument_is_simple argument.Output = refl
 argument_is_simple argument.Quiet = refl
 argument_is_simple argument.Page = refl
+argument_is_simple argument.LivePage = refl
 argument_is_simple argument.Svg = refl
 argument_is_simple argument.Title = refl
 argument_is_simple argument.RootBelow = refl

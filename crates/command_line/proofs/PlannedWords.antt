@@ -1,6 +1,6 @@
 -- From what a parse ensures to what a plan does.
 use Rattle.std.proofs.Common.{◌≡◌, ◌∙◌, ◌≤◌, ◌&&◌, ◌||◌, inl, inr, ℕ, Bool, cond, true, false, true≢false, ne_eqb, arith, refl, sym, ap, subst, List, [], ◌∷◌, length, map, Option, Some, None, is_some, option_map, codes}
-use Rattle.std.specs.Prelude.{option_and_then, unwrap_or, IfSome, IsSomeAnd}
+use Rattle.std.specs.Prelude.{option_and_then, slice_get, unwrap_or, IfSome, IsSomeAnd}
 use Rattle.std.specs.List.{find}
 use Rattle.std.specs.Str.{bytes_eq}
 use Rattle.std.specs.Str.Parse.{IsNumeral, digits_value, without_leading_plus}
@@ -9,7 +9,7 @@ use Rattle.clap.specs.Kinds.{HasKind, IsAmong, Kinds, or_else}
 use Rattle.clap.specs.Simple.{App, HasMatchesOf, is_simple, subcommand_of, subcommand_rows_of}
 use Rattle.clap.specs.Takes.{takes as parses}
 use Rattle.clap.specs.Values.{kind_of}
-use Rattle.clap.specs.Walk.{Row, Text, is_empty, one_of, row_text}
+use Rattle.clap.specs.Walk.{Row, Text, first_of, is_empty, one_of, row_text}
 use Rattle.clap.specs.declared.error.Error.{Error}
 use Rattle.clap.specs.declared.error.kind.ErrorKind.{ErrorKind}
 use Rattle.clap.specs.declared.error.kind.ErrorKind.TheVariants as kind
@@ -17,7 +17,7 @@ use Rattle.clap.specs.declared.parser.matches.ArgMatches.{ArgMatches}
 use Rattle.command_line.specs.CommandLine.{command_line}
 use Rattle.command_line.specs.EarlyValues.{told_kind, told_kinds}
 use Rattle.command_line.specs.checked.Entries.{IsFaultOf, IsNumberAt, IsRead, compares}
-use Rattle.command_line.specs.Plans.{IsComparison, IsDrawn, IsFaultAmong, IsOfOneProfile, IsOfStreams, IsPage, IsPicture, IsRequest, call_table_of, command_plan, compared_view, diff_table_of, entered_plan, entries_fault, fault_of, form_of, has_conflict, has_its_form, has_its_page, is_set, is_used, knows_format, knows_order, knows_unit, live_every, live_plan, number_at, own_fault, page_of, picture_of, plan_with, svg_plan, table_of, text_form, types_plan, view_of, width_of}
+use Rattle.command_line.specs.Plans.{IsComparison, IsDrawn, IsFaultAmong, IsOfOneProfile, IsOfStreams, IsPage, IsPicture, IsRequest, call_table_of, command_plan, compared_view, diff_table_of, entered_plan, entries_fault, fault_of, form_of, has_conflict, has_its_form, has_its_page, has_picture_conflict, has_two_files, is_set, is_used, knows_format, knows_order, knows_unit, live_every, live_plan, number_at, output_of, own_fault, page_of, pages_of, picture_of, plan_with, svg_plan, table_of, text_form, types_plan, view_of, width_of}
 use Rattle.command_line.specs.declared.plans.Form.{Form}
 use Rattle.command_line.specs.declared.plans.Form.TheVariants as form
 use Rattle.command_line.specs.declared.arguments.TheConstants.{MOST_BETWEEN_SNAPSHOTS}
@@ -87,6 +87,7 @@ pub record Asks (plan : Plan) : Type 0 where
   pub alone : IsPicture plan.form → plan.options.every ≡ None
   pub types : plan.form ≡ form.Types → IsOfOneProfile plan
   pub live : plan.form ≡ form.Live → IsOfStreams plan
+  pub pages : IfSome plan.pages (λ _. (plan.form ≡ form.Live) × (plan.output ≡ None))
 
 -- an option that was not used has no number
 unused_number : (entries : List Row) (id : Text) → is_used id entries ≡ false → number_at id entries ≡ None
@@ -132,7 +133,7 @@ picture_is_set name entries = go (is_set (codes "page") entries) (is_set (codes 
     go false false is picture = absurd (no_picture name entries picture)
 
 -- beside it stand no snapshots
-picture_has_no_snapshots : (name : Text) (entries : List Row) → has_conflict entries ≡ false → IsPicture (form_of name entries) → number_at (codes "every") entries ≡ None
+picture_has_no_snapshots : (name : Text) (entries : List Row) → has_picture_conflict entries ≡ false → IsPicture (form_of name entries) → number_at (codes "every") entries ≡ None
 picture_has_no_snapshots name entries alone picture =
     unused_number entries (codes "every") (go (is_set (codes "page") entries) (is_used (codes "every") entries) (is_used (codes "least") entries) (ap (λ svg. svg && (is_set (codes "page") entries || (is_used (codes "every") entries || is_used (codes "least") entries))) (sym (picture_is_set name entries picture)) ∙ alone))
   where
@@ -160,7 +161,7 @@ is_of_view name entries = go (is_set (codes "page") entries) (is_set (codes "svg
     go false true = tt
     go false false = no_form_of_text name entries IsOfView tt tt tt tt
 
-view_asks : (name : Text) (entries : List Row) (view : View) → IsRead name entries → has_conflict entries ≡ false → view_of name entries ≡ Some view → Asks (plan_with name entries view)
+view_asks : (name : Text) (entries : List Row) (view : View) → IsRead name entries → has_picture_conflict entries ≡ false → view_of name entries ≡ Some view → Asks (plan_with name entries view)
 view_asks name entries view read alone known = record {
   pair = λ compares. read.pair (comparison_named name entries view known compares);
   every = number_in_range (codes "every") MOST_BETWEEN_SNAPSHOTS entries read.every;
@@ -169,18 +170,40 @@ view_asks name entries view read alone known = record {
   alone = picture_has_no_snapshots name entries alone;
   types = λ types. absurd (subst IsOfView types (is_of_view name entries));
   live = λ live. absurd (subst IsOfView live (is_of_view name entries));
+  pages = tt;
 }
 
 types_asks : (name : Text) (entries : List Row) → IsRead name entries → bytes_eq name (codes "types") ≡ true → Asks (types_plan entries)
-types_asks name entries read is = record { pair = λ compares. absurd compares; every = tt; page = λ page. absurd page; picture = λ picture. absurd picture; alone = λ picture. absurd picture; types = λ _. (read.single is, refl, refl); live = λ live. cc }
+types_asks name entries read is = record { pair = λ compares. absurd compares; every = tt; page = λ page. absurd page; picture = λ picture. absurd picture; alone = λ picture. absurd picture; types = λ _. (read.single is, refl, refl); live = λ live. cc; pages = tt }
 
 live_in_range : (every : Option ℕ) → IfSome every (λ n. (1 ≤ n) × (n ≤ MOST_BETWEEN_SNAPSHOTS))
     → (1 ≤ unwrap_or every 1000) × (unwrap_or every 1000 ≤ MOST_BETWEEN_SNAPSHOTS)
 live_in_range None known = (omega arith, omega arith)
 live_in_range (Some n) known = known
 
-live_asks : (name : Text) (entries : List Row) → IsRead name entries → Asks (live_plan entries)
-live_asks name entries read = record {
+-- an option that was not used has no value
+unused_value : (entries : List Row) (id : Text) → is_used id entries ≡ false → first_of id entries ≡ None
+unused_value entries id = go (find (λ r. bytes_eq r.id id) entries)
+  where
+    go : (found : Option Row) → is_some (option_map (λ r. r.values) found) ≡ false → option_and_then (λ r. slice_get r.values 0) found ≡ None
+    go None e = refl
+    go (Some r) e = absurd (true≢false e)
+
+-- beside pages no other file is set
+pages_alone : (entries : List Row) → has_two_files entries ≡ false → IfSome (pages_of entries) (λ _. output_of entries ≡ None)
+pages_alone entries alone = go (is_used (codes "pages") entries) refl alone
+  where
+    of_value : (value : Option Text) → output_of entries ≡ None → IfSome value (λ _. output_of entries ≡ None)
+    of_value None none = tt
+    of_value (Some value) none = none
+
+    go : (used : Bool) → is_used (codes "pages") entries ≡ used → (used && is_used (codes "output") entries) ≡ false
+        → IfSome (pages_of entries) (λ _. output_of entries ≡ None)
+    go true used alone = of_value (pages_of entries) (unused_value entries (codes "output") alone)
+    go false used alone = rw (unused_value entries (codes "pages") used) tt
+
+live_asks : (name : Text) (entries : List Row) → IsRead name entries → has_two_files entries ≡ false → Asks (live_plan entries)
+live_asks name entries read alone = record {
   pair = λ compares. absurd compares;
   every = live_in_range (number_at (codes "every") entries) (number_in_range (codes "every") MOST_BETWEEN_SNAPSHOTS entries read.every);
   page = λ page. absurd page;
@@ -188,10 +211,15 @@ live_asks name entries read = record {
   alone = λ picture. absurd picture;
   types = λ types. cc;
   live = λ _. record { width = width_of entries; every = live_every entries; view = refl; options = refl; format = refl; from = refl; omit = refl };
+  pages = with_form (pages_of entries) (pages_alone entries alone);
 }
+  where
+    with_form : (value : Option Text) → IfSome value (λ _. output_of entries ≡ None) → IfSome value (λ _. (form.Live ≡ form.Live) × (output_of entries ≡ None))
+    with_form None known = tt
+    with_form (Some value) known = (refl, known)
 
 svg_asks : (name : Text) (entries : List Row) → IsRead name entries → Asks (svg_plan entries)
-svg_asks name entries read = record { pair = λ compares. absurd compares; every = tt; page = λ page. absurd page; picture = λ _. tt; alone = λ _. refl; types = λ types. cc; live = λ live. cc }
+svg_asks name entries read = record { pair = λ compares. absurd compares; every = tt; page = λ page. absurd page; picture = λ _. tt; alone = λ _. refl; types = λ types. cc; live = λ live. cc; pages = tt }
 
 -- entries without a fault
 pub none_in : (kinds : Kinds) → is_empty kinds ≡ true → kinds ≡ []
@@ -207,18 +235,20 @@ with_no_fault {A} kinds o x at = go (is_empty kinds) refl at
     go true is at = (none_in kinds is, at)
     go false is at = cc
 
-no_conflict : (name : Text) (entries : List Row) → entries_fault name entries ≡ [] → has_conflict entries ≡ false
-no_conflict name entries = go (knows_format entries && (knows_order entries && knows_unit entries)) (has_conflict entries) (has_its_page entries && has_its_form name entries)
+no_conflict : (name : Text) (entries : List Row) → entries_fault name entries ≡ [] → (has_two_files entries ≡ false) × (has_picture_conflict entries ≡ false)
+no_conflict name entries = go (knows_format entries && (knows_order entries && knows_unit entries)) (has_two_files entries) (has_picture_conflict entries) (has_its_page entries && has_its_form name entries)
   where
-    go : (known conflict formed : Bool) → cond known (cond conflict (kind.ArgumentConflict ∷ []) (cond formed [] (kind.MissingRequiredArgument ∷ []))) (kind.InvalidValue ∷ []) ≡ [] → conflict ≡ false
-    go false conflict formed e = cc
-    go true true formed e = cc
-    go true false formed e = refl
+    go : (known files picture formed : Bool) → cond known (cond (files || picture) (kind.ArgumentConflict ∷ []) (cond formed [] (kind.MissingRequiredArgument ∷ []))) (kind.InvalidValue ∷ []) ≡ []
+        → (files ≡ false) × (picture ≡ false)
+    go false files picture formed e = cc
+    go true true picture formed e = cc
+    go true false true formed e = cc
+    go true false false formed e = (refl, refl)
 
 command_asks : (name : Text) (entries : List Row) (plan : Plan) → IsRead name entries → command_plan name entries ≡ Some plan → Asks plan
 command_asks name entries plan read is = of_name (bytes_eq name (codes "types")) (bytes_eq name (codes "live")) (bytes_eq name (codes "svg")) refl (with_no_fault (entries_fault name entries) _ plan is).1
   where
-    alone : has_conflict entries ≡ false
+    alone : (has_two_files entries ≡ false) × (has_picture_conflict entries ≡ false)
     alone = no_conflict name entries (with_no_fault (entries_fault name entries) _ plan is).0
 
     same : (p : Plan) → Some p ≡ Some plan → Asks p → Asks plan
@@ -226,12 +256,12 @@ command_asks name entries plan read is = of_name (bytes_eq name (codes "types"))
 
     of_view : (view : Option View) → view_of name entries ≡ view → option_map (plan_with name entries) view ≡ Some plan → Asks plan
     of_view None known at = cc
-    of_view (Some view) known at = same (plan_with name entries view) at (view_asks name entries view read alone known)
+    of_view (Some view) known at = same (plan_with name entries view) at (view_asks name entries view read alone.1 known)
 
     of_name : (types live svg : Bool) → bytes_eq name (codes "types") ≡ types
         → cond types (Some (types_plan entries)) (cond live (Some (live_plan entries)) (cond svg (Some (svg_plan entries)) (option_map (plan_with name entries) (view_of name entries)))) ≡ Some plan → Asks plan
     of_name true live svg named at = same (types_plan entries) at (types_asks name entries read named)
-    of_name false true svg named at = same (live_plan entries) at (live_asks name entries read)
+    of_name false true svg named at = same (live_plan entries) at (live_asks name entries read alone.0)
     of_name false false true named at = same (svg_plan entries) at (svg_asks name entries read)
     of_name false false false named at = of_view (view_of name entries) refl at
 

@@ -400,7 +400,7 @@ svg_known = record {
 
 live_known : KnowsArguments built_live.rules
 live_known = record {
-  firsts = (refl, (refl, (refl, (refl, (refl, (refl, (refl, tt)))))));
+  firsts = (refl, (refl, (refl, (refl, (refl, (refl, (refl, (refl, tt))))))));
   width = refl;
   ring = refl;
   every = refl;

@@ -16,7 +16,7 @@ use Rattle.run_options.specs.Formats.{named_format}
 use Rattle.run_options.specs.Orders.{named_order}
 use Rattle.command_line.specs.Units.{named_unit}
 use Rattle.run_options.specs.declared.orders.FunctionOrder.TheVariants.{Own}
-use Rattle.command_line.specs.Plans.{asked_format, asked_unit, draws_shares, form_of, function_of, has_conflict, has_its_form, has_its_page, is_drawn, is_root_below, is_set, is_used, knows_format, knows_order, knows_unit, number_at, order_of, page_of, pick_of, picture_of, picture_path, shows_boxes, text_form, values_at}
+use Rattle.command_line.specs.Plans.{asked_format, asked_unit, draws_shares, form_of, function_of, has_conflict, has_its_form, has_its_page, has_picture_conflict, has_two_files, is_drawn, is_root_below, is_set, is_used, knows_format, knows_order, knows_unit, number_at, order_of, page_of, pick_of, picture_of, picture_path, shows_boxes, text_form, values_at}
 use Rattle.command_line.specs.declared.plans.Form.TheVariants as form
 
 -- how `u32` reads a text
@@ -164,18 +164,31 @@ pub written : (name : Text) (entries : List Row) → is_set (codes "page") entri
 written name entries unset unpictured = rw (unset, unpictured) refl
 
 -- what a picture excludes
-pub no_picture : (entries : List Row) → is_set (codes "svg") entries ≡ false → has_conflict entries ≡ false
+pub no_picture : (entries : List Row) → is_set (codes "svg") entries ≡ false → has_picture_conflict entries ≡ false
 no_picture entries unset = rw unset refl
 
-pub with_page : (entries : List Row) → is_set (codes "svg") entries ≡ true → is_set (codes "page") entries ≡ true → has_conflict entries ≡ true
+pub with_page : (entries : List Row) → is_set (codes "svg") entries ≡ true → is_set (codes "page") entries ≡ true → has_picture_conflict entries ≡ true
 with_page entries svg page = rw (svg, page) refl
 
-pub with_every : (entries : List Row) → is_set (codes "svg") entries ≡ true → is_set (codes "page") entries ≡ false → is_used (codes "every") entries ≡ true → has_conflict entries ≡ true
+pub with_every : (entries : List Row) → is_set (codes "svg") entries ≡ true → is_set (codes "page") entries ≡ false → is_used (codes "every") entries ≡ true → has_picture_conflict entries ≡ true
 with_every entries svg page every = rw (svg, page, every) refl
 
 pub by_least : (entries : List Row) → is_set (codes "svg") entries ≡ true → is_set (codes "page") entries ≡ false → is_used (codes "every") entries ≡ false
-    → has_conflict entries ≡ is_used (codes "least") entries
+    → has_picture_conflict entries ≡ is_used (codes "least") entries
 by_least entries svg page every = rw (svg, page, every) refl
+
+-- pages and another output
+pub with_two_files : (entries : List Row) → has_two_files entries ≡ true → has_conflict entries ≡ true
+with_two_files entries two = rw two refl
+
+pub with_one_file : (entries : List Row) → has_two_files entries ≡ false → has_conflict entries ≡ has_picture_conflict entries
+with_one_file entries one = rw one refl
+
+pub paged_in_a_file : (entries : List Row) → is_used (codes "pages") entries ≡ true → has_two_files entries ≡ is_used (codes "output") entries
+paged_in_a_file entries used = rw used refl
+
+pub without_pages : (entries : List Row) → is_used (codes "pages") entries ≡ false → has_two_files entries ≡ false
+without_pages entries unused = rw unused refl
 
 -- what is said of a page or a picture alone
 pub asked_page : (entries : List Row) → is_set (codes "page") entries ≡ true → has_its_page entries ≡ true

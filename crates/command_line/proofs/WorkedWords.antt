@@ -9,11 +9,13 @@ use Rattle.run_options.specs.declared.choices.Pick.TheVariants.{Preferred, Named
 use Rattle.command_line.specs.CommandLine.{command_line}
 use Rattle.run_options.specs.Filters.{everything}
 use Rattle.run_options.specs.Formats.{format_at}
+use Rattle.command_line.specs.Destinations.{destination_of}
 use Rattle.command_line.specs.EarlyValues.{refuses_before_help}
 use Rattle.command_line.specs.Plans.{fault_of, plan_of, takes}
 use Rattle.run_options.specs.declared.formats.Format.TheVariants.{Folded, Pprof}
 use Rattle.run_options.specs.declared.options.Options.{Options}
 use Rattle.run_options.specs.declared.orders.FunctionOrder.TheVariants.{Own, Total}
+use Rattle.command_line.specs.declared.destinations.Destination.TheVariants.{Pages}
 use Rattle.command_line.specs.declared.plans.DiffTable.{DiffTable}
 use Rattle.command_line.specs.declared.plans.Form.TheVariants as form
 use Rattle.command_line.specs.declared.plans.Plan.{Plan}
@@ -33,7 +35,7 @@ abbrev changes : TopTable → DiffTable
 changes table = record { table = table; is_share = false; fail_over = None }
 
 abbrev plan_with : View → Options → List Text → Plan
-plan_with view options files = record { view = view; options = options; from = None; omit = []; output = None; format = None; files = files; form = form.Text; is_strict = false; is_quiet = false; unit = None }
+plan_with view options files = record { view = view; options = options; from = None; omit = []; output = None; pages = None; format = None; files = files; form = form.Text; is_strict = false; is_quiet = false; unit = None }
 
 graph_with_a_width : plan_of (codes "graph" ∷ codes "--width" ∷ codes "10" ∷ codes "x.folded" ∷ [])
     ≡ Some (plan_with (Graph 10) defaults (codes "x.folded" ∷ []))
@@ -68,9 +70,43 @@ no_format_of_live : fault_of command_line (codes "live" ∷ codes "--format" ∷
 unfolding clap_on_literals
 no_format_of_live = refl
 
-no_page_of_live : fault_of command_line (codes "live" ∷ codes "--page" ∷ []) ≡ kind.UnknownArgument ∷ []
+live_on_a_page : plan_of (codes "live" ∷ codes "--page" ∷ codes "x.html" ∷ codes "a" ∷ [])
+    ≡ Some (record (live_with 1200 (record defaults { every = Some 1000 }) (codes "a" ∷ [])) { pages = Some (codes "x.html") })
 unfolding clap_on_literals
-no_page_of_live = refl
+live_on_a_page = refl
+
+live_on_a_page_at_once : plan_of (codes "live" ∷ codes "a.folded" ∷ codes "--page=x.html" ∷ codes "--every" ∷ codes "5" ∷ codes "--width=9" ∷ [])
+    ≡ Some (record (live_with 9 (record defaults { every = Some 5 }) (codes "a.folded" ∷ [])) { pages = Some (codes "x.html") })
+unfolding clap_on_literals
+live_on_a_page_at_once = refl
+
+pages_of_live_in_a_file : destination_of (codes "live" ∷ codes "--page" ∷ codes "x.html" ∷ []) ≡ Pages (codes "x.html")
+unfolding clap_on_literals
+pages_of_live_in_a_file = refl
+
+page_of_live_and_output : fault_of command_line (codes "live" ∷ codes "--page" ∷ codes "x.html" ∷ codes "-o" ∷ codes "y" ∷ []) ≡ kind.ArgumentConflict ∷ []
+unfolding clap_on_literals
+page_of_live_and_output = refl
+
+no_plan_of_page_and_output : plan_of (codes "live" ∷ codes "--output=y" ∷ codes "--page=x.html" ∷ []) ≡ None
+unfolding clap_on_literals
+no_plan_of_page_and_output = refl
+
+page_of_live_without_a_file : fault_of command_line (codes "live" ∷ codes "--page" ∷ []) ≡ kind.InvalidValue ∷ []
+unfolding clap_on_literals
+page_of_live_without_a_file = refl
+
+nameless_page_of_live : fault_of command_line (codes "live" ∷ codes "--page=" ∷ []) ≡ kind.InvalidValue ∷ []
+unfolding clap_on_literals
+nameless_page_of_live = refl
+
+two_pages_of_live : fault_of command_line (codes "live" ∷ codes "--page=x" ∷ codes "--page=y" ∷ []) ≡ kind.ArgumentConflict ∷ []
+unfolding clap_on_literals
+two_pages_of_live = refl
+
+no_other_name_of_the_pages : fault_of command_line (codes "live" ∷ codes "--pages" ∷ codes "x" ∷ []) ≡ kind.UnknownArgument ∷ []
+unfolding clap_on_literals
+no_other_name_of_the_pages = refl
 
 strict_live : plan_of (codes "live" ∷ codes "--strict" ∷ []) ≡ Some (record (live_with 1200 (record defaults { every = Some 1000 }) []) { is_strict = true })
 unfolding clap_on_literals

@@ -101,6 +101,10 @@ output_option = record (text_option (codes "output")) { short = Some 111; parser
 abbrev pub page_flag : Rule
 page_flag = flag (codes "page")
 
+-- `--page` with a file, by an id of its own
+abbrev pub pages_option : Rule
+pages_option = record (text_option (codes "pages")) { long = Some (codes "page"); parser = Some NonEmptyString }
+
 abbrev pub svg_flag : Rule
 svg_flag = flag (codes "svg")
 
@@ -138,7 +142,7 @@ svg_command = command (codes "svg") (width_option ∷ type_option ∷ unit_optio
     ∷ title_option ∷ root_below_flag ∷ any_files (codes "file") ∷ [])
 
 abbrev pub live_command : Shape
-live_command = command (codes "live") (width_option ∷ every_option ∷ ring_option ∷ strict_flag ∷ output_option ∷ any_files (codes "file") ∷ [])
+live_command = command (codes "live") (width_option ∷ every_option ∷ ring_option ∷ strict_flag ∷ output_option ∷ pages_option ∷ any_files (codes "file") ∷ [])
 
 abbrev pub compare_command : Shape
 compare_command = command (codes "compare") (width_option ∷ type_option ∷ unit_option ∷ format_option

@@ -5,7 +5,7 @@ use Rattle.clap.specs.Walk.{Text}
 use Rattle.command_line.specs.CommandLine.{command_line}
 use Rattle.command_line.specs.Plans.{fault_of, plan_of}
 use Rattle.command_line.specs.declared.destinations.Destination.{Destination}
-use Rattle.command_line.specs.declared.destinations.Destination.TheVariants.{File, Standard}
+use Rattle.command_line.specs.declared.destinations.Destination.TheVariants.{File, Pages, Standard}
 use Rattle.command_line.specs.declared.plans.Form.{Form}
 use Rattle.command_line.specs.declared.plans.Form.TheVariants as form
 use Rattle.command_line.specs.declared.plans.Plan.{Plan}
@@ -22,7 +22,7 @@ is_document (form.Callees table) = false
 is_document (form.Peek table) = false
 
 abbrev pub written_to : Plan → Destination
-written_to plan = option_map_or File plan.output (Standard (is_document plan.form))
+written_to plan = option_map_or Pages plan.pages (option_map_or File plan.output (Standard (is_document plan.form)))
 
 -- words with a fault, or with a wish for help, have no plan to be written
 abbrev pub destination_of : List Text → Destination

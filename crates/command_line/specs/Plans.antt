@@ -111,6 +111,10 @@ omit_of entries = values_at (codes "omit") entries
 abbrev pub output_of : List Row → Option Text
 output_of entries = first_of (codes "output") entries
 
+-- the file whose place the pages of `live` take, if the words set one
+abbrev pub pages_of : List Row → Option Text
+pages_of entries = first_of (codes "pages") entries
+
 abbrev pub default_options : Options
 default_options = options_of []
 
@@ -217,9 +221,16 @@ form_of name entries =
     else (if is_set (codes "svg") entries then form.Picture (picture_of entries) else text_form name entries)
 
 -- a picture is no page, has no snapshots, and leaves boxes out by its width alone
-abbrev pub has_conflict : List Row → Bool
-has_conflict entries = is_set (codes "svg") entries
+abbrev pub has_picture_conflict : List Row → Bool
+has_picture_conflict entries = is_set (codes "svg") entries
     && (is_set (codes "page") entries || (is_used (codes "every") entries || is_used (codes "least") entries))
+
+-- where pages take the place of a file, nothing else is written
+abbrev pub has_two_files : List Row → Bool
+has_two_files entries = is_used (codes "pages") entries && is_used (codes "output") entries
+
+abbrev pub has_conflict : List Row → Bool
+has_conflict entries = has_two_files entries || has_picture_conflict entries
 
 -- a least weight is that of a page, and a title, a root below and the shares of `compare` are those of a page or a picture
 abbrev pub has_its_page : List Row → Bool
@@ -245,6 +256,7 @@ plan_with name entries view = record {
   from = from_of entries;
   omit = omit_of entries;
   output = output_of entries;
+  pages = None;
   format = asked_format entries;
   files = files_of entries;
   form = form_of name entries;
@@ -261,6 +273,7 @@ types_plan entries = record {
   from = None;
   omit = [];
   output = output_of entries;
+  pages = None;
   format = Some Pprof;
   files = files_of entries;
   form = form.Types;
@@ -280,7 +293,7 @@ live_options entries = record default_options {
 }
 
 -- the plan of `live`: the files are streams of folded text, whatever their names, and all of their samples are drawn; its lines
--- tell how far it is
+-- or pages tell how far it is
 abbrev pub live_plan : List Row → Plan
 live_plan entries = record {
   view = Graph (width_of entries);
@@ -288,6 +301,7 @@ live_plan entries = record {
   from = None;
   omit = [];
   output = output_of entries;
+  pages = pages_of entries;
   format = Some Folded;
   files = files_of entries;
   form = form.Live;
@@ -309,7 +323,7 @@ svg_plan entries = record (plan_with (codes "svg") entries (Graph (width_of entr
   form = form.Picture (picture_of entries);
 }
 
--- the faults of a command's entries that `clap` takes: a format, an order or a unit that there is not, else a picture beside what it excludes, else
+-- the faults of a command's entries that `clap` takes: a format, an order or a unit that there is not, else what excludes each other, else
 -- what is said of a page or a picture where none is asked for
 abbrev pub entries_fault : Text → List Row → Kinds
 entries_fault name entries =

@@ -5,8 +5,8 @@ ghost use Rattle.command_line.specs.checked.Commands.{rule_at};
 
 use crate::arguments::{
     MOST_BETWEEN_SNAPSHOTS, fail_over_option, files, filter_option, flag, form_flag, from_option,
-    least_option, number_option, one_value, output_option, ring_option, rows_option, text_option,
-    title_option,
+    least_option, number_option, one_value, output_option, pages_option, ring_option, rows_option,
+    text_option, title_option,
 };
 use clap::Arg;
 use run_options::MAX_WIDTH;
@@ -38,6 +38,7 @@ pub(crate) enum Argument {
     Output,
     Quiet,
     Page,
+    LivePage,
     Svg,
     Title,
     RootBelow,
@@ -136,6 +137,7 @@ pub(crate) const LIVE: &[Argument] = &[
     Argument::Ring,
     Argument::LiveStrict,
     Argument::Output,
+    Argument::LivePage,
     Argument::Streams,
 ];
 
@@ -264,6 +266,8 @@ impl Argument {
             Argument::Output => "File for what is written, which takes its place when it is whole",
             Argument::Quiet => "Show no progress on a terminal",
             Argument::Page => "Write a page for browsers instead",
+            Argument::LivePage =>
+                "Renew a page for browsers in FILE instead, which loads itself again while more is to come",
             Argument::Svg => "Write an SVG instead",
             Argument::Title => "Title of the page or the SVG",
             Argument::RootBelow => "Draw the root below in the page or the SVG",
@@ -310,6 +314,7 @@ impl Argument {
             Argument::Output => output_option(alloc, help),
             Argument::Quiet => flag(alloc, "quiet", help),
             Argument::Page => form_flag(alloc, "page", help),
+            Argument::LivePage => pages_option(alloc, help),
             Argument::Svg => form_flag(alloc, "svg", help),
             Argument::Title => title_option(alloc, help),
             Argument::RootBelow => form_flag(alloc, "root-below", help),

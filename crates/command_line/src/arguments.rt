@@ -1,7 +1,7 @@
 //! The kinds of arguments that commands have: options, flags and files.
 ghost use Rattle.std.specs.Prelude.{◌≡◌, codes};
 ghost use Rattle.clap.specs.Words.{rule_of};
-ghost use Rattle.command_line.specs.CommandLine.{any_files, fail_over_option, flag, from_option, least_option, number_option, one_value, output_option, ring_option, rows_option, text_option, texts_option, title_option};
+ghost use Rattle.command_line.specs.CommandLine.{any_files, fail_over_option, flag, from_option, least_option, number_option, one_value, output_option, pages_option, ring_option, rows_option, text_option, texts_option, title_option};
 
 use clap::builder::ValueParser;
 use clap::{Arg, ArgAction, value_parser};
@@ -89,6 +89,15 @@ pub(crate) fn output_option<'a>(alloc: Global, help: &'a str) -> Arg<'a>
 {
     text_option(alloc, "output", "FILE", help)
         .short('o')
+        .value_parser(ValueParser::NonEmptyString)
+}
+
+// Of another id than the flag of that name.
+pub(crate) fn pages_option<'a>(alloc: Global, help: &'a str) -> Arg<'a>
+    ensures { rule_of result ≡ pages_option }
+{
+    text_option(alloc, "pages", "FILE", help)
+        .long("page")
         .value_parser(ValueParser::NonEmptyString)
 }
 

@@ -14,6 +14,8 @@ pub enum Destination {
     Standard { is_document: bool },
     /// To the file of this path.
     File(Text),
+    /// To the file of this path, whose place one page after the other takes.
+    Pages(Text),
 }
 
 impl Destination {
@@ -21,7 +23,15 @@ impl Destination {
     fn of(plan: Plan) -> Destination
         ensures { result ≡ written_to plan }
     {
-        let Plan { output, form, .. } = plan;
+        let Plan {
+            output,
+            pages,
+            form,
+            ..
+        } = plan;
+        if let Some(path) = pages {
+            return Destination::Pages(path);
+        }
         match output {
             Some(path) => Destination::File(path),
             None => Destination::Standard {

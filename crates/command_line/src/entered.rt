@@ -85,6 +85,7 @@ fn plan_with(
         from: first(alloc, entries, "from")?,
         omit: values(alloc, entries, "omit")?,
         output: first(alloc, entries, "output")?,
+        pages: None,
         files: files(alloc, entries)?,
         options: options(alloc, entries)?,
     })
@@ -102,6 +103,7 @@ fn types_plan(alloc: Global, entries: &ArgMatches<'_>) -> Result<Plan, AllocErro
         from: None,
         omit: Names::of(Vec::new(alloc)),
         output: first(alloc, entries, "output")?,
+        pages: None,
         unit: None,
         form: Form::Types,
         files: files(alloc, entries)?,
@@ -139,6 +141,7 @@ fn live_plan(alloc: Global, entries: &ArgMatches<'_>) -> Result<Plan, AllocError
         from: None,
         omit: Names::of(Vec::new(alloc)),
         output: first(alloc, entries, "output")?,
+        pages: first(alloc, entries, "pages")?,
         unit: None,
         form: Form::Live,
         files: files(alloc, entries)?,

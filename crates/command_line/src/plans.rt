@@ -63,7 +63,7 @@ pub enum Form {
     Picture(PictureForm),
     /// The sample types of a profile, in place of a view.
     Types,
-    /// The lines of the view, the flame graph, each as soon as its last sample came.
+    /// The lines of the view, the flame graph, or its pages, each as soon as its last sample came.
     Live,
     /// A function and those that call it, in place of a view.
     Callers(CallTable),
@@ -121,6 +121,8 @@ pub struct Plan {
     pub omit: Names,
     /// The file that what is written goes to, and not standard output: the one that the words set, or of `svg` one beside the first source.
     pub output: Option<Text>,
+    /// The file whose place the pages of `live` take, one after the other and in the place of its lines, if the words set one.
+    pub pages: Option<Text>,
     /// The format of every source. None leaves it to the name of each.
     pub format: Option<Format>,
     /// The paths of the sources, in order. None is the standard input.

@@ -3,7 +3,7 @@ ghost use Rattle.std.specs.Prelude.{◌≡◌, [], IfErr, OnOk, codes, is_some, 
 ghost use Rattle.clap.specs.declared.error.kind.ErrorKind.TheVariants.{InvalidValue};
 ghost use Rattle.clap.specs.Words.{kind_of};
 ghost use Rattle.command_line.specs.EarlyValues.{told_kind};
-ghost use Rattle.command_line.specs.Plans.{IsFaultAmong, draws_shares, entries_fault, has_conflict, has_its_form, has_its_page, knows_format, knows_order, knows_unit};
+ghost use Rattle.command_line.specs.Plans.{IsFaultAmong, draws_shares, entries_fault, has_conflict, has_its_form, has_its_page, has_picture_conflict, has_two_files, knows_format, knows_order, knows_unit};
 ghost use Rattle.command_line.specs.checked.Entries.{IsFaultOf, IsFlagAt, entries_of};
 
 use crate::early_values::{Choice, refused_before_help};
@@ -15,6 +15,9 @@ use clap::error::ErrorKind;
 use clap::{ArgMatches, Error};
 use run_options::{Format, FunctionOrder};
 use std::alloc::Global;
+
+// What is said of pages beside another output.
+const PAGE_AND_OUTPUT: &str = "the argument '--page <FILE>' cannot be used with '--output <FILE>'";
 
 // What is said of a picture beside what it excludes.
 const SVG_AND_PAGE: &str = "the argument '--svg' cannot be used with '--page'";
@@ -69,8 +72,8 @@ fn refusal(alloc: Global, name: &str, error: &Error) -> PlanFault
     }
 }
 
-// Refuses a format, an order of functions or a unit that there is not, a picture beside what it excludes, and
-// what is said of a page or a picture where none is asked for.
+// Refuses a format, an order of functions or a unit that there is not, what excludes each other, and what is said of a page or a
+// picture where none is asked for.
 pub(crate) fn check_entries(
     alloc: Global,
     name: &str,
@@ -144,11 +147,35 @@ fn knows_unit(entries: &ArgMatches<'_>) -> bool
     }
 }
 
-// What is said of a picture beside the first thing that it excludes, if there is one.
+// What is said of what excludes each other, if there is such.
 fn conflict(entries: &ArgMatches<'_>) -> Option<&'static str>
     requires page { IsFlagAt (codes "page") (entries_of entries.now) }
     requires svg { IsFlagAt (codes "svg") (entries_of entries.now) }
     ensures { is_some result ≡ has_conflict (entries_of entries.now) }
+{
+    if has_two_files(entries) {
+        Some(PAGE_AND_OUTPUT)
+    } else {
+        picture_conflict(entries)
+    }
+}
+
+// A file of pages and one for what is written.
+fn has_two_files(entries: &ArgMatches<'_>) -> bool
+    ensures { result ≡ has_two_files (entries_of entries.now) }
+{
+    if entries.contains_id("pages") {
+        entries.contains_id("output")
+    } else {
+        false
+    }
+}
+
+// What is said of a picture beside the first thing that it excludes, if there is one.
+fn picture_conflict(entries: &ArgMatches<'_>) -> Option<&'static str>
+    requires page { IsFlagAt (codes "page") (entries_of entries.now) }
+    requires svg { IsFlagAt (codes "svg") (entries_of entries.now) }
+    ensures { is_some result ≡ has_picture_conflict (entries_of entries.now) }
 {
     if !entries.get_flag("svg") {
         None

@@ -34,6 +34,8 @@ pub fn plan(alloc: Global, words: &[String]) -> Result<Plan, PlanFault>
     ensures alone { IfOk result (λ plan. IsPicture plan.form → plan.options.every ≡ None) }
     ensures types { IfOk result (λ plan. plan.form ≡ Form.Types → IsOfOneProfile plan) }
     ensures live { IfOk result (λ plan. plan.form ≡ Form.Live → IsOfStreams plan) }
+    ensures pages { IfOk result (λ plan. IfSome plan.pages (λ _.
+        (plan.form ≡ Form.Live) × (plan.output ≡ None))) }
 {
     let line = command_line(alloc)?;
     match line.try_get_matches_from(words) {
@@ -56,6 +58,7 @@ pub fn plan_without_words(alloc: Global) -> Plan
         from: None,
         omit: Names::of(Vec::new(alloc)),
         output: None,
+        pages: None,
         format: None,
         files: Names::of(Vec::new(alloc)),
         form: Form::Text,

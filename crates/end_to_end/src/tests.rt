@@ -7,6 +7,7 @@ mod deliveries;
 mod folded;
 mod growths;
 mod live;
+mod live_pages;
 mod outputs;
 mod page;
 mod pictures;

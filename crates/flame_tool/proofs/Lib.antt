@@ -6,6 +6,7 @@ mod LiveSaid
 mod LiveSinks
 mod LiveStreamLemmas
 mod LiveTexts
+mod RenewedFiles
 mod RunEndings
 mod SaidSources
 mod StepWords

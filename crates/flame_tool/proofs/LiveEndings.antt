@@ -13,7 +13,7 @@ use Rattle.merged_stacks.specs.Timeline.{samples_of}
 use Rattle.ring_collect.specs.Collection.{FeedsRun}
 use Rattle.live_lines.specs.Lines.{live_counts}
 use Rattle.live_lines.specs.LiveState.{LiveState}
-use Rattle.live_lines.specs.declared.kept.LiveForm.{LiveForm}
+use Rattle.live_lines.specs.declared.form.LiveForm.{LiveForm}
 use Rattle.flame_tool.specs.checked.LiveEnds.{anywhere, is_faulty, is_faulty_end, is_stopped, status_by, status_by_ends, status_of_ends}
 use Rattle.flame_tool.specs.checked.LiveSaying.{end_of}
 use Rattle.flame_tool.proofs.StepWords.{list_any-map}

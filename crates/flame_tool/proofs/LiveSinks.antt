@@ -1,6 +1,6 @@
 -- What a live run leaves of the samples that its sink took.
 use Rattle.std.proofs.Common.{◌≡◌, ◌<◌, ◌≤◌, ℕ, suc, Bool, true, false, List, [], ◌∷◌, ◌++◌, Option, Some, None, Result, Ok, Err, All, IfErr, length, map, drop, refl, sym, ap, subst, ◌∙◌, arith, inl, inr}
-use Rattle.std.specs.Prelude.{slice_get}
+use Rattle.std.specs.Prelude.{if◌then◌else◌, is_some, slice_get}
 use Rattle.std.specs.List.{range_with_len}
 use Rattle.std.specs.Result.{IsErrAnd}
 use Rattle.std.specs.Io.KnownBytes.{Appends}
@@ -29,13 +29,15 @@ use Rattle.source_views.proofs.SnapshotLines.{front_more, front_of_nothing}
 use Rattle.opened_sources.specs.Failures.{failure_of_collect}
 use Rattle.opened_sources.specs.declared.failures.Failure.{Failure}
 use Rattle.live_lines.specs.Frames.{frames_text}
+use Rattle.live_lines.specs.Pages.{pages_text}
+use Rattle.live_lines.specs.declared.form.LiveForm.TheVariants.{Lines, Pages, Table}
 use Rattle.live_lines.specs.Lines.{end_of, live_lines, live_text}
 use Rattle.live_lines.specs.Settings.{form_number, known_numbers, live_setting}
 use Rattle.live_lines.specs.Written.{GrewByFront, grown_by}
-use Rattle.live_lines.specs.declared.kept.LiveForm.{LiveForm}
+use Rattle.live_lines.specs.declared.form.LiveForm.{LiveForm}
 use Rattle.live_lines.proofs.GraphLemmas.{text_is_graph_text}
 use Rattle.live_lines.proofs.SettingLemmas.{same_form}
-use Rattle.flame_tool.specs.LiveRuns.{AreFirst, ShowsFirstOf, ShowsSomeOf, live_texts}
+use Rattle.flame_tool.specs.LiveRuns.{AreFirst, ShowsFirstOf, ShowsSomeOf, frames_of, lines_of, live_texts, pages_of}
 use Rattle.flame_tool.specs.checked.LiveEnds.{EndsLive, FailsLive, anywhere, form_of, status_of_ends}
 
 -- ---- pairs, by their sources
@@ -92,27 +94,34 @@ are_first rests lists collected = record { count = length-map lists (λ list. li
 
 module _ (plan : Plan) (width every : ℕ) (graph : plan.view ≡ Graph width) (often : plan.options.every ≡ Some every) where
   -- what is written of samples that came in an order is what is promised of their lists
-  text_is : (is_table : Bool) (lists : List (List Sample)) (order : List ℕ) (count : ℕ) → IsInterleaving order lists → length lists ≡ count
-      → live_text (form_of is_table every) count width every (interleaved order lists) ≡ live_texts is_table plan lists order
-  text_is false lists order count ordered long =
+  text_by : (has_pages is_terminal : Bool) (lists : List (List Sample)) (order : List ℕ) (count : ℕ) → IsInterleaving order lists → length lists ≡ count
+      → live_text (if has_pages then Pages else (if is_terminal then Table every else Lines)) count width every (interleaved order lists)
+      ≡ (if has_pages then pages_of plan else (if is_terminal then frames_of plan else lines_of plan)) lists order
+  text_by true is_terminal lists order count ordered long =
+      ap (λ (often : Option ℕ). elim often [ None ↦ [] | Some every ↦ pages_text every (interleaved order lists) ]) (sym often)
+  text_by false false lists order count ordered long =
       text_is_graph_text count width every lists order ordered long
       ∙ (ap (λ every. view_text (Graph width) lists order every) (sym often) ∙ ap (λ view. view_text view lists order plan.options.every) (sym graph))
-  text_is true lists order count ordered long =
+  text_by false true lists order count ordered long =
       ap (λ n. frames_text every n (interleaved order lists)) (sym long)
       ∙ ap (λ (often : Option ℕ). elim often [ None ↦ [] | Some every ↦ frames_text every (length lists) (interleaved order lists) ]) (sym often)
 
-  module _ (is_table : Bool) (old new : Option (List ℕ)) (count : ℕ) (taken : List (ℕ × Sample)) where
-    lines_by_source : AreOf taken (by_source count taken) → AppendsFront (live_lines (form_of is_table every) count width every taken) old new → AppendsFront (live_texts is_table plan (by_source count taken) (sources_of taken)) old new
+  text_is : (is_terminal : Bool) (lists : List (List Sample)) (order : List ℕ) (count : ℕ) → IsInterleaving order lists → length lists ≡ count
+      → live_text (form_of is_terminal plan every) count width every (interleaved order lists) ≡ live_texts is_terminal plan lists order
+  text_is = text_by (is_some plan.pages)
+
+  module _ (is_terminal : Bool) (old new : Option (List ℕ)) (count : ℕ) (taken : List (ℕ × Sample)) where
+    lines_by_source : AreOf taken (by_source count taken) → AppendsFront (live_lines (form_of is_terminal plan every) count width every taken) old new → AppendsFront (live_texts is_terminal plan (by_source count taken) (sources_of taken)) old new
     lines_by_source of gained =
         let lists = by_source count taken in
         let order = sources_of taken in
-        let form = form_of is_table every in
-        let same : live_text form count width every taken ≡ live_texts is_table plan lists order =
-        ap (live_text form count width every) (sym (AreOf-interleaved taken lists of)) ∙ text_is is_table lists order count (AreOf-IsInterleaving taken lists of) (by_source-length count taken) in
+        let form = form_of is_terminal plan every in
+        let same : live_text form count width every taken ≡ live_texts is_terminal plan lists order =
+        ap (live_text form count width every) (sym (AreOf-interleaved taken lists of)) ∙ text_is is_terminal lists order count (AreOf-IsInterleaving taken lists of) (by_source-length count taken) in
         subst (λ text. AppendsFront text old new) same (front_more (live_lines form count width every taken) (end_of form width taken) old new gained)
 
     -- of a run that was refused memory or a thread
-    pub first_shown : (rests : List Rest) → count ≡ length rests → GainsFirst rests [] taken → AppendsFront (live_lines (form_of is_table every) count width every taken) old new → ShowsFirstOf (live_texts is_table plan) old new rests
+    pub first_shown : (rests : List Rest) → count ≡ length rests → GainsFirst rests [] taken → AppendsFront (live_lines (form_of is_terminal plan every) count width every taken) old new → ShowsFirstOf (live_texts is_terminal plan) old new rests
     first_shown rests count_is gains gained =
         let of = are_by_source count taken (λ source past. let no_more = gains.no_more in ap (of_source source) gains.gained ∙ gains.of_lists.by_source source ∙ get_or_past gains.lists source [] (omega arith)) in
         record {
@@ -130,7 +139,7 @@ module _ (plan : Plan) (width every : ℕ) (graph : plan.view ≡ Graph width) (
         }
 
     -- of a run of which it isn't known whether all was received
-    pub some_shown : (rests : List Rest) → count ≡ length rests → GainsOf (length rests) [] taken → AppendsFront (live_lines (form_of is_table every) count width every taken) old new → ShowsSomeOf (live_texts is_table plan) old new (length rests)
+    pub some_shown : (rests : List Rest) → count ≡ length rests → GainsOf (length rests) [] taken → AppendsFront (live_lines (form_of is_terminal plan every) count width every taken) old new → ShowsSomeOf (live_texts is_terminal plan) old new (length rests)
     some_shown rests count_is gains gained =
         let below : All (λ (pair : ℕ × Sample). pair.0 < count) taken =
         subst (λ (pairs : List (ℕ × Sample)). All (λ (pair : ℕ × Sample). pair.0 < count) pairs) (sym gains.gained) (subst (λ n. All (λ (pair : ℕ × Sample). pair.0 < n) gains.pairs) (sym count_is) gains.sources) in
@@ -144,8 +153,8 @@ module _ (plan : Plan) (width every : ℕ) (graph : plan.view ≡ Graph width) (
         }
 
   -- nothing went out
-  pub none_shown : (is_table : Bool) (out : Option (List ℕ)) (rests : List Rest) → ShowsFirstOf (live_texts is_table plan) out out rests
-  none_shown is_table out rests =
+  pub none_shown : (is_terminal : Bool) (out : Option (List ℕ)) (rests : List Rest) → ShowsFirstOf (live_texts is_terminal plan) out out rests
+  none_shown is_terminal out rests =
       let of = are_by_source (length rests) [] (λ source past. refl) in
       record {
         lists = by_source (length rests) [];
@@ -155,13 +164,13 @@ module _ (plan : Plan) (width every : ℕ) (graph : plan.view ≡ Graph width) (
         };
         order = [];
         ordered = AreOf-IsInterleaving [] (by_source (length rests) []) of;
-        gained = front_of_nothing (live_texts is_table plan (by_source (length rests) []) []) out;
+        gained = front_of_nothing (live_texts is_terminal plan (by_source (length rests) []) []) out;
       }
 
   -- all was collected
-  module _ (is_table : Bool) (old new : Option (List ℕ)) (rests : List Rest) (taken : List (ℕ × Sample)) (lists : List ListState) (order : List ℕ) (run : CollectsRun anywhere anywhere rests [] taken lists order)
-      (text : List ℕ) (is_text : text ≡ live_texts is_table plan (samples_of lists) order) where
-    pub all_shown : Appends old new text → EndsLive is_table plan old new (status_of_ends plan.is_strict lists) rests
+  module _ (is_terminal : Bool) (old new : Option (List ℕ)) (rests : List Rest) (taken : List (ℕ × Sample)) (lists : List ListState) (order : List ℕ) (run : CollectsRun anywhere anywhere rests [] taken lists order)
+      (text : List ℕ) (is_text : text ≡ live_texts is_terminal plan (samples_of lists) order) where
+    pub all_shown : Appends old new text → EndsLive is_terminal plan old new (status_of_ends plan.is_strict lists) rests
     all_shown gained = record {
       lists = lists;
       collected = run.lists;
@@ -172,7 +181,7 @@ module _ (plan : Plan) (width every : ℕ) (graph : plan.view ≡ Graph width) (
     }
 
     -- and its lines were not sent whole
-    pub part_shown : AppendsFront text old new → ShowsFirstOf (live_texts is_table plan) old new rests
+    pub part_shown : AppendsFront text old new → ShowsFirstOf (live_texts is_terminal plan) old new rests
     part_shown gained = record {
       lists = samples_of lists;
       are_first = are_first rests lists run.lists;
@@ -228,28 +237,28 @@ front_of_sink {contents = contents} {contents' = contents'} {form = form} {form'
     (subst (λ known. AppendsFront (live_lines form' sources' width' every' taken) known out) same.contents_are (grown_by contents' out, grew)))))
 
 -- and its text is what is promised of what was collected
-pub text_of_run : {name name' : ℕ} {contents contents' : Option (List ℕ)} {failures failures' : ℕ} {form form' : LiveForm} {sources sources' width width' every every' : ℕ} (plan : Plan) (is_table : Bool) → plan.view ≡ Graph width → plan.options.every ≡ Some every
-    → form ≡ form_of is_table every → (rests : List Rest) (taken : List (ℕ × Sample)) (lists : List ListState) (order : List ℕ)
+pub text_of_run : {name name' : ℕ} {contents contents' : Option (List ℕ)} {failures failures' : ℕ} {form form' : LiveForm} {sources sources' width width' every every' : ℕ} (plan : Plan) (is_terminal : Bool) → plan.view ≡ Graph width → plan.options.every ≡ Some every
+    → form ≡ form_of is_terminal plan every → (rests : List Rest) (taken : List (ℕ × Sample)) (lists : List ListState) (order : List ℕ)
     → SameSetting name name' contents contents' failures failures' form form' sources sources' width width' every every' → sources ≡ length rests → CollectsRun anywhere anywhere rests [] taken lists order
-    → live_text form' sources' width' every' taken ≡ live_texts is_table plan (samples_of lists) order
-text_of_run {form' = form'} {sources = sources} {sources' = sources'} {width = width} {width' = width'} {every = every} {every' = every'} plan is_table graph often formed rests taken lists order same count run =
+    → live_text form' sources' width' every' taken ≡ live_texts is_terminal plan (samples_of lists) order
+text_of_run {form' = form'} {sources = sources} {sources' = sources'} {width = width} {width' = width'} {every = every} {every' = every'} plan is_terminal graph often formed rests taken lists order same count run =
     ap (live_text form' sources' width' every') run.sink
     ∙ (λ i. live_text ((same.form_is ∙ formed) i) (same.sources_are i) (same.width_is i) (same.every_is i) (interleaved order (samples_of lists)))
-    ∙ text_is plan width every graph often is_table (samples_of lists) order sources run.order (length-map lists (λ list. list.samples) ∙ run.lists.count ∙ sym count)
+    ∙ text_is plan width every graph often is_terminal (samples_of lists) order sources run.order (length-map lists (λ list. list.samples) ∙ run.lists.count ∙ sym count)
 
 -- ---- results
 
 -- what is left where collecting failed
-pub collect_failed : (plan : Plan) (width every : ℕ) (is_table : Bool) → plan.view ≡ Graph width → plan.options.every ≡ Some every → (old new : Option (List ℕ)) (count : ℕ) (taken taken' : List (ℕ × Sample))
-    → (rests : List Rest) → count ≡ length rests → taken ≡ [] → (fault : CollectFault) → AnswersFeed anywhere anywhere rests taken taken' (Err fault) → AppendsFront (live_lines (form_of is_table every) count width every taken') old new
-    → FailsLive is_table plan old new (failure_of_collect fault) rests
-collect_failed plan width every is_table graph often old new count taken taken' rests count_is none fault answer gained =
+pub collect_failed : (plan : Plan) (width every : ℕ) (is_terminal : Bool) → plan.view ≡ Graph width → plan.options.every ≡ Some every → (old new : Option (List ℕ)) (count : ℕ) (taken taken' : List (ℕ × Sample))
+    → (rests : List Rest) → count ≡ length rests → taken ≡ [] → (fault : CollectFault) → AnswersFeed anywhere anywhere rests taken taken' (Err fault) → AppendsFront (live_lines (form_of is_terminal plan every) count width every taken') old new
+    → FailsLive is_terminal plan old new (failure_of_collect fault) rests
+collect_failed plan width every is_terminal graph often old new count taken taken' rests count_is none fault answer gained =
     by fault (subst (λ (taken : List (ℕ × Sample)). AnswersFeed anywhere anywhere rests taken taken' (Err fault)) none answer)
   where
-    by : (fault : CollectFault) → AnswersFeed anywhere anywhere rests [] taken' (Err fault) → FailsLive is_table plan old new (failure_of_collect fault) rests
-    by collect.OutOfMemory answer = first_shown plan width every graph often is_table old new count taken' rests count_is (answer.refused (inl refl)) gained
-    by collect.NoThread answer = first_shown plan width every graph often is_table old new count taken' rests count_is (answer.refused (inr refl)) gained
-    by (collect.Unfinished source) answer = some_shown plan width every graph often is_table old new count taken' rests count_is (answer.unfinished source refl).gains gained
+    by : (fault : CollectFault) → AnswersFeed anywhere anywhere rests [] taken' (Err fault) → FailsLive is_terminal plan old new (failure_of_collect fault) rests
+    by collect.OutOfMemory answer = first_shown plan width every graph often is_terminal old new count taken' rests count_is (answer.refused (inl refl)) gained
+    by collect.NoThread answer = first_shown plan width every graph often is_terminal old new count taken' rests count_is (answer.refused (inr refl)) gained
+    by (collect.Unfinished source) answer = some_shown plan width every graph often is_terminal old new count taken' rests count_is (answer.unfinished source refl).gains gained
 
 pub err_because : {T : Type 0} (result : Result T Failure) (failure : Failure) (P : Failure → Type 0) → IsErrAnd result (λ error. error ≡ failure) → P failure → IfErr result P
 err_because (Ok x) failure P is holds = tt

@@ -162,23 +162,23 @@ status_one true b is = absurd (omega arith)
 status_one false true is = (refl, refl)
 status_one false false is = absurd (omega arith)
 
-module _ (is_table : Bool) (plan : Plan) (old new : Option (List ℕ)) (texts : List (List ℕ)) (rests : List Rest) (reads : AllZip (ReadsAs plan.is_strict) texts rests) where
-  module _ (status : ℕ) (ended : EndsLive is_table plan old new status rests) where
+module _ (is_terminal : Bool) (plan : Plan) (old new : Option (List ℕ)) (texts : List (List ℕ)) (rests : List Rest) (reads : AllZip (ReadsAs plan.is_strict) texts rests) where
+  module _ (status : ℕ) (ended : EndsLive is_terminal plan old new status rests) where
     seen_of : AllZip (SeenOf plan.is_strict) texts ended.lists
     seen_of = seen_all plan.is_strict texts rests ended.lists reads ended.collected
 
-    shows : list_any (λ (list : ListState). is_stopped list.ending) ended.lists ≡ false → ShowsAllOf (live_texts is_table plan) old new (read_texts plan.is_strict texts)
+    shows : list_any (λ (list : ListState). is_stopped list.ending) ended.lists ≡ false → ShowsAllOf (live_texts is_terminal plan) old new (read_texts plan.is_strict texts)
     shows goes =
         let same : samples_of ended.lists ≡ lists_of (read_texts plan.is_strict texts) = samples_of_rests ended.lists ∙ ap lists_of (whole_all plan.is_strict texts ended.lists seen_of goes) in
         record {
           order = ended.order;
           ordered = subst (λ (lists : List (List Sample)). IsInterleaving ended.order lists) same ended.ordered;
-          gained = subst (λ (lists : List (List Sample)). Appends old new (live_texts is_table plan lists ended.order)) same ended.gained;
+          gained = subst (λ (lists : List (List Sample)). Appends old new (live_texts is_terminal plan lists ended.order)) same ended.gained;
         }
 
-    pub ended_tells : TellsTexts is_table plan old new status texts
+    pub ended_tells : TellsTexts is_terminal plan old new status texts
     ended_tells =
-        let text = live_texts is_table plan (samples_of ended.lists) ended.order in
+        let text = live_texts is_terminal plan (samples_of ended.lists) ended.order in
         record {
           shown = λ zero.
               let both = status_zero (list_any (λ (list : ListState). is_stopped list.ending) ended.lists) (is_faulty plan.is_strict ended.lists) (sym ended.told ∙ zero) in
@@ -195,7 +195,7 @@ module _ (is_table : Bool) (plan : Plan) (old new : Option (List ℕ)) (texts : 
           });
         }
 
-  first_tells : ShowsFirstOf (live_texts is_table plan) old new rests → TellsTexts is_table plan old new 3 texts
+  first_tells : ShowsFirstOf (live_texts is_terminal plan) old new rests → TellsTexts is_terminal plan old new 3 texts
   first_tells first = record {
     shown = λ zero. absurd (omega arith);
     faulty = λ one. absurd (omega arith);
@@ -208,14 +208,14 @@ module _ (is_table : Bool) (plan : Plan) (old new : Option (List ℕ)) (texts : 
     });
   }
 
-  some_tells : ShowsSomeOf (live_texts is_table plan) old new (length rests) → TellsTexts is_table plan old new 3 texts
+  some_tells : ShowsSomeOf (live_texts is_terminal plan) old new (length rests) → TellsTexts is_terminal plan old new 3 texts
   some_tells some = record {
     shown = λ zero. absurd (omega arith);
     faulty = λ one. absurd (omega arith);
-    front = λ three. inr (subst (ShowsSomeOf (live_texts is_table plan) old new) (reads_length plan.is_strict texts rests reads) some);
+    front = λ three. inr (subst (ShowsSomeOf (live_texts is_terminal plan) old new) (reads_length plan.is_strict texts rests reads) some);
   }
 
-  pub failed_tells : (failure : Failure) → FailsLive is_table plan old new failure rests → TellsTexts is_table plan old new (status_of failure) texts
+  pub failed_tells : (failure : Failure) → FailsLive is_terminal plan old new failure rests → TellsTexts is_terminal plan old new (status_of failure) texts
   failed_tells TooManyFiles fails = absurd fails
   failed_tells (Unreadable source) fails = absurd fails
   failed_tells (TooLarge source) fails = absurd fails
@@ -274,22 +274,22 @@ known_tell is_strict gives input files paths readers Holds Tells opened given so
     (λ texts are. so texts given.rests (texts_given is_strict gives readers given.rests texts given.are_given are) given.holds) (opened_texts is_strict gives input files paths readers opened)
 
 -- what a run's result tells
-pub result_tells : {R : Type 0} (gives : R → Rest → Type 0) (input : Option (List ℕ)) (files : List ℕ → Option (List ℕ)) (paths : List (List ℕ)) (readers : List R) (is_table : Bool) (plan : Plan) (old new : Option (List ℕ)) (result : Result ℕ Failure)
-    → AreOpened plan.is_strict gives input files paths readers → IfOk result (λ status. GiveSuch gives readers (EndsLive is_table plan old new status)) → IfErr result (λ failure. GiveSuch gives readers (FailsLive is_table plan old new failure))
-    → IfSome (known_texts paths input files) (TellsTexts is_table plan old new (live_status result))
-result_tells gives input files paths readers is_table plan old new (Ok status) opened ok err =
-    known_tell plan.is_strict gives input files paths readers (EndsLive is_table plan old new status) (TellsTexts is_table plan old new status) opened ok (λ texts rests reads ended. ended_tells is_table plan old new texts rests reads status ended)
-result_tells gives input files paths readers is_table plan old new (Err failure) opened ok err =
-    known_tell plan.is_strict gives input files paths readers (FailsLive is_table plan old new failure) (TellsTexts is_table plan old new (status_of failure)) opened err (λ texts rests reads fails. failed_tells is_table plan old new texts rests reads failure fails)
+pub result_tells : {R : Type 0} (gives : R → Rest → Type 0) (input : Option (List ℕ)) (files : List ℕ → Option (List ℕ)) (paths : List (List ℕ)) (readers : List R) (is_terminal : Bool) (plan : Plan) (old new : Option (List ℕ)) (result : Result ℕ Failure)
+    → AreOpened plan.is_strict gives input files paths readers → IfOk result (λ status. GiveSuch gives readers (EndsLive is_terminal plan old new status)) → IfErr result (λ failure. GiveSuch gives readers (FailsLive is_terminal plan old new failure))
+    → IfSome (known_texts paths input files) (TellsTexts is_terminal plan old new (live_status result))
+result_tells gives input files paths readers is_terminal plan old new (Ok status) opened ok err =
+    known_tell plan.is_strict gives input files paths readers (EndsLive is_terminal plan old new status) (TellsTexts is_terminal plan old new status) opened ok (λ texts rests reads ended. ended_tells is_terminal plan old new texts rests reads status ended)
+result_tells gives input files paths readers is_terminal plan old new (Err failure) opened ok err =
+    known_tell plan.is_strict gives input files paths readers (FailsLive is_terminal plan old new failure) (TellsTexts is_terminal plan old new (status_of failure)) opened err (λ texts rests reads fails. failed_tells is_terminal plan old new texts rests reads failure fails)
 
 -- where a stream was not opened nothing went out
-opening_tells : (is_table : Bool) (plan : Plan) (out : Option (List ℕ)) (count : ℕ) (failure : Failure) (texts : List (List ℕ)) → ShowsFirstOf (live_texts is_table plan) out out (read_texts plan.is_strict texts) → IsOpening count failure → TellsTexts is_table plan out out (status_of failure) texts
-opening_tells is_table plan out count failure texts none opening = by failure opening
+opening_tells : (is_terminal : Bool) (plan : Plan) (out : Option (List ℕ)) (count : ℕ) (failure : Failure) (texts : List (List ℕ)) → ShowsFirstOf (live_texts is_terminal plan) out out (read_texts plan.is_strict texts) → IsOpening count failure → TellsTexts is_terminal plan out out (status_of failure) texts
+opening_tells is_terminal plan out count failure texts none opening = by failure opening
   where
-    blamed : TellsTexts is_table plan out out 3 texts
+    blamed : TellsTexts is_terminal plan out out 3 texts
     blamed = record { shown = λ zero. absurd (omega arith); faulty = λ one. absurd (omega arith); front = λ three. inl none }
 
-    by : (failure : Failure) → IsOpening count failure → TellsTexts is_table plan out out (status_of failure) texts
+    by : (failure : Failure) → IsOpening count failure → TellsTexts is_terminal plan out out (status_of failure) texts
     by TooManyFiles opening = record { shown = λ zero. absurd (omega arith); faulty = λ one. absurd (omega arith); front = λ three. absurd (omega arith) }
     by (Unreadable source) opening = blamed
     by (TooLarge source) opening = blamed
@@ -299,9 +299,9 @@ opening_tells is_table plan out count failure texts none opening = by failure op
     by Faults opening = absurd opening
     by (Output fault) opening = absurd opening
 
-pub unopened_tells : (is_table : Bool) (plan : Plan) (out : Option (List ℕ)) (count : ℕ) (result : Result ℕ Failure) (failure : Failure) (known : Option (List (List ℕ))) → ((rests : List Rest) → ShowsFirstOf (live_texts is_table plan) out out rests) → IsOpening count failure
-    → IsErrAnd result (λ error. error ≡ failure) → IfSome known (TellsTexts is_table plan out out (live_status result))
-unopened_tells is_table plan out count (Ok status) failure known none opening is = absurd is
-unopened_tells is_table plan out count (Err error) failure None none opening is = tt
-unopened_tells is_table plan out count (Err error) failure (Some texts) none opening is =
-    subst (λ failure. TellsTexts is_table plan out out (status_of failure) texts) (sym is) (opening_tells is_table plan out count failure texts (none (read_texts plan.is_strict texts)) opening)
+pub unopened_tells : (is_terminal : Bool) (plan : Plan) (out : Option (List ℕ)) (count : ℕ) (result : Result ℕ Failure) (failure : Failure) (known : Option (List (List ℕ))) → ((rests : List Rest) → ShowsFirstOf (live_texts is_terminal plan) out out rests) → IsOpening count failure
+    → IsErrAnd result (λ error. error ≡ failure) → IfSome known (TellsTexts is_terminal plan out out (live_status result))
+unopened_tells is_terminal plan out count (Ok status) failure known none opening is = absurd is
+unopened_tells is_terminal plan out count (Err error) failure None none opening is = tt
+unopened_tells is_terminal plan out count (Err error) failure (Some texts) none opening is =
+    subst (λ failure. TellsTexts is_terminal plan out out (status_of failure) texts) (sym is) (opening_tells is_terminal plan out count failure texts (none (read_texts plan.is_strict texts)) opening)

@@ -170,21 +170,21 @@ pub record RunShows (words : List Text) (files : KnownFiles) (answer : ℕ) (out
       IfSome (known_profile plan files.named) (λ profile. HasTableFault profile →
       FailsUntouched answer out.held_before out.held_after out.failed_before out.failed_after))
 
--- the clauses of `live`, or where a table is shown those of `live_table`
-pub record LiveShows (is_table : Bool) (plan : Plan) (streams : KnownStreams) (answer : ℕ) (out err : Change) (is_flushed : Type 0) : Type 0 where
+-- the clauses of `live`, on a terminal or not
+pub record LiveShows (is_terminal : Bool) (plan : Plan) (streams : KnownStreams) (answer : ℕ) (out err : Change) (is_flushed : Type 0) : Type 0 where
   pub status : answer ≤ 3
   pub flushed : answer ≤ 1 → is_flushed
   pub unfailed : answer ≢ 3 → out.failed_after ≡ out.failed_before
   pub shown : answer ≡ 0 → IfSome (known_texts plan.files streams.input streams.named) (λ texts. AreFaultless plan.is_strict texts
-      × ShowsAllOf (live_texts is_table plan) out.held_before out.held_after (read_texts plan.is_strict texts))
+      × ShowsAllOf (live_texts is_terminal plan) out.held_before out.held_after (read_texts plan.is_strict texts))
   pub faulty : answer ≡ 1 → IfSome (known_texts plan.files streams.input streams.named) (λ texts. HasTextFault plan.is_strict texts
-      × ShowsAllOf (live_texts is_table plan) out.held_before out.held_after (read_texts plan.is_strict texts))
+      × ShowsAllOf (live_texts is_terminal plan) out.held_before out.held_after (read_texts plan.is_strict texts))
   pub many : answer ≡ 2 → 64 < length plan.files
   pub few : answer ≢ 2 → length plan.files ≤ 64
   pub refused : answer ≡ 2 → Keeps out.held_before out.held_after
   pub front : answer ≡ 3 → IfSome (known_texts plan.files streams.input streams.named) (λ texts.
-      ShowsFirstOf (live_texts is_table plan) out.held_before out.held_after (read_texts plan.is_strict texts)
-      ⊎ ShowsSomeOf (live_texts is_table plan) out.held_before out.held_after (length texts))
+      ShowsFirstOf (live_texts is_terminal plan) out.held_before out.held_after (read_texts plan.is_strict texts)
+      ⊎ ShowsSomeOf (live_texts is_terminal plan) out.held_before out.held_after (length texts))
   pub absent : list_any streams.is_absent plan.files ≡ true →
       FailsUntouched answer out.held_before out.held_after out.failed_before out.failed_after
   pub told : answer ≤ 1 → streams.may_have_terminal ≡ false → IfSome (known_texts plan.files streams.input streams.named)

@@ -14,6 +14,7 @@ use Rattle.command_line.specs.declared.plans.Plan.{Plan}
 use Rattle.source_lists.specs.Sources.{all_found}
 use Rattle.source_views.specs.Texts.{view_text}
 use Rattle.live_lines.specs.Frames.{frames_text}
+use Rattle.live_lines.specs.Pages.{pages_text}
 use Rattle.flame_tool.specs.Runs.{HasFault, IsClean, lists_of}
 
 -- the bytes of the streams of paths, in order, or of the input where there is no path
@@ -51,22 +52,20 @@ abbrev pub frames_of : Plan → List (List Sample) → List ℕ → List ℕ
 frames_of plan lists order =
     elim plan.options.every [ None ↦ [] | Some every ↦ frames_text every (length lists) (interleaved order lists) ]
 
--- one of both
+-- or pages, one for each snapshot, and that of all
+abbrev pub pages_of : Plan → List (List Sample) → List ℕ → List ℕ
+pages_of plan lists order =
+    elim plan.options.every [ None ↦ [] | Some every ↦ pages_text every (interleaved order lists) ]
+
+-- what is written: pages where the plan has a file for them, else lines, or a table on a terminal
 abbrev pub live_texts : Bool → Plan → List (List Sample) → List ℕ → List ℕ
-live_texts is_table = if is_table then frames_of else lines_of
+live_texts is_terminal plan = if is_some plan.pages then pages_of plan else (if is_terminal then frames_of plan else lines_of plan)
 
 -- the output gained the text of all samples of the sources, in an order in which they may come
 pub record ShowsAllOf (text : List (List Sample) → List ℕ → List ℕ) (old new : Option (List ℕ)) (rests : List Rest) : Type 0 where
   pub order : List ℕ
   pub ordered : IsInterleaving order (lists_of rests)
   pub gained : Appends old new (text (lists_of rests) order)
-
--- the lines of all samples, and the table
-abbrev pub ShowsLive : Plan → Option (List ℕ) → Option (List ℕ) → List Rest → Type 0
-ShowsLive plan old new rests = ShowsAllOf (lines_of plan) old new rests
-
-abbrev pub ShowsTable : Plan → Option (List ℕ) → Option (List ℕ) → List Rest → Type 0
-ShowsTable plan old new rests = ShowsAllOf (frames_of plan) old new rests
 
 -- a list of each source, with the first of its samples
 pub record AreFirst (rests : List Rest) (lists : List (List Sample)) : Type 0 where
@@ -88,10 +87,3 @@ pub record ShowsSomeOf (text : List (List Sample) → List ℕ → List ℕ) (ol
   pub order : List ℕ
   pub ordered : IsInterleaving order lists
   pub gained : AppendsFront (text lists order) old new
-
--- of lines
-abbrev pub ShowsFirst : Plan → Option (List ℕ) → Option (List ℕ) → List Rest → Type 0
-ShowsFirst plan old new rests = ShowsFirstOf (lines_of plan) old new rests
-
-abbrev pub ShowsSome : Plan → Option (List ℕ) → Option (List ℕ) → ℕ → Type 0
-ShowsSome plan old new count = ShowsSomeOf (lines_of plan) old new count

@@ -3,6 +3,8 @@ pub mod Failures
 pub mod LiveEnds
 pub mod LiveSaying
 pub mod LiveStreams
+pub mod RenewalProps
+pub mod Renewals
 pub mod Saying
 pub mod Telling
 pub mod TypeFailures

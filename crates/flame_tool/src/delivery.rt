@@ -1,13 +1,14 @@
 //! A run that writes where its words want it to.
-ghost use Rattle.std.specs.Prelude.{◌≡◌, ◌≤◌, ◌⊎◌, ◌&&◌, Bool, true, false, [], Some, IfSome, map, string_bytes};
+ghost use Rattle.std.specs.Prelude.{◌≡◌, ◌≤◌, ◌⊎◌, ◌&&◌, Bool, true, false, [], Some, IfSome, IsSome, map, string_bytes};
 ghost use Rattle.command_line.specs.Destinations.{destination_of};
 ghost use Rattle.command_line.specs.Plans.{IsOfStreams};
-ghost use Rattle.flame_tool.specs.Delivery.{IfFile, IfStandard, Ran, delivered, is_whole_live, is_whole_run};
+ghost use Rattle.flame_tool.specs.Delivery.{IfFile, IfPages, IfStandard, Ran, WrotePages, delivered, is_whole_live, is_whole_run};
 ghost use Rattle.flame_tool.specs.KnownRuns.{LiveShows, RunShows, as_files, as_streams, change};
 
-use crate::live_run::{live, live_plan, live_table};
+use crate::live_run::{live, live_plan};
 use crate::program::run;
-use byte_io::{Files, Outlet, Outputs, PieceFault, Streams, send};
+use crate::renewed_file::{RenewedFile, close_renewal};
+use byte_io::{CountedWriter, Files, Outlet, Outputs, PieceFault, Streams, send};
 use command_line::{Destination, Plan, asked_destination};
 use opened_sources::{Failure, report_failure};
 use std::alloc::Global;
@@ -20,9 +21,9 @@ const ON_A_TERMINAL: &str =
 
 /// Runs the program with the words after its name, and answers its exit status: `live` where they have a plan of it, and else `run`. It
 /// writes to the file that the words want, or else to `out`. The file takes its place where what was written is whole: with the
-/// statuses 0 and 4 of `run`, and 0 and 1 of `live`, which shows the samples before a fault. Else what stood there stays. Where the
-/// file can't be made, or can't take its place, the status is 3. A page or a picture is not written to a terminal: that is 2. On a
-/// terminal `live` is `live_table`.
+/// statuses 0 and 4 of `run`, and 0 and 1 of `live`, which shows the samples before a fault. Else what stood there stays. Each page of
+/// `live` takes the place of its file at once. Where the file can't be made, or can't take its place, the status is 3. A page or a
+/// picture is not written to a terminal: that is 2. On a terminal `live` shows a table.
 pub fn deliver<
     T: Threads + Wait + Copy + Send + 'static,
     F: Files + Streams,
@@ -54,8 +55,16 @@ pub fn deliver<
     ensures untouched { IfFile (destination_of (map string_bytes words.items)) (λ _.
         out.new ≡ out.old) }
 
-    // Of others: `out` is left as `run` or `live` leaves it, or on a terminal `live_table`, but for a page or a picture there. No file
-    // takes a place.
+    // Of words that want a file of pages: what was written to it is what `live` leaves of an outlet that had none, or it is 3. Nothing goes
+    // to standard output.
+    ensures pages { IfPages (destination_of (map string_bytes words.items))
+        ((result ≡ 3) ⊎ WrotePages (IsSome (D.placed outputs.old)) (map string_bytes words.items)
+        (as_streams (F.Streams.known_input files.old) (F.Streams.known_file files.old) (F.is_absent files.old) F.Streams.may_have_terminal)
+        result
+        (change (E.contents err.old) (E.contents err.new) (E.failures err.old) (E.failures err.new))) }
+    ensures paged { IfPages (destination_of (map string_bytes words.items)) (out.new ≡ out.old) }
+
+    // Of others: `out` is left as `run` or `live` leaves it, but for a page or a picture on a terminal. No file takes a place.
     ensures standard { IfStandard (destination_of (map string_bytes words.items)) (λ is_document.
         (is_document && D.has_terminal outputs.old) ≡ false
         → ((result ≡ 3) × (out.new ≡ out.old))
@@ -76,13 +85,13 @@ pub fn deliver<
         Ok(Destination::File(path)) => {
             deliver_file(rt, alloc, words, path.get(), files, outputs, err)
         }
+        Ok(Destination::Pages(path)) => {
+            deliver_pages(rt, alloc, words.as_slice(), path.get(), files, outputs, err)
+        }
         Ok(Destination::Standard { is_document }) => {
             deliver_standard(rt, alloc, words, is_document, files, outputs, out, err)
         }
-        Err(_) => {
-            report_failure(err, &[], Failure::OutOfMemory);
-            3
-        }
+        Err(_) => out_of_memory(err),
     }
 }
 
@@ -170,6 +179,48 @@ fn deliver_file<
     }
 }
 
+// Runs `live`, whose pages take the place of the file of this path one after the other.
+fn deliver_pages<T: Threads + Wait + Copy + Send + 'static, S: Streams, D: Outputs, E: Outlet>(
+    rt: &T,
+    alloc: Global,
+    words: &[String],
+    path: &str,
+    streams: &mut S,
+    outputs: &mut D,
+    err: &mut E,
+) -> u8
+    ensures { (result ≡ 3) ⊎ WrotePages (IsSome (D.placed outputs.old)) (map string_bytes words.now)
+        (as_streams (S.known_input streams.old) (S.known_file streams.old) (S.is_absent streams.old) S.may_have_terminal)
+        result
+        (change (E.contents err.old) (E.contents err.new) (E.failures err.old) (E.failures err.new)) }
+{
+    let Some(plan) = live_plan(alloc, words) else {
+        return out_of_memory(err);
+    };
+    let Ok(file) = RenewedFile::begin(alloc, outputs, path) else {
+        return output_failed(err);
+    };
+    let mut out = CountedWriter::new(file);
+    let status = live_shown(rt, alloc, false, &plan, streams, &mut out, err);
+    let RenewedFile {
+        outputs,
+        renewal,
+        ..
+    } = out.into_inner();
+    if close_renewal(outputs, renewal) || 2 <= status {
+        return status;
+    }
+    output_failed(err)
+}
+
+// Says that there is no memory.
+fn out_of_memory<E: Outlet>(err: &mut E) -> u8
+    ensures { result ≡ 3 }
+{
+    report_failure(err, &[], Failure::OutOfMemory);
+    3
+}
+
 // Says that the output failed.
 fn output_failed<E: Outlet>(err: &mut E) -> u8
     ensures { result ≡ 3 }
@@ -250,11 +301,11 @@ fn run_shown<T: Threads + Wait + Copy + Send + 'static, F: Files, W: Outlet, E: 
     run(rt, alloc, words, files, out, err)
 }
 
-// `live` or `live_table`, with its clauses in one.
+// `live`, with its clauses in one.
 fn live_shown<T: Threads + Wait + Copy + Send + 'static, S: Streams, W: Outlet, E: Outlet>(
     rt: &T,
     alloc: Global,
-    is_table: bool,
+    is_terminal: bool,
     plan: &Plan,
     streams: &mut S,
     out: &mut W,
@@ -262,16 +313,12 @@ fn live_shown<T: Threads + Wait + Copy + Send + 'static, S: Streams, W: Outlet, 
 ) -> u8
     requires live { IsOfStreams plan.now }
     requires every { IfSome plan.now.options.every (λ every. 1 ≤ every) }
-    ensures { LiveShows is_table plan.now
+    ensures { LiveShows is_terminal plan.now
         (as_streams (S.known_input streams.old) (S.known_file streams.old) (S.is_absent streams.old) S.may_have_terminal)
         result
         (change (W.contents out.old) (W.contents out.new) (W.failures out.old) (W.failures out.new))
         (change (E.contents err.old) (E.contents err.new) (E.failures err.old) (E.failures err.new))
         (W.is_flushed out.new) }
 {
-    if is_table {
-        live_table(rt, alloc, plan, streams, out, err)
-    } else {
-        live(rt, alloc, plan, streams, out, err)
-    }
+    live(rt, alloc, is_terminal, plan, streams, out, err)
 }

@@ -14,6 +14,7 @@ mod next_steps;
 mod plan_run;
 mod program;
 mod progress;
+mod renewed_file;
 mod reports;
 mod sent_lists;
 mod step_commands;
@@ -30,7 +31,7 @@ pub use command_line::{
     View, WeightUnit, asked_destination, plan,
 };
 pub use delivery::deliver;
-pub use live_run::{live, live_plan, live_table};
+pub use live_run::{live, live_plan};
 pub use merging::{Gathered, Snapshot, TreeSink};
 pub use next_steps::{Seen, Trouble, next_step};
 pub use opened_sources::{Failure, SOURCE_COUNT};

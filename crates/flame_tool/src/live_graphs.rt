@@ -21,8 +21,8 @@ use std::alloc::{AllocError, Global};
 use std::sync::{Arc, Wait};
 use std::thread::Threads;
 
-// Sends the lines of the samples that readers give, or a table that is renewed, each as soon as the last of its samples came, and says
-// how the sources ended. It answers the exit status.
+// Sends the lines of the samples that readers give, or pages, or a table that is renewed, each as soon as the last of its samples came, and
+// says how the sources ended. It answers the exit status.
 pub(crate) fn send_graphs<
     T: Threads + Wait + Copy + Send + 'static,
     R: RowReader + Send + Drop + 'static,
@@ -30,7 +30,7 @@ pub(crate) fn send_graphs<
     E: Outlet,
 >(
     host: &Host<'_, T>,
-    is_table: bool,
+    is_terminal: bool,
     plan: &Plan,
     readers: Vec<R>,
     out: &mut W,
@@ -43,9 +43,9 @@ pub(crate) fn send_graphs<
         readers.items }
     requires possible { All (λ reader. GivesSome (R.gives reader)) readers.items }
     ensures ok { IfOk result (λ status. GiveSuch (λ reader. R.gives reader) readers.items
-        (EndsLive is_table plan.now (W.contents out.old) (W.contents out.new) status)) }
+        (EndsLive is_terminal plan.now (W.contents out.old) (W.contents out.new) status)) }
     ensures err { IfErr result (λ failure. GiveSuch (λ reader. R.gives reader) readers.items
-        (FailsLive is_table plan.now (W.contents out.old) (W.contents out.new) failure)) }
+        (FailsLive is_terminal plan.now (W.contents out.old) (W.contents out.new) failure)) }
     ensures told { IfOk result (λ status. GiveSuch (λ reader. R.gives reader) readers.items
         (SaysEnds plan.now (λ said. Tells said
         (E.contents err.old) (E.contents err.new) (E.failures err.old) (E.failures err.new)) status)) }
@@ -67,7 +67,7 @@ pub(crate) fn send_graphs<
         gate,
         closed_by,
         merge,
-    } = live_parts(alloc, form_of(is_table, every), readers.len())?;
+    } = live_parts(alloc, form_of(is_terminal, plan, every), readers.len())?;
     let mut sink = LiveSink::new(merge, every, width, closed_by, out);
     let fed = feed_rows(rt, alloc, readers, plan.options.ring, gate, &mut sink);
     let LiveSink { mut lines, out } = sink;
@@ -105,11 +105,14 @@ fn live_parts(alloc: Global, form: LiveForm, sources: usize) -> Result<LiveParts
     })
 }
 
-// What is written: lines, or a table that is renewed each time that so many samples more came.
-fn form_of(is_table: bool, every: u64) -> LiveForm
-    ensures { result ≡ form_of is_table every }
+// What is written: pages where there is a file for them, else lines, or on a terminal a table that is renewed each time that so many
+// samples more came.
+fn form_of(is_terminal: bool, plan: &Plan, every: u64) -> LiveForm
+    ensures { result ≡ form_of is_terminal plan.now every }
 {
-    if is_table {
+    if plan.pages.is_some() {
+        LiveForm::Pages
+    } else if is_terminal {
         LiveForm::Table { every }
     } else {
         LiveForm::Lines

@@ -4,7 +4,7 @@ ghost use Rattle.std.specs.List.{list_any};
 ghost use Rattle.std.specs.Io.KnownBytes.{Keeps};
 ghost use Rattle.command_line.specs.Plans.{IsOfStreams, plan_of};
 ghost use Rattle.opened_sources.specs.Messages.{Tells, message_of_failure};
-ghost use Rattle.flame_tool.specs.LiveRuns.{AreFaultless, HasTextFault, ShowsAllOf, ShowsFirst, ShowsFirstOf, ShowsLive, ShowsSome, ShowsSomeOf, ShowsTable, frames_of, known_texts, live_texts, read_texts};
+ghost use Rattle.flame_tool.specs.LiveRuns.{AreFaultless, HasTextFault, ShowsAllOf, ShowsFirstOf, ShowsSomeOf, known_texts, live_texts, read_texts};
 ghost use Rattle.flame_tool.specs.Runs.{FailsUntouched};
 ghost use Rattle.flame_tool.specs.ToldLive.{IsOfFailure, IsUnopened, TellsLiveFailure, TellsStreams, TellsSuch};
 ghost use Rattle.flame_tool.specs.checked.LiveEnds.{TellsTexts, live_status};
@@ -23,8 +23,10 @@ use std::sync::Wait;
 use std::thread::Threads;
 
 /// Runs a plan of `live` over streams of folded text, and answers its exit status. All streams are opened before anything is read. A line
-/// of each snapshot of their graph is written and flushed as soon as its last sample came, and at the end the line of the graph. Then
-/// `err` is told of each source its fault, how many lines were ignored, or that it could not be read to its end.
+/// of each snapshot of their graph is written and flushed as soon as its last sample came, and at the end the line of the graph. On a
+/// terminal a table of the functions with the greatest weights is written in their place: in a frame of each snapshot, which takes the
+/// place of the frame before, and at the end alone. Where the plan has a file for them, pages are, one for each snapshot, and then that of
+/// the graph. Then `err` is told of each source its fault, how many lines were ignored, or that it could not be read to its end.
 ///
 /// 0 says that all of each source was read. 1 says that a source has a fault, which is where the plan is strict an ignored line,
 /// or that it has no sample, too: its samples before are shown, and the others to their ends. 2 are more than 64 files. 3 says
@@ -33,6 +35,7 @@ use std::thread::Threads;
 pub fn live<T: Threads + Wait + Copy + Send + 'static, S: Streams, W: Outlet, E: Outlet>(
     rt: &T,
     alloc: Global,
+    is_terminal: bool,
     plan: &Plan,
     streams: &mut S,
     out: &mut W,
@@ -46,27 +49,27 @@ pub fn live<T: Threads + Wait + Copy + Send + 'static, S: Streams, W: Outlet, E:
     ensures flushed { result ≤ 1 → W.is_flushed out.new }
     ensures unfailed { result ≢ 3 → W.failures out.new ≡ W.failures out.old }
 
-    // Over streams whose bytes are known, 0 says that none of them has a fault, and that the lines of all their samples went out. Where the
-    // plan is strict a line that is ignored is a fault, which ends its stream, and so is that there is no sample.
+    // Over streams whose bytes are known, 0 says that none of them has a fault, and that what is written of all their samples went out.
+    // Where the plan is strict a line that is ignored is a fault, which ends its stream, and so is that there is no sample.
     ensures shown { result ≡ 0 → IfSome (known_texts plan.now.files (S.known_input streams.old)
         (S.known_file streams.old)) (λ texts.
         AreFaultless plan.now.is_strict texts
-        × ShowsLive plan.now (W.contents out.old) (W.contents out.new) (read_texts plan.now.is_strict texts)) }
+        × ShowsAllOf (live_texts is_terminal plan.now) (W.contents out.old) (W.contents out.new) (read_texts plan.now.is_strict texts)) }
 
-    // 1 says that one has a fault; the lines of all samples before it and of those of the others went out, too.
+    // 1 says that one has a fault; what is written of all samples before it and of those of the others went out, too.
     ensures faulty { result ≡ 1 → IfSome (known_texts plan.now.files (S.known_input streams.old)
         (S.known_file streams.old)) (λ texts. HasTextFault plan.now.is_strict texts
-        × ShowsLive plan.now (W.contents out.old) (W.contents out.new) (read_texts plan.now.is_strict texts)) }
+        × ShowsAllOf (live_texts is_terminal plan.now) (W.contents out.old) (W.contents out.new) (read_texts plan.now.is_strict texts)) }
     ensures many { result ≡ 2 → 64 < length plan.now.files }
     ensures few { result ≢ 2 → length plan.now.files ≤ 64 }
     ensures refused { result ≡ 2 → Keeps (W.contents out.old) (W.contents out.new) }
 
-    // 3 leaves the lines of first samples of each source, or a front of them, or of some samples of these sources where it isn't known
-    // whether all of one was received.
+    // 3 leaves what is written of first samples of each source, or a front of it, or of some samples of these sources where it isn't
+    // known whether all of one was received.
     ensures front { result ≡ 3 → IfSome (known_texts plan.now.files (S.known_input streams.old)
         (S.known_file streams.old)) (λ texts.
-        ShowsFirst plan.now (W.contents out.old) (W.contents out.new) (read_texts plan.now.is_strict texts)
-        ⊎ ShowsSome plan.now (W.contents out.old) (W.contents out.new) (length texts)) }
+        ShowsFirstOf (live_texts is_terminal plan.now) (W.contents out.old) (W.contents out.new) (read_texts plan.now.is_strict texts)
+        ⊎ ShowsSomeOf (live_texts is_terminal plan.now) (W.contents out.old) (W.contents out.new) (length texts)) }
 
     // Where a file is known to be absent, nothing is written.
     ensures absent { list_any (S.is_absent streams.old) plan.now.files ≡ true
@@ -92,108 +95,17 @@ pub fn live<T: Threads + Wait + Copy + Send + 'static, S: Streams, W: Outlet, E:
         plan.now.files)
         (E.contents err.old) (E.contents err.new) (E.failures err.old) (E.failures err.new) }
 {
-    live_on(&Host { rt, alloc }, false, plan, streams, out, err)
-}
-
-/// The same on a terminal, which shows a table of the functions with the greatest weights in place of lines: in a frame of each snapshot,
-/// in the place of the one before, with how many samples of how many sources came, and at the end by itself.
-pub fn live_table<T: Threads + Wait + Copy + Send + 'static, S: Streams, W: Outlet, E: Outlet>(
-    rt: &T,
-    alloc: Global,
-    plan: &Plan,
-    streams: &mut S,
-    out: &mut W,
-    err: &mut E,
-) -> u8
-    requires live { IsOfStreams plan.now }
-    requires every { IfSome plan.now.options.every (λ every. 1 ≤ every) }
-    ensures status { result ≤ 3 }
-    ensures flushed { result ≤ 1 → W.is_flushed out.new }
-    ensures unfailed { result ≢ 3 → W.failures out.new ≡ W.failures out.old }
-
-    // The statuses mean the same, of frames and a last table in place of lines.
-    ensures shown { result ≡ 0 → IfSome (known_texts plan.now.files (S.known_input streams.old)
-        (S.known_file streams.old)) (λ texts.
-        AreFaultless plan.now.is_strict texts
-        × ShowsTable plan.now (W.contents out.old) (W.contents out.new) (read_texts plan.now.is_strict texts)) }
-    ensures faulty { result ≡ 1 → IfSome (known_texts plan.now.files (S.known_input streams.old)
-        (S.known_file streams.old)) (λ texts. HasTextFault plan.now.is_strict texts
-        × ShowsTable plan.now (W.contents out.old) (W.contents out.new) (read_texts plan.now.is_strict texts)) }
-    ensures many { result ≡ 2 → 64 < length plan.now.files }
-    ensures few { result ≢ 2 → length plan.now.files ≤ 64 }
-    ensures refused { result ≡ 2 → Keeps (W.contents out.old) (W.contents out.new) }
-    ensures front { result ≡ 3 → IfSome (known_texts plan.now.files (S.known_input streams.old)
-        (S.known_file streams.old)) (λ texts.
-        ShowsFirstOf (frames_of plan.now) (W.contents out.old) (W.contents out.new) (read_texts plan.now.is_strict texts)
-        ⊎ ShowsSomeOf (frames_of plan.now) (W.contents out.old) (W.contents out.new) (length texts)) }
-    ensures absent { list_any (S.is_absent streams.old) plan.now.files ≡ true
-        → FailsUntouched result (W.contents out.old) (W.contents out.new)
-        (W.failures out.old) (W.failures out.new) }
-    ensures told { result ≤ 1 → S.may_have_terminal ≡ false
-        → IfSome (known_texts plan.now.files (S.known_input streams.old) (S.known_file streams.old))
-        (TellsStreams plan.now
-        (E.contents err.old) (E.contents err.new) (E.failures err.old) (E.failures err.new)) }
-    ensures told_many { result ≡ 2 → Tells (message_of_failure plan.now.files Failure.TooManyFiles)
-        (E.contents err.old) (E.contents err.new) (E.failures err.old) (E.failures err.new) }
-    ensures told_failure { result ≡ 3 → S.may_have_terminal ≡ false → TellsLiveFailure plan.now
-        (known_texts plan.now.files (S.known_input streams.old) (S.known_file streams.old))
-        (E.contents err.old) (E.contents err.new) (E.failures err.old) (E.failures err.new) }
-    ensures told_absent { list_any (S.is_absent streams.old) plan.now.files ≡ true
-        → TellsSuch (IsOfFailure (IsUnopened (S.is_absent streams.old) (S.known_file streams.old) plan.now.files)
-        plan.now.files)
-        (E.contents err.old) (E.contents err.new) (E.failures err.old) (E.failures err.new) }
-{
-    live_on(&Host { rt, alloc }, true, plan, streams, out, err)
-}
-
-// One of both.
-fn live_on<T: Threads + Wait + Copy + Send + 'static, S: Streams, W: Outlet, E: Outlet>(
-    host: &Host<'_, T>,
-    is_table: bool,
-    plan: &Plan,
-    streams: &mut S,
-    out: &mut W,
-    err: &mut E,
-) -> u8
-    requires live { IsOfStreams plan.now }
-    requires every { IfSome plan.now.options.every (λ every. 1 ≤ every) }
-    ensures status { result ≤ 3 }
-    ensures flushed { result ≤ 1 → W.is_flushed out.new }
-    ensures unfailed { result ≢ 3 → W.failures out.new ≡ W.failures out.old }
-    ensures shown { result ≡ 0 → IfSome (known_texts plan.now.files (S.known_input streams.old)
-        (S.known_file streams.old)) (λ texts.
-        AreFaultless plan.now.is_strict texts
-        × ShowsAllOf (live_texts is_table plan.now) (W.contents out.old) (W.contents out.new) (read_texts plan.now.is_strict texts)) }
-    ensures faulty { result ≡ 1 → IfSome (known_texts plan.now.files (S.known_input streams.old)
-        (S.known_file streams.old)) (λ texts. HasTextFault plan.now.is_strict texts
-        × ShowsAllOf (live_texts is_table plan.now) (W.contents out.old) (W.contents out.new) (read_texts plan.now.is_strict texts)) }
-    ensures many { result ≡ 2 → 64 < length plan.now.files }
-    ensures few { result ≢ 2 → length plan.now.files ≤ 64 }
-    ensures refused { result ≡ 2 → Keeps (W.contents out.old) (W.contents out.new) }
-    ensures front { result ≡ 3 → IfSome (known_texts plan.now.files (S.known_input streams.old)
-        (S.known_file streams.old)) (λ texts.
-        ShowsFirstOf (live_texts is_table plan.now) (W.contents out.old) (W.contents out.new) (read_texts plan.now.is_strict texts)
-        ⊎ ShowsSomeOf (live_texts is_table plan.now) (W.contents out.old) (W.contents out.new) (length texts)) }
-    ensures absent { list_any (S.is_absent streams.old) plan.now.files ≡ true
-        → FailsUntouched result (W.contents out.old) (W.contents out.new)
-        (W.failures out.old) (W.failures out.new) }
-    ensures told { result ≤ 1 → S.may_have_terminal ≡ false
-        → IfSome (known_texts plan.now.files (S.known_input streams.old) (S.known_file streams.old))
-        (TellsStreams plan.now
-        (E.contents err.old) (E.contents err.new) (E.failures err.old) (E.failures err.new)) }
-    ensures told_many { result ≡ 2 → Tells (message_of_failure plan.now.files Failure.TooManyFiles)
-        (E.contents err.old) (E.contents err.new) (E.failures err.old) (E.failures err.new) }
-    ensures told_failure { result ≡ 3 → S.may_have_terminal ≡ false → TellsLiveFailure plan.now
-        (known_texts plan.now.files (S.known_input streams.old) (S.known_file streams.old))
-        (E.contents err.old) (E.contents err.new) (E.failures err.old) (E.failures err.new) }
-    ensures told_absent { list_any (S.is_absent streams.old) plan.now.files ≡ true
-        → TellsSuch (IsOfFailure (IsUnopened (S.is_absent streams.old) (S.known_file streams.old) plan.now.files)
-        plan.now.files)
-        (E.contents err.old) (E.contents err.new) (E.failures err.old) (E.failures err.new) }
-{
+    let host = Host { rt, alloc };
     let paths = plan.files.get();
     await_input(paths, streams, err);
-    match show_live::<T, S, FoldedStream<S::Inlet>, W, E>(host, is_table, plan, streams, out, err) {
+    match show_live::<T, S, FoldedStream<S::Inlet>, W, E>(
+        &host,
+        is_terminal,
+        plan,
+        streams,
+        out,
+        err,
+    ) {
         Ok(status) => status,
         Err(failure) => {
             report_failure(err, paths, failure);
@@ -221,7 +133,7 @@ fn show_live<
     E: Outlet,
 >(
     host: &Host<'_, T>,
-    is_table: bool,
+    is_terminal: bool,
     plan: &Plan,
     streams: &mut S,
     out: &mut W,
@@ -234,7 +146,7 @@ fn show_live<
     ensures unfailed { live_status result ≢ 3 → W.failures out.new ≡ W.failures out.old }
     ensures told { IfSome (known_texts plan.now.files (S.known_input streams.old)
         (S.known_file streams.old))
-        (TellsTexts is_table plan.now (W.contents out.old) (W.contents out.new) (live_status result)) }
+        (TellsTexts is_terminal plan.now (W.contents out.old) (W.contents out.new) (live_status result)) }
     ensures many { live_status result ≡ 2 → 64 < length plan.now.files }
     ensures few { live_status result ≢ 2 → length plan.now.files ≤ 64 }
     ensures refused { live_status result ≡ 2 → Keeps (W.contents out.old) (W.contents out.new) }
@@ -253,7 +165,7 @@ fn show_live<
         → IsErrAnd result (IsUnopened (S.is_absent streams.old) (S.known_file streams.old) plan.now.files) }
 {
     let readers: Vec<R> = open_streams(host.alloc, streams, plan.files.get(), plan.is_strict)?;
-    send_graphs(host, is_table, plan, readers, out, err)
+    send_graphs(host, is_terminal, plan, readers, out, err)
 }
 
 /// The plan of words that ask for `live`. There is none for any other words, for those that are refused, and for want of memory: `run`

@@ -18,7 +18,7 @@ use Rattle.merging.proofs.PairSums.{sum_by-first, sum_by-of_lists}
 use Rattle.view_texts.specs.Json.{boxes_line, snapshot_line}
 use Rattle.source_views.specs.Texts.{all_counts, graph_text, snapshot_line_at, snapshot_lines}
 use Rattle.live_lines.specs.Lines.{live_counts, live_line_at, live_lines, live_text}
-use Rattle.live_lines.specs.declared.kept.LiveForm.TheVariants.{Lines}
+use Rattle.live_lines.specs.declared.form.LiveForm.TheVariants.{Lines}
 
 -- ---- samples with the same sums
 

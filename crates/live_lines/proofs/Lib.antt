@@ -1,6 +1,4 @@
-mod DrawnLists
 mod FrameLemmas
-mod FunctionLemmas
 pub mod GraphLemmas
 mod LineLemmas
 mod MergeLemmas

@@ -16,10 +16,12 @@ use Rattle.view_texts.specs.Json.{snapshot_line}
 use Rattle.merging.specs.Snapshots.{samples_of_pairs, snapshot_places}
 use Rattle.merging.specs.checked.Merging.{is_due}
 use Rattle.merging.proofs.SnapshotLemmas.{places-push, places_within}
+use Rattle.page_texts.specs.Document.{document_text}
+use Rattle.page_views.specs.Pages.{growing_page}
 use Rattle.live_lines.specs.Frames.{frame_at, frame_of}
 use Rattle.live_lines.specs.Lines.{live_line_at, live_lines, moment_at}
-use Rattle.live_lines.specs.declared.kept.LiveForm.{LiveForm}
-use Rattle.live_lines.specs.declared.kept.LiveForm.TheVariants.{Lines, Table}
+use Rattle.live_lines.specs.declared.form.LiveForm.{LiveForm}
+use Rattle.live_lines.specs.declared.form.LiveForm.TheVariants.{Lines, Pages, Table}
 
 -- a line is of the first samples alone
 line_kept : (sources width : ℕ) (pairs more : List (ℕ × Sample)) (m : ℕ) → m ≤ length pairs → live_line_at sources width (pairs ++ more) m ≡ live_line_at sources width pairs m
@@ -42,6 +44,7 @@ frame_kept every sources pairs more m within = ap (λ (firsts : List (ℕ × Sam
 
 moment_kept : (form : LiveForm) (sources width : ℕ) (pairs more : List (ℕ × Sample)) (m : ℕ) → m ≤ length pairs → moment_at form sources width (pairs ++ more) m ≡ moment_at form sources width pairs m
 moment_kept Lines sources width pairs more m within = line_kept sources width pairs more m within
+moment_kept Pages sources width pairs more m within = ap (λ (firsts : List (ℕ × Sample)). document_text (growing_page true (samples_of_pairs firsts))) (take-append-le m pairs more within)
 moment_kept (Table every) sources width pairs more m within = frame_kept every sources pairs more m within
 
 flat_map_agree : (f g : ℕ → List ℕ) (xs : List ℕ) → All (λ x. f x ≡ g x) xs → flat_map f xs ≡ flat_map g xs

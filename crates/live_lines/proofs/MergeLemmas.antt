@@ -1,22 +1,20 @@
 -- What is kept beside merged samples.
-use Rattle.std.proofs.Common.{◌≡◌, ◌∙◌, ◌+◌, ◌<◌, ◌≤◌, ◌^◌, ◌++◌, ◌∷◌, [], ℕ, suc, zero, List, All, ap, arith, codes, get_or, length, refl, set, subst, sym, take, inl, inr}
+use Rattle.std.proofs.Common.{◌≡◌, ◌∙◌, ◌+◌, ◌<◌, ◌≤◌, ◌^◌, ◌++◌, ◌∷◌, [], ℕ, List, ap, arith, codes, get_or, length, refl, set, subst, sym, take, inl, inr}
 use Rattle.std.proofs.lemmas.Bool.{cases_lt}
 use Rattle.std.proofs.lemmas.List.{ext_get_or, get_or_past, length-map, length-set, length_push, map_push, take_all, get_or-set_other}
 use Rattle.std.proofs.lemmas.List.FromFn.{get_or-map-range_with_len, length-map-range_with_len}
 use Rattle.sample_tables.specs.declared.samples.Sample.{Sample}
-use Rattle.sample_tables.specs.declared.samples.TheConstants.{FRAME_LIMIT}
 use Rattle.stack_core.specs.Interleaving.{count_of, counts_at, sources_of}
 use Rattle.source_lists.proofs.OrderLemmas.{count_at_most, count_of-push, counted_more}
 use Rattle.merging.specs.Snapshots.{samples_of_pairs}
-use Rattle.merging.specs.Sums.{HasSumsOf, IsDrawable}
-use Rattle.merging.proofs.GatherLemmas.{drawable_samples}
-use Rattle.call_tree.specs.CallTree.{Tree}
-use Rattle.flame_layout.specs.Paths.{SameOwn, tree_samples}
+use Rattle.flame_layout.specs.Paths.{SameOwn}
+use Rattle.flame_layout.proofs.MergedSums.{merged_own}
+use Rattle.merged_stacks.specs.Merged.{merged_samples}
 use Rattle.merged_stacks.specs.Timeline.{total_weight}
 use Rattle.flame_layout.specs.Graph.{graph_of}
 use Rattle.flame_layout.specs.declared.boxes.SpanBox.{SpanBox}
 use Rattle.view_texts.specs.Json.{boxes_line, snapshot_line}
-use Rattle.live_lines.specs.declared.kept.LiveForm.TheVariants.{Lines}
+use Rattle.live_lines.specs.declared.form.LiveForm.TheVariants.{Lines}
 use Rattle.live_lines.specs.declared.merge.LiveLine.{LiveLine}
 use Rattle.live_lines.specs.declared.merge.LiveLine.TheVariants.{Graph, Snapshot}
 use Rattle.live_lines.specs.Lines.{line_now, live_counts}
@@ -52,7 +50,6 @@ merge_starts counts none = record {
       ext_get_or 0 counts (live_counts (length counts) [] 0) (sym (length-map-range_with_len (counts_at 0 []) 0 (length counts))) (λ i within.
       none i ∙ sym (get_or-map-range_with_len (counts_at 0 []) 0 (length counts) i i 0 within (omega arith)));
   at_is = refl;
-  depths = λ k d l. absurd (omega (arith, l));
 }
 
 -- one sample more
@@ -68,15 +65,9 @@ counted_push pairs source sample counts at i h within = elim (cases_lt source (l
       ∙ (count_here pairs counts at i h within ∙ sym ((count_of-push (sources_of pairs) source i).1 apart))
 ]
 
-each_push : (P : Sample → Type 0) (samples : List Sample) (sample : Sample) → All P samples → P sample → All P (samples ++ sample ∷ [])
-each_push P [] sample h last zero d l = last
-each_push P [] sample h last (suc k) d l = absurd (omega (arith, l))
-each_push P (first ∷ samples) sample h last zero d l = h 0 d (omega arith)
-each_push P (first ∷ samples) sample h last (suc k) d l = each_push P samples sample (λ j e m. h (suc j) e (omega (arith, m))) last k d (omega (arith, l))
-
 pub merge_push : (pairs : List (ℕ × Sample)) (source : ℕ) (sample : Sample) (counts new : List ℕ) (at next : ℕ) → IsLiveMerge pairs counts at → new ≡ set counts source (get_or counts source 0 + 1)
-    → next ≡ at + 1 → length sample.stack ≤ FRAME_LIMIT → IsLiveMerge (pairs ++ (source, sample) ∷ []) new next
-merge_push pairs source sample counts new at next h more n deep = record {
+    → next ≡ at + 1 → IsLiveMerge (pairs ++ (source, sample) ∷ []) new next
+merge_push pairs source sample counts new at next h more n = record {
   counted =
       ext_get_or 0 new (live_counts (length new) all (length all)) (sym (length-map-range_with_len (counts_at (length all) (sources_of all)) 0 (length new))) (λ i within.
       ap (λ (cs : List ℕ). get_or cs i 0) more
@@ -85,7 +76,6 @@ merge_push pairs source sample counts new at next h more n deep = record {
       ∙ sym (count_at_end all i)
       ∙ sym (get_or-map-range_with_len (counts_at (length all) (sources_of all)) 0 (length new) i i 0 within (omega arith)));
   at_is = omega (arith, n, h.at_is, length_push pairs (source, sample));
-  depths = subst (λ (ss : List Sample). All (λ one. length one.stack ≤ FRAME_LIMIT) ss) (sym samples) (each_push (λ one. length one.stack ≤ FRAME_LIMIT) (samples_of_pairs pairs) sample h.depths deep);
 }
   where
     all : List (ℕ × Sample)
@@ -94,19 +84,10 @@ merge_push pairs source sample counts new at next h more n deep = record {
     long : length new ≡ length counts
     long = ap length more ∙ length-set counts source (get_or counts source 0 + 1)
 
-    samples : samples_of_pairs (pairs ++ (source, sample) ∷ []) ≡ samples_of_pairs pairs ++ sample ∷ []
-    samples = map_push (λ pair. pair.1) pairs (source, sample)
-
 -- ---- what is drawn of it
 
-pub lent_drawable : (names table : List (List ℕ)) (tree lent : Tree) (samples : List Sample) → table ≡ names → lent ≡ tree → HasSumsOf names tree samples → total_weight samples < 2 ^ 64 → All (λ sample. length sample.stack ≤ FRAME_LIMIT) samples
-    → IsDrawable table lent
-lent_drawable names table tree lent samples named same sums fits depths =
-    subst (λ (ns : List (List ℕ)). IsDrawable ns lent) (sym named) (subst (λ (t : Tree). IsDrawable names t) (sym same) (drawable_samples names tree samples sums depths fits))
-
-pub lent_stacks : (names table : List (List ℕ)) (tree lent : Tree) (samples : List Sample) → table ≡ names → lent ≡ tree → HasSumsOf names tree samples → SameOwn samples (tree_samples table lent)
-lent_stacks names table tree lent samples named same sums =
-    subst (λ (ns : List (List ℕ)). SameOwn samples (tree_samples ns lent)) (sym named) (subst (λ (t : Tree). SameOwn samples (tree_samples names t)) (sym same) sums.stacks)
+pub same_merged : (samples merged : List Sample) → merged ≡ merged_samples samples → SameOwn samples merged
+same_merged samples merged is = subst (SameOwn samples) (sym is) (merged_own samples)
 
 -- the line of all that was taken
 pub shown_now : (line : LiveLine) (pairs : List (ℕ × Sample)) (counts : List ℕ) (at width weight : ℕ) (boxes : List SpanBox) → IsLiveMerge pairs counts at → weight ≡ total_weight (samples_of_pairs pairs) → boxes ≡ graph_of (samples_of_pairs pairs)

@@ -2,6 +2,7 @@
 pub mod Frames
 pub mod Lines
 pub mod LiveState
+pub mod Pages
 pub mod Settings
 pub mod Terminal
 pub mod Written

@@ -1,4 +1,4 @@
--- The lines of what came so far, of pairs of a source and a sample in the order in which they came, or frames of a table in their place.
+-- The lines of what came so far, of pairs of a source and a sample in the order in which they came, or pages or frames of a table in their place.
 use Rattle.std.specs.Prelude.{ℕ, List, ◌++◌, Some, length, map}
 use Rattle.std.specs.List.{flat_map, range_with_len}
 use Rattle.sample_tables.specs.declared.samples.Sample.{Sample}
@@ -9,8 +9,9 @@ use Rattle.view_texts.specs.Json.{snapshot_line}
 use Rattle.merging.specs.Snapshots.{first_samples, samples_of_pairs, snapshot_places}
 use Rattle.source_views.specs.Texts.{graph_line}
 use Rattle.live_lines.specs.Frames.{frame_at, last_table}
-use Rattle.live_lines.specs.declared.kept.LiveForm.{LiveForm}
-use Rattle.live_lines.specs.declared.kept.LiveForm.TheVariants.{Lines, Table}
+use Rattle.live_lines.specs.Pages.{last_page, page_at}
+use Rattle.live_lines.specs.declared.form.LiveForm.{LiveForm}
+use Rattle.live_lines.specs.declared.form.LiveForm.TheVariants.{Lines, Pages, Table}
 use Rattle.live_lines.specs.declared.merge.LiveLine.{LiveLine}
 use Rattle.live_lines.specs.declared.merge.LiveLine.TheVariants.{Graph, Snapshot}
 
@@ -27,11 +28,13 @@ live_line_at sources width pairs m =
 -- what is written of the first m pairs
 abbrev pub moment_at : LiveForm → ℕ → ℕ → List (ℕ × Sample) → ℕ → List ℕ
 moment_at Lines sources width pairs m = live_line_at sources width pairs m
+moment_at Pages sources width pairs m = page_at pairs m
 moment_at (Table every) sources width pairs m = frame_at every sources pairs m
 
 -- and at the end of all
 abbrev pub end_of : LiveForm → ℕ → List (ℕ × Sample) → List ℕ
 end_of Lines width pairs = graph_line width (samples_of_pairs pairs)
+end_of Pages width pairs = last_page pairs
 end_of (Table every) width pairs = last_table every pairs
 
 -- what is written for every so many pairs

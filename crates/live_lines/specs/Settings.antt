@@ -1,7 +1,7 @@
 -- What no sample changes, as numbers.
 use Rattle.std.specs.Prelude.{ℕ, suc, List, [], ◌∷◌, Option, None, Some}
-use Rattle.live_lines.specs.declared.kept.LiveForm.{LiveForm}
-use Rattle.live_lines.specs.declared.kept.LiveForm.TheVariants.{Lines, Table}
+use Rattle.live_lines.specs.declared.form.LiveForm.{LiveForm}
+use Rattle.live_lines.specs.declared.form.LiveForm.TheVariants.{Lines, Pages, Table}
 
 abbrev pub known_numbers : Option (List ℕ) → List ℕ
 known_numbers None = []
@@ -9,7 +9,8 @@ known_numbers (Some bytes) = 1 ∷ bytes
 
 abbrev pub form_number : LiveForm → ℕ
 form_number Lines = 0
-form_number (Table every) = suc every
+form_number Pages = 1
+form_number (Table every) = suc (suc every)
 
 -- which outlet it is, by its ghost name, what stood in it and how many of its calls had failed, and what is written
 abbrev pub live_setting : ℕ → Option (List ℕ) → ℕ → LiveForm → ℕ → ℕ → ℕ → List ℕ

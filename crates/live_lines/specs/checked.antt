@@ -1,6 +1,4 @@
 -- What the insides of the crate keep, which the checks prove: no public contract stands on it.
-pub mod Functions
-pub mod Kept
 pub mod Merges
 pub mod Writes
 pub mod WrittenProps

@@ -5,7 +5,7 @@ ghost use Rattle.stack_core.specs.Interleaving.{IsInterleaving, interleaved};
 ghost use Rattle.merging.specs.Snapshots.{snapshot_places};
 ghost use Rattle.source_views.specs.Texts.{graph_text, snapshot_lines};
 ghost use Rattle.live_lines.specs.Lines.{live_lines, live_text};
-ghost use Rattle.live_lines.specs.declared.kept.LiveForm.TheVariants.{Lines};
+ghost use Rattle.live_lines.specs.declared.form.LiveForm.TheVariants.{Lines};
 
 /// The lines of samples in the order in which they came, and the line of their graph, are the text of the graph of their lists.
 pub fn lines_are_of_graph()

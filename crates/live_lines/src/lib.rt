@@ -1,18 +1,16 @@
 //! The lines of a graph while its samples come: a sink that writes each snapshot's line as soon as its last sample was taken.
 #![tactic(auto)]
 
+mod form;
 mod frames;
-mod functions;
 mod gate;
-mod kept;
 pub mod laws;
 mod merge;
 mod moments;
 mod sink;
 mod terminal;
 
-pub use functions::FunctionMerge;
+pub use form::LiveForm;
 pub use gate::LiveGate;
-pub use kept::LiveForm;
 pub use merge::{LiveLine, LiveMerge};
 pub use sink::{LiveLines, LiveSink};

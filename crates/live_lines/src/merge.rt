@@ -5,12 +5,13 @@ ghost use Rattle.std.specs.Io.KnownBytes.{Appends};
 ghost use Rattle.byte_io.specs.Calls.{one_more};
 ghost use Rattle.byte_io.specs.Pieces.{AppendsFront};
 ghost use Rattle.live_lines.specs.Lines.{line_now, live_counts};
-ghost use Rattle.live_lines.specs.declared.kept.LiveForm.TheVariants.{Lines};
+ghost use Rattle.live_lines.specs.declared.form.LiveForm.TheVariants.{Lines};
 
-use crate::kept::{Kept, LiveForm};
-use crate::moments::{Moment, send_kept};
+use crate::form::LiveForm;
+use crate::moments::{Moment, send_moment};
 use byte_io::{Outlet, PieceFault};
 use flame_layout::Width;
+use merging::RowMerge;
 use stack_core::{Ledger, RowSink};
 use std::alloc::{AllocError, Global};
 use std::marker::Model;
@@ -28,7 +29,8 @@ pub enum LiveLine {
 /// taken.
 #[derive(Drop)]
 pub struct LiveMerge {
-    kept: Kept,
+    form: LiveForm,
+    rows: RowMerge,
     /// How many of each source were taken.
     counts: Vec<u64>,
     at: u64,
@@ -37,18 +39,17 @@ pub struct LiveMerge {
 impl Model for LiveMerge {
     ghost use Rattle.std.specs.Prelude.{length};
     ghost use Rattle.live_lines.specs.LiveState.{LiveState};
-    ghost use Rattle.live_lines.specs.checked.Kept.{form_of, taken_of};
     ghost use Rattle.live_lines.specs.checked.Merges.{IsLiveMerge};
 
     ghost Value = { LiveState };
 
     ghost view = { λ merge. record {
-      form = form_of merge.kept;
+      form = merge.form;
       sources = length merge.counts.items;
-      taken = taken_of merge.kept;
+      taken = merge.rows;
     } };
 
-    ghost invariant = { λ merge. IsLiveMerge (taken_of merge.kept) merge.counts.items merge.at };
+    ghost invariant = { λ merge. IsLiveMerge merge.rows merge.counts.items merge.at };
 }
 
 impl LiveMerge {
@@ -66,7 +67,8 @@ impl LiveMerge {
             { form = form; sources = sources; taken = [] }) }
     {
         Ok(LiveMerge {
-            kept: Kept::new(alloc, form)?,
+            form,
+            rows: RowMerge::new(alloc),
             counts: zeros(alloc, sources)?,
             at: 0,
         })
@@ -88,18 +90,17 @@ impl LiveMerge {
 
     /// Sends the line of what was taken, or what stands in its place, and flushes.
     pub fn send<W: Outlet>(
-        &mut self,
+        &self,
         alloc: Global,
         line: LiveLine,
         width: Width,
         out: &mut W,
     ) -> Result<(), PieceFault>
-        ensures same { self.new ≡ self.old }
         ensures ok { OnOk result (Appends (W.contents out.old) (W.contents out.new)
-            (line_now self.old.form line self.old.sources width self.old.taken)) }
+            (line_now self.now.form line self.now.sources width self.now.taken)) }
         ensures flushed { OnOk result (W.is_flushed out.new) }
         ensures front { OnErr result (AppendsFront
-            (line_now self.old.form line self.old.sources width self.old.taken)
+            (line_now self.now.form line self.now.sources width self.now.taken)
             (W.contents out.old) (W.contents out.new)) }
         ensures output { IsErrOf result PieceFault.Output
             → W.failures out.new ≡ one_more (W.failures out.old) }
@@ -111,7 +112,7 @@ impl LiveMerge {
             counts: &self.counts,
             width,
         };
-        send_kept(alloc, &mut self.kept, &moment, out)
+        send_moment(alloc, self.form, &self.rows, &moment, out)
     }
 }
 
@@ -135,9 +136,7 @@ impl RowSink for LiveMerge {
         if self.at == u64::MAX {
             return Err(AllocError);
         }
-        // Contracts read here that it is no deeper than can be drawn.
-        let _stack = ledger.stack(row);
-        self.kept.take_row(alloc, source, ledger, row, weight)?;
+        self.rows.take_row(alloc, source, ledger, row, weight)?;
         count_source(&mut self.counts, source);
         self.at += 1;
         Ok(())

@@ -1,28 +1,26 @@
 //! What is written of a moment of samples that come.
 
-ghost use Rattle.std.specs.Prelude.{◌≡◌, ◌≢◌, ◌≤◌, ◌<◌, ◌+◌, ◌^◌, All, IfOk, OnOk, OnErr, IsErrOf, length, map};
+ghost use Rattle.std.specs.Prelude.{◌≡◌, ◌≢◌, ◌≤◌, ◌<◌, ◌+◌, ◌^◌, All, IfOk, OnOk, OnErr, IsErrOf, length};
 ghost use Rattle.std.specs.List.{concat};
 ghost use Rattle.std.specs.Io.KnownBytes.{Appends};
 ghost use Rattle.byte_io.specs.Calls.{one_more};
 ghost use Rattle.byte_io.specs.Pieces.{AppendsFront};
-ghost use Rattle.flame_layout.specs.Boxes.{plain_box, span_of};
-ghost use Rattle.flame_layout.specs.Graph.{graph_of};
-ghost use Rattle.merged_stacks.specs.Timeline.{total_weight};
+ghost use Rattle.function_sums.specs.FunctionSums.{AreFunctionSums};
 ghost use Rattle.merging.specs.Snapshots.{samples_of_pairs};
-ghost use Rattle.merging.specs.Sums.{HasSumsOf};
-ghost use Rattle.sample_tables.specs.declared.samples.TheConstants.{FRAME_LIMIT};
+ghost use Rattle.run_options.specs.declared.orders.FunctionOrder.TheVariants.{Own};
 ghost use Rattle.live_lines.specs.Lines.{line_now};
-ghost use Rattle.live_lines.specs.checked.Kept.{form_of, taken_of};
-ghost use Rattle.live_lines.specs.checked.Merges.{IsLiveMerge, shown_text};
-ghost use Rattle.live_lines.specs.declared.kept.LiveForm.TheVariants.{Lines, Table};
+ghost use Rattle.live_lines.specs.checked.Merges.{IsLiveMerge, has_more, shown_text};
+ghost use Rattle.live_lines.specs.declared.form.LiveForm.TheVariants.{Lines, Pages, Table};
 
+use crate::form::LiveForm;
 use crate::frames::{Standing, frame_of, last_of};
-use crate::functions::FunctionMerge;
-use crate::kept::Kept;
 use crate::merge::LiveLine;
 use byte_io::{Literal, Outlet, PieceFault, Pieces, send_pieces};
-use flame_layout::{DrawnBox, Width, draw_tree};
+use flame_layout::{Chart, Width, draw_merged};
+use function_sums::{FunctionSum, Order, function_sums};
+use merged_stacks::{Alone, MergedStacks};
 use merging::RowMerge;
+use page_views::send_growing_page;
 use std::alloc::{AllocError, Global};
 use view_texts::{JsonLine, Scale, drawn_line, drawn_snapshot_line};
 
@@ -36,90 +34,107 @@ pub(crate) struct Moment<'a> {
 }
 
 // Sends what is written of a moment.
-pub(crate) fn send_kept<W: Outlet>(
+pub(crate) fn send_moment<W: Outlet>(
     alloc: Global,
-    kept: &mut Kept,
+    form: LiveForm,
+    rows: &RowMerge,
     moment: &Moment<'_>,
     out: &mut W,
 ) -> Result<(), PieceFault>
-    requires { IsLiveMerge (taken_of kept.old) moment.now.counts.now moment.now.at }
-    ensures taken { taken_of kept.new ≡ taken_of kept.old }
-    ensures form { form_of kept.new ≡ form_of kept.old }
+    requires { IsLiveMerge rows.now moment.now.counts.now moment.now.at }
     ensures ok { OnOk result (Appends (W.contents out.old) (W.contents out.new)
-        (line_now (form_of kept.old) moment.now.line (length moment.now.counts.now) moment.now.width
-        (taken_of kept.old))) }
+        (line_now form moment.now.line (length moment.now.counts.now) moment.now.width rows.now)) }
     ensures flushed { OnOk result (W.is_flushed out.new) }
     ensures front { OnErr result (AppendsFront
-        (line_now (form_of kept.old) moment.now.line (length moment.now.counts.now) moment.now.width
-        (taken_of kept.old)) (W.contents out.old) (W.contents out.new)) }
+        (line_now form moment.now.line (length moment.now.counts.now) moment.now.width rows.now)
+        (W.contents out.old) (W.contents out.new)) }
     ensures output { IsErrOf result PieceFault.Output
         → W.failures out.new ≡ one_more (W.failures out.old) }
     ensures unfailed { result ≢ Err PieceFault.Output → W.failures out.new ≡ W.failures out.old }
 {
-    match kept {
-        Kept::Tree(merged) => send_line(alloc, merged, moment, out),
-        Kept::Functions(functions, every) => send_table(alloc, functions, *every, moment, out),
+    match form {
+        LiveForm::Lines => send_line(alloc, rows, moment, out),
+        LiveForm::Pages => send_page(alloc, rows, moment, out),
+        LiveForm::Table { every } => send_table(alloc, rows, every, moment, out),
     }
 }
 
 // Sends the line of a moment.
 fn send_line<W: Outlet>(
     alloc: Global,
-    merged: &mut RowMerge,
+    rows: &RowMerge,
     moment: &Moment<'_>,
     out: &mut W,
 ) -> Result<(), PieceFault>
-    requires { IsLiveMerge merged.old.taken moment.now.counts.now moment.now.at }
-    ensures taken { merged.new.taken ≡ merged.old.taken }
+    requires { IsLiveMerge rows.now moment.now.counts.now moment.now.at }
     ensures ok { OnOk result (Appends (W.contents out.old) (W.contents out.new)
-        (line_now Lines moment.now.line (length moment.now.counts.now) moment.now.width
-        merged.old.taken)) }
+        (line_now Lines moment.now.line (length moment.now.counts.now) moment.now.width rows.now)) }
     ensures flushed { OnOk result (W.is_flushed out.new) }
     ensures front { OnErr result (AppendsFront
-        (line_now Lines moment.now.line (length moment.now.counts.now) moment.now.width
-        merged.old.taken) (W.contents out.old) (W.contents out.new)) }
+        (line_now Lines moment.now.line (length moment.now.counts.now) moment.now.width rows.now)
+        (W.contents out.old) (W.contents out.new)) }
     ensures output { IsErrOf result PieceFault.Output
         → W.failures out.new ≡ one_more (W.failures out.old) }
     ensures unfailed { result ≢ Err PieceFault.Output → W.failures out.new ≡ W.failures out.old }
 {
-    merged.settle()?;
+    let merged = rows.merged(alloc, &Alone)?;
+    let chart = draw_merged(alloc, &merged)?;
     let scale = Scale {
-        total: merged.total(),
+        total: rows.total(),
         width: moment.width,
     };
-    let boxes = draw(alloc, merged)?;
-    let line = json_line(
-        moment.line,
-        moment.at,
-        moment.counts,
-        boxes.as_slice(),
-        scale,
-    );
+    let line = json_line(moment.line, moment.at, moment.counts, &chart, scale);
     send_pieces(alloc, &line, out)
+}
+
+// Sends the page of a moment, of which more is to come, or the last one.
+fn send_page<W: Outlet>(
+    alloc: Global,
+    rows: &RowMerge,
+    moment: &Moment<'_>,
+    out: &mut W,
+) -> Result<(), PieceFault>
+    ensures ok { OnOk result (Appends (W.contents out.old) (W.contents out.new)
+        (line_now Pages moment.now.line (length moment.now.counts.now) moment.now.width rows.now)) }
+    ensures flushed { OnOk result (W.is_flushed out.new) }
+    ensures front { OnErr result (AppendsFront
+        (line_now Pages moment.now.line (length moment.now.counts.now) moment.now.width rows.now)
+        (W.contents out.old) (W.contents out.new)) }
+    ensures output { IsErrOf result PieceFault.Output
+        → W.failures out.new ≡ one_more (W.failures out.old) }
+    ensures unfailed { result ≢ Err PieceFault.Output → W.failures out.new ≡ W.failures out.old }
+{
+    let merged = rows.merged(alloc, &Alone)?;
+    send_growing_page(alloc, &merged, has_more(moment.line), out)
+}
+
+// Whether more is to come behind a line.
+fn has_more(line: LiveLine) -> bool
+    ensures { result ≡ has_more line }
+{
+    matches!(line, LiveLine::Snapshot)
 }
 
 // Sends the frame of a moment, or the last table.
 fn send_table<W: Outlet>(
     alloc: Global,
-    functions: &mut FunctionMerge,
+    rows: &RowMerge,
     every: u64,
     moment: &Moment<'_>,
     out: &mut W,
 ) -> Result<(), PieceFault>
-    requires { moment.now.at ≡ length functions.old }
-    ensures same { functions.new ≡ functions.old }
+    requires { moment.now.at ≡ length rows.now }
     ensures ok { OnOk result (Appends (W.contents out.old) (W.contents out.new)
-        (line_now (Table every) moment.now.line (length moment.now.counts.now) moment.now.width
-        functions.old)) }
+        (line_now (Table every) moment.now.line (length moment.now.counts.now) moment.now.width rows.now)) }
     ensures flushed { OnOk result (W.is_flushed out.new) }
     ensures front { OnErr result (AppendsFront
-        (line_now (Table every) moment.now.line (length moment.now.counts.now) moment.now.width
-        functions.old) (W.contents out.old) (W.contents out.new)) }
+        (line_now (Table every) moment.now.line (length moment.now.counts.now) moment.now.width rows.now)
+        (W.contents out.old) (W.contents out.new)) }
     ensures output { IsErrOf result PieceFault.Output
         → W.failures out.new ≡ one_more (W.failures out.old) }
     ensures unfailed { result ≢ Err PieceFault.Output → W.failures out.new ≡ W.failures out.old }
 {
-    let text = table_text(alloc, functions, every, moment)?;
+    let text = table_text(alloc, rows, every, moment)?;
     let text = Literal {
         bytes: text.as_slice(),
     };
@@ -129,17 +144,16 @@ fn send_table<W: Outlet>(
 // The text of that.
 fn table_text(
     alloc: Global,
-    functions: &mut FunctionMerge,
+    rows: &RowMerge,
     every: u64,
     moment: &Moment<'_>,
 ) -> Result<Vec<u8>, AllocError>
-    requires { moment.now.at ≡ length functions.old }
-    ensures same { functions.new ≡ functions.old }
-    ensures text { IfOk result (λ text. text.items
-        ≡ line_now (Table every) moment.now.line (length moment.now.counts.now) moment.now.width functions.old) }
+    requires { moment.now.at ≡ length rows.now }
+    ensures { IfOk result (λ text. text.items
+        ≡ line_now (Table every) moment.now.line (length moment.now.counts.now) moment.now.width rows.now) }
 {
-    let whole = functions.total();
-    let sums = functions.functions(alloc)?;
+    let whole = rows.total();
+    let sums = own_sums(alloc, rows)?;
     match moment.line {
         LiveLine::Snapshot => {
             let standing = Standing {
@@ -153,35 +167,30 @@ fn table_text(
     }
 }
 
-/// The boxes of the graph of samples that are in the tree.
-fn draw(alloc: Global, merged: &RowMerge) -> Result<Vec<DrawnBox<'_>>, AllocError>
-    requires sums { HasSumsOf merged.now.names merged.now.tree (samples_of_pairs merged.now.taken) }
-    requires fits { total_weight (samples_of_pairs merged.now.taken) < 2 ^ 64 }
-    requires depths { All (λ sample. length sample.stack ≤ FRAME_LIMIT) (samples_of_pairs merged.now.taken) }
-    ensures { IfOk result (λ boxes.
-        map span_of boxes.items ≡ graph_of (samples_of_pairs merged.now.taken)) }
+/// The sums of the functions of all samples, the greatest own weight first.
+fn own_sums(alloc: Global, rows: &RowMerge) -> Result<Vec<FunctionSum>, AllocError>
+    ensures { IfOk result (λ sums. AreFunctionSums Own (samples_of_pairs rows.now) sums.items) }
 {
-    let boxes = draw_tree(alloc, merged.tree(), merged.table())?;
-    Ok(boxes)
+    let merged = rows.merged(alloc, &Alone)?;
+    function_sums(alloc, &merged, Order::Own)
 }
 
 /// The line of boxes, of so many samples with a count for each source.
-fn json_line<'a>(
+fn json_line<'a, 'n>(
     line: LiveLine,
     at: u64,
     counts: &'a [u64],
-    boxes: &'a [DrawnBox<'a>],
+    chart: &'a Chart<'n, MergedStacks>,
     scale: Scale,
-) -> JsonLine<'a, &'a [DrawnBox<'a>]>
-    requires within { All (λ box. box.span.start + box.span.weight ≤ scale.total)
-        (map (λ drawn. plain_box (span_of drawn)) boxes.now) }
-    requires positive { 0 < length boxes.now → 0 < scale.total }
-    ensures text { concat (⟦<JsonLine<'a, &'a [DrawnBox<'a>]> as Pieces>⟧.pieces result)
-        ≡ shown_text line at counts.now scale.total scale.width (map span_of boxes.now) }
-    ensures few { length (⟦<JsonLine<'a, &'a [DrawnBox<'a>]> as Pieces>⟧.pieces result) < 2 ^ 64 }
+) -> JsonLine<'a, &'a Chart<'n, MergedStacks>>
+    requires within { All (λ span. span.start + span.weight ≤ scale.total) chart.now }
+    requires positive { 0 < length chart.now → 0 < scale.total }
+    ensures text { concat (⟦<JsonLine<'a, &'a Chart<'n, MergedStacks>> as Pieces>⟧.pieces result)
+        ≡ shown_text line at counts.now scale.total scale.width chart.now }
+    ensures few { length (⟦<JsonLine<'a, &'a Chart<'n, MergedStacks>> as Pieces>⟧.pieces result) < 2 ^ 64 }
 {
     match line {
-        LiveLine::Snapshot => drawn_snapshot_line(at, counts, boxes, scale),
-        LiveLine::Graph => drawn_line("graph", boxes, scale),
+        LiveLine::Snapshot => drawn_snapshot_line(at, counts, chart, scale),
+        LiveLine::Graph => drawn_line("graph", chart, scale),
     }
 }

@@ -14,7 +14,7 @@ ghost use Rattle.live_lines.specs.Settings.{form_number, live_setting};
 ghost use Rattle.live_lines.specs.Written.{GrewByFront, GrewByText, failures_after};
 ghost use Rattle.live_lines.specs.checked.Writes.{AreWritten};
 ghost use Rattle.live_lines.specs.checked.WrittenProps.{front_prop, text_prop};
-ghost use Rattle.live_lines.specs.declared.kept.LiveForm.TheVariants.{Lines};
+ghost use Rattle.live_lines.specs.declared.form.LiveForm.TheVariants.{Lines};
 
 use crate::gate::LiveGate;
 use crate::merge::{LiveLine, LiveMerge};

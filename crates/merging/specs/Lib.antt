@@ -1,6 +1,5 @@
 -- The definitions that the contracts of merging cite.
 pub mod Gathered
-pub mod RowMergeState
 pub mod Snapshots
 pub mod Sums
 pub mod TreeSinkState

@@ -1,5 +1,5 @@
 -- What the insides of the crate keep, which the checks prove: no public contract stands on it.
-pub mod LateTrees
 pub mod Merging
+pub mod Summed
 pub mod TakenRows
 pub mod Tallies

@@ -2,13 +2,12 @@
 #![tactic(auto)]
 
 mod collection;
-mod late_tree;
 pub mod laws;
 mod list_samples;
-mod named_stacks;
 mod noted_numbers;
 mod row_merge;
 mod snapshots;
+mod summed_stacks;
 mod taken_rows;
 mod tally;
 mod tree_sink;

@@ -1,15 +1,16 @@
 //! The samples that a sink took, under the numbers of their names. Contracts alone see them, so a
 //! sample costs no memory of its own.
 
-ghost use Rattle.std.specs.Prelude.{◌≡◌, ◌++◌, ◌∷◌, [], OnOk};
+ghost use Rattle.std.specs.Prelude.{◌≡◌, ◌<◌, ◌++◌, ◌∷◌, [], OnOk, length};
 ghost use Rattle.call_tree.specs.FrameTable.{HasDistinctNames};
 ghost use Rattle.ring_collect.specs.NamesInOrder.{with_stack, GrowsTo};
 ghost use Rattle.merging.specs.checked.Merging.{IsRowFor};
 ghost use Rattle.merging.specs.checked.TakenRows.{AreNumbersOf, row_of, rows_of};
+ghost use Rattle.sample_tables.specs.Rows.{name_at};
 
-use crate::named_stacks::NamedStack;
 use crate::noted_numbers::number_name;
 use call_tree::FrameTable;
+use stack_core::Names;
 use std::alloc::{AllocError, Global};
 // Not a snapshot of this crate, but a value of no bytes, which contracts alone read.
 use std::snapshot::Snapshot as Ghost;
@@ -34,19 +35,19 @@ impl NumberedSample {
 
     /// Puts a sample in the place of the one before, into its memory. New names are put into the
     /// table. Want of memory may leave names behind, and numbers here that stand for nothing.
-    pub fn set<S: NamedStack>(
+    pub fn set(
         &mut self,
         table: &mut FrameTable,
         noted: &mut Vec<usize>,
         source: u32,
-        stack: &S,
+        stack: &Names,
         weight: u64,
     ) -> Result<(), AllocError>
         requires { HasDistinctNames table.old }
         ensures row { OnOk result
-            (IsRowFor table.new source (S.names stack.now) weight (row_of self.new)) }
+            (IsRowFor table.new source stack.now weight (row_of self.new)) }
         ensures grows { GrowsTo table.old table.new }
-        ensures in_order { OnOk result (table.new ≡ with_stack table.old (S.names stack.now)) }
+        ensures in_order { OnOk result (table.new ≡ with_stack table.old stack.now) }
         ensures distinct { HasDistinctNames table.new }
     {
         number_names(table, noted, &mut self.numbers, stack)?;
@@ -79,23 +80,30 @@ impl TakenRows {
 }
 
 /// Puts the numbers of the names of a stack in the place of others.
-fn number_names<S: NamedStack>(
+fn number_names(
     table: &mut FrameTable,
     noted: &mut Vec<usize>,
     numbers: &mut Vec<usize>,
-    stack: &S,
+    stack: &Names,
 ) -> Result<(), AllocError>
     requires { HasDistinctNames table.old }
     ensures numbers { OnOk result
-        (AreNumbersOf (S.names stack.now) table.new numbers.new.items) }
+        (AreNumbersOf stack.now table.new numbers.new.items) }
     ensures grows { GrowsTo table.old table.new }
-    ensures in_order { OnOk result (table.new ≡ with_stack table.old (S.names stack.now)) }
+    ensures in_order { OnOk result (table.new ≡ with_stack table.old stack.now) }
     ensures distinct { HasDistinctNames table.new }
 {
     numbers.clear();
-    for at in 0..stack.len() {
-        let number = number_name(table, noted, stack.note(at), stack.name(at))?;
+    for at in 0..stack.get().len() {
+        let number = number_name(table, noted, at, name_of(stack, at))?;
         numbers.push(number)?;
     }
     Ok(())
+}
+
+fn name_of(stack: &Names, at: usize) -> &str
+    requires { at < length stack.now }
+    ensures { result.now ≡ name_at stack.now at }
+{
+    stack.get()[at].as_str()
 }

@@ -2,7 +2,7 @@
 use Rattle.std.specs.Prelude.{codes}
 use Rattle.clap.specs.Simple.{Shape}
 use Rattle.clap.specs.Walk.{Rule}
-use Rattle.command_line.specs.CommandLine.{any_files, boxes_flag, by_option, callees_command, callers_command, chart_command, compare_command, diff_command, every_option, exact_flag, fail_over_option, focus_option, fold_command, format_option, from_option, graph_command, hide_option, json_flag, least_option, lines_flag, live_command, omit_option, one_value, output_option, page_flag, peek_command, quiet_flag, ring_option, root_below_flag, rows_option, share_flag, strict_flag, svg_command, svg_flag, title_option, top_command, type_option, types_command, unit_option, width_option}
+use Rattle.command_line.specs.CommandLine.{any_files, boxes_flag, by_option, callees_command, callers_command, chart_command, compare_command, diff_command, every_option, exact_flag, fail_over_option, focus_option, fold_command, format_option, from_option, graph_command, hide_option, json_flag, least_option, lines_flag, live_command, omit_option, one_value, output_option, page_flag, pages_option, peek_command, quiet_flag, ring_option, root_below_flag, rows_option, share_flag, strict_flag, svg_command, svg_flag, title_option, top_command, type_option, types_command, unit_option, width_option}
 use Rattle.command_line.specs.declared.argument_lists.Argument.{Argument}
 use Rattle.command_line.specs.declared.argument_lists.Argument.TheVariants as argument
 use Rattle.command_line.specs.declared.commands.Subcommand.{Subcommand}
@@ -33,6 +33,7 @@ rule_at argument.LiveStrict = strict_flag
 rule_at argument.Output = output_option
 rule_at argument.Quiet = quiet_flag
 rule_at argument.Page = page_flag
+rule_at argument.LivePage = pages_option
 rule_at argument.Svg = svg_flag
 rule_at argument.Title = title_option
 rule_at argument.RootBelow = root_below_flag

@@ -1,5 +1,6 @@
 //! Worked command lines.
 mod calls;
+mod destinations;
 mod diff;
 mod examples;
 mod faults;

@@ -151,7 +151,7 @@ fn deliver<
 }
 
 /// Runs the program with these words, and answers its status.
-fn status_of<T: Threads + Wait + Copy + Send + 'static, D: Outputs, W: Write, E: Write>(
+pub fn status_of<T: Threads + Wait + Copy + Send + 'static, D: Outputs, W: Write, E: Write>(
     rt: &T,
     alloc: Global,
     words: &[&str],

@@ -108,7 +108,7 @@ fn live_status<T: Threads + Wait + Copy + Send + 'static, W: Outlet, E: Outlet>(
 ) -> Result<u8, AllocError> {
     let words = texts(alloc, words)?;
     match live_plan(alloc, words.as_slice()) {
-        Some(plan) => Ok(live(rt, alloc, &plan, files, out, err)),
+        Some(plan) => Ok(live(rt, alloc, false, &plan, files, out, err)),
         None => Err(AllocError),
     }
 }

@@ -15,8 +15,8 @@ use Rattle.ring_collect.specs.Collection.{Collects}
 use Rattle.opened_sources.specs.Failures.{ends_in_fault, has_fault, status_of}
 use Rattle.opened_sources.specs.declared.failures.Failure.{Failure}
 use Rattle.opened_sources.specs.declared.failures.Failure.TheVariants.{TooManyFiles, Unreadable, TooLarge, OutOfMemory, NoThread, Unfinished, Faults, Output}
-use Rattle.live_lines.specs.declared.kept.LiveForm.{LiveForm}
-use Rattle.live_lines.specs.declared.kept.LiveForm.TheVariants.{Lines, Table}
+use Rattle.live_lines.specs.declared.form.LiveForm.{LiveForm}
+use Rattle.live_lines.specs.declared.form.LiveForm.TheVariants.{Lines, Pages, Table}
 use Rattle.flame_tool.specs.LiveRuns.{AreFaultless, HasTextFault, ShowsAllOf, ShowsFirstOf, ShowsSomeOf, live_texts, read_texts}
 
 -- the source was stopped, or a read of it failed
@@ -48,33 +48,33 @@ status_by_ends is_strict endings counts = status_by (list_any is_stopped endings
 abbrev pub status_of_ends : Bool → List ListState → ℕ
 status_of_ends is_strict lists = status_by (list_any (λ list. is_stopped list.ending) lists) (is_faulty is_strict lists)
 
--- how the samples are written: as lines, or as a table that is renewed
-abbrev pub form_of : Bool → ℕ → LiveForm
-form_of is_table every = if is_table then Table every else Lines
+-- how the samples are written: as pages, as lines, or as a table that is renewed
+abbrev pub form_of : Bool → Plan → ℕ → LiveForm
+form_of is_terminal plan every = if is_some plan.pages then Pages else (if is_terminal then Table every else Lines)
 
 -- wherever it may be
 abbrev pub anywhere : ℕ → ℕ → Type 0
 anywhere source index = Unit {0}
 
 -- it went to its end: the lines of what was collected are written, and the status tells the endings
-pub record EndsLive (is_table : Bool) (plan : Plan) (old new : Option (List ℕ)) (status : ℕ) (rests : List Rest) : Type 0 where
+pub record EndsLive (is_terminal : Bool) (plan : Plan) (old new : Option (List ℕ)) (status : ℕ) (rests : List Rest) : Type 0 where
   pub lists : List ListState
   pub collected : Collects anywhere anywhere rests lists
   pub order : List ℕ
   pub ordered : IsInterleaving order (samples_of lists)
-  pub gained : Appends old new (live_texts is_table plan (samples_of lists) order)
+  pub gained : Appends old new (live_texts is_terminal plan (samples_of lists) order)
   pub told : status ≡ status_of_ends plan.is_strict lists
 
 -- it failed on the way
 abbrev pub FailsLive : Bool → Plan → Option (List ℕ) → Option (List ℕ) → Failure → List Rest → Type 0
-FailsLive is_table plan old new TooManyFiles rests = ⊥
-FailsLive is_table plan old new (Unreadable source) rests = ⊥
-FailsLive is_table plan old new (TooLarge source) rests = ⊥
-FailsLive is_table plan old new OutOfMemory rests = ShowsFirstOf (live_texts is_table plan) old new rests
-FailsLive is_table plan old new NoThread rests = ShowsFirstOf (live_texts is_table plan) old new rests
-FailsLive is_table plan old new (Unfinished source) rests = ShowsSomeOf (live_texts is_table plan) old new (length rests)
-FailsLive is_table plan old new Faults rests = ⊥
-FailsLive is_table plan old new (Output fault) rests = ShowsFirstOf (live_texts is_table plan) old new rests
+FailsLive is_terminal plan old new TooManyFiles rests = ⊥
+FailsLive is_terminal plan old new (Unreadable source) rests = ⊥
+FailsLive is_terminal plan old new (TooLarge source) rests = ⊥
+FailsLive is_terminal plan old new OutOfMemory rests = ShowsFirstOf (live_texts is_terminal plan) old new rests
+FailsLive is_terminal plan old new NoThread rests = ShowsFirstOf (live_texts is_terminal plan) old new rests
+FailsLive is_terminal plan old new (Unfinished source) rests = ShowsSomeOf (live_texts is_terminal plan) old new (length rests)
+FailsLive is_terminal plan old new Faults rests = ⊥
+FailsLive is_terminal plan old new (Output fault) rests = ShowsFirstOf (live_texts is_terminal plan) old new rests
 
 -- the exit status of a run
 abbrev pub live_status : Result ℕ Failure → ℕ
@@ -82,7 +82,7 @@ live_status (Ok status) = status
 live_status (Err failure) = status_of failure
 
 -- what the exit status says of the texts of streams, and of the output
-pub record TellsTexts (is_table : Bool) (plan : Plan) (old new : Option (List ℕ)) (status : ℕ) (texts : List (List ℕ)) : Type 0 where
-  pub shown : status ≡ 0 → AreFaultless plan.is_strict texts × ShowsAllOf (live_texts is_table plan) old new (read_texts plan.is_strict texts)
-  pub faulty : status ≡ 1 → HasTextFault plan.is_strict texts × ShowsAllOf (live_texts is_table plan) old new (read_texts plan.is_strict texts)
-  pub front : status ≡ 3 → ShowsFirstOf (live_texts is_table plan) old new (read_texts plan.is_strict texts) ⊎ ShowsSomeOf (live_texts is_table plan) old new (length texts)
+pub record TellsTexts (is_terminal : Bool) (plan : Plan) (old new : Option (List ℕ)) (status : ℕ) (texts : List (List ℕ)) : Type 0 where
+  pub shown : status ≡ 0 → AreFaultless plan.is_strict texts × ShowsAllOf (live_texts is_terminal plan) old new (read_texts plan.is_strict texts)
+  pub faulty : status ≡ 1 → HasTextFault plan.is_strict texts × ShowsAllOf (live_texts is_terminal plan) old new (read_texts plan.is_strict texts)
+  pub front : status ≡ 3 → ShowsFirstOf (live_texts is_terminal plan) old new (read_texts plan.is_strict texts) ⊎ ShowsSomeOf (live_texts is_terminal plan) old new (length texts)

@@ -1,19 +1,21 @@
 -- What is kept beside the merged samples.
-use Rattle.std.specs.Prelude.{◌≡◌, ℕ, ◌≤◌, List, All, codes, length}
+use Rattle.std.specs.Prelude.{◌≡◌, ℕ, Bool, true, false, List, codes, length}
 use Rattle.sample_tables.specs.declared.samples.Sample.{Sample}
-use Rattle.sample_tables.specs.declared.samples.TheConstants.{FRAME_LIMIT}
 use Rattle.flame_layout.specs.declared.boxes.SpanBox.{SpanBox}
 use Rattle.view_texts.specs.Json.{boxes_line, snapshot_line}
-use Rattle.merging.specs.Snapshots.{samples_of_pairs}
 use Rattle.live_lines.specs.Lines.{live_counts}
 use Rattle.live_lines.specs.declared.merge.LiveLine.{LiveLine}
 use Rattle.live_lines.specs.declared.merge.LiveLine.TheVariants.{Graph, Snapshot}
 
--- how many there are, and of which sources; and each can be drawn
+-- how many there are, and of which sources
 pub record IsLiveMerge (pairs : List (ℕ × Sample)) (counts : List ℕ) (at : ℕ) : Type 0 where
   pub counted : counts ≡ live_counts (length counts) pairs (length pairs)
   pub at_is : at ≡ length pairs
-  pub depths : All (λ sample. length sample.stack ≤ FRAME_LIMIT) (samples_of_pairs pairs)
+
+-- more is to come behind it
+abbrev pub has_more : LiveLine → Bool
+has_more Snapshot = true
+has_more Graph = false
 
 -- the line of boxes
 abbrev pub shown_text : LiveLine → ℕ → List ℕ → ℕ → ℕ → List SpanBox → List ℕ

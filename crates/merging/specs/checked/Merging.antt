@@ -8,8 +8,7 @@ use Rattle.merging.specs.declared.snapshots.Snapshot.{Snapshot}
 use Rattle.sample_tables.specs.declared.samples.Sample.{Sample}
 use Rattle.merging.specs.declared.tally.Tally.{Tally}
 use Rattle.merging.specs.checked.Tallies.{IsTally}
-use Rattle.merged_stacks.specs.Timeline.{total_weight}
-use Rattle.merging.specs.Snapshots.{samples_of_pairs, snapshot_counts, snapshot_places}
+use Rattle.merging.specs.Snapshots.{snapshot_counts, snapshot_places}
 use Rattle.merging.specs.checked.TakenRows.{TakenRow, rows_of, pair_of, pairs_of, order_of, paths_of}
 
 -- the snapshot of the first m rows
@@ -41,12 +40,6 @@ pub record AreMerged (every : Option ℕ) (names : List (List ℕ)) (tree : Tree
   pub numbered : AllByRecursion (IsNumbered names) rows
   pub tree_is : tree ≡ tree_of (paths_of rows)
   pub snapshots_are : snapshots ≡ snapshots_of every rows
-
--- rows that were merged without snapshots, and what they weigh
-pub record AreRows (names : List (List ℕ)) (tree : Tree) (total : ℕ) (rows : List TakenRow) : Type 0 where
-  pub merged : AreMerged None names tree rows []
-  pub total_is : total ≡ total_weight (samples_of_pairs (pairs_of names rows))
-  pub fits : total < 2 ^ 64
 
 -- a sink's parts: what was taken was counted and merged
 pub record IsTreeSink (tally : Tally) (names : List (List ℕ)) (tree : Tree) (snapshots : List Snapshot) : Type 0 where

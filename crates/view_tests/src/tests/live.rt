@@ -1,12 +1,12 @@
 //! The lines of a graph, written while its samples come.
-ghost use Rattle.std.specs.Prelude.{◌≤◌};
+ghost use Rattle.std.specs.Prelude.{◌≤◌, ◌<◌, length};
 
 use super::ledgers::{ledger_of, ledger_with};
 use super::shown::{Given, see};
 use crate::tests::worked::{FIVE_LINES, SNAPSHOT_LINES};
 use flame_layout::Width;
 use flame_tool::{CountedWriter, Format, Outlet, View, Views, render};
-use live_lines::{LiveGate, LiveLine, LiveMerge, LiveSink};
+use live_lines::{LiveForm, LiveGate, LiveLine, LiveMerge, LiveSink};
 use ring_collect::CollectFault;
 use stack_core::{Ledger, RowSink, SourceList};
 use std::alloc::{AllocError, Global};
@@ -133,7 +133,7 @@ fn merge_one(
 /// Sends a line of what was merged.
 fn send<W: Outlet>(
     alloc: Global,
-    merge: &mut LiveMerge,
+    merge: &LiveMerge,
     line: LiveLine,
     out: &mut W,
 ) -> Result<(), AllocError> {
@@ -144,27 +144,80 @@ fn send<W: Outlet>(
 }
 
 /// What is written of the five as rows of ledgers that number the names each time in another way, and also names that no stack has.
-fn written_anew(alloc: Global) -> Result<Vec<u8>, AllocError> {
+fn written_anew(alloc: Global, form: LiveForm, every: u64) -> Result<Vec<u8>, AllocError>
+    requires { 1 ≤ every }
+{
     let unused: &[&str] = &["", "unused", "a"];
-    let mut merge = LiveMerge::new(alloc, 1)?;
+    let mut merge = LiveMerge::of_form(alloc, form, 1)?;
     let mut out = CountedWriter::new(Vec::new(alloc));
     for (at, (names, weight)) in FIVE.iter().enumerate() {
         let ledger = ledger_with(alloc, &unused[..at % 4], names)?;
         merge_one(alloc, &mut merge, &ledger, *weight)?;
-        if merge.count() % 2 == 0 {
-            send(alloc, &mut merge, LiveLine::Snapshot, &mut out)?;
+        if merge.count() % every == 0 {
+            send(alloc, &merge, LiveLine::Snapshot, &mut out)?;
         }
     }
-    send(alloc, &mut merge, LiveLine::Graph, &mut out)?;
+    send(alloc, &merge, LiveLine::Graph, &mut out)?;
     Ok(out.into_inner())
 }
 
 #[test]
 fn rows_of_other_ledgers(rt: HostRuntime) -> Result<(), Fail> {
     assert_eq!(rt;
-        written_anew(rt.alloc())?.as_slice(),
+        written_anew(rt.alloc(), LiveForm::Lines, 2)?.as_slice(),
         SNAPSHOT_LINES.as_bytes()
     );
+    Ok(())
+}
+
+/// The frame of the first four of the five, and in its place the table of all.
+const FRAMES: &str = "\x1b[?7l4 samples of 1 source\n\
+    Showing 3 of 3 functions, total 5\n\
+    own    own%     sum%  total  total%  name\n\
+    \x20 2  40.00%   40.00%      3  60.00%  a\n\
+    \x20 2  40.00%   80.00%      2  40.00%  c\n\
+    \x20 1  20.00%  100.00%      1  20.00%  b\n\
+    \n\n\n\n\n\n\n\x1b[?7h\
+    \r\x1b[13A\x1b[J\
+    Showing 4 of 4 functions, total 6\n\
+    own    own%     sum%  total  total%  name\n\
+    \x20 2  33.33%   33.33%      3  50.00%  a\n\
+    \x20 2  33.33%   66.67%      2  33.33%  c\n\
+    \x20 1  16.67%   83.33%      1  16.67%  b\n\
+    \x20 1  16.67%  100.00%      1  16.67%  d\n";
+
+#[test]
+fn table_of_five_samples(rt: HostRuntime) -> Result<(), Fail> {
+    let form = LiveForm::Table { every: 4 };
+    assert_eq!(rt;
+        written_anew(rt.alloc(), form, 4)?.as_slice(),
+        FRAMES.as_bytes()
+    );
+    Ok(())
+}
+
+/// How many pages there are, and of how many of them more is to come.
+fn page_counts(text: &[u8]) -> (usize, usize) {
+    (
+        count_in(text, b"<!doctype html>"),
+        count_in(text, b"\"more\":true"),
+    )
+}
+
+/// How often a part stands in a text.
+fn count_in(text: &[u8], part: &[u8]) -> usize
+    requires { 0 < length part.now }
+{
+    text.windows(part.len()).filter(|at| *at == part).count()
+}
+
+/// A page for each snapshot, of which more is to come, and the last one.
+#[test]
+fn pages_of_five_samples(rt: HostRuntime) -> Result<(), Fail> {
+    let text = written_anew(rt.alloc(), LiveForm::Pages, 2)?;
+    assert_eq!(rt; page_counts(text.as_slice()), (3, 2));
+    let text = written_anew(rt.alloc(), LiveForm::Pages, 9)?;
+    assert_eq!(rt; page_counts(text.as_slice()), (1, 0));
     Ok(())
 }
 

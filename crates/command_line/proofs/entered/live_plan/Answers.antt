@@ -15,6 +15,7 @@ returns c =
       from = None;
       omit = omit i;
       output = c.in_ok-first.ensures i;
+      pages = c.in_ok-first-2.ensures i;
       format = Some Folded;
       files = c.in_ok-files.ensures i;
       form = form.Live;

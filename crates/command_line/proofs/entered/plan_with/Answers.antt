@@ -1,4 +1,4 @@
-use Rattle.std.proofs.Common.{codes}
+use Rattle.std.proofs.Common.{None, codes}
 use Rattle.command_line.proofs.ReadEntries.{flag_given}
 use Rattle.command_line.proofs.entered.plan_with.Goals as goal
 
@@ -12,6 +12,7 @@ returns c =
       from = c.in_ok-first.ensures i;
       omit = c.in_ok-values.ensures i;
       output = c.in_ok-first-2.ensures i;
+      pages = None;
       format = c.format.ensures i;
       files = c.in_ok-files.ensures i;
       form = c.in_ok-form.ensures i;

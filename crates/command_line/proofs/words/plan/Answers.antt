@@ -77,6 +77,12 @@ returns-in-Ok-clause-live c =
     let read = entered_reads (map string_bytes c.args.words.now) none _ (entered_rows _ _ c.in-Ok.matches c.in_ok-line.ensures c.in-Ok.ensures.matches) in
     IfOk-weaker _ _ _ (λ plan is. (plan_asks _ plan read is).live) c.planned.ensures.plan
 
+pub returns-in-Ok-clause-pages : goal.returns-in-Ok-clause-pages
+returns-in-Ok-clause-pages c =
+    let none = no_fault _ (map string_bytes c.args.words.now) c.in_ok-line.ensures c.in-Ok.ensures.kinds in
+    let read = entered_reads (map string_bytes c.args.words.now) none _ (entered_rows _ _ c.in-Ok.matches c.in_ok-line.ensures c.in-Ok.ensures.matches) in
+    IfOk-weaker _ _ _ (λ plan is. (plan_asks _ plan read is).pages) c.planned.ensures.plan
+
 pub returns-in-Err-clause-refused : goal.returns-in-Err-clause-refused
 returns-in-Err-clause-refused c =
     let has = error_kind _ (map string_bytes c.args.words.now) c.in-Err.error c.in_ok-line.ensures c.in-Err.ensures.kinds in

@@ -116,6 +116,7 @@ const PARTS: &[(&str, Wanted<'static>)] = &[
     ("live --help", Wanted::Help("\nExample: tail -n +1 -f ")),
     ("live --help", Wanted::Help("\nSeveral: flamecollect live ")),
     ("live --help", Wanted::Help(" [default: 1000]\n")),
+    ("live --help", Wanted::Help("\n      --page <FILE> ")),
     (
         "compare --help",
         Wanted::Help("\nExample: flamecollect compare "),

@@ -34,6 +34,52 @@ fn streams(rt: HostRuntime) -> Result<(), Fail> {
     are_answered(&rt, STREAMS)
 }
 
+const PAGES: &[(&str, Wanted<'static>)] = &[
+    ("live --page x.html", Wanted::LivePage("x.html", &[])),
+    (
+        "live --page=x.html a.folded",
+        Wanted::LivePage("x.html", &["a.folded"]),
+    ),
+    (
+        "live a --page - --strict b",
+        Wanted::LivePage("-", &["a", "b"]),
+    ),
+    (
+        "live --page x -- --page",
+        Wanted::LivePage("x", &["--page"]),
+    ),
+];
+
+#[test]
+fn streams_on_a_page(rt: HostRuntime) -> Result<(), Fail> {
+    are_answered(&rt, PAGES)
+}
+
+const REFUSED_PAGES: &[(&str, Wanted<'static>)] = &[
+    ("live --page x -o y", Wanted::Refused(BOTH_FILES, USAGE)),
+    (
+        "live --output=y a --page=x",
+        Wanted::Refused(BOTH_FILES, USAGE),
+    ),
+    ("live --page", Wanted::Refused("error: ", "'--page <FILE>'")),
+    ("live --page=", REFUSED),
+    ("live --page x --page y", REFUSED),
+    ("live --pages x", REFUSED),
+    ("live --page x --title t", REFUSED),
+    ("live --page x --least 5", REFUSED),
+    ("live --page x --root-below", REFUSED),
+];
+
+const BOTH_FILES: &str =
+    "error: the argument '--page <FILE>' cannot be used with '--output <FILE>'\n";
+
+const USAGE: &str = "\n\nUsage: flamecollect live [OPTIONS] [FILE]...\n\nFor more ";
+
+#[test]
+fn refused_pages_of_streams(rt: HostRuntime) -> Result<(), Fail> {
+    are_answered(&rt, REFUSED_PAGES)
+}
+
 const REFUSED_LINES: &[(&str, Wanted<'static>)] = &[
     ("live --every 0", REFUSED),
     ("live --every 1000000001", REFUSED),
@@ -47,7 +93,6 @@ const REFUSED_LINES: &[(&str, Wanted<'static>)] = &[
     ("live --from f", REFUSED),
     ("live --omit f", REFUSED),
     ("live --strict --strict", REFUSED),
-    ("live --page", REFUSED),
     ("live --svg", REFUSED),
     ("live --quiet", REFUSED),
 ];

@@ -93,6 +93,8 @@ pub(crate) enum Wanted<'a> {
     Live(u32, u64, &'a [&'a str]),
     /// The same of width 1200 after 1000 samples, read strictly.
     StrictLive(&'a [&'a str]),
+    /// The same on pages in this file, and no other file, of these files.
+    LivePage(&'a str, &'a [&'a str]),
     /// Words that are refused, with a text that begins so, has this part, and tells how to get help.
     Refused(&'a str, &'a str),
     /// Help, which has this part.
@@ -229,6 +231,12 @@ fn is_strict_live(plan: &Plan, files: &[&str]) -> bool {
     plan.is_strict && is_live(plan, 1_200, 1_000, files)
 }
 
+fn is_live_page(plan: &Plan, path: &str, files: &[&str]) -> bool {
+    is_titled(&plan.pages, Some(path))
+        && plan.output.is_none()
+        && is_live(plan, 1_200, 1_000, files)
+}
+
 fn are_calls(plan: &Plan, calls: &Calls<'_>) -> bool {
     plan.view == View::Fold
         && match &plan.form {
@@ -267,9 +275,10 @@ pub(crate) fn has(plan: &Plan, wanted: &Wanted<'_>) -> bool {
         Wanted::Types(file) => is_of_types(plan, file),
         Wanted::Calls(calls) => are_calls(plan, &calls),
         Wanted::Live(width, every, files) => {
-            !plan.is_strict && is_live(plan, width, every, files)
+            !plan.is_strict && is_live(plan, width, every, files) && plan.pages.is_none()
         }
-        Wanted::StrictLive(files) => is_strict_live(plan, files),
+        Wanted::StrictLive(files) => is_strict_live(plan, files) && plan.pages.is_none(),
+        Wanted::LivePage(path, files) => is_live_page(plan, path, files),
         Wanted::Refused(..) | Wanted::Help(_) | Wanted::Version => false,
     }
 }

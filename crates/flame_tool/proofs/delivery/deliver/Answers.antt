@@ -1,7 +1,7 @@
 use Rattle.std.proofs.Common.{◌≡◌, ◌∙◌, ℕ, Bool, List, Result, Ok, IfOk, inl, inr, subst, sym}
 use Rattle.command_line.specs.declared.destinations.Destination.{Destination}
-use Rattle.command_line.specs.declared.destinations.Destination.TheVariants.{File, Standard}
-use Rattle.flame_tool.specs.Delivery.{IfFile, IfStandard}
+use Rattle.command_line.specs.declared.destinations.Destination.TheVariants.{File, Pages, Standard}
+use Rattle.flame_tool.specs.Delivery.{IfFile, IfPages, IfStandard}
 use Rattle.flame_tool.proofs.delivery.deliver.Goals as goal
 
 -- what was found is what is wanted
@@ -16,6 +16,24 @@ of_standard wanted is_document holds is here = subst (λ wanted. IfStandard want
 
 no_file : (wanted : Destination) (is_document : Bool) (holds : List ℕ → Type 0) → Standard is_document ≡ wanted → IfFile wanted holds
 no_file wanted is_document holds is = subst (λ wanted. IfFile wanted holds) is tt
+
+no_standard : (wanted : Destination) (path : List ℕ) (holds : Bool → Type 0) → Pages path ≡ wanted → IfStandard wanted holds
+no_standard wanted path holds is = subst (λ wanted. IfStandard wanted holds) is tt
+
+of_pages : (wanted : Destination) (path : List ℕ) (holds : Type 0) → Pages path ≡ wanted → holds → IfPages wanted holds
+of_pages wanted path holds is here = subst (λ wanted. IfPages wanted holds) is here
+
+pub returns-in-Ok-Pages-clause-pages : goal.returns-in-Ok-Pages-clause-pages
+returns-in-Ok-Pages-clause-pages g c =
+    of_pages _ _ _ (found_is _ _ _ _ (rw c.as_slice.ensures.value at c.asked_destination.ensures) c.in-Ok-Pages.is c.in-Ok-Pages.field-0-is) (rw c.as_slice-in-Ok-Pages.ensures.value at c.deliver_pages.ensures)
+
+pub returns-in-Ok-Pages-clause-standard : goal.returns-in-Ok-Pages-clause-standard
+returns-in-Ok-Pages-clause-standard g c =
+    no_standard _ _ _ (found_is _ _ _ _ (rw c.as_slice.ensures.value at c.asked_destination.ensures) c.in-Ok-Pages.is c.in-Ok-Pages.field-0-is)
+
+pub returns-in-Ok-Pages-clause-terminal : goal.returns-in-Ok-Pages-clause-terminal
+returns-in-Ok-Pages-clause-terminal g c =
+    no_standard _ _ _ (found_is _ _ _ _ (rw c.as_slice.ensures.value at c.asked_destination.ensures) c.in-Ok-Pages.is c.in-Ok-Pages.field-0-is)
 
 pub returns-in-Ok-File-clause-file : goal.returns-in-Ok-File-clause-file
 returns-in-Ok-File-clause-file g c =

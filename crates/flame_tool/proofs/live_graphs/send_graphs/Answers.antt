@@ -20,7 +20,7 @@ pub returns-in_err-gate-clause-err : goal.returns-in_err-gate-clause-err
 returns-in_err-gate-clause-err g c =
     err_because c.from_residual.result OutOfMemory _ c.from_residual.ensures.1
     (any_given (λ reader. g.R.RowReader.gives reader) c.args.readers.items c.requires.possible
-    (λ rests same. none_shown c.args.plan.now c.in-Graph.width c.in-Some.every c.in-Graph.is c.in-Some.is c.args.is_table (g.W.Outlet.contents c.args.out.now) rests))
+    (λ rests same. none_shown c.args.plan.now c.in-Graph.width c.in-Some.every c.in-Graph.is c.in-Some.is c.args.is_terminal (g.W.Outlet.contents c.args.out.now) rests))
 
 -- as many counts as endings
 
@@ -60,8 +60,8 @@ returns-in_err-endings-clause-err g c =
     let graph : c.args.plan.now.view ≡ Graph sink.lines.width = c.in-Graph.is ∙ ap (λ width. Graph width) (sym c.new-sink.ensures.width) in
     let often : c.args.plan.now.options.every ≡ Some sink.lines.every = c.in-Some.is ∙ ap (λ every. Some every) (sym c.new-sink.ensures.every) in
     let merge = c.new-sink.ensures.merge ∙ c.in_ok-gate.ensures in
-    let formed : sink.lines.merge.form ≡ form_of c.args.is_table sink.lines.every =
-    ap (λ merge. merge.form) merge ∙ c.form_of.ensures ∙ ap (form_of c.args.is_table) (sym c.new-sink.ensures.every) in
+    let formed : sink.lines.merge.form ≡ form_of c.args.is_terminal c.args.plan.now sink.lines.every =
+    ap (λ merge. merge.form) merge ∙ c.form_of.ensures ∙ ap (form_of c.args.is_terminal c.args.plan.now) (sym c.new-sink.ensures.every) in
     let none : sink.lines.merge.taken ≡ [] = ap (λ merge. merge.taken) merge in
     let many : c.len.result ≡ length c.args.readers.items = search rules in
     let count : sink.lines.merge.sources ≡ length answer.rests =
@@ -71,9 +71,9 @@ returns-in_err-endings-clause-err g c =
     err_because c.from_residual-in_err-endings.result failure _ c.from_residual-in_err-endings.ensures.1 (record {
       rests = answer.rests;
       are_given = answer.are_given;
-      holds = subst (λ out. FailsLive c.args.is_table c.args.plan.now (g.W.Outlet.contents c.args.out.now) (g.W.Outlet.contents out) failure answer.rests) (sym last)
-          (subst (λ start. FailsLive c.args.is_table c.args.plan.now (g.W.Outlet.contents start) (g.W.Outlet.contents left.out.now) failure answer.rests) c.new-sink.ensures.start
-          (collect_failed c.args.plan.now sink.lines.width sink.lines.every c.args.is_table graph often (g.W.Outlet.contents sink.lines.start.value) (g.W.Outlet.contents left.out.now) sink.lines.merge.sources sink.lines.merge.taken
+      holds = subst (λ out. FailsLive c.args.is_terminal c.args.plan.now (g.W.Outlet.contents c.args.out.now) (g.W.Outlet.contents out) failure answer.rests) (sym last)
+          (subst (λ start. FailsLive c.args.is_terminal c.args.plan.now (g.W.Outlet.contents start) (g.W.Outlet.contents left.out.now) failure answer.rests) c.new-sink.ensures.start
+          (collect_failed c.args.plan.now sink.lines.width sink.lines.every c.args.is_terminal graph often (g.W.Outlet.contents sink.lines.start.value) (g.W.Outlet.contents left.out.now) sink.lines.merge.sources sink.lines.merge.taken
           left.lines.merge.taken answer.rests count none c.in_err-endings.field-0.0 answer.holds (subst (λ form. AppendsFront (live_lines form sink.lines.merge.sources sink.lines.width sink.lines.every left.lines.merge.taken) (g.W.Outlet.contents sink.lines.start.value) (g.W.Outlet.contents left.out.now)) formed (front_of_sink left.lines.merge.taken (g.W.Outlet.contents left.out.now) same left.front))));
     })
 
@@ -87,8 +87,8 @@ returns-in_err-finished-clause-err g c =
     let graph : c.args.plan.now.view ≡ Graph sink.lines.width = c.in-Graph.is ∙ ap (λ width. Graph width) (sym c.new-sink.ensures.width) in
     let often : c.args.plan.now.options.every ≡ Some sink.lines.every = c.in-Some.is ∙ ap (λ every. Some every) (sym c.new-sink.ensures.every) in
     let merge = c.new-sink.ensures.merge ∙ c.in_ok-gate.ensures in
-    let formed : sink.lines.merge.form ≡ form_of c.args.is_table sink.lines.every =
-    ap (λ merge. merge.form) merge ∙ c.form_of.ensures ∙ ap (form_of c.args.is_table) (sym c.new-sink.ensures.every) in
+    let formed : sink.lines.merge.form ≡ form_of c.args.is_terminal c.args.plan.now sink.lines.every =
+    ap (λ merge. merge.form) merge ∙ c.form_of.ensures ∙ ap (form_of c.args.is_terminal c.args.plan.now) (sym c.new-sink.ensures.every) in
     let none : sink.lines.merge.taken ≡ [] = ap (λ merge. merge.taken) merge in
     let many : c.len.result ≡ length c.args.readers.items = search rules in
     let count : sink.lines.merge.sources ≡ length answer.rests =
@@ -97,14 +97,14 @@ returns-in_err-finished-clause-err g c =
     let lists = answer.holds.run.found in
     let order = answer.holds.run.arrival in
     let run = subst (λ taken. CollectsRun anywhere anywhere answer.rests taken left.lines.merge.taken lists order) none answer.holds.run.collects in
-    let text = text_of_run c.args.plan.now c.args.is_table graph often formed answer.rests left.lines.merge.taken lists order same count run in
+    let text = text_of_run c.args.plan.now c.args.is_terminal graph often formed answer.rests left.lines.merge.taken lists order same count run in
     let gained = subst (λ contents. AppendsFront (live_text left.lines.merge.form left.lines.merge.sources left.lines.width left.lines.every left.lines.merge.taken) contents (g.W.Outlet.contents c.finish-finished.new.out)) same.contents_are c.in_err-finished.ensures.front in
     err_because c.from_residual-in_err-finished.result (Output c.in_err-finished.field-0.0) _ c.from_residual-in_err-finished.ensures.1 (record {
       rests = answer.rests;
       are_given = answer.are_given;
-      holds = subst (λ out. ShowsFirstOf (live_texts c.args.is_table c.args.plan.now) (g.W.Outlet.contents c.args.out.now) (g.W.Outlet.contents out) answer.rests) (sym last)
-          (subst (λ start. ShowsFirstOf (live_texts c.args.is_table c.args.plan.now) (g.W.Outlet.contents start) (g.W.Outlet.contents c.finish-finished.new.out) answer.rests) c.new-sink.ensures.start
-          (part_shown c.args.plan.now sink.lines.width sink.lines.every graph often c.args.is_table (g.W.Outlet.contents sink.lines.start.value) (g.W.Outlet.contents c.finish-finished.new.out) answer.rests left.lines.merge.taken lists order run _ text gained));
+      holds = subst (λ out. ShowsFirstOf (live_texts c.args.is_terminal c.args.plan.now) (g.W.Outlet.contents c.args.out.now) (g.W.Outlet.contents out) answer.rests) (sym last)
+          (subst (λ start. ShowsFirstOf (live_texts c.args.is_terminal c.args.plan.now) (g.W.Outlet.contents start) (g.W.Outlet.contents c.finish-finished.new.out) answer.rests) c.new-sink.ensures.start
+          (part_shown c.args.plan.now sink.lines.width sink.lines.every graph often c.args.is_terminal (g.W.Outlet.contents sink.lines.start.value) (g.W.Outlet.contents c.finish-finished.new.out) answer.rests left.lines.merge.taken lists order run _ text gained));
     })
 
 pub returns-in-Some-failure-clause-err : goal.returns-in-Some-failure-clause-err
@@ -117,25 +117,25 @@ returns-in-Some-failure-clause-err g c =
     let graph : c.args.plan.now.view ≡ Graph sink.lines.width = c.in-Graph.is ∙ ap (λ width. Graph width) (sym c.new-sink.ensures.width) in
     let often : c.args.plan.now.options.every ≡ Some sink.lines.every = c.in-Some.is ∙ ap (λ every. Some every) (sym c.new-sink.ensures.every) in
     let merge = c.new-sink.ensures.merge ∙ c.in_ok-gate.ensures in
-    let formed : sink.lines.merge.form ≡ form_of c.args.is_table sink.lines.every =
-    ap (λ merge. merge.form) merge ∙ c.form_of.ensures ∙ ap (form_of c.args.is_table) (sym c.new-sink.ensures.every) in
+    let formed : sink.lines.merge.form ≡ form_of c.args.is_terminal c.args.plan.now sink.lines.every =
+    ap (λ merge. merge.form) merge ∙ c.form_of.ensures ∙ ap (form_of c.args.is_terminal c.args.plan.now) (sym c.new-sink.ensures.every) in
     let none : sink.lines.merge.taken ≡ [] = ap (λ merge. merge.taken) merge in
     let many : c.len.result ≡ length c.args.readers.items = search rules in
     let count : sink.lines.merge.sources ≡ length answer.rests =
     ap (λ merge. merge.sources) merge ∙ many ∙ sym (given_count (λ reader. g.R.RowReader.gives reader) c.args.readers.items answer.rests answer.are_given) in
-    let last = c.in-Some-failure.out-in-Some-lines-3-1-own.given.1 (sym (same.name_is ∙ c.new-sink.ensures.outlet)) in
+    let last = c.in-Some-failure.out-in-Some-lines-2-1-own.given.1 (sym (same.name_is ∙ c.new-sink.ensures.outlet)) in
     let lists = answer.holds.run.found in
     let order = answer.holds.run.arrival in
     let run = subst (λ taken. CollectsRun anywhere anywhere answer.rests taken left.lines.merge.taken lists order) none answer.holds.run.collects in
-    let text = text_of_run c.args.plan.now c.args.is_table graph often formed answer.rests left.lines.merge.taken lists order same count run in
+    let text = text_of_run c.args.plan.now c.args.is_terminal graph often formed answer.rests left.lines.merge.taken lists order same count run in
     let gained = subst (λ contents. AppendsFront (live_text left.lines.merge.form left.lines.merge.sources left.lines.width left.lines.every left.lines.merge.taken) contents (g.W.Outlet.contents left.out.now)) same.contents_are
     (front_of_text left.lines.merge.form left.lines.merge.sources left.lines.width left.lines.every left.lines.merge.taken (g.W.Outlet.contents left.lines.start.value) (g.W.Outlet.contents left.out.now) left.front) in
     record {
       rests = answer.rests;
       are_given = answer.are_given;
-      holds = subst (λ out. ShowsFirstOf (live_texts c.args.is_table c.args.plan.now) (g.W.Outlet.contents c.args.out.now) (g.W.Outlet.contents out) answer.rests) (sym last)
-          (subst (λ start. ShowsFirstOf (live_texts c.args.is_table c.args.plan.now) (g.W.Outlet.contents start) (g.W.Outlet.contents left.out.now) answer.rests) c.new-sink.ensures.start
-          (part_shown c.args.plan.now sink.lines.width sink.lines.every graph often c.args.is_table (g.W.Outlet.contents sink.lines.start.value) (g.W.Outlet.contents left.out.now) answer.rests left.lines.merge.taken lists order run _ text gained));
+      holds = subst (λ out. ShowsFirstOf (live_texts c.args.is_terminal c.args.plan.now) (g.W.Outlet.contents c.args.out.now) (g.W.Outlet.contents out) answer.rests) (sym last)
+          (subst (λ start. ShowsFirstOf (live_texts c.args.is_terminal c.args.plan.now) (g.W.Outlet.contents start) (g.W.Outlet.contents left.out.now) answer.rests) c.new-sink.ensures.start
+          (part_shown c.args.plan.now sink.lines.width sink.lines.every graph often c.args.is_terminal (g.W.Outlet.contents sink.lines.start.value) (g.W.Outlet.contents left.out.now) answer.rests left.lines.merge.taken lists order run _ text gained));
     }
 
 pub returns-clause-ok : goal.returns-clause-ok
@@ -148,8 +148,8 @@ returns-clause-ok g c =
     let graph : c.args.plan.now.view ≡ Graph sink.lines.width = c.in-Graph.is ∙ ap (λ width. Graph width) (sym c.new-sink.ensures.width) in
     let often : c.args.plan.now.options.every ≡ Some sink.lines.every = c.in-Some.is ∙ ap (λ every. Some every) (sym c.new-sink.ensures.every) in
     let merge = c.new-sink.ensures.merge ∙ c.in_ok-gate.ensures in
-    let formed : sink.lines.merge.form ≡ form_of c.args.is_table sink.lines.every =
-    ap (λ merge. merge.form) merge ∙ c.form_of.ensures ∙ ap (form_of c.args.is_table) (sym c.new-sink.ensures.every) in
+    let formed : sink.lines.merge.form ≡ form_of c.args.is_terminal c.args.plan.now sink.lines.every =
+    ap (λ merge. merge.form) merge ∙ c.form_of.ensures ∙ ap (form_of c.args.is_terminal c.args.plan.now) (sym c.new-sink.ensures.every) in
     let none : sink.lines.merge.taken ≡ [] = ap (λ merge. merge.taken) merge in
     let many : c.len.result ≡ length c.args.readers.items = search rules in
     let count : sink.lines.merge.sources ≡ length answer.rests =
@@ -158,7 +158,7 @@ returns-clause-ok g c =
     let lists = answer.holds.run.found in
     let order = answer.holds.run.arrival in
     let run = subst (λ taken. CollectsRun anywhere anywhere answer.rests taken left.lines.merge.taken lists order) none answer.holds.run.collects in
-    let text = text_of_run c.args.plan.now c.args.is_table graph often formed answer.rests left.lines.merge.taken lists order same count run in
+    let text = text_of_run c.args.plan.now c.args.is_terminal graph often formed answer.rests left.lines.merge.taken lists order same count run in
     let gained = subst (λ contents. Appends contents (g.W.Outlet.contents c.finish-finished.new.out) (live_text left.lines.merge.form left.lines.merge.sources left.lines.width left.lines.every left.lines.merge.taken)) same.contents_are c.in_ok-finished.ensures.ok in
     let sources = many ∙ sym (given_count (λ reader. g.R.RowReader.gives reader) c.args.readers.items answer.rests answer.are_given) in
     let sources_same = ap (λ (xs : List ℕ). get_or xs 3 0) c.feed_rows-fed.ensures.setting in
@@ -168,10 +168,10 @@ returns-clause-ok g c =
     record {
       rests = answer.rests;
       are_given = answer.are_given;
-      holds = subst (λ out. EndsLive c.args.is_table c.args.plan.now (g.W.Outlet.contents c.args.out.now) (g.W.Outlet.contents out) c.status_of_ends.result answer.rests) (sym last)
-          (subst (λ start. EndsLive c.args.is_table c.args.plan.now (g.W.Outlet.contents start) (g.W.Outlet.contents c.finish-finished.new.out) c.status_of_ends.result answer.rests) c.new-sink.ensures.start
-          (subst (λ status. EndsLive c.args.is_table c.args.plan.now (g.W.Outlet.contents sink.lines.start.value) (g.W.Outlet.contents c.finish-finished.new.out) status answer.rests) told
-          (all_shown c.args.plan.now sink.lines.width sink.lines.every graph often c.args.is_table (g.W.Outlet.contents sink.lines.start.value) (g.W.Outlet.contents c.finish-finished.new.out) answer.rests left.lines.merge.taken lists order run _ text gained)));
+      holds = subst (λ out. EndsLive c.args.is_terminal c.args.plan.now (g.W.Outlet.contents c.args.out.now) (g.W.Outlet.contents out) c.status_of_ends.result answer.rests) (sym last)
+          (subst (λ start. EndsLive c.args.is_terminal c.args.plan.now (g.W.Outlet.contents start) (g.W.Outlet.contents c.finish-finished.new.out) c.status_of_ends.result answer.rests) c.new-sink.ensures.start
+          (subst (λ status. EndsLive c.args.is_terminal c.args.plan.now (g.W.Outlet.contents sink.lines.start.value) (g.W.Outlet.contents c.finish-finished.new.out) status answer.rests) told
+          (all_shown c.args.plan.now sink.lines.width sink.lines.every graph often c.args.is_terminal (g.W.Outlet.contents sink.lines.start.value) (g.W.Outlet.contents c.finish-finished.new.out) answer.rests left.lines.merge.taken lists order run _ text gained)));
     }
 
 -- what was told

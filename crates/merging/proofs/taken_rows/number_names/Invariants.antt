@@ -5,10 +5,11 @@ use Rattle.merging.specs.checked.TakenRows.{AreNumbersOf}
 use Rattle.merging.proofs.taken_rows.number_names.Given as goal
 
 abbrev pub invariant-loop-at : goal.invariant-loop-at
-invariant-loop-at g l =
-    let names = g.S.NamedStack.names l.stack in
+invariant-loop-at l =
+    let names = l.stack in
     record {
       reached : l.at ≤ length names;
+      count : l.at-end ≡ length names;
       numbers : AreNumbersOf (take l.at names) l.table l.numbers.items;
       grows : GrowsTo l.fn.table l.table;
       in_order : l.table ≡ with_stack l.fn.table (take l.at names);

@@ -68,6 +68,9 @@ returns-in-Quiet c = c.flag-in-Quiet.ensures ∙ sym (ap rule_at c.in-Quiet.is)
 pub returns-in-Page : goal.returns-in-Page
 returns-in-Page c = c.form_flag.ensures ∙ sym (ap rule_at c.in-Page.is)
 
+pub returns-in-LivePage : goal.returns-in-LivePage
+returns-in-LivePage c = c.pages_option.ensures ∙ sym (ap rule_at c.in-LivePage.is)
+
 pub returns-in-Svg : goal.returns-in-Svg
 returns-in-Svg c = c.form_flag-in-Svg.ensures ∙ sym (ap rule_at c.in-Svg.is)
 

@@ -4,7 +4,7 @@ use Rattle.std.proofs.KnownBytes.{Appends-trans}
 use Rattle.std.proofs.lemmas.Result.{on_err_weaker, on_ok_weaker}
 use Rattle.source_views.proofs.SnapshotLines.{front_after}
 use Rattle.live_lines.specs.Lines.{end_of, live_lines, live_text}
-use Rattle.live_lines.specs.declared.kept.LiveForm.TheVariants.{Lines}
+use Rattle.live_lines.specs.declared.form.LiveForm.TheVariants.{Lines}
 use Rattle.live_lines.proofs.GraphLemmas.{text_is_graph_text}
 use Rattle.live_lines.proofs.WriteLemmas.{front_known, front_longer}
 use Rattle.live_lines.proofs.sink.LiveLines.finish.Goals as goal

@@ -2,7 +2,7 @@ use Rattle.std.proofs.Common.{arith}
 use Rattle.merging.proofs.taken_rows.NumberedSample.set.Goals as goal
 
 pub returns-clause-row : goal.returns-clause-row
-returns-clause-row g c =
+returns-clause-row c =
     let numbers = c.in_ok-number_names.ensures.numbers in
     record {
       numbered = record { known = numbers.known; weight = omega arith };
