@@ -2,18 +2,29 @@
 from help_texts import NAME, Commands, Entry
 
 
+def places(commands: Commands, flag: str) -> list[str]:
+    """Where a flag has a value: behind each command, or behind those of whose options it has one."""
+    having = [(name, option.value) for name in commands.names for option in commands.helps[name].options if flag in option.flags]
+    return [f'*/{flag}'] if all(value for _, value in having) else [f'{name}/{flag}' for name, value in having if value]
+
+
 def bash(commands: Commands) -> str:
     cases = []
     for name in commands.names:
         words = ' '.join(flag for option in commands.helps[name].options for flag in option.flags)
         cases.append(f"        {name}) options='{words}' ;;")
     top = ' '.join(flag for option in commands.top.options for flag in option.flags)
-    valued = [(flag, option) for name in commands.names for option in commands.helps[name].options if option.value for flag in option.flags]
-    listed = sorted({flag for flag, option in valued if commands.values[option.long]})
-    free = sorted({flag for flag, option in valued if not commands.values[option.long]})
-    choices = [f"        {flag}) COMPREPLY=($(compgen -W '{' '.join(commands.values[flag])}' -- \"$word\")); return ;;" for flag in listed]
+    choices = []
+    free: list[str] = []
+    for flag, option in {flag: option for name in commands.names for option in commands.helps[name].options if option.value
+                         for flag in option.flags}.items():
+        if commands.values[option.long]:
+            values = ' '.join(commands.values[option.long])
+            choices.append(f"        {'|'.join(places(commands, flag))}) COMPREPLY=($(compgen -W '{values}' -- \"$word\")); return ;;")
+        else:
+            free += places(commands, flag)
     if free:
-        choices.append(f"        {'|'.join(free)}) return ;;")
+        choices.append(f"        {'|'.join(sorted(free))}) return ;;")
     return '\n'.join([
         '# Completions of flamecollect for bash. Written by checks/manual from the help of the program.',
         '_flamecollect() {',
@@ -21,7 +32,7 @@ def bash(commands: Commands) -> str:
         '    COMPREPLY=()',
         '    # After an option a value may stand behind `=`, which is a word of its own.',
         "    if [ \"$word\" = = ]; then word=; elif [ \"$before\" = = ]; then before=${COMP_WORDS[COMP_CWORD-2]}; fi",
-        '    case $before in',
+        '    case ${COMP_WORDS[1]}/$before in',
         *choices,
         '    esac',
         "    if [ \"$COMP_CWORD\" = 1 ]; then",
