@@ -4,11 +4,11 @@ _flamecollect() {
     COMPREPLY=()
     # After an option a value may stand behind `=`, which is a word of its own.
     if [ "$word" = = ]; then word=; elif [ "$before" = = ]; then before=${COMP_WORDS[COMP_CWORD-2]}; fi
-    case $before in
-        --by) COMPREPLY=($(compgen -W 'own total' -- "$word")); return ;;
-        --format) COMPREPLY=($(compgen -W 'folded pprof' -- "$word")); return ;;
-        --unit) COMPREPLY=($(compgen -W 'nanoseconds microseconds milliseconds seconds bytes samples' -- "$word")); return ;;
-        --every|--fail-over|--focus|--from|--hide|--least|--number|--omit|--output|--ring|--title|--type|--width|-n|-o) return ;;
+    case ${COMP_WORDS[1]}/$before in
+        */--format) COMPREPLY=($(compgen -W 'folded pprof' -- "$word")); return ;;
+        */--unit) COMPREPLY=($(compgen -W 'nanoseconds microseconds milliseconds seconds bytes samples' -- "$word")); return ;;
+        */--by) COMPREPLY=($(compgen -W 'own total' -- "$word")); return ;;
+        */--every|*/--fail-over|*/--focus|*/--from|*/--hide|*/--least|*/--number|*/--omit|*/--output|*/--ring|*/--title|*/--type|*/--width|*/-n|*/-o|live/--page) return ;;
     esac
     if [ "$COMP_CWORD" = 1 ]; then
         COMPREPLY=($(compgen -W 'fold graph chart svg live compare top diff callers callees peek types help -h --help -V --version' -- "$word"))
@@ -19,7 +19,7 @@ _flamecollect() {
         graph) options='--width --type --unit --format --every --lines --strict -o --output --quiet -h --help --focus --hide --from --omit --ring --page --svg --title --root-below --least' ;;
         chart) options='--width --type --unit --format --lines --strict -o --output --quiet -h --help --focus --hide --from --omit --ring --page --svg --title --root-below --least' ;;
         svg) options='--width --type --unit --format --lines --strict -o --output --quiet -h --help --focus --hide --from --omit --ring --title --root-below' ;;
-        live) options='--width --every --strict -o --output -h --help --ring' ;;
+        live) options='--width --every --strict -o --output --page -h --help --ring' ;;
         compare) options='--width --type --unit --format --boxes --lines --strict -o --output --quiet -h --help --focus --hide --from --omit --ring --page --svg --title --root-below --least --share' ;;
         top) options='-n --number --by --json --exact --type --unit --format --lines --strict -o --output --quiet -h --help --focus --hide --from --omit --ring' ;;
         diff) options='-n --number --by --json --exact --share --fail-over --type --unit --format --lines --strict -o --output --quiet -h --help --focus --hide --from --omit --ring' ;;

@@ -85,6 +85,7 @@ complete -c flamecollect -n '__fish_seen_subcommand_from live' -l width -x -d 'W
 complete -c flamecollect -n '__fish_seen_subcommand_from live' -l every -x -d 'Write the graph after every N samples, 1 to 1000000000 [default: 1000]'
 complete -c flamecollect -n '__fish_seen_subcommand_from live' -l strict -d 'End a stream at its first ignored line, as at a fault'
 complete -c flamecollect -n '__fish_seen_subcommand_from live' -s o -l output -x -d 'File for what is written, which takes its place when it is whole'
+complete -c flamecollect -n '__fish_seen_subcommand_from live' -l page -x -d 'Renew a page for browsers in FILE instead, which loads itself again while more is to come'
 complete -c flamecollect -n '__fish_seen_subcommand_from live' -s h -l help -d 'Print help'
 complete -c flamecollect -n '__fish_seen_subcommand_from live' -l ring -x -d 'Size of the ring of each source, 1 to 65536 [default: 1024]'
 complete -c flamecollect -n '__fish_seen_subcommand_from compare' -l width -x -d 'Width of the image in pixels, 1 to 65536 [default: 1200]'
