@@ -22,6 +22,8 @@ pub mod PartReading
 pub mod ReadLemmas
 pub mod RowLemmas
 pub mod ScanLemmas
+pub mod SharedFronts
+pub mod SharingLemmas
 pub mod SplitLemmas
 pub mod StoredParts
 pub mod StreamPlaceLemmas

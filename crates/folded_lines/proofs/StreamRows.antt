@@ -1,5 +1,5 @@
 -- What a reader of a stream gives before and behind its ending.
-use Rattle.std.proofs.Common.{◌≡◌, ◌<◌, ◌≤◌, ◌^◌, ℕ, zero, suc, Bool, true, false, cond, Option, Some, None, IsSome, Result, Ok, Err, OnErr, List, [], ◌∷◌, length, refl, sym, ap, subst, ◌∙◌, arith}
+use Rattle.std.proofs.Common.{◌≡◌, ◌<◌, ◌≤◌, ◌^◌, ℕ, Bool, true, false, cond, Option, Some, None, IsSome, Result, Ok, Err, OnErr, List, [], ◌∷◌, length, refl, sym, ap, subst, ◌∙◌, arith}
 use Rattle.sample_tables.specs.Rows.{ToldRows}
 use Rattle.stack_core.specs.Reading.{Rest}
 use Rattle.stack_core.specs.RowReading.{GivesSome, GivesSuch, IsLastStep, StepsAmong, StepsByRows}

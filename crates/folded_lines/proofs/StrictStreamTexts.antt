@@ -11,16 +11,15 @@ use Rattle.stack_core.specs.Prefixes.{IsPrefixOf}
 use Rattle.stack_core.specs.Parts.{ignored_of}
 use Rattle.stack_core.specs.Reading.{IsSourceLimited, Rest}
 use Rattle.stack_core.specs.RowReading.{GivesSome}
-use Rattle.stack_core.specs.declared.endings.ReadKind.{ReadKind}
 use Rattle.stack_core.specs.declared.endings.ReadKind.TheVariants.{Compressed, TotalTooLarge}
 use Rattle.stack_core.specs.declared.endings.SourceEnd.{SourceEnd}
 use Rattle.stack_core.specs.declared.endings.SourceEnd.TheVariants as ends
 use Rattle.folded_lines.specs.Line.{Line}
 use Rattle.folded_lines.specs.Line.{Ignored, Fault, Sample}
 use Rattle.folded_lines.specs.Lines.{text_lines, read_line}
-use Rattle.folded_lines.specs.Reading.{samples_of, is_ignored, total_weight, fault_after, cut_short, read_after, begins_compressed, read_folded}
+use Rattle.folded_lines.specs.Reading.{samples_of, is_ignored, total_weight, cut_short, read_after, begins_compressed, read_folded}
 use Rattle.folded_lines.specs.Streams.{Coming, IsCountable, MayCome, at_failure, ending_at_failure}
-use Rattle.folded_lines.specs.StrictReading.{fault_without, strict_at, strict_fault, strict_fault_after, strict_kind_after}
+use Rattle.folded_lines.specs.StrictReading.{fault_without, strict_at, strict_fault, strict_fault_after}
 use Rattle.folded_lines.specs.StrictStreams.{IsTellable, StrictStreamGives, has_ignored, read_coming_strictly, read_strictly, strict_ending_fault, up_to_ignored}
 use Rattle.folded_lines.specs.TextParts.{IsWholeLines}
 use Rattle.folded_lines.specs.declared.strictness.StrictFault.{StrictFault}

@@ -5,6 +5,7 @@ pub mod KnownStreams
 pub mod LineBuffers
 pub mod RowLines
 pub mod Scanning
+pub mod Sharing
 pub mod StreamLines
 pub mod StreamPlaces
 pub mod StreamReading

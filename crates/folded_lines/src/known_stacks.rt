@@ -93,15 +93,27 @@ impl KnownStacks {
         }
     }
 
+    /// How many stacks are known.
+    pub(crate) fn len(&self) -> usize
+        ensures { result ≡ length self.now }
+    {
+        self.rows.len()
+    }
+
+    /// The numbers of the stack of a row.
+    pub(crate) fn numbers(&self, row: usize) -> &[u32]
+        requires { row < length self.now }
+        ensures { result.now ≡ stack_at self.now row }
+    {
+        let known = self.rows[row];
+        &self.numbers[known.start..known.start + known.len as usize]
+    }
+
     /// Whether a head is the names of a row's stack.
     fn is_at(&self, names: &FrameTable, head: &[u8], row: usize) -> bool
         ensures { IsTrue result → IsSpelledAt names.now self.now head.now row }
     {
-        let Some(known) = self.rows.get(row) else {
-            return false;
-        };
-        let end = known.start + known.len as usize;
-        spells(names, &self.numbers[known.start..end], head)
+        row < self.len() && spells(names, self.numbers(row), head)
     }
 
     /// The row whose stack's names a head is.

@@ -13,6 +13,7 @@ mod parts;
 mod reader;
 mod row_lines;
 mod rows;
+mod shared_names;
 mod stored_parts;
 mod stream_lines;
 mod stream_steps;

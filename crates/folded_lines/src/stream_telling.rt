@@ -1,12 +1,13 @@
 //! What a reader of a stream told, and the line of a head that it meets.
 
-ghost use Rattle.std.specs.Prelude.{◌≡◌, ◌≤◌, ◌==◌, ◌&&◌, [], None, length, IfOk, IfSome, MatchOption, OnErr};
+ghost use Rattle.std.specs.Prelude.{◌≡◌, ◌<◌, ◌≤◌, ◌==◌, ◌&&◌, ℕ, List, [], None, length, IfOk, IfSome, MatchOption, OnErr};
 ghost use Rattle.sample_tables.specs.Rows.{name_at};
 ghost use Rattle.stack_core.specs.Prefixes.{IsPrefixOf};
 ghost use Rattle.folded_lines.specs.Lines.{names_of};
 ghost use Rattle.folded_lines.specs.Reading.{begins_compressed};
-ghost use Rattle.folded_lines.specs.checked.KnownStacks.{IsRowOf};
+ghost use Rattle.folded_lines.specs.checked.KnownStacks.{IsMet, IsRowOf};
 ghost use Rattle.folded_lines.specs.checked.Scanning.{within_total, IsWithin};
+ghost use Rattle.folded_lines.specs.checked.Sharing.{IsNamedBy};
 ghost use Rattle.folded_lines.specs.checked.Telling.{head_fault, IsToldAs};
 ghost use Rattle.folded_lines.specs.checked.RowLines.{line_of_head, line_of_stack, line_by, TellsLine};
 ghost use Rattle.folded_lines.specs.checked.StreamReading.{line_at};
@@ -16,6 +17,7 @@ use crate::known_stacks::KnownStacks;
 use crate::names::without_trailing_semicolons;
 use crate::numbering::{new_stack, text_of};
 use crate::row_lines::{Count, RowLine, count_of, fault_of};
+use crate::shared_names::NumberedHead;
 use call_tree::FrameTable;
 use call_tree::spelling_hash::hash_of;
 use stack_core::{ReadKind, WEIGHT_LIMIT};
@@ -29,8 +31,8 @@ pub(crate) struct StreamTelling {
     stacks: KnownStacks,
     /// The numbers of the stack that was told last.
     frames: Vec<usize>,
-    /// A head of a stack that is known, and its row: that of the line before, or of one before that, since many samples have the stack of
-    /// the sample before.
+    /// The head of the line before, or of one before that, and its row: many samples have the stack of the sample before, and others begin
+    /// with its names.
     head: Vec<u8>,
     row: Option<usize>,
 }
@@ -52,6 +54,24 @@ fn begins_compressed(bytes: &[u8]) -> bool
     ensures { result ≡ begins_compressed bytes.now }
 {
     bytes.first() == Some(&0x1f) && bytes.get(1) == Some(&0x8b)
+}
+
+/// The head that is kept, with the numbers of its row, or nothing.
+fn last_head<'a>(stacks: &'a KnownStacks, head: &'a [u8], row: Option<usize>) -> NumberedHead<'a>
+    requires { IfSome row (λ row. row < length stacks.now) }
+    ensures { (names : List (List ℕ)) → IsMet names stacks.now head.now row
+        → IsNamedBy names result.head.now result.numbers.now }
+{
+    match row {
+        None => NumberedHead {
+            head: &[],
+            numbers: &[],
+        },
+        Some(row) => NumberedHead {
+            head,
+            numbers: stacks.numbers(row),
+        },
+    }
 }
 
 impl StreamTelling {
@@ -112,22 +132,28 @@ impl StreamTelling {
         }
     }
 
-    /// Tells the stack of a head, with a weight, and remembers it.
+    /// Tells the stack of a head, with a weight, and remembers it by the hash of a text that has its names. The head is kept.
     fn tell(
         &mut self,
         alloc: Global,
         head: &[u8],
+        text: &[u8],
         hash: u32,
         weight: u64,
     ) -> Result<RowLine, AllocError>
+        requires faultless { head_fault head.now ≡ None }
+        requires same { names_of text.now ≡ names_of head.now }
         ensures line { IfOk result (λ line.
             line_by self.new line ≡ line_of_stack (names_of head.now) weight) }
         ensures tells { IfOk result (λ line. TellsLine self.old line self.new) }
         ensures stacks { OnErr result (self.new.stacks ≡ self.old.stacks) }
         ensures names { OnErr result (IsPrefixOf self.old.names self.new.names) }
     {
-        let stack = new_stack(alloc, &mut self.names, &mut self.frames, head)?;
+        let last = last_head(&self.stacks, &self.head, self.row);
+        let stack = new_stack(alloc, &mut self.names, &mut self.frames, last, text)?;
+        let row = self.stacks.len();
         self.stacks.remember(hash, stack.frames.get())?;
+        self.keep(head, row);
         Ok(RowLine::New {
             names: stack.names,
             frames: stack.frames,
@@ -152,14 +178,14 @@ impl StreamTelling {
         ensures names { OnErr result (IsPrefixOf self.old.names self.new.names) }
     {
         let Some(text) = text_of(alloc, head)? else {
-            return self.tell(alloc, head, hash, weight);
+            return self.tell(alloc, head, head, hash, weight);
         };
         let hash = hash_of(text.as_bytes());
         if let Some(row) = self.row_of(text.as_bytes(), hash) {
             self.keep(head, row);
             return Ok(RowLine::Again { row, weight });
         }
-        self.tell(alloc, text.as_bytes(), hash, weight)
+        self.tell(alloc, head, text.as_bytes(), hash, weight)
     }
 
     /// The line of a head and a weight, after weights that add up to the total. A fault of the head is looked for before its stack, since

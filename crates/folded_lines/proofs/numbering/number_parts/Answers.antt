@@ -1,12 +1,13 @@
 use Rattle.std.proofs.lemmas.Grind.{common_steps}
 use borrow.Author.Rules.{rules}
-use Rattle.std.proofs.Common.{◌∷◌, [], ◌++◌, List, ℕ, sym, ap, subst, ◌∙◌, append_assoc, arith}
+use Rattle.std.proofs.Common.{◌∷◌, [], ◌++◌, List, ℕ, refl, sym, ap, subst, ◌∙◌, append_assoc, arith}
 use Rattle.stack_core.specs.Prefixes.{IsPrefixOf}
 use Rattle.stack_core.specs.Records.{names_at}
-use Rattle.call_tree.proofs.NameNumbers.{IsPrefixOf-trans, IsPrefixOf-with_name}
+use Rattle.call_tree.proofs.NameNumbers.{IsPrefixOf-refl, IsPrefixOf-trans, IsPrefixOf-with_name}
 use Rattle.folded_lines.specs.checked.Telling.{IsNumbered}
 use Rattle.folded_lines.proofs.Cuts.{names_left}
 use Rattle.folded_lines.proofs.RowLemmas.{IsNumbered-push, names_left-first}
+use Rattle.folded_lines.proofs.SharedFronts.{IsNumbered-known}
 use Rattle.folded_lines.proofs.numbering.number_parts.Goals as goal
 
 pub loop-rest-preserved : goal.loop-rest-preserved
@@ -31,7 +32,7 @@ loop-rest-preserved c =
     }
 
 pub loop-rest-init : goal.loop-rest-init
-loop-rest-init c = search rules
+loop-rest-init c = record { numbered = IsNumbered-known c.args.table.now c.args.frames.now.items c.requires; same = refl; grows = IsPrefixOf-refl c.args.table.now }
 
 pub first_name-requires-text-text : goal.first_name-requires-text-text
 first_name-requires-text-text c = search rules

@@ -11,7 +11,7 @@ use Rattle.folded_lines.proofs.numbering.number_parts.Given as goal
 abbrev pub invariant-loop-rest : goal.invariant-loop-rest
 invariant-loop-rest l = record {
   numbered : IsNumbered (names_at l.table l.frames.items) l.fn.table l.table l.frames.items;
-  same : names_at l.table l.frames.items ++ names_left l.rest ≡ slice_split is_semicolon l.head;
+  same : names_at l.table l.frames.items ++ names_left l.rest ≡ names_at l.fn.table l.fn.frames.items ++ slice_split is_semicolon l.head;
   grows : IsPrefixOf l.fn.table l.table;
 }
 

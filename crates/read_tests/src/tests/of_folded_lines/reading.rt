@@ -147,6 +147,31 @@ fn lossy_names(rt: HostRuntime) -> Result<(), Fail> {
     end_clean(&rt, LOSSY)
 }
 
+const BEGIN_ALIKE: &[Clean<'static>] = &[
+    (
+        b"a;b;c 1\na;b;c;d 2\na;b 3\na;bc 4\na;b;cc 5\na 6\n;a;b 7\n;a;;b 8\na;b;;c 9\n",
+        b"a;b;c 1\na;b;c;d 2\na;b 3\na;bc 4\na;b;cc 5\na 6\n;a;b 7\n;a;;b 8\na;b;;c 9\n",
+        0,
+    ),
+    // The head before has `;` at its end, or is not UTF-8.
+    (
+        b"a;b;; 1\na;b;;c 2\na; 3\n\xff;a 4\n\xff;b 5\n\xff\xfe 6\n",
+        b"a;b 1\na;b;;c 2\na 3\n\xef\xbf\xbd;a 4\n\xef\xbf\xbd;b 5\n\xef\xbf\xbd\xef\xbf\xbd 6\n",
+        0,
+    ),
+    // They differ behind the first bytes, which are compared in steps.
+    (
+        b"a_name_of_thirty-two_bytes_is_one;b 1\na_name_of_thirty-two_bytes_is_one;c 2\na_name_of_thirty-two_bytes_is_two;c 3\n",
+        b"a_name_of_thirty-two_bytes_is_one;b 1\na_name_of_thirty-two_bytes_is_one;c 2\na_name_of_thirty-two_bytes_is_two;c 3\n",
+        0,
+    ),
+];
+
+#[test]
+fn names_shared_with_the_line_before(rt: HostRuntime) -> Result<(), Fail> {
+    end_clean(&rt, BEGIN_ALIKE)
+}
+
 const OF_KNOWN_HEADS: &[Fault<'static>] = &[
     (
         b"a 72057594037927935\na 1\n",

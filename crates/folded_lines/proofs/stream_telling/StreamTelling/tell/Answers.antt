@@ -28,7 +28,7 @@ invariant_of-self-2 c =
     let frames = c.in_ok-stack.stack.frames in
     let kept : c.remember.new.self ≡ inside.stacks ++ frames ∷ [] = c.in_ok-remember.ensures.ok ∙ ap (λ (all : List ℕ). inside.stacks ++ all ∷ []) c.get.ensures in (
       subst (AreKnown table) (sym kept)
-          (AreKnown-told inside.names table inside.stacks frames c.args.head.now c.in_ok-stack.ensures.numbered
+          (AreKnown-told inside.names table inside.stacks frames c.args.text.now c.in_ok-stack.ensures.numbered
           (AreKnown-longer inside.names table inside.stacks grows c.self.invariant.0)),
       IsMet-later inside.names table inside.stacks c.remember.new.self (frames ∷ []) inside.head.items inside.row grows kept c.self.invariant.1,
     )
