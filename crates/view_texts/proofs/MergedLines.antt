@@ -1,10 +1,11 @@
 -- The lines of merged stacks, name by name and stack by stack.
-use Rattle.std.proofs.Common.{◌≡◌, ℕ, zero, suc, ◌+◌, ◌<◌, List, [], ◌∷◌, ◌++◌, ltb, length, take, get_or, All, T, append_assoc, refl, sym, ap, ◌∙◌, arith}
+use Rattle.std.proofs.Common.{◌≡◌, ℕ, zero, suc, ◌+◌, ◌-◌, ◌<◌, ◌≤◌, List, [], ◌∷◌, ◌++◌, ltb, length, map, take, get_or, All, T, append_assoc, refl, sym, ap, ◌∙◌, arith}
 use Rattle.std.specs.List.{join_with_byte, AllByRecursion}
-use Rattle.std.proofs.lemmas.List.{take_more, length-take-le, take-take, take_at, length-append}
+use Rattle.std.proofs.lemmas.List.{take_more, length-take-le, take-map, take-take, take_at, length-append, length-map, get_or-map}
 use Rattle.std.proofs.lemmas.List.Elements.{recursion_from_All}
 use Rattle.std.proofs.lemmas.Bool.{lt-ltb}
 use Rattle.sample_tables.specs.declared.samples.Sample.{Sample}
+use Rattle.sample_tables.specs.Rows.{name_at}
 use Rattle.std.specs.Io.{StartsWith}
 use Rattle.folded_lines.specs.Writing.{column_of, line_of, pair_line_of}
 use Rattle.folded_lines.proofs.JoinLemmas.{join_with_byte-push}
@@ -14,7 +15,7 @@ use Rattle.merged_stacks.specs.Merged.{weighed as all_weighed, Weighed, are_in_o
 use Rattle.flame_layout.proofs.MergedSums.{same_rows}
 use Rattle.merged_stacks.proofs.JoinedStacks.{rows_merged}
 use Rattle.view_texts.specs.Fold.{lines_of, fold_text}
-use Rattle.view_texts.specs.checked.Joined.{joint}
+use Rattle.view_texts.specs.checked.Joined.{joint, joined_names}
 
 -- one name more
 pub joined_more : (stack : Stack) (i : ℕ) → i < length stack → join_with_byte 59 (take (i + 1) stack) ≡ join_with_byte 59 (take i stack) ++ joint (ltb 0 i) (get_or stack i [])
@@ -32,15 +33,32 @@ further new middle start text front is =
     let long : length middle ≡ length start + length text = ap length is ∙ length-append start text in
     sym (take-take (length start) (length middle) new (omega arith)) ∙ ap (take (length start)) (front ∙ is) ∙ take_at start text (length start) refl
 
--- the names of a stack, its weight and LF are its line
-pub line_written : (stack : Stack) (weight own : ℕ) (start named weighed new : List ℕ) → weight ≡ own
-    → named ≡ start ++ join_with_byte 59 stack → weighed ≡ named ++ column_of weight → new ≡ weighed ++ 10 ∷ [] → new ≡ start ++ line_of stack own
-line_written stack weight own start named weighed new same names column end =
-    end ∙ ap (λ text. text ++ 10 ∷ []) (column ∙ (λ i. names i ++ column_of (same i)))
-    ∙ append_assoc (start ++ join_with_byte 59 stack) (column_of own) (10 ∷ [])
-    ∙ append_assoc start (join_with_byte 59 stack) (column_of own ++ 10 ∷ [])
+-- the name of a rank as it is joined
+abbrev pub joint_at : List (List ℕ) → List ℕ → ℕ → List ℕ
+joint_at names ranks i = joint (ltb 0 i) (name_at names (get_or ranks i 0))
 
--- the same with two weights
+-- one rank more
+pub ranks_joined_more : (names : List (List ℕ)) (ranks : List ℕ) (i : ℕ) → i < length ranks
+    → joined_names names (take (i + 1) ranks) ≡ joined_names names (take i ranks) ++ joint_at names ranks i
+ranks_joined_more names ranks i lt =
+    ap (join_with_byte 59) (sym (take-map (name_at names) (i + 1) ranks))
+    ∙ joined_more (map (name_at names) ranks) i (omega (arith, lt, length-map ranks (name_at names)))
+    ∙ (λ k. join_with_byte 59 (take-map (name_at names) i ranks k) ++ joint (ltb 0 i) (get_or-map (name_at names) ranks i 0 [] lt k))
+
+-- and one rank less
+pub ranks_joined_less : (names : List (List ℕ)) (ranks : List ℕ) (kept : ℕ) → 0 < kept → kept ≤ length ranks
+    → joined_names names (take kept ranks) ≡ joined_names names (take (kept - 1) ranks) ++ joint_at names ranks (kept - 1)
+ranks_joined_less names ranks kept some within =
+    let one : kept ≡ kept - 1 + 1 = omega arith in
+    ap (λ n. joined_names names (take n ranks)) one ∙ ranks_joined_more names ranks (kept - 1) (omega arith)
+
+pub length-ranks_joined : (names : List (List ℕ)) (ranks : List ℕ) (kept : ℕ) → 0 < kept → kept ≤ length ranks
+    → length (joined_names names (take kept ranks))
+    ≡ length (joined_names names (take (kept - 1) ranks)) + length (joint_at names ranks (kept - 1))
+length-ranks_joined names ranks kept some within =
+    ap length (ranks_joined_less names ranks kept some within) ∙ length-append (joined_names names (take (kept - 1) ranks)) _
+
+-- the names of a stack, two weights and LF are its line
 pub pair_line_written : (shown stack : Stack) (one other before after : ℕ) (start named first second new : List ℕ) → shown ≡ stack → one ≡ before → other ≡ after
     → named ≡ start ++ join_with_byte 59 shown → first ≡ named ++ column_of one → second ≡ first ++ column_of other → new ≡ second ++ 10 ∷ []
     → new ≡ start ++ pair_line_of stack before after

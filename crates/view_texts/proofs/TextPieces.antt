@@ -5,12 +5,13 @@ use Rattle.std.proofs.lemmas.List.Folds.{concat-append}
 use Rattle.std.proofs.lemmas.Bool.{lt-ltb}
 use Rattle.std.specs.List.{concat, slice_range}
 use Rattle.sample_tables.specs.declared.samples.Sample.{Sample}
-use Rattle.sample_tables.specs.Rows.{sample_at}
+use Rattle.sample_tables.specs.Rows.{name_at, sample_at}
 use Rattle.serde_json.specs.Data.{Data}
 use Rattle.serde_json.specs.Written.{comma_if, compact_text}
-use Rattle.folded_lines.specs.Writing.{line_of, pair_line_of}
+use Rattle.folded_lines.specs.Writing.{column_of, line_of, pair_line_of}
 use Rattle.merged_stacks.specs.Merged.{weighed}
 use Rattle.merged_stacks.specs.Paired.{PairedStack, pair_at}
+use Rattle.merged_stacks.specs.RankedStacks.{Ranking, sample_of, ranked_samples, ranks_at}
 use Rattle.view_texts.specs.Fold.{lines_of}
 use Rattle.view_texts.specs.Pieces.{stack_lines, pair_lines, value_pieces, line_pieces}
 use Rattle.view_texts.proofs.JsonLists.{values_text}
@@ -26,6 +27,25 @@ line_at sample = line_of sample.stack sample.weight
 
 pub stack_line-at : (stacks : List Sample) (at : ℕ) → at < length stacks → get_or (stack_lines stacks) at [] ≡ line_of (sample_at stacks at).stack (sample_at stacks at).weight
 stack_line-at stacks at within = get_or-map line_at stacks at (record { stack = []; weight = 0 }) [] within
+
+-- the line of a stack by the ranks of its names
+pub ranked_line-at : (ranking : Ranking) (at : ℕ) → at < length (ranked_samples ranking)
+    → get_or (stack_lines (ranked_samples ranking)) at []
+    ≡ line_of (map (name_at ranking.names) (ranks_at ranking at)) (sample_at (ranked_samples ranking) at).weight
+ranked_line-at ranking at within =
+    let sample = sample_of ranking.names in
+    let samples = ranked_samples ranking in
+    let there : at < length ranking.rows = omega (arith, within, length-map ranking.rows sample) in
+    stack_line-at samples at within
+    ∙ ap (λ (s : Sample). line_of s.stack (sample_at samples at).weight)
+    (get_or-map sample ranking.rows at ([], 0) (record { stack = []; weight = 0 }) there)
+
+-- a line behind others
+pub line_appended : (shown names : List ℕ) (weight own : ℕ) (start so_far out new : List ℕ)
+    → shown ≡ names → weight ≡ own → out ≡ start ++ so_far
+    → new ≡ out ++ (shown ++ (column_of weight ++ 10 ∷ [])) → new ≡ start ++ (so_far ++ (names ++ (column_of own ++ 10 ∷ [])))
+line_appended shown names weight own start so_far out new same weighs is more =
+    more ∙ (λ i. is i ++ (same i ++ (column_of (weighs i) ++ 10 ∷ []))) ∙ append_assoc start so_far (names ++ (column_of own ++ 10 ∷ []))
 
 -- ---- stacks of two lists
 

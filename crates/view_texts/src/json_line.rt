@@ -92,8 +92,8 @@ impl<L: FlameBoxes> Pieces for JsonLine<'_, L> {
     }
 }
 
-// Up to which box those from number `at` on are appended together.
-fn end_of_some(at: usize, last: usize) -> usize
+// Up to which piece those from number `at` on are appended together: up to 64.
+pub(crate) fn end_of_some(at: usize, last: usize) -> usize
     requires { at ≤ last }
     ensures least { at ≤ result }
     ensures most { result ≤ last }

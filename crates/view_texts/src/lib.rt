@@ -15,6 +15,7 @@ mod plain_texts;
 mod put_pieces;
 mod scales;
 mod stack_pairs;
+mod turned_names;
 mod type_lines;
 
 pub use byte_io::truncate_on_error;

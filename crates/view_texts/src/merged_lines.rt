@@ -1,16 +1,18 @@
 //! Folded text of merged stacks.
-ghost use Rattle.std.specs.Prelude.{◌≡◌, ◌++◌, ◌<◌, ◌^◌, List, length, OnOk};
+ghost use Rattle.std.specs.Prelude.{◌≡◌, ◌++◌, ◌∷◌, [], ◌<◌, ◌≤◌, ◌^◌, List, length, slice_range, OnOk};
 ghost use Rattle.std.specs.Io.{StartsWith};
 ghost use Rattle.std.specs.List.{concat, join_with_byte};
 ghost use Rattle.sample_tables.specs.declared.samples.Sample.{Sample};
 ghost use Rattle.sample_tables.specs.Rows.{sample_at};
 ghost use Rattle.flame_layout.specs.Paths.{SameOwn};
-ghost use Rattle.folded_lines.specs.Writing.{column_of, line_of};
+ghost use Rattle.folded_lines.specs.Writing.{column_of};
 ghost use Rattle.merged_stacks.specs.RankedStacks.{ranked_samples};
 ghost use Rattle.view_texts.specs.Fold.{fold_text};
 ghost use Rattle.view_texts.specs.Pieces.{stack_lines};
 ghost use Rattle.view_texts.specs.checked.Joined.{joint};
 
+use crate::json_line::end_of_some;
+use crate::turned_names::turn_names;
 use byte_io::Pieces;
 use flame_layout::MergedStacks;
 use itoa::Buffer;
@@ -44,20 +46,56 @@ impl Pieces for FoldedText<'_> {
         self.merged.len()
     }
 
-    fn append_piece(&self, _alloc: Global, at: usize, out: &mut Vec<u8>) -> Result<(), AllocError> {
-        append_stack(out, self.merged, at)
+    fn append_piece(&self, alloc: Global, at: usize, out: &mut Vec<u8>) -> Result<(), AllocError> {
+        append_lines(alloc, out, self.merged, at, at + 1)
+    }
+
+    /// Up to 64 lines at a time. The names that one has in common with the line before are copied together.
+    fn append_some(
+        &self,
+        alloc: Global,
+        at: usize,
+        out: &mut Vec<u8>,
+    ) -> Result<usize, AllocError> {
+        let next = end_of_some(at, self.count() - 1) + 1;
+        append_lines(alloc, out, self.merged, at, next)?;
+        Ok(next)
     }
 }
 
-// Appends the line of a stack, or its front.
-fn append_stack(out: &mut Vec<u8>, merged: &MergedStacks, at: usize) -> Result<(), AllocError>
-    requires { at < length (ranked_samples merged.now) }
+// Appends the lines of the stacks from a place on, or their front.
+fn append_lines(
+    alloc: Global,
+    out: &mut Vec<u8>,
+    merged: &MergedStacks,
+    from: usize,
+    end: usize,
+) -> Result<(), AllocError>
+    requires from { from ≤ end }
+    requires end { end ≤ length (ranked_samples merged.now) }
     ensures ok { OnOk result (out.new.items ≡ out.old.items
-        ++ line_of (sample_at (ranked_samples merged.now) at).stack (sample_at (ranked_samples merged.now) at).weight) }
+        ++ concat (slice_range (stack_lines (ranked_samples merged.now)) from end)) }
     ensures front { StartsWith out.new.items out.old.items }
 {
-    append_names(out, merged, at)?;
-    append_column(out, merged.weight(at))?;
+    let mut names = Vec::new(alloc);
+    let mut last: &[u32] = &[];
+    for at in from..end {
+        let ranks = merged.ranks(at);
+        turn_names(&mut names, merged, last, ranks)?;
+        append_line(out, &names, merged.weight(at))?;
+        last = ranks;
+    }
+    Ok(())
+}
+
+// Appends the line of a stack whose names are joined already, or its front.
+fn append_line(out: &mut Vec<u8>, names: &[u8], weight: u64) -> Result<(), AllocError>
+    ensures ok { OnOk result (out.new.items
+        ≡ out.old.items ++ (names.now ++ (column_of weight ++ 10 ∷ []))) }
+    ensures front { StartsWith out.new.items out.old.items }
+{
+    out.extend_from_slice(names)?;
+    append_column(out, weight)?;
     out.push(b'\n')?;
     Ok(())
 }
@@ -90,7 +128,7 @@ pub(crate) fn append_names<S: StackRows>(
 }
 
 // Appends a name, after `;` if it is a later one.
-fn append_name(out: &mut Vec<u8>, later: bool, name: &str) -> Result<(), AllocError>
+pub(crate) fn append_name(out: &mut Vec<u8>, later: bool, name: &str) -> Result<(), AllocError>
     ensures ok { OnOk result (out.new.items ≡ out.old.items ++ joint later name.now) }
     ensures front { StartsWith out.new.items out.old.items }
 {

@@ -49,6 +49,24 @@ fn shared_fronts(rt: HostRuntime) -> Result<(), Fail> {
     makes(&rt, SHARED, wanted)
 }
 
+const BEGUN_ALIKE: Rows<'static> = &[
+    (&["abc", "d"], 1),
+    (&["ab"], 2),
+    (&["abc", "d", "e"], 3),
+    (&["ab", "d"], 4),
+    (&["abc"], 5),
+    (&["abc", "f", "e"], 6),
+];
+
+const ALIKE: &Written<'static> = &(Joined::Merged, &[BEGUN_ALIKE, &[]]);
+
+// A name that begins as another does is not shared.
+#[test]
+fn names_begin_alike(rt: HostRuntime) -> Result<(), Fail> {
+    let wanted = "# ab 2\nab;d 4\nabc 5\nabc;d 1\nabc;d;e 3\nabc;f;e 6\n";
+    makes(&rt, ALIKE, wanted)
+}
+
 const STORED_MERGED: &Written<'static> = &(Joined::Merged, &[STORED, &[]]);
 
 #[test]
