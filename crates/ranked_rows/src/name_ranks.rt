@@ -8,9 +8,7 @@ ghost use Rattle.sample_tables.specs.Rows.{name_at};
 ghost use Rattle.ranked_rows.specs.Ranks.{AreRising, all_told, AreRanks};
 ghost use Rattle.ranked_rows.specs.checked.Names.{AreKept, AreSorted, Grows, placed_name};
 
-use crate::told_names::{
-    NameAt, ToldNames, names_of_list, names_of_lists, names_of_pair, names_of_table, narrowed,
-};
+use crate::told_names::{NameAt, ToldNames, names_of_lists, names_of_pair, narrowed, placed_names};
 use sample_tables::RowTable;
 use stack_core::SourceList;
 use std::alloc::{AllocError, Global};
@@ -52,7 +50,8 @@ impl NameRanks {
         ensures { IfOk result (λ all.
             AreRanks table.now.names (map string_bytes all.names.items) all.ranks.items) }
     {
-        ranks_of_named(alloc, names_of_table(alloc, table)?)
+        let names = placed_names(alloc, table.name_count(), |number| table.name(number))?;
+        ranks_of_named(alloc, names)
     }
 }
 
@@ -61,7 +60,8 @@ fn ranks_of_list(alloc: Global, list: &SourceList) -> Result<NameRanks, AllocErr
     ensures { IfOk result (λ all.
         AreRanks list.now.told (map string_bytes all.names.items) all.ranks.items) }
 {
-    ranks_of_named(alloc, names_of_list(alloc, list)?)
+    let names = placed_names(alloc, list.told(), |number| list.told_name(number))?;
+    ranks_of_named(alloc, names)
 }
 
 /// Of names, each with its place among them.

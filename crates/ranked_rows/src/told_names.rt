@@ -3,9 +3,9 @@
 ghost use Rattle.std.specs.Prelude.{◌≡◌, ◌<◌, ◌++◌, ◌∷◌, ℕ, [], List, IsTrue, IfOk, OnOk, map};
 ghost use Rattle.std.specs.List.{enumerate_from};
 ghost use Rattle.ranked_rows.specs.Ranks.{all_told};
-ghost use Rattle.ranked_rows.specs.checked.Names.{placed_name, AreKept, IsKept, KeepsMore};
+ghost use Rattle.ranked_rows.specs.checked.Names.{placed_name, AreKept, AreNamed, IsKept, KeepsMore};
 
-use sample_tables::{NumberCache, RowTable, hash_of_name};
+use sample_tables::{NumberCache, hash_of_name};
 use stack_core::SourceList;
 use std::alloc::{AllocError, Global};
 
@@ -24,24 +24,19 @@ pub(crate) struct ToldNames<'a> {
     pub places: Vec<u32>,
 }
 
-/// The told names of a list, each of which is kept.
-pub(crate) fn names_of_list(alloc: Global, list: &SourceList) -> Result<Vec<NameAt<'_>>, AllocError>
-    ensures { IfOk result (λ kept. map placed_name kept.items ≡ enumerate_from 0 list.now.told) }
+/// So many names, each with its place among them.
+pub(crate) fn placed_names<'a, F: Fn(usize) -> &'a str>(
+    alloc: Global,
+    count: usize,
+    name_of: F,
+) -> Result<Vec<NameAt<'a>>, AllocError>
+    requires { (number : ℕ) → number < count → F.pre name_of number }
+    ensures { IfOk result (λ kept. (names : List (List ℕ)) → AreNamed (F.post name_of) count names
+        → map placed_name kept.items ≡ enumerate_from 0 names) }
 {
     let mut kept = Vec::new(alloc);
-    for number in 0..list.told() {
-        kept.push((list.told_name(number), number))?;
-    }
-    Ok(kept)
-}
-
-/// The names of a table, each of which is kept.
-pub(crate) fn names_of_table(alloc: Global, table: &RowTable) -> Result<Vec<NameAt<'_>>, AllocError>
-    ensures { IfOk result (λ kept. map placed_name kept.items ≡ enumerate_from 0 table.now.names) }
-{
-    let mut kept = Vec::new(alloc);
-    for number in 0..table.name_count() {
-        kept.push((table.name(number), number))?;
+    for number in 0..count {
+        kept.push((name_of(number), number))?;
     }
     Ok(kept)
 }

@@ -13,6 +13,10 @@ NameAt = Bor (List ℕ) × ℕ
 abbrev pub placed_name : NameAt → ℕ × List ℕ
 placed_name told = (told.1, told.0.now)
 
+-- so many names are these, where `Tells` says what may be told of each number
+abbrev pub AreNamed : (ℕ → Bor (List ℕ) → Type 0) → ℕ → List (List ℕ) → Type 0
+AreNamed Tells count names = (count ≡ length names) × ((number : ℕ) (name : Bor (List ℕ)) → number < count → Tells number name → name.now ≡ name_at names number)
+
 -- each of the names stands once among these, at its place, and none is below the one before it
 pub record AreSorted (names : List (List ℕ)) (told : List NameAt) : Type 0 where
   pub len : length told ≡ length names
