@@ -1,12 +1,15 @@
 -- The value of a page: its keys rise, and where its numbers have 64 bits, it reads back.
-use Rattle.std.proofs.Common.{codes, ◌≡◌, ℕ, suc, ◌+◌, ◌-◌, ◌^◌, ◌<◌, ◌≤◌, Bool, true, false, cond, List, [], ◌∷◌, length, map, Option, Some, None, All, IfSome, ◌∙◌, arith, rules}
+use Rattle.std.proofs.Common.{codes, ◌≡◌, ℕ, suc, ◌+◌, ◌-◌, ◌^◌, ◌<◌, ◌≤◌, Bool, true, false, cond, List, [], ◌∷◌, length, map, Option, Some, None, All, IfSome, ◌∙◌, refl, arith, rules}
 use Rattle.std.proofs.lemmas.List.Sums.{prefix_len-le-length}
 use Rattle.std.proofs.Math.Nat.{mod-lt}
 use Rattle.std.specs.List.{AllByRecursion}
 use Rattle.std.specs.List.Sorted.{IsStrictlySortedBy}
-use Rattle.serde_json.specs.Data.{Data, string, Members, member, depth, members_depth}
+use Rattle.std.specs.declared.cmp.Ordering.TheVariants.{Less}
+use Rattle.std.specs.Ordering.{nat_cmp}
+use Rattle.std.specs.Cmp.Lexicographic.{slice_cmp}
+use Rattle.serde_json.specs.Data.{Data, string, object, Members, member, depth, members_depth}
 use Rattle.serde_json.specs.Read.{read, max_depth}
-use Rattle.view_texts.specs.JsonLaws.{HasRisingKeys}
+use Rattle.view_texts.specs.JsonLaws.{HasRisingKeys, keys_of}
 use Rattle.view_texts.proofs.JsonReading.{HasWholeNumbers, MembersHaveWholeNumbers, HasNumbers-outline, text_reads_back}
 use Rattle.view_texts.proofs.JsonValues.{each_of, whole_items, rising_items, items_depth-le}
 use Rattle.flame_layout.specs.declared.boxes.SpanBox.{SpanBox}
@@ -90,22 +93,15 @@ rising_counts : (counts : List ℕ) → HasRisingKeys (list_data (map whole_numb
 rising_counts counts = rising_items whole_number (λ count. tt) counts
 
 module _ (names : List (List ℕ)) (least total : ℕ) (boxes : List PageBox) where
+  numbers : (number_of : ToldBox → ℕ) → HasRisingKeys (column number_of (told_boxes names no_span (kept least boxes)))
+  numbers number_of = rising_column number_of (told_boxes names no_span (kept least boxes))
+
   rising_with : (moment : Option Moment) (is_compared : Bool) → HasRisingKeys (drawing_data names (drawing_with moment is_compared least total boxes))
   unfolding IsStrictlySortedBy
-  rising_with None false =
-      let numbers = λ (number_of : ToldBox → ℕ). rising_column number_of (told_boxes names no_span (kept least boxes)) in
-      search (rules, numbers)
-  rising_with None true =
-      let numbers = λ (number_of : ToldBox → ℕ). rising_column number_of (told_boxes names no_span (kept least boxes)) in
-      search (rules, numbers)
-  rising_with (Some moment) false =
-      let numbers = λ (number_of : ToldBox → ℕ). rising_column number_of (told_boxes names no_span (kept least boxes)) in
-      let counts = rising_counts moment.counts in
-      search (rules, numbers, counts)
-  rising_with (Some moment) true =
-      let numbers = λ (number_of : ToldBox → ℕ). rising_column number_of (told_boxes names no_span (kept least boxes)) in
-      let counts = rising_counts moment.counts in
-      search (rules, numbers, counts)
+  rising_with None false = search (rules, numbers)
+  rising_with None true = search (rules, numbers)
+  rising_with (Some moment) false = let counts = rising_counts moment.counts in search (rules, numbers, counts)
+  rising_with (Some moment) true = let counts = rising_counts moment.counts in search (rules, numbers, counts)
 
 rising_drawing : (names : List (List ℕ)) (drawing : PageDrawing) → HasRisingKeys (drawing_data names drawing)
 rising_drawing names drawing = rising_with names drawing.least drawing.total drawing.boxes drawing.moment drawing.is_compared
@@ -114,64 +110,40 @@ rising_source : (source : PageSource) → HasRisingKeys (source_data source)
 unfolding IsStrictlySortedBy
 rising_source source = search rules
 
-abbrev page_with : List PageDrawing → List PageSource → List ℕ → List ℕ → ℕ → Bool → Bool → Bool → Page
-page_with drawings sources title view whole is_below is_share has_more =
-    record { drawings = drawings; sources = sources; title = title; view = view; whole = whole; is_root_below = is_below; is_share = is_share; has_more = has_more }
+-- a key that is below those of the members
+abbrev IsBelow : List ℕ → Members → Type 0
+IsBelow first later = AllByRecursion (λ key. slice_cmp nat_cmp first key ≡ Less) (keys_of later)
 
-module _ (all : List PageDrawing) (files : List PageSource) (title view : List ℕ) (whole : ℕ) where
-  rising_page_with : (is_below is_share has_more : Bool) → HasRisingKeys (page_value (page_with all files title view whole is_below is_share has_more))
-  unfolding IsStrictlySortedBy
-  rising_page_with false false false =
-      let names = page_names all in
-      let drawings = rising_items (drawing_data names) (rising_drawing names) all in
-      let texts = rising_items string (λ name. tt) names in
-      let sources = rising_items source_data rising_source files in
-      search (rules, drawings, texts, sources)
-  rising_page_with false false true =
-      let names = page_names all in
-      let drawings = rising_items (drawing_data names) (rising_drawing names) all in
-      let texts = rising_items string (λ name. tt) names in
-      let sources = rising_items source_data rising_source files in
-      search (rules, drawings, texts, sources)
-  rising_page_with false true false =
-      let names = page_names all in
-      let drawings = rising_items (drawing_data names) (rising_drawing names) all in
-      let texts = rising_items string (λ name. tt) names in
-      let sources = rising_items source_data rising_source files in
-      search (rules, drawings, texts, sources)
-  rising_page_with false true true =
-      let names = page_names all in
-      let drawings = rising_items (drawing_data names) (rising_drawing names) all in
-      let texts = rising_items string (λ name. tt) names in
-      let sources = rising_items source_data rising_source files in
-      search (rules, drawings, texts, sources)
-  rising_page_with true false false =
-      let names = page_names all in
-      let drawings = rising_items (drawing_data names) (rising_drawing names) all in
-      let texts = rising_items string (λ name. tt) names in
-      let sources = rising_items source_data rising_source files in
-      search (rules, drawings, texts, sources)
-  rising_page_with true false true =
-      let names = page_names all in
-      let drawings = rising_items (drawing_data names) (rising_drawing names) all in
-      let texts = rising_items string (λ name. tt) names in
-      let sources = rising_items source_data rising_source files in
-      search (rules, drawings, texts, sources)
-  rising_page_with true true false =
-      let names = page_names all in
-      let drawings = rising_items (drawing_data names) (rising_drawing names) all in
-      let texts = rising_items string (λ name. tt) names in
-      let sources = rising_items source_data rising_source files in
-      search (rules, drawings, texts, sources)
-  rising_page_with true true true =
-      let names = page_names all in
-      let drawings = rising_items (drawing_data names) (rising_drawing names) all in
-      let texts = rising_items string (λ name. tt) names in
-      let sources = rising_items source_data rising_source files in
-      search (rules, drawings, texts, sources)
+below_if : (is_said : Bool) (first key : List ℕ) (later : Members) → slice_cmp nat_cmp first key ≡ Less → IsBelow first later → IsBelow first (member_if is_said key later)
+below_if true first key later less h = (less, h)
+below_if false first key later less h = h
+
+rising_if : (is_said : Bool) (key : List ℕ) (later : Members) → IsBelow key later → HasRisingKeys (object later) → HasRisingKeys (object (member_if is_said key later))
+unfolding IsStrictlySortedBy
+rising_if true key later below h = ((below, h.0), (tt, h.1))
+rising_if false key later below h = h
+
+below_opening : (page : Page) (first : List ℕ) (later : Members) → slice_cmp nat_cmp first (codes "root_below") ≡ Less → slice_cmp nat_cmp first (codes "share") ≡ Less → IsBelow first later
+    → IsBelow first (opening_members page.is_root_below page.is_share later)
+below_opening page first later root share h =
+    below_if page.is_root_below first (codes "root_below") (member_if page.is_share (codes "share") later) root (below_if page.is_share first (codes "share") later share h)
 
 pub rising_page : (page : Page) → HasRisingKeys (page_value page)
-rising_page page = rising_page_with page.drawings page.sources page.title page.view page.whole page.is_root_below page.is_share page.has_more
+unfolding IsStrictlySortedBy
+rising_page page =
+    let names = page_names page.drawings in
+    let drawings = rising_items (drawing_data names) (rising_drawing names) page.drawings in
+    let texts = rising_items string (λ name. tt) names in
+    let sources = rising_items source_data rising_source page.sources in
+    let later = later_members page.sources page.title page.view page.whole in
+    let last : HasRisingKeys (object later) = search (rules, sources) in
+    let shared = rising_if page.is_share (codes "share") later (search rules) last in
+    let opening = rising_if page.is_root_below (codes "root_below") (member_if page.is_share (codes "share") later)
+    (below_if page.is_share (codes "root_below") (codes "share") later refl (search rules)) shared in
+    let named = member (codes "names") (list_data (map string names)) (opening_members page.is_root_below page.is_share later) in
+    let rising_named : HasRisingKeys (object named) = ((below_opening page (codes "names") later refl refl (search rules), opening.0), (texts, opening.1)) in
+    let more = rising_if page.has_more (codes "more") named (refl, below_opening page (codes "more") later refl refl (search rules)) rising_named in
+    ((below_if page.has_more (codes "drawings") (codes "more") named refl (refl, below_opening page (codes "drawings") later refl refl (search rules)), more.0), (drawings, more.1))
 
 -- ---- depths
 
