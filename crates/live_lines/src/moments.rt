@@ -1,15 +1,13 @@
 //! What is written of a moment of samples that come.
 
-ghost use Rattle.std.specs.Prelude.{◌≡◌, ◌≢◌, ◌≤◌, ◌<◌, ◌+◌, ◌^◌, All, IfOk, OnOk, OnErr, IsErrOf, length};
+ghost use Rattle.std.specs.Prelude.{◌≡◌, ◌≤◌, ◌<◌, ◌+◌, ◌^◌, All, IfOk, length};
 ghost use Rattle.std.specs.List.{concat};
-ghost use Rattle.std.specs.Io.KnownBytes.{Appends};
-ghost use Rattle.byte_io.specs.Calls.{one_more};
-ghost use Rattle.byte_io.specs.Pieces.{AppendsFront};
 ghost use Rattle.function_sums.specs.FunctionSums.{AreFunctionSums};
 ghost use Rattle.merging.specs.Snapshots.{samples_of_pairs};
 ghost use Rattle.run_options.specs.declared.orders.FunctionOrder.TheVariants.{Own};
 ghost use Rattle.live_lines.specs.Lines.{line_now};
 ghost use Rattle.live_lines.specs.checked.Merges.{IsLiveMerge, has_more, shown_text};
+ghost use Rattle.live_lines.specs.checked.Sends.{WasSent};
 ghost use Rattle.live_lines.specs.declared.form.LiveForm.TheVariants.{Lines, Pages, Table};
 
 use crate::form::LiveForm;
@@ -42,15 +40,10 @@ pub(crate) fn send_moment<W: Outlet>(
     out: &mut W,
 ) -> Result<(), PieceFault>
     requires { IsLiveMerge rows.now moment.now.counts.now moment.now.at }
-    ensures ok { OnOk result (Appends (W.contents out.old) (W.contents out.new)
-        (line_now form moment.now.line (length moment.now.counts.now) moment.now.width rows.now)) }
-    ensures flushed { OnOk result (W.is_flushed out.new) }
-    ensures front { OnErr result (AppendsFront
+    ensures { WasSent
         (line_now form moment.now.line (length moment.now.counts.now) moment.now.width rows.now)
-        (W.contents out.old) (W.contents out.new)) }
-    ensures output { IsErrOf result PieceFault.Output
-        → W.failures out.new ≡ one_more (W.failures out.old) }
-    ensures unfailed { result ≢ Err PieceFault.Output → W.failures out.new ≡ W.failures out.old }
+        result (W.contents out.old) (W.contents out.new)
+        (W.failures out.old) (W.failures out.new) (W.is_flushed out.new) }
 {
     match form {
         LiveForm::Lines => send_line(alloc, rows, moment, out),
@@ -67,15 +60,10 @@ fn send_line<W: Outlet>(
     out: &mut W,
 ) -> Result<(), PieceFault>
     requires { IsLiveMerge rows.now moment.now.counts.now moment.now.at }
-    ensures ok { OnOk result (Appends (W.contents out.old) (W.contents out.new)
-        (line_now Lines moment.now.line (length moment.now.counts.now) moment.now.width rows.now)) }
-    ensures flushed { OnOk result (W.is_flushed out.new) }
-    ensures front { OnErr result (AppendsFront
+    ensures { WasSent
         (line_now Lines moment.now.line (length moment.now.counts.now) moment.now.width rows.now)
-        (W.contents out.old) (W.contents out.new)) }
-    ensures output { IsErrOf result PieceFault.Output
-        → W.failures out.new ≡ one_more (W.failures out.old) }
-    ensures unfailed { result ≢ Err PieceFault.Output → W.failures out.new ≡ W.failures out.old }
+        result (W.contents out.old) (W.contents out.new)
+        (W.failures out.old) (W.failures out.new) (W.is_flushed out.new) }
 {
     let merged = rows.merged(alloc, &Alone)?;
     let chart = draw_merged(alloc, &merged)?;
@@ -94,15 +82,10 @@ fn send_page<W: Outlet>(
     moment: &Moment<'_>,
     out: &mut W,
 ) -> Result<(), PieceFault>
-    ensures ok { OnOk result (Appends (W.contents out.old) (W.contents out.new)
-        (line_now Pages moment.now.line (length moment.now.counts.now) moment.now.width rows.now)) }
-    ensures flushed { OnOk result (W.is_flushed out.new) }
-    ensures front { OnErr result (AppendsFront
+    ensures { WasSent
         (line_now Pages moment.now.line (length moment.now.counts.now) moment.now.width rows.now)
-        (W.contents out.old) (W.contents out.new)) }
-    ensures output { IsErrOf result PieceFault.Output
-        → W.failures out.new ≡ one_more (W.failures out.old) }
-    ensures unfailed { result ≢ Err PieceFault.Output → W.failures out.new ≡ W.failures out.old }
+        result (W.contents out.old) (W.contents out.new)
+        (W.failures out.old) (W.failures out.new) (W.is_flushed out.new) }
 {
     let merged = rows.merged(alloc, &Alone)?;
     send_growing_page(alloc, &merged, has_more(moment.line), out)
@@ -124,15 +107,10 @@ fn send_table<W: Outlet>(
     out: &mut W,
 ) -> Result<(), PieceFault>
     requires { moment.now.at ≡ length rows.now }
-    ensures ok { OnOk result (Appends (W.contents out.old) (W.contents out.new)
-        (line_now (Table every) moment.now.line (length moment.now.counts.now) moment.now.width rows.now)) }
-    ensures flushed { OnOk result (W.is_flushed out.new) }
-    ensures front { OnErr result (AppendsFront
+    ensures { WasSent
         (line_now (Table every) moment.now.line (length moment.now.counts.now) moment.now.width rows.now)
-        (W.contents out.old) (W.contents out.new)) }
-    ensures output { IsErrOf result PieceFault.Output
-        → W.failures out.new ≡ one_more (W.failures out.old) }
-    ensures unfailed { result ≢ Err PieceFault.Output → W.failures out.new ≡ W.failures out.old }
+        result (W.contents out.old) (W.contents out.new)
+        (W.failures out.old) (W.failures out.new) (W.is_flushed out.new) }
 {
     let text = table_text(alloc, rows, every, moment)?;
     let text = Literal {
