@@ -1,6 +1,7 @@
 -- Definitions that no public contract cites: not to be believed, but checked with the code that cites them.
 pub mod Failures
 pub mod LiveEnds
+pub mod LivePlans
 pub mod LiveSaying
 pub mod LiveStreams
 pub mod RenewalProps

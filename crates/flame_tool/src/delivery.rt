@@ -1,17 +1,17 @@
 //! A run that writes where its words want it to.
-ghost use Rattle.std.specs.Prelude.{◌≡◌, ◌≤◌, ◌⊎◌, ◌&&◌, Bool, true, false, [], Some, IfSome, IsSome, map, string_bytes};
+ghost use Rattle.std.specs.Prelude.{◌≡◌, ◌≤◌, ◌⊎◌, ◌&&◌, Bool, true, false, [], Some, IfOk, IfSome, IsSome, OnErr, map, string_bytes};
 ghost use Rattle.command_line.specs.Destinations.{destination_of};
 ghost use Rattle.command_line.specs.Plans.{IsOfStreams};
 ghost use Rattle.flame_tool.specs.Delivery.{IfFile, IfPages, IfStandard, Ran, WrotePages, delivered, is_whole_live, is_whole_run};
 ghost use Rattle.flame_tool.specs.KnownRuns.{LiveShows, RunShows, as_files, as_streams, change};
 
-use crate::live_run::{live, live_plan};
+use crate::live_run::{asked_live, live, live_plan};
 use crate::program::run;
 use crate::renewed_file::{RenewedFile, close_renewal};
 use byte_io::{CountedWriter, Files, Outlet, Outputs, PieceFault, Streams, send};
 use command_line::{Destination, Plan, asked_destination};
 use opened_sources::{Failure, report_failure};
-use std::alloc::Global;
+use std::alloc::{AllocError, Global};
 use std::sync::Wait;
 use std::thread::Threads;
 
@@ -113,13 +113,14 @@ fn deliver_standard<
     err: &mut E,
 ) -> u8
     ensures standard { (is_document && D.has_terminal outputs.now) ≡ false
-        → (is_whole : Bool) × Ran (D.has_terminal outputs.now) (map string_bytes words.items)
+        → ((result ≡ 3) × (out.new ≡ out.old))
+        ⊎ ((is_whole : Bool) × Ran (D.has_terminal outputs.now) (map string_bytes words.items)
         (as_files (F.Files.known_input files.old) (F.Files.known_file files.old) F.Files.may_have_terminal)
         (as_streams (F.Streams.known_input files.old) (F.Streams.known_file files.old) (F.is_absent files.old) F.Streams.may_have_terminal)
         result is_whole
         (change (W.contents out.old) (W.contents out.new) (W.failures out.old) (W.failures out.new))
         (change (E.contents err.old) (E.contents err.new) (E.failures err.old) (E.failures err.new))
-        (W.is_flushed out.new) }
+        (W.is_flushed out.new)) }
     ensures terminal { (is_document && D.has_terminal outputs.now) ≡ true
         → (result ≡ 2) × (out.new ≡ out.old) }
 {
@@ -128,7 +129,10 @@ fn deliver_standard<
         let _ = send(ON_A_TERMINAL.as_bytes(), err);
         return 2;
     }
-    run_asked(rt, alloc, is_terminal, words, files, out, err).status
+    match run_asked(rt, alloc, is_terminal, words, files, out, err) {
+        Ok(ended) => ended.status,
+        Err(_) => out_of_memory(err),
+    }
 }
 
 // Runs the program, whose output takes its place in the file of this path where it is whole.
@@ -160,7 +164,7 @@ fn deliver_file<
     let Ok(mut draft) = outputs.begin(alloc, path) else {
         return output_failed(err);
     };
-    let Ended { status, is_whole } = run_asked(
+    let Ok(Ended { status, is_whole }) = run_asked(
         rt,
         alloc,
         false,
@@ -168,7 +172,10 @@ fn deliver_file<
         files,
         &mut draft.writer,
         err,
-    );
+    ) else {
+        outputs.discard(draft);
+        return out_of_memory(err);
+    };
     if !is_whole {
         outputs.discard(draft);
         return status;
@@ -258,7 +265,8 @@ impl Ended {
     }
 }
 
-// Does what the words ask for: a live run over streams, on a terminal or not, or a run over whole files.
+// Does what the words ask for: a live run over streams, on a terminal or not, or a run over whole files. It does nothing where there is
+// no memory to know which.
 fn run_asked<T: Threads + Wait + Copy + Send + 'static, F: Files + Streams, W: Outlet, E: Outlet>(
     rt: &T,
     alloc: Global,
@@ -267,18 +275,22 @@ fn run_asked<T: Threads + Wait + Copy + Send + 'static, F: Files + Streams, W: O
     files: &mut F,
     out: &mut W,
     err: &mut E,
-) -> Ended
-    ensures { Ran is_terminal (map string_bytes words.items)
+) -> Result<Ended, AllocError>
+    ensures ran { IfOk result (λ ended. Ran is_terminal (map string_bytes words.items)
         (as_files (F.Files.known_input files.old) (F.Files.known_file files.old) F.Files.may_have_terminal)
         (as_streams (F.Streams.known_input files.old) (F.Streams.known_file files.old) (F.is_absent files.old) F.Streams.may_have_terminal)
-        result.status result.is_whole
+        ended.status ended.is_whole
         (change (W.contents out.old) (W.contents out.new) (W.failures out.old) (W.failures out.new))
         (change (E.contents err.old) (E.contents err.new) (E.failures err.old) (E.failures err.new))
-        (W.is_flushed out.new) }
+        (W.is_flushed out.new)) }
+    ensures untouched { OnErr result (out.new ≡ out.old) }
 {
-    match live_plan(alloc, words.as_slice()) {
-        Some(plan) => Ended::of_live(live_shown(rt, alloc, is_terminal, &plan, files, out, err)),
-        None => Ended::of_run(run_shown(rt, alloc, words, files, out, err)),
+    match asked_live(alloc, words.as_slice())? {
+        Some(plan) => {
+            let status = live_shown(rt, alloc, is_terminal, &plan, files, out, err);
+            Ok(Ended::of_live(status))
+        }
+        None => Ok(Ended::of_run(run_shown(rt, alloc, words, files, out, err))),
     }
 }
 

@@ -8,17 +8,18 @@ ghost use Rattle.flame_tool.specs.LiveRuns.{AreFaultless, HasTextFault, ShowsAll
 ghost use Rattle.flame_tool.specs.Runs.{FailsUntouched};
 ghost use Rattle.flame_tool.specs.ToldLive.{IsOfFailure, IsUnopened, TellsLiveFailure, TellsStreams, TellsSuch};
 ghost use Rattle.flame_tool.specs.checked.LiveEnds.{TellsTexts, live_status};
+ghost use Rattle.flame_tool.specs.checked.LivePlans.{IsLivePlan};
 ghost use Rattle.flame_tool.specs.checked.LiveSaying.{SaidFirst, SaidOfEnds, SaidOfLost};
 
 use crate::hosts::Host;
 use crate::live_graphs::send_graphs;
 use crate::live_streams::{StreamReader, open_streams};
 use byte_io::{Outlet, Streams};
-use command_line::{Form, Plan, plan};
+use command_line::{Form, Plan, PlanFault, plan};
 use folded_lines::FoldedStream;
 use opened_sources::{Failure, report_awaited_input, report_failure};
 use run_options::Format;
-use std::alloc::Global;
+use std::alloc::{AllocError, Global};
 use std::sync::Wait;
 use std::thread::Threads;
 
@@ -168,17 +169,27 @@ fn show_live<
     send_graphs(host, is_terminal, plan, readers, out, err)
 }
 
-/// The plan of words that ask for `live`. There is none for any other words, for those that are refused, and for want of memory: `run`
-/// answers them.
+/// The plan of words that ask for `live`. There is none for any other words, for those that are refused, and for want of memory.
 pub fn live_plan(alloc: Global, words: &[String]) -> Option<Plan>
     ensures plan { IfSome result (λ plan. plan_of (map string_bytes words.now) ≡ Some plan) }
     ensures form { IfSome result (λ plan. plan.form ≡ Form.Live) }
     ensures live { IfSome result IsOfStreams }
     ensures every { IfSome result (λ plan. IfSome plan.options.every (λ every. 1 ≤ every)) }
 {
-    match plan(alloc, words) {
-        Ok(plan) => if_live(plan),
+    match asked_live(alloc, words) {
+        Ok(found) => found,
         Err(_) => None,
+    }
+}
+
+/// The plan of words that ask for `live`. There is none for any other words, and for those that are refused: `run` answers them.
+pub(crate) fn asked_live(alloc: Global, words: &[String]) -> Result<Option<Plan>, AllocError>
+    ensures { IfOk result (λ found. IfSome found (IsLivePlan (map string_bytes words.now))) }
+{
+    match plan(alloc, words) {
+        Ok(plan) => Ok(if_live(plan)),
+        Err(PlanFault::OutOfMemory) => Err(AllocError),
+        Err(PlanFault::Words(_) | PlanFault::Help(_)) => Ok(None),
     }
 }
 

@@ -1,4 +1,4 @@
-use Rattle.std.proofs.Common.{◌≡◌, ◌∙◌, ℕ, Bool, List, Result, Ok, IfOk, inl, inr, subst, sym}
+use Rattle.std.proofs.Common.{◌≡◌, ◌∙◌, ℕ, Bool, List, Result, Ok, IfOk, inl, subst, sym}
 use Rattle.command_line.specs.declared.destinations.Destination.{Destination}
 use Rattle.command_line.specs.declared.destinations.Destination.TheVariants.{File, Pages, Standard}
 use Rattle.flame_tool.specs.Delivery.{IfFile, IfPages, IfStandard}
@@ -16,6 +16,9 @@ of_standard wanted is_document holds is here = subst (λ wanted. IfStandard want
 
 no_file : (wanted : Destination) (is_document : Bool) (holds : List ℕ → Type 0) → Standard is_document ≡ wanted → IfFile wanted holds
 no_file wanted is_document holds is = subst (λ wanted. IfFile wanted holds) is tt
+
+no_pages : (wanted : Destination) (is_document : Bool) (holds : Type 0) → Standard is_document ≡ wanted → IfPages wanted holds
+no_pages wanted is_document holds is = subst (λ wanted. IfPages wanted holds) is tt
 
 no_standard : (wanted : Destination) (path : List ℕ) (holds : Bool → Type 0) → Pages path ≡ wanted → IfStandard wanted holds
 no_standard wanted path holds is = subst (λ wanted. IfStandard wanted holds) is tt
@@ -45,8 +48,20 @@ returns-in-Ok-Standard-clause-file g c =
 
 pub returns-in-Ok-Standard-clause-standard : goal.returns-in-Ok-Standard-clause-standard
 returns-in-Ok-Standard-clause-standard g c =
-    of_standard _ _ _ (found_is _ _ _ _ (rw c.as_slice.ensures.value at c.asked_destination.ensures) c.in-Ok-Standard.is c.in-Ok-Standard.field-0-is) (λ fine. inr (c.deliver_standard.ensures.standard fine))
+    of_standard _ _ _ (found_is _ _ _ _ (rw c.as_slice.ensures.value at c.asked_destination.ensures) c.in-Ok-Standard.is c.in-Ok-Standard.field-0-is) c.deliver_standard.ensures.standard
 
 pub returns-in-Ok-Standard-clause-terminal : goal.returns-in-Ok-Standard-clause-terminal
 returns-in-Ok-Standard-clause-terminal g c =
     of_standard _ _ _ (found_is _ _ _ _ (rw c.as_slice.ensures.value at c.asked_destination.ensures) c.in-Ok-Standard.is c.in-Ok-Standard.field-0-is) (λ terminal. let refused = c.deliver_standard.ensures.terminal terminal in (inl refused.0, refused.1))
+
+pub returns-in-Ok-Standard-clause-untouched : goal.returns-in-Ok-Standard-clause-untouched
+returns-in-Ok-Standard-clause-untouched g c =
+    no_file _ _ _ (found_is _ _ _ _ (rw c.as_slice.ensures.value at c.asked_destination.ensures) c.in-Ok-Standard.is c.in-Ok-Standard.field-0-is)
+
+pub returns-in-Ok-Standard-clause-pages : goal.returns-in-Ok-Standard-clause-pages
+returns-in-Ok-Standard-clause-pages g c =
+    no_pages _ _ _ (found_is _ _ _ _ (rw c.as_slice.ensures.value at c.asked_destination.ensures) c.in-Ok-Standard.is c.in-Ok-Standard.field-0-is)
+
+pub returns-in-Ok-Standard-clause-paged : goal.returns-in-Ok-Standard-clause-paged
+returns-in-Ok-Standard-clause-paged g c =
+    no_pages _ _ _ (found_is _ _ _ _ (rw c.as_slice.ensures.value at c.asked_destination.ensures) c.in-Ok-Standard.is c.in-Ok-Standard.field-0-is)

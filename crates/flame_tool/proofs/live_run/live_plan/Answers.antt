@@ -1,25 +1,20 @@
-use Rattle.std.proofs.Common.{◌≡◌, ◌≤◌, ℕ, IfSome, None, Option, Some, subst, sym}
-use Rattle.command_line.specs.declared.plans.Form.TheVariants as form
-use Rattle.command_line.specs.declared.plans.Plan.{Plan}
+use Rattle.std.proofs.Common.{map, string_bytes, IfSome, None, Option, Some}
+use Rattle.flame_tool.specs.checked.LivePlans.{IsLivePlan}
 use Rattle.flame_tool.proofs.live_run.live_plan.Goals as goal
 
--- what holds of a plan of `live` holds of the plan that is answered
-of_plan : (answer : Option Plan) (plan : Plan) (P : Plan → Type 0) → IfSome answer (λ other. other ≡ plan) → IfSome answer (λ _. plan.form ≡ form.Live) → (plan.form ≡ form.Live → P plan) → IfSome answer P
-of_plan None plan P same live holds = tt
-of_plan (Some other) plan P same live holds = subst P (sym same) (holds live)
-
-at_least_one : (every : Option ℕ) → IfSome every (λ every. (1 ≤ every) × (every ≤ 1000000000)) → IfSome every (λ every. 1 ≤ every)
-at_least_one None within = tt
-at_least_one (Some every) within = within.0
+-- what follows of a value follows of one that there may be
+if_some : {A : Type 0} (found : Option A) (P Q : A → Type 0) → IfSome found P → ((value : A) → P value → Q value) → IfSome found Q
+if_some None P Q holds follows = tt
+if_some (Some value) P Q holds follows = follows value holds
 
 pub returns-in-Ok-clause-plan : goal.returns-in-Ok-clause-plan
-returns-in-Ok-clause-plan c = of_plan c.if_live.result c.in-Ok.plan _ c.if_live.ensures.same c.if_live.ensures.form (λ live. c.in-Ok.ensures.plan)
+returns-in-Ok-clause-plan c = if_some c.in-Ok.found (IsLivePlan (map string_bytes c.args.words.now)) _ c.in-Ok.ensures (λ plan is. is.asked)
 
 pub returns-in-Ok-clause-form : goal.returns-in-Ok-clause-form
-returns-in-Ok-clause-form c = of_plan c.if_live.result c.in-Ok.plan _ c.if_live.ensures.same c.if_live.ensures.form (λ live. live)
+returns-in-Ok-clause-form c = if_some c.in-Ok.found (IsLivePlan (map string_bytes c.args.words.now)) _ c.in-Ok.ensures (λ plan is. is.live)
 
 pub returns-in-Ok-clause-live : goal.returns-in-Ok-clause-live
-returns-in-Ok-clause-live c = of_plan c.if_live.result c.in-Ok.plan _ c.if_live.ensures.same c.if_live.ensures.form c.in-Ok.ensures.live
+returns-in-Ok-clause-live c = if_some c.in-Ok.found (IsLivePlan (map string_bytes c.args.words.now)) _ c.in-Ok.ensures (λ plan is. is.streams)
 
 pub returns-in-Ok-clause-every : goal.returns-in-Ok-clause-every
-returns-in-Ok-clause-every c = of_plan c.if_live.result c.in-Ok.plan _ c.if_live.ensures.same c.if_live.ensures.form (λ live. at_least_one _ c.in-Ok.ensures.every)
+returns-in-Ok-clause-every c = if_some c.in-Ok.found (IsLivePlan (map string_bytes c.args.words.now)) _ c.in-Ok.ensures (λ plan is. is.every)
