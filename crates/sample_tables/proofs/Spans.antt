@@ -18,24 +18,24 @@ map_agree f g [] h = refl
 map_agree f g (x ∷ xs) h =
     cc (All-head (λ x. f x ≡ g x) x xs h, map_agree f g xs (All-tail (λ x. f x ≡ g x) x xs h))
 
-slice-append : (frames more : List ℕ) (a b : ℕ) → a ≤ b → b ≤ length frames → slice_range (frames ++ more) a b ≡ slice_range frames a b
+pub slice-append : (frames more : List ℕ) (a b : ℕ) → a ≤ b → b ≤ length frames → slice_range (frames ++ more) a b ≡ slice_range frames a b
 slice-append frames more a b ab bn =
     let an : a ≤ length frames = omega arith in
     let room : b - a ≤ length (drop a frames) = omega (arith, length-drop a frames) in
     rw drop-append-le (rw take-append-le refl)
 
-slice-seam : (frames more : List ℕ) (b : ℕ) → b ≡ length frames + length more → slice_range (frames ++ more) (length frames) b ≡ more
+pub slice-seam : (frames more : List ℕ) (b : ℕ) → b ≡ length frames + length more → slice_range (frames ++ more) (length frames) b ≡ more
 slice-seam frames more b e = rw drop-append_seam (grind (arith, common_steps))
 
 stack_of-append : (frames more : List ℕ) (span : Span) → (span.start ≤ span.end) × (span.end ≤ length frames) → stack_of (frames ++ more) span ≡ stack_of frames span
 stack_of-append frames more span h = slice-append frames more span.start span.end h.0 h.1
 
 -- numbers that come after leave the stacks as they are
-stacks_of-append : (frames more : List ℕ) (spans : List Span) → All (λ span. (span.start ≤ span.end) × (span.end ≤ length frames)) spans → stacks_of (frames ++ more) spans ≡ stacks_of frames spans
+pub stacks_of-append : (frames more : List ℕ) (spans : List Span) → All (λ span. (span.start ≤ span.end) × (span.end ≤ length frames)) spans → stacks_of (frames ++ more) spans ≡ stacks_of frames spans
 stacks_of-append frames more spans h =
     map_agree (stack_of (frames ++ more)) (stack_of frames) spans (λ k d l. stack_of-append frames more _ (h k d l))
 
-stacks_of-push : (frames more : List ℕ) (spans : List Span) (b : ℕ) → b ≡ length frames + length more → All (λ span. (span.start ≤ span.end) × (span.end ≤ length frames)) spans → stacks_of (frames ++ more) (spans ++ record { start = length frames; end = b } ∷ []) ≡ stacks_of frames spans ++ more ∷ []
+pub stacks_of-push : (frames more : List ℕ) (spans : List Span) (b : ℕ) → b ≡ length frames + length more → All (λ span. (span.start ≤ span.end) × (span.end ≤ length frames)) spans → stacks_of (frames ++ more) (spans ++ record { start = length frames; end = b } ∷ []) ≡ stacks_of frames spans ++ more ∷ []
 stacks_of-push frames more spans b e h =
     map-append (stack_of (frames ++ more)) spans _ ∙ cc (stacks_of-append frames more spans h, slice-seam frames more b e)
 

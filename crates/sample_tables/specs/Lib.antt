@@ -1,3 +1,4 @@
+pub mod NameHashes
 pub mod Rows
 pub mod Samples
 pub mod Spans

@@ -1,6 +1,7 @@
 //! Numbers that were met before, by the hashes of what they stand for.
 
-ghost use Rattle.std.specs.Prelude.{true, IfSome};
+ghost use Rattle.std.specs.Prelude.{◌≡◌, true, IfSome};
+ghost use Rattle.sample_tables.specs.NameHashes.{hash_of_name};
 
 use std::alloc::{AllocError, Global};
 use std::hash::{FoldHasher, Hasher};
@@ -29,6 +30,13 @@ pub struct NumberCache {
 }
 
 impl NumberCache {
+    /// An empty cache without slots. It takes no memory, and remembers nothing.
+    pub fn new(alloc: Global) -> NumberCache {
+        NumberCache {
+            slots: Vec::new(alloc),
+        }
+    }
+
     /// An empty cache with a slot for each of so many numbers, and a few more.
     pub fn with_room(alloc: Global, count: usize) -> Result<NumberCache, AllocError> {
         let empty = Slot { hash: 0, number: 0 };
@@ -82,7 +90,9 @@ fn upper(hash: u64) -> u32 {
 }
 
 /// The hash of a name.
-pub fn hash_of_name(name: &str) -> u64 {
+pub fn hash_of_name(name: &str) -> u64
+    ensures { result ≡ hash_of_name name.now }
+{
     let mut hasher = FoldHasher::default();
     hasher.write(name.as_bytes());
     hasher.finish()
