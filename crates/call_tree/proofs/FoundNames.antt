@@ -6,7 +6,8 @@ use Rattle.std.proofs.lemmas.Bool.{false_from_ne_true}
 use Rattle.std.proofs.lemmas.List.Folds.{Any-from_list_any}
 use Rattle.std.proofs.lemmas.List.{get_or_default}
 use Rattle.std.proofs.lemmas.Slice.Eq.{bytes_eq-Decides}
-use Rattle.call_tree.specs.checked.FoundNames.{hash_of_name, IsFound, AreFound}
+use Rattle.sample_tables.specs.NameHashes.{hash_of_name}
+use Rattle.call_tree.specs.checked.FoundNames.{IsFound, AreFound}
 use Rattle.call_tree.proofs.Steps.{pushed}
 
 -- a name that stands at no place is not among the names

@@ -8,6 +8,7 @@ pub mod Frames
 pub mod Listed
 pub mod NameOrder
 pub mod NameNumbers
+pub mod NameLists
 pub mod Names
 pub mod Numbers
 pub mod Paths

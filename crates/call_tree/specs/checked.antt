@@ -2,6 +2,7 @@
 pub mod FoundNames
 pub mod Histories
 pub mod Links
+pub mod NameLists
 pub mod NodeOrder
 pub mod Nodes
 pub mod Places

@@ -1,23 +1,29 @@
 //! Frame names, each under a number of its own.
-ghost use Rattle.std.specs.Prelude.{◌≡◌, ◌↔◌, IsTrue, ℕ, ◌<◌, List, [], length, MatchOption, OnOk, OnErr, IfOk, map, nat_eq, slice_get, Some};
+ghost use Rattle.std.specs.Prelude.{◌≡◌, ◌↔◌, IsTrue, ℕ, ◌<◌, List, [], length, MatchOption, OnOk, OnErr, IfOk, nat_eq, slice_get, Some};
 ghost use Rattle.std.specs.BTreeMap.{get_by_text};
 ghost use Rattle.std.specs.List.{slice_index_or};
-ghost use Rattle.std.specs.String.{string_bytes};
 ghost use Rattle.indexmap.specs.IndexMap.{get};
+ghost use Rattle.sample_tables.specs.NameHashes.{hash_of_name};
 ghost use Rattle.call_tree.specs.FrameTable.{with_name, HasDistinctNames};
-ghost use Rattle.call_tree.specs.checked.FoundNames.{hash_of_name, IsFound};
+ghost use Rattle.call_tree.specs.checked.FoundNames.{IsFound};
 
 use crate::hashed_numbers::HashedNumbers;
+use crate::name_list::NameList;
+use sample_tables::{NumberCache, hash_of_name};
 use std::alloc::{AllocError, Global};
 use std::collections::BTreeMap;
-use std::hash::{FoldHasher, Hasher};
 use std::marker::Model;
+
+/// How many slots there are for each name, where more are made.
+const SLOTS: usize = 4;
 
 /// Frame names, numbered from 0 in the order in which they were first asked for.
 #[derive(Drop)]
 pub struct FrameTable {
     alloc: Global,
-    names: Vec<String>,
+    names: NameList,
+    /// Numbers of names by their hashes, in fewer steps. It may forget some.
+    met: NumberCache,
     /// The numbers of names by their hashes.
     hashed: HashedNumbers,
     /// Those of names whose hashes collide, or lead where many do.
@@ -26,18 +32,17 @@ pub struct FrameTable {
 
 impl Model for FrameTable {
     ghost use Rattle.std.specs.BTreeMap.{get_by_text};
-    ghost use Rattle.std.specs.Prelude.{ℕ, List, map, nat_eq};
+    ghost use Rattle.std.specs.Prelude.{ℕ, List, nat_eq};
     ghost use Rattle.indexmap.specs.IndexMap.{get};
-    ghost use Rattle.std.specs.String.{string_bytes};
     ghost use Rattle.call_tree.specs.FrameTable.{HasDistinctNames};
     ghost use Rattle.call_tree.specs.checked.FoundNames.{AreFound};
 
     ghost Value = { List (List ℕ) };
 
-    ghost view = { λ t. map string_bytes t.names.items };
+    ghost view = { λ t. t.names };
 
-    ghost invariant = { λ t. HasDistinctNames (map string_bytes t.names.items)
-        × AreFound (map string_bytes t.names.items) (get nat_eq t.hashed.numbers) (get_by_text t.crowded) };
+    ghost invariant = { λ t. HasDistinctNames t.names
+        × AreFound t.names (get nat_eq t.hashed.numbers) (get_by_text t.crowded) };
 }
 
 impl FrameTable {
@@ -47,7 +52,8 @@ impl FrameTable {
     {
         FrameTable {
             alloc,
-            names: Vec::new(alloc),
+            names: NameList::new(alloc),
+            met: NumberCache::new(alloc),
             hashed: HashedNumbers::new(alloc),
             crowded: BTreeMap::new(alloc),
         }
@@ -61,11 +67,11 @@ impl FrameTable {
         ensures distinct { HasDistinctNames self.new }
         ensures err { OnErr result (self.new ≡ self.old) }
     {
-        let hash = hash_of(name);
+        let hash = hash_of_name(name);
         if let Some(number) = self.find(name, hash) {
             return Ok(number);
         }
-        let owned = String::from_str(self.alloc, name)?;
+        make_room(self.alloc, &self.names, &mut self.met)?;
         let number = self.len();
         enter(
             self.alloc,
@@ -75,7 +81,8 @@ impl FrameTable {
             &mut self.hashed,
             &mut self.crowded,
         )?;
-        self.names.push(owned)?;
+        self.names.push(name)?;
+        self.met.remember(hash, number);
         Ok(number)
     }
 
@@ -86,7 +93,10 @@ impl FrameTable {
             ((n : ℕ) → n < length self.now → slice_index_or self.now n [] ≡ name.now → ⊥)
             (λ n. (n < length self.now) × (slice_index_or self.now n [] ≡ name.now)) }
     {
-        let names = self.names.as_slice();
+        let names = &self.names;
+        if let Some(number) = self.met.find(hash, |number| has_name(names, number, name)) {
+            return Some(number);
+        }
         if let Some(number) = checked(names, self.hashed.find(hash), name) {
             return Some(number);
         }
@@ -98,7 +108,7 @@ impl FrameTable {
         requires { number < length self.now }
         ensures { result.now ≡ slice_index_or self.now number [] }
     {
-        self.names[number].as_str()
+        self.names.name(number)
     }
 
     /// How many names there are. No two are the same.
@@ -113,7 +123,7 @@ impl FrameTable {
     pub fn is_empty(&self) -> bool
         ensures { IsTrue result ↔ (length self.now ≡ 0) }
     {
-        self.names.is_empty()
+        self.names.len() == 0
     }
 
     /// Tells a proof that no two names are the same. It does nothing.
@@ -124,30 +134,35 @@ impl FrameTable {
     }
 }
 
-/// The hash of a name.
-fn hash_of(name: &str) -> u64
-    ensures { result ≡ hash_of_name name.now }
-{
-    let mut hasher = FoldHasher::default();
-    hasher.write(name.as_bytes());
-    hasher.finish()
-}
-
 /// Whether a name has this number.
-fn has_name(names: &[String], number: usize, name: &str) -> bool
-    ensures { IsTrue result ↔ ((number < length (map string_bytes names.now)) × (slice_index_or (map string_bytes names.now) number [] ≡ name.now)) }
+fn has_name(names: &NameList, number: usize, name: &str) -> bool
+    ensures { IsTrue result ↔ ((number < length names.now) × (slice_index_or names.now number [] ≡ name.now)) }
 {
     if number >= names.len() {
         return false;
     }
-    names[number].as_str() == name
+    names.name(number) == name
+}
+
+/// Makes room in a cache for as many names more as there are, each time that they are twice as many.
+fn make_room(alloc: Global, names: &NameList, met: &mut NumberCache) -> Result<(), AllocError> {
+    let count = names.len();
+    if !count.is_power_of_two() {
+        return Ok(());
+    }
+    let mut roomy = NumberCache::with_room(alloc, count.saturating_mul(SLOTS))?;
+    for number in 0..count {
+        roomy.remember(hash_of_name(names.name(number)), number);
+    }
+    *met = roomy;
+    Ok(())
 }
 
 /// A number, if it is the name's.
-fn checked(names: &[String], number: Option<usize>, name: &str) -> Option<usize>
+fn checked(names: &NameList, number: Option<usize>, name: &str) -> Option<usize>
     ensures { MatchOption result
-        ((n : ℕ) → number ≡ Some n → n < length (map string_bytes names.now) → slice_index_or (map string_bytes names.now) n [] ≡ name.now → ⊥)
-        (λ n. (n < length (map string_bytes names.now)) × (slice_index_or (map string_bytes names.now) n [] ≡ name.now)) }
+        ((n : ℕ) → number ≡ Some n → n < length names.now → slice_index_or names.now n [] ≡ name.now → ⊥)
+        (λ n. (n < length names.now) × (slice_index_or names.now n [] ≡ name.now)) }
 {
     let number = number?;
     if has_name(names, number, name) {

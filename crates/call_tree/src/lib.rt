@@ -8,6 +8,7 @@ mod histories;
 pub mod laws;
 mod links;
 mod listing;
+mod name_list;
 mod nodes;
 mod places;
 pub mod slots;

@@ -1,11 +1,7 @@
 -- Names whose numbers are found by their hashes.
 use Rattle.std.specs.Prelude.{◌≡◌, ℕ, ◌<◌, ◌⊎◌, List, length, Option, Some}
 use Rattle.std.specs.List.{slice_index_or}
-use Rattle.std.specs.Hash.FoldHasher.{initial, write, finish}
-
--- the hash of a name
-unfoldable pub hash_of_name : List ℕ → ℕ
-hash_of_name name = finish (write initial name)
+use Rattle.sample_tables.specs.NameHashes.{hash_of_name}
 
 -- the number is that of the name's hash, or of the name among the crowded
 abbrev pub IsFound : (ℕ → Option ℕ) → (List ℕ → Option ℕ) → List ℕ → ℕ → Type 0

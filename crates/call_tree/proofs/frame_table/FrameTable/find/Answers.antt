@@ -1,6 +1,5 @@
-use Rattle.std.proofs.Common.{ℕ, map, nat_eq, Option, None, Some, MatchOption, ◌∙◌}
+use Rattle.std.proofs.Common.{ℕ, nat_eq, Option, None, Some, MatchOption, ◌∙◌}
 use Rattle.std.specs.BTreeMap.{get_by_text}
-use Rattle.std.specs.String.{string_bytes}
 use Rattle.indexmap.specs.IndexMap.{get}
 use Rattle.call_tree.proofs.FoundNames.{none_if_not_found}
 use Rattle.call_tree.proofs.frame_table.FrameTable.find.Goals as goal
@@ -11,7 +10,7 @@ none_if (Some n) P Q R follows some = some
 
 pub returns : goal.returns
 returns c =
-    rw (← c.self.view_is, ← c.as_slice-names.ensures.value)
+    rw (← c.self.view_is)
     (none_if c.checked-2.result _ _ _
-    (none_if_not_found (map string_bytes c.as_slice-names.result.now) (get nat_eq c.self.inside.hashed.numbers) (get_by_text c.self.inside.crowded) c.args.name.now c.args.hash _ _
-    (rw c.as_slice-names.ensures.value c.self.invariant.1) c.requires c.find.ensures (c.copied.ensures ∙ c.get.ensures.value) c.in_default.ensures) c.checked-2.ensures)
+    (none_if_not_found c.self.inside.names (get nat_eq c.self.inside.hashed.numbers) (get_by_text c.self.inside.crowded) c.args.name.now c.args.hash _ _
+    c.self.invariant.1 c.requires c.find-2.ensures (c.copied.ensures ∙ c.get.ensures.value) c.in_default-checked.ensures) c.checked-2.ensures)
