@@ -1,5 +1,5 @@
--- A number at the end of a head, looked for from there.
-use Rattle.std.proofs.Common.{◌≡◌, ℕ, suc, ◌-◌, ◌<◌, ◌≤◌, true, false, not, List, [], ◌∷◌, ◌++◌, length, take, take_all, drop, length-drop, slice_index, refl, sym, ap, ◌∙◌, arith}
+-- A number at the end of a text, looked for from there.
+use Rattle.std.proofs.Common.{◌≡◌, ℕ, suc, ◌-◌, ◌<◌, ◌≤◌, true, false, not, Some, List, [], ◌∷◌, ◌++◌, length, take, take_all, drop, length-drop, slice_index, refl, sym, ap, ◌∙◌, arith}
 use Rattle.std.specs.List.{list_all}
 use Rattle.std.proofs.Math.Seq.{drop-cons}
 use Rattle.std.proofs.lemmas.List.{take-append-drop}
@@ -38,11 +38,11 @@ cut_at text start some within =
     ∙ ap (λ t. take (start - 1) text ++ t) (drop-cons text (start - 1) 0 (omega arith) ∙ ap (λ n. slice_index text (start - 1) ∷ drop n text) next)
 
 -- behind a blank
-pub ends_at_blank : (text : List ℕ) (start : ℕ) → 0 < start → start ≤ length text → is_blank (slice_index text (start - 1)) ≡ true → list_all is_digit_or_point (drop start text) ≡ true
-    → ends_in_number (columns text) ≡ is_number (drop start text)
-ends_at_blank text start some within blank all =
-    ap (λ t. ends_in_number (columns t)) (cut_at text start some within)
-    ∙ ap ends_in_number (columns-at (take (start - 1) text) (drop start text) (slice_index text (start - 1)) (columns-none (drop start text) (no_blanks (drop start text) all)) blank)
+pub columns_at_blank : (text : List ℕ) (start : ℕ) → 0 < start → start ≤ length text → is_blank (slice_index text (start - 1)) ≡ true → list_all is_digit_or_point (drop start text) ≡ true
+    → columns text ≡ Some (take (start - 1) text, drop start text)
+columns_at_blank text start some within blank all =
+    ap columns (cut_at text start some within)
+    ∙ columns-at (take (start - 1) text) (drop start text) (slice_index text (start - 1)) (columns-none (drop start text) (no_blanks (drop start text) all)) blank
 
 -- behind another byte
 pub ends_apart : (text : List ℕ) (start : ℕ) → 0 < start → start ≤ length text → is_blank (slice_index text (start - 1)) ≡ false → is_digit_or_point (slice_index text (start - 1)) ≡ false
@@ -55,3 +55,7 @@ ends_apart text start some within blank other all =
 -- what is looked at behind a blank
 pub number_behind : (text : List ℕ) (start : ℕ) → take (length text - start) (drop start text) ≡ drop start text
 number_behind text start = take_all (length text - start) (drop start text) (omega (arith, length-drop start text))
+
+pub ends_at_blank : (text : List ℕ) (start : ℕ) → 0 < start → start ≤ length text → is_blank (slice_index text (start - 1)) ≡ true → list_all is_digit_or_point (drop start text) ≡ true
+    → is_number (take (length text - start) (drop start text)) ≡ ends_in_number (columns text)
+ends_at_blank text start some within blank all = ap is_number (number_behind text start) ∙ sym (ap ends_in_number (columns_at_blank text start some within blank all))

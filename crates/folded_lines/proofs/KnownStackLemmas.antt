@@ -1,14 +1,12 @@
 -- Stacks that are known stay known while more is told, and the bytes that their names join to have those names.
-use Rattle.std.proofs.Common.{◌≡◌, ℕ, ◌<◌, ◌≤◌, ◌+◌, ◌-◌, List, [], ◌∷◌, ◌++◌, length, length-drop, Option, Some, None, append_assoc, map, take, drop, get_or, All, refl, sym, ap, subst, ◌∙◌, arith}
+use Rattle.std.proofs.Common.{◌≡◌, ℕ, ◌<◌, ◌≤◌, ◌+◌, List, [], ◌∷◌, ◌++◌, length, Option, Some, None, append_assoc, map, take, get_or, All, refl, sym, ap, subst, ◌∙◌, arith}
 use Rattle.std.specs.List.{join_with_byte, slice_split, slice_range}
-use Rattle.std.proofs.Math.Seq.{drop-append_seam}
-use Rattle.std.proofs.lemmas.Grind.{common_steps}
-use Rattle.std.proofs.lemmas.List.{drop-append-le, take-append-le, take_more, map-append}
+use Rattle.std.proofs.lemmas.List.{take_more, map-append}
 use Rattle.std.proofs.lemmas.List.Elements.{All-nil, All-push, All-weaker}
 use Rattle.std.proofs.lemmas.List.Splits.{join_with_byte-slice_split}
 use Rattle.std.proofs.lemmas.Option.{slice_get-get_or, get_or_from_slice_get}
 use Rattle.bstr.proofs.lemmas.EncodeLemmas.{lossy_chars-utf8}
-use Rattle.sample_tables.proofs.Spans.{map_agree}
+use Rattle.sample_tables.proofs.Spans.{map_agree, slice-append, slice-seam}
 use Rattle.sample_tables.specs.Rows.{name_at}
 use Rattle.stack_core.specs.Prefixes.{IsPrefixOf}
 use Rattle.stack_core.specs.Records.{names_at}
@@ -138,15 +136,6 @@ spelled-later names numbers head rest between behind i some within was cut here 
     ∙ ap (λ t. t ++ behind) (sym (join_with_byte-later (name_at names) 59 numbers i (get_or numbers i 0) some within (same_number numbers i within)))
 
 -- ---- the numbers of all stacks, one behind another
-
-slice-append : (numbers more : List ℕ) (a b : ℕ) → a ≤ b → b ≤ length numbers → slice_range (numbers ++ more) a b ≡ slice_range numbers a b
-slice-append numbers more a b ab bn =
-    let an : a ≤ length numbers = omega arith in
-    let room : b - a ≤ length (drop a numbers) = omega (arith, length-drop a numbers) in
-    rw drop-append-le (rw take-append-le refl)
-
-slice-seam : (numbers more : List ℕ) (b : ℕ) → b ≡ length numbers + length more → slice_range (numbers ++ more) (length numbers) b ≡ more
-slice-seam numbers more b e = rw drop-append_seam (grind (arith, common_steps))
 
 -- numbers that come after leave the stacks as they are
 pub stacks_of-append : (numbers more : List ℕ) (rows : List KnownRow) → AreWithin numbers rows → stacks_of (numbers ++ more) rows ≡ stacks_of numbers rows

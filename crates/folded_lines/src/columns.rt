@@ -1,24 +1,14 @@
-//! The columns of a folded line, and the numbers in them.
+//! The count in the last column of a folded line.
 
-ghost use Rattle.std.specs.Prelude.{◌≡◌, ◌<◌, ◌≤◌, ◌-◌, ◌||◌, true, false, IsTrue, min, length, drop, slice_index, count_by};
+ghost use Rattle.std.specs.Prelude.{◌≡◌, ◌<◌, ◌≤◌, ◌-◌, true, false, IsTrue, Some, is_some, IfSome, min, length, take, drop, slice_index, count_by};
 ghost use Rattle.std.specs.List.{list_all};
 ghost use Rattle.std.specs.Str.Parse.{digits_value};
 ghost use Rattle.std.specs.Char.{is_ascii_digit};
-ghost use Rattle.std.specs.Option.{option_map};
 ghost use Rattle.memchr.specs.Find.{is_byte2};
 ghost use Rattle.folded_lines.specs.checked.Cutting.{is_digit_or_point};
 ghost use Rattle.folded_lines.specs.Lines.{columns, is_number, is_point, has_point, ends_in_number};
 
-use memchr::memrchr2;
 use stack_core::WEIGHT_LIMIT;
-
-/// What stands before the last space or tab of a line, and what after it.
-pub(crate) fn columns(line: &[u8]) -> Option<(&[u8], &[u8])>
-    ensures { option_map (λ parts. (parts.0.now, parts.1.now)) result ≡ columns line.now }
-{
-    let at = memrchr2(b' ', b'\t', line)?;
-    Some((&line[..at], &line[at + 1..]))
-}
 
 fn begins_with_digit(text: &[u8]) -> bool
     ensures { result ≡ is_ascii_digit (slice_index text.now 0) }
@@ -29,23 +19,18 @@ fn begins_with_digit(text: &[u8]) -> bool
     }
 }
 
-fn is_digits_and_points(text: &[u8]) -> bool
-    ensures { result ≡ list_all is_digit_or_point text.now }
-{
-    text.iter().all(|b| is_digit_or_point(*b))
-}
-
 fn points(text: &[u8]) -> usize
     ensures { result ≡ count_by is_point text.now }
 {
     text.iter().filter(|b| **b == b'.').count()
 }
 
-/// Whether the text is digits, which may have one point after the first.
-pub(crate) fn is_number(text: &[u8]) -> bool
+/// Whether digits and points are a number: a digit is the first, and there is at most one point.
+fn is_number(text: &[u8]) -> bool
+    requires { IsTrue (list_all is_digit_or_point text.now) }
     ensures { result ≡ is_number text.now }
 {
-    begins_with_digit(text) && is_digits_and_points(text) && points(text) <= 1
+    begins_with_digit(text) && points(text) <= 1
 }
 
 /// Whether a point stands in the text.
@@ -80,15 +65,24 @@ fn number_start(text: &[u8]) -> usize
     start
 }
 
-/// Whether a head has a count at its own end. It is looked for from there, so that long names cost nothing.
+/// Where the count at the end of a text begins, right behind a space or tab. It is looked for from there, so that long names cost nothing.
+pub(crate) fn count_start(text: &[u8]) -> Option<usize>
+    ensures found { is_some result ≡ ends_in_number (columns text.now) }
+    ensures place { IfSome result (λ at. (0 < at) × (at ≤ length text.now)
+        × (columns text.now ≡ Some (take (at - 1) text.now, drop at text.now))) }
+{
+    let start = number_start(text);
+    if start == 0 || !is_blank(text[start - 1]) || !is_number(&text[start..]) {
+        return None;
+    }
+    Some(start)
+}
+
+/// Whether a head has a count at its own end.
 pub(crate) fn ends_in_number(head: &[u8]) -> bool
     ensures { result ≡ ends_in_number (columns head.now) }
 {
-    let start = number_start(head);
-    if start == 0 || !is_blank(head[start - 1]) {
-        return false;
-    }
-    is_number(&head[start..])
+    count_start(head).is_some()
 }
 
 /// More than any weight may be.

@@ -5,7 +5,7 @@ ghost use Rattle.folded_lines.specs.Lines.{is_semicolon, names_of};
 ghost use Rattle.folded_lines.specs.checked.Telling.{head_fault};
 ghost use Rattle.folded_lines.specs.checked.RowLines.{IsCountOf};
 
-use crate::columns::{columns, ends_in_number, has_point, is_number, weight_of};
+use crate::columns::{count_start, ends_in_number, has_point, weight_of};
 use crate::names::without_trailing_semicolons;
 use stack_core::{FRAME_LIMIT, Listed, ReadKind, Text};
 
@@ -44,17 +44,15 @@ pub(crate) enum Count {
 pub(crate) fn count_of(line: &[u8]) -> Count
     ensures { IsCountOf line.now result }
 {
-    let Some((head, count)) = columns(line) else {
+    let Some(at) = count_start(line) else {
         return Count::Ignored;
     };
-    if !is_number(count) {
-        return Count::Ignored;
-    }
+    let count = &line[at..];
     if has_point(count) {
         return Count::Fault(ReadKind::DecimalWeight);
     }
     Count::Weight {
-        head: head.len(),
+        head: at - 1,
         weight: weight_of(count),
     }
 }

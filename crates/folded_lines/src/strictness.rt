@@ -7,7 +7,7 @@ ghost use Rattle.folded_lines.specs.StrictReading.{strict_fault, strict_kind_tex
 ghost use Rattle.folded_lines.specs.StrictStreams.{IsTellable, strict_ending_fault};
 ghost use Rattle.folded_lines.specs.checked.Strictness.{earlier, fault_of_counted, first_from, first_ignored, is_counted, lines_in};
 
-use crate::columns::{columns, is_number};
+use crate::columns::count_start;
 use crate::cursor::first_line;
 use stack_core::{ReadFault, ReadKind, SourceEnd};
 
@@ -62,10 +62,7 @@ impl From<ReadFault> for StrictFault {
 fn has_no_count(line: &[u8]) -> bool
     ensures { result ≡ is_ignored (read_line line.now) }
 {
-    match columns(line) {
-        None => true,
-        Some((_, count)) => !is_number(count),
-    }
+    count_start(line).is_none()
 }
 
 /// Whether the line at a place has no count, and where the next one begins.

@@ -1,12 +1,12 @@
-use Rattle.std.proofs.Common.{sym}
-use Rattle.folded_lines.proofs.CountLemmas.{IsCountOf_weight}
+use Rattle.std.proofs.Common.{◌≡◌, ◌-◌, true, length, take, drop, sym, ap, ◌∙◌}
+use Rattle.folded_lines.specs.Lines.{ends_in_number, is_number}
+use Rattle.folded_lines.proofs.EndNumbers.{number_behind}
 use Rattle.folded_lines.proofs.NumberLemmas.{digits-from_is_number}
 use Rattle.folded_lines.proofs.row_lines.count_of.Goals as goal
 
 pub weight_of-requires : goal.weight_of-requires
-weight_of-requires c = digits-from_is_number c.in-Some.count.now (sym c.if-not-is_number.ensures) (sym c.if-has_point.ensures)
-
-pub returns : goal.returns
-returns c =
-    IsCountOf_weight c.args.line.now c.in-Some.head.now c.in-Some.count.now c.weight_of.result (sym c.in-Some.ensures)
-    (sym c.if-not-is_number.ensures) (sym c.if-has_point.ensures) c.weight_of.ensures
+weight_of-requires c =
+    let line = c.args.line.now in
+    let found = c.in-Some.ensures in
+    let number : is_number (drop c.in-Some.at line) ≡ true = sym (ap ends_in_number found.place.2) ∙ sym found.found in
+    digits-from_is_number (take (length line - c.in-Some.at) (drop c.in-Some.at line)) (ap is_number (number_behind line c.in-Some.at) ∙ number) (sym c.if-has_point.ensures)
