@@ -1,4 +1,4 @@
--- Names that lie end to end: one more, and one of them.
+-- Names that lie end to end, and one more behind them.
 use Rattle.std.proofs.Common.{◌≡◌, ◌≤◌, ◌+◌, ℕ, List, [], ◌∷◌, ◌++◌, length, ap, ◌∙◌, arith, length-append}
 use Rattle.std.specs.Str.{IsUtf8}
 use Rattle.std.proofs.lemmas.List.Elements.{All-push, All-weaker, All-same}
