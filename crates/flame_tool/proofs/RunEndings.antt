@@ -3,6 +3,8 @@ use Rattle.std.proofs.Common.{◌≡◌, ◌≢◌, ◌≤◌, ◌<◌, ◌⊎�
 use Rattle.std.specs.Prelude.{IsSomeAnd, IsSome}
 use Rattle.std.proofs.lemmas.Bool.{cases_lt}
 use Rattle.std.specs.Io.KnownBytes.{Appends, Keeps}
+use Rattle.std.proofs.lemmas.Option.{same_Some}
+use Rattle.clap.specs.Kinds.{Kinds}
 use Rattle.clap.specs.Walk.{Text}
 use Rattle.stack_core.specs.Reading.{Rest}
 use Rattle.sample_tables.specs.declared.samples.Sample.{Sample}
@@ -13,7 +15,7 @@ use Rattle.run_options.proofs.FilterLemmas.{all_is_kept}
 use Rattle.function_sums.specs.declared.call_sides.CallSide.TheVariants.{Callers, Callees}
 use Rattle.merging.specs.Sums.{all_samples}
 use Rattle.view_texts.specs.Fold.{fold_text}
-use Rattle.command_line.specs.Plans.{IsFaultAmong, default_plan, fault_of, limit_of, plan_of}
+use Rattle.command_line.specs.Plans.{IsFaultAmong, default_plan, fault_of, limit_of}
 use Rattle.command_line.specs.declared.plans.PlanFault.{PlanFault}
 use Rattle.command_line.specs.declared.plans.PlanFault.TheVariants as fault
 use Rattle.command_line.specs.declared.plans.Form.{Form}
@@ -227,14 +229,6 @@ module _ (input : Option (List ℕ)) (files : List ℕ → Option (List ℕ)) (o
 
 -- ---- words
 
-module _ {A : Type 0} (bytes : A → Text) {words words' : List A} where
-  -- what is said of the words as they are lent
-  pub among_words : (fault : PlanFault) → words ≡ words' → IsFaultAmong (fault_of command_line (map bytes words)) fault → IsFaultAmong (fault_of command_line (map bytes words')) fault
-  among_words fault same among = subst (λ words. IsFaultAmong (fault_of command_line (map bytes words)) fault) same among
-
-  pub faultless_words : words ≡ words' → fault_of command_line (map bytes words) ≡ [] → fault_of command_line (map bytes words') ≡ []
-  faultless_words same none = subst (λ words. fault_of command_line (map bytes words) ≡ []) same none
-
 pub words_have : (words : List Text) (plan : Plan) (P : Plan → Type 0) → asked_plan words ≡ Some plan → P plan → IsSomeAnd (asked_plan words) P
 words_have words plan P asked holds = subst (λ asked. IsSomeAnd asked P) (sym asked) holds
 
@@ -310,36 +304,28 @@ pub asked_not_grown : (words : List Text) (plan : Plan) (input : Option (List �
     → IfSome (known_rests plan input files) (HasNotGrown plan) → IsSomeAnd (asked_plan words) (λ plan. IfSome (known_rests plan input files) (HasNotGrown plan))
 asked_not_grown words plan input files asked = words_have words plan (λ plan. IfSome (known_rests plan input files) (HasNotGrown plan)) asked
 
-pub some_asked : {A : Type 0} (bytes : A → List ℕ) (words : List A) (plan : Plan) → (length words ≡ 0 → ⊥) → plan_of (map bytes words) ≡ Some plan → asked_plan (map bytes words) ≡ Some plan
-some_asked bytes [] plan some planned = absurd (some refl)
-some_asked bytes (word ∷ words) plan some planned = planned
+-- what holds of the faults of words, where there are some
+pub of_words : {A : Type 0} (bytes : A → List ℕ) (words : List A) (P : Kinds → Type 0) → (length words ≡ 0 → ⊥) → P (fault_of command_line (map bytes words)) → P (asked_faults (map bytes words))
+of_words bytes [] P some holds = absurd (some refl)
+of_words bytes (word ∷ words) P some holds = holds
 
 -- a fault that is a request for help, of words that have it
-pub asks_if_help : {A : Type 0} (bytes : A → List ℕ) (words : List A) (f : PlanFault) → (length words ≡ 0 → ⊥) → IsFaultAmong (fault_of command_line (map bytes words)) f → IsHelp f
-    → AsksForHelp (map bytes words)
-asks_if_help bytes [] f some among help = absurd (some refl)
-asks_if_help bytes (word ∷ words) (fault.Words text) some among help = absurd help
-asks_if_help bytes (word ∷ words) (fault.Help text) some among help = among
-asks_if_help bytes (word ∷ words) fault.OutOfMemory some among help = absurd help
+pub asks_if_help : (words : List Text) (f : PlanFault) → IsFaultAmong (asked_faults words) f → IsHelp f → AsksForHelp words
+asks_if_help words (fault.Words text) among help = absurd help
+asks_if_help words (fault.Help text) among help = among
+asks_if_help words fault.OutOfMemory among help = absurd help
 
-pub partly_help : {A : Type 0} {Q : Type 0} (bytes : A → List ℕ) (words : List A) (f : PlanFault) (old new : Option (List ℕ)) → (length words ≡ 0 → ⊥)
-    → IsFaultAmong (fault_of command_line (map bytes words)) f → Keeps old new ⊎ IsHelp f → Keeps old new ⊎ (AsksForHelp (map bytes words) ⊎ Q)
-partly_help bytes words f old new some among (inl kept) = inl kept
-partly_help bytes words f old new some among (inr help) = inr (inl (asks_if_help bytes words f some among help))
+pub partly_help : {Q : Type 0} (words : List Text) (f : PlanFault) (old new : Option (List ℕ)) → IsFaultAmong (asked_faults words) f → Keeps old new ⊎ IsHelp f → Keeps old new ⊎ (AsksForHelp words ⊎ Q)
+partly_help words f old new among (inl kept) = inl kept
+partly_help words f old new among (inr help) = inr (inl (asks_if_help words f among help))
 
 -- words that have no fault and name at most 64 files
 abbrev pub IsAccepted : List Text → Type 0
 IsAccepted words = (asked_faults words ≡ []) × IsSomeAnd (asked_plan words) (λ plan. length plan.files ≤ 64)
 
-pub accepted_none : {A : Type 0} (bytes : A → List ℕ) (words : List A) → length words ≡ 0 → IsAccepted (map bytes words)
-accepted_none bytes [] none = (refl, omega arith)
-accepted_none bytes (word ∷ words) none = absurd (omega arith)
-
-pub accepted_some : {A : Type 0} (bytes : A → List ℕ) (words : List A) (plan : Plan) (status : ℕ) → (length words ≡ 0 → ⊥) → plan_of (map bytes words) ≡ Some plan
-    → fault_of command_line (map bytes words) ≡ [] → (status ≢ 2 → length plan.files ≤ 64) → status ≤ 1 → IsAccepted (map bytes words)
-accepted_some bytes [] plan status some planned faultless few accepted = absurd (some refl)
-accepted_some bytes (word ∷ words) plan status some planned faultless few accepted =
-    (faultless, words_have (map bytes (word ∷ words)) plan (λ plan. length plan.files ≤ 64) planned (few (λ two. omega arith)))
+pub accepted : (words : List Text) (plan : Plan) (status : ℕ) → asked_plan words ≡ Some plan → asked_faults words ≡ [] → (status ≢ 2 → length plan.files ≤ 64) → status ≤ 1 → IsAccepted words
+accepted words plan status asked faultless few low =
+    (faultless, words_have words plan (λ plan. length plan.files ≤ 64) asked (few (λ two. omega (arith, two, low))))
 
 -- what is left of a text at the end of a run comes of words that have no fault
 pub partly_by_plan : (words : List Text) (plan : Plan) (input : Option (List ℕ)) (files : List ℕ → Option (List ℕ)) (old new : Option (List ℕ)) → asked_plan words ≡ Some plan → asked_faults words ≡ []
@@ -349,21 +335,19 @@ partly_by_plan words plan input files old new asked faultless (inl kept) = inl k
 partly_by_plan words plan input files old new asked faultless (inr shown) =
     inr (inr (faultless, words_have words plan (λ plan. IfSome (known_rests plan input files) (ShowsFront plan (known_facts plan input files) old new)) asked shown))
 
-pub none_asked : {A : Type 0} (bytes : A → List ℕ) (words : List A) (plan : Plan) → length words ≡ 0 → plan ≡ default_plan → asked_plan (map bytes words) ≡ Some plan
-none_asked bytes [] plan none is = ap Some (sym is)
-none_asked bytes (word ∷ words) plan none is = absurd (omega arith)
+-- without words the plan is that of the input
+pub default_is : (words : List Text) (plan : Plan) → length words ≡ 0 → asked_plan words ≡ Some plan → plan ≡ default_plan
+default_is [] plan none asked = same_Some plan default_plan (sym asked)
+default_is (word ∷ words) plan none asked = absurd (omega (arith, none))
 
-pub some_faultless : {A : Type 0} (bytes : A → List ℕ) (words : List A) → (length words ≡ 0 → ⊥) → fault_of command_line (map bytes words) ≡ [] → asked_faults (map bytes words) ≡ []
-some_faultless bytes [] some faultless = refl
-some_faultless bytes (word ∷ words) some faultless = faultless
+pub one_input : (plan : Plan) → plan ≡ default_plan → 64 < length plan.files → ⊥
+one_input plan is many = omega (arith, subst (λ (p : Plan). 64 < length p.files) is many)
 
 -- refused words have a fault, and not just the wish for help
-pub are_refused : {A : Type 0} (bytes : A → List ℕ) (words : List A) (f : PlanFault) → (length words ≡ 0 → ⊥) → IsFaultAmong (fault_of command_line (map bytes words)) f → IsWords f
-    → AreRefused (map bytes words)
-are_refused bytes [] f some among refused = absurd (some refl)
-are_refused bytes (word ∷ words) (fault.Words text) some among refused = among
-are_refused bytes (word ∷ words) (fault.Help text) some among refused = absurd refused
-are_refused bytes (word ∷ words) fault.OutOfMemory some among refused = absurd refused
+pub are_refused : (words : List Text) (f : PlanFault) → IsFaultAmong (asked_faults words) f → IsWords f → AreRefused words
+are_refused words (fault.Words text) among refused = among
+are_refused words (fault.Help text) among refused = absurd refused
+are_refused words fault.OutOfMemory among refused = absurd refused
 
 -- what holds of the plan of a run's words
 module _ (words : List Text) (plan : Plan) (asked : asked_plan words ≡ Some plan) (input : Option (List ℕ)) (files : List ℕ → Option (List ℕ)) where

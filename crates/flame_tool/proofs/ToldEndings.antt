@@ -2,8 +2,7 @@
 use Rattle.std.proofs.Common.{◌≡◌, ◌∙◌, ◌++◌, ◌+◌, ◌<◌, ℕ, take, get_or, length, length-take-le, Bool, List, [], ◌∷◌, Option, Some, IfSome, map, ap, arith, refl, subst, sym, true, false}
 use Rattle.std.specs.Prelude.{IsSomeAnd}
 use Rattle.clap.specs.Walk.{Text}
-use Rattle.command_line.specs.CommandLine.{command_line}
-use Rattle.command_line.specs.Plans.{IsFaultAmong, fault_of, fault_text}
+use Rattle.command_line.specs.Plans.{IsFaultAmong, fault_text}
 use Rattle.command_line.specs.declared.plans.Plan.{Plan}
 use Rattle.command_line.specs.declared.plans.PlanFault.{PlanFault}
 use Rattle.flame_tool.specs.Requests.{asked_faults, asked_plan}
@@ -52,10 +51,9 @@ is_none true may_be told none = absurd (true≢false (sym (told refl) ∙ none))
 is_none false may_be told none = refl
 
 -- the text of a refusal
-pub told_refusal : {A : Type 0} (bytes : A → List ℕ) (words : List A) (f : PlanFault) → (length words ≡ 0 → ⊥) → IsFaultAmong (fault_of command_line (map bytes words)) f → IsWords f
-    → (old new : Option (List ℕ)) (before after : ℕ) → Tells (fault_text f) old new before after → TellsRefusal (asked_faults (map bytes words)) old new before after
-told_refusal bytes [] f some among refused old new before after told = absurd (some refl)
-told_refusal bytes (word ∷ words) f some among refused old new before after told = record { refusal = f; of_words = refused; among = among; told = told }
+pub told_refusal : (words : List Text) (f : PlanFault) → IsFaultAmong (asked_faults words) f → IsWords f → (old new : Option (List ℕ)) (before after : ℕ) → Tells (fault_text f) old new before after
+    → TellsRefusal (asked_faults words) old new before after
+told_refusal words f among refused old new before after told = record { refusal = f; of_words = refused; among = among; told = told }
 
 -- by the words
 abbrev pub TellsPlan : Option (List ℕ) → (List ℕ → Option (List ℕ)) → Option (List ℕ) → Option (List ℕ) → ℕ → ℕ → Plan → Type 0

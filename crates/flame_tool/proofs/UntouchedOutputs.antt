@@ -1,12 +1,12 @@
 -- A fault of a source ends a run before the output is touched.
-use Rattle.std.proofs.Common.{◌≡◌, ◌∙◌, ℕ, Bool, List, [], length, map, Option, Some, None, Result, Ok, Err, IfSome, IfErr, OnOk, All, sym, subst, true}
+use Rattle.std.proofs.Common.{◌≡◌, ◌∙◌, ℕ, Bool, List, [], Option, Some, None, Result, Ok, Err, IfSome, IfErr, OnOk, All, sym, subst, true}
 use Rattle.clap.specs.Kinds.{IsAmong}
 use Rattle.clap.specs.Walk.{Text}
 use Rattle.stack_core.specs.Reading.{Rest}
 use Rattle.stack_core.specs.declared.endings.SourceEnd.{SourceEnd}
 use Rattle.stack_core.specs.declared.endings.SourceEnd.TheVariants as ends
 use Rattle.command_line.specs.CommandLine.{command_line}
-use Rattle.command_line.specs.Plans.{IsFaultAmong, fault_of}
+use Rattle.command_line.specs.Plans.{IsFaultAmong}
 use Rattle.command_line.specs.declared.plans.Form.TheVariants as form
 use Rattle.command_line.specs.declared.plans.Plan.{Plan}
 use Rattle.command_line.specs.declared.plans.PlanFault.{PlanFault}
@@ -108,7 +108,7 @@ whatever_is_strict Q words input files holds =
     (λ plan samples strict. if_any (known_sources plan input files) (λ sources. has_strict_fault plan.options sources ≡ true → Q) (λ sources faulty. holds))
 
 -- words without a fault ask for no help
-pub no_help : {A : Type 0} (bytes : A → List ℕ) (words : List A) (f : PlanFault) → (length words ≡ 0 → ⊥) → IsFaultAmong (fault_of command_line (map bytes words)) f → asked_faults (map bytes words) ≡ [] → IsHelp f → ⊥
-no_help bytes words f some among faultless help =
-    let asks = asks_if_help bytes words f some among help in
+pub no_help : (words : List Text) (f : PlanFault) → IsFaultAmong (asked_faults words) f → asked_faults words ≡ [] → IsHelp f → ⊥
+no_help words f among faultless help =
+    let asks = asks_if_help words f among help in
     subst (IsAmong asks.0) faultless asks.1

@@ -1,4 +1,4 @@
--- All that is promised of what a run leaves on its outlets: the clauses of `run` and of `live`, one beside the other.
+-- All that is promised of what a run leaves on its outlets: what `run` promises, and beside it what `live` does.
 use Rattle.std.specs.Prelude.{◌≡◌, ◌≢◌, ◌≤◌, ◌<◌, ◌⊎◌, ℕ, Bool, true, false, List, [], Option, None, IfSome, IsSome, IsSomeAnd, length}
 use Rattle.std.specs.Io.KnownBytes.{Appends, Keeps}
 use Rattle.std.specs.List.{list_any}
@@ -60,21 +60,27 @@ change held_before held_after failed_before failed_after = record {
   failed_after = failed_after;
 }
 
--- the clauses of `run`, which answered this status
+-- what is promised of `run`, which had these words, files and outlets, and answered this status: for each status what the output gained,
+-- why, and what standard error was told. All is over bytes that are known. Where it is said that `err` gained something, a call of it may
+-- have failed instead
 pub record RunShows (words : List Text) (files : KnownFiles) (answer : ℕ) (out err : Change) (is_flushed : Type 0) : Type 0 where
   pub status : (HasLimit words → ⊥) → answer ≤ 3
   pub status_with_limit : answer ≤ 4
   pub no_words : length words ≡ 0 → answer ≢ 2
+  -- 0 means that what was written was flushed too. No call of the output failed but where 3 is answered
   pub flushed : answer ≡ 0 → is_flushed
   pub flushed_grown : answer ≡ 4 → is_flushed
   pub unfailed : answer ≢ 3 → out.failed_after ≡ out.failed_before
+  -- without words 0 is success: the input has no fault, and its whole fold text went out. 1 is a fault of it, and 3 leaves a front
   pub clean : length words ≡ 0 → answer ≡ 0 → IfSome files.input (λ input. IsClean (read_folded input).ending)
   pub text : length words ≡ 0 → answer ≡ 0 → IfSome files.input (λ input.
       Appends out.held_before out.held_after (text_of input))
   pub fault : length words ≡ 0 → answer ≡ 1 → IfSome files.input (λ input. IsFault (read_folded input).ending)
+  -- 1 is a fault of a source, and 2 are words that are refused or more than 64 files: nothing is written
   pub unwritten : answer ≡ 1 → Keeps out.held_before out.held_after
   pub refused : answer ≡ 2 → Keeps out.held_before out.held_after
   pub front : length words ≡ 0 → answer ≡ 3 → IfSome files.input (λ input. GainsFront input out.held_before out.held_after)
+  -- 0 is success: the words ask for help, or they have a plan, its sources have no fault, and the text that it asks for went out
   pub shown : answer ≡ 0 → AsksForHelp words ⊎ IsSomeAnd (asked_plan words) (λ plan.
       IfSome (known_rests plan files.input files.named)
       (Shows plan (known_facts plan files.input files.named) out.held_before out.held_after))
@@ -82,10 +88,12 @@ pub record RunShows (words : List Text) (files : KnownFiles) (answer : ℕ) (out
       → IsOrderless plan.view plan.options.every → IsOfSamples plan.view →
       IfSome (known_rests plan files.input files.named) (λ rests.
       Appends out.held_before out.held_after (view_text plan.view (lists_of rests) [] None)))
+  -- tables of functions also say the type and the unit of the weights, and what all samples weigh where some are left out
   pub shown_with_facts : answer ≡ 0 → AsksForHelp words ⊎ IsSomeAnd (asked_plan words) (λ plan. plan.form ≡ form.Text
       → IsOrderless plan.view plan.options.every → IfSome (known_facts plan files.input files.named) (λ facts.
       IfSome (known_rests plan files.input files.named) (λ rests.
       Appends out.held_before out.held_after (told_text (told_in plan facts (lists_of rests)) plan.view (lists_of rests) [] None))))
+  -- of a page without snapshots no order of the samples is left, of a picture none at all
   pub shown_page : answer ≡ 0 → AsksForHelp words ⊎ IsSomeAnd (asked_plan words) (λ plan. (page : PageForm)
       → plan.form ≡ form.Page page → IsOrderless plan.view plan.options.every →
       IfSome (known_facts plan files.input files.named) (λ facts.
@@ -95,6 +103,7 @@ pub record RunShows (words : List Text) (files : KnownFiles) (answer : ℕ) (out
       → plan.form ≡ form.Picture picture → IfSome (known_facts plan files.input files.named) (λ facts.
       IfSome (known_rests plan files.input files.named) (λ rests.
       Appends out.held_before out.held_after (picture_text plan facts picture (lists_of rests)))))
+  -- nor of the callers of a function, of its callees, and of both
   pub shown_callers : answer ≡ 0 → AsksForHelp words ⊎ IsSomeAnd (asked_plan words) (λ plan. (table : CallTable)
       → plan.form ≡ form.Callers table → IfSome (known_facts plan files.input files.named) (λ facts.
       IfSome (known_rests plan files.input files.named) (λ rests.
@@ -107,21 +116,27 @@ pub record RunShows (words : List Text) (files : KnownFiles) (answer : ℕ) (out
       → plan.form ≡ form.Peek table → IfSome (known_facts plan files.input files.named) (λ facts.
       IfSome (known_rests plan files.input files.named) (λ rests.
       Appends out.held_before out.held_after (peeked_text table plan facts (lists_of rests)))))
+  -- 1 is a fault of a source, 2 are words that are refused or more than 64 files
   pub faulty : answer ≡ 1 → IsSomeAnd (asked_plan words) (λ plan. IfSome (known_rests plan files.input files.named)
       (HasPlainFault plan))
   pub blamed : answer ≡ 2 → AreRefused words ⊎ IsSomeAnd (asked_plan words) (λ plan. 64 < length plan.files)
+  -- 0 and 1 never come of words with a fault, or of more than 64 files, and 1 not of a wish for help
   pub accepted : answer ≤ 1 → AsksForHelp words ⊎ ((asked_faults words ≡ [])
       × IsSomeAnd (asked_plan words) (λ plan. length plan.files ≤ 64))
   pub followed : answer ≡ 1 → asked_faults words ≡ []
+  -- 3 leaves nothing or a part of the text from its front; nothing for words with a fault that don't ask for help
   pub partly : answer ≡ 3 → Keeps out.held_before out.held_after ⊎ (AsksForHelp words ⊎ IsSomeAnd (asked_plan words) (λ plan.
       IfSome (known_rests plan files.input files.named)
       (ShowsFront plan (known_facts plan files.input files.named) out.held_before out.held_after)))
   pub partly_followed : answer ≡ 3 → Keeps out.held_before out.held_after ⊎ (AsksForHelp words ⊎ ((asked_faults words ≡ [])
       × IsSomeAnd (asked_plan words) (λ plan. IfSome (known_rests plan files.input files.named)
       (ShowsFront plan (known_facts plan files.input files.named) out.held_before out.held_after))))
+  -- a fault of a source ends the run before the output is touched: with 1, or with 3 where the run failed before it was collected
   pub untouched : asked_faults words ≡ [] → IfSome (asked_plan words) (λ plan. ShowsSamples plan.form →
       IfSome (known_rests plan files.input files.named) (λ rests. HasFault rests →
       FailsUntouched answer out.held_before out.held_after out.failed_before out.failed_after))
+  -- where nothing may be a terminal: at 0 and 1 `err` gained what is said of each source, in order: its fault, or how many of its lines were
+  -- ignored; of words that ask for strictness what is wrong with it, and at 4 the functions that grew, behind what is said of the sources
   pub told : files.may_have_terminal ≡ false → answer ≤ 1 → AsksForHelp words
       ⊎ IsSomeAnd (asked_plan words) (λ plan. ShowsSamples plan.form → plan.is_strict ≡ false →
       IfSome (known_endings plan files.input files.named)
@@ -131,18 +146,23 @@ pub record RunShows (words : List Text) (files : KnownFiles) (answer : ℕ) (out
       IfSome (known_sources plan files.input files.named) (TellsSources plan err.held_before err.held_after err.failed_before err.failed_after))
   pub told_grown : files.may_have_terminal ≡ false → answer ≡ 4 → IsSomeAnd (asked_plan words) (λ plan. ShowsSamples plan.form →
       IfSome (known_sources plan files.input files.named) (TellsGrown plan err.held_before err.held_after err.failed_before err.failed_after))
+  -- where sample types are asked for it gained nothing at 0, and the fault of the profile at 1
   pub told_types : files.may_have_terminal ≡ false → answer ≡ 0 → AsksForHelp words
       ⊎ IsSomeAnd (asked_plan words) (λ plan. plan.form ≡ form.Types → Tells [] err.held_before err.held_after err.failed_before err.failed_after)
   pub told_types_fault : files.may_have_terminal ≡ false → answer ≡ 1 → IsSomeAnd (asked_plan words) (λ plan. plan.form ≡ form.Types →
       IfSome (known_profile plan files.named) (TellsProfile plan.files err.held_before err.held_after err.failed_before err.failed_after))
+  -- at 3 it gained the message of a failure that has this status, alone, or behind all that is said of the sources
   pub told_failure : files.may_have_terminal ≡ false → answer ≡ 3 → TellsFailure [] [] err.held_before err.held_after err.failed_before err.failed_after
       ⊎ IsSomeAnd (asked_plan words) (λ plan. TellsFailure plan.files [] err.held_before err.held_after err.failed_before err.failed_after
       ⊎ (ShowsSamples plan.form × IfSome (known_sources plan files.input files.named) (λ sources.
       TellsFailure plan.files (said_of_sources plan sources) err.held_before err.held_after err.failed_before err.failed_after)))
+  -- at 2 it gained the whole text of a refusal of the words, or, where nothing may be a terminal, that there are too many files
   pub told_refused : answer ≡ 2 →
       TellsRefusal (asked_faults words) err.held_before err.held_after err.failed_before err.failed_after
       ⊎ IsSomeAnd (asked_plan words)
       (TellsMany files.may_have_terminal err.held_before err.held_after err.failed_before err.failed_after)
+  -- where the words ask for it, a line that is ignored and a source without a sample are faults, too: 0 and 4 mean that no source has one, 1
+  -- that one has, and such a fault leaves the output untouched
   pub strict : answer ≡ 0 → AsksForHelp words ⊎ IsSomeAnd (asked_plan words) (λ plan. ShowsSamples plan.form
       → plan.is_strict ≡ true →
       IfSome (known_sources plan files.input files.named) (λ sources. has_strict_fault plan.options sources ≡ false))
@@ -153,12 +173,16 @@ pub record RunShows (words : List Text) (files : KnownFiles) (answer : ℕ) (out
       FailsUntouched answer out.held_before out.held_after out.failed_before out.failed_after))
   pub strict_grown : answer ≡ 4 → IsSomeAnd (asked_plan words) (λ plan. ShowsSamples plan.form → plan.is_strict ≡ true →
       IfSome (known_sources plan files.input files.named) (λ sources. has_strict_fault plan.options sources ≡ false))
+  -- 4 is success too, of words that set a limit: the text went out, and there are functions whose share of own weight grew by more than that.
+  -- At 0 there is none
   pub grown : answer ≡ 4 → IsSomeAnd (asked_plan words) (λ plan. IsSome (limit_of plan.view) ×
       IfSome (known_rests plan files.input files.named) (HasGrown plan) ×
       IfSome (known_rests plan files.input files.named)
       (Shows plan (known_facts plan files.input files.named) out.held_before out.held_after))
   pub not_grown : answer ≡ 0 → AsksForHelp words ⊎ IsSomeAnd (asked_plan words) (λ plan.
       IfSome (known_rests plan files.input files.named) (HasNotGrown plan))
+  -- the same of the sample types of a profile: 0 is their text, 1 is a fault of the profile before its samples, and 3 leaves nothing or a
+  -- part of the text from its front
   pub types : answer ≡ 0 → AsksForHelp words ⊎ IsSomeAnd (asked_plan words) (λ plan. plan.form ≡ form.Types →
       IfSome (known_profile plan files.named) (ShowsTypes out.held_before out.held_after))
   pub types_faulty : answer ≡ 1 → IsSomeAnd (asked_plan words) (λ plan. plan.form ≡ form.Types →
@@ -170,27 +194,38 @@ pub record RunShows (words : List Text) (files : KnownFiles) (answer : ℕ) (out
       IfSome (known_profile plan files.named) (λ profile. HasTableFault profile →
       FailsUntouched answer out.held_before out.held_after out.failed_before out.failed_after))
 
--- the clauses of `live`, on a terminal or not
+-- what is promised of `live`, which had this plan, and wrote to a terminal or not
 pub record LiveShows (is_terminal : Bool) (plan : Plan) (streams : KnownStreams) (answer : ℕ) (out err : Change) (is_flushed : Type 0) : Type 0 where
   pub status : answer ≤ 3
+  -- 0 and 1 mean that what was written was flushed, too, and that no call of the output failed
   pub flushed : answer ≤ 1 → is_flushed
   pub unfailed : answer ≢ 3 → out.failed_after ≡ out.failed_before
+  -- 0 says that no stream has a fault, and that what is written of all their samples went out. Where the plan is strict a line that is
+  -- ignored is a fault, which ends its stream, and so is that there is no sample
   pub shown : answer ≡ 0 → IfSome (known_texts plan.files streams.input streams.named) (λ texts. AreFaultless plan.is_strict texts
       × ShowsAllOf (live_texts is_terminal plan) out.held_before out.held_after (read_texts plan.is_strict texts))
+  -- 1 says that one has a fault; what is written of all samples before it and of those of the others went out, too
   pub faulty : answer ≡ 1 → IfSome (known_texts plan.files streams.input streams.named) (λ texts. HasTextFault plan.is_strict texts
       × ShowsAllOf (live_texts is_terminal plan) out.held_before out.held_after (read_texts plan.is_strict texts))
   pub many : answer ≡ 2 → 64 < length plan.files
   pub few : answer ≢ 2 → length plan.files ≤ 64
   pub refused : answer ≡ 2 → Keeps out.held_before out.held_after
+  -- 3 leaves what is written of first samples of each source, or a front of it, or of some samples of these sources where it isn't known
+  -- whether all of one was received
   pub front : answer ≡ 3 → IfSome (known_texts plan.files streams.input streams.named) (λ texts.
       ShowsFirstOf (live_texts is_terminal plan) out.held_before out.held_after (read_texts plan.is_strict texts)
       ⊎ ShowsSomeOf (live_texts is_terminal plan) out.held_before out.held_after (length texts))
+  -- where a file is known to be absent, nothing is written
   pub absent : list_any streams.is_absent plan.files ≡ true →
       FailsUntouched answer out.held_before out.held_after out.failed_before out.failed_after
+  -- where the input is no terminal: at 0 and 1 `err` gained exactly what there is to say of each stream, in order, its fault or its ignored
+  -- lines; or a call of it failed. At 2 that there are too many files, wherever the input comes from
   pub told : answer ≤ 1 → streams.may_have_terminal ≡ false → IfSome (known_texts plan.files streams.input streams.named)
       (TellsStreams plan err.held_before err.held_after err.failed_before err.failed_after)
   pub told_many : answer ≡ 2 → Tells (message_of_failure plan.files TooManyFiles)
       err.held_before err.held_after err.failed_before err.failed_after
+  -- at 3 exactly why: alone where a stream can't be opened or not all was collected, and else where a stream can't be read to its end in the
+  -- place of what there is to say of it, or that the output failed behind what there is to say of all streams
   pub told_failure : answer ≡ 3 → streams.may_have_terminal ≡ false → TellsLiveFailure plan (known_texts plan.files streams.input streams.named)
       err.held_before err.held_after err.failed_before err.failed_after
   pub told_absent : list_any streams.is_absent plan.files ≡ true → TellsSuch (IsOfFailure (IsUnopened streams.is_absent streams.named plan.files) plan.files)

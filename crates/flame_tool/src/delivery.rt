@@ -1,9 +1,8 @@
 //! A run that writes where its words want it to.
-ghost use Rattle.std.specs.Prelude.{◌≡◌, ◌≤◌, ◌⊎◌, ◌&&◌, Bool, true, false, [], Some, IfOk, IfSome, IsSome, OnErr, map, string_bytes};
+ghost use Rattle.std.specs.Prelude.{◌≡◌, ◌⊎◌, ◌&&◌, Bool, true, false, [], Some, IfOk, IfSome, IsSome, OnErr, map, string_bytes};
 ghost use Rattle.command_line.specs.Destinations.{destination_of};
-ghost use Rattle.command_line.specs.Plans.{IsOfStreams};
 ghost use Rattle.flame_tool.specs.Delivery.{IfFile, IfPages, IfStandard, Ran, WrotePages, delivered, is_whole_live, is_whole_run};
-ghost use Rattle.flame_tool.specs.KnownRuns.{LiveShows, RunShows, as_files, as_streams, change};
+ghost use Rattle.flame_tool.specs.KnownRuns.{as_files, as_streams, change};
 
 use crate::live_run::{asked_live, live, live_plan};
 use crate::program::run;
@@ -208,7 +207,7 @@ fn deliver_pages<T: Threads + Wait + Copy + Send + 'static, S: Streams, D: Outpu
         return output_failed(err);
     };
     let mut out = CountedWriter::new(file);
-    let status = live_shown(rt, alloc, false, &plan, streams, &mut out, err);
+    let status = live(rt, alloc, false, &plan, streams, &mut out, err);
     let RenewedFile {
         outputs,
         renewal,
@@ -287,50 +286,9 @@ fn run_asked<T: Threads + Wait + Copy + Send + 'static, F: Files + Streams, W: O
 {
     match asked_live(alloc, words.as_slice())? {
         Some(plan) => {
-            let status = live_shown(rt, alloc, is_terminal, &plan, files, out, err);
+            let status = live(rt, alloc, is_terminal, &plan, files, out, err);
             Ok(Ended::of_live(status))
         }
-        None => Ok(Ended::of_run(run_shown(rt, alloc, words, files, out, err))),
+        None => Ok(Ended::of_run(run(rt, alloc, words, files, out, err))),
     }
-}
-
-// `run`, with its clauses in one.
-fn run_shown<T: Threads + Wait + Copy + Send + 'static, F: Files, W: Outlet, E: Outlet>(
-    rt: &T,
-    alloc: Global,
-    words: Vec<String>,
-    files: &mut F,
-    out: &mut W,
-    err: &mut E,
-) -> u8
-    ensures { RunShows (map string_bytes words.items)
-        (as_files (F.known_input files.old) (F.known_file files.old) F.may_have_terminal)
-        result
-        (change (W.contents out.old) (W.contents out.new) (W.failures out.old) (W.failures out.new))
-        (change (E.contents err.old) (E.contents err.new) (E.failures err.old) (E.failures err.new))
-        (W.is_flushed out.new) }
-{
-    run(rt, alloc, words, files, out, err)
-}
-
-// `live`, with its clauses in one.
-fn live_shown<T: Threads + Wait + Copy + Send + 'static, S: Streams, W: Outlet, E: Outlet>(
-    rt: &T,
-    alloc: Global,
-    is_terminal: bool,
-    plan: &Plan,
-    streams: &mut S,
-    out: &mut W,
-    err: &mut E,
-) -> u8
-    requires live { IsOfStreams plan.now }
-    requires every { IfSome plan.now.options.every (λ every. 1 ≤ every) }
-    ensures { LiveShows is_terminal plan.now
-        (as_streams (S.known_input streams.old) (S.known_file streams.old) (S.is_absent streams.old) S.may_have_terminal)
-        result
-        (change (W.contents out.old) (W.contents out.new) (W.failures out.old) (W.failures out.new))
-        (change (E.contents err.old) (E.contents err.new) (E.failures err.old) (E.failures err.new))
-        (W.is_flushed out.new) }
-{
-    live(rt, alloc, is_terminal, plan, streams, out, err)
 }

@@ -1,12 +1,13 @@
 //! A run over streams: its lines are written while their samples come.
-ghost use Rattle.std.specs.Prelude.{◌≡◌, ◌≢◌, ◌≤◌, ◌<◌, ◌⊎◌, false, true, Some, IfErr, IfOk, IfSome, IsErrAnd, length, map, string_bytes};
+ghost use Rattle.std.specs.Prelude.{◌≡◌, ◌≢◌, ◌≤◌, ◌<◌, false, true, Some, IfErr, IfOk, IfSome, IsErrAnd, length, map, string_bytes};
 ghost use Rattle.std.specs.List.{list_any};
 ghost use Rattle.std.specs.Io.KnownBytes.{Keeps};
 ghost use Rattle.command_line.specs.Plans.{IsOfStreams, plan_of};
-ghost use Rattle.opened_sources.specs.Messages.{Tells, message_of_failure};
-ghost use Rattle.flame_tool.specs.LiveRuns.{AreFaultless, HasTextFault, ShowsAllOf, ShowsFirstOf, ShowsSomeOf, known_texts, live_texts, read_texts};
+ghost use Rattle.opened_sources.specs.Messages.{Tells};
+ghost use Rattle.flame_tool.specs.KnownRuns.{LiveShows, as_streams, change};
+ghost use Rattle.flame_tool.specs.LiveRuns.{known_texts};
 ghost use Rattle.flame_tool.specs.Runs.{FailsUntouched};
-ghost use Rattle.flame_tool.specs.ToldLive.{IsOfFailure, IsUnopened, TellsLiveFailure, TellsStreams, TellsSuch};
+ghost use Rattle.flame_tool.specs.ToldLive.{IsUnopened};
 ghost use Rattle.flame_tool.specs.checked.LiveEnds.{TellsTexts, live_status};
 ghost use Rattle.flame_tool.specs.checked.LivePlans.{IsLivePlan};
 ghost use Rattle.flame_tool.specs.checked.LiveSaying.{SaidFirst, SaidOfEnds, SaidOfLost};
@@ -44,57 +45,12 @@ pub fn live<T: Threads + Wait + Copy + Send + 'static, S: Streams, W: Outlet, E:
 ) -> u8
     requires live { IsOfStreams plan.now }
     requires every { IfSome plan.now.options.every (λ every. 1 ≤ every) }
-    ensures status { result ≤ 3 }
-
-    // 0 and 1 mean that what was written was flushed, too, and that no call of the output failed.
-    ensures flushed { result ≤ 1 → W.is_flushed out.new }
-    ensures unfailed { result ≢ 3 → W.failures out.new ≡ W.failures out.old }
-
-    // Over streams whose bytes are known, 0 says that none of them has a fault, and that what is written of all their samples went out.
-    // Where the plan is strict a line that is ignored is a fault, which ends its stream, and so is that there is no sample.
-    ensures shown { result ≡ 0 → IfSome (known_texts plan.now.files (S.known_input streams.old)
-        (S.known_file streams.old)) (λ texts.
-        AreFaultless plan.now.is_strict texts
-        × ShowsAllOf (live_texts is_terminal plan.now) (W.contents out.old) (W.contents out.new) (read_texts plan.now.is_strict texts)) }
-
-    // 1 says that one has a fault; what is written of all samples before it and of those of the others went out, too.
-    ensures faulty { result ≡ 1 → IfSome (known_texts plan.now.files (S.known_input streams.old)
-        (S.known_file streams.old)) (λ texts. HasTextFault plan.now.is_strict texts
-        × ShowsAllOf (live_texts is_terminal plan.now) (W.contents out.old) (W.contents out.new) (read_texts plan.now.is_strict texts)) }
-    ensures many { result ≡ 2 → 64 < length plan.now.files }
-    ensures few { result ≢ 2 → length plan.now.files ≤ 64 }
-    ensures refused { result ≡ 2 → Keeps (W.contents out.old) (W.contents out.new) }
-
-    // 3 leaves what is written of first samples of each source, or a front of it, or of some samples of these sources where it isn't
-    // known whether all of one was received.
-    ensures front { result ≡ 3 → IfSome (known_texts plan.now.files (S.known_input streams.old)
-        (S.known_file streams.old)) (λ texts.
-        ShowsFirstOf (live_texts is_terminal plan.now) (W.contents out.old) (W.contents out.new) (read_texts plan.now.is_strict texts)
-        ⊎ ShowsSomeOf (live_texts is_terminal plan.now) (W.contents out.old) (W.contents out.new) (length texts)) }
-
-    // Where a file is known to be absent, nothing is written.
-    ensures absent { list_any (S.is_absent streams.old) plan.now.files ≡ true
-        → FailsUntouched result (W.contents out.old) (W.contents out.new)
-        (W.failures out.old) (W.failures out.new) }
-
-    // Where the input is no terminal: at 0 and 1 `err` gained exactly what there is to say of each stream, in order, its fault or its
-    // ignored lines; or a call of it failed. At 2 that there are too many files, wherever the input comes from.
-    ensures told { result ≤ 1 → S.may_have_terminal ≡ false
-        → IfSome (known_texts plan.now.files (S.known_input streams.old) (S.known_file streams.old))
-        (TellsStreams plan.now
-        (E.contents err.old) (E.contents err.new) (E.failures err.old) (E.failures err.new)) }
-    ensures told_many { result ≡ 2 → Tells (message_of_failure plan.now.files Failure.TooManyFiles)
-        (E.contents err.old) (E.contents err.new) (E.failures err.old) (E.failures err.new) }
-
-    // At 3 exactly why: alone where a stream can't be opened or not all was collected, and else where a stream can't be read to its end
-    // in the place of what there is to say of it, or that the output failed behind what there is to say of all streams.
-    ensures told_failure { result ≡ 3 → S.may_have_terminal ≡ false → TellsLiveFailure plan.now
-        (known_texts plan.now.files (S.known_input streams.old) (S.known_file streams.old))
-        (E.contents err.old) (E.contents err.new) (E.failures err.old) (E.failures err.new) }
-    ensures told_absent { list_any (S.is_absent streams.old) plan.now.files ≡ true
-        → TellsSuch (IsOfFailure (IsUnopened (S.is_absent streams.old) (S.known_file streams.old) plan.now.files)
-        plan.now.files)
-        (E.contents err.old) (E.contents err.new) (E.failures err.old) (E.failures err.new) }
+    // All that a status says, and what standard error gained then: `LiveShows` of `specs/KnownRuns.antt`.
+    ensures { LiveShows is_terminal plan.now
+        (as_streams (S.known_input streams.old) (S.known_file streams.old) (S.is_absent streams.old) S.may_have_terminal) result
+        (change (W.contents out.old) (W.contents out.new) (W.failures out.old) (W.failures out.new))
+        (change (E.contents err.old) (E.contents err.new) (E.failures err.old) (E.failures err.new))
+        (W.is_flushed out.new) }
 {
     let host = Host { rt, alloc };
     let paths = plan.files.get();

@@ -6,7 +6,7 @@ use Rattle.flame_tool.proofs.delivery.deliver_pages.Goals as goal
 
 pub returns-then-close_renewal : goal.returns-then-close_renewal
 returns-then-close_renewal g c =
-    let shown = c.live_shown-status in
+    let shown = c.live-status in
     let streams = c.args.streams.now in
     let begun = c.new-out.result.writer in
     let left = shown.new.out.writer in

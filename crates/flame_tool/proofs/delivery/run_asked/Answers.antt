@@ -8,12 +8,12 @@ use Rattle.flame_tool.proofs.delivery.run_asked.Goals as goal
 of_some : {A : Type 0} (found : Option A) (value : A) (P : A → Type 0) → IfSome found P → found ≡ Some value → P value
 of_some found value P holds is = subst (λ found. IfSome found P) is holds
 
-pub live_shown-status-requires-clause-live : goal.live_shown-status-requires-clause-live
-live_shown-status-requires-clause-live g c =
+pub live-status-requires-clause-live : goal.live-status-requires-clause-live
+live-status-requires-clause-live g c =
     λ κs lives. (of_some _ _ (IsLivePlan (map string_bytes c.as_slice.result.now)) c.in_ok-plan.ensures c.in-Some.is).streams
 
-pub live_shown-status-requires-clause-every : goal.live_shown-status-requires-clause-every
-live_shown-status-requires-clause-every g c =
+pub live-status-requires-clause-every : goal.live-status-requires-clause-every
+live-status-requires-clause-every g c =
     λ κs lives. (of_some _ _ (IsLivePlan (map string_bytes c.as_slice.result.now)) c.in_ok-plan.ensures c.in-Some.is).every
 
 pub returns-in-Some-clause-ran : goal.returns-in-Some-clause-ran
@@ -22,6 +22,6 @@ returns-in-Some-clause-ran g c =
       plan = c.in-Some.plan;
       asked = ap (λ words. plan_of (map string_bytes words)) (sym c.as_slice.ensures.value) ∙ found.asked;
       live = found.live;
-      shows = rw c.of_live.ensures.status c.live_shown-status.ensures;
+      shows = rw c.of_live.ensures.status c.live-status.ensures;
       whole = c.of_live.ensures.whole ∙ ap is_whole_live (sym c.of_live.ensures.status);
     })
