@@ -1,6 +1,6 @@
-use Rattle.std.proofs.Common.{arith, ◌≡◌, ◌∙◌, ap, inl, inr, length, map, string_bytes, subst, sym, Some, true, false, []}
-use Rattle.command_line.specs.Plans.{IsFaultAmong}
-use Rattle.flame_tool.specs.Requests.{asked_faults, asked_plan}
+use Rattle.std.proofs.Common.{arith, ◌≡◌, ◌≤◌, ◌∙◌, ap, inl, inr, length, map, string_bytes, subst, sym, Some, true, false, []}
+use Rattle.command_line.specs.Plans.{IsFaultAmong, default_plan}
+use Rattle.flame_tool.specs.Requests.{AsksForHelp, asked_faults, asked_plan}
 use Rattle.flame_tool.proofs.RunEndings.{accepted, are_refused, asked_callees, asked_callers, asked_exactly, asked_faulty, asked_grown, asked_many, asked_not_grown, asked_page, asked_partly, asked_peek, asked_shown, asked_svg, asked_types, asked_types_faulty, asked_types_partly, asked_types_untouched, asked_untouched, asked_with_facts, asks_if_help, default_is, input_clean, input_fault, input_front, input_text, one_input, partly_by_plan, partly_help, within_three}
 use Rattle.flame_tool.proofs.StrictEndings.{asked_strict, asked_strict_untouched}
 use Rattle.flame_tool.proofs.SaidSources.{asked_told_failure, asked_told_grown, asked_told_strict, asked_told_types, asked_told_types_fault, failure_told, loose_endings}
@@ -17,19 +17,20 @@ returns-in-Ok g c =
     let faultless : asked_faults words ≡ [] = ap (λ words. asked_faults (map string_bytes words)) (sym c.as_slice.ensures.value) ∙ c.in-Ok.ensures.taken in
     let input = g.F.Files.known_input c.args.files.now in
     let files = g.F.Files.known_file c.args.files.now in
+    let is_default : length words ≡ 0 → plan ≡ default_plan = λ none. default_is words plan none asked in
     let ran = c.run_plan.ensures in record {
       status = within_three words plan _ asked ran.status ran.limit;
       status_with_limit = ran.status;
-      no_words = λ none two. one_input plan (default_is words plan none asked) (ran.many two);
+      no_words = λ none two. one_input plan (is_default none) (ran.many two);
       flushed = ran.flushed;
       flushed_grown = ran.flushed_grown;
       unfailed = ran.unfailed;
-      clean = λ none zero. input_clean input files _ _ plan (default_is words plan none asked) (ran.shown zero);
-      text = λ none zero. input_text input files _ _ plan (default_is words plan none asked) (ran.shown zero);
-      fault = λ none one. input_fault input files input input plan (default_is words plan none asked) (ran.faulty one);
+      clean = λ none zero. input_clean input files _ _ plan (is_default none) (ran.shown zero);
+      text = λ none zero. input_text input files _ _ plan (is_default none) (ran.shown zero);
+      fault = λ none one. input_fault input files input input plan (is_default none) (ran.faulty one);
       unwritten = ran.unwritten;
       refused = ran.refused;
-      front = λ none three. input_front input files _ _ plan (default_is words plan none asked) (ran.front three);
+      front = λ none three. input_front input files _ _ plan (is_default none) (ran.front three);
       shown = λ zero. inr (asked_shown words plan asked input files _ _ (ran.shown zero));
       shown_exactly = λ zero. inr (asked_exactly words plan input files _ _ asked (ran.shown zero));
       shown_with_facts = λ zero. inr (asked_with_facts words plan input files _ _ asked (ran.shown zero));
@@ -72,7 +73,8 @@ returns g c =
     let is_words : map string_bytes c.as_slice.result.now ≡ words = ap (map string_bytes) c.as_slice.ensures.value in
     let some : length words ≡ 0 → ⊥ = subst (λ words. length words ≡ 0 → ⊥) is_words c.in-Err.ensures.worded in
     let among : IsFaultAmong (asked_faults words) fault = subst (λ words. IsFaultAmong (asked_faults words) fault) is_words c.in-Err.ensures.refused in
-    let refused = c.refuse.ensures in record {
+    let refused = c.refuse.ensures in
+    let helps : c.refuse.result ≤ 1 → AsksForHelp words = λ low. asks_if_help words fault among (refused.help low) in record {
       status = λ _. refused.status;
       status_with_limit = omega (arith, refused.status);
       no_words = λ none. absurd (some none);
@@ -85,35 +87,35 @@ returns g c =
       unwritten = λ one. absurd (refused.no_fault one);
       refused = refused.refused;
       front = λ none. absurd (some none);
-      shown = λ zero. inl (asks_if_help words fault among (refused.help (omega (arith, zero))));
-      shown_exactly = λ zero. inl (asks_if_help words fault among (refused.help (omega (arith, zero))));
-      shown_with_facts = λ zero. inl (asks_if_help words fault among (refused.help (omega (arith, zero))));
-      shown_page = λ zero. inl (asks_if_help words fault among (refused.help (omega (arith, zero))));
-      shown_svg = λ zero. inl (asks_if_help words fault among (refused.help (omega (arith, zero))));
-      shown_callers = λ zero. inl (asks_if_help words fault among (refused.help (omega (arith, zero))));
-      shown_callees = λ zero. inl (asks_if_help words fault among (refused.help (omega (arith, zero))));
-      shown_peek = λ zero. inl (asks_if_help words fault among (refused.help (omega (arith, zero))));
+      shown = λ zero. inl (helps (omega (arith, zero)));
+      shown_exactly = λ zero. inl (helps (omega (arith, zero)));
+      shown_with_facts = λ zero. inl (helps (omega (arith, zero)));
+      shown_page = λ zero. inl (helps (omega (arith, zero)));
+      shown_svg = λ zero. inl (helps (omega (arith, zero)));
+      shown_callers = λ zero. inl (helps (omega (arith, zero)));
+      shown_callees = λ zero. inl (helps (omega (arith, zero)));
+      shown_peek = λ zero. inl (helps (omega (arith, zero)));
       faulty = λ one. absurd (refused.no_fault one);
       blamed = λ two. inl (are_refused words fault among (refused.words two));
-      accepted = λ low. inl (asks_if_help words fault among (refused.help low));
+      accepted = λ low. inl (helps low);
       followed = λ one. absurd (refused.no_fault one);
       partly = λ three. partly_help words fault _ _ among (refused.front three);
       partly_followed = λ three. partly_help words fault _ _ among (refused.front three);
       untouched = λ faultless. whatever_is_read _ words (g.F.Files.known_file c.args.files.now) (refused.untouched (no_help words fault among faultless)) (g.F.Files.known_input c.args.files.now);
-      told = λ _ low. inl (asks_if_help words fault among (refused.help low));
-      told_strict = λ _ low. inl (asks_if_help words fault among (refused.help low));
+      told = λ _ low. inl (helps low);
+      told_strict = λ _ low. inl (helps low);
       told_grown = λ _ four. absurd (omega (arith, refused.status, four));
-      told_types = λ _ zero. inl (asks_if_help words fault among (refused.help (omega (arith, zero))));
+      told_types = λ _ zero. inl (helps (omega (arith, zero)));
       told_types_fault = λ _ one. absurd (refused.no_fault one);
       told_failure = λ _ three. inl (refused.told_failure three);
       told_refused = λ two. inl (told_refusal words fault among (refused.words two) _ _ _ _ (refused.told_words two));
-      strict = λ zero. inl (asks_if_help words fault among (refused.help (omega (arith, zero))));
+      strict = λ zero. inl (helps (omega (arith, zero)));
       strict_faulty = λ one. absurd (refused.no_fault one);
       strict_untouched = λ faultless. whatever_is_strict _ words (g.F.Files.known_input c.args.files.now) (g.F.Files.known_file c.args.files.now) (refused.untouched (no_help words fault among faultless));
       strict_grown = λ four. absurd (omega (arith, refused.status, four));
       grown = λ four. absurd (omega (arith, refused.status, four));
-      not_grown = λ zero. inl (asks_if_help words fault among (refused.help (omega (arith, zero))));
-      types = λ zero. inl (asks_if_help words fault among (refused.help (omega (arith, zero))));
+      not_grown = λ zero. inl (helps (omega (arith, zero)));
+      types = λ zero. inl (helps (omega (arith, zero)));
       types_faulty = λ one. absurd (refused.no_fault one);
       types_partly = λ three. partly_help words fault _ _ among (refused.front three);
       types_untouched = λ faultless. whatever_types_are_read _ words (g.F.Files.known_file c.args.files.now) (refused.untouched (no_help words fault among faultless));
