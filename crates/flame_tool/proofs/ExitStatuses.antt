@@ -1,10 +1,11 @@
 -- What an exit status says of a run that showed what was asked for, or failed.
-use Rattle.std.proofs.Common.{◌≡◌, ◌≢◌, ◌≤◌, ◌⊎◌, ℕ, Bool, true, false, List, Option, Result, Ok, Err, IfSome, IfErr, IfOk, OnOk, ap, refl, arith}
+use Rattle.std.proofs.Common.{◌≡◌, ◌≢◌, ◌≤◌, ◌⊎◌, ℕ, Bool, true, false, List, Option, Result, Ok, Err, IfSome, IfErr, IfOk, OnOk, ap, inl, inr, refl, arith}
 use Rattle.std.specs.Prelude.{IsErrOf}
 use Rattle.std.specs.Io.KnownBytes.{Keeps}
 use Rattle.stack_core.specs.Reading.{Rest}
 use Rattle.command_line.specs.declared.plans.Plan.{Plan}
 use Rattle.sent_views.specs.declared.run_facts.RunFacts.{RunFacts}
+use Rattle.flame_tool.specs.KnownRuns.{Succeeds}
 use Rattle.flame_tool.specs.Runs.{ShowsFront}
 use Rattle.flame_tool.specs.StrictRuns.{HasPlainFault}
 use Rattle.flame_tool.specs.TypeRuns.{HasTableFault, ShowsTypesFront}
@@ -75,18 +76,16 @@ status_within (Ok true) = omega arith
 status_within (Ok false) = omega arith
 status_within (Err failure) = omega (arith, at_most_three failure)
 
-pub at_zero : {P : Type 0} (shown : Result Bool Failure) → exit_status shown ≡ 0 → OnOk shown P → P
-at_zero (Ok true) zero holds = absurd (omega arith)
-at_zero (Ok false) zero holds = holds
-at_zero (Err failure) zero holds = absurd (not_zero failure zero)
-
 not_four : (failure : Failure) → status_of failure ≡ 4 → ⊥
 not_four failure four = omega (arith, at_most_three failure, four)
 
-pub at_four : {P : Type 0} (shown : Result Bool Failure) → exit_status shown ≡ 4 → OnOk shown P → P
-at_four (Ok true) four holds = holds
-at_four (Ok false) four holds = absurd (omega arith)
-at_four (Err failure) four holds = absurd (not_four failure four)
+no_success : {P : Type 0} (failure : Failure) → Succeeds (status_of failure) → P
+no_success failure (inl zero) = absurd (not_zero failure zero)
+no_success failure (inr four) = absurd (not_four failure four)
+
+pub at_success : {P : Type 0} (shown : Result Bool Failure) → Succeeds (exit_status shown) → OnOk shown P → P
+at_success (Ok done) success holds = holds
+at_success (Err failure) success holds = no_success failure success
 
 -- what is said of either answer
 pub of_answer : (P : Bool → Type 0) (shown : Result Bool Failure) → IfOk shown P → (exit_status shown ≡ 0 → P false) × (exit_status shown ≡ 4 → P true)
@@ -94,13 +93,9 @@ of_answer P (Ok true) holds = ((λ zero. absurd (omega arith)), (λ four. holds)
 of_answer P (Ok false) holds = ((λ zero. holds), (λ four. absurd (omega arith)))
 of_answer P (Err failure) holds = ((λ zero. absurd (not_zero failure zero)), (λ four. absurd (not_four failure four)))
 
-pub flushed_at_zero : {P : Type 0} (old new : ℕ) (shown : Result Bool Failure) → exit_status shown ≡ 0 → Flushes P old new shown → P
-flushed_at_zero old new (Ok done) zero flushes = flushes.0
-flushed_at_zero old new (Err failure) zero flushes = absurd (not_zero failure zero)
-
-pub flushed_at_four : {P : Type 0} (old new : ℕ) (shown : Result Bool Failure) → exit_status shown ≡ 4 → Flushes P old new shown → P
-flushed_at_four old new (Ok done) four flushes = flushes.0
-flushed_at_four old new (Err failure) four flushes = absurd (not_four failure four)
+pub flushed_at_success : {P : Type 0} (old new : ℕ) (shown : Result Bool Failure) → Succeeds (exit_status shown) → Flushes P old new shown → P
+flushed_at_success old new (Ok done) success flushes = flushes.0
+flushed_at_success old new (Err failure) success flushes = no_success failure success
 
 pub many_at_two : {P : Type 0} (shown : Result Bool Failure) → exit_status shown ≡ 2 → (IsErrOf shown TooManyFiles → P) → P
 many_at_two (Ok true) two many = absurd (omega arith)

@@ -129,7 +129,7 @@ module _ (plan : Plan) (old new : Option (List ℕ)) where
       (λ order. sym (orderless_page (asked_heading plan facts page (lists_of rests)) plan.view (lists_of rests) order plan.options.every orderless)) shows
 
   -- a form whose text has no order of the samples
-  form_exactly : (written : Form) (text : RunFacts → List (List Sample) → List ℕ) → ShowsSamples written
+  pub form_exactly : (written : Form) (text : RunFacts → List (List Sample) → List ℕ) → ShowsSamples written
       → ((facts : RunFacts) (lists : List (List Sample)) (order : List ℕ) → text_in written plan facts lists order plan.options.every ≡ text facts lists)
       → (told : Option RunFacts) (known : Option (List Rest)) → IfSome known (Shows plan told old new) → plan.form ≡ written
       → IfSome told (λ facts. IfSome known (λ rests. Appends old new (text facts (lists_of rests))))

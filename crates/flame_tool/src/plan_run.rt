@@ -1,17 +1,16 @@
 //! A run of a plan.
-ghost use Rattle.std.specs.Prelude.{◌≡◌, ◌≢◌, ◌≤◌, ◌<◌, ◌⊎◌, false, true, IfSome, IfErr, IsErrOf, OnOk, length, IfOk, IsSome};
-ghost use Rattle.std.specs.Io.KnownBytes.{Keeps};
+ghost use Rattle.std.specs.Prelude.{◌≡◌, ◌≢◌, ◌≤◌, ◌<◌, false, true, IfSome, IfErr, IsErrOf, OnOk, length, IfOk, IsSome};
 ghost use Rattle.command_line.specs.Plans.{IsComparison, IsOfOneProfile, limit_of};
 ghost use Rattle.flame_tool.specs.KnownFacts.{known_facts};
+ghost use Rattle.flame_tool.specs.KnownRuns.{PlanShows, as_files, change};
 ghost use Rattle.flame_tool.specs.Requests.{known_rests};
-ghost use Rattle.flame_tool.specs.Runs.{FailsUntouched, Shows, ShowsFront, ShowsSamples, HasFault, HasGrown, HasNotGrown};
-ghost use Rattle.flame_tool.specs.StrictRuns.{HasPlainFault, has_strict_fault, known_sources};
-ghost use Rattle.flame_tool.specs.TypeRuns.{known_profile, HasTableFault, ShowsTypes, ShowsTypesFront};
+ghost use Rattle.flame_tool.specs.Runs.{Shows, ShowsSamples};
+ghost use Rattle.flame_tool.specs.StrictRuns.{has_strict_fault, known_sources};
+ghost use Rattle.flame_tool.specs.TypeRuns.{known_profile, ShowsTypes};
 ghost use Rattle.flame_tool.specs.checked.TypeFailures.{FailsTypes};
 ghost use Rattle.flame_tool.specs.checked.Failures.{Fails, FailsStrictly, KeepsOutput, TellsGrowth};
-ghost use Rattle.flame_tool.specs.checked.Saying.{EndsOfSources, EndsOfTypes, SaidOfSources, SaidOfTypes};
+ghost use Rattle.flame_tool.specs.checked.Saying.{SaidOfSources, SaidOfTypes};
 ghost use Rattle.opened_sources.specs.Failures.{Flushes};
-ghost use Rattle.opened_sources.specs.Messages.{Tells, message_of_failure};
 
 use crate::advice::Advice;
 use crate::exits::end_run;
@@ -37,72 +36,11 @@ pub(crate) fn run_plan<T: Threads + Wait + Copy + Send + 'static, F: Files, W: O
     requires pairs { IsComparison plan.view → length plan.files ≡ 2 }
     requires every { IfSome plan.options.every (λ every. 1 ≤ every) }
     requires profile { plan.form ≡ Form.Types → IsOfOneProfile plan }
-    ensures status { result ≤ 4 }
-    ensures limit { result ≡ 4 → IsSome (limit_of plan.view) }
-    ensures grown { result ≡ 4
-        → IfSome (known_rests plan (F.known_input files.old) (F.known_file files.old)) (HasGrown plan) }
-    ensures not_grown { result ≡ 0
-        → IfSome (known_rests plan (F.known_input files.old) (F.known_file files.old)) (HasNotGrown plan) }
-    ensures shown_grown { result ≡ 4
-        → IfSome (known_rests plan (F.known_input files.old) (F.known_file files.old))
-        (Shows plan (known_facts plan (F.known_input files.old) (F.known_file files.old))
-        (W.contents out.old) (W.contents out.new)) }
-    ensures flushed_grown { result ≡ 4 → W.is_flushed out.new }
-    ensures shown { result ≡ 0
-        → IfSome (known_rests plan (F.known_input files.old) (F.known_file files.old))
-        (Shows plan (known_facts plan (F.known_input files.old) (F.known_file files.old))
-        (W.contents out.old) (W.contents out.new)) }
-    ensures faulty { result ≡ 1
-        → IfSome (known_rests plan (F.known_input files.old) (F.known_file files.old))
-        (HasPlainFault plan) }
-    ensures strict { result ≡ 0 → ShowsSamples plan.form → plan.is_strict ≡ true
-        → IfSome (known_sources plan (F.known_input files.old) (F.known_file files.old))
-        (λ sources. has_strict_fault plan.options sources ≡ false) }
-    ensures strict_faulty { result ≡ 1 → ShowsSamples plan.form → plan.is_strict ≡ true
-        → IfSome (known_sources plan (F.known_input files.old) (F.known_file files.old))
-        (λ sources. has_strict_fault plan.options sources ≡ true) }
-    ensures strict_grown { result ≡ 4 → ShowsSamples plan.form → plan.is_strict ≡ true
-        → IfSome (known_sources plan (F.known_input files.old) (F.known_file files.old))
-        (λ sources. has_strict_fault plan.options sources ≡ false) }
-    ensures strict_untouched { ShowsSamples plan.form → plan.is_strict ≡ true
-        → IfSome (known_sources plan (F.known_input files.old) (F.known_file files.old)) (λ sources.
-        has_strict_fault plan.options sources ≡ true → FailsUntouched result (W.contents out.old)
-        (W.contents out.new) (W.failures out.old) (W.failures out.new)) }
-    ensures says { F.may_have_terminal ≡ false → ShowsSamples plan.form → EndsOfSources
-        (E.contents err.old) (E.contents err.new) (E.failures err.old) (E.failures err.new)
-        plan (known_sources plan (F.known_input files.old) (F.known_file files.old)) result }
-    ensures says_types { F.may_have_terminal ≡ false → plan.form ≡ Form.Types → EndsOfTypes
-        (E.contents err.old) (E.contents err.new) (E.failures err.old) (E.failures err.new)
-        plan.files (known_profile plan (F.known_file files.old)) result }
-    ensures many { result ≡ 2 → 64 < length plan.files }
-    ensures few { result ≢ 2 → length plan.files ≤ 64 }
-    ensures told_many { F.may_have_terminal ≡ false → result ≡ 2
-        → Tells (message_of_failure plan.files Failure.TooManyFiles)
-        (E.contents err.old) (E.contents err.new) (E.failures err.old) (E.failures err.new) }
-    ensures front { result ≡ 3 → Keeps (W.contents out.old) (W.contents out.new)
-        ⊎ IfSome (known_rests plan (F.known_input files.old) (F.known_file files.old))
-        (ShowsFront plan (known_facts plan (F.known_input files.old) (F.known_file files.old))
-        (W.contents out.old) (W.contents out.new)) }
-    ensures types { result ≡ 0 → plan.form ≡ Form.Types
-        → IfSome (known_profile plan (F.known_file files.old))
-        (ShowsTypes (W.contents out.old) (W.contents out.new)) }
-    ensures types_faulty { result ≡ 1 → plan.form ≡ Form.Types
-        → IfSome (known_profile plan (F.known_file files.old)) HasTableFault }
-    ensures types_front { result ≡ 3 → Keeps (W.contents out.old) (W.contents out.new)
-        ⊎ (plan.form ≡ Form.Types → IfSome (known_profile plan (F.known_file files.old))
-        (ShowsTypesFront (W.contents out.old) (W.contents out.new))) }
-    ensures untouched { ShowsSamples plan.form
-        → IfSome (known_rests plan (F.known_input files.old) (F.known_file files.old)) (λ rests.
-        HasFault rests → FailsUntouched result (W.contents out.old) (W.contents out.new)
-        (W.failures out.old) (W.failures out.new)) }
-    ensures types_untouched { plan.form ≡ Form.Types
-        → IfSome (known_profile plan (F.known_file files.old)) (λ profile. HasTableFault profile
-        → FailsUntouched result (W.contents out.old) (W.contents out.new)
-        (W.failures out.old) (W.failures out.new)) }
-    ensures unwritten { result ≡ 1 → Keeps (W.contents out.old) (W.contents out.new) }
-    ensures refused { result ≡ 2 → Keeps (W.contents out.old) (W.contents out.new) }
-    ensures flushed { result ≡ 0 → W.is_flushed out.new }
-    ensures unfailed { result ≢ 3 → W.failures out.new ≡ W.failures out.old }
+    ensures { PlanShows plan
+        (as_files (F.known_input files.old) (F.known_file files.old) F.may_have_terminal) result
+        (change (W.contents out.old) (W.contents out.new) (W.failures out.old) (W.failures out.new))
+        (change (E.contents err.old) (E.contents err.new) (E.failures err.old) (E.failures err.new))
+        (W.is_flushed out.new) }
 {
     await_input(&plan, files, err);
     let shown = show_plan(host, &plan, files, out, err, words);
