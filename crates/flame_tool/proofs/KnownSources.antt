@@ -33,7 +33,6 @@ use Rattle.flame_tool.specs.Requests.{rest_of, rest_at, rest_in, rests_at, known
 use Rattle.sent_views.specs.Pages.{shown_text}
 use Rattle.flame_tool.specs.Runs.{IsClean, IsFault, lists_of, IsTextOf, Shows, HasFault}
 use Rattle.flame_tool.specs.StrictRuns.{has_strict_fault, known_sources}
-use Rattle.flame_tool.specs.ToldRuns.{known_endings}
 use Rattle.flame_tool.specs.checked.Wanted.{wanted_rests}
 use Rattle.flame_tool.specs.checked.Failures.{Fails, FailsToShow, TellsGrowth}
 use Rattle.flame_tool.proofs.StrictSources.{clean_sources}
@@ -113,16 +112,6 @@ module _ (plan : Plan) (input : Option (List ℕ)) (files : List ℕ → Option 
         | None ↦ λ _. tt
         | Some all ↦ λ holds. holds
       ] (bytes_known (λ all. P (Some (facts_of plan.options all)) (wanted_rests plan all)) holds))
-
--- what is known of how sources end
-pub endings_by_sources : (plan : Plan) (input : Option (List ℕ)) (files : List ℕ → Option (List ℕ)) (P : List SourceEnd → Type 0) → IfSome (known_sources plan input files) (λ all. P (map (λ rest. rest.ending) (asked_rests plan.options all)))
-    → IfSome (known_endings plan input files) P
-endings_by_sources plan input files P holds =
-    subst (λ rests. IfSome (option_map (λ rests. map (λ rest. rest.ending) rests) rests) P) (sym (rests_by_bytes plan.options plan.format plan.files input files))
-    (elim (known_sources plan input files) as (λ known. IfSome known (λ all. P (map (λ rest. rest.ending) (asked_rests plan.options all))) → IfSome (option_map (λ rests. map (λ rest. rest.ending) rests) (option_map (asked_rests plan.options) known)) P) [
-      | None ↦ λ _. tt
-      | Some all ↦ λ holds. holds
-    ] holds)
 
 -- what a clause says of what is known
 pub at_known : {A : Type 0} {known : Option A} (P : A → Type 0) (x : A) → known ≡ Some x → IfSome known P → P x

@@ -1,7 +1,6 @@
 -- How a run ends, by its words and by its plan.
-use Rattle.std.proofs.Common.{◌≡◌, ◌≢◌, ◌≤◌, ◌<◌, ◌⊎◌, inl, inr, ℕ, zero, suc, get_or, List, [], ◌∷◌, map, length, Option, Some, None, IfSome, true, ap, sym, ◌∙◌, subst, refl, arith, take, append-nil, ⊎_elim}
-use Rattle.std.specs.Prelude.{IsSomeAnd, IsSome}
-use Rattle.std.proofs.lemmas.Bool.{cases_lt}
+use Rattle.std.proofs.Common.{◌≡◌, ◌<◌, ◌⊎◌, inl, inr, ℕ, zero, suc, get_or, List, [], ◌∷◌, map, length, Option, Some, None, IfSome, true, ap, sym, ◌∙◌, subst, refl, arith, take, append-nil}
+use Rattle.std.specs.Prelude.{IsSomeAnd}
 use Rattle.std.specs.Io.KnownBytes.{Appends, Keeps}
 use Rattle.std.proofs.lemmas.Option.{same_Some}
 use Rattle.clap.specs.Kinds.{Kinds}
@@ -15,9 +14,7 @@ use Rattle.run_options.proofs.FilterLemmas.{all_is_kept}
 use Rattle.function_sums.specs.declared.call_sides.CallSide.TheVariants.{Callers, Callees}
 use Rattle.merging.specs.Sums.{all_samples}
 use Rattle.view_texts.specs.Fold.{fold_text}
-use Rattle.command_line.specs.Plans.{IsFaultAmong, default_plan, fault_of, limit_of}
-use Rattle.command_line.specs.declared.plans.PlanFault.{PlanFault}
-use Rattle.command_line.specs.declared.plans.PlanFault.TheVariants as fault
+use Rattle.command_line.specs.Plans.{default_plan, fault_of}
 use Rattle.command_line.specs.declared.plans.Form.{Form}
 use Rattle.command_line.specs.declared.plans.Form.TheVariants as form
 use Rattle.command_line.specs.declared.plans.Plan.{Plan}
@@ -28,20 +25,16 @@ use Rattle.sent_views.specs.declared.run_facts.RunFacts.{RunFacts}
 use Rattle.source_lists.specs.OmittedNames.{rest_without, shown_rests}
 use Rattle.source_lists.proofs.CutLemmas.{shown_whole}
 use Rattle.flame_tool.specs.KnownFacts.{known_facts}
-use Rattle.flame_tool.proofs.KnownSources.{IsKnown, facts_are_known}
+use Rattle.flame_tool.proofs.KnownSources.{IsKnown}
 use Rattle.flame_tool.specs.checked.Telling.{form_tells, view_tells}
-use Rattle.flame_tool.specs.Requests.{AreRefused, AsksForHelp, HasLimit, asked_faults, asked_plan, known_rests}
-use Rattle.command_line.specs.declared.plans.CallTable.{CallTable}
+use Rattle.flame_tool.specs.Requests.{asked_faults, asked_plan, known_rests}
 use Rattle.command_line.specs.declared.plans.PageForm.{PageForm}
-use Rattle.command_line.specs.declared.plans.PictureForm.{PictureForm}
 use Rattle.sent_views.specs.Pages.{asked_heading, called_text, page_text, peeked_text, picture_text, shown_text, text_in, told_in}
 use Rattle.sent_views.proofs.PageLemmas.{orderless_page}
 use Rattle.source_views.specs.Texts.{IsOrderless, told_text, view_text}
-use Rattle.flame_tool.specs.Runs.{lists_of, text_of, GainsFront, IsClean, IsFault, Shows, ShowsFront, ShowsSamples, FailsUntouched, HasFault, IsOfSamples, HasGrown, HasNotGrown}
+use Rattle.flame_tool.specs.Runs.{lists_of, text_of, GainsFront, IsClean, IsFault, Shows, ShowsFront, ShowsSamples, IsOfSamples}
 use Rattle.flame_tool.specs.StrictRuns.{HasPlainFault}
-use Rattle.flame_tool.specs.ToldRuns.{IsWords}
-use Rattle.flame_tool.specs.TypeRuns.{known_profile, HasTableFault, ShowsTypes, ShowsTypesFront}
-use Rattle.flame_tool.specs.checked.Failures.{Fails, IsHelp, KeepsOutput}
+use Rattle.flame_tool.specs.checked.Failures.{Fails, KeepsOutput}
 use Rattle.opened_sources.specs.Failures.{status_of}
 use Rattle.opened_sources.specs.declared.failures.Failure.{Failure}
 use Rattle.opened_sources.specs.declared.failures.Failure.TheVariants.{TooManyFiles, Unreadable, TooLarge, OutOfMemory, NoThread, Unfinished, Faults, Output}
@@ -232,108 +225,10 @@ module _ (input : Option (List ℕ)) (files : List ℕ → Option (List ℕ)) (o
 pub words_have : (words : List Text) (plan : Plan) (P : Plan → Type 0) → asked_plan words ≡ Some plan → P plan → IsSomeAnd (asked_plan words) P
 words_have words plan P asked holds = subst (λ asked. IsSomeAnd asked P) (sym asked) holds
 
-pub words_meet : (words : List Text) (plan : Plan) (P : Plan → Type 0) → asked_plan words ≡ Some plan → P plan → IfSome (asked_plan words) P
-words_meet words plan P asked holds = subst (λ asked. IfSome asked P) (sym asked) holds
-
-partly_asked : {Kept Help : Type 0} (words : List Text) (plan : Plan) (P : Plan → Type 0) → asked_plan words ≡ Some plan → Kept ⊎ P plan → Kept ⊎ (Help ⊎ IsSomeAnd (asked_plan words) P)
-partly_asked words plan P asked (inl kept) = inl kept
-partly_asked words plan P asked (inr holds) = inr (inr (words_have words plan P asked holds))
-
-module _ (words : List Text) (plan : Plan) (input : Option (List ℕ)) (files : List ℕ → Option (List ℕ)) (old new : Option (List ℕ)) (asked : asked_plan words ≡ Some plan)
-    (shows : IfSome (known_rests plan input files) (Shows plan (known_facts plan input files) old new)) where
-  pub asked_exactly : IsSomeAnd (asked_plan words) (λ plan. plan.form ≡ form.Text → IsOrderless plan.view plan.options.every → IsOfSamples plan.view
-      → IfSome (known_rests plan input files) (λ rests. Appends old new (view_text plan.view (lists_of rests) [] None)))
-  asked_exactly =
-      words_have words plan (λ plan. plan.form ≡ form.Text → IsOrderless plan.view plan.options.every → IsOfSamples plan.view → IfSome (known_rests plan input files) (λ rests. Appends old new (view_text plan.view (lists_of rests) [] None)))
-      asked (exactly plan old new (known_facts plan input files) (known_rests plan input files) (facts_are_known plan input files) shows)
-
-  pub asked_with_facts : IsSomeAnd (asked_plan words) (λ plan. plan.form ≡ form.Text → IsOrderless plan.view plan.options.every
-      → IfSome (known_facts plan input files) (λ facts. IfSome (known_rests plan input files) (λ rests. Appends old new (told_text (told_in plan facts (lists_of rests)) plan.view (lists_of rests) [] None))))
-  asked_with_facts =
-      words_have words plan (λ plan. plan.form ≡ form.Text → IsOrderless plan.view plan.options.every
-      → IfSome (known_facts plan input files) (λ facts. IfSome (known_rests plan input files) (λ rests. Appends old new (told_text (told_in plan facts (lists_of rests)) plan.view (lists_of rests) [] None))))
-      asked (with_facts plan old new (known_facts plan input files) (known_rests plan input files) shows)
-
-  pub asked_page : IsSomeAnd (asked_plan words) (λ plan. (page : PageForm) → plan.form ≡ form.Page page → IsOrderless plan.view plan.options.every
-      → IfSome (known_facts plan input files) (λ facts. IfSome (known_rests plan input files) (λ rests. Appends old new (page_text plan facts page (lists_of rests) [] None))))
-  asked_page =
-      words_have words plan (λ plan. (page : PageForm) → plan.form ≡ form.Page page → IsOrderless plan.view plan.options.every
-      → IfSome (known_facts plan input files) (λ facts. IfSome (known_rests plan input files) (λ rests. Appends old new (page_text plan facts page (lists_of rests) [] None))))
-      asked (page_exactly plan old new (known_facts plan input files) (known_rests plan input files) shows)
-
-  pub asked_svg : IsSomeAnd (asked_plan words) (λ plan. (picture : PictureForm) → plan.form ≡ form.Picture picture
-      → IfSome (known_facts plan input files) (λ facts. IfSome (known_rests plan input files) (λ rests. Appends old new (picture_text plan facts picture (lists_of rests)))))
-  asked_svg =
-      words_have words plan (λ plan. (picture : PictureForm) → plan.form ≡ form.Picture picture
-      → IfSome (known_facts plan input files) (λ facts. IfSome (known_rests plan input files) (λ rests. Appends old new (picture_text plan facts picture (lists_of rests)))))
-      asked (λ picture. form_exactly plan old new (form.Picture picture) (λ facts lists. picture_text plan facts picture lists) tt (λ facts lists order. refl) (known_facts plan input files) (known_rests plan input files) shows)
-
-  -- the text of a function and its callers, its callees, or both
-  abbrev IsCallsText : (CallTable → Form) → (CallTable → Plan → RunFacts → List (List Sample) → List ℕ) → Plan → Type 0
-  IsCallsText written text plan = (table : CallTable) → plan.form ≡ written table
-      → IfSome (known_facts plan input files) (λ facts. IfSome (known_rests plan input files) (λ rests. Appends old new (text table plan facts (lists_of rests))))
-
-  asked_calls : (written : CallTable → Form) (text : CallTable → Plan → RunFacts → List (List Sample) → List ℕ) → ((table : CallTable) → ShowsSamples (written table))
-      → ((table : CallTable) (facts : RunFacts) (lists : List (List Sample)) (order : List ℕ) → text_in (written table) plan facts lists order plan.options.every ≡ text table plan facts lists)
-      → IsSomeAnd (asked_plan words) (IsCallsText written text)
-  asked_calls written text samples told_as =
-      words_have words plan (IsCallsText written text) asked
-      (λ table. form_exactly plan old new (written table) (text table plan) (samples table) (told_as table) (known_facts plan input files) (known_rests plan input files) shows)
-
-  pub asked_callers : IsSomeAnd (asked_plan words) (IsCallsText form.Callers (called_text Callers))
-  asked_callers = asked_calls form.Callers (called_text Callers) (λ _. tt) (λ table facts lists order. refl)
-
-  pub asked_callees : IsSomeAnd (asked_plan words) (IsCallsText form.Callees (called_text Callees))
-  asked_callees = asked_calls form.Callees (called_text Callees) (λ _. tt) (λ table facts lists order. refl)
-
-  pub asked_peek : IsSomeAnd (asked_plan words) (IsCallsText form.Peek peeked_text)
-  asked_peek = asked_calls form.Peek peeked_text (λ _. tt) (λ table facts lists order. refl)
-
--- a status of four comes of a limit
-pub within_three : (words : List Text) (plan : Plan) (status : ℕ) → asked_plan words ≡ Some plan → status ≤ 4 → (status ≡ 4 → IsSome (limit_of plan.view)) → (HasLimit words → ⊥) → status ≤ 3
-within_three words plan status asked most limit none =
-    ⊎_elim (λ low. omega (arith, low)) (λ high. absurd (none (words_have words plan (λ plan. IsSome (limit_of plan.view)) asked (limit (omega (arith, high, most)))))) (cases_lt status 4)
-
-pub asked_grown : (words : List Text) (plan : Plan) (input : Option (List ℕ)) (files : List ℕ → Option (List ℕ)) (old new : Option (List ℕ)) → asked_plan words ≡ Some plan
-    → IsSome (limit_of plan.view) → IfSome (known_rests plan input files) (HasGrown plan) → IfSome (known_rests plan input files) (Shows plan (known_facts plan input files) old new)
-    → IsSomeAnd (asked_plan words) (λ plan. IsSome (limit_of plan.view) × IfSome (known_rests plan input files) (HasGrown plan) × IfSome (known_rests plan input files) (Shows plan (known_facts plan input files) old new))
-asked_grown words plan input files old new asked limit grown shows =
-    words_have words plan (λ plan. IsSome (limit_of plan.view) × IfSome (known_rests plan input files) (HasGrown plan) × IfSome (known_rests plan input files) (Shows plan (known_facts plan input files) old new)) asked (limit, grown, shows)
-
-pub asked_not_grown : (words : List Text) (plan : Plan) (input : Option (List ℕ)) (files : List ℕ → Option (List ℕ)) → asked_plan words ≡ Some plan
-    → IfSome (known_rests plan input files) (HasNotGrown plan) → IsSomeAnd (asked_plan words) (λ plan. IfSome (known_rests plan input files) (HasNotGrown plan))
-asked_not_grown words plan input files asked = words_have words plan (λ plan. IfSome (known_rests plan input files) (HasNotGrown plan)) asked
-
 -- what holds of the faults of words, where there are some
 pub of_words : {A : Type 0} (bytes : A → List ℕ) (words : List A) (P : Kinds → Type 0) → (length words ≡ 0 → ⊥) → P (fault_of command_line (map bytes words)) → P (asked_faults (map bytes words))
 of_words bytes [] P some holds = absurd (some refl)
 of_words bytes (word ∷ words) P some holds = holds
-
--- a fault that is a request for help, of words that have it
-pub asks_if_help : (words : List Text) (f : PlanFault) → IsFaultAmong (asked_faults words) f → IsHelp f → AsksForHelp words
-asks_if_help words (fault.Words text) among help = absurd help
-asks_if_help words (fault.Help text) among help = among
-asks_if_help words fault.OutOfMemory among help = absurd help
-
-pub partly_help : {Q : Type 0} (words : List Text) (f : PlanFault) (old new : Option (List ℕ)) → IsFaultAmong (asked_faults words) f → Keeps old new ⊎ IsHelp f → Keeps old new ⊎ (AsksForHelp words ⊎ Q)
-partly_help words f old new among (inl kept) = inl kept
-partly_help words f old new among (inr help) = inr (inl (asks_if_help words f among help))
-
--- words that have no fault and name at most 64 files
-abbrev pub IsAccepted : List Text → Type 0
-IsAccepted words = (asked_faults words ≡ []) × IsSomeAnd (asked_plan words) (λ plan. length plan.files ≤ 64)
-
-pub accepted : (words : List Text) (plan : Plan) (status : ℕ) → asked_plan words ≡ Some plan → asked_faults words ≡ [] → (status ≢ 2 → length plan.files ≤ 64) → status ≤ 1 → IsAccepted words
-accepted words plan status asked faultless few low =
-    (faultless, words_have words plan (λ plan. length plan.files ≤ 64) asked (few (λ two. omega (arith, two, low))))
-
--- what is left of a text at the end of a run comes of words that have no fault
-pub partly_by_plan : (words : List Text) (plan : Plan) (input : Option (List ℕ)) (files : List ℕ → Option (List ℕ)) (old new : Option (List ℕ)) → asked_plan words ≡ Some plan → asked_faults words ≡ []
-    → Keeps old new ⊎ IfSome (known_rests plan input files) (ShowsFront plan (known_facts plan input files) old new)
-    → Keeps old new ⊎ (AsksForHelp words ⊎ ((asked_faults words ≡ []) × IsSomeAnd (asked_plan words) (λ plan. IfSome (known_rests plan input files) (ShowsFront plan (known_facts plan input files) old new))))
-partly_by_plan words plan input files old new asked faultless (inl kept) = inl kept
-partly_by_plan words plan input files old new asked faultless (inr shown) =
-    inr (inr (faultless, words_have words plan (λ plan. IfSome (known_rests plan input files) (ShowsFront plan (known_facts plan input files) old new)) asked shown))
 
 -- without words the plan is that of the input
 pub default_is : (words : List Text) (plan : Plan) → length words ≡ 0 → asked_plan words ≡ Some plan → plan ≡ default_plan
@@ -342,50 +237,3 @@ default_is (word ∷ words) plan none asked = absurd (omega (arith, none))
 
 pub one_input : (plan : Plan) → plan ≡ default_plan → 64 < length plan.files → ⊥
 one_input plan is many = omega (arith, subst (λ (p : Plan). 64 < length p.files) is many)
-
--- refused words have a fault, and not just the wish for help
-pub are_refused : (words : List Text) (f : PlanFault) → IsFaultAmong (asked_faults words) f → IsWords f → AreRefused words
-are_refused words (fault.Words text) among refused = among
-are_refused words (fault.Help text) among refused = absurd refused
-are_refused words fault.OutOfMemory among refused = absurd refused
-
--- what holds of the plan of a run's words
-module _ (words : List Text) (plan : Plan) (asked : asked_plan words ≡ Some plan) (input : Option (List ℕ)) (files : List ℕ → Option (List ℕ)) where
-  pub asked_faulty : IfSome (known_rests plan input files) (HasPlainFault plan) → IsSomeAnd (asked_plan words) (λ plan. IfSome (known_rests plan input files) (HasPlainFault plan))
-  asked_faulty = words_have words plan (λ plan. IfSome (known_rests plan input files) (HasPlainFault plan)) asked
-
-  pub asked_many : 64 < length plan.files → IsSomeAnd (asked_plan words) (λ plan. 64 < length plan.files)
-  asked_many = words_have words plan (λ plan. 64 < length plan.files) asked
-
-  pub asked_types_faulty : (plan.form ≡ form.Types → IfSome (known_profile plan files) HasTableFault)
-      → IsSomeAnd (asked_plan words) (λ plan. plan.form ≡ form.Types → IfSome (known_profile plan files) HasTableFault)
-  asked_types_faulty = words_have words plan (λ plan. plan.form ≡ form.Types → IfSome (known_profile plan files) HasTableFault) asked
-
-  pub asked_untouched : (status before after : ℕ) (old new : Option (List ℕ))
-      → (ShowsSamples plan.form → IfSome (known_rests plan input files) (λ rests. HasFault rests → FailsUntouched status old new before after))
-      → IfSome (asked_plan words) (λ plan. ShowsSamples plan.form → IfSome (known_rests plan input files) (λ rests. HasFault rests → FailsUntouched status old new before after))
-  asked_untouched status before after old new =
-      words_meet words plan (λ plan. ShowsSamples plan.form → IfSome (known_rests plan input files) (λ rests. HasFault rests → FailsUntouched status old new before after)) asked
-
-  pub asked_types_untouched : (status before after : ℕ) (old new : Option (List ℕ))
-      → (plan.form ≡ form.Types → IfSome (known_profile plan files) (λ profile. HasTableFault profile → FailsUntouched status old new before after))
-      → IfSome (asked_plan words) (λ plan. plan.form ≡ form.Types → IfSome (known_profile plan files) (λ profile. HasTableFault profile → FailsUntouched status old new before after))
-  asked_types_untouched status before after old new =
-      words_meet words plan (λ plan. plan.form ≡ form.Types → IfSome (known_profile plan files) (λ profile. HasTableFault profile → FailsUntouched status old new before after)) asked
-
-  module _ (old new : Option (List ℕ)) where
-    pub asked_shown : IfSome (known_rests plan input files) (Shows plan (known_facts plan input files) old new)
-        → IsSomeAnd (asked_plan words) (λ plan. IfSome (known_rests plan input files) (Shows plan (known_facts plan input files) old new))
-    asked_shown = words_have words plan (λ plan. IfSome (known_rests plan input files) (Shows plan (known_facts plan input files) old new)) asked
-
-    pub asked_types : (plan.form ≡ form.Types → IfSome (known_profile plan files) (ShowsTypes old new))
-        → IsSomeAnd (asked_plan words) (λ plan. plan.form ≡ form.Types → IfSome (known_profile plan files) (ShowsTypes old new))
-    asked_types = words_have words plan (λ plan. plan.form ≡ form.Types → IfSome (known_profile plan files) (ShowsTypes old new)) asked
-
-    pub asked_partly : {Help : Type 0} → Keeps old new ⊎ IfSome (known_rests plan input files) (ShowsFront plan (known_facts plan input files) old new)
-        → Keeps old new ⊎ (Help ⊎ IsSomeAnd (asked_plan words) (λ plan. IfSome (known_rests plan input files) (ShowsFront plan (known_facts plan input files) old new)))
-    asked_partly = partly_asked words plan (λ plan. IfSome (known_rests plan input files) (ShowsFront plan (known_facts plan input files) old new)) asked
-
-    pub asked_types_partly : {Help : Type 0} → Keeps old new ⊎ (plan.form ≡ form.Types → IfSome (known_profile plan files) (ShowsTypesFront old new))
-        → Keeps old new ⊎ (Help ⊎ IsSomeAnd (asked_plan words) (λ plan. plan.form ≡ form.Types → IfSome (known_profile plan files) (ShowsTypesFront old new)))
-    asked_types_partly = partly_asked words plan (λ plan. plan.form ≡ form.Types → IfSome (known_profile plan files) (ShowsTypesFront old new)) asked

@@ -1,7 +1,6 @@
 -- What was told of the sources of a run, up to its end.
 use Rattle.std.proofs.Common.{◌≡◌, ◌⊎◌, ◌∙◌, ◌++◌, inl, inr, ℕ, Bool, true, false, List, [], Option, Some, Result, Ok, Err, IfOk, IfErr, IfSome, OnOk, ap, append-nil, arith, map, refl, subst, sym}
-use Rattle.std.specs.Prelude.{IsErrAnd, IsSomeAnd, if◌then◌else◌}
-use Rattle.clap.specs.Walk.{Text}
+use Rattle.std.specs.Prelude.{IsErrAnd, if◌then◌else◌}
 use Rattle.std.proofs.lemmas.Option.{IfSome_then}
 use Rattle.stack_core.specs.Ledgers.{ListState}
 use Rattle.run_options.specs.declared.formats.Format.{Format}
@@ -19,15 +18,11 @@ use Rattle.opened_sources.specs.Messages.{Tells, message_of_ending, message_of_f
 use Rattle.opened_sources.specs.declared.failures.Failure.{Failure}
 use Rattle.opened_sources.specs.declared.failures.Failure.TheVariants.{TooManyFiles, Unreadable, TooLarge, OutOfMemory, NoThread, Unfinished, Faults, Output}
 use Rattle.opened_sources.proofs.MessageTexts.{tells_more, tells_nothing}
-use Rattle.flame_tool.specs.Requests.{asked_plan}
 use Rattle.flame_tool.specs.Runs.{ShowsSamples}
-use Rattle.flame_tool.specs.StrictRuns.{known_sources}
-use Rattle.flame_tool.specs.ToldRuns.{TellsEndings, TellsFailure, TellsGrown, TellsProfile, TellsSources, known_endings, said_of_growth, said_of_sources}
-use Rattle.flame_tool.specs.TypeRuns.{known_profile}
+use Rattle.flame_tool.specs.ToldRuns.{TellsEndings, TellsFailure, TellsGrown, TellsSources, said_of_growth, said_of_sources}
 use Rattle.flame_tool.specs.checked.Failures.{exit_status}
 use Rattle.flame_tool.specs.checked.Saying.{EndsOfSources, EndsOfTypes, SaidBefore, SaidOfSources, SaidOfTypes}
-use Rattle.flame_tool.proofs.KnownSources.{at_known, endings_by_sources, if_known}
-use Rattle.flame_tool.proofs.RunEndings.{words_have}
+use Rattle.flame_tool.proofs.KnownSources.{at_known, if_known}
 use Rattle.flame_tool.proofs.ToldEndings.{told_of_read}
 
 -- ---- before a failure
@@ -99,14 +94,6 @@ module _ (old new : Option (List ℕ)) (before after : ℕ) where
             subst (tells sources) (sym strict)
             (at_known _ sources (ap known_inputs (looked_at strict) ∙ is) (strictly strict) (subst (AreWhole (asked_rests plan.options sources)) (sym same) (whole sources is)))
         go sources is false loose = subst (tells sources) (sym loose) (told_of_read plan sources lists told old new before after (whole sources is) same (loosely loose))
-
-  -- of sources that are not read strictly
-  pub loose_endings : (plan : Plan) (input : Option (List ℕ)) (files : List ℕ → Option (List ℕ)) → plan.is_strict ≡ false → IfSome (known_sources plan input files) (TellsSources plan old new before after)
-      → IfSome (known_endings plan input files) (TellsEndings plan.files old new before after)
-  loose_endings plan input files loose told =
-      endings_by_sources plan input files (TellsEndings plan.files old new before after)
-      (subst (λ strict. IfSome (known_sources plan input files) (λ sources. Tells (if strict then said_of_each (message_of_strict_fault plan.files) 0 (map (source_fault plan.options) sources)
-      else said_of_each (message_of_ending plan.files) 0 (map (λ rest. rest.ending) (asked_rests plan.options sources))) old new before after)) loose told)
 
 -- ---- behind what was told
 
@@ -258,24 +245,3 @@ module _ (old new : Option (List ℕ)) (before after : ℕ) where
       go : ShowsSamples plan.form ⊎ (plan.form ≡ form.Types) → TellsPlanFailure plan known
       go (inl shows) = of_samples shows ((samples shows).failed three)
       go (inr shows) = inl ((types shows).failed three)
-
--- ---- by the words
-
-module _ (words : List Text) (plan : Plan) (asked : asked_plan words ≡ Some plan) (input : Option (List ℕ)) (files : List ℕ → Option (List ℕ)) (old new : Option (List ℕ)) (before after : ℕ) where
-  pub asked_told_strict : (ShowsSamples plan.form → plan.is_strict ≡ true → IfSome (known_sources plan input files) (TellsSources plan old new before after))
-      → IsSomeAnd (asked_plan words) (λ plan. ShowsSamples plan.form → plan.is_strict ≡ true → IfSome (known_sources plan input files) (TellsSources plan old new before after))
-  asked_told_strict = words_have words plan (λ plan. ShowsSamples plan.form → plan.is_strict ≡ true → IfSome (known_sources plan input files) (TellsSources plan old new before after)) asked
-
-  pub asked_told_grown : (ShowsSamples plan.form → IfSome (known_sources plan input files) (TellsGrown plan old new before after))
-      → IsSomeAnd (asked_plan words) (λ plan. ShowsSamples plan.form → IfSome (known_sources plan input files) (TellsGrown plan old new before after))
-  asked_told_grown = words_have words plan (λ plan. ShowsSamples plan.form → IfSome (known_sources plan input files) (TellsGrown plan old new before after)) asked
-
-  pub asked_told_types : (plan.form ≡ form.Types → Tells [] old new before after) → IsSomeAnd (asked_plan words) (λ plan. plan.form ≡ form.Types → Tells [] old new before after)
-  asked_told_types = words_have words plan (λ plan. plan.form ≡ form.Types → Tells [] old new before after) asked
-
-  pub asked_told_types_fault : (plan.form ≡ form.Types → IfSome (known_profile plan files) (TellsProfile plan.files old new before after))
-      → IsSomeAnd (asked_plan words) (λ plan. plan.form ≡ form.Types → IfSome (known_profile plan files) (TellsProfile plan.files old new before after))
-  asked_told_types_fault = words_have words plan (λ plan. plan.form ≡ form.Types → IfSome (known_profile plan files) (TellsProfile plan.files old new before after)) asked
-
-  pub asked_told_failure : TellsPlanFailure old new before after plan (known_sources plan input files) → IsSomeAnd (asked_plan words) (λ plan. TellsPlanFailure old new before after plan (known_sources plan input files))
-  asked_told_failure = words_have words plan (λ plan. TellsPlanFailure old new before after plan (known_sources plan input files)) asked

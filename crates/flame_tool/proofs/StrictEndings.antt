@@ -1,20 +1,17 @@
 -- How a run ends that is asked to be strict.
 use Rattle.std.proofs.Common.{◌≡◌, ℕ, List, Option, Some, None, Result, Ok, Err, IfSome, IfErr, OnOk, sym, ◌∙◌, true, false, arith}
 use Rattle.std.proofs.lemmas.Bool.{true≢false, false≢true}
-use Rattle.std.specs.Prelude.{Bool, IsSomeAnd}
-use Rattle.clap.specs.Walk.{Text}
+use Rattle.std.specs.Prelude.{Bool}
 use Rattle.stack_core.specs.Ledgers.{ListState}
 use Rattle.stack_core.specs.Reading.{Rest}
 use Rattle.command_line.specs.declared.plans.Plan.{Plan}
 use Rattle.opened_sources.specs.Failures.{Flushes, IsOpening, has_fault, status_of}
 use Rattle.opened_sources.specs.declared.failures.Failure.{Failure}
 use Rattle.opened_sources.specs.declared.failures.Failure.TheVariants.{TooManyFiles, Unreadable, TooLarge, OutOfMemory, NoThread, Unfinished, Faults, Output}
-use Rattle.flame_tool.specs.Requests.{asked_plan}
-use Rattle.flame_tool.specs.Runs.{FailsUntouched, ShowsSamples}
-use Rattle.flame_tool.specs.StrictRuns.{HasPlainFault, has_strict_fault, known_sources}
+use Rattle.flame_tool.specs.Runs.{FailsUntouched}
+use Rattle.flame_tool.specs.StrictRuns.{HasPlainFault}
 use Rattle.flame_tool.specs.checked.Failures.{FailsStrictly, FailsToShow, KeepsOutput, exit_status}
 use Rattle.flame_tool.proofs.ExitStatuses.{not_zero}
-use Rattle.flame_tool.proofs.RunEndings.{words_have, words_meet}
 
 -- ---- a failed run
 
@@ -86,16 +83,3 @@ module _ {A : Type 0} (has : A → Bool) (known : Option A) where
     strict_untouched (Err failure) clean fails kept flushes =
         if_some known (λ sources. FailsStrictly (has sources) failure) (λ sources. has sources ≡ true → FailsUntouched (status_of failure) old new before after)
         (λ sources failed. left_alone (has sources) failure failed kept flushes) fails
-
--- ---- by the words
-
-module _ (words : List Text) (plan : Plan) (asked : asked_plan words ≡ Some plan) (input : Option (List ℕ)) (files : List ℕ → Option (List ℕ)) where
-  pub asked_strict : (faulty : Bool) → (ShowsSamples plan.form → plan.is_strict ≡ true → IfSome (known_sources plan input files) (λ sources. has_strict_fault plan.options sources ≡ faulty))
-      → IsSomeAnd (asked_plan words) (λ plan. ShowsSamples plan.form → plan.is_strict ≡ true → IfSome (known_sources plan input files) (λ sources. has_strict_fault plan.options sources ≡ faulty))
-  asked_strict faulty = words_have words plan (λ plan. ShowsSamples plan.form → plan.is_strict ≡ true → IfSome (known_sources plan input files) (λ sources. has_strict_fault plan.options sources ≡ faulty)) asked
-
-  pub asked_strict_untouched : (status before after : ℕ) (old new : Option (List ℕ))
-      → (ShowsSamples plan.form → plan.is_strict ≡ true → IfSome (known_sources plan input files) (λ sources. has_strict_fault plan.options sources ≡ true → FailsUntouched status old new before after))
-      → IfSome (asked_plan words) (λ plan. ShowsSamples plan.form → plan.is_strict ≡ true → IfSome (known_sources plan input files) (λ sources. has_strict_fault plan.options sources ≡ true → FailsUntouched status old new before after))
-  asked_strict_untouched status before after old new =
-      words_meet words plan (λ plan. ShowsSamples plan.form → plan.is_strict ≡ true → IfSome (known_sources plan input files) (λ sources. has_strict_fault plan.options sources ≡ true → FailsUntouched status old new before after)) asked

@@ -1,12 +1,6 @@
 -- What is told of the sources of a run is what their bytes say of their endings.
-use Rattle.std.proofs.Common.{◌≡◌, ◌∙◌, ◌++◌, ◌+◌, ◌<◌, ℕ, take, get_or, length, length-take-le, Bool, List, [], ◌∷◌, Option, Some, IfSome, map, ap, arith, refl, subst, sym, true, false}
-use Rattle.std.specs.Prelude.{IsSomeAnd}
-use Rattle.clap.specs.Walk.{Text}
-use Rattle.command_line.specs.Plans.{IsFaultAmong, fault_text}
+use Rattle.std.proofs.Common.{◌≡◌, ◌∙◌, ◌++◌, ◌+◌, ◌<◌, ℕ, take, get_or, length, length-take-le, Bool, List, [], ◌∷◌, Option, map, ap, arith, refl, subst, sym, true, false}
 use Rattle.command_line.specs.declared.plans.Plan.{Plan}
-use Rattle.command_line.specs.declared.plans.PlanFault.{PlanFault}
-use Rattle.flame_tool.specs.Requests.{asked_faults, asked_plan}
-use Rattle.flame_tool.specs.Runs.{ShowsSamples}
 use Rattle.std.proofs.lemmas.Bool.{true≢false}
 use Rattle.std.proofs.lemmas.List.{take_more}
 use Rattle.stack_core.specs.Ledgers.{ListState}
@@ -14,9 +8,9 @@ use Rattle.stack_core.specs.Reading.{Rest}
 use Rattle.run_options.specs.declared.formats.Format.{Format}
 use Rattle.ring_collect.specs.Collection.{AreWhole, seen_as_rest}
 use Rattle.source_lists.specs.Sources.{asked_rests}
-use Rattle.opened_sources.specs.Messages.{Tells, said_of_each}
+use Rattle.opened_sources.specs.Messages.{said_of_each}
 use Rattle.opened_sources.proofs.MessageTexts.{said_of_more, said_of_seen}
-use Rattle.flame_tool.specs.ToldRuns.{IsWords, TellsEndings, TellsMany, TellsRefusal, known_endings}
+use Rattle.flame_tool.specs.ToldRuns.{TellsEndings}
 
 -- the endings of lists are those of what was read
 endings_seen : (rests : List Rest) (lists : List ListState) → map seen_as_rest lists ≡ rests → map (λ list. list.ending) lists ≡ map (λ rest. rest.ending) rests
@@ -49,21 +43,3 @@ said_of_taken say see xs at none less =
 pub is_none : (is_terminal may_be : Bool) → (is_terminal ≡ true → may_be ≡ true) → may_be ≡ false → is_terminal ≡ false
 is_none true may_be told none = absurd (true≢false (sym (told refl) ∙ none))
 is_none false may_be told none = refl
-
--- the text of a refusal
-pub told_refusal : (words : List Text) (f : PlanFault) → IsFaultAmong (asked_faults words) f → IsWords f → (old new : Option (List ℕ)) (before after : ℕ) → Tells (fault_text f) old new before after
-    → TellsRefusal (asked_faults words) old new before after
-told_refusal words f among refused old new before after told = record { refusal = f; of_words = refused; among = among; told = told }
-
--- by the words
-abbrev pub TellsPlan : Option (List ℕ) → (List ℕ → Option (List ℕ)) → Option (List ℕ) → Option (List ℕ) → ℕ → ℕ → Plan → Type 0
-TellsPlan input files old new before after plan =
-    ShowsSamples plan.form → plan.is_strict ≡ false → IfSome (known_endings plan input files) (TellsEndings plan.files old new before after)
-
-pub asked_told : (words : List Text) (plan : Plan) → asked_plan words ≡ Some plan → (input : Option (List ℕ)) (files : List ℕ → Option (List ℕ)) (old new : Option (List ℕ)) (before after : ℕ)
-    → TellsPlan input files old new before after plan → IsSomeAnd (asked_plan words) (TellsPlan input files old new before after)
-asked_told words plan asked input files old new before after told = subst (λ found. IsSomeAnd found (TellsPlan input files old new before after)) (sym asked) told
-
-pub asked_told_many : (words : List Text) (plan : Plan) → asked_plan words ≡ Some plan → (may_have_terminal : Bool) (old new : Option (List ℕ)) (before after : ℕ)
-    → TellsMany may_have_terminal old new before after plan → IsSomeAnd (asked_plan words) (TellsMany may_have_terminal old new before after)
-asked_told_many words plan asked may_have_terminal old new before after told = subst (λ found. IsSomeAnd found (TellsMany may_have_terminal old new before after)) (sym asked) told

@@ -1,25 +1,16 @@
 -- A fault of a source ends a run before the output is touched.
-use Rattle.std.proofs.Common.{◌≡◌, ◌∙◌, ℕ, Bool, List, [], Option, Some, None, Result, Ok, Err, IfSome, IfErr, OnOk, All, sym, subst, true}
-use Rattle.clap.specs.Kinds.{IsAmong}
-use Rattle.clap.specs.Walk.{Text}
+use Rattle.std.proofs.Common.{◌∙◌, ℕ, Bool, List, Option, Some, None, Result, Ok, Err, IfSome, IfErr, OnOk, All, sym, subst}
 use Rattle.stack_core.specs.Reading.{Rest}
 use Rattle.stack_core.specs.declared.endings.SourceEnd.{SourceEnd}
 use Rattle.stack_core.specs.declared.endings.SourceEnd.TheVariants as ends
-use Rattle.command_line.specs.CommandLine.{command_line}
-use Rattle.command_line.specs.Plans.{IsFaultAmong}
-use Rattle.command_line.specs.declared.plans.Form.TheVariants as form
 use Rattle.command_line.specs.declared.plans.Plan.{Plan}
-use Rattle.command_line.specs.declared.plans.PlanFault.{PlanFault}
 use Rattle.sent_views.specs.declared.run_facts.RunFacts.{RunFacts}
-use Rattle.flame_tool.specs.Requests.{asked_faults, asked_plan, known_rests}
 use Rattle.flame_tool.specs.Runs.{FailsUntouched, HasFault, IsClean, IsFault, Shows, ShowsSamples}
-use Rattle.flame_tool.specs.StrictRuns.{has_strict_fault, known_sources}
-use Rattle.flame_tool.specs.TypeRuns.{HasTableFault, ShowsTypes, known_profile}
-use Rattle.flame_tool.specs.checked.Failures.{Fails, IsHelp, KeepsOutput, exit_status}
+use Rattle.flame_tool.specs.TypeRuns.{HasTableFault, ShowsTypes}
+use Rattle.flame_tool.specs.checked.Failures.{Fails, KeepsOutput, exit_status}
 use Rattle.flame_tool.specs.checked.TypeFailures.{FailsTypes}
 use Rattle.flame_tool.proofs.ExitStatuses.{not_zero}
 use Rattle.flame_tool.proofs.KnownSources.{IsKnown}
-use Rattle.flame_tool.proofs.RunEndings.{asks_if_help}
 use Rattle.opened_sources.specs.Failures.{Flushes}
 use Rattle.opened_sources.specs.declared.failures.Failure.{Failure}
 use Rattle.opened_sources.specs.declared.failures.Failure.TheVariants.{TooManyFiles, Unreadable, TooLarge, OutOfMemory, NoThread, Unfinished, Faults, Output}
@@ -82,33 +73,3 @@ module _ (P : Type 0) (old new : Option (List ℕ)) (before after : ℕ) where
   untouched_at_table_fault Q None shown shows fails kept flushes asked = tt
   untouched_at_table_fault Q (Some profile) (Ok done) shows fails kept flushes asked = at_table_fault profile (Ok done) (shows asked) fails kept flushes
   untouched_at_table_fault Q (Some profile) (Err failure) shows fails kept flushes asked = at_table_fault profile (Err failure) shows (fails asked) kept flushes
-
--- ---- words
-
--- what holds whatever is known
-if_any : {A : Type 0} (known : Option A) (P : A → Type 0) → ((x : A) → P x) → IfSome known P
-if_any None P holds = tt
-if_any (Some x) P holds = holds x
-
-module _ (Q : Type 0) (words : List Text) (files : List ℕ → Option (List ℕ)) (holds : Q) where
-  pub whatever_is_read : (input : Option (List ℕ)) → IfSome (asked_plan words) (λ plan. ShowsSamples plan.form → IfSome (known_rests plan input files) (λ rests. HasFault rests → Q))
-  whatever_is_read input =
-      if_any (asked_plan words) (λ plan. ShowsSamples plan.form → IfSome (known_rests plan input files) (λ rests. HasFault rests → Q))
-      (λ plan samples. if_any (known_rests plan input files) (λ rests. HasFault rests → Q) (λ rests faulty. holds))
-
-  pub whatever_types_are_read : IfSome (asked_plan words) (λ plan. plan.form ≡ form.Types → IfSome (known_profile plan files) (λ profile. HasTableFault profile → Q))
-  whatever_types_are_read =
-      if_any (asked_plan words) (λ plan. plan.form ≡ form.Types → IfSome (known_profile plan files) (λ profile. HasTableFault profile → Q))
-      (λ plan types. if_any (known_profile plan files) (λ profile. HasTableFault profile → Q) (λ profile faulty. holds))
-
-pub whatever_is_strict : (Q : Type 0) (words : List Text) (input : Option (List ℕ)) (files : List ℕ → Option (List ℕ)) → Q
-    → IfSome (asked_plan words) (λ plan. ShowsSamples plan.form → plan.is_strict ≡ true → IfSome (known_sources plan input files) (λ sources. has_strict_fault plan.options sources ≡ true → Q))
-whatever_is_strict Q words input files holds =
-    if_any (asked_plan words) (λ plan. ShowsSamples plan.form → plan.is_strict ≡ true → IfSome (known_sources plan input files) (λ sources. has_strict_fault plan.options sources ≡ true → Q))
-    (λ plan samples strict. if_any (known_sources plan input files) (λ sources. has_strict_fault plan.options sources ≡ true → Q) (λ sources faulty. holds))
-
--- words without a fault ask for no help
-pub no_help : (words : List Text) (f : PlanFault) → IsFaultAmong (asked_faults words) f → asked_faults words ≡ [] → IsHelp f → ⊥
-no_help words f among faultless help =
-    let asks = asks_if_help words f among help in
-    subst (IsAmong asks.0) faultless asks.1

@@ -1,5 +1,5 @@
 -- All that is promised of what a run leaves on its outlets: what `run` promises, and beside it what `live` does.
-use Rattle.std.specs.Prelude.{◌≡◌, ◌≢◌, ◌≤◌, ◌<◌, ◌⊎◌, ℕ, Bool, true, false, List, [], Option, None, IfSome, IsSome, IsSomeAnd, length}
+use Rattle.std.specs.Prelude.{◌≡◌, ◌≢◌, ◌≤◌, ◌<◌, ◌⊎◌, ℕ, Bool, true, false, List, [], Option, None, IfSome, IsSome, IsSomeAnd, length, string_bytes}
 use Rattle.std.specs.Io.KnownBytes.{Appends, Keeps}
 use Rattle.std.specs.List.{list_any}
 use Rattle.clap.specs.Walk.{Text}
@@ -7,12 +7,14 @@ use Rattle.folded_lines.specs.Reading.{read_folded}
 use Rattle.run_options.specs.declared.formats.Format.{Format}
 use Rattle.sample_tables.specs.declared.samples.Sample.{Sample}
 use Rattle.stack_core.specs.Reading.{Rest}
-use Rattle.command_line.specs.Plans.{limit_of}
+use Rattle.command_line.specs.Plans.{IsFaultAmong, limit_of}
 use Rattle.command_line.specs.declared.plans.CallTable.{CallTable}
 use Rattle.command_line.specs.declared.plans.Form.TheVariants as form
 use Rattle.command_line.specs.declared.plans.PageForm.{PageForm}
 use Rattle.command_line.specs.declared.plans.PictureForm.{PictureForm}
 use Rattle.command_line.specs.declared.plans.Plan.{Plan}
+use Rattle.command_line.specs.declared.plans.PlanFault.{PlanFault}
+use Rattle.command_line.specs.declared.plans.PlanFault.TheVariants as fault
 use Rattle.function_sums.specs.declared.call_sides.CallSide.TheVariants.{Callers, Callees}
 use Rattle.opened_sources.specs.Messages.{Tells, message_of_failure}
 use Rattle.opened_sources.specs.declared.failures.Failure.TheVariants.{TooManyFiles}
@@ -21,11 +23,11 @@ use Rattle.sent_views.specs.declared.run_facts.RunFacts.{RunFacts}
 use Rattle.source_views.specs.Texts.{IsOrderless, told_text, view_text}
 use Rattle.flame_tool.specs.KnownFacts.{known_facts}
 use Rattle.flame_tool.specs.LiveRuns.{AreFaultless, HasTextFault, ShowsAllOf, ShowsFirstOf, ShowsSomeOf, known_texts, live_texts, read_texts}
-use Rattle.flame_tool.specs.Requests.{AreRefused, AsksForHelp, HasLimit, asked_faults, asked_plan, known_rests}
+use Rattle.flame_tool.specs.Requests.{asked_faults, asked_plan, known_rests}
 use Rattle.flame_tool.specs.Runs.{IsClean, IsFault, text_of, lists_of, FailsUntouched, GainsFront, Shows, ShowsFront, ShowsSamples, HasFault, IsOfSamples, HasGrown, HasNotGrown}
 use Rattle.flame_tool.specs.StrictRuns.{HasPlainFault, has_strict_fault, known_sources}
 use Rattle.flame_tool.specs.ToldLive.{IsOfFailure, IsUnopened, TellsLiveFailure, TellsStreams, TellsSuch}
-use Rattle.flame_tool.specs.ToldRuns.{TellsEndings, TellsFailure, TellsGrown, TellsMany, TellsProfile, TellsRefusal, TellsSources, known_endings, said_of_sources}
+use Rattle.flame_tool.specs.ToldRuns.{TellsFailure, TellsGrown, TellsProfile, TellsSources, said_of_sources}
 use Rattle.flame_tool.specs.TypeRuns.{known_profile, HasTableFault, ShowsTypes, ShowsTypesFront}
 
 -- what is known of files that are read whole
@@ -160,139 +162,32 @@ pub record PlanShows (plan : Plan) (files : KnownFiles) (answer : ℕ) (out err 
       ⊎ (ShowsSamples plan.form × IfSources plan files (λ sources.
       TellsFailure plan.files (said_of_sources plan sources) err.held_before err.held_after err.failed_before err.failed_after))
 
--- what is promised of `run`, which had these words, files and outlets, and answered this status: for each status what the output gained,
--- why, and what standard error was told. All is over bytes that are known. Where it is said that `err` gained something, a call of it may
--- have failed instead
+-- what is promised of a run that this fault of its words ended: refused words are told, a text that is asked for goes out, and without memory
+-- nothing is written
+abbrev pub RefusalShows : PlanFault → ℕ → Change → Change → Type 0 → Type 0
+RefusalShows (fault.Words text) answer out err is_flushed =
+    (answer ≡ 2) × FailsUntouched answer out.held_before out.held_after out.failed_before out.failed_after
+    × Tells (string_bytes text) err.held_before err.held_after err.failed_before err.failed_after
+RefusalShows (fault.Help text) answer out err is_flushed =
+    ((answer ≡ 0) × is_flushed × (out.failed_after ≡ out.failed_before) × Appends out.held_before out.held_after (string_bytes text))
+    ⊎ ((answer ≡ 3) × TellsFailure [] [] err.held_before err.held_after err.failed_before err.failed_after)
+RefusalShows fault.OutOfMemory answer out err is_flushed =
+    (answer ≡ 3) × FailsUntouched answer out.held_before out.held_after out.failed_before out.failed_after
+    × TellsFailure [] [] err.held_before err.held_after err.failed_before err.failed_after
+
+-- what is promised of `run`, which had these words, files and outlets, and answered this status
 pub record RunShows (words : List Text) (files : KnownFiles) (answer : ℕ) (out err : Change) (is_flushed : Type 0) : Type 0 where
-  pub status : (HasLimit words → ⊥) → answer ≤ 3
-  pub status_with_limit : answer ≤ 4
-  pub no_words : length words ≡ 0 → answer ≢ 2
-  -- 0 means that what was written was flushed too. No call of the output failed but where 3 is answered
-  pub flushed : answer ≡ 0 → is_flushed
-  pub flushed_grown : answer ≡ 4 → is_flushed
-  pub unfailed : answer ≢ 3 → out.failed_after ≡ out.failed_before
+  -- a fault of the words ended it: they are refused, or ask for help or the version, or there was no memory to read them. Or they have no
+  -- fault, and their plan was run
+  pub ended : ((fault : PlanFault) × IsFaultAmong (asked_faults words) fault × RefusalShows fault answer out err is_flushed)
+      ⊎ ((asked_faults words ≡ []) × IsSomeAnd (asked_plan words) (λ plan. PlanShows plan files answer out err is_flushed))
   -- without words 0 is success: the input has no fault, and its whole fold text went out. 1 is a fault of it, and 3 leaves a front
+  pub no_words : length words ≡ 0 → answer ≢ 2
   pub clean : length words ≡ 0 → answer ≡ 0 → IfSome files.input (λ input. IsClean (read_folded input).ending)
   pub text : length words ≡ 0 → answer ≡ 0 → IfSome files.input (λ input.
       Appends out.held_before out.held_after (text_of input))
   pub fault : length words ≡ 0 → answer ≡ 1 → IfSome files.input (λ input. IsFault (read_folded input).ending)
-  -- 1 is a fault of a source, and 2 are words that are refused or more than 64 files: nothing is written
-  pub unwritten : answer ≡ 1 → Keeps out.held_before out.held_after
-  pub refused : answer ≡ 2 → Keeps out.held_before out.held_after
   pub front : length words ≡ 0 → answer ≡ 3 → IfSome files.input (λ input. GainsFront input out.held_before out.held_after)
-  -- 0 is success: the words ask for help, or they have a plan, its sources have no fault, and the text that it asks for went out
-  pub shown : answer ≡ 0 → AsksForHelp words ⊎ IsSomeAnd (asked_plan words) (λ plan.
-      IfSome (known_rests plan files.input files.named)
-      (Shows plan (known_facts plan files.input files.named) out.held_before out.held_after))
-  pub shown_exactly : answer ≡ 0 → AsksForHelp words ⊎ IsSomeAnd (asked_plan words) (λ plan. plan.form ≡ form.Text
-      → IsOrderless plan.view plan.options.every → IsOfSamples plan.view →
-      IfSome (known_rests plan files.input files.named) (λ rests.
-      Appends out.held_before out.held_after (view_text plan.view (lists_of rests) [] None)))
-  -- tables of functions also say the type and the unit of the weights, and what all samples weigh where some are left out
-  pub shown_with_facts : answer ≡ 0 → AsksForHelp words ⊎ IsSomeAnd (asked_plan words) (λ plan. plan.form ≡ form.Text
-      → IsOrderless plan.view plan.options.every → IfSome (known_facts plan files.input files.named) (λ facts.
-      IfSome (known_rests plan files.input files.named) (λ rests.
-      Appends out.held_before out.held_after (told_text (told_in plan facts (lists_of rests)) plan.view (lists_of rests) [] None))))
-  -- of a page without snapshots no order of the samples is left, of a picture none at all
-  pub shown_page : answer ≡ 0 → AsksForHelp words ⊎ IsSomeAnd (asked_plan words) (λ plan. (page : PageForm)
-      → plan.form ≡ form.Page page → IsOrderless plan.view plan.options.every →
-      IfSome (known_facts plan files.input files.named) (λ facts.
-      IfSome (known_rests plan files.input files.named) (λ rests.
-      Appends out.held_before out.held_after (page_text plan facts page (lists_of rests) [] None))))
-  pub shown_svg : answer ≡ 0 → AsksForHelp words ⊎ IsSomeAnd (asked_plan words) (λ plan. (picture : PictureForm)
-      → plan.form ≡ form.Picture picture → IfSome (known_facts plan files.input files.named) (λ facts.
-      IfSome (known_rests plan files.input files.named) (λ rests.
-      Appends out.held_before out.held_after (picture_text plan facts picture (lists_of rests)))))
-  -- nor of the callers of a function, of its callees, and of both
-  pub shown_callers : answer ≡ 0 → AsksForHelp words ⊎ IsSomeAnd (asked_plan words) (λ plan. (table : CallTable)
-      → plan.form ≡ form.Callers table → IfSome (known_facts plan files.input files.named) (λ facts.
-      IfSome (known_rests plan files.input files.named) (λ rests.
-      Appends out.held_before out.held_after (called_text Callers table plan facts (lists_of rests)))))
-  pub shown_callees : answer ≡ 0 → AsksForHelp words ⊎ IsSomeAnd (asked_plan words) (λ plan. (table : CallTable)
-      → plan.form ≡ form.Callees table → IfSome (known_facts plan files.input files.named) (λ facts.
-      IfSome (known_rests plan files.input files.named) (λ rests.
-      Appends out.held_before out.held_after (called_text Callees table plan facts (lists_of rests)))))
-  pub shown_peek : answer ≡ 0 → AsksForHelp words ⊎ IsSomeAnd (asked_plan words) (λ plan. (table : CallTable)
-      → plan.form ≡ form.Peek table → IfSome (known_facts plan files.input files.named) (λ facts.
-      IfSome (known_rests plan files.input files.named) (λ rests.
-      Appends out.held_before out.held_after (peeked_text table plan facts (lists_of rests)))))
-  -- 1 is a fault of a source, 2 are words that are refused or more than 64 files
-  pub faulty : answer ≡ 1 → IsSomeAnd (asked_plan words) (λ plan. IfSome (known_rests plan files.input files.named)
-      (HasPlainFault plan))
-  pub blamed : answer ≡ 2 → AreRefused words ⊎ IsSomeAnd (asked_plan words) (λ plan. 64 < length plan.files)
-  -- 0 and 1 never come of words with a fault, or of more than 64 files, and 1 not of a wish for help
-  pub accepted : answer ≤ 1 → AsksForHelp words ⊎ ((asked_faults words ≡ [])
-      × IsSomeAnd (asked_plan words) (λ plan. length plan.files ≤ 64))
-  pub followed : answer ≡ 1 → asked_faults words ≡ []
-  -- 3 leaves nothing or a part of the text from its front; nothing for words with a fault that don't ask for help
-  pub partly : answer ≡ 3 → Keeps out.held_before out.held_after ⊎ (AsksForHelp words ⊎ IsSomeAnd (asked_plan words) (λ plan.
-      IfSome (known_rests plan files.input files.named)
-      (ShowsFront plan (known_facts plan files.input files.named) out.held_before out.held_after)))
-  pub partly_followed : answer ≡ 3 → Keeps out.held_before out.held_after ⊎ (AsksForHelp words ⊎ ((asked_faults words ≡ [])
-      × IsSomeAnd (asked_plan words) (λ plan. IfSome (known_rests plan files.input files.named)
-      (ShowsFront plan (known_facts plan files.input files.named) out.held_before out.held_after))))
-  -- a fault of a source ends the run before the output is touched: with 1, or with 3 where the run failed before it was collected
-  pub untouched : asked_faults words ≡ [] → IfSome (asked_plan words) (λ plan. ShowsSamples plan.form →
-      IfSome (known_rests plan files.input files.named) (λ rests. HasFault rests →
-      FailsUntouched answer out.held_before out.held_after out.failed_before out.failed_after))
-  -- where nothing may be a terminal: at 0 and 1 `err` gained what is said of each source, in order: its fault, or how many of its lines were
-  -- ignored; of words that ask for strictness what is wrong with it, and at 4 the functions that grew, behind what is said of the sources
-  pub told : files.may_have_terminal ≡ false → answer ≤ 1 → AsksForHelp words
-      ⊎ IsSomeAnd (asked_plan words) (λ plan. ShowsSamples plan.form → plan.is_strict ≡ false →
-      IfSome (known_endings plan files.input files.named)
-      (TellsEndings plan.files err.held_before err.held_after err.failed_before err.failed_after))
-  pub told_strict : files.may_have_terminal ≡ false → answer ≤ 1 → AsksForHelp words
-      ⊎ IsSomeAnd (asked_plan words) (λ plan. ShowsSamples plan.form → plan.is_strict ≡ true →
-      IfSome (known_sources plan files.input files.named) (TellsSources plan err.held_before err.held_after err.failed_before err.failed_after))
-  pub told_grown : files.may_have_terminal ≡ false → answer ≡ 4 → IsSomeAnd (asked_plan words) (λ plan. ShowsSamples plan.form →
-      IfSome (known_sources plan files.input files.named) (TellsGrown plan err.held_before err.held_after err.failed_before err.failed_after))
-  -- where sample types are asked for it gained nothing at 0, and the fault of the profile at 1
-  pub told_types : files.may_have_terminal ≡ false → answer ≡ 0 → AsksForHelp words
-      ⊎ IsSomeAnd (asked_plan words) (λ plan. plan.form ≡ form.Types → Tells [] err.held_before err.held_after err.failed_before err.failed_after)
-  pub told_types_fault : files.may_have_terminal ≡ false → answer ≡ 1 → IsSomeAnd (asked_plan words) (λ plan. plan.form ≡ form.Types →
-      IfSome (known_profile plan files.named) (TellsProfile plan.files err.held_before err.held_after err.failed_before err.failed_after))
-  -- at 3 it gained the message of a failure that has this status, alone, or behind all that is said of the sources
-  pub told_failure : files.may_have_terminal ≡ false → answer ≡ 3 → TellsFailure [] [] err.held_before err.held_after err.failed_before err.failed_after
-      ⊎ IsSomeAnd (asked_plan words) (λ plan. TellsFailure plan.files [] err.held_before err.held_after err.failed_before err.failed_after
-      ⊎ (ShowsSamples plan.form × IfSome (known_sources plan files.input files.named) (λ sources.
-      TellsFailure plan.files (said_of_sources plan sources) err.held_before err.held_after err.failed_before err.failed_after)))
-  -- at 2 it gained the whole text of a refusal of the words, or, where nothing may be a terminal, that there are too many files
-  pub told_refused : answer ≡ 2 →
-      TellsRefusal (asked_faults words) err.held_before err.held_after err.failed_before err.failed_after
-      ⊎ IsSomeAnd (asked_plan words)
-      (TellsMany files.may_have_terminal err.held_before err.held_after err.failed_before err.failed_after)
-  -- where the words ask for it, a line that is ignored and a source without a sample are faults, too: 0 and 4 mean that no source has one, 1
-  -- that one has, and such a fault leaves the output untouched
-  pub strict : answer ≡ 0 → AsksForHelp words ⊎ IsSomeAnd (asked_plan words) (λ plan. ShowsSamples plan.form
-      → plan.is_strict ≡ true →
-      IfSome (known_sources plan files.input files.named) (λ sources. has_strict_fault plan.options sources ≡ false))
-  pub strict_faulty : answer ≡ 1 → IsSomeAnd (asked_plan words) (λ plan. ShowsSamples plan.form → plan.is_strict ≡ true →
-      IfSome (known_sources plan files.input files.named) (λ sources. has_strict_fault plan.options sources ≡ true))
-  pub strict_untouched : asked_faults words ≡ [] → IfSome (asked_plan words) (λ plan. ShowsSamples plan.form → plan.is_strict ≡ true →
-      IfSome (known_sources plan files.input files.named) (λ sources. has_strict_fault plan.options sources ≡ true →
-      FailsUntouched answer out.held_before out.held_after out.failed_before out.failed_after))
-  pub strict_grown : answer ≡ 4 → IsSomeAnd (asked_plan words) (λ plan. ShowsSamples plan.form → plan.is_strict ≡ true →
-      IfSome (known_sources plan files.input files.named) (λ sources. has_strict_fault plan.options sources ≡ false))
-  -- 4 is success too, of words that set a limit: the text went out, and there are functions whose share of own weight grew by more than that.
-  -- At 0 there is none
-  pub grown : answer ≡ 4 → IsSomeAnd (asked_plan words) (λ plan. IsSome (limit_of plan.view) ×
-      IfSome (known_rests plan files.input files.named) (HasGrown plan) ×
-      IfSome (known_rests plan files.input files.named)
-      (Shows plan (known_facts plan files.input files.named) out.held_before out.held_after))
-  pub not_grown : answer ≡ 0 → AsksForHelp words ⊎ IsSomeAnd (asked_plan words) (λ plan.
-      IfSome (known_rests plan files.input files.named) (HasNotGrown plan))
-  -- the same of the sample types of a profile: 0 is their text, 1 is a fault of the profile before its samples, and 3 leaves nothing or a
-  -- part of the text from its front
-  pub types : answer ≡ 0 → AsksForHelp words ⊎ IsSomeAnd (asked_plan words) (λ plan. plan.form ≡ form.Types →
-      IfSome (known_profile plan files.named) (ShowsTypes out.held_before out.held_after))
-  pub types_faulty : answer ≡ 1 → IsSomeAnd (asked_plan words) (λ plan. plan.form ≡ form.Types →
-      IfSome (known_profile plan files.named) HasTableFault)
-  pub types_partly : answer ≡ 3 → Keeps out.held_before out.held_after ⊎ (AsksForHelp words
-      ⊎ IsSomeAnd (asked_plan words) (λ plan. plan.form ≡ form.Types → IfSome (known_profile plan files.named)
-      (ShowsTypesFront out.held_before out.held_after)))
-  pub types_untouched : asked_faults words ≡ [] → IfSome (asked_plan words) (λ plan. plan.form ≡ form.Types →
-      IfSome (known_profile plan files.named) (λ profile. HasTableFault profile →
-      FailsUntouched answer out.held_before out.held_after out.failed_before out.failed_after))
 
 -- what is promised of `live`, which had this plan, and wrote to a terminal or not
 pub record LiveShows (is_terminal : Bool) (plan : Plan) (streams : KnownStreams) (answer : ℕ) (out err : Change) (is_flushed : Type 0) : Type 0 where

@@ -1,15 +1,14 @@
 -- What the words of a run ask for, and what is known of the sources that they name.
-use Rattle.std.specs.Prelude.{ℕ, List, [], ◌∷◌, Option, Some, IsSome, IsSomeAnd, option_map, unwrap_or}
-use Rattle.clap.specs.Kinds.{IsAmong, Kinds}
+use Rattle.std.specs.Prelude.{ℕ, List, [], ◌∷◌, Option, Some, option_map, unwrap_or}
+use Rattle.clap.specs.Kinds.{Kinds}
 use Rattle.clap.specs.Walk.{Text}
-use Rattle.clap.specs.declared.error.kind.ErrorKind.{ErrorKind}
 use Rattle.stack_core.specs.Reading.{Rest}
 use Rattle.run_options.specs.Formats.{format_at}
 use Rattle.run_options.specs.declared.formats.Format.{Format}
 use Rattle.run_options.specs.declared.formats.Format.TheVariants.{Folded}
 use Rattle.run_options.specs.declared.options.Options.{Options}
 use Rattle.command_line.specs.CommandLine.{command_line}
-use Rattle.command_line.specs.Plans.{IsRequest, default_plan, fault_of, limit_of, plan_of}
+use Rattle.command_line.specs.Plans.{default_plan, fault_of, plan_of}
 use Rattle.command_line.specs.declared.plans.Plan.{Plan}
 use Rattle.source_lists.specs.OmittedNames.{shown_rests}
 use Rattle.source_lists.specs.Sources.{all_found, asked_rest}
@@ -25,18 +24,6 @@ asked_plan (word ∷ words) = plan_of (word ∷ words)
 abbrev pub asked_faults : List Text → Kinds
 asked_faults [] = []
 asked_faults (word ∷ words) = fault_of command_line (word ∷ words)
-
--- the words ask for help, or for the version
-abbrev pub AsksForHelp : List Text → Type 0
-AsksForHelp words = (k : ErrorKind) × IsAmong k (asked_faults words) × IsRequest k
-
--- the words have a fault, and not just the wish for help
-abbrev pub AreRefused : List Text → Type 0
-AreRefused words = (k : ErrorKind) × IsAmong k (asked_faults words) × (IsRequest k → ⊥)
-
--- the plan of the words sets a limit to what a function's share may grow
-abbrev pub HasLimit : List Text → Type 0
-HasLimit words = IsSomeAnd (asked_plan words) (λ plan. IsSome (limit_of plan.view))
 
 -- ---- the sources
 

@@ -1,52 +1,20 @@
 -- What a run says on standard error of its words and of its sources.
-use Rattle.std.specs.Prelude.{◌≡◌, ◌<◌, ◌++◌, ℕ, Bool, false, List, [], Option, None, Some, if◌then◌else◌, length, option_map, map}
-use Rattle.clap.specs.Kinds.{Kinds}
+use Rattle.std.specs.Prelude.{◌≡◌, ◌++◌, ℕ, List, [], Option, None, Some, if◌then◌else◌, map}
 use Rattle.stack_core.specs.declared.endings.SourceEnd.{SourceEnd}
 use Rattle.stack_core.specs.declared.endings.SourceEnd.TheVariants as ends
 use Rattle.run_options.specs.declared.formats.Format.{Format}
-use Rattle.command_line.specs.Plans.{IsFaultAmong, fault_text}
 use Rattle.command_line.specs.declared.plans.Plan.{Plan}
-use Rattle.command_line.specs.declared.plans.PlanFault.{PlanFault}
-use Rattle.command_line.specs.declared.plans.PlanFault.TheVariants as fault
 use Rattle.opened_sources.specs.Messages.{Tells, message_of_ending, message_of_failure, message_of_strict_fault, said_of_each}
 use Rattle.opened_sources.specs.Failures.{status_of}
 use Rattle.opened_sources.specs.declared.failures.Failure.{Failure}
-use Rattle.opened_sources.specs.declared.failures.Failure.TheVariants.{TooManyFiles}
 use Rattle.source_lists.specs.OmittedNames.{shown_rests}
 use Rattle.source_lists.specs.Sources.{asked_rests}
 use Rattle.source_lists.specs.Strictness.{source_fault}
 use Rattle.source_views.specs.Texts.{growth_line}
-use Rattle.flame_tool.specs.Requests.{rests_at}
 use Rattle.flame_tool.specs.Runs.{lists_of}
 use Rattle.flame_tool.specs.TypeRuns.{table_fault}
 
--- ---- of the words
-
--- the fault is that of words that are refused
-abbrev pub IsWords : PlanFault → Type 0
-IsWords (fault.Words text) = Unit {0}
-IsWords (fault.Help text) = ⊥
-IsWords fault.OutOfMemory = ⊥
-
--- the whole text of such a fault was told, which is one of these kinds, and nothing else
-pub record TellsRefusal (kinds : Kinds) (old new : Option (List ℕ)) (before after : ℕ) : Type 0 where
-  pub refusal : PlanFault
-  pub of_words : IsWords refusal
-  pub among : IsFaultAmong kinds refusal
-  pub told : Tells (fault_text refusal) old new before after
-
--- there are more than 64 files, and unless something may be a terminal that was told, and nothing else
-abbrev pub TellsMany : Bool → Option (List ℕ) → Option (List ℕ) → ℕ → ℕ → Plan → Type 0
-TellsMany may_have_terminal old new before after plan =
-    (64 < length plan.files)
-    × (may_have_terminal ≡ false → Tells (message_of_failure plan.files TooManyFiles) old new before after)
-
 -- ---- of the sources
-
--- how the sources of a plan end, where their bytes are known
-abbrev pub known_endings : Plan → Option (List ℕ) → (List ℕ → Option (List ℕ)) → Option (List SourceEnd)
-known_endings plan input files =
-    option_map (λ rests. map (λ rest. rest.ending) rests) (rests_at plan.options plan.format plan.files input files)
 
 -- the message of each ending was told, in order, and nothing else
 abbrev pub TellsEndings : List (List ℕ) → Option (List ℕ) → Option (List ℕ) → ℕ → ℕ → List SourceEnd → Type 0

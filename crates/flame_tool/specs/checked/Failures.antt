@@ -4,8 +4,6 @@ use Rattle.std.specs.Io.KnownBytes.{Keeps}
 use Rattle.stack_core.specs.Ledgers.{ListState}
 use Rattle.stack_core.specs.Reading.{Rest}
 use Rattle.command_line.specs.declared.plans.Plan.{Plan}
-use Rattle.command_line.specs.declared.plans.PlanFault.{PlanFault}
-use Rattle.command_line.specs.declared.plans.PlanFault.TheVariants as fault
 use Rattle.byte_io.specs.Pieces.{AppendsFront}
 use Rattle.opened_sources.specs.Failures.{has_fault, status_of}
 use Rattle.opened_sources.specs.declared.failures.Failure.{Failure}
@@ -69,9 +67,3 @@ FailsToShow lists text old new NoThread = ⊥
 FailsToShow lists text old new (Unfinished source) = ⊥
 FailsToShow lists text old new Faults = (has_fault lists ≡ true) × Keeps old new
 FailsToShow lists text old new (Output fault) = (has_fault lists ≡ false) × AppendsFront text old new
-
--- the fault is a request for help
-abbrev pub IsHelp : PlanFault → Type 0
-IsHelp (fault.Words text) = ⊥
-IsHelp (fault.Help text) = Unit {0}
-IsHelp fault.OutOfMemory = ⊥
